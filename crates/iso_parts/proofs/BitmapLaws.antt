@@ -1,0 +1,250 @@
+-- Bitmaps that are read are those that the bytes spell, and those that are spelled are read.
+use Rattle.std.proofs.Common.{◌≡◌, ℕ, ◌+◌, ◌-◌, ◌*◌, ◌/◌, ◌%◌, ◌^◌, ◌<◌, ◌≤◌, Bool, true, false, cond, eqb, ltb, List, ◌++◌, length, take, drop, get_or, Option, Some, None, Result, Ok, Err, refl, sym, ap, subst, ◌∙◌, arith, inl, inr}
+use Rattle.std.specs.Int.{bit_at}
+use Rattle.std.proofs.lemmas.Bool.{cases_eq, cases_lt, ltb-false, ltb-true, le-ltb, lt-ltb, cond-true, cond-false}
+use Rattle.std.proofs.lemmas.Bool.Decides.{nat_tests}
+use Rattle.std.proofs.lemmas.Nat.Bits.{bit_at_cat_low, bit_at-zero}
+use Rattle.std.proofs.lemmas.List.{take_at, length-append, length-take, length-drop, take-append-le, drop-append-le, take-take, drop-take, get_or-take, get_or-drop, get_or_past}
+use Rattle.iso_parts.specs.declared.bitmap.BitmapCoding.{BitmapCoding}
+use Rattle.iso_parts.specs.declared.bitmap.BitmapCoding.TheVariants.{Raw, Hex}
+use Rattle.iso_parts.specs.declared.bitmap.BitmapCause.TheVariants.{ThirdBitmap}
+use Rattle.iso_parts.specs.declared.bitmap.BitmapFault.{BitmapFault}
+use Rattle.iso_parts.specs.declared.bitmap.BitmapStep.{BitmapStep}
+use Rattle.iso_parts.specs.declared.bitmap.BitmapStep.TheVariants as steps
+use Rattle.iso_parts.specs.Bits.{Bits, BitsIn, map_size, in_words, first_set, second_set, One, Two, Bitmaps}
+use Rattle.iso_parts.specs.BitmapReading.{Maps, got, more, fault, top, word_in, first_by, second_by, maps_at, ReadsMaps, FoundMaps, IsRead}
+use Rattle.iso_parts.proofs.Words.{word_again, word_taken}
+
+-- ---- words and their first bit
+
+low_bits : (w i : ℕ) → top ≤ w → i < 63 → bit_at (w - top) i ≡ bit_at w i
+low_bits w i le lt =
+    let whole : w ≡ 1 * 2 ^ 63 + (w - top) = omega arith in
+    sym (ap (λ (n : ℕ). bit_at n i) whole ∙ bit_at_cat_low 1 63 (w - top) i lt)
+
+small_first : (w : ℕ) → w < top → eqb (bit_at w 63) 1 ≡ false
+small_first w lt = let e : w / 2 ^ 63 % 2 ≡ 0 = omega arith in ap (λ (n : ℕ). eqb n 1) e
+
+pub first_small : (w : ℕ) → w < 2 ^ 64 → eqb (bit_at w 63) 1 ≡ false → w < top
+first_small w fits h =
+    elim (cases_lt w top) [
+      | inl lt ↦ lt
+      | inr le ↦ let e : w / 2 ^ 63 % 2 ≡ 1 = omega arith in absurd (let f : true ≡ false = sym (ap (λ (n : ℕ). eqb n 1) e) ∙ h in cc)
+    ]
+
+large_first : (w : ℕ) → w < 2 ^ 64 → top ≤ w → eqb (bit_at w 63) 1 ≡ true
+large_first w fits le = let e : w / 2 ^ 63 % 2 ≡ 1 = omega arith in ap (λ (n : ℕ). eqb n 1) e
+
+pub first_large : (w : ℕ) → eqb (bit_at w 63) 1 ≡ true → top ≤ w
+first_large w h =
+    elim (cases_lt w top) [
+      | inl lt ↦ absurd (let f : true ≡ false = sym h ∙ small_first w lt in cc)
+      | inr le ↦ le
+    ]
+
+pub bytes_take : (n : ℕ) (b : List ℕ) → ((i : ℕ) → get_or b i 0 < 256) → (i : ℕ) → get_or (take n b) i 0 < 256
+bytes_take n b h i =
+    elim (cases_lt i n) [
+      | inl lt ↦ rw (get_or-take n b i 0 lt) (h i)
+      | inr le ↦ rw (get_or_past (take n b) i 0 (omega (arith, length-take n b))) (omega arith)
+    ]
+
+pub bytes_drop : (n : ℕ) (b : List ℕ) → ((i : ℕ) → get_or b i 0 < 256) → (i : ℕ) → get_or (drop n b) i 0 < 256
+bytes_drop n b h i = rw get_or-drop (h (n + i))
+
+-- a bitmap of one set is a bitmap of another with the same numbers
+pub bits_agree : (c : BitmapCoding) (set other : ℕ → Bool) (b : List ℕ) → ((k : ℕ) → 0 < k → k ≤ 64 → set k ≡ other k) → BitsIn c set b → BitsIn c other b
+bits_agree Raw set other b agrees bits = record { eight = bits.eight; bit = λ k low high. bits.bit k low high ∙ agrees k low high }
+bits_agree Hex set other b agrees bits = (bits.0, bits.1, record { eight = bits.2.eight; bit = λ k low high. bits.2.bit k low high ∙ agrees k low high })
+
+-- ---- what is spelled is read
+
+pub record MapsRead (c : BitmapCoding) (set : ℕ → Bool) (b : List ℕ) (size : ℕ) : Type 0 where
+  pub first : ℕ
+  pub second : ℕ
+  pub read : maps_at c b ≡ got first second size
+  pub agrees : (k : ℕ) → 2 ≤ k → k ≤ 128 → in_words first second k ≡ set k
+
+one_agrees : (set : ℕ → Bool) (w : ℕ) → ((k : ℕ) → 0 < k → k ≤ 64 → eqb (bit_at w (64 - k)) 1 ≡ first_set false set k) → ((k : ℕ) → 64 < k → k ≤ 128 → set k ≡ false) → (k : ℕ) → 2 ≤ k → k ≤ 128 → in_words w 0 k ≡ set k
+one_agrees set w bits none k low high =
+    elim (cases_lt 64 k) [
+      | inl above ↦ let z = bit_at-zero (128 - k) in let n = none k above high in grind (arith, nat_tests)
+      | inr below ↦ let h = bits k (omega arith) below in grind (arith, nat_tests)
+    ]
+
+one_read : (c : BitmapCoding) (set : ℕ → Bool) (m rest : List ℕ) → ((i : ℕ) → get_or m i 0 < 256) → One c set m → MapsRead c set (m ++ rest) (length m)
+one_read c set m rest fits one =
+    let r = word_again c (first_set false set) m fits one.first in
+    let w = r.word in
+    let n = map_size c in
+    let b : List ℕ = m ++ rest in
+    let small : w < top = first_small w r.small (r.bits 1 (omega arith) (omega arith)) in
+    let long : ltb (length b) n ≡ false = le-ltb (length b) n (omega (arith, length-append m rest, r.size)) in
+    let front : word_in c (take n b) ≡ Some w = ap (word_in c) (take_at m rest n r.size) ∙ r.read in
+    record {
+      first = w;
+      second = 0;
+      read = cond-false (ltb (length b) n) more (first_by c b (word_in c (take n b))) long
+          ∙ ap (first_by c b) front
+          ∙ cond-true (ltb w top) (got w 0 n) (cond (ltb (length b) (n + n)) more (second_by c (w - top) (word_in c (take n (drop n b))))) (lt-ltb w top small)
+          ∙ ap (got w 0) (sym r.size);
+      agrees = one_agrees set w r.bits one.none;
+    }
+
+two_agrees : (set : ℕ → Bool) (w v : ℕ) → top ≤ w → ((k : ℕ) → 0 < k → k ≤ 64 → eqb (bit_at w (64 - k)) 1 ≡ first_set true set k) → ((k : ℕ) → 0 < k → k ≤ 64 → eqb (bit_at v (64 - k)) 1 ≡ second_set set k) → (k : ℕ) → 2 ≤ k → k ≤ 128 → in_words (w - top) v k ≡ set k
+two_agrees set w v large first second k low high =
+    elim (cases_lt 64 k) [
+      | inl above ↦
+          let h = second (k - 64) (omega arith) (omega arith) in
+          let e : 64 - (k - 64) ≡ 128 - k = omega arith in
+          let f : 64 + (k - 64) ≡ k = omega arith in
+          let g : eqb (bit_at v (128 - k)) 1 ≡ set k = sym (ap (λ (i : ℕ). eqb (bit_at v i) 1) e) ∙ h ∙ ap set f in
+          grind (arith, nat_tests)
+      | inr below ↦
+          let h = first k (omega arith) below in
+          let l = low_bits w (64 - k) large (omega arith) in
+          grind (arith, nat_tests)
+    ]
+
+two_read : (c : BitmapCoding) (set : ℕ → Bool) (m rest : List ℕ) → ((i : ℕ) → get_or m i 0 < 256) → set 65 ≡ false → Two c set m → MapsRead c set (m ++ rest) (length m)
+two_read c set m rest fits no_65 two =
+    let n = map_size c in
+    let p : List ℕ = take n m in
+    let q : List ℕ = drop n m in
+    let b : List ℕ = m ++ rest in
+    let one = word_again c (first_set true set) p (bytes_take n m fits) two.first in
+    let other = word_again c (second_set set) q (bytes_drop n m fits) two.second in
+    let w = one.word in
+    let v = other.word in
+    let both : length m ≡ n + n = omega (arith, one.size, other.size, length-take n m, length-drop n m) in
+    let le : n ≤ length m = omega arith in
+    let front : word_in c (take n b) ≡ Some w = ap (word_in c) (take-append-le n m rest le) ∙ one.read in
+    let back : word_in c (take n (drop n b)) ≡ Some v = ap (word_in c) (ap (take n) (drop-append-le n m rest le) ∙ take_at q rest n other.size) ∙ other.read in
+    let large : top ≤ w = first_large w (one.bits 1 (omega arith) (omega arith)) in
+    let small : v < top = first_small v other.small (other.bits 1 (omega arith) (omega arith) ∙ no_65) in
+    let long : ltb (length b) n ≡ false = le-ltb (length b) n (omega (arith, length-append m rest)) in
+    let longer : ltb (length b) (n + n) ≡ false = le-ltb (length b) (n + n) (omega (arith, length-append m rest)) in
+    record {
+      first = w - top;
+      second = v;
+      read = cond-false (ltb (length b) n) more (first_by c b (word_in c (take n b))) long
+          ∙ ap (first_by c b) front
+          ∙ cond-false (ltb w top) (got w 0 n) (cond (ltb (length b) (n + n)) more (second_by c (w - top) (word_in c (take n (drop n b))))) (le-ltb w top large)
+          ∙ cond-false (ltb (length b) (n + n)) more (second_by c (w - top) (word_in c (take n (drop n b)))) longer
+          ∙ ap (second_by c (w - top)) back
+          ∙ cond-true (ltb v top) (got (w - top) v (n + n)) (fault n ThirdBitmap) (lt-ltb v top small)
+          ∙ ap (got (w - top) v) (sym both);
+      agrees = two_agrees set w v large one.bits other.bits;
+    }
+
+pub maps_again : (c : BitmapCoding) (second : Bool) (set : ℕ → Bool) (m rest : List ℕ) → ((i : ℕ) → get_or m i 0 < 256) → set 65 ≡ false → Bitmaps c second set m → MapsRead c set (m ++ rest) (length m)
+maps_again c true set m rest fits no_65 maps = two_read c set m rest fits no_65 maps
+maps_again c false set m rest fits no_65 maps = one_read c set m rest fits maps
+
+-- what a function that reads gives, where the bytes begin with the bitmaps of a set
+is_read_by : (c : BitmapCoding) (set : ℕ → Bool) (b : List ℕ) (size : ℕ) (r : Result BitmapStep BitmapFault) → MapsRead c set b size → ReadsMaps r (maps_at c b) → IsRead set size r
+is_read_by c set b size (Ok (steps.Got bits used)) read h =
+    let same : got read.first read.second size ≡ got bits.first bits.second used = sym read.read ∙ h in
+    let first : read.first ≡ bits.first = cc in
+    let second : read.second ≡ bits.second = cc in
+    let count : size ≡ used = cc in
+    (sym count, λ k low high. ap (λ (n : ℕ). in_words n bits.second k) (sym first) ∙ ap (λ (n : ℕ). in_words read.first n k) (sym second) ∙ read.agrees k low high)
+is_read_by c set b size (Ok steps.More) read h = let same : got read.first read.second size ≡ more = sym read.read ∙ h in absurd cc
+is_read_by c set b size (Err e) read h = let same : got read.first read.second size ≡ fault e.at e.cause = sym read.read ∙ h in absurd cc
+
+pub is_read : (c : BitmapCoding) (b : List ℕ) (r : Result BitmapStep BitmapFault) → ((i : ℕ) → get_or b i 0 < 256) → ReadsMaps r (maps_at c b) → (two : Bool) (set : ℕ → Bool) (front rest : List ℕ) → set 65 ≡ false → Bitmaps c two set front → b ≡ front ++ rest → IsRead set (length front) r
+is_read c b r fits h two set front rest no_65 maps split =
+    let front_fits : (i : ℕ) → get_or front i 0 < 256 = λ i. rw (sym (ap (take (length front)) split ∙ take_at front rest (length front) refl)) (bytes_take (length front) b fits i) in
+    is_read_by c set b (length front) r (subst (λ (l : List ℕ). MapsRead c set l (length front)) (sym split) (maps_again c two set front rest front_fits no_65 maps)) h
+
+-- ---- what is read is spelled
+
+abbrev pub Found : BitmapCoding → List ℕ → ℕ → ℕ → ℕ → Type 0
+Found c b w v used = (used ≤ length b) × ((two : Bool) × Bitmaps c two (in_words w v) (take used b))
+
+more_or : (t : Bool) (o : Maps) (w v n : ℕ) → cond t more o ≡ got w v n → (t ≡ false) × (o ≡ got w v n)
+more_or true o w v n e = absurd cc
+more_or false o w v n e = (refl, e)
+
+got_is : (w v n w' v' n' : ℕ) → got w v n ≡ got w' v' n' → (w ≡ w') × (v ≡ v') × (n ≡ n')
+got_is w v n w' v' n' e = (cc, cc, cc)
+
+one_first : (w k : ℕ) → w < top → 0 < k → k ≤ 64 → eqb (bit_at w (64 - k)) 1 ≡ first_set false (in_words w 0) k
+one_first w k small low high =
+    elim (cases_eq k 1) [
+      | inl e ↦ let s = small_first w small in rw e s
+      | inr ne ↦ grind (arith, nat_tests)
+    ]
+
+one_none : (w k : ℕ) → 64 < k → k ≤ 128 → in_words w 0 k ≡ false
+one_none w k low high = let z = bit_at-zero (128 - k) in grind (arith, nat_tests)
+
+two_first : (w v k : ℕ) → w < 2 ^ 64 → top ≤ w → 0 < k → k ≤ 64 → eqb (bit_at w (64 - k)) 1 ≡ first_set true (in_words (w - top) v) k
+two_first w v k fits large low high =
+    elim (cases_eq k 1) [
+      | inl e ↦ let s = large_first w fits large in rw e s
+      | inr ne ↦ let l = low_bits w (64 - k) large (omega arith) in grind (arith, nat_tests)
+    ]
+
+two_second : (w v k : ℕ) → 0 < k → k ≤ 64 → eqb (bit_at v (64 - k)) 1 ≡ second_set (in_words w v) k
+two_second w v k low high = let e : 128 - (64 + k) ≡ 64 - k = omega arith in grind (arith, nat_tests)
+
+second_or : (t : Bool) (w v n w' v' n' at : ℕ) → cond t (got w v n) (fault at ThirdBitmap) ≡ got w' v' n' → got w v n ≡ got w' v' n'
+second_or true w v n w' v' n' at e = e
+second_or false w v n w' v' n' at e = absurd cc
+
+found_along : (c : BitmapCoding) (b : List ℕ) (w v n w' v' n' : ℕ) → got w v n ≡ got w' v' n' → Found c b w v n → Found c b w' v' n'
+found_along c b w v n w' v' n' e found =
+    let s = got_is w v n w' v' n' e in
+    subst (λ (k : ℕ). Found c b w' v' k) s.2 (subst (λ (k : ℕ). Found c b w' k n) s.1 (subst (λ (k : ℕ). Found c b k v n) s.0 found))
+
+by_second : (c : BitmapCoding) (b : List ℕ) (first w v n : ℕ) (o : Option ℕ) → word_in c (take (map_size c) (drop (map_size c) b)) ≡ o → ((i : ℕ) → get_or b i 0 < 256) → map_size c + map_size c ≤ length b → word_in c (take (map_size c) b) ≡ Some first → top ≤ first
+    → second_by c (first - top) o ≡ got w v n → Found c b w v n
+by_second c b first w v n None is fits room front large e = absurd cc
+by_second c b first w v n (Some second) is fits room front large e =
+    let size = map_size c in
+    let p : List ℕ = take size b in
+    let q : List ℕ = take size (drop size b) in
+    let one = word_taken c p first (bytes_take size b fits) (omega (arith, length-take size b)) front in
+    let other = word_taken c q second (bytes_take size (drop size b) (bytes_drop size b fits)) (omega (arith, length-take size (drop size b), length-drop size b)) is in
+    let set = in_words (first - top) second in
+    let ahead : take size (take (size + size) b) ≡ p = take-take size (size + size) b (omega arith) in
+    let behind : drop size (take (size + size) b) ≡ q = drop-take size size b in
+    let found : Found c b (first - top) second (size + size) =
+    (room, (true, record {
+      first = subst (λ (l : List ℕ). BitsIn c (first_set true set) l) (sym ahead) (bits_agree c _ _ p (λ k low high. two_first first second k one.small large low high) one.bits);
+      second = subst (λ (l : List ℕ). BitsIn c (second_set set) l) (sym behind) (bits_agree c _ _ q (λ k low high. two_second (first - top) second k low high) other.bits);
+    })) in
+    found_along c b (first - top) second (size + size) w v n (second_or (ltb second top) (first - top) second (size + size) w v n size e) found
+
+by_size : (t : Bool) (c : BitmapCoding) (b : List ℕ) (first w v n : ℕ) → ltb first top ≡ t → ((i : ℕ) → get_or b i 0 < 256) → map_size c ≤ length b → word_in c (take (map_size c) b) ≡ Some first
+    → cond t (got first 0 (map_size c)) (cond (ltb (length b) (map_size c + map_size c)) more (second_by c (first - top) (word_in c (take (map_size c) (drop (map_size c) b))))) ≡ got w v n → Found c b w v n
+by_size true c b first w v n is fits room front e =
+    let size = map_size c in
+    let p : List ℕ = take size b in
+    let one = word_taken c p first (bytes_take size b fits) (omega (arith, length-take size b)) front in
+    let small : first < top = ltb-true first top is in
+    found_along c b first 0 size w v n e (room, (false, record {
+      first = bits_agree c _ _ p (λ k low high. one_first first k small low high) one.bits;
+      none = one_none first;
+    }))
+by_size false c b first w v n is fits room front e =
+    let size = map_size c in
+    let a = more_or (ltb (length b) (size + size)) (second_by c (first - top) (word_in c (take size (drop size b)))) w v n e in
+    by_second c b first w v n (word_in c (take size (drop size b))) refl fits (ltb-false (length b) (size + size) a.0) front (ltb-false first top is) a.1
+
+by_first : (c : BitmapCoding) (b : List ℕ) (w v n : ℕ) (o : Option ℕ) → word_in c (take (map_size c) b) ≡ o → ((i : ℕ) → get_or b i 0 < 256) → map_size c ≤ length b → first_by c b o ≡ got w v n → Found c b w v n
+by_first c b w v n None is fits room e = absurd cc
+by_first c b w v n (Some first) is fits room e = by_size (ltb first top) c b first w v n refl fits room is e
+
+pub maps_taken : (c : BitmapCoding) (b : List ℕ) (w v n : ℕ) → ((i : ℕ) → get_or b i 0 < 256) → maps_at c b ≡ got w v n → Found c b w v n
+maps_taken c b w v n fits e =
+    let size = map_size c in
+    let a = more_or (ltb (length b) size) (first_by c b (word_in c (take size b))) w v n e in
+    by_first c b w v n (word_in c (take size b)) refl fits (ltb-false (length b) size a.0) a.1
+
+-- what a function that reads has found
+pub is_found : (c : BitmapCoding) (b : List ℕ) (r : Result BitmapStep BitmapFault) → ((i : ℕ) → get_or b i 0 < 256) → ReadsMaps r (maps_at c b) → FoundMaps c b r
+is_found c b (Ok (steps.Got bits used)) fits h = maps_taken c b bits.first bits.second used fits h
+is_found c b (Ok steps.More) fits h = tt
+is_found c b (Err e) fits h = tt

@@ -1,0 +1,13 @@
+pub mod Pads
+pub mod Prefixes
+pub mod Texts
+pub mod Counts
+pub mod Parts
+pub mod Takes
+pub mod BitsLemmas
+pub mod Words
+pub mod BitmapLaws
+pub mod Highest
+pub mod Buffers
+pub mod Plain
+pub mod Stable

@@ -1,0 +1,74 @@
+-- Reading bitmaps from the front of bytes, each one when it is whole.
+use Rattle.std.specs.Prelude.{◌≡◌, ℕ, ◌+◌, ◌-◌, ◌≤◌, nat_lt, Bool, List, length, take, drop, Result, Ok, Err, Option, Some, None, if◌then◌else◌}
+use Rattle.std.specs.Int.{w64, from_be_bytes}
+use Rattle.hex.specs.Hex.{decode_of}
+use Rattle.hex.specs.declared.error.FromHexError.{FromHexError}
+use Rattle.iso_parts.specs.declared.bitmap.BitmapCoding.{BitmapCoding}
+use Rattle.iso_parts.specs.declared.bitmap.BitmapCoding.TheVariants as codings
+use Rattle.iso_parts.specs.declared.bitmap.BitmapCause.{BitmapCause}
+use Rattle.iso_parts.specs.declared.bitmap.BitmapCause.TheVariants.{BadHex, ThirdBitmap}
+use Rattle.iso_parts.specs.declared.bitmap.BitmapFault.{BitmapFault}
+use Rattle.iso_parts.specs.declared.bitmap.BitmapStep.{BitmapStep}
+use Rattle.iso_parts.specs.declared.bitmap.BitmapStep.TheVariants as steps
+use Rattle.iso_parts.specs.Bits.{map_size, contains, Bitmaps}
+
+-- ---- one bitmap
+
+-- the word of the bytes that digits tell, if they are digits
+abbrev pub word_of : Result (List ℕ) FromHexError → Option ℕ
+word_of (Ok raw) = Some (from_be_bytes w64 raw)
+word_of (Err e) = None
+
+-- the word that a whole bitmap tells, its first bit the most significant
+abbrev pub word_in : BitmapCoding → List ℕ → Option ℕ
+word_in codings.Raw b = Some (from_be_bytes w64 b)
+word_in codings.Hex b = word_of (decode_of b)
+
+-- a word from here on has its first bit set
+abbrev pub top : ℕ
+top = 0x8000000000000000
+
+-- ---- the bitmaps at the front of bytes
+
+-- the words of a set, without the first bit, and how many bytes they take; or that bytes are missing; or a fault
+pub data Maps : Type 0 where
+  got : ℕ → ℕ → ℕ → Maps
+  more : Maps
+  fault : ℕ → BitmapCause → Maps
+
+-- the secondary bitmap behind the primary one
+abbrev pub second_by : BitmapCoding → ℕ → Option ℕ → Maps
+second_by c first None = fault (map_size c) BadHex
+second_by c first (Some second) =
+    if nat_lt second top then got first second (map_size c + map_size c) else fault (map_size c) ThirdBitmap
+
+-- the primary bitmap, and the secondary one where its first bit says so
+abbrev pub first_by : BitmapCoding → List ℕ → Option ℕ → Maps
+first_by c b None = fault 0 BadHex
+first_by c b (Some first) =
+    if nat_lt first top then got first 0 (map_size c)
+    else if nat_lt (length b) (map_size c + map_size c) then more
+    else second_by c (first - top) (word_in c (take (map_size c) (drop (map_size c) b)))
+
+abbrev pub maps_at : BitmapCoding → List ℕ → Maps
+maps_at c b = if nat_lt (length b) (map_size c) then more else first_by c b (word_in c (take (map_size c) b))
+
+-- ---- what functions answer
+
+-- the answer is what reading gives
+abbrev pub ReadsMaps : Result BitmapStep BitmapFault → Maps → Type 0
+ReadsMaps (Ok (steps.Got bits used)) o = o ≡ got bits.first bits.second used
+ReadsMaps (Ok steps.More) o = o ≡ more
+ReadsMaps (Err e) o = o ≡ fault e.at e.cause
+
+-- where a set was read, it is the one that the first bytes spell
+abbrev pub FoundMaps : BitmapCoding → List ℕ → Result BitmapStep BitmapFault → Type 0
+FoundMaps c b (Ok (steps.Got bits used)) = (used ≤ length b) × ((two : Bool) × Bitmaps c two (contains bits) (take used b))
+FoundMaps c b (Ok steps.More) = Unit {0}
+FoundMaps c b (Err e) = Unit {0}
+
+-- the set was read from so many bytes
+abbrev pub IsRead : (ℕ → Bool) → ℕ → Result BitmapStep BitmapFault → Type 0
+IsRead set size (Ok (steps.Got bits used)) = (used ≡ size) × ((k : ℕ) → 2 ≤ k → k ≤ 128 → contains bits k ≡ set k)
+IsRead set size (Ok steps.More) = ⊥
+IsRead set size (Err e) = ⊥

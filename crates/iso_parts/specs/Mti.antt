@@ -1,0 +1,47 @@
+-- Message types: four decimal digits, for version, class, function and origin (ISO 8583:1987, message type identifier).
+use Rattle.std.specs.Prelude.{ℕ, ◌+◌, ◌-◌, ◌*◌, ◌/◌, ◌%◌, ◌==◌, ◌||◌, nat_le, Bool, Option, Some, None, if◌then◌else◌}
+use Rattle.iso_parts.specs.declared.mti.Mti.{Mti}
+use Rattle.iso_parts.specs.declared.mti.MtiClass.{MtiClass}
+use Rattle.iso_parts.specs.declared.mti.MtiClass.TheVariants.{Authorization, Financial, FileAction, Reversal, Reconciliation, Administrative, FeeCollection, NetworkManagement, Reserved}
+
+-- the four digits
+abbrev pub digits : Mti → ℕ × ℕ × ℕ × ℕ
+digits m = (m.version, m.class, m.function, m.origin)
+
+-- the number that the digits write
+abbrev pub number : Mti → ℕ
+number m = 1000 * m.version + 100 * m.class + 10 * m.function + m.origin
+
+-- the digits of a number below 10000
+abbrev pub digits_of : ℕ → Option (ℕ × ℕ × ℕ × ℕ)
+digits_of n = if nat_le n 9999 then Some (n / 1000, n / 100 % 10, n / 10 % 10, n % 10) else None
+
+-- what the class digit means
+abbrev pub class_of : ℕ → MtiClass
+class_of n =
+    if n == 1 then Authorization
+    else if n == 2 then Financial
+    else if n == 3 then FileAction
+    else if n == 4 then Reversal
+    else if n == 5 then Reconciliation
+    else if n == 6 then Administrative
+    else if n == 7 then FeeCollection
+    else if n == 8 then NetworkManagement
+    else Reserved n
+
+-- a request and an advice have a response
+abbrev pub is_answered : ℕ → Bool
+is_answered function = function == 0 || function == 2
+
+-- the origin of the first delivery, of a repeat too
+abbrev pub first_origin : ℕ → ℕ
+first_origin origin = origin - origin % 2
+
+-- the digits of the base: no repeat
+abbrev pub base_digits : Mti → ℕ × ℕ × ℕ × ℕ
+base_digits m = (m.version, m.class, m.function, first_origin m.origin)
+
+-- the digits of the response, where there is one
+abbrev pub response_digits : Mti → Option (ℕ × ℕ × ℕ × ℕ)
+response_digits m =
+    if is_answered m.function then Some (m.version, m.class, m.function + 1, first_origin m.origin) else None

@@ -1,0 +1,215 @@
+//! Bitmaps: which elements a message has.
+
+ghost use Rattle.std.specs.Int.{bit_at};
+ghost use Rattle.std.specs.Prelude.{◌≡◌, ◌≢◌, ℕ, ◌+◌, ◌-◌, ◌<◌, ◌≤◌, ◌^◌, ◌++◌, Bool, true, false, List, length, take, drop, OnOk, OnErr, ◌==◌, ◌⊎◌};
+
+use crate::bitmap_reading::{hex_word, raw_word, read};
+use crate::encoding::append_hex;
+use std::alloc::{AllocError, Global};
+use thiserror::Error;
+
+/// A set of element numbers: 2 to 64 and 66 to 128.
+#[derive(Clone, Copy, Debug, PartialEq, Eq)]
+pub struct Bitmap {
+    first: u64,
+    second: u64,
+    ghost not_1: { first < 2 ^ 63 },
+    ghost not_65: { second < 2 ^ 63 },
+}
+
+/// How a bitmap is written.
+#[derive(Clone, Copy, Debug, PartialEq, Eq)]
+pub enum BitmapCoding {
+    /// Eight bytes.
+    Raw,
+    /// Sixteen hexadecimal digits: written in upper case, read in both.
+    Hex,
+}
+
+/// What stands at the front of some bytes.
+#[derive(Clone, Copy, Debug, PartialEq, Eq)]
+pub enum BitmapStep {
+    /// The elements, and how many bytes the bitmaps take.
+    Got { bits: Bitmap, used: usize },
+    /// Less than a whole bitmap.
+    More,
+}
+
+/// Why bytes are no bitmaps: the offset of the faulty bitmap, and what is wrong with it.
+#[derive(Clone, Copy, Debug, PartialEq, Eq, Error)]
+#[error("bitmap at {at}: {cause}")]
+pub struct BitmapFault {
+    pub at: usize,
+    pub cause: BitmapCause,
+}
+
+/// What is wrong with a bitmap.
+#[derive(Clone, Copy, Debug, PartialEq, Eq, Error)]
+pub enum BitmapCause {
+    /// A byte is no hexadecimal digit.
+    #[error("a byte is no hexadecimal digit")]
+    BadHex,
+    /// Bit 65 tells of a third bitmap.
+    #[error("a third bitmap")]
+    ThirdBitmap,
+}
+
+/// The word with bit `k` set.
+fn with_bit(word: u64, k: u8) -> u64
+    requires { k < 64 }
+    ensures below { (j : ℕ) → k < j → word < 2 ^ j → result < 2 ^ j }
+    ensures added { bit_at result k ≡ 1 }
+    ensures others { (i : ℕ) → i ≢ k → bit_at result i ≡ bit_at word i }
+{
+    word | 1 << k
+}
+
+impl BitmapCoding {
+    ghost use Rattle.iso_parts.specs.Bits.{map_size};
+    ghost use Rattle.iso_parts.specs.BitmapReading.{word_in};
+
+    /// How many bytes a bitmap takes.
+    pub fn size(self) -> usize
+        ensures { result ≡ map_size self }
+    {
+        match self {
+            BitmapCoding::Raw => 8,
+            BitmapCoding::Hex => 16,
+        }
+    }
+
+    /// The word of a whole bitmap, its first bit the most significant; `None` where the digits are none.
+    pub fn word(self, bytes: &[u8]) -> Option<u64>
+        requires { length bytes.now ≡ map_size self }
+        ensures { result ≡ word_in self bytes.now }
+    {
+        match self {
+            BitmapCoding::Raw => Some(raw_word(bytes)),
+            BitmapCoding::Hex => hex_word(bytes),
+        }
+    }
+}
+
+impl Bitmap {
+    ghost use Rattle.iso_parts.specs.Bits.{contains, in_words, Bitmaps, PlainBitmaps, HasAbove, IsHighest};
+    ghost use Rattle.iso_parts.specs.BitmapReading.{ReadsMaps, FoundMaps, IsRead, maps_at};
+
+    /// No number.
+    pub fn new() -> Bitmap
+        ensures { (n : ℕ) → contains result n ≡ false }
+    {
+        Bitmap {
+            first: 0,
+            second: 0,
+        }
+    }
+
+    /// The set of a primary and a secondary bitmap's words, the first bit of each being the most significant.
+    pub fn from_words(first: u64, second: u64) -> Bitmap
+        requires not_1 { first < 2 ^ 63 }
+        requires not_65 { second < 2 ^ 63 }
+        ensures words { (result.first ≡ first) × (result.second ≡ second) }
+        ensures set { (n : ℕ) → contains result n ≡ in_words first second n }
+    {
+        Bitmap { first, second }
+    }
+
+    /// Whether the number is in the set.
+    pub fn has(&self, n: u8) -> bool
+        ensures { result ≡ contains self.now n }
+    {
+        match n {
+            1..=64 => self.first >> (64 - n) & 1 == 1,
+            65..=128 => self.second >> (128 - n) & 1 == 1,
+            _ => false,
+        }
+    }
+
+    /// Puts a number into the set.
+    pub fn set(&mut self, n: u8)
+        requires low { 2 ≤ n }
+        requires high { n ≤ 128 }
+        requires not_65 { n ≢ 65 }
+        ensures added { contains self.new n ≡ true }
+        ensures others { (k : ℕ) → k ≢ n → contains self.new k ≡ contains self.old k }
+    {
+        if n <= 64 {
+            self.first = with_bit(self.first, 64 - n);
+        } else {
+            self.second = with_bit(self.second, 128 - n);
+        }
+    }
+
+    /// The greatest number of the set, 0 for none.
+    pub fn highest(&self) -> u8
+        ensures { IsHighest (contains self.now) result }
+    {
+        if self.second != 0 {
+            128 - self.second.trailing_zeros() as u8
+        } else if self.first != 0 {
+            64 - self.first.trailing_zeros() as u8
+        } else {
+            0
+        }
+    }
+
+    /// Writes the bitmaps as raw bytes, 8 of them or, where a number above 64 is in the set, 16. Says how many;
+    /// the later bytes stay.
+    pub fn write_raw(&self, out: &mut [u8; 16]) -> usize
+        ensures used { (result ≡ 8) ⊎ ((result ≡ 16) × HasAbove (contains self.now)) }
+        ensures bytes { Bitmaps BitmapCoding.Raw (result == 16) (contains self.now) (take result out.new) }
+        ensures rest { drop result out.new ≡ drop result out.old }
+    {
+        if self.second == 0 {
+            out[..8].copy_from_slice(&self.first.to_be_bytes());
+            return 8;
+        }
+        out[..8].copy_from_slice(&with_bit(self.first, 63).to_be_bytes());
+        out[8..].copy_from_slice(&self.second.to_be_bytes());
+        16
+    }
+
+    /// Appends the bitmaps under a coding, hexadecimal digits in upper case.
+    pub fn append(
+        &self,
+        alloc: Global,
+        coding: BitmapCoding,
+        out: &mut Vec<u8>,
+    ) -> Result<(), AllocError>
+        ensures ok { OnOk result ((b : List ℕ) × PlainBitmaps coding (contains self.now) b × (out.new.items ≡ out.old.items ++ b)) }
+    {
+        let mut maps = [0; 16];
+        let used = self.write_raw(&mut maps);
+        let (front, _) = maps.as_slice().split_at(used);
+        match coding {
+            BitmapCoding::Raw => out.extend_from_slice(front),
+            BitmapCoding::Hex => append_hex(alloc, front, out),
+        }
+    }
+
+    /// Reads the raw bitmaps that the bytes begin with: `More` where one isn't whole, `ThirdBitmap` where the
+    /// second one has its first bit set.
+    pub fn read_raw(bytes: &[u8]) -> Result<BitmapStep, BitmapFault>
+        // A set that is got is the one that the first bytes spell.
+        ensures found { FoundMaps BitmapCoding.Raw bytes.now result }
+        // The set that bytes at the front spell is got.
+        ensures only { (two : Bool) (set : ℕ → Bool) (front rest : List ℕ) → set 65 ≡ false → Bitmaps BitmapCoding.Raw two set front → bytes.now ≡ front ++ rest → IsRead set (length front) result }
+        // Which fault it is, and that bytes are missing.
+        ensures exact { ReadsMaps result (maps_at BitmapCoding.Raw bytes.now) }
+    {
+        read(BitmapCoding::Raw, bytes)
+    }
+
+    /// Reads the hexadecimal bitmaps that the bytes begin with: `More` where one isn't whole, `BadHex` where it
+    /// isn't of digits, `ThirdBitmap` where the second one has its first bit set.
+    pub fn read_hex(bytes: &[u8]) -> Result<BitmapStep, BitmapFault>
+        // A set that is got is the one that the first bytes spell.
+        ensures found { FoundMaps BitmapCoding.Hex bytes.now result }
+        // The set that bytes at the front spell is got.
+        ensures only { (two : Bool) (set : ℕ → Bool) (front rest : List ℕ) → set 65 ≡ false → Bitmaps BitmapCoding.Hex two set front → bytes.now ≡ front ++ rest → IsRead set (length front) result }
+        // Which fault it is, and that bytes are missing.
+        ensures exact { ReadsMaps result (maps_at BitmapCoding.Hex bytes.now) }
+    {
+        read(BitmapCoding::Hex, bytes)
+    }
+}

@@ -1,0 +1,82 @@
+//! Reading the bitmaps at the front of some bytes.
+
+ghost use Rattle.std.specs.Prelude.{◌≡◌, ◌<◌, ◌^◌, length};
+ghost use Rattle.std.specs.Int.{w64, from_be_bytes};
+ghost use Rattle.hex.specs.Hex.{decode_of};
+ghost use Rattle.iso_parts.specs.Bits.{map_size};
+ghost use Rattle.iso_parts.specs.BitmapReading.{ReadsMaps, word_in, word_of, second_by, maps_at};
+
+use crate::bitmap::{Bitmap, BitmapCause, BitmapCoding, BitmapFault, BitmapStep};
+
+/// A word from here on has its first bit set.
+const TOP: u64 = 0x8000_0000_0000_0000;
+
+/// The word of eight bytes.
+pub(crate) fn raw_word(bytes: &[u8]) -> u64
+    requires { length bytes.now ≡ 8 }
+    ensures { result ≡ from_be_bytes w64 bytes.now }
+{
+    u64::from_be_bytes([
+        bytes[0], bytes[1], bytes[2], bytes[3], bytes[4], bytes[5], bytes[6], bytes[7],
+    ])
+}
+
+/// The word of sixteen digits, `None` where a byte is no digit.
+pub(crate) fn hex_word(bytes: &[u8]) -> Option<u64>
+    requires { length bytes.now ≡ 16 }
+    ensures { result ≡ word_of (decode_of bytes.now) }
+{
+    let mut word = [0; 8];
+    match hex::decode_to_slice(bytes, &mut word) {
+        Ok(()) => Some(u64::from_be_bytes(word)),
+        Err(_) => None,
+    }
+}
+
+/// The set of the primary bitmap's word, without its first bit, and a whole secondary bitmap.
+fn read_second(coding: BitmapCoding, first: u64, bytes: &[u8]) -> Result<BitmapStep, BitmapFault>
+    requires small { first < 2 ^ 63 }
+    requires whole { length bytes.now ≡ map_size coding }
+    ensures { ReadsMaps result (second_by coding first (word_in coding bytes.now)) }
+{
+    let at = coding.size();
+    match coding.word(bytes) {
+        None => Err(BitmapFault {
+            at,
+            cause: BitmapCause::BadHex,
+        }),
+        Some(second) if second < TOP => Ok(BitmapStep::Got {
+            bits: Bitmap::from_words(first, second),
+            used: at + at,
+        }),
+        Some(_) => Err(BitmapFault {
+            at,
+            cause: BitmapCause::ThirdBitmap,
+        }),
+    }
+}
+
+/// Reads the bitmaps that the bytes begin with, each one when it is whole.
+pub(crate) fn read(coding: BitmapCoding, bytes: &[u8]) -> Result<BitmapStep, BitmapFault>
+    ensures { ReadsMaps result (maps_at coding bytes.now) }
+{
+    let size = coding.size();
+    if bytes.len() < size {
+        return Ok(BitmapStep::More);
+    }
+    let (front, rest) = bytes.split_at(size);
+    let Some(first) = coding.word(front) else {
+        return Err(BitmapFault {
+            at: 0,
+            cause: BitmapCause::BadHex,
+        });
+    };
+    if first < TOP {
+        let bits = Bitmap::from_words(first, 0);
+        return Ok(BitmapStep::Got { bits, used: size });
+    }
+    if rest.len() < size {
+        return Ok(BitmapStep::More);
+    }
+    read_second(coding, first - TOP, &rest[..size])
+}

@@ -1,0 +1,67 @@
+//! Character classes.
+
+ghost use Rattle.std.specs.Prelude.{◌≡◌};
+ghost use Rattle.std.specs.List.{list_all};
+ghost use Rattle.iso_parts.specs.Class.{is_member, is_first, is_in_class};
+
+/// The characters that a value may have.
+#[derive(Clone, Copy, Debug, PartialEq, Eq)]
+pub enum CharClass {
+    /// Digits.
+    N,
+    /// Letters.
+    A,
+    /// Letters and digits.
+    AN,
+    /// Printable characters, the blank among them: 0x20 to 0x7E.
+    ANS,
+    /// Track characters: 0x30 to 0x3F.
+    Z,
+    /// Track characters and `D` in place of the separator.
+    ZD,
+    /// `C` or `D`, and then digits.
+    XN,
+    /// Any bytes.
+    B,
+}
+
+impl CharClass {
+    fn has(self, b: u8) -> bool
+        ensures { result ≡ is_member self b }
+    {
+        match self {
+            CharClass::N | CharClass::XN => matches!(b, b'0'..=b'9'),
+            CharClass::A => matches!(b, b'A'..=b'Z' | b'a'..=b'z'),
+            CharClass::AN => matches!(b, b'A'..=b'Z' | b'a'..=b'z' | b'0'..=b'9'),
+            CharClass::ANS => matches!(b, 0x20..=0x7E),
+            CharClass::Z => matches!(b, 0x30..=0x3F),
+            CharClass::ZD => matches!(b, 0x30..=0x3F | b'D'),
+            CharClass::B => true,
+        }
+    }
+
+    fn has_first(self, b: u8) -> bool
+        ensures { result ≡ is_first self b }
+    {
+        match self {
+            CharClass::XN => matches!(b, b'C' | b'D'),
+            _ => self.has(b),
+        }
+    }
+
+    fn has_all(self, bytes: &[u8]) -> bool
+        ensures { result ≡ list_all (is_member self) bytes.now }
+    {
+        bytes.iter().all(|b| self.has(*b))
+    }
+
+    /// Whether the bytes are a value of the class.
+    pub fn takes(self, value: &[u8]) -> bool
+        ensures { result ≡ is_in_class self value.now }
+    {
+        match value {
+            [] => true,
+            [first, rest @ ..] => self.has_first(*first) && self.has_all(rest),
+        }
+    }
+}

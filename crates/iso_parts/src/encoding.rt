@@ -1,0 +1,165 @@
+//! How characters are written.
+
+ghost use Rattle.std.specs.Prelude.{◌≡◌, ◌++◌, ◌≢◌, length, OnOk, OnErr};
+ghost use Rattle.iso_parts.specs.Row.{is_coded, is_pad_byte};
+ghost use Rattle.iso_parts.specs.Part.{characters, pairs, plain, with_filler, Keeps};
+ghost use Rattle.iso_parts.specs.Reading.{AppendsRead, body_size, text_of};
+
+use crate::class::CharClass;
+use crate::fault::FieldFault;
+use hex::FromHexError;
+use std::alloc::{AllocError, Global};
+
+/// How characters are written.
+#[derive(Clone, Copy, Debug, PartialEq, Eq)]
+pub enum Coding {
+    /// The bytes themselves.
+    Ascii,
+    /// Two characters a byte, high nibble first, a character being 0x30 plus its nibble. An odd count has a
+    /// filler nibble in front: written 0, read 0 or F.
+    Bcd,
+    /// The bytes themselves, of class `B`.
+    Raw,
+    /// Two hexadecimal digits a byte: written in upper case, read in both.
+    HexText,
+}
+
+fn append_pairs(text: &[u8], out: &mut Vec<u8>) -> Result<(), AllocError>
+    ensures ok { OnOk result (out.new.items ≡ out.old.items ++ pairs text.now) }
+    ensures err { OnErr result (Keeps out.old.items out.new.items) }
+{
+    let mut rest = text;
+    while let [high, low, after @ ..] = rest {
+        out.push(*high % 16 * 16 + *low % 16)?;
+        rest = after;
+    }
+    Ok(())
+}
+
+fn append_bcd(text: &[u8], out: &mut Vec<u8>) -> Result<(), AllocError>
+    ensures ok { OnOk result (out.new.items ≡ out.old.items ++ pairs (with_filler 48 text.now)) }
+    ensures err { OnErr result (Keeps out.old.items out.new.items) }
+{
+    match text {
+        [first, rest @ ..] if text.len() % 2 == 1 => {
+            out.push(*first % 16)?;
+            append_pairs(rest, out)
+        }
+        _ => append_pairs(text, out),
+    }
+}
+
+/// Appends the digits of bytes, in upper case.
+pub(crate) fn append_hex(alloc: Global, bytes: &[u8], out: &mut Vec<u8>) -> Result<(), AllocError>
+    ensures ok { OnOk result (out.new.items ≡ out.old.items ++ plain Coding.HexText bytes.now) }
+    ensures err { OnErr result (Keeps out.old.items out.new.items) }
+{
+    let digits = hex::encode_upper(alloc, bytes)?;
+    out.extend_from_slice(digits.as_bytes())
+}
+
+fn push_characters(bytes: &[u8], out: &mut Vec<u8>) -> Result<(), AllocError>
+    ensures ok { OnOk result (out.new.items ≡ out.old.items ++ characters bytes.now) }
+    ensures err { OnErr result (Keeps out.old.items out.new.items) }
+{
+    for b in bytes {
+        out.push(b'0' + *b / 16)?;
+        out.push(b'0' + *b % 16)?;
+    }
+    Ok(())
+}
+
+fn push_digits(n: u16, body: &[u8], out: &mut Vec<u8>) -> Result<(), FieldFault>
+    ensures { AppendsRead out.old.items out.new.items result (text_of Coding.Bcd n body.now) }
+{
+    if n % 2 == 0 {
+        push_characters(body, out)?;
+        return Ok(());
+    }
+    match body {
+        [] => Err(FieldFault::BadFiller),
+        [first, rest @ ..] => {
+            if *first / 16 != 0 && *first / 16 != 15 {
+                return Err(FieldFault::BadFiller);
+            }
+            out.push(b'0' + *first % 16)?;
+            push_characters(rest, out)?;
+            Ok(())
+        }
+    }
+}
+
+fn push_bytes(n: u16, body: &[u8], out: &mut Vec<u8>) -> Result<(), FieldFault>
+    ensures { AppendsRead out.old.items out.new.items result (text_of Coding.HexText n body.now) }
+{
+    let before = out.len();
+    out.resize(before + body.len() / 2, 0)?;
+    let (_, room) = out.as_mut_slice().split_at_mut(before);
+    match hex::decode_to_slice(body, room) {
+        Ok(()) => Ok(()),
+        Err(_) => Err(FieldFault::BadHex),
+    }
+}
+
+impl Coding {
+    /// Whether values of the class can be written so.
+    pub(crate) fn takes(self, class: CharClass) -> bool
+        ensures { result ≡ is_coded self class }
+    {
+        match self {
+            Coding::Ascii => class != CharClass::B,
+            Coding::Bcd => matches!(class, CharClass::N | CharClass::Z),
+            Coding::Raw | Coding::HexText => class == CharClass::B,
+        }
+    }
+
+    /// Whether the byte may fill up values that are written so.
+    pub(crate) fn takes_pad(self, pad: u8) -> bool
+        ensures { result ≡ is_pad_byte self pad }
+    {
+        match self {
+            Coding::Ascii => matches!(pad, 0x20..=0x7E),
+            Coding::Bcd => matches!(pad, 0x30..=0x3F),
+            Coding::Raw | Coding::HexText => false,
+        }
+    }
+
+    /// How many bytes so many characters take.
+    pub(crate) fn body_size(self, n: u16) -> usize
+        ensures { result ≡ body_size self n }
+    {
+        match self {
+            Coding::Ascii | Coding::Raw => n as usize,
+            Coding::Bcd => (n as usize + 1) / 2,
+            Coding::HexText => 2 * n as usize,
+        }
+    }
+
+    /// Appends what stands for the characters.
+    pub(crate) fn append_text(
+        self,
+        alloc: Global,
+        text: &[u8],
+        out: &mut Vec<u8>,
+    ) -> Result<(), AllocError>
+        ensures ok { OnOk result (out.new.items ≡ out.old.items ++ plain self text.now) }
+        ensures err { OnErr result (Keeps out.old.items out.new.items) }
+    {
+        match self {
+            Coding::Ascii | Coding::Raw => out.extend_from_slice(text),
+            Coding::Bcd => append_bcd(text, out),
+            Coding::HexText => append_hex(alloc, text, out),
+        }
+    }
+
+    /// Appends the `n` characters that a whole body stands for. On a fault more than was there may stand behind it.
+    pub(crate) fn push_text(self, n: u16, body: &[u8], out: &mut Vec<u8>) -> Result<(), FieldFault>
+        ensures { AppendsRead out.old.items out.new.items result (text_of self n body.now) }
+    {
+        match self {
+            Coding::Ascii | Coding::Raw => Ok(out.extend_from_slice(body)?),
+            Coding::Bcd => push_digits(n, body, out),
+            Coding::HexText => push_bytes(n, body, out),
+        }
+    }
+}

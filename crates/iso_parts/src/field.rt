@@ -1,0 +1,197 @@
+//! Fields: a value as the part of a message, its length and then its body.
+
+ghost use Rattle.std.specs.Prelude.{IfOk, ◌≡◌, ◌≢◌, ℕ, List, take, ◌+◌, ◌-◌, ◌≤◌, ◌++◌, ◌↔◌, length, replicate, OnOk, OnErr, IfErr, IsTrue, None, Some};
+ghost use Rattle.iso_parts.specs.declared.fault.FieldFault.TheVariants.{Memory};
+ghost use Rattle.iso_parts.specs.Row.{is_length, refusal, IsGood, Fits};
+ghost use Rattle.iso_parts.specs.Part.{with_pads, padded, plain, plain_part, Part, Keeps};
+ghost use Rattle.iso_parts.specs.Reading.{prefix_size, Reads, AppendsRead, AppendsValue, IfGot, got, prefix_of, value_of, body_of, part_at};
+
+use crate::encoding::Coding;
+use crate::fault::FieldFault;
+use crate::padding::Pad;
+use crate::spec::FieldSpec;
+use std::alloc::{AllocError, Global};
+
+/// What stands at the front of some bytes.
+#[derive(Debug, Drop)]
+pub enum Step {
+    /// A value, and how many bytes its part takes.
+    Got { value: Vec<u8>, used: usize },
+    /// Less than a whole part.
+    More,
+}
+
+/// The value, filled up with `n` pads.
+fn padded_text(alloc: Global, pad: Pad, n: usize, value: &[u8]) -> Result<Vec<u8>, AllocError>
+    requires { length value.now + n ≤ 65535 }
+    ensures { IfOk result (λ text. text.items ≡ with_pads pad n value.now) }
+{
+    let mut text = Vec::new(alloc);
+    match pad {
+        Pad::None => text.extend_from_slice(value)?,
+        Pad::Left(pad) => {
+            text.resize(n, pad)?;
+            text.extend_from_slice(value)?;
+        }
+        Pad::Right(pad) => {
+            text.extend_from_slice(value)?;
+            text.resize(value.len() + n, pad)?;
+        }
+    }
+    Ok(text)
+}
+
+/// Appends the plain part of a value that fits. Where memory runs out, more than was there may stand behind it.
+fn append_part(
+    alloc: Global,
+    spec: &FieldSpec,
+    value: &[u8],
+    out: &mut Vec<u8>,
+) -> Result<(), AllocError>
+    requires good { IsGood spec.now }
+    requires length { IsTrue (is_length spec.now (length value.now)) }
+    ensures ok { OnOk result (out.new.items ≡ out.old.items ++ plain_part spec.now value.now) }
+    ensures err { OnErr result (Keeps out.old.items out.new.items) }
+{
+    spec.length.append(value.len(), out)?;
+    if spec.pad == Pad::None {
+        spec.coding.append_text(alloc, value, out)
+    } else {
+        let text = padded_text(alloc, spec.pad, spec.max as usize - value.len(), value)?;
+        spec.coding.append_text(alloc, &text, out)
+    }
+}
+
+/// Appends the part of a value: its length where the row has one, and its body, with filler 0 and upper-case
+/// digits. A fault is the first of `WrongLength`, `NotInClass`, `PadEnd`, and leaves the vector as it was.
+pub fn encode_field(
+    alloc: Global,
+    spec: &FieldSpec,
+    value: &[u8],
+    out: &mut Vec<u8>,
+) -> Result<(), FieldFault>
+    requires { IsGood spec.now }
+    // A value that is written fits.
+    ensures fits { OnOk result (Fits spec.now value.now) }
+    ensures part { OnOk result (out.new.items ≡ out.old.items ++ plain_part spec.now value.now) }
+    ensures spelled { OnOk result (Part spec.now value.now (plain_part spec.now value.now)) }
+    // Which fault it is, unless memory ran out.
+    ensures accepted { OnOk result (refusal spec.now value.now ≡ None) }
+    ensures refused { IfErr result (λ e. e ≢ Memory → refusal spec.now value.now ≡ Some e) }
+    ensures unchanged { OnErr result (out.new.items ≡ out.old.items) }
+{
+    if let Some(fault) = spec.refusal(value) {
+        return Err(fault);
+    }
+    let before = out.len();
+    match append_part(alloc, spec, value, out) {
+        Ok(()) => Ok(()),
+        Err(_) => {
+            out.truncate(before);
+            Err(FieldFault::Memory)
+        }
+    }
+}
+
+/// The count of characters that a whole length tells.
+fn prefix_of(spec: &FieldSpec, prefix: &[u8]) -> Result<u16, FieldFault>
+    requires { length prefix.now ≡ prefix_size spec.now.length }
+    ensures { result ≡ prefix_of spec.now prefix.now }
+{
+    let n = spec.length.count_of(spec.max, prefix)?;
+    if spec.max < n {
+        Err(FieldFault::LengthOver)
+    } else {
+        Ok(n)
+    }
+}
+
+/// Appends the characters without their padding, where they are in the class.
+fn push_value(spec: &FieldSpec, text: &[u8], out: &mut Vec<u8>) -> Result<(), FieldFault>
+    ensures { AppendsRead out.old.items out.new.items result (value_of spec.now text.now) }
+{
+    let value = spec.pad.unpadded(text);
+    if !spec.class.takes(value) {
+        return Err(FieldFault::NotInClass);
+    }
+    Ok(out.extend_from_slice(value)?)
+}
+
+/// Appends the value that a whole body of `n` characters tells.
+fn push_body(
+    alloc: Global,
+    spec: &FieldSpec,
+    n: u16,
+    body: &[u8],
+    out: &mut Vec<u8>,
+) -> Result<(), FieldFault>
+    ensures { AppendsRead out.old.items out.new.items result (body_of spec.now n body.now) }
+{
+    match spec.coding {
+        Coding::Ascii | Coding::Raw => push_value(spec, body, out),
+        Coding::Bcd | Coding::HexText => {
+            let mut text = Vec::new(alloc);
+            spec.coding.push_text(n, body, &mut text)?;
+            push_value(spec, &text, out)
+        }
+    }
+}
+
+/// Appends the value of the part that the bytes begin with, and gives how many bytes the part takes; `None`
+/// where bytes are missing. Only the growth of `out` takes memory. Whatever isn't a value leaves `out` as it was.
+pub fn append_value(
+    alloc: Global,
+    spec: &FieldSpec,
+    bytes: &[u8],
+    out: &mut Vec<u8>,
+) -> Result<Option<usize>, FieldFault>
+    requires { IsGood spec.now }
+    ensures { AppendsValue out.old.items out.new.items result (part_at spec.now bytes.now) }
+{
+    let front = spec.length.prefix_size();
+    if bytes.len() < front {
+        return Ok(None);
+    }
+    let (prefix, rest) = bytes.split_at(front);
+    let n = prefix_of(spec, prefix)?;
+    let size = spec.coding.body_size(n);
+    if rest.len() < size {
+        return Ok(None);
+    }
+    let before = out.len();
+    match push_body(alloc, spec, n, &rest[..size], out) {
+        Ok(()) => Ok(Some(front + size)),
+        Err(fault) => {
+            out.truncate(before);
+            Err(fault)
+        }
+    }
+}
+
+/// The value of the part that the bytes begin with.
+fn step_of(alloc: Global, spec: &FieldSpec, bytes: &[u8]) -> Result<Step, FieldFault>
+    requires { IsGood spec.now }
+    ensures { Reads result (part_at spec.now bytes.now) }
+{
+    let mut value = Vec::new(alloc);
+    match append_value(alloc, spec, bytes, &mut value) {
+        Ok(Some(used)) => Ok(Step::Got { value, used }),
+        Ok(None) => Ok(Step::More),
+        Err(fault) => Err(fault),
+    }
+}
+
+/// Reads the part that the bytes begin with: its value and how many bytes it takes. Where the length is whole
+/// the faults are `BadLengthDigits` and `LengthOver`; where the body is whole `BadFiller`, `BadHex` and, without
+/// the padding, `NotInClass`; the first of them comes.
+pub fn decode_field(alloc: Global, spec: &FieldSpec, bytes: &[u8]) -> Result<Step, FieldFault>
+    requires { IsGood spec.now }
+    // A value that is got is that of the part at the front.
+    ensures found { IfGot result (λ value used. (used ≤ length bytes.now) × Part spec.now value (take used bytes.now)) }
+    // The value of a part at the front is got, unless memory runs out.
+    ensures only { (value part rest : List ℕ) → Part spec.now value part → bytes.now ≡ part ++ rest → Reads result (got value (length part)) }
+    // Which fault it is, and that bytes are missing.
+    ensures exact { Reads result (part_at spec.now bytes.now) }
+{
+    step_of(alloc, spec, bytes)
+}

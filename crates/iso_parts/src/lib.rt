@@ -1,0 +1,23 @@
+//! The parts of a message: message types, bitmaps, and fields with their classes, encodings, lengths and padding.
+#![tactic(auto)]
+
+mod bitmap;
+mod bitmap_reading;
+mod class;
+mod encoding;
+mod fault;
+mod field;
+mod mti;
+mod padding;
+mod prefix;
+mod spec;
+
+pub use bitmap::{Bitmap, BitmapCause, BitmapCoding, BitmapFault, BitmapStep};
+pub use class::CharClass;
+pub use encoding::Coding;
+pub use fault::FieldFault;
+pub use field::{Step, append_value, decode_field, encode_field};
+pub use mti::{Mti, MtiClass};
+pub use padding::Pad;
+pub use prefix::{Digits, Length};
+pub use spec::{FieldSpec, SpecFault};

@@ -1,0 +1,65 @@
+//! Padding.
+
+ghost use Rattle.std.specs.Prelude.{◌≡◌, length, reverse};
+ghost use Rattle.iso_parts.specs.Row.{has_pad_end};
+ghost use Rattle.iso_parts.specs.Reading.{without_front, unpadded};
+
+/// What fills a value up on the wire, to the row's maximum. The value is kept without it.
+#[derive(Clone, Copy, Debug, PartialEq, Eq)]
+pub enum Pad {
+    None,
+    /// This byte stands before the value.
+    Left(u8),
+    /// This byte stands behind the value.
+    Right(u8),
+}
+
+fn without_front(pad: u8, text: &[u8]) -> &[u8]
+    ensures { result.now ≡ without_front pad text.now }
+{
+    let mut rest = text;
+    while let [first, after @ ..] = rest {
+        if *first != pad {
+            break;
+        }
+        rest = after;
+    }
+    rest
+}
+
+fn without_end(pad: u8, text: &[u8]) -> &[u8]
+    ensures { result.now ≡ reverse (without_front pad (reverse text.now)) }
+{
+    let mut rest = text;
+    while let [before @ .., last] = rest {
+        if *last != pad {
+            break;
+        }
+        rest = before;
+    }
+    rest
+}
+
+impl Pad {
+    /// Whether the pad byte stands at the value's padded end.
+    pub(crate) fn stands_at_end(self, value: &[u8]) -> bool
+        ensures { result ≡ has_pad_end self value.now }
+    {
+        match self {
+            Pad::None => false,
+            Pad::Left(pad) => matches!(value, [first, ..] if *first == pad),
+            Pad::Right(pad) => matches!(value, [.., last] if *last == pad),
+        }
+    }
+
+    /// The characters without their padding.
+    pub(crate) fn unpadded(self, text: &[u8]) -> &[u8]
+        ensures { result.now ≡ unpadded self text.now }
+    {
+        match self {
+            Pad::None => text,
+            Pad::Left(pad) => without_front(pad, text),
+            Pad::Right(pad) => without_end(pad, text),
+        }
+    }
+}

@@ -1,0 +1,107 @@
+//! The length before a value.
+
+ghost use Rattle.std.specs.Prelude.{◌≡◌, ◌≤◌, ◌∷◌, [], ◌++◌, length, OnOk, OnErr};
+ghost use Rattle.iso_parts.specs.Row.{limit};
+ghost use Rattle.iso_parts.specs.Part.{prefix};
+ghost use Rattle.iso_parts.specs.Reading.{number_of, count_of, prefix_size};
+
+use crate::fault::FieldFault;
+use std::alloc::AllocError;
+
+/// How decimal digits are written.
+#[derive(Clone, Copy, Debug, PartialEq, Eq)]
+pub enum Digits {
+    /// One ASCII digit a byte.
+    Ascii,
+    /// Two digits a byte, the high nibble first.
+    Bcd,
+}
+
+/// Whether a length stands before the value. It counts characters, under `Raw` and `HexText` the value's bytes.
+#[derive(Clone, Copy, Debug, PartialEq, Eq)]
+pub enum Length {
+    /// None: the row's maximum is the length.
+    Fixed,
+    /// Two digits.
+    LL(Digits),
+    /// Three digits; under BCD with a nibble 0 before them.
+    LLL(Digits),
+}
+
+fn number_of(h: u8, t: u8, o: u8) -> Result<u16, FieldFault>
+    ensures { result ≡ number_of (h ∷ t ∷ o ∷ []) }
+{
+    match (h, t, o) {
+        (b'0'..=b'9', b'0'..=b'9', b'0'..=b'9') => {
+            Ok(100 * (h - b'0') as u16 + 10 * (t - b'0') as u16 + (o - b'0') as u16)
+        }
+        _ => Err(FieldFault::BadLengthDigits),
+    }
+}
+
+impl Length {
+    /// The greatest count that the digits can tell.
+    pub(crate) fn limit(self) -> u16
+        ensures { result ≡ limit self }
+    {
+        match self {
+            Length::LL(_) => 99,
+            Length::Fixed | Length::LLL(_) => 999,
+        }
+    }
+
+    /// How many bytes the length takes.
+    pub fn prefix_size(self) -> usize
+        ensures { result ≡ prefix_size self }
+    {
+        match self {
+            Length::Fixed => 0,
+            Length::LL(Digits::Ascii) => 2,
+            Length::LL(Digits::Bcd) => 1,
+            Length::LLL(Digits::Ascii) => 3,
+            Length::LLL(Digits::Bcd) => 2,
+        }
+    }
+
+    /// The count that the bytes of a length tell; `max` where none is written.
+    pub(crate) fn count_of(self, max: u16, prefix: &[u8]) -> Result<u16, FieldFault>
+        requires { length prefix.now ≡ prefix_size self }
+        ensures { result ≡ count_of self max prefix.now }
+    {
+        match (self, prefix) {
+            (Length::Fixed, _) => Ok(max),
+            (Length::LL(Digits::Ascii), [t, o]) => number_of(b'0', *t, *o),
+            (Length::LL(Digits::Bcd), [x]) => number_of(b'0', b'0' + *x / 16, b'0' + *x % 16),
+            (Length::LLL(Digits::Ascii), [h, t, o]) => number_of(*h, *t, *o),
+            (Length::LLL(Digits::Bcd), [x, y]) => {
+                if *x / 16 != 0 {
+                    return Err(FieldFault::BadLengthDigits);
+                }
+                number_of(b'0' + *x % 16, b'0' + *y / 16, b'0' + *y % 16)
+            }
+            _ => unreachable!(),
+        }
+    }
+
+    /// Appends the length of a value.
+    pub(crate) fn append(self, n: usize, out: &mut Vec<u8>) -> Result<(), AllocError>
+        requires { n ≤ limit self }
+        ensures ok { OnOk result (out.new.items ≡ out.old.items ++ prefix self n) }
+        ensures err { OnErr result (out.new.items ≡ out.old.items) }
+    {
+        let (hundreds, tens, ones) = ((n / 100) as u8, (n / 10 % 10) as u8, (n % 10) as u8);
+        match self {
+            Length::Fixed => Ok(()),
+            Length::LL(Digits::Ascii) => {
+                out.extend_from_slice(&[b'0' + (n / 10) as u8, b'0' + ones])
+            }
+            Length::LL(Digits::Bcd) => out
+                .push(16 * (n / 10) as u8 + ones)
+                .map_err(|_| AllocError),
+            Length::LLL(Digits::Ascii) => {
+                out.extend_from_slice(&[b'0' + hundreds, b'0' + tens, b'0' + ones])
+            }
+            Length::LLL(Digits::Bcd) => out.extend_from_slice(&[hundreds, 16 * tens + ones]),
+        }
+    }
+}
