@@ -12,7 +12,7 @@ use Rattle.iso_parts.specs.declared.spec.FieldSpec.{FieldSpec}
 use Rattle.iso_parts.specs.Row.{is_padded, is_good_pad, is_exact, limit, IsGood, Fits}
 use Rattle.iso_parts.specs.Part.{with_pads, padded, prefix}
 
-length-replicate : (n p : ℕ) → length (replicate n p) ≡ n
+pub length-replicate : (n p : ℕ) → length (replicate n p) ≡ n
 length-replicate zero p = refl
 length-replicate (suc n) p = ap suc (length-replicate n p)
 

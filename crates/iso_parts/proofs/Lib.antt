@@ -1,4 +1,5 @@
 pub mod Pads
+pub mod Stripping
 pub mod Prefixes
 pub mod Texts
 pub mod Counts

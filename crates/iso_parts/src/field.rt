@@ -1,6 +1,6 @@
 //! Fields: a value as the part of a message, its length and then its body.
 
-ghost use Rattle.std.specs.Prelude.{IfOk, ◌≡◌, ◌≢◌, ℕ, List, take, ◌+◌, ◌-◌, ◌≤◌, ◌++◌, ◌↔◌, length, replicate, OnOk, OnErr, IfErr, IsTrue, None, Some};
+ghost use Rattle.std.specs.Prelude.{IfOk, drop, vec_len, ◌≡◌, ◌≢◌, ℕ, List, take, ◌+◌, ◌-◌, ◌≤◌, ◌++◌, ◌↔◌, length, replicate, OnOk, OnErr, IfErr, IsTrue, None, Some};
 ghost use Rattle.iso_parts.specs.declared.fault.FieldFault.TheVariants.{Memory};
 ghost use Rattle.iso_parts.specs.Row.{is_length, refusal, IsGood, Fits};
 ghost use Rattle.iso_parts.specs.Part.{with_pads, padded, plain, plain_part, Part, Keeps};
@@ -117,9 +117,22 @@ fn push_value(spec: &FieldSpec, text: &[u8], out: &mut Vec<u8>) -> Result<(), Fi
     Ok(out.extend_from_slice(value)?)
 }
 
+/// Takes the padding off the characters that stand behind the first `before` bytes, where they are in the class.
+fn settle(spec: &FieldSpec, before: usize, out: &mut Vec<u8>) -> Result<(), FieldFault>
+    requires { before ≤ vec_len out.old }
+    ensures { AppendsRead (take before out.old.items) out.new.items result (value_of spec.now (drop before out.old.items)) }
+{
+    let (_, text) = out.as_slice().split_at(before);
+    let value = spec.pad.unpadded(text);
+    if !spec.class.takes(value) {
+        return Err(FieldFault::NotInClass);
+    }
+    spec.pad.strip(before, out);
+    Ok(())
+}
+
 /// Appends the value that a whole body of `n` characters tells.
 fn push_body(
-    alloc: Global,
     spec: &FieldSpec,
     n: u16,
     body: &[u8],
@@ -130,9 +143,9 @@ fn push_body(
     match spec.coding {
         Coding::Ascii | Coding::Raw => push_value(spec, body, out),
         Coding::Bcd | Coding::HexText => {
-            let mut text = Vec::new(alloc);
-            spec.coding.push_text(n, body, &mut text)?;
-            push_value(spec, &text, out)
+            let before = out.len();
+            spec.coding.push_text(n, body, out)?;
+            settle(spec, before, out)
         }
     }
 }
@@ -140,7 +153,6 @@ fn push_body(
 /// Appends the value of the part that the bytes begin with, and gives how many bytes the part takes; `None`
 /// where bytes are missing. Only the growth of `out` takes memory. Whatever isn't a value leaves `out` as it was.
 pub fn append_value(
-    alloc: Global,
     spec: &FieldSpec,
     bytes: &[u8],
     out: &mut Vec<u8>,
@@ -159,7 +171,7 @@ pub fn append_value(
         return Ok(None);
     }
     let before = out.len();
-    match push_body(alloc, spec, n, &rest[..size], out) {
+    match push_body(spec, n, &rest[..size], out) {
         Ok(()) => Ok(Some(front + size)),
         Err(fault) => {
             out.truncate(before);
@@ -174,7 +186,7 @@ fn step_of(alloc: Global, spec: &FieldSpec, bytes: &[u8]) -> Result<Step, FieldF
     ensures { Reads result (part_at spec.now bytes.now) }
 {
     let mut value = Vec::new(alloc);
-    match append_value(alloc, spec, bytes, &mut value) {
+    match append_value(spec, bytes, &mut value) {
         Ok(Some(used)) => Ok(Step::Got { value, used }),
         Ok(None) => Ok(Step::More),
         Err(fault) => Err(fault),

@@ -1,6 +1,6 @@
 //! Padding.
 
-ghost use Rattle.std.specs.Prelude.{◌≡◌, length, reverse};
+ghost use Rattle.std.specs.Prelude.{◌≡◌, ◌≤◌, ◌++◌, length, reverse, take, drop, vec_len};
 ghost use Rattle.iso_parts.specs.Row.{has_pad_end};
 ghost use Rattle.iso_parts.specs.Reading.{without_front, unpadded};
 
@@ -15,7 +15,8 @@ pub enum Pad {
 }
 
 fn without_front(pad: u8, text: &[u8]) -> &[u8]
-    ensures { result.now ≡ without_front pad text.now }
+    ensures rest { result.now ≡ without_front pad text.now }
+    ensures shorter { length result.now ≤ length text.now }
 {
     let mut rest = text;
     while let [first, after @ ..] = rest {
@@ -28,7 +29,8 @@ fn without_front(pad: u8, text: &[u8]) -> &[u8]
 }
 
 fn without_end(pad: u8, text: &[u8]) -> &[u8]
-    ensures { result.now ≡ reverse (without_front pad (reverse text.now)) }
+    ensures rest { result.now ≡ reverse (without_front pad (reverse text.now)) }
+    ensures shorter { length result.now ≤ length text.now }
 {
     let mut rest = text;
     while let [before @ .., last] = rest {
@@ -38,6 +40,18 @@ fn without_end(pad: u8, text: &[u8]) -> &[u8]
         rest = before;
     }
     rest
+}
+
+fn strip_front(pad: u8, before: usize, out: &mut Vec<u8>)
+    requires { before ≤ vec_len out.old }
+    ensures { out.new.items ≡ take before out.old.items ++ without_front pad (drop before out.old.items) }
+{
+    let (_, text) = out.as_slice().split_at(before);
+    let kept = without_front(pad, text).len();
+    let pads = text.len() - kept;
+    let (_, text) = out.as_mut_slice().split_at_mut(before);
+    text.rotate_left(pads);
+    out.truncate(before + kept);
 }
 
 impl Pad {
@@ -60,6 +74,21 @@ impl Pad {
             Pad::None => text,
             Pad::Left(pad) => without_front(pad, text),
             Pad::Right(pad) => without_end(pad, text),
+        }
+    }
+    /// Takes the padding off the characters that stand behind the first `before` bytes.
+    pub(crate) fn strip(self, before: usize, out: &mut Vec<u8>)
+        requires { before ≤ vec_len out.old }
+        ensures { out.new.items ≡ take before out.old.items ++ unpadded self (drop before out.old.items) }
+    {
+        match self {
+            Pad::None => {}
+            Pad::Left(pad) => strip_front(pad, before, out),
+            Pad::Right(pad) => {
+                let (_, text) = out.as_slice().split_at(before);
+                let kept = without_end(pad, text).len();
+                out.truncate(before + kept);
+            }
         }
     }
 }
