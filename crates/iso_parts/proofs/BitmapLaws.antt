@@ -210,11 +210,16 @@ by_second c b first w v n (Some second) is fits room front large e =
     let set = in_words (first - top) second in
     let ahead : take size (take (size + size) b) ≡ p = take-take size (size + size) b (omega arith) in
     let behind : drop size (take (size + size) b) ≡ q = drop-take size size b in
-    let found : Found c b (first - top) second (size + size) =
-    (room, (true, record {
-      first = subst (λ (l : List ℕ). BitsIn c (first_set true set) l) (sym ahead) (bits_agree c _ _ p (λ k low high. two_first first second k one.small large low high) one.bits);
-      second = subst (λ (l : List ℕ). BitsIn c (second_set set) l) (sym behind) (bits_agree c _ _ q (λ k low high. two_second (first - top) second k low high) other.bits);
-    })) in
+    let found : Found c b (first - top) second (size + size) = (
+      room,
+      (
+        true,
+        record {
+          first = subst (λ (l : List ℕ). BitsIn c (first_set true set) l) (sym ahead) (bits_agree c _ _ p (λ k low high. two_first first second k one.small large low high) one.bits);
+          second = subst (λ (l : List ℕ). BitsIn c (second_set set) l) (sym behind) (bits_agree c _ _ q (λ k low high. two_second (first - top) second k low high) other.bits);
+        },
+      ),
+    ) in
     found_along c b (first - top) second (size + size) w v n (second_or (ltb second top) (first - top) second (size + size) w v n size e) found
 
 by_size : (t : Bool) (c : BitmapCoding) (b : List ℕ) (first w v n : ℕ) → ltb first top ≡ t → ((i : ℕ) → get_or b i 0 < 256) → map_size c ≤ length b → word_in c (take (map_size c) b) ≡ Some first
@@ -224,10 +229,16 @@ by_size true c b first w v n is fits room front e =
     let p : List ℕ = take size b in
     let one = word_taken c p first (bytes_take size b fits) (omega (arith, length-take size b)) front in
     let small : first < top = ltb-true first top is in
-    found_along c b first 0 size w v n e (room, (false, record {
-      first = bits_agree c _ _ p (λ k low high. one_first first k small low high) one.bits;
-      none = one_none first;
-    }))
+    found_along c b first 0 size w v n e (
+      room,
+      (
+        false,
+        record {
+          first = bits_agree c _ _ p (λ k low high. one_first first k small low high) one.bits;
+          none = one_none first;
+        },
+      ),
+    )
 by_size false c b first w v n is fits room front e =
     let size = map_size c in
     let a = more_or (ltb (length b) (size + size)) (second_by c (first - top) (word_in c (take size (drop size b)))) w v n e in

@@ -20,9 +20,11 @@ highest_first s empty other =
     let t = bit_at-trailing_zeros w64 s.first (omega arith) (omega (arith, s.not_1)) in
     let k = 64 - trailing_zeros w64 s.first in
     let same : 64 - k ≡ trailing_zeros w64 s.first = omega (arith, t.0) in
-    let one : bit_at s.first (64 - k) ≡ 1 = ap (bit_at s.first) same ∙ t.1 in
-    (inr (grind (arith, nat_tests, one, t.0)), λ i above at_most.
-      elim (cases_lt 64 i) [
-        | inl large ↦ let none : bit_at s.second (128 - i) ≡ 0 = ap (λ (n : ℕ). bit_at n (128 - i)) empty ∙ bit_at-zero (128 - i) in grind (arith, nat_tests)
-        | inr small ↦ let none : bit_at s.first (64 - i) ≡ 0 = t.2 (64 - i) (omega (arith, t.0)) in grind (arith, nat_tests)
-      ])
+    let one : bit_at s.first (64 - k) ≡ 1 = ap (bit_at s.first) same ∙ t.1 in (
+      inr (grind (arith, nat_tests, one, t.0)),
+      λ i above at_most.
+          elim (cases_lt 64 i) [
+            | inl large ↦ let none : bit_at s.second (128 - i) ≡ 0 = ap (λ (n : ℕ). bit_at n (128 - i)) empty ∙ bit_at-zero (128 - i) in grind (arith, nat_tests)
+            | inr small ↦ let none : bit_at s.first (64 - i) ≡ 0 = t.2 (64 - i) (omega (arith, t.0)) in grind (arith, nat_tests)
+          ],
+    )

@@ -1,3 +1,4 @@
+pub mod UpperCase
 pub mod Pads
 pub mod Stripping
 pub mod Prefixes

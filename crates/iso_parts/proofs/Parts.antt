@@ -67,3 +67,13 @@ part_again s v b rest good part =
     ∙ ap (part_at s) (append_assoc p body rest)
     ∙ pieces_read s n p body v rest plen pok blen bok
     ∙ ap (got v) used
+
+-- no part begins with another part of the row, and no bytes are parts of two values
+pub one_part : (s : FieldSpec) → IsGood s → (v w a b x y : List ℕ) → Part s v a → Part s w b → a ++ x ≡ b ++ y → (v ≡ w) × (a ≡ b)
+one_part s good v w a b x y first second same =
+    let one = part_again s v a x good first in
+    let two = part_again s w b y good second in
+    let both : got v (length a) ≡ got w (length b) = sym one ∙ ap (part_at s) same ∙ two in
+    let value : v ≡ w = cc in
+    let size : length a ≡ length b = cc in
+    (value, sym (take_at a x (length a) refl) ∙ ap (take (length a)) same ∙ take_at b y (length a) (sym size))

@@ -89,3 +89,7 @@ pub fits_from_refusal : (s : FieldSpec) (v : List ℕ) → refusal s v ≡ None 
 fits_from_refusal s v e =
     let p = accepted_by (is_length s (length v)) (is_in_class s.class v) (has_pad_end s.pad v) WrongLength NotInClass PadEnd e in
     record { length = p.0; class = p.1; pad = p.2 }
+
+-- what fits is not refused
+pub refusal_from_fits : (s : FieldSpec) (v : List ℕ) → Fits s v → refusal s v ≡ None
+refusal_from_fits s v fits = rw (fits.length, fits.class, fits.pad) refl

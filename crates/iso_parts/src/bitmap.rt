@@ -5,7 +5,7 @@ ghost use Rattle.std.specs.Prelude.{◌≡◌, ◌≢◌, ℕ, ◌+◌, ◌-◌,
 
 use crate::bitmap_reading::{hex_word, raw_word, read};
 use crate::encoding::append_hex;
-use std::alloc::{AllocError, Global};
+use std::alloc::AllocError;
 use thiserror::Error;
 
 /// A set of element numbers: 2 to 64 and 66 to 128.
@@ -170,12 +170,7 @@ impl Bitmap {
     }
 
     /// Appends the bitmaps under a coding, hexadecimal digits in upper case.
-    pub fn append(
-        &self,
-        alloc: Global,
-        coding: BitmapCoding,
-        out: &mut Vec<u8>,
-    ) -> Result<(), AllocError>
+    pub fn append(&self, coding: BitmapCoding, out: &mut Vec<u8>) -> Result<(), AllocError>
         ensures ok { OnOk result ((b : List ℕ) × PlainBitmaps coding (contains self.now) b × (out.new.items ≡ out.old.items ++ b)) }
     {
         let mut maps = [0; 16];
@@ -183,7 +178,7 @@ impl Bitmap {
         let (front, _) = maps.as_slice().split_at(used);
         match coding {
             BitmapCoding::Raw => out.extend_from_slice(front),
-            BitmapCoding::Hex => append_hex(alloc, front, out),
+            BitmapCoding::Hex => append_hex(front, out),
         }
     }
 

@@ -1,14 +1,13 @@
 //! How characters are written.
 
-ghost use Rattle.std.specs.Prelude.{◌≡◌, ◌++◌, ◌≢◌, length, OnOk, OnErr};
+ghost use Rattle.std.specs.Prelude.{◌≡◌, ◌++◌, ◌≢◌, ◌≤◌, ◌*◌, length, OnOk, OnErr};
 ghost use Rattle.iso_parts.specs.Row.{is_coded, is_pad_byte};
 ghost use Rattle.iso_parts.specs.Part.{characters, pairs, plain, with_filler, Keeps};
 ghost use Rattle.iso_parts.specs.Reading.{AppendsRead, body_size, text_of};
 
 use crate::class::CharClass;
 use crate::fault::FieldFault;
-use hex::FromHexError;
-use std::alloc::{AllocError, Global};
+use std::alloc::AllocError;
 
 /// How characters are written.
 #[derive(Clone, Copy, Debug, PartialEq, Eq)]
@@ -49,13 +48,28 @@ fn append_bcd(text: &[u8], out: &mut Vec<u8>) -> Result<(), AllocError>
     }
 }
 
-/// Appends the digits of bytes, in upper case.
-pub(crate) fn append_hex(alloc: Global, bytes: &[u8], out: &mut Vec<u8>) -> Result<(), AllocError>
+/// Writes two digits for each byte, in upper case.
+fn write_hex(bytes: &[u8], room: &mut [u8])
+    requires { length room.old ≡ 2 * length bytes.now }
+    ensures { room.new ≡ plain Coding.HexText bytes.now }
+{
+    match hex::encode_to_slice(bytes, room) {
+        Ok(()) => room.make_ascii_uppercase(),
+        Err(_) => unreachable!(),
+    }
+}
+
+/// Appends two digits for each byte, in upper case.
+pub(crate) fn append_hex(bytes: &[u8], out: &mut Vec<u8>) -> Result<(), AllocError>
+    requires { length bytes.now ≤ 65535 }
     ensures ok { OnOk result (out.new.items ≡ out.old.items ++ plain Coding.HexText bytes.now) }
     ensures err { OnErr result (Keeps out.old.items out.new.items) }
 {
-    let digits = hex::encode_upper(alloc, bytes)?;
-    out.extend_from_slice(digits.as_bytes())
+    let before = out.len();
+    out.resize(before + 2 * bytes.len(), 0)?;
+    let (_, room) = out.as_mut_slice().split_at_mut(before);
+    write_hex(bytes, room);
+    Ok(())
 }
 
 fn push_characters(bytes: &[u8], out: &mut Vec<u8>) -> Result<(), AllocError>
@@ -136,19 +150,15 @@ impl Coding {
     }
 
     /// Appends what stands for the characters.
-    pub(crate) fn append_text(
-        self,
-        alloc: Global,
-        text: &[u8],
-        out: &mut Vec<u8>,
-    ) -> Result<(), AllocError>
+    pub(crate) fn append_text(self, text: &[u8], out: &mut Vec<u8>) -> Result<(), AllocError>
+        requires { length text.now ≤ 65535 }
         ensures ok { OnOk result (out.new.items ≡ out.old.items ++ plain self text.now) }
         ensures err { OnErr result (Keeps out.old.items out.new.items) }
     {
         match self {
             Coding::Ascii | Coding::Raw => out.extend_from_slice(text),
             Coding::Bcd => append_bcd(text, out),
-            Coding::HexText => append_hex(alloc, text, out),
+            Coding::HexText => append_hex(text, out),
         }
     }
 

@@ -21,33 +21,62 @@ pub enum Step {
     More,
 }
 
-/// The value, filled up with `n` pads.
-fn padded_text(alloc: Global, pad: Pad, n: usize, value: &[u8]) -> Result<Vec<u8>, AllocError>
-    requires { length value.now + n ≤ 65535 }
-    ensures { IfOk result (λ text. text.items ≡ with_pads pad n value.now) }
+/// Appends the value and `n` pads.
+fn append_filled(pad: Pad, n: usize, value: &[u8], out: &mut Vec<u8>) -> Result<(), AllocError>
+    requires { n ≤ 65535 }
+    ensures ok { OnOk result (out.new.items ≡ out.old.items ++ with_pads pad n value.now) }
+    ensures err { OnErr result (Keeps out.old.items out.new.items) }
 {
-    let mut text = Vec::new(alloc);
     match pad {
-        Pad::None => text.extend_from_slice(value)?,
+        Pad::None => out.extend_from_slice(value),
         Pad::Left(pad) => {
-            text.resize(n, pad)?;
-            text.extend_from_slice(value)?;
+            out.resize(out.len() + n, pad)?;
+            out.extend_from_slice(value)
         }
         Pad::Right(pad) => {
-            text.extend_from_slice(value)?;
-            text.resize(value.len() + n, pad)?;
+            out.extend_from_slice(value)?;
+            out.resize(out.len() + n, pad)
         }
     }
-    Ok(text)
+}
+
+/// Fills the text with the value and pads.
+fn fill(pad: Pad, value: &[u8], text: &mut [u8])
+    requires room { length value.now ≤ length text.old }
+    requires exact { pad ≡ Pad.None → length value.now ≡ length text.old }
+    ensures { text.new ≡ with_pads pad (length text.old - length value.now) value.now }
+{
+    match pad {
+        Pad::None => text.copy_from_slice(value),
+        Pad::Left(pad) => {
+            let (front, back) = text.split_at_mut(text.len() - value.len());
+            front.fill(pad);
+            back.copy_from_slice(value);
+        }
+        Pad::Right(pad) => {
+            let (front, back) = text.split_at_mut(value.len());
+            front.copy_from_slice(value);
+            back.fill(pad);
+        }
+    }
+}
+
+/// Appends the body of a value that is filled up under BCD.
+fn append_filled_bcd(spec: &FieldSpec, value: &[u8], out: &mut Vec<u8>) -> Result<(), AllocError>
+    requires room { length value.now ≤ spec.now.max }
+    requires max { spec.now.max ≤ 999 }
+    requires exact { spec.now.pad ≡ Pad.None → length value.now ≡ spec.now.max }
+    ensures ok { OnOk result (out.new.items ≡ out.old.items ++ plain Coding.Bcd (padded spec.now value.now)) }
+    ensures err { OnErr result (Keeps out.old.items out.new.items) }
+{
+    let mut text = [0; 999];
+    let (text, _) = text.split_at_mut(spec.max as usize);
+    fill(spec.pad, value, text);
+    Coding::Bcd.append_text(text, out)
 }
 
 /// Appends the plain part of a value that fits. Where memory runs out, more than was there may stand behind it.
-fn append_part(
-    alloc: Global,
-    spec: &FieldSpec,
-    value: &[u8],
-    out: &mut Vec<u8>,
-) -> Result<(), AllocError>
+fn append_part(spec: &FieldSpec, value: &[u8], out: &mut Vec<u8>) -> Result<(), AllocError>
     requires good { IsGood spec.now }
     requires length { IsTrue (is_length spec.now (length value.now)) }
     ensures ok { OnOk result (out.new.items ≡ out.old.items ++ plain_part spec.now value.now) }
@@ -55,24 +84,21 @@ fn append_part(
 {
     spec.length.append(value.len(), out)?;
     if spec.pad == Pad::None {
-        spec.coding.append_text(alloc, value, out)
-    } else {
-        let text = padded_text(alloc, spec.pad, spec.max as usize - value.len(), value)?;
-        spec.coding.append_text(alloc, &text, out)
+        return spec.coding.append_text(value, out);
+    }
+    match spec.coding {
+        Coding::Bcd => append_filled_bcd(spec, value, out),
+        _ => append_filled(spec.pad, spec.max as usize - value.len(), value, out),
     }
 }
 
 /// Appends the part of a value: its length where the row has one, and its body, with filler 0 and upper-case
 /// digits. A fault is the first of `WrongLength`, `NotInClass`, `PadEnd`, and leaves the vector as it was.
-pub fn encode_field(
-    alloc: Global,
-    spec: &FieldSpec,
-    value: &[u8],
-    out: &mut Vec<u8>,
-) -> Result<(), FieldFault>
+pub fn encode_field(spec: &FieldSpec, value: &[u8], out: &mut Vec<u8>) -> Result<(), FieldFault>
     requires { IsGood spec.now }
-    // A value that is written fits.
+    // A value that is written fits, and one that fits is written, unless memory runs out.
     ensures fits { OnOk result (Fits spec.now value.now) }
+    ensures only { Fits spec.now value.now → IfErr result (λ e. e ≡ Memory) }
     ensures part { OnOk result (out.new.items ≡ out.old.items ++ plain_part spec.now value.now) }
     ensures spelled { OnOk result (Part spec.now value.now (plain_part spec.now value.now)) }
     // Which fault it is, unless memory ran out.
@@ -84,7 +110,7 @@ pub fn encode_field(
         return Err(fault);
     }
     let before = out.len();
-    match append_part(alloc, spec, value, out) {
+    match append_part(spec, value, out) {
         Ok(()) => Ok(()),
         Err(_) => {
             out.truncate(before);
@@ -132,12 +158,7 @@ fn settle(spec: &FieldSpec, before: usize, out: &mut Vec<u8>) -> Result<(), Fiel
 }
 
 /// Appends the value that a whole body of `n` characters tells.
-fn push_body(
-    spec: &FieldSpec,
-    n: u16,
-    body: &[u8],
-    out: &mut Vec<u8>,
-) -> Result<(), FieldFault>
+fn push_body(spec: &FieldSpec, n: u16, body: &[u8], out: &mut Vec<u8>) -> Result<(), FieldFault>
     ensures { AppendsRead out.old.items out.new.items result (body_of spec.now n body.now) }
 {
     match spec.coding {
@@ -204,6 +225,8 @@ pub fn decode_field(alloc: Global, spec: &FieldSpec, bytes: &[u8]) -> Result<Ste
     ensures only { (value part rest : List ℕ) → Part spec.now value part → bytes.now ≡ part ++ rest → Reads result (got value (length part)) }
     // Which fault it is, and that bytes are missing.
     ensures exact { Reads result (part_at spec.now bytes.now) }
+    // No part of the row begins with another one, and two values have no part in common.
+    ensures one_part { (v w a b x y : List ℕ) → Part spec.now v a → Part spec.now w b → a ++ x ≡ b ++ y → (v ≡ w) × (a ≡ b) }
 {
     step_of(alloc, spec, bytes)
 }

@@ -21,3 +21,6 @@ pub use mti::{Mti, MtiClass};
 pub use padding::Pad;
 pub use prefix::{Digits, Length};
 pub use spec::{FieldSpec, SpecFault};
+
+#[cfg(test)]
+mod tests;

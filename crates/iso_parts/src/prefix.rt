@@ -95,9 +95,7 @@ impl Length {
             Length::LL(Digits::Ascii) => {
                 out.extend_from_slice(&[b'0' + (n / 10) as u8, b'0' + ones])
             }
-            Length::LL(Digits::Bcd) => out
-                .push(16 * (n / 10) as u8 + ones)
-                .map_err(|_| AllocError),
+            Length::LL(Digits::Bcd) => out.push(16 * (n / 10) as u8 + ones).map_err(|_| AllocError),
             Length::LLL(Digits::Ascii) => {
                 out.extend_from_slice(&[b'0' + hundreds, b'0' + tens, b'0' + ones])
             }

@@ -22,5 +22,5 @@ returns c =
     let shorter : length c.without_front-kept.result.now ≤ length c.split_at.result.1.now = c.without_front-kept.ensures.shorter in
     let all : length c.split_at.result.1.now ≡ length items - before = ap length text ∙ length-drop before items in
     rw c.truncate.ensures.items
-      (rw (front, rotated)
-        (front_and_next (take before items) v (take pads w) _ before (length c.without_front-kept.result.now) c.args.out.now.len (omega (arith, length-take before items, c.as_mut_slice.ensures.len, ap length c.as_mut_slice.ensures.value)) (sym size) (omega (arith, c.as_mut_slice.ensures.len, ap length c.as_mut_slice.ensures.value))))
+    (rw (front, rotated)
+    (front_and_next (take before items) v (take pads w) _ before (length c.without_front-kept.result.now) c.args.out.now.len (omega (arith, length-take before items, c.as_mut_slice.ensures.len, ap length c.as_mut_slice.ensures.value)) (sym size) (omega (arith, c.as_mut_slice.ensures.len, ap length c.as_mut_slice.ensures.value))))
