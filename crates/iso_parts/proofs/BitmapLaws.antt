@@ -11,7 +11,7 @@ use Rattle.iso_parts.specs.declared.bitmap.BitmapCause.TheVariants.{ThirdBitmap}
 use Rattle.iso_parts.specs.declared.bitmap.BitmapFault.{BitmapFault}
 use Rattle.iso_parts.specs.declared.bitmap.BitmapStep.{BitmapStep}
 use Rattle.iso_parts.specs.declared.bitmap.BitmapStep.TheVariants as steps
-use Rattle.iso_parts.specs.Bits.{Bits, BitsIn, map_size, in_words, first_set, second_set, One, Two, Bitmaps}
+use Rattle.iso_parts.specs.Bits.{BitsIn, map_size, in_words, first_set, second_set, One, Two, Bitmaps}
 use Rattle.iso_parts.specs.BitmapReading.{Maps, got, more, fault, top, word_in, first_by, second_by, maps_at, ReadsMaps, FoundMaps, IsRead}
 use Rattle.iso_parts.proofs.Words.{word_again, word_taken}
 

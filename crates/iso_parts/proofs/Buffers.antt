@@ -1,5 +1,5 @@
 -- Buffers that grow at their end.
-use Rattle.std.proofs.Common.{◌≡◌, ◌≤◌, ℕ, List, ◌++◌, length, take, sym, ap, ◌∙◌, refl, arith}
+use Rattle.std.proofs.Common.{◌≤◌, ℕ, List, ◌++◌, length, take, sym, ap, ◌∙◌, refl, arith}
 use Rattle.std.proofs.lemmas.List.{take-take, take_at, length-append}
 use Rattle.iso_parts.specs.Part.{Keeps}
 

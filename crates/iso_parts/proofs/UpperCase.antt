@@ -1,5 +1,5 @@
 -- Lower case digits in upper case are the upper case digits.
-use Rattle.std.proofs.Common.{◌≡◌, ℕ, ◌/◌, ◌%◌, ◌<◌, List, [], ◌∷◌, get_or, map, refl, sym, ap, ◌∙◌, arith}
+use Rattle.std.proofs.Common.{◌≡◌, ℕ, ◌/◌, ◌%◌, List, [], ◌∷◌, get_or, map, refl, sym, ap, ◌∙◌}
 use Rattle.std.specs.Char.{to_ascii_uppercase}
 use Rattle.std.proofs.Math.ListN.{get_or-map}
 use Rattle.hex.specs.Hex.{encode_with, lower_digits, upper_digits}

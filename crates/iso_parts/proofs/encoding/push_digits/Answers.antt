@@ -1,4 +1,3 @@
-use Rattle.std.proofs.Common.{[], ◌∷◌}
 use Rattle.std.proofs.lemmas.Result.{err_from_is_err_and}
 use Rattle.iso_parts.proofs.Buffers.{Keeps-front}
 use Rattle.iso_parts.proofs.encoding.push_digits.Goals as goal
