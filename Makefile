@@ -1,11 +1,17 @@
-# make run    builds the command and answers the echo test of examples/echo.txt
+# make run    the echo test of examples/echo.txt through the command, which is built first where it isn't yet
 # make test   the whole gate: every proof, test, must-fail edit and program, from nothing
 # make check  the quick one: what changed since the last check
 
+COMMAND := crates/iso_cli/out/iso_cli
+SOURCES := $(shell find crates -name out -prune -o -type f \( -name '*.rt' -o -name '*.antt' \) -print) crates.txt
+
 .PHONY: run test check
 
-run:
-	cd crates/iso_cli && rt run < ../../examples/echo.txt
+run: $(COMMAND)
+	@$(COMMAND) < examples/echo.txt
+
+$(COMMAND): $(SOURCES)
+	cd crates/iso_cli && rt run < ../../examples/echo.txt > /dev/null
 
 test:
 	rt ci

@@ -13,3 +13,4 @@ pub mod Highest
 pub mod Buffers
 pub mod Plain
 pub mod Stable
+pub mod PlainBitmaps

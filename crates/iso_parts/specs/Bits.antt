@@ -86,3 +86,4 @@ pub record PlainBitmaps (c : BitmapCoding) (set : ℕ → Bool) (b : List ℕ) :
   pub maps : Bitmaps Raw two set raw
   pub needed : two ≡ true → HasAbove set
   pub bytes : b ≡ in_coding c raw
+  pub spelled : Bitmaps c two set b

@@ -65,7 +65,8 @@ fn with_bit(word: u64, k: u8) -> u64
 }
 
 impl BitmapCoding {
-    ghost use Rattle.iso_parts.specs.Bits.{map_size};
+    ghost use Rattle.hex.specs.Hex.{IsBytes};
+    ghost use Rattle.iso_parts.specs.Bits.{map_size, in_coding};
     ghost use Rattle.iso_parts.specs.BitmapReading.{word_in};
 
     /// How many bytes a bitmap takes.
@@ -75,6 +76,19 @@ impl BitmapCoding {
         match self {
             BitmapCoding::Raw => 8,
             BitmapCoding::Hex => 16,
+        }
+    }
+
+    /// Appends raw bitmaps under the coding.
+    fn append(self, maps: &[u8], out: &mut Vec<u8>) -> Result<(), AllocError>
+        requires { length maps.now ≤ 16 }
+        ensures ok { OnOk result (out.new.items ≡ out.old.items ++ in_coding self maps.now) }
+        // Each item is a byte.
+        ensures bytes { IsBytes maps.now }
+    {
+        match self {
+            BitmapCoding::Raw => out.extend_from_slice(maps),
+            BitmapCoding::Hex => append_hex(maps, out),
         }
     }
 
@@ -176,10 +190,7 @@ impl Bitmap {
         let mut maps = [0; 16];
         let used = self.write_raw(&mut maps);
         let (front, _) = maps.as_slice().split_at(used);
-        match coding {
-            BitmapCoding::Raw => out.extend_from_slice(front),
-            BitmapCoding::Hex => append_hex(front, out),
-        }
+        coding.append(front, out)
     }
 
     /// Reads the raw bitmaps that the bytes begin with: `More` where one isn't whole, `ThirdBitmap` where the

@@ -1,0 +1,25 @@
+-- What two calls of a stream do together.
+use Rattle.std.proofs.Common.{◌≡◌, ℕ, ◌+◌, ◌-◌, ◌<◌, List, length, take, drop, sym, subst, arith, ap, ◌∙◌, length-drop}
+use Rattle.std.proofs.Math.Seq.{take-add, take-length}
+use Rattle.std.proofs.KnownBytes.{Appends-trans}
+use Rattle.std.specs.declared.option.Option.{Option}
+use Rattle.std.specs.Io.KnownBytes.{Appends}
+use Rattle.iso_host.specs.Counts.{Counts}
+use Rattle.iso_host.specs.Writing.{Moves}
+
+-- `&bs[at..]`, as a proof sees it
+pub rest_from : (at : ℕ) (bs : List ℕ) → take (length bs - at) (drop at bs) ≡ drop at bs
+rest_from at bs = subst (λ n. take n (drop at bs) ≡ drop at bs) (length-drop at bs) (take-length (drop at bs))
+
+-- the next bytes of a list follow the first ones
+pub appends_more : (a b c : Option (List ℕ)) (bs : List ℕ) (at n : ℕ) → Appends a b (take at bs) → Appends b c (take n (take (length bs - at) (drop at bs))) → Appends a c (take (at + n) bs)
+appends_more a b c bs at n p q = subst (Appends a c) (sym (take-add at n bs)) (Appends-trans a b c _ _ p (subst (λ l. Appends b c (take n l)) (rest_from at bs) q))
+
+-- one more call, which moved a byte
+pub moves_more : (old mid new : Counts) (count n : ℕ) → Moves old mid count → 0 < n
+    → new ≡ record { calls = mid.calls + 1; moved = mid.moved + n; failures = mid.failures } → Moves old new (count + n)
+moves_more old mid new count n s k e =
+    let calls : new.calls ≡ mid.calls + 1 = ap (λ (c : Counts). c.calls) e in
+    let moved : new.moved ≡ mid.moved + n = ap (λ (c : Counts). c.moved) e in
+    let failures : new.failures ≡ mid.failures = ap (λ (c : Counts). c.failures) e in
+    record { calls = omega (arith, s.calls); moved = omega (arith, s.moved); failures = failures ∙ s.failures }

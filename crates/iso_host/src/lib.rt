@@ -1,0 +1,22 @@
+//! The edge of the host: readers and writers whose bytes and calls contracts can name.
+//!
+//! - `Inlet` and `Outlet`: a reader and a writer of bytes. Contracts see the bytes that are left or
+//!   held, where they are known, and exact counts of the calls, the bytes moved and the failures.
+//! - `Std`: a std reader as an inlet, a std writer as an outlet.
+//! - `Tally` and `Call`: the counts that an inlet or outlet of your own keeps. They cost nothing at run time.
+//! - `write_all`: whole bytes to an outlet, and a flush.
+#![tactic(auto)]
+
+mod counting;
+#[cfg(test)]
+mod fakes;
+mod standard;
+mod streams;
+#[cfg(test)]
+mod tests;
+mod writing;
+
+pub use counting::{Call, Tally};
+pub use standard::Std;
+pub use streams::{Failed, Inlet, Outlet};
+pub use writing::write_all;

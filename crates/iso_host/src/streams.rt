@@ -1,0 +1,51 @@
+//! What the host reads from and writes to.
+ghost use Rattle.std.specs.Prelude.{◌≡◌, ◌<◌, ℕ, List, None};
+ghost use Rattle.std.specs.declared.option.Option.{Option};
+ghost use Rattle.std.specs.Io.{ReadsAtMost, WritesAtMost};
+ghost use Rattle.std.specs.Io.KnownBytes.{Keeps, ReadConsumes, WriteAppends};
+ghost use Rattle.iso_host.specs.Counts.{Counts};
+ghost use Rattle.iso_host.specs.Stream.{CountsRead, CountsWrite, CountsFlush, TakesSome};
+
+/// The stream failed. It says no more.
+#[derive(Clone, Copy, Debug, PartialEq, Eq, Drop)]
+pub struct Failed;
+
+/// A reader of bytes.
+pub trait Inlet {
+    // The bytes that reads will give from here on, where they are known.
+    ghost remaining: { Self → Option (List ℕ) };
+
+    // The reads made, the bytes that they gave, and how many of them failed.
+    ghost counts: { Self → Counts };
+
+    /// Reads into the front of the buffer, and gives how many bytes it read.
+    ///
+    /// A read into at least one byte that gives none is the end of the input. One that fails gave nothing.
+    fn read(&mut self, buffer: &mut [u8]) -> Result<usize, Failed>
+        ensures bound { ReadsAtMost result buffer.new }
+        ensures bytes { ReadConsumes (remaining self.old) (remaining self.new) result buffer.new }
+        ensures counts { CountsRead (counts self.old) (counts self.new) result };
+}
+
+/// A writer of bytes.
+pub trait Outlet {
+    // The bytes that the writer holds, where they are known.
+    ghost contents: { Self → Option (List ℕ) };
+
+    // The writes made, the bytes that they took, and the failures of writes and flushes.
+    ghost counts: { Self → Counts };
+
+    /// Writes some of the bytes, from the front on, and gives how many. At least one is taken of at least one.
+    ///
+    /// A write that fails took nothing.
+    fn write(&mut self, bytes: &[u8]) -> Result<usize, Failed>
+        ensures bound { WritesAtMost result bytes.now }
+        ensures some { TakesSome result bytes.now }
+        ensures bytes { WriteAppends (contents self.old) (contents self.new) result bytes.now }
+        ensures counts { CountsWrite (counts self.old) (counts self.new) result };
+
+    /// Passes on what the writer still keeps back.
+    fn flush(&mut self) -> Result<(), Failed>
+        ensures bytes { Keeps (contents self.old) (contents self.new) }
+        ensures counts { CountsFlush (counts self.old) (counts self.new) result };
+}

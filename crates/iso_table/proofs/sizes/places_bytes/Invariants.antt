@@ -1,0 +1,9 @@
+use Rattle.std.proofs.Common.{◌≡◌, ◌≤◌, ◌*◌, take, sum_by}
+use Rattle.iso_table.specs.Sizes.{place_bytes}
+use Rattle.iso_table.proofs.sizes.places_bytes.Given as goal
+
+abbrev pub invariant-loop-place : goal.invariant-loop-place
+invariant-loop-place l = record {
+  exact : l.bytes ≡ sum_by place_bytes (take l.place-index l.places);
+  bound : l.bytes ≤ l.place-index * 131073;
+}

@@ -1,0 +1,281 @@
+-- A table as a JSON document, of profile 1.
+use Rattle.std.specs.Prelude.{◌≡◌, ℕ, ◌+◌, ◌==◌, nat_le, Bool, false, List, [], ◌∷◌, ◌++◌, length, take, drop, find, Option, None, Some, option_map, Result, Ok, Err, if◌then◌else◌, codes}
+use Rattle.std.specs.Str.{IsUtf8, bytes_eq}
+use Rattle.hex.specs.Hex.{decode_sized, encode_upper}
+use Rattle.hex.specs.declared.error.FromHexError.{FromHexError}
+use Rattle.serde_json.specs.Data.{Data, number, unsigned, string, array, object, Items, no_items, item, Members, no_members, member}
+use Rattle.serde_json.specs.Find.{get, as_object, as_array, as_str, as_number, as_u64}
+use Rattle.serde_json.specs.Read.{read}
+use Rattle.iso_parts.specs.declared.class.CharClass.{CharClass}
+use Rattle.iso_parts.specs.declared.class.CharClass.TheVariants.{N, A, AN, ANS, Z, ZD, XN, B}
+use Rattle.iso_parts.specs.declared.encoding.Coding.{Coding}
+use Rattle.iso_parts.specs.declared.encoding.Coding.TheVariants as codings
+use Rattle.iso_parts.specs.declared.prefix.Digits.{Digits}
+use Rattle.iso_parts.specs.declared.prefix.Digits.TheVariants as digits
+use Rattle.iso_parts.specs.declared.prefix.Length.{Length}
+use Rattle.iso_parts.specs.declared.prefix.Length.TheVariants as lengths
+use Rattle.iso_parts.specs.declared.padding.Pad.{Pad}
+use Rattle.iso_parts.specs.declared.padding.Pad.TheVariants as pads
+use Rattle.iso_parts.specs.declared.spec.FieldSpec.{FieldSpec}
+use Rattle.iso_parts.specs.declared.bitmap.BitmapCoding.{BitmapCoding}
+use Rattle.iso_parts.specs.declared.bitmap.BitmapCoding.TheVariants as bitmaps
+use Rattle.iso_table.specs.declared.draft.Row.{Row}
+use Rattle.iso_table.specs.declared.fault.TableFault.{TableFault}
+use Rattle.iso_table.specs.declared.fault.TableFault.TheVariants.{Shape, Profile}
+use Rattle.iso_table.specs.Layout.{Layout}
+use Rattle.iso_table.specs.Accepted.{Contents, Holds, first_fault}
+
+-- ---- names
+
+abbrev pub class_name : CharClass → List ℕ
+class_name N = codes "N"
+class_name A = codes "A"
+class_name AN = codes "AN"
+class_name ANS = codes "ANS"
+class_name Z = codes "Z"
+class_name ZD = codes "ZD"
+class_name XN = codes "XN"
+class_name B = codes "B"
+
+abbrev pub class_named : List ℕ → Option CharClass
+class_named t = find (λ c. bytes_eq t (class_name c)) (N ∷ A ∷ AN ∷ ANS ∷ Z ∷ ZD ∷ XN ∷ B ∷ [])
+
+abbrev pub coding_name : Coding → List ℕ
+coding_name codings.Ascii = codes "ascii"
+coding_name codings.Bcd = codes "bcd"
+coding_name codings.Raw = codes "raw"
+coding_name codings.HexText = codes "hex"
+
+abbrev pub coding_named : List ℕ → Option Coding
+coding_named t = find (λ c. bytes_eq t (coding_name c)) (codings.Ascii ∷ codings.Bcd ∷ codings.Raw ∷ codings.HexText ∷ [])
+
+abbrev pub digits_name : Digits → List ℕ
+digits_name digits.Ascii = codes "ascii"
+digits_name digits.Bcd = codes "bcd"
+
+abbrev pub digits_named : List ℕ → Option Digits
+digits_named t = find (λ d. bytes_eq t (digits_name d)) (digits.Ascii ∷ digits.Bcd ∷ [])
+
+abbrev pub bitmap_name : BitmapCoding → List ℕ
+bitmap_name bitmaps.Raw = codes "raw"
+bitmap_name bitmaps.Hex = codes "hex"
+
+abbrev pub bitmap_named : List ℕ → Option BitmapCoding
+bitmap_named t = find (λ b. bytes_eq t (bitmap_name b)) (bitmaps.Raw ∷ bitmaps.Hex ∷ [])
+
+-- the name of a length, without how its digits are written
+abbrev pub length_name : Length → List ℕ
+length_name lengths.Fixed = codes "fixed"
+length_name (lengths.LL d) = codes "LL"
+length_name (lengths.LLL d) = codes "LLL"
+
+abbrev pub pad_name : Pad → List ℕ
+pad_name pads.None = codes "none"
+pad_name (pads.Left p) = codes "left:" ++ encode_upper (p ∷ [])
+pad_name (pads.Right p) = codes "right:" ++ encode_upper (p ∷ [])
+
+-- the only byte
+abbrev pub only_byte : List ℕ → Option ℕ
+only_byte [] = None
+only_byte (b ∷ []) = Some b
+only_byte (b ∷ c ∷ bs) = None
+
+abbrev pub byte_by : Result (List ℕ) FromHexError → Option ℕ
+byte_by (Ok bytes) = only_byte bytes
+byte_by (Err e) = None
+
+-- the byte of two hexadecimal digits, of either case
+abbrev pub byte_of : List ℕ → Option ℕ
+byte_of t = byte_by (decode_sized t 1)
+
+-- what stands behind a beginning
+abbrev pub behind : List ℕ → List ℕ → Option (List ℕ)
+behind front t = if bytes_eq (take (length front) t) front then Some (drop (length front) t) else None
+
+abbrev pub pad_behind : Option (List ℕ) → Option (List ℕ) → Option Pad
+pad_behind (Some t) right = option_map pads.Left (byte_of t)
+pad_behind None (Some t) = option_map pads.Right (byte_of t)
+pad_behind None None = None
+
+abbrev pub pad_named : List ℕ → Option Pad
+pad_named t = if bytes_eq t (codes "none") then Some pads.None else pad_behind (behind (codes "left:") t) (behind (codes "right:") t)
+
+-- ---- members
+
+-- what a step gives, handed to the next one
+infixl 10 ◌>>=◌
+abbrev pub ◌>>=◌ : {X Y : Type 0} → Option X → (X → Option Y) → Option Y
+None >>= f = None
+Some x >>= f = f x
+
+abbrev pub member_count : Members → ℕ
+member_count no_members = 0
+member_count (member k d ms) = member_count ms + 1
+
+abbrev pub counts_to : ℕ → Option Members → Bool
+counts_to n None = false
+counts_to n (Some ms) = member_count ms == n
+
+-- an object of so many members
+abbrev pub has_size : ℕ → Data → Bool
+has_size n d = counts_to n (as_object d)
+
+-- the text at a member
+abbrev pub text_at : List ℕ → Data → Option (List ℕ)
+text_at key d = get key d >>= as_str
+
+abbrev pub up_to : ℕ → ℕ → Option ℕ
+up_to most n = if nat_le n most then Some n else None
+
+abbrev pub number_at : List ℕ → Data → Option ℕ
+number_at key d = get key d >>= as_number >>= as_u64
+
+-- the whole number at a member, up to a greatest one
+abbrev pub whole_at : List ℕ → ℕ → Data → Option ℕ
+whole_at key most d = number_at key d >>= up_to most
+
+abbrev pub digits_at : List ℕ → Data → Option Digits
+digits_at key d = text_at key d >>= digits_named
+
+-- ---- what a document says
+
+-- how the digits of a length are written, in an object that has the member `prefix` too
+abbrev pub prefix_in : Data → Option Digits
+prefix_in d = if has_size 7 d then digits_at (codes "prefix") d else None
+
+abbrev pub length_by : Data → List ℕ → Option Length
+length_by d t =
+    if bytes_eq t (codes "fixed") then (if has_size 6 d then Some lengths.Fixed else None)
+    else if bytes_eq t (codes "LL") then option_map lengths.LL (prefix_in d)
+    else if bytes_eq t (codes "LLL") then option_map lengths.LLL (prefix_in d)
+    else None
+
+abbrev pub length_in : Data → Option Length
+length_in d = text_at (codes "length") d >>= length_by d
+
+abbrev pub class_in : Data → Option CharClass
+class_in d = text_at (codes "class") d >>= class_named
+
+abbrev pub coding_in : Data → Option Coding
+coding_in d = text_at (codes "coding") d >>= coding_named
+
+abbrev pub pad_in : Data → Option Pad
+pad_in d = text_at (codes "pad") d >>= pad_named
+
+abbrev pub spec_in : Data → Option FieldSpec
+spec_in d = do
+  class ← class_in d
+  coding ← coding_in d
+  length ← length_in d
+  max ← whole_at (codes "max") 65535 d
+  pad ← pad_in d
+  Some (record { class = class; coding = coding; length = length; max = max; pad = pad })
+
+abbrev pub row_in : Data → Option Row
+row_in d = do
+  n ← whole_at (codes "number") 65535 d
+  spec ← spec_in d
+  Some (record { number = n; spec = spec })
+
+-- the rows of a list, each of them one
+abbrev pub rows_in : Items → Option (List Row)
+rows_in no_items = Some []
+rows_in (item d ds) = row_in d >>= (λ row. option_map (λ rows. row ∷ rows) (rows_in ds))
+
+abbrev pub bitmap_in : Data → Option BitmapCoding
+bitmap_in d = text_at (codes "bitmap") d >>= bitmap_named
+
+abbrev pub list_in : Data → Option (List Row)
+list_in d = get (codes "rows") d >>= as_array >>= rows_in
+
+abbrev pub with_rows : ℕ → Digits → BitmapCoding → Option (List Row) → Option Contents
+with_rows version mti bitmap rows = option_map (λ rows. record { version = version; mti = mti; bitmap = bitmap; rows = rows }) rows
+
+abbrev pub members_in : Data → Option Contents
+members_in d = do
+  version ← whole_at (codes "version") 255 d
+  mti ← digits_at (codes "mti") d
+  bitmap ← bitmap_in d
+  with_rows version mti bitmap (list_in d)
+
+abbrev pub contents_in : Data → Option Contents
+contents_in d = if has_size 5 d then members_in d else None
+
+abbrev pub or_shape : Option Contents → Result Contents TableFault
+or_shape None = Err Shape
+or_shape (Some c) = Ok c
+
+abbrev pub by_profile : Option ℕ → Data → Result Contents TableFault
+by_profile None d = Err Shape
+by_profile (Some p) d = if p == 1 then or_shape (contents_in d) else Err Profile
+
+-- the draft that the data are
+abbrev pub draft_in : Data → Result Contents TableFault
+draft_in d = by_profile (whole_at (codes "profile") 65535 d) d
+
+abbrev pub or_fault : Contents → Option TableFault → Result Contents TableFault
+or_fault c None = Ok c
+or_fault c (Some e) = Err e
+
+abbrev pub checked : Result Contents TableFault → Result Contents TableFault
+checked (Err e) = Err e
+checked (Ok c) = or_fault c (first_fault c)
+
+-- the accepted draft that the data are, or the first fault
+abbrev pub table_in : Data → Result Contents TableFault
+table_in d = checked (draft_in d)
+
+-- the text is JSON, and stands for the data
+abbrev pub StandsFor : List ℕ → Data → Type 0
+StandsFor text d = IsUtf8 text × (read text ≡ Some d)
+
+-- the text is no JSON
+abbrev pub IsNotJson : List ℕ → Type 0
+IsNotJson text = IsUtf8 text → read text ≡ None
+
+-- the text stands for the table
+abbrev pub IsTableOf : List ℕ → Layout → Type 0
+IsTableOf text t = (d : Data) × (c : Contents) × StandsFor text d × (table_in d ≡ Ok c) × Holds t c
+
+-- the text is JSON, and this is the first thing wrong with it
+abbrev pub IsFaultOf : List ℕ → TableFault → Type 0
+IsFaultOf text e = (d : Data) × StandsFor text d × (table_in d ≡ Err e)
+
+-- ---- the document of a table: members in the order of their names, rows in the order of their numbers
+
+-- how the digits of a length are written
+abbrev pub prefix_named : Length → Option Digits
+prefix_named lengths.Fixed = None
+prefix_named (lengths.LL d) = Some d
+prefix_named (lengths.LLL d) = Some d
+
+abbrev pub prefix_members : Option Digits → Members
+prefix_members None = no_members
+prefix_members (Some d) = member (codes "prefix") (string (digits_name d)) no_members
+
+-- the object of a row, with these names of its padding and of its length's digits
+abbrev pub row_object : ℕ → FieldSpec → List ℕ → Option Digits → Data
+row_object n s pad prefix =
+    object (member (codes "class") (string (class_name s.class))
+    (member (codes "coding") (string (coding_name s.coding))
+    (member (codes "length") (string (length_name s.length))
+    (member (codes "max") (number (unsigned s.max))
+    (member (codes "number") (number (unsigned n))
+    (member (codes "pad") (string pad) (prefix_members prefix)))))))
+
+abbrev pub row_data : ℕ → FieldSpec → Data
+row_data n s = row_object n s (pad_name s.pad) (prefix_named s.length)
+
+-- the rows from number n on
+abbrev pub rows_data : ℕ → List (Option FieldSpec) → Items
+rows_data n [] = no_items
+rows_data n (None ∷ rs) = rows_data (n + 1) rs
+rows_data n (Some s ∷ rs) = item (row_data n s) (rows_data (n + 1) rs)
+
+abbrev pub document : Layout → Data
+document t =
+    object (member (codes "bitmap") (string (bitmap_name t.bitmap))
+    (member (codes "mti") (string (digits_name t.mti))
+    (member (codes "profile") (number (unsigned 1))
+    (member (codes "rows") (array (rows_data 0 t.rows))
+    (member (codes "version") (number (unsigned t.version)) no_members)))))

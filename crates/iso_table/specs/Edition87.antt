@@ -1,0 +1,123 @@
+-- The built-in tables, of the 1987 edition.
+use Rattle.std.specs.Prelude.{◌≡◌, ℕ, ◌==◌, ◌&&◌, nat_le, Bool, List, [], ◌∷◌, find, Option, option_map, if◌then◌else◌}
+use Rattle.iso_parts.specs.declared.class.CharClass.{CharClass}
+use Rattle.iso_parts.specs.declared.class.CharClass.TheVariants.{N, AN, ANS, ZD, XN, B}
+use Rattle.iso_parts.specs.declared.encoding.Coding.{Coding}
+use Rattle.iso_parts.specs.declared.encoding.Coding.TheVariants as codings
+use Rattle.iso_parts.specs.declared.prefix.Digits.{Digits}
+use Rattle.iso_parts.specs.declared.prefix.Digits.TheVariants as digits
+use Rattle.iso_parts.specs.declared.prefix.Length.{Length}
+use Rattle.iso_parts.specs.declared.prefix.Length.TheVariants as lengths
+use Rattle.iso_parts.specs.declared.padding.Pad.{Pad}
+use Rattle.iso_parts.specs.declared.padding.Pad.TheVariants as pads
+use Rattle.iso_parts.specs.declared.spec.FieldSpec.{FieldSpec}
+use Rattle.iso_parts.specs.declared.bitmap.BitmapCoding.{BitmapCoding}
+use Rattle.iso_parts.specs.declared.bitmap.BitmapCoding.TheVariants as bitmaps
+use Rattle.iso_table.specs.declared.edition87.Kind.{Kind}
+use Rattle.iso_table.specs.declared.edition87.Kind.TheVariants.{Fixed, LL, LLL}
+use Rattle.iso_table.specs.declared.edition87.Group.{Group}
+use Rattle.iso_table.specs.Layout.{Layout, row_at}
+
+abbrev pub line : ℕ → ℕ → CharClass → Kind → ℕ → Pad → Group
+line first last class kind max pad = record { 0 = first; 1 = last; 2 = class; 3 = kind; 4 = max; 5 = pad }
+
+abbrev pub none : Pad
+none = pads.None
+
+-- filled up with blanks at the end
+abbrev pub blanks : Pad
+blanks = pads.Right 0x20
+
+-- the elements from a first to a last number, with their class, length, maximum and padding
+abbrev pub lines : List Group
+lines =
+    line 2 2 N LL 19 none ∷
+    line 3 3 N Fixed 6 none ∷
+    line 4 6 N Fixed 12 none ∷
+    line 7 7 N Fixed 10 none ∷
+    line 8 10 N Fixed 8 none ∷
+    line 11 12 N Fixed 6 none ∷
+    line 13 18 N Fixed 4 none ∷
+    line 19 24 N Fixed 3 none ∷
+    line 25 26 N Fixed 2 none ∷
+    line 27 27 N Fixed 1 none ∷
+    line 28 31 XN Fixed 9 none ∷
+    line 32 33 N LL 11 none ∷
+    line 34 34 ANS LL 28 none ∷
+    line 35 35 ZD LL 37 none ∷
+    line 36 36 ZD LLL 104 none ∷
+    line 37 37 ANS Fixed 12 none ∷
+    line 38 38 ANS Fixed 6 none ∷
+    line 39 39 AN Fixed 2 none ∷
+    line 40 40 AN Fixed 3 none ∷
+    line 41 41 ANS Fixed 8 blanks ∷
+    line 42 42 ANS Fixed 15 blanks ∷
+    line 43 43 ANS Fixed 40 blanks ∷
+    line 44 44 ANS LL 25 none ∷
+    line 45 45 ANS LL 76 none ∷
+    line 46 48 ANS LLL 999 none ∷
+    line 49 51 AN Fixed 3 none ∷
+    line 52 52 B Fixed 8 none ∷
+    line 53 53 N Fixed 16 none ∷
+    line 54 54 ANS LLL 120 none ∷
+    line 55 55 B LLL 999 none ∷
+    line 56 63 ANS LLL 999 none ∷
+    line 64 64 B Fixed 8 none ∷
+    line 66 66 N Fixed 1 none ∷
+    line 67 67 N Fixed 2 none ∷
+    line 68 70 N Fixed 3 none ∷
+    line 71 72 N Fixed 4 none ∷
+    line 73 73 N Fixed 6 none ∷
+    line 74 81 N Fixed 10 none ∷
+    line 82 85 N Fixed 12 none ∷
+    line 86 89 N Fixed 16 none ∷
+    line 90 90 N Fixed 42 none ∷
+    line 91 91 AN Fixed 1 none ∷
+    line 92 92 AN Fixed 2 none ∷
+    line 93 93 AN Fixed 5 none ∷
+    line 94 94 AN Fixed 7 none ∷
+    line 95 95 AN Fixed 42 none ∷
+    line 96 96 B Fixed 8 none ∷
+    line 97 97 XN Fixed 17 none ∷
+    line 98 98 ANS Fixed 25 blanks ∷
+    line 99 100 N LL 11 none ∷
+    line 101 101 ANS LL 17 none ∷
+    line 102 103 ANS LL 28 none ∷
+    line 104 104 ANS LLL 100 none ∷
+    line 105 127 ANS LLL 999 none ∷
+    line 128 128 B Fixed 8 none ∷ []
+
+abbrev pub has_number : ℕ → Group → Bool
+has_number n g = nat_le g.0 n && nat_le n g.1
+
+-- the length, written in these digits
+abbrev pub length_of : Kind → Digits → Length
+length_of Fixed d = lengths.Fixed
+length_of LL d = lengths.LL d
+length_of LLL d = lengths.LLL d
+
+-- how element n is written: where digits are ASCII, bytes are too, but for element 55
+abbrev pub coding_of : Digits → ℕ → CharClass → Coding
+coding_of digits.Bcd n N = codings.Bcd
+coding_of digits.Bcd n B = codings.Raw
+coding_of digits.Bcd n c = codings.Ascii
+coding_of digits.Ascii n B = if n == 55 then codings.Raw else codings.HexText
+coding_of digits.Ascii n c = codings.Ascii
+
+abbrev pub spec_of : Digits → ℕ → Group → FieldSpec
+spec_of d n g = record { class = g.2; coding = coding_of d n g.2; length = length_of g.3 d; max = g.4; pad = g.5 }
+
+-- the row of element n
+abbrev pub row87 : Digits → ℕ → Option FieldSpec
+row87 d n = option_map (spec_of d n) (find (has_number n) lines)
+
+abbrev pub bitmap87 : Digits → BitmapCoding
+bitmap87 digits.Ascii = bitmaps.Hex
+bitmap87 digits.Bcd = bitmaps.Raw
+
+-- the table of the 1987 edition whose digits are written so
+pub record IsEdition87 (d : Digits) (t : Layout) : Type 0 where
+  pub version : t.version ≡ 0
+  pub mti : t.mti ≡ d
+  pub bitmap : t.bitmap ≡ bitmap87 d
+  pub rows : (n : ℕ) → row_at t.rows n ≡ row87 d n

@@ -1,0 +1,114 @@
+-- The rows that an issuer host needs of a table: under them every response can be written.
+use Rattle.std.specs.Prelude.{◌≡◌, ℕ, Bool, true, false, ◌==◌, ◌&&◌, nat_le, IsTrue, if◌then◌else◌, List, [], ◌∷◌, Option, Some, None}
+use Rattle.iso_parts.specs.declared.class.CharClass.{CharClass}
+use Rattle.iso_parts.specs.declared.class.CharClass.TheVariants as classes
+use Rattle.iso_parts.specs.declared.prefix.Length.{Length}
+use Rattle.iso_parts.specs.declared.prefix.Length.TheVariants as lengths
+use Rattle.iso_parts.specs.declared.padding.Pad.{Pad}
+use Rattle.iso_parts.specs.declared.padding.Pad.TheVariants as pads
+use Rattle.iso_parts.specs.declared.spec.FieldSpec.{FieldSpec}
+use Rattle.iso_table.specs.declared.host.Shape.{Shape}
+use Rattle.iso_table.specs.declared.host.Shape.TheVariants.{Digits, DigitsUpTo, Text, Amounts, AnyUpTo}
+use Rattle.iso_table.specs.declared.host.HostRow.{HostRow}
+use Rattle.iso_table.specs.declared.fault.HostTableFault.{HostTableFault}
+use Rattle.iso_table.specs.declared.fault.HostTableFault.TheVariants.{NotVersion0, NoRow, RowShape}
+use Rattle.iso_table.specs.Layout.{Layout, row_at}
+
+-- ---- the shape of a row
+
+abbrev pub is_n : CharClass → Bool
+is_n classes.N = true
+is_n c = false
+
+abbrev pub is_an : CharClass → Bool
+is_an classes.AN = true
+is_an classes.ANS = true
+is_an c = false
+
+-- digits can be written
+abbrev pub is_n_or_an : CharClass → Bool
+is_n_or_an classes.N = true
+is_n_or_an c = is_an c
+
+abbrev pub is_fixed : Length → Bool
+is_fixed lengths.Fixed = true
+is_fixed l = false
+
+-- two or three digits tell the length
+abbrev pub is_counted : Length → Bool
+is_counted (lengths.LL d) = true
+is_counted (lengths.LLL d) = true
+is_counted lengths.Fixed = false
+
+abbrev pub is_unpadded : Pad → Bool
+is_unpadded pads.None = true
+is_unpadded p = false
+
+abbrev pub is_shape : Shape → FieldSpec → Bool
+is_shape (Digits n) s = is_n s.class && is_fixed s.length && (s.max == n) && is_unpadded s.pad
+is_shape (DigitsUpTo n) s = is_n s.class && is_counted s.length && nat_le s.max n && is_unpadded s.pad
+is_shape (Text n) s = is_n_or_an s.class && is_fixed s.length && (s.max == n) && is_unpadded s.pad
+is_shape Amounts s = is_an s.class && is_counted s.length && nat_le 20 s.max && is_unpadded s.pad
+is_shape (AnyUpTo n) s = nat_le s.max n
+
+-- ---- the rows
+
+abbrev pub host_row : ℕ → Bool → Shape → HostRow
+host_row number needed shape = record { 0 = number; 1 = needed; 2 = shape }
+
+-- the elements that a request or a response has, whether a row is needed, and its shape
+abbrev pub host_rows : List HostRow
+host_rows =
+    host_row 2 true (DigitsUpTo 19) ∷
+    host_row 3 true (Digits 6) ∷
+    host_row 4 true (Digits 12) ∷
+    host_row 7 true (Digits 10) ∷
+    host_row 11 true (Digits 6) ∷
+    host_row 12 false (AnyUpTo 99) ∷
+    host_row 13 false (AnyUpTo 99) ∷
+    host_row 32 true (DigitsUpTo 11) ∷
+    host_row 33 false (AnyUpTo 99) ∷
+    host_row 37 false (AnyUpTo 99) ∷
+    host_row 38 true (Text 6) ∷
+    host_row 39 true (Text 2) ∷
+    host_row 41 false (AnyUpTo 99) ∷
+    host_row 42 false (AnyUpTo 99) ∷
+    host_row 49 true (Text 3) ∷
+    host_row 54 true Amounts ∷
+    host_row 70 true (Digits 3) ∷
+    host_row 90 true (Digits 42) ∷ []
+
+-- what is wrong with an element's row, if anything
+abbrev pub row_fault : HostRow → Option FieldSpec → Option HostTableFault
+row_fault h None = if h.1 then Some (NoRow h.0) else None
+row_fault h (Some s) = if is_shape h.2 s then None else Some (RowShape h.0)
+
+-- the first of two faults
+abbrev pub first_of : Option HostTableFault → Option HostTableFault → Option HostTableFault
+first_of None other = other
+first_of (Some e) other = Some e
+
+-- the first thing that is wrong among the elements, in ascending number
+abbrev pub rows_fault : List HostRow → List (Option FieldSpec) → Option HostTableFault
+rows_fault [] rows = None
+rows_fault (h ∷ hs) rows = first_of (row_fault h (row_at rows h.0)) (rows_fault hs rows)
+
+-- the version first, then the rows
+abbrev pub host_fault : Layout → Option HostTableFault
+host_fault t = if t.version == 0 then rows_fault host_rows t.rows else Some NotVersion0
+
+-- ---- a table for a host
+
+-- the row that is there has the shape, and a needed one is there
+abbrev pub IsHostRow : HostRow → Option FieldSpec → Type 0
+IsHostRow h None = h.1 ≡ false
+IsHostRow h (Some s) = IsTrue (is_shape h.2 s)
+
+abbrev pub AreHostRows : List HostRow → List (Option FieldSpec) → Type 0
+AreHostRows [] rows = Unit {0}
+AreHostRows (h ∷ hs) rows = IsHostRow h (row_at rows h.0) × AreHostRows hs rows
+
+-- the table has version 0 and each row that a host needs
+pub record IsHostReady (t : Layout) : Type 0 where
+  pub version : t.version ≡ 0
+  pub rows : AreHostRows host_rows t.rows

@@ -1,0 +1,42 @@
+-- A table as its users see it: the rows stand at their numbers.
+use Rattle.std.specs.Prelude.{◌≡◌, ℕ, ◌==◌, ◌||◌, Bool, IsTrue, List, length, slice_get, Option, Some, None}
+use Rattle.iso_parts.specs.declared.prefix.Digits.{Digits}
+use Rattle.iso_parts.specs.declared.spec.FieldSpec.{FieldSpec}
+use Rattle.iso_parts.specs.Class.{is_within}
+use Rattle.iso_parts.specs.Row.{IsGood}
+use Rattle.iso_parts.specs.declared.bitmap.BitmapCoding.{BitmapCoding}
+
+-- how messages are written: place n of the rows has the row of element n, if the element has one
+pub record Layout : Type 0 where
+  pub version : ℕ
+  pub mti : Digits
+  pub bitmap : BitmapCoding
+  pub rows : List (Option FieldSpec)
+
+-- the row at a place, if there is such a place and it has a row
+abbrev pub row_in : Option (Option FieldSpec) → Option FieldSpec
+row_in None = None
+row_in (Some r) = r
+
+-- the row of element n
+abbrev pub row_at : List (Option FieldSpec) → ℕ → Option FieldSpec
+row_at rows n = row_in (slice_get rows n)
+
+-- each row that is there is good
+abbrev pub AreGood : List (Option FieldSpec) → Type 0
+AreGood rows = (n : ℕ) (s : FieldSpec) → row_at rows n ≡ Some s → IsGood s
+
+-- the first digit of a message type that a table may be for
+abbrev pub is_version : ℕ → Bool
+is_version v = (v == 0 || v == 1) || (v == 2 || v == 9)
+
+-- the number of an element that may have a row
+abbrev pub is_element : ℕ → Bool
+is_element n = is_within 2 64 n || is_within 66 128 n
+
+-- a table that was accepted
+pub record IsAccepted (t : Layout) : Type 0 where
+  pub version : IsTrue (is_version t.version)
+  pub places : length t.rows ≡ 129
+  pub numbers : (n : ℕ) (s : FieldSpec) → row_at t.rows n ≡ Some s → IsTrue (is_element n)
+  pub good : AreGood t.rows

@@ -1,0 +1,6 @@
+pub mod Layout
+pub mod Accepted
+pub mod Sizes
+pub mod Edition87
+pub mod Document
+pub mod HostReady

@@ -1,0 +1,185 @@
+//! The built-in tables, of the 1987 edition. Their rows are this project's own reading of it, and several classes
+//! are wider on purpose.
+
+ghost use Rattle.std.specs.Prelude.{◌≡◌, ◌≤◌, ℕ, length, find, IfOk};
+ghost use Rattle.iso_table.specs.Layout.{row_at};
+ghost use Rattle.iso_table.specs.Edition87.{has_number, lines, length_of, coding_of, spec_of, row87, bitmap87};
+
+use self::Kind::{Fixed, LL, LLL};
+use crate::placing::PLACES;
+use iso_parts::CharClass::{AN, ANS, B, N, XN, ZD};
+use iso_parts::Pad::{None as Unpadded, Right};
+use iso_parts::{BitmapCoding, CharClass, Coding, Digits, FieldSpec, Length, Pad};
+
+/// Which length stands before a value, however its digits are written.
+#[derive(Clone, Copy, Debug, PartialEq, Eq)]
+pub enum Kind {
+    /// None.
+    Fixed,
+    /// Two digits.
+    LL,
+    /// Three digits.
+    LLL,
+}
+
+/// The elements from a first to a last number, with their class, length, maximum and padding.
+#[derive(Clone, Copy, Debug, PartialEq, Eq)]
+pub struct Group(u8, u8, CharClass, Kind, u16, Pad);
+
+/// Filled up with blanks at the end.
+const BLANKS: Pad = Right(0x20);
+
+/// The elements of the 1987 edition.
+const GROUPS: [Group; 55] = [
+    Group(2, 2, N, LL, 19, Unpadded),
+    Group(3, 3, N, Fixed, 6, Unpadded),
+    Group(4, 6, N, Fixed, 12, Unpadded),
+    Group(7, 7, N, Fixed, 10, Unpadded),
+    Group(8, 10, N, Fixed, 8, Unpadded),
+    Group(11, 12, N, Fixed, 6, Unpadded),
+    Group(13, 18, N, Fixed, 4, Unpadded),
+    Group(19, 24, N, Fixed, 3, Unpadded),
+    Group(25, 26, N, Fixed, 2, Unpadded),
+    Group(27, 27, N, Fixed, 1, Unpadded),
+    Group(28, 31, XN, Fixed, 9, Unpadded),
+    Group(32, 33, N, LL, 11, Unpadded),
+    Group(34, 34, ANS, LL, 28, Unpadded),
+    Group(35, 35, ZD, LL, 37, Unpadded),
+    Group(36, 36, ZD, LLL, 104, Unpadded),
+    Group(37, 37, ANS, Fixed, 12, Unpadded),
+    Group(38, 38, ANS, Fixed, 6, Unpadded),
+    Group(39, 39, AN, Fixed, 2, Unpadded),
+    Group(40, 40, AN, Fixed, 3, Unpadded),
+    Group(41, 41, ANS, Fixed, 8, BLANKS),
+    Group(42, 42, ANS, Fixed, 15, BLANKS),
+    Group(43, 43, ANS, Fixed, 40, BLANKS),
+    Group(44, 44, ANS, LL, 25, Unpadded),
+    Group(45, 45, ANS, LL, 76, Unpadded),
+    Group(46, 48, ANS, LLL, 999, Unpadded),
+    Group(49, 51, AN, Fixed, 3, Unpadded),
+    Group(52, 52, B, Fixed, 8, Unpadded),
+    Group(53, 53, N, Fixed, 16, Unpadded),
+    Group(54, 54, ANS, LLL, 120, Unpadded),
+    Group(55, 55, B, LLL, 999, Unpadded),
+    Group(56, 63, ANS, LLL, 999, Unpadded),
+    Group(64, 64, B, Fixed, 8, Unpadded),
+    Group(66, 66, N, Fixed, 1, Unpadded),
+    Group(67, 67, N, Fixed, 2, Unpadded),
+    Group(68, 70, N, Fixed, 3, Unpadded),
+    Group(71, 72, N, Fixed, 4, Unpadded),
+    Group(73, 73, N, Fixed, 6, Unpadded),
+    Group(74, 81, N, Fixed, 10, Unpadded),
+    Group(82, 85, N, Fixed, 12, Unpadded),
+    Group(86, 89, N, Fixed, 16, Unpadded),
+    Group(90, 90, N, Fixed, 42, Unpadded),
+    Group(91, 91, AN, Fixed, 1, Unpadded),
+    Group(92, 92, AN, Fixed, 2, Unpadded),
+    Group(93, 93, AN, Fixed, 5, Unpadded),
+    Group(94, 94, AN, Fixed, 7, Unpadded),
+    Group(95, 95, AN, Fixed, 42, Unpadded),
+    Group(96, 96, B, Fixed, 8, Unpadded),
+    Group(97, 97, XN, Fixed, 17, Unpadded),
+    Group(98, 98, ANS, Fixed, 25, BLANKS),
+    Group(99, 100, N, LL, 11, Unpadded),
+    Group(101, 101, ANS, LL, 17, Unpadded),
+    Group(102, 103, ANS, LL, 28, Unpadded),
+    Group(104, 104, ANS, LLL, 100, Unpadded),
+    Group(105, 127, ANS, LLL, 999, Unpadded),
+    Group(128, 128, B, Fixed, 8, Unpadded),
+];
+
+impl Kind {
+    /// The length, written in these digits.
+    fn length(self, digits: Digits) -> Length
+        ensures { result ≡ length_of self digits }
+    {
+        match self {
+            Fixed => Length::Fixed,
+            LL => Length::LL(digits),
+            LLL => Length::LLL(digits),
+        }
+    }
+}
+
+/// How an element is written in the table of these digits.
+fn coding_of(digits: Digits, number: usize, class: CharClass) -> Coding
+    ensures { result ≡ coding_of digits number class }
+{
+    match (class, digits) {
+        (N, Digits::Bcd) => Coding::Bcd,
+        (B, Digits::Ascii) if number != 55 => Coding::HexText,
+        (B, _) => Coding::Raw,
+        _ => Coding::Ascii,
+    }
+}
+
+impl Group {
+    fn has_number(self, number: usize) -> bool
+        ensures { result ≡ has_number number self }
+    {
+        usize::from(self.0) <= number && number <= usize::from(self.1)
+    }
+
+    /// The row of one of its elements in the table of these digits.
+    fn spec(self, digits: Digits, number: usize) -> FieldSpec
+        ensures { result ≡ spec_of digits number self }
+    {
+        let Group(_, _, class, kind, max, pad) = self;
+        FieldSpec {
+            class,
+            coding: coding_of(digits, number, class),
+            length: kind.length(digits),
+            max,
+            pad,
+        }
+    }
+}
+
+/// The first group of an element.
+fn group_in(groups: &[Group], number: usize) -> Option<Group>
+    ensures { result ≡ find (has_number number) groups.now }
+{
+    groups
+        .iter()
+        .copied()
+        .find(|group| group.has_number(number))
+}
+
+/// The group of an element.
+fn group_of(number: usize) -> Option<Group>
+    ensures { result ≡ find (has_number number) lines }
+{
+    group_in(&GROUPS, number)
+}
+
+/// The row of an element in the table of these digits.
+fn row_of(digits: Digits, number: usize) -> Option<FieldSpec>
+    ensures { result ≡ row87 digits number }
+{
+    match group_of(number) {
+        Some(group) => Some(group.spec(digits, number)),
+        None => None,
+    }
+}
+
+/// The rows at their numbers in the table of these digits.
+pub fn places87(digits: Digits) -> [Option<FieldSpec>; PLACES]
+    ensures size { length result ≡ 129 }
+    ensures rows { (n : ℕ) → row_at result n ≡ row87 digits n }
+{
+    let mut places = [None; PLACES];
+    for number in 0..PLACES {
+        places[number] = row_of(digits, number);
+    }
+    places
+}
+
+/// How the bitmaps are written in the table of these digits.
+pub fn bitmap87(digits: Digits) -> BitmapCoding
+    ensures { result ≡ bitmap87 digits }
+{
+    match digits {
+        Digits::Ascii => BitmapCoding::Hex,
+        Digits::Bcd => BitmapCoding::Raw,
+    }
+}

@@ -1,0 +1,104 @@
+//! Why there is no table.
+
+ghost use Rattle.std.specs.Prelude.{◌≡◌};
+ghost use Rattle.iso_table.specs.declared.fault.TableFault.TheVariants.{Memory};
+ghost use Rattle.iso_table.specs.Accepted.{as_table_fault};
+
+use iso_parts::SpecFault;
+use std::alloc::{AllocError, AllocFailed};
+use thiserror::Error;
+
+/// What is wrong with a table that is handed in: the first fault.
+#[derive(Clone, Copy, Debug, PartialEq, Eq, Error)]
+pub enum TableFault {
+    /// The text is no JSON.
+    #[error("the text is no JSON")]
+    NotJson,
+    /// The text is JSON of another shape.
+    #[error("a member is missing, unknown or of another kind")]
+    Shape,
+    /// The version is none of 0, 1, 2 and 9.
+    #[error("the version is none of 0, 1, 2 and 9")]
+    BadVersion,
+    /// No row may have this number: 0, 1, 65 or above 128.
+    #[error("there is no element {0}")]
+    BadNumber(u16),
+    /// An earlier row has this number.
+    #[error("element {0} has two rows")]
+    Twice(u16),
+    /// The maximum of this element's row is 0, or more than its length can tell.
+    #[error("element {0} has a maximum that its length cannot tell")]
+    BadMax(u16),
+    /// The coding of this element's row does not go with its class.
+    #[error("element {0} has a coding that its class does not take")]
+    CodingClass(u16),
+    /// This element's row may not have its padding.
+    #[error("element {0} has a padding that it may not have")]
+    PadNotAllowed(u16),
+    /// The text is of another profile than 1.
+    #[error("the profile is not 1")]
+    Profile,
+    /// Memory ran out.
+    #[error("memory ran out")]
+    Memory,
+}
+
+/// Memory ran out.
+#[derive(Clone, Copy, Debug, PartialEq, Eq, Error)]
+#[error("memory ran out")]
+pub struct NoMemory;
+
+/// Why a host can't serve under a table.
+#[derive(Clone, Copy, Debug, PartialEq, Eq, Error)]
+pub enum HostTableFault {
+    /// The table is for another version than 0.
+    #[error("the version isn't 0")]
+    NotVersion0,
+    /// The table has no row for this element.
+    #[error("element {0} has no row")]
+    NoRow(u8),
+    /// The row of this element has another shape than a host needs.
+    #[error("the row of element {0} has another shape")]
+    RowShape(u8),
+}
+
+impl From<AllocError> for TableFault {
+    ghost from_gives = { λ _ e. e ≡ Memory };
+
+    fn from(_e: AllocError) -> TableFault {
+        TableFault::Memory
+    }
+}
+
+impl<T: Drop> From<AllocFailed<T>> for TableFault {
+    ghost from_gives = { λ _ e. e ≡ Memory };
+
+    fn from(_e: AllocFailed<T>) -> TableFault {
+        TableFault::Memory
+    }
+}
+
+impl From<AllocError> for NoMemory {
+    fn from(_e: AllocError) -> NoMemory {
+        NoMemory
+    }
+}
+
+impl<T: Drop> From<AllocFailed<T>> for NoMemory {
+    fn from(_e: AllocFailed<T>) -> NoMemory {
+        NoMemory
+    }
+}
+
+impl TableFault {
+    /// The fault of the row with this number.
+    pub(crate) fn of_row(number: u16, fault: SpecFault) -> TableFault
+        ensures { result ≡ as_table_fault number fault }
+    {
+        match fault {
+            SpecFault::BadMax => TableFault::BadMax(number),
+            SpecFault::CodingClass => TableFault::CodingClass(number),
+            SpecFault::PadNotAllowed => TableFault::PadNotAllowed(number),
+        }
+    }
+}

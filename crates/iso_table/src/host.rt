@@ -1,0 +1,143 @@
+//! The rows that an issuer host needs of a table.
+
+ghost use Rattle.std.specs.Prelude.{◌≡◌};
+ghost use Rattle.std.specs.Option.{option_copied};
+ghost use Rattle.iso_table.specs.Layout.{row_at};
+ghost use Rattle.iso_table.specs.HostReady.{is_n, is_an, is_n_or_an, is_fixed, is_counted, is_unpadded, is_shape, host_rows, row_fault, rows_fault};
+
+use crate::fault::HostTableFault;
+use crate::placing::row_at;
+use iso_parts::{CharClass, FieldSpec, Length, Pad};
+
+/// What a host needs of a row.
+#[derive(Clone, Copy, Debug, PartialEq, Eq)]
+pub enum Shape {
+    /// So many digits.
+    Digits(u16),
+    /// At most so many digits, behind their length.
+    DigitsUpTo(u16),
+    /// So many characters, digits among them.
+    Text(u16),
+    /// At least one additional amount of twenty characters, behind its length.
+    Amounts,
+    /// At most so many characters.
+    AnyUpTo(u16),
+}
+
+use Shape::{Amounts, AnyUpTo, Digits, DigitsUpTo, Text};
+
+/// An element of requests and responses, whether it needs a row, and the row's shape.
+#[derive(Clone, Copy, Debug, PartialEq, Eq)]
+pub struct HostRow(u8, bool, Shape);
+
+/// The elements of requests and responses.
+const HOST_ROWS: [HostRow; 18] = [
+    HostRow(2, true, DigitsUpTo(19)),
+    HostRow(3, true, Digits(6)),
+    HostRow(4, true, Digits(12)),
+    HostRow(7, true, Digits(10)),
+    HostRow(11, true, Digits(6)),
+    HostRow(12, false, AnyUpTo(99)),
+    HostRow(13, false, AnyUpTo(99)),
+    HostRow(32, true, DigitsUpTo(11)),
+    HostRow(33, false, AnyUpTo(99)),
+    HostRow(37, false, AnyUpTo(99)),
+    HostRow(38, true, Text(6)),
+    HostRow(39, true, Text(2)),
+    HostRow(41, false, AnyUpTo(99)),
+    HostRow(42, false, AnyUpTo(99)),
+    HostRow(49, true, Text(3)),
+    HostRow(54, true, Amounts),
+    HostRow(70, true, Digits(3)),
+    HostRow(90, true, Digits(42)),
+];
+
+fn is_n(class: CharClass) -> bool
+    ensures { result ≡ is_n class }
+{
+    class == CharClass::N
+}
+
+fn is_an(class: CharClass) -> bool
+    ensures { result ≡ is_an class }
+{
+    matches!(class, CharClass::AN | CharClass::ANS)
+}
+
+fn is_n_or_an(class: CharClass) -> bool
+    ensures { result ≡ is_n_or_an class }
+{
+    matches!(class, CharClass::N | CharClass::AN | CharClass::ANS)
+}
+
+fn is_fixed(length: Length) -> bool
+    ensures { result ≡ is_fixed length }
+{
+    length == Length::Fixed
+}
+
+fn is_counted(length: Length) -> bool
+    ensures { result ≡ is_counted length }
+{
+    matches!(length, Length::LL(_) | Length::LLL(_))
+}
+
+fn is_unpadded(pad: Pad) -> bool
+    ensures { result ≡ is_unpadded pad }
+{
+    pad == Pad::None
+}
+
+impl Shape {
+    fn takes(self, row: &FieldSpec) -> bool
+        ensures { result ≡ is_shape self row.now }
+    {
+        let FieldSpec {
+            class,
+            length,
+            max,
+            pad,
+            ..
+        } = *row;
+        match self {
+            Digits(n) => is_n(class) && is_fixed(length) && max == n && is_unpadded(pad),
+            DigitsUpTo(n) => is_n(class) && is_counted(length) && max <= n && is_unpadded(pad),
+            Text(n) => is_n_or_an(class) && is_fixed(length) && max == n && is_unpadded(pad),
+            Amounts => is_an(class) && is_counted(length) && 20 <= max && is_unpadded(pad),
+            AnyUpTo(n) => max <= n,
+        }
+    }
+}
+
+impl HostRow {
+    /// What is wrong with the element's row, if anything.
+    fn fault(self, row: Option<&FieldSpec>) -> Option<HostTableFault>
+        ensures { result ≡ row_fault self (option_copied row.entry) }
+    {
+        match row {
+            None if self.1 => Some(HostTableFault::NoRow(self.0)),
+            None => None,
+            Some(row) if self.2.takes(row) => None,
+            Some(_) => Some(HostTableFault::RowShape(self.0)),
+        }
+    }
+}
+
+/// The first thing that is wrong among the rows.
+fn fault_among(wanted: &[HostRow], places: &[Option<FieldSpec>]) -> Option<HostTableFault>
+    ensures { result ≡ rows_fault wanted.now places.now }
+{
+    for row in wanted {
+        if let Some(fault) = row.fault(row_at(places, usize::from(row.0))) {
+            return Some(fault);
+        }
+    }
+    None
+}
+
+/// The first thing that is wrong with the rows that a host needs, in ascending number.
+pub fn host_rows_fault(places: &[Option<FieldSpec>]) -> Option<HostTableFault>
+    ensures { result ≡ rows_fault host_rows places.now }
+{
+    fault_among(&HOST_ROWS, places)
+}

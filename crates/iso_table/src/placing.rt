@@ -1,0 +1,79 @@
+//! Rows at their numbers.
+
+ghost use Rattle.std.specs.Prelude.{◌≡◌, ◌≢◌, ◌≤◌, ◌<◌, ℕ, IsTrue, IfOk, IfErr, OnOk, OnErr, None, Some, [], length, is_some, slice_set, slice_get};
+ghost use Rattle.std.specs.Option.{option_copied};
+ghost use Rattle.iso_table.specs.Layout.{is_version, is_element, row_at};
+ghost use Rattle.iso_table.specs.Accepted.{row_fault, rows_fault, row_of};
+
+use crate::draft::Row;
+use crate::fault::TableFault;
+use iso_parts::FieldSpec;
+
+/// How many places a table has: one for each number up to the highest element.
+pub const PLACES: usize = 129;
+
+/// Whether there are tables of the version.
+pub fn is_version(version: u8) -> bool
+    ensures { result ≡ is_version version }
+{
+    matches!(version, 0 | 1 | 2 | 9)
+}
+
+/// Whether an element with this number may have a row.
+fn is_element(number: u16) -> bool
+    ensures { result ≡ is_element number }
+{
+    matches!(number, 2..=64 | 66..=128)
+}
+
+/// The first fault of a row whose number stood earlier, or did not.
+fn fault_of(row: &Row, is_used: bool) -> Option<TableFault>
+    ensures { result ≡ row_fault is_used row.now }
+{
+    if !is_element(row.number) {
+        return Some(TableFault::BadNumber(row.number));
+    }
+    if is_used {
+        return Some(TableFault::Twice(row.number));
+    }
+    match row.spec.good() {
+        Ok(()) => None,
+        Err(fault) => Some(TableFault::of_row(row.number, fault)),
+    }
+}
+
+/// The row at a place, if there is such a place and it has a row.
+pub fn row_at(places: &[Option<FieldSpec>], number: usize) -> Option<&FieldSpec>
+    ensures { option_copied result ≡ row_at places.now number }
+{
+    places.get(number)?.as_ref()
+}
+
+/// Puts a row at its number.
+fn place(places: &mut [Option<FieldSpec>], row: &Row) -> Result<(), TableFault>
+    requires { length places.old ≡ 129 }
+    ensures ok { OnOk result (places.new ≡ slice_set places.old row.now.number (Some row.now.spec)) }
+    ensures good { OnOk result (row_fault (is_some (row_at places.old row.now.number)) row.now ≡ None) }
+    ensures fault { IfErr result (λ e. row_fault (is_some (row_at places.old row.now.number)) row.now ≡ Some e) }
+{
+    let is_used = row_at(places, usize::from(row.number)).is_some();
+    if let Some(fault) = fault_of(row, is_used) {
+        return Err(fault);
+    }
+    places[usize::from(row.number)] = Some(row.spec);
+    Ok(())
+}
+
+/// The rows at their numbers, or the first fault among them.
+pub fn placed(rows: &[Row]) -> Result<[Option<FieldSpec>; PLACES], TableFault>
+    ensures size { IfOk result (λ places. length places ≡ 129) }
+    ensures rows { IfOk result (λ places. (n : ℕ) → row_at places n ≡ row_of rows.now n) }
+    ensures good { OnOk result (rows_fault [] rows.now ≡ None) }
+    ensures fault { IfErr result (λ e. rows_fault [] rows.now ≡ Some e) }
+{
+    let mut places = [None; PLACES];
+    for row in rows {
+        place(&mut places, row)?;
+    }
+    Ok(places)
+}

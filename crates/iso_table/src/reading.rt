@@ -1,0 +1,309 @@
+//! A draft from JSON, of profile 1.
+
+ghost use Rattle.std.specs.Prelude.{◌≡◌, ◌≢◌, ◌+◌, IfOk, IfErr, IfSome, IsNone, IsErrOf, None, Some, Ok, Err, option_map, codes};
+ghost use Rattle.serde_json.specs.Errors.{IsMemory};
+ghost use Rattle.serde_json.specs.View.{view, items_view};
+ghost use Rattle.iso_table.specs.declared.fault.TableFault.TheVariants.{NotJson, Shape, Memory};
+ghost use Rattle.iso_table.specs.Accepted.{contents};
+ghost use Rattle.iso_table.specs.Document.{number_at, digits_at, class_in, coding_in, pad_in, class_named, coding_named, digits_named, bitmap_named, pad_named, byte_of, behind, has_size, text_at, whole_at, prefix_in, length_by, length_in, spec_in, row_in, rows_in, bitmap_in, list_in, members_in, with_rows, contents_in, draft_in, StandsFor, IsNotJson};
+
+use crate::draft::{Draft, Row};
+use crate::fault::TableFault;
+use iso_parts::{BitmapCoding, CharClass, Coding, Digits, FieldSpec, Length, Pad};
+use serde_json::{Category, Value};
+use std::alloc::Global;
+
+fn class_named(name: &str) -> Option<CharClass>
+    ensures { result ≡ class_named name.now }
+{
+    match name {
+        "N" => Some(CharClass::N),
+        "A" => Some(CharClass::A),
+        "AN" => Some(CharClass::AN),
+        "ANS" => Some(CharClass::ANS),
+        "Z" => Some(CharClass::Z),
+        "ZD" => Some(CharClass::ZD),
+        "XN" => Some(CharClass::XN),
+        "B" => Some(CharClass::B),
+        _ => None,
+    }
+}
+
+fn coding_named(name: &str) -> Option<Coding>
+    ensures { result ≡ coding_named name.now }
+{
+    match name {
+        "ascii" => Some(Coding::Ascii),
+        "bcd" => Some(Coding::Bcd),
+        "raw" => Some(Coding::Raw),
+        "hex" => Some(Coding::HexText),
+        _ => None,
+    }
+}
+
+fn digits_named(name: &str) -> Option<Digits>
+    ensures { result ≡ digits_named name.now }
+{
+    match name {
+        "ascii" => Some(Digits::Ascii),
+        "bcd" => Some(Digits::Bcd),
+        _ => None,
+    }
+}
+
+fn bitmap_named(name: &str) -> Option<BitmapCoding>
+    ensures { result ≡ bitmap_named name.now }
+{
+    match name {
+        "raw" => Some(BitmapCoding::Raw),
+        "hex" => Some(BitmapCoding::Hex),
+        _ => None,
+    }
+}
+
+/// The byte of two hexadecimal digits.
+fn byte_of(digits: &[u8]) -> Option<u8>
+    ensures { result ≡ byte_of digits.now }
+{
+    let mut byte = [0];
+    match hex::decode_to_slice(digits, &mut byte) {
+        Ok(()) => Some(byte[0]),
+        Err(_) => None,
+    }
+}
+
+/// What stands behind a beginning.
+fn behind<'a>(text: &'a [u8], front: &[u8]) -> Option<&'a [u8]>
+    ensures { option_map (λ rest. rest.now) result ≡ behind front.now text.now }
+{
+    text.strip_prefix(front)
+}
+
+fn pad_named(name: &str) -> Option<Pad>
+    ensures { result ≡ pad_named name.now }
+{
+    if name == "none" {
+        return Some(Pad::None);
+    }
+    if let Some(digits) = behind(name.as_bytes(), b"left:") {
+        return byte_of(digits).map(Pad::Left);
+    }
+    if let Some(digits) = behind(name.as_bytes(), b"right:") {
+        return byte_of(digits).map(Pad::Right);
+    }
+    None
+}
+
+/// Whether a JSON value is an object of so many members.
+fn has_members(value: &Value, size: usize) -> bool
+    ensures { result ≡ has_size size (view value.now) }
+{
+    match value.as_object() {
+        Some(members) => members.len() == size,
+        None => false,
+    }
+}
+
+/// The text at a member.
+fn text_at<'a>(value: &'a Value, key: &str) -> Option<&'a str>
+    ensures { option_map (λ text. text.now) result ≡ text_at key.now (view value.now) }
+{
+    value.get(key)?.as_str()
+}
+
+/// The whole number at a member.
+fn u64_at(value: &Value, key: &str) -> Option<u64>
+    ensures { result ≡ number_at key.now (view value.now) }
+{
+    value.get(key)?.as_u64()
+}
+
+fn u16_at(value: &Value, key: &str) -> Option<u16>
+    ensures { result ≡ whole_at key.now 65535 (view value.now) }
+{
+    u16::try_from(u64_at(value, key)?).ok()
+}
+
+fn u8_at(value: &Value, key: &str) -> Option<u8>
+    ensures { result ≡ whole_at key.now 255 (view value.now) }
+{
+    u8::try_from(u64_at(value, key)?).ok()
+}
+
+fn digits_at(value: &Value, key: &str) -> Option<Digits>
+    ensures { result ≡ digits_at key.now (view value.now) }
+{
+    digits_named(text_at(value, key)?)
+}
+
+/// How the digits of a length are written, in an object that has the member `prefix` too.
+fn prefix_of(value: &Value) -> Option<Digits>
+    ensures { result ≡ prefix_in (view value.now) }
+{
+    if has_members(value, 7) {
+        digits_at(value, "prefix")
+    } else {
+        None
+    }
+}
+
+fn length_named(value: &Value, name: &str) -> Option<Length>
+    ensures { result ≡ length_by (view value.now) name.now }
+{
+    match name {
+        "fixed" if has_members(value, 6) => Some(Length::Fixed),
+        "LL" => prefix_of(value).map(Length::LL),
+        "LLL" => prefix_of(value).map(Length::LLL),
+        _ => None,
+    }
+}
+
+fn length_of(value: &Value) -> Option<Length>
+    ensures { result ≡ length_in (view value.now) }
+{
+    length_named(value, text_at(value, "length")?)
+}
+
+fn class_of(value: &Value) -> Option<CharClass>
+    ensures { result ≡ class_in (view value.now) }
+{
+    class_named(text_at(value, "class")?)
+}
+
+fn coding_of(value: &Value) -> Option<Coding>
+    ensures { result ≡ coding_in (view value.now) }
+{
+    coding_named(text_at(value, "coding")?)
+}
+
+fn pad_of(value: &Value) -> Option<Pad>
+    ensures { result ≡ pad_in (view value.now) }
+{
+    pad_named(text_at(value, "pad")?)
+}
+
+/// How the field of a row is laid out.
+fn spec_of(value: &Value) -> Option<FieldSpec>
+    ensures { result ≡ spec_in (view value.now) }
+{
+    Some(FieldSpec {
+        class: class_of(value)?,
+        coding: coding_of(value)?,
+        length: length_of(value)?,
+        max: u16_at(value, "max")?,
+        pad: pad_of(value)?,
+    })
+}
+
+/// The row that a JSON value is.
+fn row_of(value: &Value) -> Option<Row>
+    ensures { result ≡ row_in (view value.now) }
+{
+    Some(Row {
+        number: u16_at(value, "number")?,
+        spec: spec_of(value)?,
+    })
+}
+
+/// The rows that these JSON values are.
+fn rows_of(alloc: Global, values: &[Value]) -> Result<Vec<Row>, TableFault>
+    ensures ok { IfOk result (λ rows. rows_in (items_view values.now) ≡ Some rows.items) }
+    ensures fault { IfErr result (λ e. e ≢ Memory → e ≡ Shape) }
+    ensures shape { IfErr result (λ e. e ≢ Memory → rows_in (items_view values.now) ≡ None) }
+{
+    let mut rows = Vec::new(alloc);
+    for value in values {
+        let Some(row) = row_of(value) else {
+            return Err(TableFault::Shape);
+        };
+        rows.push(row)?;
+    }
+    Ok(rows)
+}
+
+/// What a draft says beside its rows.
+#[derive(Clone, Copy)]
+struct Head {
+    version: u8,
+    mti: Digits,
+    bitmap: BitmapCoding,
+}
+
+fn bitmap_of(value: &Value) -> Option<BitmapCoding>
+    ensures { result ≡ bitmap_in (view value.now) }
+{
+    bitmap_named(text_at(value, "bitmap")?)
+}
+
+/// What an object of all members says beside its rows.
+fn head_of(value: &Value) -> Option<Head>
+    ensures some { IfSome result (λ h. members_in (view value.now) ≡ with_rows h.version h.mti h.bitmap (list_in (view value.now))) }
+    ensures none { IsNone result → members_in (view value.now) ≡ None }
+{
+    Some(Head {
+        version: u8_at(value, "version")?,
+        mti: digits_at(value, "mti")?,
+        bitmap: bitmap_of(value)?,
+    })
+}
+
+/// The rows of an object, each of them one.
+fn list_of(alloc: Global, value: &Value) -> Result<Vec<Row>, TableFault>
+    ensures ok { IfOk result (λ rows. list_in (view value.now) ≡ Some rows.items) }
+    ensures fault { IfErr result (λ e. e ≢ Memory → e ≡ Shape) }
+    ensures shape { IfErr result (λ e. e ≢ Memory → list_in (view value.now) ≡ None) }
+{
+    let Some(list) = value.get("rows") else {
+        return Err(TableFault::Shape);
+    };
+    let Some(values) = list.as_array() else {
+        return Err(TableFault::Shape);
+    };
+    rows_of(alloc, values.as_slice())
+}
+
+/// The draft that an object of all members is.
+fn contents_of(alloc: Global, value: &Value) -> Result<Draft, TableFault>
+    ensures ok { IfOk result (λ d. contents_in (view value.now) ≡ Some (contents d)) }
+    ensures fault { IfErr result (λ e. e ≢ Memory → e ≡ Shape) }
+    ensures shape { IfErr result (λ e. e ≢ Memory → contents_in (view value.now) ≡ None) }
+{
+    if !has_members(value, 5) {
+        return Err(TableFault::Shape);
+    }
+    let Some(head) = head_of(value) else {
+        return Err(TableFault::Shape);
+    };
+    Ok(Draft {
+        version: head.version,
+        mti: head.mti,
+        bitmap: head.bitmap,
+        rows: list_of(alloc, value)?,
+    })
+}
+
+/// The draft that a JSON value is.
+pub fn draft_of(alloc: Global, value: &Value) -> Result<Draft, TableFault>
+    ensures ok { IfOk result (λ d. draft_in (view value.now) ≡ Ok (contents d)) }
+    ensures fault { IfErr result (λ e. e ≢ Memory → draft_in (view value.now) ≡ Err e) }
+    ensures json { IsErrOf result TableFault.NotJson → ⊥ }
+{
+    match u16_at(value, "profile") {
+        Some(1) => contents_of(alloc, value),
+        Some(_) => Err(TableFault::Profile),
+        None => Err(TableFault::Shape),
+    }
+}
+
+/// The JSON value of a text.
+pub fn value_of(alloc: Global, text: &[u8]) -> Result<Value, TableFault>
+    ensures ok { IfOk result (λ value. StandsFor text.now (view value)) }
+    ensures fault { IfErr result (λ e. e ≢ Memory → e ≡ NotJson) }
+    ensures not_json { IsErrOf result TableFault.NotJson → IsNotJson text.now }
+{
+    match Value::from_slice(alloc, text) {
+        Ok(value) => Ok(value),
+        Err(error) if error.classify() == Category::Memory => Err(TableFault::Memory),
+        Err(_) => Err(TableFault::NotJson),
+    }
+}

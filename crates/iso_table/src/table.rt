@@ -1,0 +1,190 @@
+//! A table that was accepted.
+
+ghost use Rattle.std.specs.Prelude.{◌≡◌, ◌≢◌, ◌+◌, ℕ, length, is_some, count_by, sum_by, IfOk, IfErr, IsErrOf, IsOk, ◌↔◌, MatchResult, Some};
+ghost use Rattle.std.specs.Option.{option_copied};
+ghost use Rattle.iso_table.specs.declared.fault.TableFault.TheVariants.{NotJson, Memory};
+ghost use Rattle.iso_table.specs.Layout.{Layout, IsAccepted, AreGood, row_at};
+ghost use Rattle.iso_table.specs.Accepted.{Accepted, Holds, contents, first_fault};
+ghost use Rattle.iso_table.specs.Document.{IsTableOf, IsFaultOf, IsNotJson, document};
+ghost use Rattle.serde_json.specs.Written.{compact_text};
+ghost use Rattle.iso_table.specs.Edition87.{IsEdition87};
+ghost use Rattle.iso_table.specs.HostReady.{IsHostReady, host_fault};
+ghost use Rattle.iso_table.specs.Sizes.{max_bytes};
+
+use crate::draft::Draft;
+use crate::edition87::{bitmap87, places87};
+use crate::fault::{HostTableFault, NoMemory, TableFault};
+use crate::host::host_rows_fault;
+use crate::placing::{is_version, placed, row_at};
+use crate::reading::{draft_of, value_of};
+use crate::sizes::{bitmap_bytes, mti_bytes, places_bytes};
+use crate::writing::document;
+use iso_parts::{BitmapCoding, Digits, FieldSpec};
+use std::alloc::Global;
+use std::marker::Model;
+
+/// How the messages of a network are written. Its version is 0, 1, 2 or 9, and each row is good and of
+/// an element from 2 to 64 or 66 to 128.
+#[derive(Debug, Drop)]
+pub struct Table {
+    version: u8,
+    mti: Digits,
+    bitmap: BitmapCoding,
+    rows: Vec<Option<FieldSpec>>,
+}
+
+impl Model for Table {
+    ghost Value = { Layout };
+
+    ghost view = { λ t. record { version = t.version; mti = t.mti; bitmap = t.bitmap; rows = t.rows.items } };
+
+    ghost invariant = { λ t. IsAccepted (record { version = t.version; mti = t.mti; bitmap = t.bitmap; rows = t.rows.items }) };
+}
+
+impl Table {
+    /// The table of a draft, or the first fault: the version's, and then row by row that of the
+    /// number, of a number that stood earlier, of the maximum, the coding and the padding. A draft
+    /// that is refused is dropped.
+    pub fn check(alloc: Global, draft: Draft) -> Result<Table, TableFault>
+        ensures ok { IfOk result (λ t. Accepted (contents draft) × Holds t (contents draft)) }
+        ensures accepted { IfOk result IsAccepted }
+        ensures refused { IfErr result (λ e. e ≢ Memory → ¬ Accepted (contents draft)) }
+        ensures fault { IfErr result (λ e. e ≢ Memory → first_fault (contents draft) ≡ Some e) }
+    {
+        if !is_version(draft.version) {
+            return Err(TableFault::BadVersion);
+        }
+        let places = placed(draft.rows.as_slice())?;
+        Ok(Table {
+            version: draft.version,
+            mti: draft.mti,
+            bitmap: draft.bitmap,
+            rows: Vec::from_array(alloc, places)?,
+        })
+    }
+
+    /// What [`Table::from_json`] does.
+    fn read(alloc: Global, text: &[u8]) -> Result<Table, TableFault>
+        ensures ok { IfOk result (IsTableOf text.now) }
+        ensures accepted { IfOk result IsAccepted }
+        ensures not_json { IsErrOf result TableFault.NotJson → IsNotJson text.now }
+        ensures fault { IfErr result (λ e. e ≢ Memory → e ≢ NotJson → IsFaultOf text.now e) }
+    {
+        let value = value_of(alloc, text)?;
+        let draft = draft_of(alloc, &value)?;
+        Table::check(alloc, draft)
+    }
+
+    /// The table of a JSON text, or the first fault: no JSON, another shape, another profile, and
+    /// then as [`Table::check`]. A text that stands for a table, as what [`Table::to_json`] wrote,
+    /// gives that very table, unless memory ran out.
+    pub fn from_json(alloc: Global, text: &[u8]) -> Result<Table, TableFault>
+        ensures ok { IfOk result (IsTableOf text.now) }
+        ensures only { (t : Layout) → IsAccepted t → IsTableOf text.now t
+            → MatchResult result (λ u. u ≡ t) (λ e. e ≡ Memory) }
+        ensures not_json { IsErrOf result TableFault.NotJson → IsNotJson text.now }
+        ensures fault { IfErr result (λ e. e ≢ Memory → e ≢ NotJson → IsFaultOf text.now e) }
+    {
+        Table::read(alloc, text)
+    }
+
+    /// The JSON text of the table, of profile 1: compact, with members in the order of their names,
+    /// rows in the order of their numbers and pads in upper-case digits.
+    pub fn to_json(&self, alloc: Global) -> Result<Vec<u8>, NoMemory>
+        ensures text { IfOk result (λ text. text.items ≡ compact_text (document self.now)) }
+        ensures read_back { IfOk result (λ text. IsTableOf text.items self.now) }
+    {
+        let value = document(alloc, self.version, self.mti, self.bitmap, &self.rows)?;
+        Ok(value.to_vec(alloc)?)
+    }
+
+    /// The table of the 1987 edition in ASCII: version 0 and 126 rows, with type, lengths and numbers
+    /// in ASCII digits, and bitmaps and the bytes of elements 52, 64, 96 and 128 in hexadecimal
+    /// digits. The rows are this project's own reading of the edition.
+    pub fn ascii87(alloc: Global) -> Result<Table, NoMemory>
+        ensures { IfOk result (IsEdition87 Digits.Ascii) }
+    {
+        Table::edition87(alloc, Digits::Ascii)
+    }
+
+    /// The same table in BCD: type, lengths and numbers in BCD, bitmaps and bytes as they are.
+    pub fn bcd87(alloc: Global) -> Result<Table, NoMemory>
+        ensures { IfOk result (IsEdition87 Digits.Bcd) }
+    {
+        Table::edition87(alloc, Digits::Bcd)
+    }
+
+    /// The table of the 1987 edition whose digits are written so.
+    fn edition87(alloc: Global, digits: Digits) -> Result<Table, NoMemory>
+        ensures { IfOk result (IsEdition87 digits) }
+    {
+        Ok(Table {
+            version: 0,
+            mti: digits,
+            bitmap: bitmap87(digits),
+            rows: Vec::from_array(alloc, places87(digits))?,
+        })
+    }
+
+    /// The row of an element, if it has one.
+    pub fn row(&self, number: u8) -> Option<&FieldSpec>
+        ensures row { option_copied result ≡ row_at self.now.rows number }
+        ensures good { AreGood self.now.rows }
+        ensures accepted { IsAccepted self.now }
+    {
+        row_at(&self.rows, usize::from(number))
+    }
+
+    /// The first digit of the message types that the table is for.
+    pub fn version(&self) -> u8
+        ensures version { result ≡ self.now.version }
+        ensures good { AreGood self.now.rows }
+    {
+        self.version
+    }
+
+    /// How the four digits of a message type are written.
+    pub fn mti(&self) -> Digits
+        ensures { result ≡ self.now.mti }
+    {
+        self.mti
+    }
+
+    /// How both bitmaps are written.
+    pub fn bitmap(&self) -> BitmapCoding
+        ensures { result ≡ self.now.bitmap }
+    {
+        self.bitmap
+    }
+
+    /// How many rows the table has.
+    pub fn rows(&self) -> usize
+        ensures { result ≡ count_by is_some self.now.rows }
+    {
+        self.rows.iter().filter(|place| place.is_some()).count()
+    }
+
+    /// How many bytes a message has at most: its type, both bitmaps and the longest field of every
+    /// row.
+    pub fn max_bytes(&self) -> u64
+        ensures { result ≡ max_bytes self.now }
+    {
+        mti_bytes(self.mti) + bitmap_bytes(self.bitmap) + places_bytes(&self.rows)
+    }
+
+    /// Whether an issuer host can serve under the table: version 0, and for the elements of requests and responses
+    /// rows that every response fits. Else the first thing that is wrong: the version, then by ascending element.
+    /// Takes no memory.
+    pub fn host_ready(&self) -> Result<(), HostTableFault>
+        ensures ready { IsOk result ↔ IsHostReady self.now }
+        ensures fault { IfErr result (λ e. host_fault self.now ≡ Some e) }
+    {
+        if self.version != 0 {
+            return Err(HostTableFault::NotVersion0);
+        }
+        match host_rows_fault(&self.rows) {
+            Some(fault) => Err(fault),
+            None => Ok(()),
+        }
+    }
+}

@@ -1,0 +1,14 @@
+pub mod Orders
+pub mod Buffers
+pub mod Places
+pub mod Changes
+pub mod NumberLaws
+pub mod Sets
+pub mod Types
+pub mod ElementLaws
+pub mod WordLaws
+pub mod Messages
+pub mod WalkLaws
+pub mod Loop
+pub mod Appends
+pub mod Packs

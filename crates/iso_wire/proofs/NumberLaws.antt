@@ -1,0 +1,88 @@
+-- The numbers of a set: none, one more, and which of them has no row.
+use Rattle.std.proofs.Common.{◌≡◌, ◌≢◌, ℕ, zero, suc, ◌+◌, ◌≤◌, ◌<◌, Bool, true, false, cond, is_some, is_none, List, [], ◌∷◌, find, Option, Some, None, refl, sym, ap, subst, ◌∙◌, arith, inl, inr}
+use Rattle.std.proofs.lemmas.Bool.{cases_eq}
+use Rattle.iso_parts.specs.declared.spec.FieldSpec.{FieldSpec}
+use Rattle.iso_table.specs.Layout.{row_at}
+use Rattle.iso_wire.specs.Numbers.{numbers, unknown}
+
+pub one_more : (set : ℕ → Bool) (count n : ℕ) → set n ≡ true → numbers set (suc count) n ≡ n ∷ numbers set count (n + 1)
+unfolding numbers
+one_more set count n h = rw h refl
+
+pub no_more : (set : ℕ → Bool) (count n : ℕ) → set n ≡ false → numbers set (suc count) n ≡ numbers set count (n + 1)
+unfolding numbers
+no_more set count n h = rw h refl
+
+pub no_numbers : (set : ℕ → Bool) (n : ℕ) → numbers set zero n ≡ []
+unfolding numbers
+no_numbers set n = refl
+
+-- ---- two sets
+
+next_by : (t : Bool) (set other : ℕ → Bool) (count n : ℕ) → set n ≡ t → other n ≡ t → numbers set count (n + 1) ≡ numbers other count (n + 1) → numbers set (suc count) n ≡ numbers other (suc count) n
+next_by true set other count n here there rest = one_more set count n here ∙ ap (λ (l : List ℕ). n ∷ l) rest ∙ sym (one_more other count n there)
+next_by false set other count n here there rest = no_more set count n here ∙ rest ∙ sym (no_more other count n there)
+
+-- sets that agree have the same numbers
+pub numbers_agree : (set other : ℕ → Bool) (count n : ℕ) → ((k : ℕ) → n ≤ k → k < n + count → set k ≡ other k) → numbers set count n ≡ numbers other count n
+numbers_agree set other zero n agrees = no_numbers set n ∙ sym (no_numbers other n)
+numbers_agree set other (suc count) n agrees =
+    next_by (set n) set other count n refl (sym (agrees n (omega arith) (omega arith))) (numbers_agree set other count (n + 1) (λ k low high. agrees k (omega arith) (omega arith)))
+
+-- an empty set has none
+pub numbers_none : (set : ℕ → Bool) (count n : ℕ) → ((k : ℕ) → n ≤ k → k < n + count → set k ≡ false) → numbers set count n ≡ []
+numbers_none set zero n empty = no_numbers set n
+numbers_none set (suc count) n empty = no_more set count n (empty n (omega arith) (omega arith)) ∙ numbers_none set count (n + 1) (λ k low high. empty k (omega arith) (omega arith))
+
+-- the lowest number k of a set, and the others
+pub record IsLowest (set other : ℕ → Bool) (count n k : ℕ) : Type 0 where
+  pub low : n ≤ k
+  pub high : k < n + count
+  pub here : set k ≡ true
+  pub below : (j : ℕ) → n ≤ j → j < k → set j ≡ false
+  pub none : (j : ℕ) → n ≤ j → j ≤ k → other j ≡ false
+  pub above : (j : ℕ) → k < j → j < n + count → other j ≡ set j
+
+pub numbers_lowest : (set other : ℕ → Bool) (count n k : ℕ) → IsLowest set other count n k → numbers set count n ≡ k ∷ numbers other count n
+numbers_lowest set other zero n k h = absurd (omega (arith, h.low, h.high))
+numbers_lowest set other (suc count) n k h =
+    elim (cases_eq n k) [
+      | inl same ↦
+          let here : set n ≡ true = ap set same ∙ h.here in
+          let gone : other n ≡ false = h.none n (omega arith) (omega arith) in
+          one_more set count n here
+          ∙ ap (λ (l : List ℕ). n ∷ l) (numbers_agree set other count (n + 1) (λ j low high. sym (h.above j (omega arith) (omega arith))) ∙ sym (no_more other count n gone))
+          ∙ ap (λ (m : ℕ). m ∷ numbers other (suc count) n) same
+      | inr ne ↦
+          let lt : n < k = omega (arith, h.low) in
+          let rest : IsLowest set other count (n + 1) k = record {
+            low = omega arith;
+            high = omega (arith, h.high);
+            here = h.here;
+            below = λ j low high. h.below j (omega arith) high;
+            none = λ j low high. h.none j (omega arith) high;
+            above = λ j low high. h.above j low (omega arith);
+          } in
+          no_more set count n (h.below n (omega arith) lt) ∙ numbers_lowest set other count (n + 1) k rest ∙ ap (λ (l : List ℕ). k ∷ l) (sym (no_more other count n (h.none n (omega arith) (omega arith))))
+    ]
+
+-- ---- rows
+
+some_not_none : {A : Type 0} (o : Option A) → is_some o ≡ true → is_none o ≡ false
+some_not_none None h = absurd cc
+some_not_none (Some x) h = refl
+
+pub known_next : (rows : List (Option FieldSpec)) (n : ℕ) (ns : List ℕ) → is_some (row_at rows n) ≡ true → unknown rows (n ∷ ns) ≡ unknown rows ns
+known_next rows n ns h = let e = some_not_none (row_at rows n) h in rw e refl
+
+pub unknown_here : (rows : List (Option FieldSpec)) (n : ℕ) (ns : List ℕ) → is_none (row_at rows n) ≡ true → unknown rows (n ∷ ns) ≡ Some n
+unknown_here rows n ns h = rw h refl
+
+known_by_set : (t : Bool) (rows : List (Option FieldSpec)) (set : ℕ → Bool) (count n : ℕ) → set n ≡ t → ((k : ℕ) → n ≤ k → k < n + suc count → set k ≡ true → is_some (row_at rows k) ≡ true) → unknown rows (numbers set count (n + 1)) ≡ None → unknown rows (numbers set (suc count) n) ≡ None
+known_by_set true rows set count n here known rest = ap (unknown rows) (one_more set count n here) ∙ known_next rows n (numbers set count (n + 1)) (known n (omega arith) (omega arith) here) ∙ rest
+known_by_set false rows set count n here known rest = ap (unknown rows) (no_more set count n here) ∙ rest
+
+-- where each number of the set has a row, none is without
+pub all_known : (rows : List (Option FieldSpec)) (set : ℕ → Bool) (count n : ℕ) → ((k : ℕ) → n ≤ k → k < n + count → set k ≡ true → is_some (row_at rows k) ≡ true) → unknown rows (numbers set count n) ≡ None
+all_known rows set zero n known = ap (unknown rows) (no_numbers set n)
+all_known rows set (suc count) n known = known_by_set (set n) rows set count n refl known (all_known rows set count (n + 1) (λ k low high here. known k (omega arith) (omega arith) here))

@@ -1,0 +1,114 @@
+-- What is written is the plain spelling, and a message that has a spelling is not refused.
+use Rattle.std.proofs.Common.{◌≡◌, ◌≢◌, ℕ, zero, suc, ◌+◌, ◌/◌, ◌≤◌, ◌<◌, Bool, true, false, cond, eqb, List, [], ◌∷◌, ◌++◌, length, get_or, take, drop, drop-cons, Option, Some, None, Result, Ok, Err, refl, sym, ap, subst, ◌∙◌, append_assoc, arith}
+use Rattle.std.specs.Prelude.{IfOk, IfErr}
+use Rattle.std.specs.List.{flat_map}
+use Rattle.std.proofs.lemmas.Bool.Decides.{nat_tests}
+use Rattle.iso_parts.specs.declared.bitmap.BitmapCoding.{BitmapCoding}
+use Rattle.iso_parts.specs.declared.bitmap.BitmapCoding.TheVariants.{Raw}
+use Rattle.iso_parts.specs.declared.spec.FieldSpec.{FieldSpec}
+use Rattle.iso_parts.specs.Bits.{HasAbove, PlainBitmaps}
+use Rattle.iso_parts.specs.Row.{refusal, Fits}
+use Rattle.iso_wire.specs.declared.elements.Entry.{Entry}
+use Rattle.iso_wire.specs.declared.fault.PackFault.{PackFault}
+use Rattle.iso_wire.specs.declared.fault.PackFault.TheVariants.{WrongVersion, NoRow, WrongLength, NotInClass, PadEnd, Memory}
+use Rattle.iso_wire.specs.Contents.{Contents}
+use Rattle.iso_wire.specs.Elements.{has, IsAscending}
+use Rattle.iso_wire.specs.Entries.{elements_of}
+use Rattle.iso_table.specs.Layout.{Layout, row_at, AreGood}
+use Rattle.iso_wire.specs.Reading.{message_at, whole}
+use Rattle.iso_wire.specs.Refusal.{refused_field, refused_by, or_else, refused, message_refusal}
+use Rattle.iso_wire.specs.Spelling.{mti_bytes, PartAs, Parts, plain_of, Spelling, PlainSpelling}
+use Rattle.iso_wire.proofs.Messages.{maps_agree, spelling_again}
+use Rattle.iso_wire.proofs.Orders.{Values}
+
+-- ---- faults
+
+-- the element that is next is refused
+pub refused_here : (rows : List (Option FieldSpec)) (index : List Entry) (i : ℕ) (e : Entry) (rest v : List ℕ) (fault : PackFault) → i < length index → v ≡ take (get_or index i e).len rest
+    → refused_by (row_at rows (get_or index i e).number) (get_or index i e).number v ≡ Some fault → refused rows (elements_of (drop i index) rest) ≡ Some fault
+refused_here rows index i e rest v fault lt is h =
+    let next : Entry = get_or index i e in
+    ap (λ (l : List Entry). refused rows (elements_of l rest)) (drop-cons index i e lt)
+    ∙ ap (λ (o : Option PackFault). or_else o (refused rows (elements_of (drop (suc i) index) (drop next.len rest)))) (ap (refused_by (row_at rows next.number) next.number) (sym is) ∙ h)
+
+fits_taken : (s : FieldSpec) (v : List ℕ) → Fits s v → refusal s v ≡ None
+fits_taken s v fits = rw (fits.length, fits.class, fits.pad) refl
+
+part_taken : (rows : List (Option FieldSpec)) (n : ℕ) (v b : List ℕ) → PartAs rows n v b → refused_by (row_at rows n) n v ≡ None
+part_taken rows n v b part = ap (λ (r : Option FieldSpec). refused_by r n v) part.1 ∙ ap (refused_field n) (fits_taken part.0 v part.2.1.0)
+
+parts_taken : (rows : List (Option FieldSpec)) (es : Values) (b : List ℕ) → Parts rows es b → refused rows es ≡ None
+parts_taken rows [] b parts = refl
+parts_taken rows (e ∷ es) b parts = ap (λ (o : Option PackFault). or_else o (refused rows es)) (part_taken rows e.0 e.1 parts.0 parts.2) ∙ parts_taken rows es parts.1 parts.3
+
+-- a message that has a spelling is not refused
+spelled_taken : (t : Layout) (m : Contents) (b : List ℕ) → Spelling t m b → message_refusal t m ≡ None
+spelled_taken t m b s =
+    let same : eqb (m.mti / 1000) t.version ≡ true = let v = s.version in grind (arith, nat_tests) in
+    rw same (parts_taken t.rows m.elements s.parts s.elements)
+
+memory_or : (e : PackFault) → (e ≢ Memory → ⊥) → e ≡ Memory
+memory_or Memory h = refl
+memory_or WrongVersion h = absurd (h (λ same. cc))
+memory_or (NoRow n) h = absurd (h (λ same. cc))
+memory_or (WrongLength n) h = absurd (h (λ same. cc))
+memory_or (NotInClass n) h = absurd (h (λ same. cc))
+memory_or (PadEnd n) h = absurd (h (λ same. cc))
+
+pub is_written : {T : Type 0} (t : Layout) (m : Contents) (r : Result T PackFault) → IfErr r (λ e. e ≢ Memory → message_refusal t m ≡ Some e) → (b : List ℕ) → Spelling t m b → IfErr r (λ e. e ≡ Memory)
+is_written t m (Ok x) h b s = tt
+is_written t m (Err e) h b s = memory_or e (λ other. absurd (let same : Some e ≡ None = sym (h other) ∙ spelled_taken t m b s in cc))
+
+-- ---- what is written
+
+-- plain bitmaps of one set are those of another with the same elements
+plain_agree : (c : BitmapCoding) (set other : ℕ → Bool) (b : List ℕ) → ((k : ℕ) → 2 ≤ k → k ≤ 128 → other k ≡ set k) → PlainBitmaps c set b → PlainBitmaps c other b
+plain_agree c set other b agrees plain = record {
+  two = plain.two;
+  raw = plain.raw;
+  maps = maps_agree Raw plain.two set other plain.raw agrees plain.maps;
+  needed = λ is. let above = plain.needed is in (above.0, above.1, above.2, agrees above.0 (omega (arith, above.1)) above.2 ∙ above.3);
+  bytes = plain.bytes;
+  spelled = maps_agree c plain.two set other b agrees plain.spelled;
+}
+
+pub plain_spelling_lem : (t : Layout) (m : Contents) (set : ℕ → Bool) (maps out : List ℕ) → m.mti < 10000 → m.mti / 1000 ≡ t.version → IsAscending 2 m.elements → ((k : ℕ) → set k ≡ has m.elements k) → PlainBitmaps t.bitmap set maps
+    → Parts t.rows m.elements (flat_map (plain_of t.rows) m.elements) → out ≡ mti_bytes t.mti m.mti ++ (maps ++ flat_map (plain_of t.rows) m.elements) → PlainSpelling t m out
+plain_spelling_lem t m set maps out small version ascending agrees plain parts is =
+    let same = plain_agree t.bitmap set (has m.elements) maps (λ k low high. sym (agrees k)) plain in
+    record {
+      spelling = record {
+        mti = small;
+        version = version;
+        ascending = ascending;
+        second = same.two;
+        maps = maps;
+        parts = flat_map (plain_of t.rows) m.elements;
+        bitmaps = same.spelled;
+        elements = parts;
+        bytes = is;
+      };
+      bitmaps = same;
+      parts = refl;
+    }
+
+-- ---- what is written is read again
+
+bytes_append : (a b : List ℕ) → ((i : ℕ) → get_or a i 0 < 256) → ((i : ℕ) → get_or b i 0 < 256) → (i : ℕ) → get_or (a ++ b) i 0 < 256
+bytes_append [] b fits others i = others i
+bytes_append (x ∷ a) b fits others zero = fits 0
+bytes_append (x ∷ a) b fits others (suc i) = bytes_append a b (λ k. fits (suc k)) others i
+
+pub read_again : (t : Layout) (m : Contents) (out rest : List ℕ) → AreGood t.rows → ((i : ℕ) → get_or out i 0 < 256) → ((i : ℕ) → get_or rest i 0 < 256) → PlainSpelling t m out → message_at t (out ++ rest) ≡ whole m (length out)
+read_again t m out rest good fits others plain = spelling_again t m out rest good (bytes_append out rest fits others) plain.spelling
+
+-- the same of what a function gives
+pub is_read_again : {T : Type 0} (items : T → List ℕ) (t : Layout) (m : Contents) (r : Result T PackFault) → AreGood t.rows → IfOk r (λ out. (i : ℕ) → get_or (items out) i 0 < 256) → IfOk r (λ out. PlainSpelling t m (items out))
+    → IfOk r (λ out. (rest : List ℕ) → ((i : ℕ) → get_or rest i 0 < 256) → message_at t (items out ++ rest) ≡ whole m (length (items out)))
+is_read_again items t m (Ok out) good fits plain = λ rest others. read_again t m (items out) rest good fits others plain
+is_read_again items t m (Err e) good fits plain = tt
+
+-- three pieces, one after another
+pub three_pieces : (none one two all a b c : List ℕ) → none ≡ [] → one ≡ none ++ a → two ≡ one ++ b → all ≡ two ++ c → all ≡ a ++ (b ++ c)
+three_pieces none one two all a b c empty first second third =
+    third ∙ ap (λ (l : List ℕ). l ++ c) (second ∙ ap (λ (l : List ℕ). l ++ b) (first ∙ ap (λ (l : List ℕ). l ++ a) empty)) ∙ append_assoc a b c

@@ -1,0 +1,15 @@
+use Rattle.std.proofs.Common.{◌<◌, ℕ, get_or, arith}
+use Rattle.iso_wire.proofs.Messages.{is_found, is_given, is_refused, one_spelling}
+use Rattle.iso_wire.proofs.unpacking.unpack.Goals as goal
+
+pub returns-clause-found : goal.returns-clause-found
+returns-clause-found c = is_found c.args.table.now c.args.bytes.now c.message_of.result c.message_of.ensures.good (λ i. omega (arith, c.type_inv.bytes i)) c.message_of.ensures.exact
+
+pub returns-clause-only : goal.returns-clause-only
+returns-clause-only c = is_given c.args.table.now c.args.bytes.now c.message_of.result c.message_of.ensures.good (λ i. omega (arith, c.type_inv.bytes i)) c.message_of.ensures.exact
+
+pub returns-clause-refused : goal.returns-clause-refused
+returns-clause-refused c = is_refused c.args.table.now c.args.bytes.now c.message_of.result c.message_of.ensures.good (λ i. omega (arith, c.type_inv.bytes i)) c.message_of.ensures.exact
+
+pub returns-clause-one : goal.returns-clause-one
+returns-clause-one c = λ m other a b x y fits first second same. one_spelling c.args.table.now m other a b x y c.message_of.ensures.good fits first second same

@@ -1,0 +1,10 @@
+pub mod Contents
+pub mod Decimal
+pub mod Elements
+pub mod Entries
+pub mod Numbers
+pub mod Walk
+pub mod Spelling
+pub mod Refusal
+pub mod Faults
+pub mod Reading

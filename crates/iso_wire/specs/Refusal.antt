@@ -1,0 +1,38 @@
+-- Why a message has no spelling under a table.
+use Rattle.std.specs.Prelude.{ℕ, ◌/◌, ◌==◌, if◌then◌else◌, List, [], ◌∷◌, Option, Some, None}
+use Rattle.iso_parts.specs.declared.spec.FieldSpec.{FieldSpec}
+use Rattle.iso_parts.specs.declared.fault.FieldFault.{FieldFault}
+use Rattle.iso_parts.specs.declared.fault.FieldFault.TheVariants as fields
+use Rattle.iso_parts.specs.Row.{refusal}
+use Rattle.iso_wire.specs.declared.fault.PackFault.{PackFault}
+use Rattle.iso_wire.specs.declared.fault.PackFault.TheVariants.{WrongVersion, NoRow, WrongLength, NotInClass, PadEnd, Memory}
+use Rattle.iso_wire.specs.Contents.{Contents}
+use Rattle.iso_table.specs.Layout.{Layout, row_at}
+
+-- why a value is refused as element n
+abbrev pub as_pack : ℕ → FieldFault → PackFault
+as_pack n fields.WrongLength = WrongLength n
+as_pack n fields.NotInClass = NotInClass n
+as_pack n fields.PadEnd = PadEnd n
+as_pack n e = Memory
+
+abbrev pub refused_field : ℕ → Option FieldFault → Option PackFault
+refused_field n None = None
+refused_field n (Some e) = Some (as_pack n e)
+
+abbrev pub refused_by : Option FieldSpec → ℕ → List ℕ → Option PackFault
+refused_by None n v = Some (NoRow n)
+refused_by (Some s) n v = refused_field n (refusal s v)
+
+abbrev pub or_else : Option PackFault → Option PackFault → Option PackFault
+or_else None other = other
+or_else (Some e) other = Some e
+
+-- the first refusal among the elements
+abbrev pub refused : List (Option FieldSpec) → List (ℕ × List ℕ) → Option PackFault
+refused rows [] = None
+refused rows (e ∷ es) = or_else (refused_by (row_at rows e.0) e.0 e.1) (refused rows es)
+
+-- why a message is refused: the version first, then its elements in ascending order
+abbrev pub message_refusal : Layout → Contents → Option PackFault
+message_refusal t m = if m.mti / 1000 == t.version then refused t.rows m.elements else Some WrongVersion

@@ -1,0 +1,54 @@
+-- The bytes that spell a message under a table (ISO 8583:1987, structure of a message): its type, its bitmaps, and
+-- the parts of its elements in ascending order.
+use Rattle.std.specs.Prelude.{◌≡◌, ℕ, ◌+◌, ◌*◌, ◌/◌, ◌%◌, ◌<◌, Bool, List, [], ◌∷◌, ◌++◌, Option, Some, None}
+use Rattle.std.specs.List.{flat_map}
+use Rattle.iso_parts.specs.declared.prefix.Digits.{Digits}
+use Rattle.iso_parts.specs.declared.prefix.Digits.TheVariants as digits
+use Rattle.iso_parts.specs.declared.spec.FieldSpec.{FieldSpec}
+use Rattle.iso_parts.specs.Bits.{Bitmaps, PlainBitmaps}
+use Rattle.iso_parts.specs.Part.{Part, plain_part}
+use Rattle.iso_wire.specs.Contents.{Contents}
+use Rattle.iso_wire.specs.Elements.{has, IsAscending}
+use Rattle.iso_table.specs.Layout.{Layout, row_at}
+
+-- the four digits of a message type, a byte for each or two in a byte
+abbrev pub mti_bytes : Digits → ℕ → List ℕ
+mti_bytes digits.Ascii n = (48 + n / 1000) ∷ (48 + n / 100 % 10) ∷ (48 + n / 10 % 10) ∷ (48 + n % 10) ∷ []
+mti_bytes digits.Bcd n = (16 * (n / 1000) + n / 100 % 10) ∷ (16 * (n / 10 % 10) + n % 10) ∷ []
+
+-- the bytes are a part of the value as element n
+abbrev pub PartAs : List (Option FieldSpec) → ℕ → List ℕ → List ℕ → Type 0
+PartAs rows n v b = (s : FieldSpec) × (row_at rows n ≡ Some s) × Part s v b
+
+-- the bytes are the parts of the elements, one after another
+abbrev pub Parts : List (Option FieldSpec) → List (ℕ × List ℕ) → List ℕ → Type 0
+Parts rows [] b = b ≡ []
+Parts rows (e ∷ es) b = (part : List ℕ) × (rest : List ℕ) × PartAs rows e.0 e.1 part × Parts rows es rest × (b ≡ part ++ rest)
+
+-- the bytes spell the message: its type, its bitmaps, and the parts of its elements
+pub record Spelling (t : Layout) (m : Contents) (b : List ℕ) : Type 0 where
+  pub mti : m.mti < 10000
+  pub version : m.mti / 1000 ≡ t.version
+  pub ascending : IsAscending 2 m.elements
+  pub second : Bool
+  pub maps : List ℕ
+  pub parts : List ℕ
+  pub bitmaps : Bitmaps t.bitmap second (has m.elements) maps
+  pub elements : Parts t.rows m.elements parts
+  pub bytes : b ≡ mti_bytes t.mti m.mti ++ (maps ++ parts)
+
+-- ---- the spelling that is written
+
+-- the part that is written for a value: filler 0, hexadecimal digits in upper case
+abbrev pub plain_by : Option FieldSpec → List ℕ → List ℕ
+plain_by None v = []
+plain_by (Some s) v = plain_part s v
+
+abbrev pub plain_of : List (Option FieldSpec) → ℕ × List ℕ → List ℕ
+plain_of rows e = plain_by (row_at rows e.0) e.1
+
+-- the bytes are the message as it is written: a secondary bitmap only where it has an element above 64, and plain parts
+pub record PlainSpelling (t : Layout) (m : Contents) (b : List ℕ) : Type 0 where
+  pub spelling : Spelling t m b
+  pub bitmaps : PlainBitmaps t.bitmap (has m.elements) spelling.maps
+  pub parts : spelling.parts ≡ flat_map (plain_of t.rows) m.elements

@@ -1,0 +1,80 @@
+//! Reading the bitmaps of a message: which elements follow.
+
+ghost use Rattle.std.specs.Prelude.{◌≡◌, ◌≤◌, ◌<◌, ◌^◌, length, IfOk};
+ghost use Rattle.iso_wire.specs.Reading.{word_at, known_by, primary_at, secondary_at, words_at};
+
+use crate::fault::{UnpackCause, UnpackFault};
+use crate::numbers::Numbers;
+use iso_table::Table;
+use iso_parts::BitmapCoding;
+
+/// A word from here on has its first bit set.
+const TOP: u64 = 0x8000_0000_0000_0000;
+
+/// The word of the bitmap that the bytes begin with.
+fn word_of(
+    coding: BitmapCoding,
+    element: u8,
+    at: usize,
+    bytes: &[u8],
+) -> Result<u64, UnpackFault>
+    ensures { result ≡ word_at coding element at bytes.now }
+{
+    let size = coding.size();
+    if bytes.len() < size {
+        return Err(UnpackFault::stop(element, at, UnpackCause::Short));
+    }
+    let (front, _) = bytes.split_at(size);
+    match coding.word(front) {
+        Some(word) => Ok(word),
+        None => Err(UnpackFault::stop(element, at, UnpackCause::BadHex)),
+    }
+}
+
+/// The word, unless a number has no row.
+fn known_word(element: u8, at: usize, word: u64, unknown: Option<u8>) -> Result<u64, UnpackFault>
+    ensures { result ≡ known_by element at word unknown }
+{
+    match unknown {
+        None => Ok(word),
+        Some(n) => Err(UnpackFault::stop(element, at, UnpackCause::UnknownElement(n))),
+    }
+}
+
+/// The word of the primary bitmap.
+fn primary_of(table: &Table, at: usize, bytes: &[u8]) -> Result<u64, UnpackFault>
+    ensures { result ≡ primary_at table.now at bytes.now }
+{
+    let word = word_of(table.bitmap(), 0, at, bytes)?;
+    known_word(0, at, word, Numbers::of(word, 0).unknown_under(table))
+}
+
+/// The word of the secondary bitmap.
+fn secondary_of(table: &Table, at: usize, bytes: &[u8]) -> Result<u64, UnpackFault>
+    ensures exact { result ≡ secondary_at table.now at bytes.now }
+    ensures low { IfOk result (λ word. word < 2 ^ 63) }
+{
+    let word = word_of(table.bitmap(), 1, at, bytes)?;
+    if word < TOP {
+        known_word(1, at, word, Numbers::of(0, word).unknown_under(table))
+    } else {
+        Err(UnpackFault::stop(1, at, UnpackCause::ThirdBitmap))
+    }
+}
+
+/// The words of the bitmaps that the bytes begin with, and how many bytes they take.
+pub fn words_of(table: &Table, at: usize, bytes: &[u8]) -> Result<(u64, u64, usize), UnpackFault>
+    requires { at ≤ 4 }
+    ensures exact { result ≡ words_at table.now at bytes.now }
+    ensures used { IfOk result (λ x. x.2 ≤ length bytes.now) }
+    ensures low { IfOk result (λ x. x.1 < 2 ^ 63) }
+{
+    let size = table.bitmap().size();
+    let first = primary_of(table, at, bytes)?;
+    if first < TOP {
+        return Ok((first, 0, size));
+    }
+    let (_, rest) = bytes.split_at(size);
+    let second = secondary_of(table, at + size, rest)?;
+    Ok((first, second, size + size))
+}

@@ -1,0 +1,130 @@
+//! Why messages and bytes are refused.
+
+ghost use Rattle.std.specs.Prelude.{◌≡◌};
+ghost use Rattle.iso_wire.specs.declared.fault.PackFault.TheVariants as pack;
+ghost use Rattle.iso_wire.specs.declared.fault.SetFault.TheVariants as set;
+ghost use Rattle.iso_wire.specs.Faults.{out_of_memory};
+
+use iso_parts::FieldFault;
+use std::alloc::AllocError;
+use thiserror::Error;
+
+/// Why a value was not set.
+#[derive(Clone, Copy, Debug, PartialEq, Eq, Error)]
+pub enum SetFault {
+    /// No element has that number: 0, 1, 65 or one above 128.
+    #[error("no element has the number {0}")]
+    BadNumber(u8),
+    /// Memory ran out.
+    #[error("out of memory")]
+    Memory,
+}
+
+/// Why a message has no spelling under a table.
+#[derive(Clone, Copy, Debug, PartialEq, Eq, Error)]
+pub enum PackFault {
+    /// The version of its type is not the table's.
+    #[error("the message type is of another version")]
+    WrongVersion,
+    /// The table has no row for this element.
+    #[error("element {0} has no row")]
+    NoRow(u8),
+    /// The length of this element's value is none that its row takes.
+    #[error("element {0} has a wrong length")]
+    WrongLength(u8),
+    /// A character of this element's value is not in the class of its row.
+    #[error("element {0} has a character that isn't in its class")]
+    NotInClass(u8),
+    /// This element's value has the pad byte at its padded end.
+    #[error("element {0} has the pad byte at its end")]
+    PadEnd(u8),
+    /// Memory ran out.
+    #[error("there is no memory")]
+    Memory,
+}
+
+/// What is wrong with the bytes of a message.
+#[derive(Clone, Copy, Debug, PartialEq, Eq, Error)]
+pub enum UnpackCause {
+    /// The bytes end inside the piece.
+    #[error("the bytes end too early")]
+    Short,
+    /// The message type is not of four digits.
+    #[error("the message type isn't of digits")]
+    BadMti,
+    /// The version of the message type is not the table's.
+    #[error("the message type is of another version")]
+    WrongVersion,
+    /// The bitmap is not of hexadecimal digits.
+    #[error("the bitmap isn't of hexadecimal digits")]
+    BadHex,
+    /// Bit 65 tells of a third bitmap.
+    #[error("a third bitmap")]
+    ThirdBitmap,
+    /// The bitmap has this element, for which the table has no row: the lowest one.
+    #[error("element {0} has no row")]
+    UnknownElement(u8),
+    /// The element's length or body is refused by its row.
+    #[error("{0}")]
+    Field(FieldFault),
+    /// Memory ran out.
+    #[error("there is no memory")]
+    Memory,
+}
+
+/// Where bytes stop being a message.
+#[derive(Clone, Copy, Debug, PartialEq, Eq, Error)]
+#[error("element {element} at {at}: {cause}")]
+pub struct UnpackFault {
+    /// The offset of the first byte of the faulty or unfinished piece; 0 where memory ran out.
+    pub at: usize,
+    /// Whose piece it is: 0 is the message type or the primary bitmap, 1 the secondary bitmap, any other number
+    /// the element. 0 where memory ran out.
+    pub element: u8,
+    /// What is wrong.
+    pub cause: UnpackCause,
+}
+
+impl From<AllocError> for SetFault {
+    ghost from_gives = { λ _ e. e ≡ set.Memory };
+
+    fn from(_e: AllocError) -> SetFault {
+        SetFault::Memory
+    }
+}
+
+impl From<AllocError> for PackFault {
+    ghost from_gives = { λ _ e. e ≡ pack.Memory };
+
+    fn from(_e: AllocError) -> PackFault {
+        PackFault::Memory
+    }
+}
+
+impl UnpackFault {
+    /// Memory ran out.
+    pub(crate) fn memory() -> UnpackFault
+        ensures { result ≡ out_of_memory }
+    {
+        UnpackFault {
+            at: 0,
+            element: 0,
+            cause: UnpackCause::Memory,
+        }
+    }
+
+    /// The piece that begins at `at` is not a good one.
+    pub(crate) fn stop(element: u8, at: usize, cause: UnpackCause) -> UnpackFault
+        ensures { result ≡ record { at = at; element = element; cause = cause } }
+    {
+        UnpackFault { at, element, cause }
+    }
+}
+
+impl From<AllocError> for UnpackFault {
+    ghost from_gives = { λ _ e. e ≡ out_of_memory };
+
+    fn from(_e: AllocError) -> UnpackFault {
+        UnpackFault::memory()
+    }
+}

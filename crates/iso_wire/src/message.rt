@@ -1,0 +1,154 @@
+//! Messages.
+
+ghost use Rattle.std.specs.Prelude.{◌≡◌, ◌<◌, ◌≤◌, ◌^◌, ◌++◌, ◌∷◌, [], ℕ, All, true, false, ◌↔◌, OnOk, OnErr, IsTrue, IsOkUnless, MatchOption, Some, None};
+ghost use Rattle.iso_parts.specs.Bits.{contains};
+ghost use Rattle.iso_parts.specs.Mti.{number};
+ghost use Rattle.iso_wire.specs.Contents.{Contents};
+ghost use Rattle.iso_wire.specs.Decimal.{decimal};
+ghost use Rattle.iso_wire.specs.Elements.{value_in, has, is_number, IsBelow, put, without};
+
+use crate::decimal::write_decimal;
+use crate::elements::{Elements, numbers_of};
+use crate::fault::SetFault;
+use iso_parts::{Bitmap, Mti};
+use std::alloc::{AllocError, Global};
+use std::marker::Model;
+
+/// A message: its type, and its elements by their numbers.
+#[derive(Debug, Drop)]
+pub struct Message {
+    mti: Mti,
+    elements: Elements,
+}
+
+impl Model for Message {
+    ghost use Rattle.std.specs.Prelude.{◌≡◌};
+    ghost use Rattle.iso_wire.specs.Contents.{Contents};
+
+    ghost Value = { Contents };
+
+    ghost use Rattle.iso_parts.specs.Mti.{number};
+    ghost use Rattle.iso_wire.specs.Elements.{IsAscending};
+    ghost use Rattle.iso_wire.specs.Entries.{views, IsWhole};
+
+    ghost view = { λ m. record { mti = number m.mti; elements = views m.elements } };
+
+    ghost invariant = { λ m. IsWhole m.elements × IsAscending 2 (views m.elements) };
+}
+
+/// Whether an element may have the number: 2 to 128, but for 65.
+fn is_element(n: u8) -> bool
+    ensures { result ≡ is_number n }
+{
+    2 <= n && n <= 128 && n != 65
+}
+
+impl Message {
+    ghost use Rattle.iso_wire.specs.Elements.{IsAscending};
+    ghost use Rattle.iso_wire.specs.Entries.{views, IsWhole};
+
+    /// A message of that type with no elements. Takes no memory.
+    pub fn new(alloc: Global, mti: Mti) -> Message
+        ensures { result ≡ record { mti = number mti; elements = [] } }
+    {
+        Message {
+            mti,
+            elements: Elements::new(alloc),
+        }
+    }
+
+    /// The message of that type with those elements.
+    pub fn from_elements(mti: Mti, elements: Elements) -> Message
+        requires whole { IsWhole elements }
+        requires ascending { IsAscending 2 (views elements) }
+        ensures { result ≡ record { mti = number mti; elements = views elements } }
+    {
+        Message { mti, elements }
+    }
+
+    /// The message's type. Takes no memory.
+    pub fn mti(&self) -> Mti
+        ensures { number result ≡ self.now.mti }
+    {
+        self.mti
+    }
+
+    /// The value of an element, if the message has it. Takes no memory.
+    pub fn get(&self, n: u8) -> Option<&[u8]>
+        ensures { MatchOption result (value_in self.now.elements n ≡ None)
+            (λ v. value_in self.now.elements n ≡ Some v.now) }
+    {
+        self.elements.get(n)
+    }
+
+    /// Puts a value at its number, in place of the one that was there.
+    pub fn set(&mut self, n: u8, value: &[u8]) -> Result<(), SetFault>
+        ensures ok { OnOk result (self.new ≡ record self.old { elements = put n value.now self.old.elements }) }
+        ensures bad_number { is_number n ≡ false → result ≡ Err (SetFault.BadNumber n) }
+        ensures memory { is_number n ≡ true → IsOkUnless result SetFault.Memory }
+        ensures unchanged { OnErr result (self.new ≡ self.old) }
+    {
+        if !is_element(n) {
+            return Err(SetFault::BadNumber(n));
+        }
+        self.elements.put(n, value)?;
+        Ok(())
+    }
+
+    /// Sets a number in decimal, with leading zeros up to that many digits.
+    pub fn set_number(&mut self, n: u8, v: u64, digits: u8) -> Result<(), SetFault>
+        requires some { 1 ≤ digits }
+        requires few { digits ≤ 19 }
+        requires fits { v < 10 ^ digits }
+        ensures ok { OnOk result (self.new ≡ record self.old { elements = put n (decimal digits v) self.old.elements }) }
+        ensures bad_number { is_number n ≡ false → result ≡ Err (SetFault.BadNumber n) }
+        ensures memory { is_number n ≡ true → IsOkUnless result SetFault.Memory }
+        ensures unchanged { OnErr result (self.new ≡ self.old) }
+    {
+        let mut room = [0; 19];
+        let text = &mut room[..digits as usize];
+        write_decimal(text, v);
+        self.set(n, text)
+    }
+
+    /// Adds an element behind the others.
+    pub fn append(&mut self, n: u8, value: &[u8]) -> Result<(), AllocError>
+        requires number { is_number n ≡ true }
+        requires behind { IsBelow n self.old.elements }
+        ensures ok { OnOk result (self.new ≡ record self.old { elements = self.old.elements ++ (n, value.now) ∷ [] }) }
+        ensures unchanged { OnErr result (self.new ≡ self.old) }
+    {
+        self.elements.append(n, value)
+    }
+
+    /// Removes an element, and tells whether it was there. Takes no memory.
+    pub fn unset(&mut self, n: u8) -> bool
+        ensures found { result ≡ has self.old.elements n }
+        ensures left { self.new ≡ record self.old { elements = without n self.old.elements } }
+    {
+        self.elements.remove(n)
+    }
+
+    /// The numbers of the elements. Takes no memory.
+    pub fn elements(&self) -> Bitmap
+        ensures { (k : ℕ) → contains result k ≡ has self.now.elements k }
+    {
+        numbers_of(&self.elements.index)
+    }
+
+    /// Whether the other message has the same type and the same elements. Takes no memory.
+    pub fn equals(&self, other: &Message) -> bool
+        ensures { IsTrue result ↔ (self.now ≡ other.now) }
+    {
+        self.mti.number() == other.mti.number() && self.elements.equals(&other.elements)
+    }
+
+    /// The elements, as they are kept.
+    pub(crate) fn parts(&self) -> &Elements
+        ensures elements { views result.now ≡ self.now.elements }
+        ensures whole { IsWhole result.now }
+        ensures ascending { IsAscending 2 self.now.elements }
+    {
+        &self.elements
+    }
+}

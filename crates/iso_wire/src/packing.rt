@@ -1,0 +1,154 @@
+//! Writing a message.
+
+ghost use Rattle.std.specs.Prelude.{◌≡◌, ◌≢◌, ℕ, ◌++◌, ◌<◌, List, [], length, slice_index, OnOk, IfOk, IfErr, None, Some};
+ghost use Rattle.std.specs.List.{flat_map};
+ghost use Rattle.iso_wire.specs.declared.fault.PackFault.TheVariants as pack;
+ghost use Rattle.iso_wire.specs.Entries.{bytes_in, elements_of, views, IsWhole};
+ghost use Rattle.iso_table.specs.Layout.{row_at, AreGood};
+ghost use Rattle.iso_wire.specs.Reading.{message_at, whole};
+ghost use Rattle.iso_wire.specs.Refusal.{as_pack, refused_by, refused, message_refusal};
+ghost use Rattle.iso_wire.specs.Spelling.{mti_bytes, PartAs, Parts, plain_of, Spelling, PlainSpelling};
+
+use crate::elements::{Elements, Entry};
+use crate::fault::PackFault;
+use crate::message::Message;
+use iso_table::Table;
+use iso_parts::{Digits, FieldFault, encode_field};
+use std::alloc::{AllocError, Global};
+
+/// The most bytes that a message type and two bitmaps take.
+const LONGEST_HEAD: usize = 36;
+
+/// The most bytes that a length takes.
+const LONGEST_PREFIX: usize = 3;
+
+/// The fault of element `n` whose value is refused.
+fn pack_fault(n: u8, fault: FieldFault) -> PackFault
+    ensures { result ≡ as_pack n fault }
+{
+    match fault {
+        FieldFault::WrongLength => PackFault::WrongLength(n),
+        FieldFault::NotInClass => PackFault::NotInClass(n),
+        FieldFault::PadEnd => PackFault::PadEnd(n),
+        _ => PackFault::Memory,
+    }
+}
+
+/// Appends the plain part of a value as element `n`.
+fn append_part(table: &Table, n: u8, value: &[u8], out: &mut Vec<u8>) -> Result<(), PackFault>
+    ensures written { OnOk result (out.new.items ≡ out.old.items ++ plain_of table.now.rows (n, value.now)) }
+    ensures spelled { OnOk result (PartAs table.now.rows n value.now (plain_of table.now.rows (n, value.now))) }
+    ensures fits { OnOk result (refused_by (row_at table.now.rows n) n value.now ≡ None) }
+    ensures fault { IfErr result (λ e. e ≢ pack.Memory → refused_by (row_at table.now.rows n) n value.now ≡ Some e) }
+{
+    let Some(row) = table.row(n) else {
+        return Err(PackFault::NoRow(n));
+    };
+    match encode_field(row, value, out) {
+        Ok(()) => Ok(()),
+        Err(fault) => Err(pack_fault(n, fault)),
+    }
+}
+
+/// Appends the plain parts of the elements that an index finds in a buffer.
+fn append_elements(
+    table: &Table,
+    index: &[Entry],
+    values: &[u8],
+    out: &mut Vec<u8>,
+) -> Result<(), PackFault>
+    requires { bytes_in index.now ≡ length values.now }
+    ensures written { OnOk result (out.new.items ≡ out.old.items ++ flat_map (plain_of table.now.rows) (elements_of index.now values.now)) }
+    ensures spelled { OnOk result (Parts table.now.rows (elements_of index.now values.now) (flat_map (plain_of table.now.rows) (elements_of index.now values.now))) }
+    ensures fits { OnOk result (refused table.now.rows (elements_of index.now values.now) ≡ None) }
+    ensures fault { IfErr result (λ e. e ≢ pack.Memory → refused table.now.rows (elements_of index.now values.now) ≡ Some e) }
+{
+    let mut rest = values;
+    for entry in index {
+        let (value, behind) = rest.split_at(entry.len);
+        append_part(table, entry.number, value, out)?;
+        rest = behind;
+    }
+    Ok(())
+}
+
+/// Appends the plain parts of the elements.
+fn append_parts(table: &Table, elements: &Elements, out: &mut Vec<u8>) -> Result<(), PackFault>
+    requires { IsWhole elements.now }
+    ensures written { OnOk result (out.new.items ≡ out.old.items ++ flat_map (plain_of table.now.rows) (views elements.now)) }
+    ensures spelled { OnOk result (Parts table.now.rows (views elements.now) (flat_map (plain_of table.now.rows) (views elements.now))) }
+    ensures fits { OnOk result (refused table.now.rows (views elements.now) ≡ None) }
+    ensures fault { IfErr result (λ e. e ≢ pack.Memory → refused table.now.rows (views elements.now) ≡ Some e) }
+    // Each item is a byte.
+    ensures bytes { (i : ℕ) → slice_index out.new.items i < 256 }
+{
+    append_elements(table, &elements.index, &elements.values, out)
+}
+
+/// Appends the four digits of a message type.
+fn append_mti(digits: Digits, n: u16, out: &mut Vec<u8>) -> Result<(), AllocError>
+    requires { n < 10000 }
+    ensures { OnOk result (out.new.items ≡ out.old.items ++ mti_bytes digits n) }
+{
+    let (a, b, c, d) = (
+        (n / 1000) as u8,
+        (n / 100 % 10) as u8,
+        (n / 10 % 10) as u8,
+        (n % 10) as u8,
+    );
+    match digits {
+        Digits::Ascii => out.extend_from_slice(&[b'0' + a, b'0' + b, b'0' + c, b'0' + d]),
+        Digits::Bcd => out.extend_from_slice(&[16 * a + b, 16 * c + d]),
+    }
+}
+
+/// No bytes, and room for the plain spelling of the elements.
+fn room_for(alloc: Global, elements: &Elements) -> Result<Vec<u8>, AllocError>
+    ensures { IfOk result (λ out. out.items ≡ []) }
+{
+    let prefixes = elements.index.len().saturating_mul(LONGEST_PREFIX);
+    let bodies = elements.values.len().saturating_mul(2);
+    Vec::with_capacity(
+        alloc,
+        LONGEST_HEAD.saturating_add(prefixes).saturating_add(bodies),
+    )
+}
+
+/// The plain spelling of a message.
+fn plain_spelling(alloc: Global, table: &Table, message: &Message) -> Result<Vec<u8>, PackFault>
+    ensures packed { IfOk result (λ out. PlainSpelling table.now message.now out.items) }
+    ensures accepted { OnOk result (message_refusal table.now message.now ≡ None) }
+    ensures fault { IfErr result (λ e. e ≢ pack.Memory → message_refusal table.now message.now ≡ Some e) }
+    // Each item is a byte.
+    ensures bytes { IfOk result (λ out. (i : ℕ) → slice_index out.items i < 256) }
+    ensures good { AreGood table.now.rows }
+{
+    let mti = message.mti();
+    if mti.version != table.version() {
+        return Err(PackFault::WrongVersion);
+    }
+    let elements = message.parts();
+    let mut out = room_for(alloc, elements)?;
+    append_mti(table.mti(), mti.number(), &mut out)?;
+    message.elements().append(table.bitmap(), &mut out)?;
+    append_parts(table, elements, &mut out)?;
+    Ok(out)
+}
+
+/// Writes a message: its type, its bitmaps, and its elements in ascending number. A secondary bitmap is written
+/// only where the message has an element above 64, filler nibbles are 0, and hexadecimal digits are in upper case.
+///
+/// The version is looked at first, then the elements in ascending number.
+pub fn pack(alloc: Global, table: &Table, message: &Message) -> Result<Vec<u8>, PackFault>
+    // What is written is the plain spelling of the message.
+    ensures packed { IfOk result (λ out. PlainSpelling table.now message.now out.items) }
+    ensures accepted { OnOk result (message_refusal table.now message.now ≡ None) }
+    // A message that has a spelling is written, unless memory runs out.
+    ensures only { (b : List ℕ) → Spelling table.now message.now b → IfErr result (λ e. e ≡ pack.Memory) }
+    // Which fault it is, unless memory ran out.
+    ensures fault { IfErr result (λ e. e ≢ pack.Memory → message_refusal table.now message.now ≡ Some e) }
+    // Whatever bytes follow it, what is written reads as the message, and no byte more.
+    ensures again { IfOk result (λ out. (rest : List ℕ) → ((i : ℕ) → slice_index rest i < 256) → message_at table.now (out.items ++ rest) ≡ whole message.now (length out.items)) }
+{
+    plain_spelling(alloc, table, message)
+}

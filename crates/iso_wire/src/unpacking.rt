@@ -1,0 +1,216 @@
+//! Reading a message.
+
+ghost use Rattle.std.specs.Prelude.{◌≡◌, ◌≢◌, ℕ, ◌+◌, ◌≤◌, ◌<◌, length, List, take, drop, ◌++◌, option_map, slice_index, IfOk, IfErr, OnOk};
+ghost use Rattle.iso_parts.specs.Mti.{number};
+ghost use Rattle.iso_wire.specs.declared.fault.UnpackCause.TheVariants.{Memory};
+ghost use Rattle.iso_wire.specs.Contents.{Contents};
+ghost use Rattle.iso_wire.specs.Entries.{views, IsWhole};
+ghost use Rattle.iso_table.specs.Layout.{AreGood};
+ghost use Rattle.iso_wire.specs.Reading.{Gives, AppendsPart, AppendsElement, place_of, value_at, elements_at, four_digits, mti_size, mti_of, type_at, message_at, Unpacks, whole};
+ghost use Rattle.iso_wire.specs.Spelling.{Spelling};
+ghost use Rattle.iso_wire.specs.Walk.{left};
+
+use crate::bitmaps::words_of;
+use crate::elements::Elements;
+use crate::fault::{UnpackCause, UnpackFault};
+use crate::message::Message;
+use crate::numbers::Numbers;
+use iso_table::Table;
+use iso_parts::{Digits, FieldFault, FieldSpec, Mti, append_value};
+use std::alloc::Global;
+
+/// The most characters that a row allows a value.
+const LONGEST_VALUE: usize = 999;
+
+/// The type of four digits.
+fn four_digits(a: u8, b: u8, c: u8, d: u8) -> Option<Mti>
+    ensures { option_map number result ≡ four_digits a b c d }
+{
+    match (a, b, c, d) {
+        (b'0'..=b'9', b'0'..=b'9', b'0'..=b'9', b'0'..=b'9') => Some(Mti {
+            version: a - b'0',
+            class: b - b'0',
+            function: c - b'0',
+            origin: d - b'0',
+        }),
+        _ => None,
+    }
+}
+
+/// How many bytes a message type takes.
+fn mti_size(digits: Digits) -> usize
+    ensures { result ≡ mti_size digits }
+{
+    match digits {
+        Digits::Ascii => 4,
+        Digits::Bcd => 2,
+    }
+}
+
+/// The type that the bytes of one tell.
+fn mti_of(digits: Digits, bytes: &[u8]) -> Option<Mti>
+    requires { length bytes.now ≡ mti_size digits }
+    ensures { option_map number result ≡ mti_of digits bytes.now }
+{
+    match (digits, bytes) {
+        (Digits::Ascii, [a, b, c, d]) => four_digits(*a, *b, *c, *d),
+        (Digits::Bcd, [x, y]) => four_digits(
+            b'0' + *x / 16,
+            b'0' + *x % 16,
+            b'0' + *y / 16,
+            b'0' + *y % 16,
+        ),
+        _ => unreachable!(),
+    }
+}
+
+/// The message type that the bytes begin with.
+fn type_of(table: &Table, bytes: &[u8]) -> Result<Mti, UnpackFault>
+    ensures exact { Gives number result (type_at table.now bytes.now) }
+    ensures room { OnOk result (mti_size table.now.mti ≤ length bytes.now) }
+    ensures good { AreGood table.now.rows }
+{
+    let version = table.version();
+    let size = mti_size(table.mti());
+    if bytes.len() < size {
+        return Err(UnpackFault::stop(0, 0, UnpackCause::Short));
+    }
+    let (front, _) = bytes.split_at(size);
+    match mti_of(table.mti(), front) {
+        None => Err(UnpackFault::stop(0, 0, UnpackCause::BadMti)),
+        Some(mti) => {
+            if mti.version == version {
+                Ok(mti)
+            } else {
+                Err(UnpackFault::stop(0, 0, UnpackCause::WrongVersion))
+            }
+        }
+    }
+}
+
+/// Where a faulty part stops being one, behind the part's start: at its length, or behind it.
+fn place_of(fault: FieldFault, front: usize) -> usize
+    ensures { result ≡ place_of fault front }
+{
+    match fault {
+        FieldFault::BadLengthDigits | FieldFault::LengthOver => 0,
+        _ => front,
+    }
+}
+
+/// Appends the value of element `n`, whose part begins at `at`, and gives how many bytes the part takes.
+fn read_value(
+    table: &Table,
+    n: u8,
+    at: usize,
+    bytes: &[u8],
+    values: &mut Vec<u8>,
+) -> Result<usize, UnpackFault>
+    requires { at ≤ length bytes.now }
+    ensures exact { AppendsPart values.old.items values.new.items result (value_at table.now.rows n at (drop at bytes.now)) }
+    ensures room { IfOk result (λ used. at + used ≤ length bytes.now) }
+{
+    let Some(row) = table.row(n) else {
+        return Err(UnpackFault::stop(n, at, UnpackCause::UnknownElement(n)));
+    };
+    let front = row.length.prefix_size();
+    let (_, rest) = bytes.split_at(at);
+    match append_value(row, rest, values) {
+        Ok(Some(used)) => Ok(used),
+        Ok(None) => {
+            let place = if rest.len() < front { at } else { at + front };
+            Err(UnpackFault::stop(n, place, UnpackCause::Short))
+        }
+        Err(FieldFault::Memory) => Err(UnpackFault::memory()),
+        Err(fault) => {
+            let place = at + place_of(fault, front);
+            Err(UnpackFault::stop(n, place, UnpackCause::Field(fault)))
+        }
+    }
+}
+
+/// Appends element `n`, whose part begins at `at`, and gives how many bytes the part takes.
+fn append_element(
+    table: &Table,
+    n: u8,
+    at: usize,
+    bytes: &[u8],
+    elements: &mut Elements,
+) -> Result<usize, UnpackFault>
+    requires within { at ≤ length bytes.now }
+    requires whole { IsWhole elements.old }
+    ensures exact { AppendsElement (views elements.old) (views elements.new) n result (value_at table.now.rows n at (drop at bytes.now)) }
+    ensures room { IfOk result (λ used. at + used ≤ length bytes.now) }
+    ensures whole { OnOk result (IsWhole elements.new) }
+{
+    let from = elements.values.len();
+    let used = read_value(table, n, at, bytes, &mut elements.values)?;
+    elements.close(n, from)?;
+    Ok(used)
+}
+
+/// The elements with these numbers, whose parts begin at `start`, and the offset behind them. The room for them
+/// is taken once: a part has at most two characters a byte.
+fn elements_of(
+    alloc: Global,
+    table: &Table,
+    numbers: Numbers,
+    start: usize,
+    bytes: &[u8],
+) -> Result<(Elements, usize), UnpackFault>
+    requires { start ≤ length bytes.now }
+    ensures exact { Gives (λ x. (views x.0, x.1)) result (elements_at table.now.rows (left numbers) start (drop start bytes.now)) }
+    ensures whole { IfOk result (λ x. IsWhole x.0) }
+{
+    let count = numbers.count();
+    let room = count
+        .saturating_mul(LONGEST_VALUE)
+        .min((bytes.len() - start).saturating_mul(2));
+    let mut elements = Elements::with_room(alloc, count, room)?;
+    let mut rest = numbers;
+    let mut at = start;
+    while let Some(n) = rest.next() {
+        let used = append_element(table, n, at, bytes, &mut elements)?;
+        at += used;
+    }
+    Ok((elements, at))
+}
+
+/// The message that the bytes begin with, and how many bytes it takes.
+#[tactic(auto, unfolding(crate::specs::Reading::message_at))]
+fn message_of(alloc: Global, table: &Table, bytes: &[u8]) -> Result<(Message, usize), UnpackFault>
+    ensures exact { Unpacks result (message_at table.now bytes.now) }
+    ensures good { AreGood table.now.rows }
+{
+    let mti = type_of(table, bytes)?;
+    let size = mti_size(table.mti());
+    let (_, rest) = bytes.split_at(size);
+    let (first, second, used) = words_of(table, size, rest)?;
+    let numbers = Numbers::of(first, second);
+    let (elements, end) = elements_of(alloc, table, numbers, size + used, bytes)?;
+    Ok((Message::from_elements(mti, elements), end))
+}
+
+/// Reads the message that the bytes begin with, and says how many bytes it takes; bytes behind it are left.
+///
+/// The bytes are read piece by piece: the message type, the primary bitmap, the secondary one, and for each element
+/// its length and its body. Each piece is judged when it is whole, and the first one that is not good or not whole
+/// is the fault.
+pub fn unpack(
+    alloc: Global,
+    table: &Table,
+    bytes: &[u8],
+) -> Result<(Message, usize), UnpackFault>
+    // What is read is spelled by the first bytes.
+    ensures found { IfOk result (λ x. (x.1 ≤ length bytes.now) × Spelling table.now x.0 (take x.1 bytes.now)) }
+    // What the first bytes spell is read, unless memory runs out.
+    ensures only { (m : Contents) (front rest : List ℕ) → Spelling table.now m front → bytes.now ≡ front ++ rest → Unpacks result (whole m (length front)) }
+    // Which fault it is, and where, unless memory ran out.
+    ensures exact { Unpacks result (message_at table.now bytes.now) }
+    // A fault comes only where the bytes begin with no spelling.
+    ensures refused { IfErr result (λ e. e.cause ≢ Memory → (m : Contents) (front rest : List ℕ) → bytes.now ≡ front ++ rest → Spelling table.now m front → ⊥) }
+    // No spelling begins with another, and no bytes spell two messages.
+    ensures one { (m other : Contents) (a b x y : List ℕ) → ((i : ℕ) → slice_index (a ++ x) i < 256) → Spelling table.now m a → Spelling table.now other b → a ++ x ≡ b ++ y → (m ≡ other) × (a ≡ b) }
+{
+    message_of(alloc, table, bytes)
+}
