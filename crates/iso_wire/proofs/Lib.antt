@@ -12,3 +12,4 @@ pub mod WalkLaws
 pub mod Loop
 pub mod Appends
 pub mod Packs
+pub mod Endings

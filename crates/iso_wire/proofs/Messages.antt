@@ -1,10 +1,10 @@
 -- What is read is a spelling of the message, and what is spelled is read.
-use Rattle.std.proofs.Common.{◌≡◌, ◌≢◌, ℕ, ◌+◌, ◌/◌, ◌≤◌, ◌<◌, Bool, true, false, cond, eqb, ltb, List, [], ◌∷◌, ◌++◌, length, take, drop, get_or, Option, Some, None, Result, Ok, Err, refl, sym, ap, subst, ◌∙◌, append_assoc, arith, inl, inr}
+use Rattle.std.proofs.Common.{◌≡◌, ◌≢◌, ℕ, zero, suc, ◌+◌, ◌/◌, ◌≤◌, ◌<◌, Bool, true, false, cond, eqb, ltb, List, [], ◌∷◌, ◌++◌, length, take, drop, get_or, Option, Some, None, Result, Ok, Err, refl, sym, ap, subst, ◌∙◌, append_assoc, arith, inl, inr}
 use Rattle.std.specs.Prelude.{IfOk, IfErr}
 use Rattle.std.proofs.lemmas.Bool.{cases_eq, eqb-true, ltb-false, le-ltb, cond-true, cond-false}
 use Rattle.std.proofs.lemmas.Bool.Decides.{nat_tests}
 use Rattle.std.proofs.lemmas.List.{take_at, drop_at, drop-drop, length-append, length-drop}
-use Rattle.iso_parts.specs.Bits.{in_words, first_set, second_set, Bitmaps}
+use Rattle.iso_parts.specs.Bits.{in_words, first_set, Bitmaps}
 use Rattle.iso_parts.specs.declared.bitmap.BitmapCoding.{BitmapCoding}
 use Rattle.iso_parts.proofs.BitmapLaws.{bytes_take, bytes_drop, bits_agree}
 use Rattle.iso_wire.specs.declared.fault.UnpackFault.{UnpackFault}
@@ -19,11 +19,18 @@ use Rattle.iso_wire.proofs.Orders.{Values}
 use Rattle.iso_wire.proofs.ElementLaws.{elements_again, elements_taken, has_row, take_sum, bind_ok, ok_is}
 use Rattle.iso_wire.proofs.Sets.{numbers_from_set, made_from_set, has_after}
 use Rattle.iso_wire.proofs.Types.{length-mti_bytes, mti_again, mti_takes}
-use Rattle.iso_wire.proofs.WordLaws.{words_again, words_taken}
+use Rattle.iso_wire.proofs.WordLaws.{short_or, words_again, words_taken}
 
 no_65 : (low : ℕ) (es : Values) → IsAscending low es → has es 65 ≡ false
 no_65 low [] asc = refl
 no_65 low (e ∷ es) asc = has_after e es 65 asc.2 ∙ no_65 (e.0 + 1) es asc.3
+
+-- ---- bytes
+
+pub bytes_append : (a b : List ℕ) → ((i : ℕ) → get_or a i 0 < 256) → ((i : ℕ) → get_or b i 0 < 256) → (i : ℕ) → get_or (a ++ b) i 0 < 256
+bytes_append [] b fits others i = others i
+bytes_append (x ∷ a) b fits others zero = fits 0
+bytes_append (x ∷ a) b fits others (suc i) = bytes_append a b (λ k. fits (suc k)) others i
 
 -- ---- what is spelled is read
 
@@ -69,10 +76,6 @@ spelling_again t m p rest good fits s =
 
 -- ---- what is read is spelled so
 
-short_or : (c : Bool) (r : Result ℕ UnpackFault) (n : ℕ) → cond c (halt 0 0 Short) r ≡ Ok n → (c ≡ false) × (r ≡ Ok n)
-short_or true r n e = absurd cc
-short_or false r n e = (refl, e)
-
 version_or : (version : ℕ) (o : Option ℕ) (n : ℕ) → of_version version o ≡ Ok n → (o ≡ Some n) × (n / 1000 ≡ version)
 version_or version None n e = absurd cc
 version_or version (Some k) n e = version_by (eqb (k / 1000) version) version k n refl e
@@ -117,7 +120,7 @@ spelling_taken t b m n good fits e =
     let three = bind_ok (elements_at t.rows (numbers_in words.0 words.1) (size + words.2) (drop (size + words.2) b)) (λ read. whole (record { mti = mti; elements = read.0 }) read.1) (m, n) two.2 in
     let es : Values = three.0.0 in
     let made = ok_is (record { mti = mti; elements = es }, three.0.1) (m, n) three.2 in
-    let typed = short_or (ltb (length b) size) (of_version t.version (mti_of t.mti (take size b))) mti one.1 in
+    let typed = short_or (ltb (length b) size) 0 0 (of_version t.version (mti_of t.mti (take size b))) mti one.1 in
     let front_room : size ≤ length b = ltb-false (length b) size typed.0 in
     let version = version_or t.version (mti_of t.mti (take size b)) mti typed.1 in
     let type = mti_takes t.mti mti (take size b) (bytes_take size b fits) version.0 in

@@ -1,12 +1,12 @@
 -- What is written is the plain spelling, and a message that has a spelling is not refused.
-use Rattle.std.proofs.Common.{◌≡◌, ◌≢◌, ℕ, zero, suc, ◌+◌, ◌/◌, ◌≤◌, ◌<◌, Bool, true, false, cond, eqb, List, [], ◌∷◌, ◌++◌, length, get_or, take, drop, drop-cons, Option, Some, None, Result, Ok, Err, refl, sym, ap, subst, ◌∙◌, append_assoc, arith}
+use Rattle.std.proofs.Common.{◌≡◌, ◌≢◌, ℕ, suc, ◌/◌, ◌≤◌, ◌<◌, Bool, true, eqb, List, [], ◌∷◌, ◌++◌, length, get_or, take, drop, drop-cons, Option, Some, None, Result, Ok, Err, refl, sym, ap, ◌∙◌, append_assoc, arith}
 use Rattle.std.specs.Prelude.{IfOk, IfErr}
 use Rattle.std.specs.List.{flat_map}
 use Rattle.std.proofs.lemmas.Bool.Decides.{nat_tests}
 use Rattle.iso_parts.specs.declared.bitmap.BitmapCoding.{BitmapCoding}
 use Rattle.iso_parts.specs.declared.bitmap.BitmapCoding.TheVariants.{Raw}
 use Rattle.iso_parts.specs.declared.spec.FieldSpec.{FieldSpec}
-use Rattle.iso_parts.specs.Bits.{HasAbove, PlainBitmaps}
+use Rattle.iso_parts.specs.Bits.{PlainBitmaps}
 use Rattle.iso_parts.specs.Row.{refusal, Fits}
 use Rattle.iso_wire.specs.declared.elements.Entry.{Entry}
 use Rattle.iso_wire.specs.declared.fault.PackFault.{PackFault}
@@ -18,7 +18,7 @@ use Rattle.iso_table.specs.Layout.{Layout, row_at, AreGood}
 use Rattle.iso_wire.specs.Reading.{message_at, whole}
 use Rattle.iso_wire.specs.Refusal.{refused_field, refused_by, or_else, refused, message_refusal}
 use Rattle.iso_wire.specs.Spelling.{mti_bytes, PartAs, Parts, plain_of, Spelling, PlainSpelling}
-use Rattle.iso_wire.proofs.Messages.{maps_agree, spelling_again}
+use Rattle.iso_wire.proofs.Messages.{bytes_append, maps_agree, spelling_again}
 use Rattle.iso_wire.proofs.Orders.{Values}
 
 -- ---- faults
@@ -93,11 +93,6 @@ plain_spelling_lem t m set maps out small version ascending agrees plain parts i
     }
 
 -- ---- what is written is read again
-
-bytes_append : (a b : List ℕ) → ((i : ℕ) → get_or a i 0 < 256) → ((i : ℕ) → get_or b i 0 < 256) → (i : ℕ) → get_or (a ++ b) i 0 < 256
-bytes_append [] b fits others i = others i
-bytes_append (x ∷ a) b fits others zero = fits 0
-bytes_append (x ∷ a) b fits others (suc i) = bytes_append a b (λ k. fits (suc k)) others i
 
 pub read_again : (t : Layout) (m : Contents) (out rest : List ℕ) → AreGood t.rows → ((i : ℕ) → get_or out i 0 < 256) → ((i : ℕ) → get_or rest i 0 < 256) → PlainSpelling t m out → message_at t (out ++ rest) ≡ whole m (length out)
 read_again t m out rest good fits others plain = spelling_again t m out rest good (bytes_append out rest fits others) plain.spelling

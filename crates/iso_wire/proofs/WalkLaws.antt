@@ -1,9 +1,8 @@
 -- The first bit of a word is the lowest number of its set, and the other bits are the others.
-use Rattle.std.proofs.Common.{◌≡◌, ℕ, zero, suc, ◌+◌, ◌-◌, ◌*◌, ◌/◌, ◌%◌, ◌^◌, ◌<◌, ◌≤◌, Bool, true, false, eqb, List, [], ◌∷◌, refl, sym, ap, subst, ◌∙◌, arith, inl, inr}
+use Rattle.std.proofs.Common.{◌≡◌, ℕ, suc, ◌+◌, ◌-◌, ◌*◌, ◌^◌, ◌<◌, ◌≤◌, [], ◌∷◌, refl, sym, ap, subst, ◌∙◌, arith, inl, inr}
 use Rattle.std.specs.Int.{bit_at}
 use Rattle.std.proofs.lemmas.Bool.{cases_lt}
 use Rattle.std.proofs.lemmas.Bool.Decides.{nat_tests}
-use Rattle.std.proofs.lemmas.Nat.{pow_pos}
 use Rattle.std.proofs.Math.Nat.{pow-suc}
 use Rattle.std.proofs.lemmas.Nat.Bits.{bit_at-zero, bit_at_above, bit_at_cat_low, bit_at_cat_high}
 use Rattle.iso_parts.specs.Bits.{in_words}
@@ -37,10 +36,10 @@ pub numbers_low : (w v : ℕ) → 2 ^ 63 ≤ w → w < 2 ^ 64 → numbers_in (w 
 numbers_low w v low high =
     let b = first_bit w 63 low high in
     numbers_agree (in_words (w - 2 ^ 63) v) (in_words w v) 127 2 (λ k from to.
-      elim (cases_lt 64 k) [
-        | inl above ↦ grind (arith, nat_tests)
-        | inr below ↦ let h = b.same (64 - k) (omega arith) in grind (arith, nat_tests)
-      ])
+    elim (cases_lt 64 k) [
+      | inl above ↦ grind (arith, nat_tests)
+      | inr below ↦ let h = b.same (64 - k) (omega arith) in grind (arith, nat_tests)
+    ])
 
 -- ---- the next number
 
@@ -101,7 +100,7 @@ next_second w rest before (i, place, low, high, is) =
 
 pub none_left : numbers_in 0 0 ≡ []
 none_left = numbers_none (in_words 0 0) 127 2 (λ k low high.
-  elim (cases_lt 64 k) [
-    | inl large ↦ let z = bit_at-zero (128 - k) in grind (arith, nat_tests)
-    | inr small ↦ let z = bit_at-zero (64 - k) in grind (arith, nat_tests)
-  ])
+    elim (cases_lt 64 k) [
+      | inl large ↦ let z = bit_at-zero (128 - k) in grind (arith, nat_tests)
+      | inr small ↦ let z = bit_at-zero (64 - k) in grind (arith, nat_tests)
+    ])

@@ -1,5 +1,5 @@
 -- Bitmaps that are read as words are those that the bytes spell, and those that are spelled are read.
-use Rattle.std.proofs.Common.{◌≡◌, ℕ, ◌+◌, ◌-◌, ◌*◌, ◌/◌, ◌%◌, ◌^◌, ◌<◌, ◌≤◌, Bool, true, false, cond, eqb, ltb, is_some, List, ◌++◌, length, take, drop, get_or, Option, Some, None, Result, Ok, Err, refl, sym, ap, subst, ◌∙◌, append_assoc, arith, inl, inr}
+use Rattle.std.proofs.Common.{◌≡◌, ℕ, ◌+◌, ◌-◌, ◌/◌, ◌%◌, ◌^◌, ◌<◌, ◌≤◌, Bool, true, false, cond, eqb, ltb, is_some, List, ◌++◌, length, take, drop, get_or, Option, Some, None, Result, Ok, refl, sym, ap, subst, ◌∙◌, append_assoc, arith, inl, inr}
 use Rattle.std.specs.Int.{bit_at}
 use Rattle.std.proofs.lemmas.Bool.{cases_eq, cases_lt, ltb-false, ltb-true, le-ltb, lt-ltb, cond-true, cond-false}
 use Rattle.std.proofs.lemmas.Bool.Decides.{nat_tests}
@@ -16,7 +16,7 @@ use Rattle.iso_table.specs.Layout.{Layout, row_at}
 use Rattle.iso_wire.specs.Numbers.{numbers_in, unknown}
 use Rattle.iso_wire.specs.Reading.{◌>>=◌, halt, word_by, word_at, known_by, primary_at, second_known, secondary_at, words_by, words_at}
 use Rattle.iso_wire.proofs.NumberLaws.{all_known}
-use Rattle.iso_wire.proofs.ElementLaws.{done, bind_ok, ok_is}
+use Rattle.iso_wire.proofs.ElementLaws.{bind_ok, ok_is}
 
 -- a word has the bits of a set
 abbrev HasBits : ℕ → (ℕ → Bool) → Type 0
@@ -178,7 +178,7 @@ record WordTaken (c : BitmapCoding) (b : List ℕ) (w : ℕ) : Type 0 where
   pub small : w < 2 ^ 64
   pub bits : BitsIn c (λ k. eqb (bit_at w (64 - k)) 1) (take (map_size c) b)
 
-short_or : {A : Type 0} (t : Bool) (element at : ℕ) (r : Result A UnpackFault) (x : A) → cond t (halt element at Short) r ≡ Ok x → (t ≡ false) × (r ≡ Ok x)
+pub short_or : {A : Type 0} (t : Bool) (element at : ℕ) (r : Result A UnpackFault) (x : A) → cond t (halt element at Short) r ≡ Ok x → (t ≡ false) × (r ≡ Ok x)
 short_or true element at r x e = absurd cc
 short_or false element at r x e = (refl, e)
 

@@ -1,6 +1,6 @@
 -- The bytes that spell a message under a table (ISO 8583:1987, structure of a message): its type, its bitmaps, and
 -- the parts of its elements in ascending order.
-use Rattle.std.specs.Prelude.{◌≡◌, ℕ, ◌+◌, ◌*◌, ◌/◌, ◌%◌, ◌<◌, Bool, List, [], ◌∷◌, ◌++◌, Option, Some, None}
+use Rattle.std.specs.Prelude.{◌≡◌, ℕ, ◌+◌, ◌*◌, ◌/◌, ◌%◌, ◌<◌, Bool, List, [], ◌∷◌, ◌++◌, Option, Some, None, ◌≤◌, take, length, slice_index}
 use Rattle.std.specs.List.{flat_map}
 use Rattle.iso_parts.specs.declared.prefix.Digits.{Digits}
 use Rattle.iso_parts.specs.declared.prefix.Digits.TheVariants as digits
@@ -36,6 +36,25 @@ pub record Spelling (t : Layout) (m : Contents) (b : List ℕ) : Type 0 where
   pub bitmaps : Bitmaps t.bitmap second (has m.elements) maps
   pub elements : Parts t.rows m.elements parts
   pub bytes : b ≡ mti_bytes t.mti m.mti ++ (maps ++ parts)
+
+-- ---- spellings at the front of bytes
+
+-- each item is a byte
+abbrev pub AreBytes : List ℕ → Type 0
+AreBytes b = (i : ℕ) → slice_index b i < 256
+
+-- the first bytes, so many of them, spell the message
+abbrev pub BeginsWith : Layout → Contents → ℕ → List ℕ → Type 0
+BeginsWith t m size b = (size ≤ length b) × Spelling t m (take size b)
+
+-- the bytes begin with no spelling
+abbrev pub BeginsWithNone : Layout → List ℕ → Type 0
+BeginsWithNone t b = (m : Contents) (front rest : List ℕ) → b ≡ front ++ rest → Spelling t m front → ⊥
+
+-- no spelling begins with another, and no bytes spell two messages
+abbrev pub IsUnambiguous : Layout → Type 0
+IsUnambiguous t =
+    (m other : Contents) (a b x y : List ℕ) → AreBytes (a ++ x) → Spelling t m a → Spelling t other b → a ++ x ≡ b ++ y → (m ≡ other) × (a ≡ b)
 
 -- ---- the spelling that is written
 

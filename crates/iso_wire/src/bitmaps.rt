@@ -5,19 +5,14 @@ ghost use Rattle.iso_wire.specs.Reading.{word_at, known_by, primary_at, secondar
 
 use crate::fault::{UnpackCause, UnpackFault};
 use crate::numbers::Numbers;
-use iso_table::Table;
 use iso_parts::BitmapCoding;
+use iso_table::Table;
 
 /// A word from here on has its first bit set.
 const TOP: u64 = 0x8000_0000_0000_0000;
 
 /// The word of the bitmap that the bytes begin with.
-fn word_of(
-    coding: BitmapCoding,
-    element: u8,
-    at: usize,
-    bytes: &[u8],
-) -> Result<u64, UnpackFault>
+fn word_of(coding: BitmapCoding, element: u8, at: usize, bytes: &[u8]) -> Result<u64, UnpackFault>
     ensures { result ≡ word_at coding element at bytes.now }
 {
     let size = coding.size();

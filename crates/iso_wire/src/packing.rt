@@ -7,13 +7,13 @@ ghost use Rattle.iso_wire.specs.Entries.{bytes_in, elements_of, views, IsWhole};
 ghost use Rattle.iso_table.specs.Layout.{row_at, AreGood};
 ghost use Rattle.iso_wire.specs.Reading.{message_at, whole};
 ghost use Rattle.iso_wire.specs.Refusal.{as_pack, refused_by, refused, message_refusal};
-ghost use Rattle.iso_wire.specs.Spelling.{mti_bytes, PartAs, Parts, plain_of, Spelling, PlainSpelling};
+ghost use Rattle.iso_wire.specs.Spelling.{mti_bytes, PartAs, Parts, plain_of, Spelling, PlainSpelling, AreBytes};
 
 use crate::elements::{Elements, Entry};
 use crate::fault::PackFault;
 use crate::message::Message;
-use iso_table::Table;
 use iso_parts::{Digits, FieldFault, encode_field};
+use iso_table::Table;
 use std::alloc::{AllocError, Global};
 
 /// The most bytes that a message type and two bitmaps take.
@@ -80,7 +80,7 @@ fn append_parts(table: &Table, elements: &Elements, out: &mut Vec<u8>) -> Result
     ensures fits { OnOk result (refused table.now.rows (views elements.now) ≡ None) }
     ensures fault { IfErr result (λ e. e ≢ pack.Memory → refused table.now.rows (views elements.now) ≡ Some e) }
     // Each item is a byte.
-    ensures bytes { (i : ℕ) → slice_index out.new.items i < 256 }
+    ensures bytes { AreBytes out.new.items }
 {
     append_elements(table, &elements.index, &elements.values, out)
 }
@@ -120,7 +120,7 @@ fn plain_spelling(alloc: Global, table: &Table, message: &Message) -> Result<Vec
     ensures accepted { OnOk result (message_refusal table.now message.now ≡ None) }
     ensures fault { IfErr result (λ e. e ≢ pack.Memory → message_refusal table.now message.now ≡ Some e) }
     // Each item is a byte.
-    ensures bytes { IfOk result (λ out. (i : ℕ) → slice_index out.items i < 256) }
+    ensures bytes { IfOk result (λ out. AreBytes out.items) }
     ensures good { AreGood table.now.rows }
 {
     let mti = message.mti();
@@ -130,7 +130,8 @@ fn plain_spelling(alloc: Global, table: &Table, message: &Message) -> Result<Vec
     let elements = message.parts();
     let mut out = room_for(alloc, elements)?;
     append_mti(table.mti(), mti.number(), &mut out)?;
-    message.elements().append(table.bitmap(), &mut out)?;
+    let numbers = message.elements();
+    numbers.append(table.bitmap(), &mut out)?;
     append_parts(table, elements, &mut out)?;
     Ok(out)
 }
@@ -148,7 +149,7 @@ pub fn pack(alloc: Global, table: &Table, message: &Message) -> Result<Vec<u8>, 
     // Which fault it is, unless memory ran out.
     ensures fault { IfErr result (λ e. e ≢ pack.Memory → message_refusal table.now message.now ≡ Some e) }
     // Whatever bytes follow it, what is written reads as the message, and no byte more.
-    ensures again { IfOk result (λ out. (rest : List ℕ) → ((i : ℕ) → slice_index rest i < 256) → message_at table.now (out.items ++ rest) ≡ whole message.now (length out.items)) }
+    ensures again { IfOk result (λ out. (rest : List ℕ) → AreBytes rest → message_at table.now (out.items ++ rest) ≡ whole message.now (length out.items)) }
 {
     plain_spelling(alloc, table, message)
 }

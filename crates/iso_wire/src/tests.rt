@@ -1,186 +1,244 @@
-//! Values from outside, and that the calls succeed.
+use super::*;
+use crate::elements::Entry;
+use iso_parts::{BitmapCoding, CharClass, Coding, Digits, FieldSpec, Length, Pad};
+use iso_table::{Draft, Row, Table, TableFault};
+use std::alloc::{AllocError, Global};
+use std::test::*;
 
-use crate::elements::Elements;
-use crate::{Message, SetFault, digits_of};
-use iso_parts::Mti;
-use std::alloc::Global;
-use std::test::Fail;
+mod messages;
+mod refusals;
 
-/// A message of that type with the elements, set in that order.
-fn message(alloc: Global, mti: u16, elements: &[(u8, &[u8])]) -> Result<Message, Fail> {
-    let mti = Mti::from_digits(mti).ok_or("not four digits")?;
-    let mut message = Message::new(alloc, mti);
-    for (n, value) in elements {
-        message.set(*n, value)?;
-    }
-    Ok(message)
+const ECHO: &[u8] = b"0800822000000000000004000000000000000102030405000001301";
+
+const PAYMENT: &[u8] =
+    b"0200722000010000800016411111111111111100000000000000100001020304050000070512345840";
+
+/// The bytes of a message, and what they say.
+#[derive(Drop)]
+struct Case {
+    name: &'static str,
+    bytes: &'static [u8],
+    used: usize,
+    elements: &'static [(u8, &'static [u8])],
+    plain: &'static [u8],
 }
 
-#[test]
-fn values(rt: HostRuntime) -> Result<(), Fail> {
-    let cases: [(&str, &[(u8, &[u8])], u8, Option<&[u8]>); 9] = [
-        ("nothing set", &[], 3, None),
-        ("one value", &[(3, b"000000")], 3, Some(b"000000")),
-        ("ascending", &[(3, b"a"), (4, b"bc")], 4, Some(b"bc")),
-        (
-            "in front of the others",
-            &[(11, b"abc"), (70, b"d"), (2, b"ef")],
-            2,
-            Some(b"ef"),
-        ),
-        (
-            "between the others",
-            &[(2, b"ab"), (70, b"cde"), (11, b"f")],
-            11,
-            Some(b"f"),
-        ),
-        (
-            "behind one set in between",
-            &[(2, b"ab"), (70, b"cde"), (11, b"f")],
-            70,
-            Some(b"cde"),
-        ),
-        (
-            "replaced by a longer one",
-            &[(2, b"ab"), (3, b"c"), (2, b"defg")],
-            2,
-            Some(b"defg"),
-        ),
-        (
-            "behind one replaced by a shorter one",
-            &[(2, b"abcd"), (3, b"ef"), (2, b"g")],
-            3,
-            Some(b"ef"),
-        ),
-        ("an empty value", &[(2, b"ab"), (3, b"")], 3, Some(b"")),
+const fn row(class: CharClass, coding: Coding, length: Length, max: u16, pad: Pad) -> FieldSpec {
+    FieldSpec {
+        class,
+        coding,
+        length,
+        max,
+        pad,
+    }
+}
+
+const fn digits(coding: Coding, max: u16) -> FieldSpec {
+    row(CharClass::N, coding, Length::Fixed, max, Pad::None)
+}
+
+const fn text(max: u16, pad: Pad) -> FieldSpec {
+    row(CharClass::ANS, Coding::Ascii, Length::Fixed, max, pad)
+}
+
+const fn counted(max: u16) -> FieldSpec {
+    row(
+        CharClass::N,
+        Coding::Ascii,
+        Length::LL(Digits::Ascii),
+        max,
+        Pad::None,
+    )
+}
+
+fn table(
+    alloc: Global,
+    version: u8,
+    mti: Digits,
+    bitmap: BitmapCoding,
+    rows: &[(u8, FieldSpec)],
+) -> Result<Table, TableFault> {
+    let mut draft = Draft {
+        version,
+        mti,
+        bitmap,
+        rows: Vec::new(alloc),
+    };
+    for (number, spec) in rows {
+        draft.rows.push(Row {
+            number: u16::from(*number),
+            spec: *spec,
+        })?;
+    }
+    Table::check(alloc, draft)
+}
+
+fn ascii(alloc: Global) -> Result<Table, TableFault> {
+    let coding = Coding::Ascii;
+    let rows = [
+        (2, counted(19)),
+        (3, digits(coding, 6)),
+        (4, digits(coding, 12)),
+        (7, digits(coding, 10)),
+        (11, digits(coding, 6)),
+        (13, digits(coding, 4)),
+        (15, digits(coding, 4)),
+        (32, counted(11)),
+        (41, text(8, Pad::Right(b' '))),
+        (49, text(3, Pad::None)),
+        (70, digits(coding, 3)),
     ];
-    for (name, elements, n, want) in cases {
-        let made = message(rt.alloc(), 100, elements)?;
-        assert_eq!(rt; made.get(n), want, "{name}");
-    }
-    Ok(())
+    table(alloc, 0, Digits::Ascii, BitmapCoding::Hex, &rows)
 }
 
-#[test]
-fn unset(rt: HostRuntime) -> Result<(), Fail> {
-    let cases: [(&str, u8, bool, [(u8, &[u8]); 2]); 3] = [
-        ("the first", 2, true, [(11, b"cd"), (70, b"efg")]),
-        ("the last", 70, true, [(2, b"ab"), (11, b"cd")]),
-        ("the one between", 11, true, [(2, b"ab"), (70, b"efg")]),
+fn packed(alloc: Global) -> Result<Table, TableFault> {
+    let coding = Coding::Bcd;
+    let rows = [
+        (7, digits(coding, 10)),
+        (11, digits(coding, 6)),
+        (70, digits(coding, 3)),
     ];
-    for (name, n, found, left) in cases {
-        let mut made = message(rt.alloc(), 100, &[(2, b"ab"), (11, b"cd"), (70, b"efg")])?;
-        assert_eq!(rt; made.unset(n), found, "{name}");
-        assert_eq!(rt; made.unset(n), false, "{name}, twice");
-        let want = message(rt.alloc(), 100, &left)?;
-        assert!(rt; made.equals(&want), "{name}");
+    table(alloc, 0, Digits::Bcd, BitmapCoding::Raw, &rows)
+}
+
+fn ascii_cases() -> [Case; 5] {
+    [
+        Case {
+            name: "echo",
+            bytes: ECHO,
+            used: 55,
+            elements: &[(7, b"0102030405"), (11, b"000001"), (70, b"301")],
+            plain: ECHO,
+        },
+        Case {
+            name: "payment",
+            bytes: PAYMENT,
+            used: 82,
+            elements: &[
+                (2, b"4111111111111111"),
+                (3, b"000000"),
+                (4, b"000000001000"),
+                (7, b"0102030405"),
+                (11, b"000007"),
+                (32, b"12345"),
+                (49, b"840"),
+            ],
+            plain: PAYMENT,
+        },
+        Case {
+            name: "no element",
+            bytes: b"08000000000000000000",
+            used: 20,
+            elements: &[],
+            plain: b"08000000000000000000",
+        },
+        Case {
+            name: "an empty secondary bitmap",
+            bytes: b"080080000000000000000000000000000000",
+            used: 36,
+            elements: &[],
+            plain: b"08000000000000000000",
+        },
+        Case {
+            name: "a bitmap in lower case, and bytes behind",
+            bytes: b"0800022a000000000000010203040500000101020103XYZ",
+            used: 44,
+            elements: &[
+                (7, b"0102030405"),
+                (11, b"000001"),
+                (13, b"0102"),
+                (15, b"0103"),
+            ],
+            plain: b"0800022A000000000000010203040500000101020103",
+        },
+    ]
+}
+
+fn packed_cases() -> [Case; 2] {
+    [
+        Case {
+            name: "echo under BCD",
+            bytes: b"\x08\x00\x82\x20\0\0\0\0\0\0\x04\0\0\0\0\0\0\0\x01\x02\x03\x04\x05\0\0\x01\x03\x01",
+            used: 28,
+            elements: &[(7, b"0102030405"), (11, b"000001"), (70, b"301")],
+            plain: b"\x08\x00\x82\x20\0\0\0\0\0\0\x04\0\0\0\0\0\0\0\x01\x02\x03\x04\x05\0\0\x01\x03\x01",
+        },
+        Case {
+            name: "filler F",
+            bytes: b"\x08\x00\x82\x20\0\0\0\0\0\0\x04\0\0\0\0\0\0\0\x01\x02\x03\x04\x05\0\0\x01\xF3\x01",
+            used: 28,
+            elements: &[(7, b"0102030405"), (11, b"000001"), (70, b"301")],
+            plain: b"\x08\x00\x82\x20\0\0\0\0\0\0\x04\0\0\0\0\0\0\0\x01\x02\x03\x04\x05\0\0\x01\x03\x01",
+        },
+    ]
+}
+
+/// The values one after another.
+fn joined(alloc: Global, elements: &[(u8, &[u8])]) -> Result<Vec<u8>, AllocError> {
+    let mut values = Vec::new(alloc);
+    for (_, value) in elements {
+        values.extend_from_slice(value)?;
+    }
+    Ok(values)
+}
+
+/// Whether the index has the numbers and the lengths of the elements.
+fn is_index(index: &[Entry], elements: &[(u8, &[u8])]) -> bool {
+    if index.len() != elements.len() {
+        return false;
+    }
+    for (entry, (number, value)) in index.iter().zip(elements) {
+        if entry.number != *number || entry.len != value.len() {
+            return false;
+        }
+    }
+    true
+}
+
+/// What was read of a case, and what is written of that.
+#[derive(Drop)]
+struct Reread {
+    used: usize,
+    has_elements: bool,
+    plain: Vec<u8>,
+}
+
+fn read_and_write(alloc: Global, table: &Table, case: &Case) -> Result<Reread, Fail> {
+    let (message, used) = unpack(alloc, table, case.bytes)?;
+    let parts = message.parts();
+    let values = joined(alloc, case.elements)?;
+    let has_elements = is_index(&parts.index, case.elements)
+        && parts.values.as_slice() == values.as_slice();
+    let plain = pack(alloc, table, &message)?;
+    Ok(Reread {
+        used,
+        has_elements,
+        plain,
+    })
+}
+
+#[test]
+fn messages_are_read_and_written(rt: HostRuntime) -> Result<(), Fail> {
+    let table = ascii(rt.alloc())?;
+    for case in &ascii_cases() {
+        let name = case.name;
+        let again = read_and_write(rt.alloc(), &table, case)?;
+        assert_eq!(rt; again.used, case.used, "{name}");
+        assert!(rt; again.has_elements, "{name}");
+        assert_eq!(rt; again.plain.as_slice(), case.plain, "{name}");
     }
     Ok(())
 }
 
 #[test]
-fn bad_numbers(rt: HostRuntime) -> Result<(), Fail> {
-    for n in [0, 1, 65, 129, 255] {
-        let mut made = message(rt.alloc(), 100, &[])?;
-        assert_eq!(rt; made.set(n, b"1"), Err(SetFault::BadNumber(n)), "{n}");
-        assert_eq!(rt;
-            made.set_number(n, 1, 1),
-            Err(SetFault::BadNumber(n)),
-            "{n}"
-        );
+fn packed_messages_are_read_and_written(rt: HostRuntime) -> Result<(), Fail> {
+    let table = packed(rt.alloc())?;
+    for case in &packed_cases() {
+        let name = case.name;
+        let again = read_and_write(rt.alloc(), &table, case)?;
+        assert_eq!(rt; again.used, case.used, "{name}");
+        assert!(rt; again.has_elements, "{name}");
+        assert_eq!(rt; again.plain.as_slice(), case.plain, "{name}");
     }
-    Ok(())
-}
-
-#[test]
-fn numbers(rt: HostRuntime) -> Result<(), Fail> {
-    let mut made = message(rt.alloc(), 100, &[])?;
-    made.set_number(11, 7, 6)?;
-    made.set_number(12, 0, 1)?;
-    made.set_number(13, 1_234_567_890_123_456_789, 19)?;
-    let want = message(
-        rt.alloc(),
-        100,
-        &[(11, b"000007"), (12, b"0"), (13, b"1234567890123456789")],
-    )?;
-    assert!(rt; made.equals(&want));
-    Ok(())
-}
-
-#[test]
-fn digits(rt: HostRuntime) {
-    for (v, want) in [
-        (0, 1),
-        (9, 1),
-        (10, 2),
-        (999_999, 6),
-        (1_000_000, 7),
-        (u64::MAX, 20),
-    ] {
-        assert_eq!(rt; digits_of(v), want, "{v}");
-    }
-}
-
-#[test]
-fn equality(rt: HostRuntime) -> Result<(), Fail> {
-    let first = message(rt.alloc(), 100, &[(2, b"ab"), (3, b"c")])?;
-    let cases: [(&str, u16, &[(u8, &[u8])], bool); 6] = [
-        ("set in another order", 100, &[(3, b"c"), (2, b"ab")], true),
-        ("another type", 110, &[(2, b"ab"), (3, b"c")], false),
-        ("another number", 100, &[(2, b"ab"), (4, b"c")], false),
-        ("another value", 100, &[(2, b"ab"), (3, b"d")], false),
-        (
-            "the same bytes shared out otherwise",
-            100,
-            &[(2, b"a"), (3, b"bc")],
-            false,
-        ),
-        ("one more", 100, &[(2, b"ab"), (3, b"c"), (4, b"")], false),
-    ];
-    for (name, mti, elements, want) in cases {
-        let other = message(rt.alloc(), mti, elements)?;
-        assert_eq!(rt; first.equals(&other), want, "{name}");
-    }
-    Ok(())
-}
-
-#[test]
-fn sets(rt: HostRuntime) -> Result<(), Fail> {
-    let made = message(
-        rt.alloc(),
-        800,
-        &[(70, b"301"), (7, b"0102030405"), (128, b"x")],
-    )?;
-    assert_eq!(rt; made.mti().number(), 800);
-    let bits = made.elements();
-    for (n, want) in [
-        (1, false),
-        (2, false),
-        (7, true),
-        (65, false),
-        (70, true),
-        (127, false),
-        (128, true),
-    ] {
-        assert_eq!(rt; bits.has(n), want, "{n}");
-    }
-    Ok(())
-}
-
-#[test]
-fn built_in_order(rt: HostRuntime) -> Result<(), Fail> {
-    let mti = Mti::from_digits(100).ok_or("not four digits")?;
-    let mut elements = Elements::with_room(rt.alloc(), 2, 5)?;
-    elements.append(3, b"abc")?;
-    let from = elements.values.len();
-    elements.values.extend_from_slice(b"de")?;
-    elements.close(4, from)?;
-    let made = Message::from_elements(mti, elements);
-    let want = message(rt.alloc(), 100, &[(3, b"abc"), (4, b"de")])?;
-    assert!(rt; made.equals(&want));
-    let mut appended = Message::new(rt.alloc(), mti);
-    appended.append(3, b"abc")?;
-    appended.append(4, b"de")?;
-    assert!(rt; appended.equals(&want));
     Ok(())
 }

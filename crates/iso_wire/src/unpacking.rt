@@ -2,12 +2,12 @@
 
 ghost use Rattle.std.specs.Prelude.{◌≡◌, ◌≢◌, ℕ, ◌+◌, ◌≤◌, ◌<◌, length, List, take, drop, ◌++◌, option_map, slice_index, IfOk, IfErr, OnOk};
 ghost use Rattle.iso_parts.specs.Mti.{number};
-ghost use Rattle.iso_wire.specs.declared.fault.UnpackCause.TheVariants.{Memory};
+ghost use Rattle.iso_wire.specs.declared.fault.UnpackCause.TheVariants.{Short, Memory};
 ghost use Rattle.iso_wire.specs.Contents.{Contents};
 ghost use Rattle.iso_wire.specs.Entries.{views, IsWhole};
 ghost use Rattle.iso_table.specs.Layout.{AreGood};
 ghost use Rattle.iso_wire.specs.Reading.{Gives, AppendsPart, AppendsElement, place_of, value_at, elements_at, four_digits, mti_size, mti_of, type_at, message_at, Unpacks, whole};
-ghost use Rattle.iso_wire.specs.Spelling.{Spelling};
+ghost use Rattle.iso_wire.specs.Spelling.{Spelling, AreBytes, BeginsWith, BeginsWithNone, IsUnambiguous};
 ghost use Rattle.iso_wire.specs.Walk.{left};
 
 use crate::bitmaps::words_of;
@@ -15,8 +15,8 @@ use crate::elements::Elements;
 use crate::fault::{UnpackCause, UnpackFault};
 use crate::message::Message;
 use crate::numbers::Numbers;
-use iso_table::Table;
 use iso_parts::{Digits, FieldFault, FieldSpec, Mti, append_value};
+use iso_table::Table;
 use std::alloc::Global;
 
 /// The most characters that a row allows a value.
@@ -196,21 +196,19 @@ fn message_of(alloc: Global, table: &Table, bytes: &[u8]) -> Result<(Message, us
 /// The bytes are read piece by piece: the message type, the primary bitmap, the secondary one, and for each element
 /// its length and its body. Each piece is judged when it is whole, and the first one that is not good or not whole
 /// is the fault.
-pub fn unpack(
-    alloc: Global,
-    table: &Table,
-    bytes: &[u8],
-) -> Result<(Message, usize), UnpackFault>
+pub fn unpack(alloc: Global, table: &Table, bytes: &[u8]) -> Result<(Message, usize), UnpackFault>
     // What is read is spelled by the first bytes.
-    ensures found { IfOk result (λ x. (x.1 ≤ length bytes.now) × Spelling table.now x.0 (take x.1 bytes.now)) }
+    ensures found { IfOk result (λ x. BeginsWith table.now x.0 x.1 bytes.now) }
     // What the first bytes spell is read, unless memory runs out.
     ensures only { (m : Contents) (front rest : List ℕ) → Spelling table.now m front → bytes.now ≡ front ++ rest → Unpacks result (whole m (length front)) }
     // Which fault it is, and where, unless memory ran out.
     ensures exact { Unpacks result (message_at table.now bytes.now) }
-    // A fault comes only where the bytes begin with no spelling.
-    ensures refused { IfErr result (λ e. e.cause ≢ Memory → (m : Contents) (front rest : List ℕ) → bytes.now ≡ front ++ rest → Spelling table.now m front → ⊥) }
+    // A fault comes only where the bytes begin with no spelling,
+    ensures refused { IfErr result (λ e. e.cause ≢ Memory → BeginsWithNone table.now bytes.now) }
+    // and where a whole piece is bad, no continuation begins with one either.
+    ensures settled { IfErr result (λ e. e.cause ≢ Memory → e.cause ≢ Short → (more : List ℕ) → AreBytes more → BeginsWithNone table.now (bytes.now ++ more)) }
     // No spelling begins with another, and no bytes spell two messages.
-    ensures one { (m other : Contents) (a b x y : List ℕ) → ((i : ℕ) → slice_index (a ++ x) i < 256) → Spelling table.now m a → Spelling table.now other b → a ++ x ≡ b ++ y → (m ≡ other) × (a ≡ b) }
+    ensures one { IsUnambiguous table.now }
 {
     message_of(alloc, table, bytes)
 }

@@ -1,4 +1,4 @@
-use Rattle.std.proofs.Common.{◌≡◌, ◌-◌, ◌*◌, ◌%◌, ◌^◌, ◌<◌, ◌∙◌, ℕ, zero, arith, ap}
+use Rattle.std.proofs.Common.{◌≡◌, ◌-◌, ◌^◌, ◌∙◌, ℕ, arith, ap}
 use Rattle.std.proofs.lemmas.Nat.{leading_top, one_shl}
 use lib.Count.{count_leading_zeros}
 use Rattle.iso_wire.proofs.numbers.take_first.Goals as goal

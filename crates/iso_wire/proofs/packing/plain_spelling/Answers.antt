@@ -1,4 +1,4 @@
-use Rattle.std.proofs.Common.{◌≡◌, ◌<◌, ◌/◌, ◌++◌, ℕ, List, sym, ap, subst, ◌∙◌, arith}
+use Rattle.std.proofs.Common.{◌≡◌, ◌<◌, ◌/◌, ◌++◌, ℕ, ap, subst, ◌∙◌, arith}
 use Rattle.std.specs.List.{flat_map}
 use Rattle.iso_parts.specs.declared.bitmap.BitmapCoding.{BitmapCoding}
 use Rattle.iso_parts.specs.declared.prefix.Digits.{Digits}
@@ -15,7 +15,7 @@ returns-clause-packed c =
     let m = c.args.message.now in
     let mti = c.mti-mti.result in
     let f = plain_of t.rows in
-    let set = contains c.elements.result in
+    let set = contains c.elements-numbers.result in
     let maps = c.in_ok-append.ensures.ok.0 in
     let same : number mti ≡ m.mti = c.mti-mti.ensures in
     let small : m.mti < 10000 = omega (arith, same, mti.version_digit, mti.class_digit, mti.function_digit, mti.origin_digit) in
@@ -27,4 +27,4 @@ returns-clause-packed c =
     c.in_ok-append_mti.ensures ∙ ap (λ (k : Digits). start ++ mti_bytes k c.number.result) c.mti.ensures ∙ ap (λ (n : ℕ). start ++ mti_bytes t.mti n) (c.number.ensures ∙ same) in
     let tail : c.append_parts.new.out.items ≡ c.append.new.out.items ++ flat_map f m.elements = c.in_ok-append_parts.ensures.written ∙ ap (λ (es : Values). c.append.new.out.items ++ flat_map f es) c.parts-elements.ensures.elements in
     let whole = three_pieces c.in_ok-out.out.items c.append_mti.new.out.items c.append.new.out.items c.append_parts.new.out.items (mti_bytes t.mti m.mti) maps (flat_map f m.elements) c.in_ok-out.ensures head c.in_ok-append.ensures.ok.2 tail in
-    plain_spelling_lem t m set maps c.append_parts.new.out.items small version c.parts-elements.ensures.ascending c.elements.ensures plain spelled whole
+    plain_spelling_lem t m set maps c.append_parts.new.out.items small version c.parts-elements.ensures.ascending c.elements-numbers.ensures plain spelled whole

@@ -1,4 +1,4 @@
-use Rattle.std.proofs.Common.{◌∙◌, ◌+◌, drop}
+use Rattle.std.proofs.Common.{◌∙◌}
 use Rattle.iso_parts.specs.Bits.{in_words}
 use Rattle.iso_wire.specs.Entries.{views}
 use Rattle.iso_wire.specs.Walk.{left}

@@ -1,4 +1,4 @@
-use Rattle.std.proofs.Common.{◌≡◌, ◌<◌, ℕ, List, get_or, length, drop, sym, subst, arith}
+use Rattle.std.proofs.Common.{◌<◌, ℕ, List, get_or, sym, subst, arith}
 use Rattle.iso_parts.proofs.BitmapLaws.{bytes_drop}
 use Rattle.iso_parts.proofs.Takes.{part_takes}
 use Rattle.iso_wire.proofs.unpacking.read_value.Goals as goal

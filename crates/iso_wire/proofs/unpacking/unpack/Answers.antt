@@ -1,4 +1,5 @@
-use Rattle.std.proofs.Common.{◌<◌, ℕ, get_or, arith}
+use Rattle.std.proofs.Common.{arith}
+use Rattle.iso_wire.proofs.Endings.{is_settled}
 use Rattle.iso_wire.proofs.Messages.{is_found, is_given, is_refused, one_spelling}
 use Rattle.iso_wire.proofs.unpacking.unpack.Goals as goal
 
@@ -13,3 +14,6 @@ returns-clause-refused c = is_refused c.args.table.now c.args.bytes.now c.messag
 
 pub returns-clause-one : goal.returns-clause-one
 returns-clause-one c = λ m other a b x y fits first second same. one_spelling c.args.table.now m other a b x y c.message_of.ensures.good fits first second same
+
+pub returns-clause-settled : goal.returns-clause-settled
+returns-clause-settled c = is_settled c.args.table.now c.args.bytes.now c.message_of.result c.message_of.ensures.good (λ i. omega (arith, c.type_inv.bytes i)) c.message_of.ensures.exact

@@ -1,4 +1,3 @@
-use Rattle.std.proofs.Common.{sym}
 use Rattle.iso_wire.proofs.WalkLaws.{numbers_low}
 use Rattle.iso_wire.proofs.numbers.Numbers.of.Goals as goal
 

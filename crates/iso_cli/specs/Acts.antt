@@ -1,0 +1,51 @@
+-- What the command writes.
+use Rattle.std.specs.Prelude.{◌≡◌, ◌⊎◌, ℕ, ◌≤◌, List, [], ◌∷◌, ◌++◌, length, take, Option, None, IfSome, codes}
+use Rattle.std.specs.Io.KnownBytes.{Appends}
+use Rattle.iso_parts.specs.declared.prefix.Digits.TheVariants.{Ascii}
+use Rattle.iso_table.specs.Layout.{Layout}
+use Rattle.iso_table.specs.Edition87.{IsEdition87}
+use Rattle.iso_wire.specs.Contents.{Contents}
+use Rattle.iso_wire.specs.Spelling.{Spelling, PlainSpelling}
+use Rattle.iso_order.specs.declared.verdict.Verdict.{Verdict}
+use Rattle.iso_order.specs.declared.verdict.Verdict.TheVariants.{Order, Reply, Silent}
+use Rattle.iso_order.specs.Verdict.{verdict}
+use Rattle.iso_order.specs.Response.{response}
+use Rattle.iso_cli.specs.Tables.{IsNamed}
+
+-- the bytes of one message under two tables: any spelling under the first, the plain one under the second
+abbrev pub Converts : Layout → Layout → List ℕ → List ℕ → Type 0
+Converts f t all b = (m : Contents) × Spelling f m all × PlainSpelling t m b
+
+-- what was appended is the plain spelling, under the second table, of the message that the whole input spells under the first
+abbrev pub ConvertsOver : (List ℕ → Option (List ℕ)) → List ℕ → List ℕ → Option (List ℕ) → Option (List ℕ) → Option (List ℕ) → Type 0
+ConvertsOver file from to input old new =
+    IfSome input (λ all. (f : Layout) × (t : Layout) × (b : List ℕ) × IsNamed file from f × IsNamed file to t × Converts f t all b × Appends old new b)
+
+-- ---- the echo
+
+-- the answer to a verdict: the plain spelling of the response where the message itself decides, else `none`
+abbrev pub AnswersBy : Layout → Contents → Verdict → List ℕ → Type 0
+AnswersBy t m (Reply code) b = PlainSpelling t (response m (record { code = code; seq = 0; shown = None })) b
+AnswersBy t m (Order o) b = b ≡ codes "none"
+AnswersBy t m Silent b = b ≡ codes "none"
+
+abbrev pub Answers : Layout → Contents → List ℕ → Type 0
+Answers t m b = AnswersBy t m (verdict m) b
+
+-- the line of an answer
+abbrev pub answer_line : List ℕ → List ℕ
+answer_line b = codes "ANSWER=" ++ b ++ 10 ∷ []
+
+-- text that is empty or ends with a newline
+abbrev pub AreLines : List ℕ → Type 0
+AreLines text = (text ≡ []) ⊎ ((front : List ℕ) × (text ≡ front ++ 10 ∷ []))
+
+-- the bytes begin with a message, and what is written of it are lines of which the last one is its answer
+abbrev pub Echoes : Layout → List ℕ → List ℕ → Type 0
+Echoes t all b =
+    (m : Contents) × (n : ℕ) × (lines : List ℕ) × (answer : List ℕ) × (n ≤ length all) × Spelling t m (take n all) × AreLines lines × Answers t m answer × (b ≡ lines ++ answer_line answer)
+
+-- what was appended is that, under the table of the 1987 edition in ASCII
+abbrev pub EchoesOver : Option (List ℕ) → Option (List ℕ) → Option (List ℕ) → Type 0
+EchoesOver input old new =
+    IfSome input (λ all. (t : Layout) × (b : List ℕ) × IsEdition87 Ascii t × Echoes t all b × Appends old new b)

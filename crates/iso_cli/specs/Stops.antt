@@ -1,0 +1,59 @@
+-- How each way to stop is told.
+use Rattle.std.specs.Prelude.{ℕ, List, [], ◌∷◌, ◌++◌, Option, Some, None, option_map, codes}
+use Rattle.iso_cli.specs.declared.stop.Stop.{Stop}
+use Rattle.iso_cli.specs.declared.stop.Stop.TheVariants.{Words, File, Read, Write, Memory, TooManyTurns, InputTooLong, TrailingBytes, Table, Unpack, Pack}
+use Rattle.iso_cli.specs.declared.source.SourceFault.{SourceFault}
+use Rattle.iso_cli.specs.declared.source.SourceFault.TheVariants as source
+use Rattle.iso_cli.specs.declared.streaming.InputFault.{InputFault}
+use Rattle.iso_cli.specs.declared.streaming.InputFault.TheVariants as input
+use Rattle.iso_cli.specs.declared.words.WordsFault.{WordsFault}
+use Rattle.iso_cli.specs.declared.words.WordsFault.TheVariants as words
+
+-- the status: 1 where an input was refused, 2 where the command line was, 3 where a device or memory failed
+abbrev pub status_of : Stop → ℕ
+status_of Words = 2
+status_of File = 3
+status_of Read = 3
+status_of Write = 3
+status_of Memory = 3
+status_of TooManyTurns = 3
+status_of InputTooLong = 1
+status_of TrailingBytes = 1
+status_of (Table fault) = 1
+status_of (Unpack fault) = 1
+status_of (Pack fault) = 1
+
+-- the text of the fault line, where it names no fault of a table, of an input or of a message
+abbrev pub text_of : Stop → Option (List ℕ)
+text_of Words = Some (codes "command line refused")
+text_of File = Some (codes "failed: File")
+text_of Read = Some (codes "failed: Read")
+text_of Write = Some (codes "failed: Write")
+text_of Memory = Some (codes "failed: Memory")
+text_of TooManyTurns = Some (codes "failed: TooManyTurns")
+text_of InputTooLong = Some (codes "refused: InputTooLong")
+text_of TrailingBytes = Some (codes "refused: TrailingBytes")
+text_of (Table fault) = None
+text_of (Unpack fault) = None
+text_of (Pack fault) = None
+
+-- the fault line: the text, and one newline
+abbrev pub line_of : Stop → Option (List ℕ)
+line_of stop = option_map (λ text. text ++ 10 ∷ []) (text_of stop)
+
+-- the stop that a fault of an input is
+abbrev pub stop_of_input : InputFault → Stop
+stop_of_input input.Read = Read
+stop_of_input input.TooLong = InputTooLong
+stop_of_input input.TooManyTurns = TooManyTurns
+stop_of_input input.Memory = Memory
+
+-- the stop that a fault of a file is
+abbrev pub stop_of_source : SourceFault → Stop
+stop_of_source source.File = File
+stop_of_source source.Memory = Memory
+
+-- the stop that a fault of the words is
+abbrev pub stop_of_words : WordsFault → Stop
+stop_of_words words.Refused = Words
+stop_of_words words.Memory = Memory

@@ -1,0 +1,42 @@
+//! A message from one table to another.
+
+ghost use Rattle.std.specs.Prelude.{IfOk, OnOk};
+ghost use Rattle.iso_cli.specs.Acts.{Converts, ConvertsOver};
+
+use crate::source::Source;
+use crate::stop::Stop;
+use crate::streaming::{read_input, write_output};
+use crate::tables::table_named;
+use iso_host::{Inlet, Outlet};
+use iso_table::Table;
+use iso_wire::{pack, unpack};
+use std::alloc::Global;
+
+/// The plain bytes, under the second table, of the message that the bytes spell under the first.
+fn converted(alloc: Global, from: &Table, to: &Table, bytes: &[u8]) -> Result<Vec<u8>, Stop>
+    ensures { IfOk result (λ packed. Converts from.now to.now bytes.now packed.items) }
+{
+    let (message, used) = unpack(alloc, from, bytes)?;
+    if used < bytes.len() {
+        return Err(Stop::TrailingBytes);
+    }
+    Ok(pack(alloc, to, &message)?)
+}
+
+/// Reads the message that the whole input spells under one table, and writes it under the other.
+pub fn convert<S: Source, I: Inlet, O: Outlet>(
+    alloc: Global,
+    from: &str,
+    to: &str,
+    source: &S,
+    input: &mut I,
+    output: &mut O,
+) -> Result<(), Stop>
+    ensures { OnOk result (ConvertsOver (S.file source.now) from.now to.now (I.remaining input.old) (O.contents output.old) (O.contents output.new)) }
+{
+    let from = table_named(alloc, source, from)?;
+    let to = table_named(alloc, source, to)?;
+    let bytes = read_input(alloc, input)?;
+    let packed = converted(alloc, &from, &to, &bytes)?;
+    write_output(output, &packed)
+}

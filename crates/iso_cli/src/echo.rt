@@ -1,0 +1,60 @@
+//! The echo: one message in, its lines and its answer out.
+
+ghost use Rattle.std.specs.Prelude.{◌≡◌, ◌++◌, IfOk, OnOk};
+ghost use Rattle.iso_cli.specs.Acts.{Answers, Echoes, EchoesOver, answer_line};
+
+use crate::describe::describe;
+use crate::stop::Stop;
+use crate::streaming::{read_input, write_output};
+use iso_host::{Inlet, Outlet};
+use iso_order::{Answer, Verdict, order_of, respond};
+use iso_table::Table;
+use iso_wire::{Message, pack, unpack};
+use std::alloc::{AllocError, Global};
+
+/// The bytes of the response where the message itself decides it, else `none`.
+fn answer_of(alloc: Global, table: &Table, message: &Message) -> Result<Vec<u8>, Stop>
+    ensures { IfOk result (λ answer. Answers table.now message.now answer.items) }
+{
+    let Verdict::Reply(code) = order_of(message) else {
+        return Ok(Vec::from_slice(alloc, b"none")?);
+    };
+    let answer = Answer {
+        code,
+        seq: 0,
+        shown: None,
+    };
+    let response = respond(alloc, message, &answer)?;
+    Ok(pack(alloc, table, &response)?)
+}
+
+/// Appends `ANSWER=`, the answer and a newline.
+fn push_answer(answer: &[u8], text: &mut Vec<u8>) -> Result<(), AllocError>
+    ensures { OnOk result (text.new.items ≡ text.old.items ++ answer_line answer.now) }
+{
+    text.extend_from_slice(b"ANSWER=")?;
+    text.extend_from_slice(answer)?;
+    text.extend_from_slice(b"\n")
+}
+
+/// The lines of the message that the bytes begin with, and the line of its answer.
+fn echoed(alloc: Global, table: &Table, bytes: &[u8]) -> Result<Vec<u8>, Stop>
+    ensures { IfOk result (λ text. Echoes table.now bytes.now text.items) }
+{
+    let (message, used) = unpack(alloc, table, bytes)?;
+    let mut text = describe(alloc, table, &message, used, bytes.len(), false)?;
+    let answer = answer_of(alloc, table, &message)?;
+    push_answer(&answer, &mut text)?;
+    Ok(text)
+}
+
+/// Reads the message that the input begins with, under the 1987 table in ASCII, and writes its lines and the
+/// line of its answer. Later bytes are left.
+pub fn echo<I: Inlet, O: Outlet>(alloc: Global, input: &mut I, output: &mut O) -> Result<(), Stop>
+    ensures { OnOk result (EchoesOver (I.remaining input.old) (O.contents output.old) (O.contents output.new)) }
+{
+    let bytes = read_input(alloc, input)?;
+    let table = Table::ascii87(alloc)?;
+    let text = echoed(alloc, &table, &bytes)?;
+    write_output(output, &text)
+}

@@ -1,0 +1,89 @@
+//! The fault lines that name what is wrong with a table, an input or a message.
+
+use crate::stop::Stop;
+use iso_parts::FieldFault;
+use iso_table::TableFault;
+use iso_wire::{PackFault, UnpackCause, UnpackFault};
+use std::alloc::{AllocError, Global};
+
+/// A fault's name, and the element that it names.
+fn table_fault(fault: TableFault) -> (&'static str, Option<u16>) {
+    match fault {
+        TableFault::NotJson => ("NotJson", None),
+        TableFault::Shape => ("Shape", None),
+        TableFault::BadVersion => ("BadVersion", None),
+        TableFault::BadNumber(n) => ("BadNumber", Some(n)),
+        TableFault::Twice(n) => ("Twice", Some(n)),
+        TableFault::BadMax(n) => ("BadMax", Some(n)),
+        TableFault::CodingClass(n) => ("CodingClass", Some(n)),
+        TableFault::PadNotAllowed(n) => ("PadNotAllowed", Some(n)),
+        TableFault::Profile => ("Profile", None),
+        TableFault::Memory => ("Memory", None),
+    }
+}
+
+/// A fault's name, and the element that it names.
+fn pack_fault(fault: PackFault) -> (&'static str, Option<u16>) {
+    match fault {
+        PackFault::WrongVersion => ("WrongVersion", None),
+        PackFault::NoRow(n) => ("NoRow", Some(u16::from(n))),
+        PackFault::WrongLength(n) => ("WrongLength", Some(u16::from(n))),
+        PackFault::NotInClass(n) => ("NotInClass", Some(u16::from(n))),
+        PackFault::PadEnd(n) => ("PadEnd", Some(u16::from(n))),
+        PackFault::Memory => ("Memory", None),
+    }
+}
+
+fn field_fault(fault: FieldFault) -> &'static str {
+    match fault {
+        FieldFault::WrongLength => "WrongLength",
+        FieldFault::NotInClass => "NotInClass",
+        FieldFault::PadEnd => "PadEnd",
+        FieldFault::BadLengthDigits => "BadLengthDigits",
+        FieldFault::LengthOver => "LengthOver",
+        FieldFault::BadFiller => "BadFiller",
+        FieldFault::BadHex => "BadHex",
+        FieldFault::Memory => "Memory",
+    }
+}
+
+fn unpack_cause(cause: UnpackCause) -> &'static str {
+    match cause {
+        UnpackCause::Short => "Short",
+        UnpackCause::BadMti => "BadMti",
+        UnpackCause::WrongVersion => "WrongVersion",
+        UnpackCause::BadHex => "BadHex",
+        UnpackCause::ThirdBitmap => "ThirdBitmap",
+        UnpackCause::UnknownElement(_) => "UnknownElement",
+        UnpackCause::Field(fault) => field_fault(fault),
+        UnpackCause::Memory => "Memory",
+    }
+}
+
+/// `refused: WHAT NAME`, and the element where one is named.
+fn named_line(
+    alloc: Global,
+    what: &str,
+    (name, element): (&'static str, Option<u16>),
+) -> Result<String, AllocError> {
+    match element {
+        Some(n) => format!(in alloc; "refused: {what} {name} element {n}\n"),
+        None => format!(in alloc; "refused: {what} {name}\n"),
+    }
+}
+
+fn unpack_line(alloc: Global, fault: UnpackFault) -> Result<String, AllocError> {
+    let name = unpack_cause(fault.cause);
+    let (element, at) = (fault.element, fault.at);
+    format!(in alloc; "refused: unpack {name} element {element} at {at}\n")
+}
+
+/// The fault line of a stop that names a fault of a table, an input or a message.
+pub fn refusal_line(alloc: Global, stop: Stop) -> Result<String, AllocError> {
+    match stop {
+        Stop::Table(fault) => named_line(alloc, "table", table_fault(fault)),
+        Stop::Pack(fault) => named_line(alloc, "pack", pack_fault(fault)),
+        Stop::Unpack(fault) => unpack_line(alloc, fault),
+        _ => String::from_str(alloc, "failed: Memory\n"),
+    }
+}

@@ -1,0 +1,174 @@
+//! How the command stops where it doesn't end well: a line on the fault stream, and a status.
+ghost use Rattle.std.specs.Prelude.{◌≡◌, ◌<◌, ◌≤◌, option_map};
+ghost use Rattle.iso_cli.specs.Stops.{status_of, line_of, stop_of_input, stop_of_source, stop_of_words};
+ghost use Rattle.iso_cli.specs.Tells.{Tells, TellsLine};
+
+use crate::refusal::refusal_line;
+use crate::source::SourceFault;
+use crate::streaming::InputFault;
+use crate::words::WordsFault;
+use iso_host::{Failed, Outlet, write_all};
+use iso_table::{NoMemory, TableFault};
+use iso_wire::{PackFault, UnpackCause, UnpackFault};
+use std::alloc::{AllocError, Global};
+
+/// Why the command stops.
+#[derive(Clone, Copy, Debug, PartialEq, Eq, Drop)]
+pub enum Stop {
+    /// The words are no command line.
+    Words,
+    /// A file isn't there, or can't be read.
+    File,
+    /// The input failed.
+    Read,
+    /// The output failed.
+    Write,
+    /// There is no memory.
+    Memory,
+    /// The input or the output took too many calls.
+    TooManyTurns,
+    /// The input has more than 1,048,576 bytes.
+    InputTooLong,
+    /// Bytes follow the message.
+    TrailingBytes,
+    /// A table is refused.
+    Table(TableFault),
+    /// The input begins with no message.
+    Unpack(UnpackFault),
+    /// The message has no bytes under the table.
+    Pack(PackFault),
+}
+
+impl Stop {
+    /// The status: 1 where an input was refused, 2 where the command line was, 3 where a device or memory failed.
+    pub fn status(self) -> u8
+        ensures status { result ≡ status_of self }
+        ensures range { (1 ≤ result) × (result ≤ 3) }
+    {
+        match self {
+            Stop::InputTooLong | Stop::TrailingBytes => 1,
+            Stop::Table(_) | Stop::Unpack(_) | Stop::Pack(_) => 1,
+            Stop::Words => 2,
+            Stop::File | Stop::Read | Stop::Write | Stop::Memory | Stop::TooManyTurns => 3,
+        }
+    }
+
+    /// The fault line, which ends with a newline, where it names no further fault.
+    fn line(self) -> Option<&'static str>
+        ensures { option_map (λ line. line.now) result ≡ line_of self }
+    {
+        match self {
+            Stop::Words => Some("command line refused\n"),
+            Stop::File => Some("failed: File\n"),
+            Stop::Read => Some("failed: Read\n"),
+            Stop::Write => Some("failed: Write\n"),
+            Stop::Memory => Some("failed: Memory\n"),
+            Stop::TooManyTurns => Some("failed: TooManyTurns\n"),
+            Stop::InputTooLong => Some("refused: InputTooLong\n"),
+            Stop::TrailingBytes => Some("refused: TrailingBytes\n"),
+            Stop::Table(_) | Stop::Unpack(_) | Stop::Pack(_) => None,
+        }
+    }
+}
+
+impl From<InputFault> for Stop {
+    ghost from_gives = { λ fault stop. stop ≡ stop_of_input fault };
+
+    fn from(fault: InputFault) -> Stop {
+        match fault {
+            InputFault::Read => Stop::Read,
+            InputFault::TooLong => Stop::InputTooLong,
+            InputFault::TooManyTurns => Stop::TooManyTurns,
+            InputFault::Memory => Stop::Memory,
+        }
+    }
+}
+
+impl From<SourceFault> for Stop {
+    ghost from_gives = { λ fault stop. stop ≡ stop_of_source fault };
+
+    fn from(fault: SourceFault) -> Stop {
+        match fault {
+            SourceFault::File => Stop::File,
+            SourceFault::Memory => Stop::Memory,
+        }
+    }
+}
+
+impl From<WordsFault> for Stop {
+    ghost from_gives = { λ fault stop. stop ≡ stop_of_words fault };
+
+    fn from(fault: WordsFault) -> Stop {
+        match fault {
+            WordsFault::Refused => Stop::Words,
+            WordsFault::Memory => Stop::Memory,
+        }
+    }
+}
+
+impl From<NoMemory> for Stop {
+    fn from(_fault: NoMemory) -> Stop {
+        Stop::Memory
+    }
+}
+
+impl From<AllocError> for Stop {
+    fn from(_fault: AllocError) -> Stop {
+        Stop::Memory
+    }
+}
+
+impl From<TableFault> for Stop {
+    fn from(fault: TableFault) -> Stop {
+        match fault {
+            TableFault::Memory => Stop::Memory,
+            other => Stop::Table(other),
+        }
+    }
+}
+
+impl From<UnpackFault> for Stop {
+    fn from(fault: UnpackFault) -> Stop {
+        match fault.cause {
+            UnpackCause::Memory => Stop::Memory,
+            _ => Stop::Unpack(fault),
+        }
+    }
+}
+
+impl From<PackFault> for Stop {
+    fn from(fault: PackFault) -> Stop {
+        match fault {
+            PackFault::Memory => Stop::Memory,
+            other => Stop::Pack(other),
+        }
+    }
+}
+
+/// Writes a line, and gives the status. Where the fault stream itself fails nothing more is written, and the
+/// status is 3.
+fn tell_line<F: Outlet>(faults: &mut F, line: &str, status: u8) -> u8
+    requires { (1 ≤ status) × (status ≤ 3) }
+    ensures told { TellsLine (F.contents faults.old) (F.contents faults.new) (F.counts faults.old) (F.counts faults.new) line.now status result }
+    ensures range { (1 ≤ result) × (result ≤ 3) }
+{
+    match write_all(faults, line.as_bytes()) {
+        Ok(()) => status,
+        Err(Failed) => 3,
+    }
+}
+
+/// Writes the fault line, and gives the status. Where the fault stream itself fails nothing more is written, and
+/// the status is 3.
+pub fn tell<F: Outlet>(alloc: Global, faults: &mut F, stop: Stop) -> u8
+    ensures told { Tells (F.contents faults.old) (F.contents faults.new) (F.counts faults.old) (F.counts faults.new) stop result }
+    ensures range { (1 ≤ result) × (result ≤ 3) }
+{
+    if let Some(line) = stop.line() {
+        return tell_line(faults, line, stop.status());
+    }
+    match refusal_line(alloc, stop) {
+        Ok(line) => tell_line(faults, &line, stop.status()),
+        Err(_) => tell_line(faults, "failed: Memory\n", 3),
+    }
+}

@@ -1,0 +1,74 @@
+//! A whole input.
+ghost use Rattle.std.specs.Prelude.{◌≡◌, ◌≤◌, ◌<◌, IfOk, IfSome, OnOk, IsErrOf, vec_len, length};
+ghost use Rattle.std.specs.Io.KnownBytes.{Appends, Consumes, IsAtEnd};
+ghost use Rattle.iso_cli.specs.Inputs.{ReadCause};
+
+use crate::source::MOST_BYTES;
+use crate::stop::Stop;
+use iso_host::{Failed, Inlet, Outlet, write_all};
+use std::alloc::Global;
+
+/// Why an input isn't read whole.
+#[derive(Clone, Copy, Debug, PartialEq, Eq, Drop)]
+pub enum InputFault {
+    /// The reader failed.
+    Read,
+    /// It has more than 1,048,576 bytes.
+    TooLong,
+    /// Its end didn't come in the reads that it was given.
+    TooManyTurns,
+    /// There is no memory for its bytes.
+    Memory,
+}
+
+/// Reads an input of at most 1,048,576 bytes to its end, in at most `turns` reads.
+///
+/// The last of the reads is the one that gives no byte. What was read before a fault is lost.
+pub fn read_all<I: Inlet>(alloc: Global, input: &mut I, turns: u32) -> Result<Vec<u8>, InputFault>
+    ensures bytes { IfOk result (λ bytes. Consumes (I.remaining input.old) (I.remaining input.new) bytes.items) }
+    ensures end { OnOk result (IsAtEnd (I.remaining input.new)) }
+    ensures bound { IfOk result (λ bytes. vec_len bytes ≤ 1048576) }
+    ensures too_long { IsErrOf result InputFault.TooLong → IfSome (I.remaining input.old) (λ all. 1048576 < length all) }
+    ensures cause { ReadCause (I.counts input.old) (I.counts input.new) turns result }
+{
+    let mut bytes = Vec::new(alloc);
+    let mut chunk = [0u8; 4096];
+    for _ in 0..turns {
+        let Ok(count) = input.read(&mut chunk) else {
+            return Err(InputFault::Read);
+        };
+        if count == 0 {
+            return Ok(bytes);
+        }
+        if count > MOST_BYTES as usize - bytes.len() {
+            return Err(InputFault::TooLong);
+        }
+        if bytes.extend_from_slice(&chunk[..count]).is_err() {
+            return Err(InputFault::Memory);
+        }
+    }
+    Err(InputFault::TooManyTurns)
+}
+
+/// The most reads that the command makes of one input.
+const MOST_READS: u32 = 2_000_000;
+
+/// Reads the command's input to its end.
+pub fn read_input<I: Inlet>(alloc: Global, input: &mut I) -> Result<Vec<u8>, Stop>
+    ensures { IfOk result (λ bytes. IfSome (I.remaining input.old) (λ all. all ≡ bytes.items)) }
+{
+    match read_all(alloc, input, MOST_READS) {
+        Ok(bytes) => Ok(bytes),
+        Err(fault) => Err(Stop::from(fault)),
+    }
+}
+
+/// Writes the command's output, and flushes it.
+pub fn write_output<O: Outlet>(output: &mut O, bytes: &[u8]) -> Result<(), Stop>
+    ensures { OnOk result (Appends (O.contents output.old) (O.contents output.new) bytes.now) }
+{
+    match write_all(output, bytes) {
+        Ok(()) => Ok(()),
+        Err(Failed) => Err(Stop::Write),
+    }
+}

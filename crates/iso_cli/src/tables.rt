@@ -1,0 +1,34 @@
+//! The tables that the command line names.
+
+ghost use Rattle.std.specs.Prelude.{IfOk, IfSome};
+ghost use Rattle.iso_table.specs.Document.{IsTableOf};
+ghost use Rattle.iso_cli.specs.Tables.{IsNamed};
+
+use crate::source::{MOST_BYTES, Source};
+use crate::stop::Stop;
+use iso_table::Table;
+use std::alloc::Global;
+
+/// The table of the document at a path.
+fn table_at<S: Source>(alloc: Global, source: &S, path: &str) -> Result<Table, Stop>
+    ensures { IfOk result (λ table. IfSome (S.file source.now path.now) (λ text. IsTableOf text table)) }
+{
+    let text = source.read(alloc, path)?;
+    if text.len() > MOST_BYTES as usize {
+        return Err(Stop::InputTooLong);
+    }
+    Ok(Table::from_json(alloc, &text)?)
+}
+
+/// The table that a word names: `ascii87` and `bcd87` are built in, every other word is the path of a document.
+pub fn table_named<S: Source>(alloc: Global, source: &S, word: &str) -> Result<Table, Stop>
+    ensures { IfOk result (IsNamed (S.file source.now) word.now) }
+{
+    if word == "ascii87" {
+        return Ok(Table::ascii87(alloc)?);
+    }
+    if word == "bcd87" {
+        return Ok(Table::bcd87(alloc)?);
+    }
+    table_at(alloc, source, word)
+}

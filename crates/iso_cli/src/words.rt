@@ -1,0 +1,167 @@
+//! The command line.
+//!
+//! `clap` judges the words, and what it lets pass is matched word by word, so that contracts can speak of the words.
+ghost use Rattle.std.specs.Prelude.{◌≡◌, IfOk, IfSome, IfNone, IfErr, IsErrOf, map, true};
+ghost use Rattle.clap.specs.Words.{takes};
+ghost use Rattle.iso_cli.specs.Asks.{Asks, AsksNothing, is_name};
+ghost use Rattle.iso_cli.specs.CommandLine.{FollowsRule, IsCommand, bare_app, check_app, clear_rule, convert_app, iso_alone, iso_app, name_rule, show_app};
+
+use clap::error::ErrorKind;
+use clap::{Arg, ArgAction, Command};
+use std::alloc::{AllocError, Global};
+
+/// What the words ask.
+#[derive(Clone, Copy, Debug, PartialEq, Eq, Drop)]
+pub enum Job<'a> {
+    /// No words: one message in, its answer out.
+    Echo,
+    /// `check TABLE`
+    Check {
+        /// The table's path or name.
+        table: &'a str,
+    },
+    /// `show TABLE`, with `--clear` before or after the table, once at most.
+    Show {
+        /// The table's path or name.
+        table: &'a str,
+        /// Whether `--clear` is given.
+        clear: bool,
+    },
+    /// `convert FROM TO`
+    Convert {
+        /// The path or name of the table that is read by.
+        from: &'a str,
+        /// The path or name of the table that is written by.
+        to: &'a str,
+    },
+}
+
+/// Why the words ask nothing.
+#[derive(Clone, Copy, Debug, PartialEq, Eq, Drop)]
+pub enum WordsFault {
+    /// They are no command line.
+    Refused,
+    /// There is no memory to judge them.
+    Memory,
+}
+
+fn required<'a>(alloc: Global, id: &'a str) -> Arg<'a>
+    ensures { FollowsRule (name_rule id.now) result }
+{
+    Arg::new(alloc, id).required(true)
+}
+
+fn clear_flag<'a>(alloc: Global) -> Arg<'a>
+    ensures { FollowsRule clear_rule result }
+{
+    Arg::new(alloc, "clear")
+        .long("clear")
+        .action(ArgAction::SetTrue)
+}
+
+/// A command with no help and no version of its own.
+fn bare<'a>(alloc: Global, name: &'static str) -> Command<'a>
+    ensures { IsCommand (bare_app name.now) result }
+{
+    Command::new(alloc, name)
+        .disable_help_flag(true)
+        .disable_help_subcommand(true)
+        .disable_version_flag(true)
+}
+
+fn check_command<'a>(alloc: Global) -> Result<Command<'a>, AllocError>
+    ensures { IfOk result (IsCommand check_app) }
+{
+    bare(alloc, "check").arg(required(alloc, "table"))
+}
+
+fn show_command<'a>(alloc: Global) -> Result<Command<'a>, AllocError>
+    ensures { IfOk result (IsCommand show_app) }
+{
+    bare(alloc, "show")
+        .arg(required(alloc, "table"))?
+        .arg(clear_flag(alloc))
+}
+
+fn convert_command<'a>(alloc: Global) -> Result<Command<'a>, AllocError>
+    ensures { IfOk result (IsCommand convert_app) }
+{
+    bare(alloc, "convert")
+        .arg(required(alloc, "from"))?
+        .arg(required(alloc, "to"))
+}
+
+/// The command before its subcommands.
+fn alone<'a>(alloc: Global) -> Command<'a>
+    ensures { IsCommand iso_alone result }
+{
+    bare(alloc, "iso")
+        .no_binary_name(true)
+        .subcommand_required(true)
+}
+
+#[tactic(auto, using(crate::proofs::CommandLemmas::adds))]
+fn command<'a>(alloc: Global) -> Result<Command<'a>, AllocError>
+    ensures { IfOk result (IsCommand iso_app) }
+{
+    alone(alloc)
+        .subcommand(check_command(alloc)?)?
+        .subcommand(show_command(alloc)?)?
+        .subcommand(convert_command(alloc)?)
+}
+
+/// Whether `clap` lets the words pass.
+fn judge<'a>(alloc: Global, words: &'a [&'a str]) -> Result<(), WordsFault>
+    ensures passes { IfErr result (λ fault. takes iso_app (map (λ w. w.now) words.now) ≡ true → fault ≡ WordsFault.Memory) }
+{
+    let Ok(command) = command(alloc) else {
+        return Err(WordsFault::Memory);
+    };
+    match command.try_get_matches_from(words) {
+        Ok(_found) => Ok(()),
+        Err(error) if error.kind() == ErrorKind::OutOfMemory => Err(WordsFault::Memory),
+        Err(_error) => Err(WordsFault::Refused),
+    }
+}
+
+/// Whether a word is taken for a name, and not for an option: it doesn't start with a dash.
+fn is_name(word: &str) -> bool
+    ensures { result ≡ is_name word.now }
+{
+    !word.starts_with('-')
+}
+
+/// What the words ask, by the words alone.
+fn job_of<'a>(words: &'a [&'a str]) -> Option<Job<'a>>
+    ensures found { IfSome result (Asks (map (λ w. w.now) words.now)) }
+    ensures none { IfNone result (AsksNothing (map (λ w. w.now) words.now)) }
+{
+    match words {
+        [] => Some(Job::Echo),
+        ["check", table] if is_name(table) => Some(Job::Check { table }),
+        ["show", table] if is_name(table) => Some(Job::Show {
+            table,
+            clear: false,
+        }),
+        ["show", "--clear", table] if is_name(table) => Some(Job::Show { table, clear: true }),
+        ["show", table, "--clear"] if is_name(table) => Some(Job::Show { table, clear: true }),
+        ["convert", from, to] if is_name(from) && is_name(to) => Some(Job::Convert { from, to }),
+        _ => None,
+    }
+}
+
+/// What the words ask, if they are a command line. The words are those behind the program's name.
+///
+/// No name of a table starts with a dash.
+pub fn parse<'a>(alloc: Global, words: &'a [&'a str]) -> Result<Job<'a>, WordsFault>
+    ensures found { IfOk result (Asks (map (λ w. w.now) words.now)) }
+    ensures refused { IsErrOf result WordsFault.Refused → AsksNothing (map (λ w. w.now) words.now) }
+{
+    if words.is_empty() {
+        return Ok(Job::Echo);
+    }
+    if let Err(fault) = judge(alloc, words) {
+        return Err(fault);
+    }
+    job_of(words).ok_or(WordsFault::Refused)
+}

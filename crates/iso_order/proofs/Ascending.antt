@@ -1,0 +1,97 @@
+-- Elements of ascending numbers.
+use Rattle.std.proofs.Common.{◌≡◌, ℕ, zero, suc, ◌+◌, ◌<◌, ◌≤◌, Bool, true, false, ◌&&◌, List, [], ◌∷◌, ◌++◌, length, get_or, take, refl, sym, ap, subst, ◌∙◌, append_assoc, add-one, arith}
+use Rattle.std.specs.Prelude.{Option, Some, None, nat_le, ◌==◌}
+use Rattle.std.proofs.lemmas.Bool.{and_parts, leb-true, eqb-true}
+use Rattle.std.proofs.lemmas.Bool.Decides.{nat_tests}
+use Rattle.std.proofs.lemmas.List.{append-nil}
+use Rattle.std.proofs.Math.Seq.{take-suc}
+use Rattle.iso_wire.specs.Contents.{Contents}
+use Rattle.iso_wire.specs.Elements.{IsBelow, value_in}
+use Rattle.iso_order.specs.Outcome.{Outcome}
+use Rattle.iso_order.specs.Response.{entry, elements_at, elements_from, element, ascend, is_responded, response, response_mti}
+
+abbrev Values : Type 0
+Values = List (ℕ × List ℕ)
+
+ascend_parts : (low n : ℕ) (ns : List ℕ) → ascend low (n ∷ ns) ≡ true → (low ≤ n) × (is_responded n ≡ true) × (ascend (n + 1) ns ≡ true)
+ascend_parts low n ns h =
+    let rest = and_parts (nat_le low n && is_responded n) (ascend (n + 1) ns) h in
+    let first = and_parts (nat_le low n) (is_responded n) rest.0 in
+    (leb-true low n first.0, first.1, rest.1)
+
+ascend-least : (low : ℕ) (ns : List ℕ) (i : ℕ) → ascend low ns ≡ true → i < length ns → low ≤ get_or ns i 0
+ascend-least low [] i h lt = absurd (omega arith)
+ascend-least low (n ∷ ns) zero h lt = (ascend_parts low n ns h).0
+ascend-least low (n ∷ ns) (suc i) h lt =
+    let parts = ascend_parts low n ns h in
+    let rest = ascend-least (n + 1) ns i parts.2 (omega arith) in
+    omega (arith, parts.0)
+
+-- each of the numbers is one that a response can have
+pub ascend-responded : (low : ℕ) (ns : List ℕ) (i : ℕ) → ascend low ns ≡ true → i < length ns → is_responded (get_or ns i 0) ≡ true
+ascend-responded low [] i h lt = absurd (omega arith)
+ascend-responded low (n ∷ ns) zero h lt = (ascend_parts low n ns h).1
+ascend-responded low (n ∷ ns) (suc i) h lt = ascend-responded (n + 1) ns i (ascend_parts low n ns h).2 (omega arith)
+
+IsBelow-entry : (k n : ℕ) (v : Option (List ℕ)) (es : Values) → n < k → IsBelow k es → IsBelow k (entry n v ++ es)
+IsBelow-entry k n (Some v) es lt below = (lt, below)
+IsBelow-entry k n None es lt below = below
+
+-- the elements of the numbers in front are below the next number
+pub IsBelow-front : (value : ℕ → Option (List ℕ)) (low : ℕ) (ns : List ℕ) (i : ℕ) → ascend low ns ≡ true → i < length ns → IsBelow (get_or ns i 0) (elements_at value (take i ns))
+IsBelow-front value low [] i h lt = absurd (omega arith)
+IsBelow-front value low (n ∷ ns) zero h lt = tt
+IsBelow-front value low (n ∷ ns) (suc i) h lt =
+    let parts = ascend_parts low n ns h in
+    let next = ascend-least (n + 1) ns i parts.2 (omega arith) in
+    IsBelow-entry (get_or ns i 0) n (value n) (elements_at value (take i ns)) (omega (arith, next)) (IsBelow-front value (n + 1) ns i parts.2 (omega arith))
+
+elements_at-push : (value : ℕ → Option (List ℕ)) (ns : List ℕ) (n : ℕ) → elements_at value (ns ++ n ∷ []) ≡ elements_at value ns ++ entry n (value n)
+elements_at-push value [] n = append-nil (entry n (value n))
+elements_at-push value (k ∷ ns) n =
+    ap (λ (es : Values). entry k (value k) ++ es) (elements_at-push value ns n)
+    ∙ sym (append_assoc (entry k (value k)) (elements_at value ns) (entry n (value n)))
+
+-- one number more
+pub elements_at-more : (value : ℕ → Option (List ℕ)) (ns : List ℕ) (i : ℕ) → i < length ns → elements_at value (take (i + 1) ns) ≡ elements_at value (take i ns) ++ entry (get_or ns i 0) (value (get_or ns i 0))
+elements_at-more value ns i lt =
+    rw add-one (ap (elements_at value) (take-suc ns i 0 lt) ∙ elements_at-push value (take i ns) (get_or ns i 0))
+
+-- ---- the response
+
+value_in-entry : (n k : ℕ) (v : Option (List ℕ)) (es : Values) → (n == k) ≡ false → value_in (entry n v ++ es) k ≡ value_in es k
+value_in-entry n k (Some v) es other = rw other refl
+value_in-entry n k None es other = refl
+
+value_in-above : (value : ℕ → Option (List ℕ)) (n count k : ℕ) → k < n → value_in (elements_from value n count) k ≡ None
+value_in-above value n zero k lt = refl
+value_in-above value n (suc count) k lt =
+    value_in-entry n k (value n) (elements_from value (n + 1) count) (grind (arith, nat_tests)) ∙ value_in-above value (n + 1) count k (omega arith)
+
+value_in-first : (n : ℕ) (v : Option (List ℕ)) (es : Values) → value_in es n ≡ None → value_in (entry n v ++ es) n ≡ v
+value_in-first n (Some v) es none = let same : (n == n) ≡ true = grind (arith, nat_tests) in rw same refl
+value_in-first n None es none = none
+
+from_by : (value : ℕ → Option (List ℕ)) (n count k : ℕ) (t : Bool) → (n == k) ≡ t → n ≤ k → k < n + suc count → (n + 1 ≤ k → value_in (elements_from value (n + 1) count) k ≡ value k) → value_in (elements_from value n (suc count)) k ≡ value k
+from_by value n count k true is low high rest =
+    let same : n ≡ k = eqb-true n k is in
+    subst (λ (j : ℕ). value_in (entry n (value n) ++ elements_from value (n + 1) count) j ≡ value j) same
+    (value_in-first n (value n) (elements_from value (n + 1) count) (value_in-above value (n + 1) count n (omega arith)))
+from_by value n count k false is low high rest =
+    let next : n + 1 ≤ k = grind (arith, nat_tests) in
+    value_in-entry n k (value n) (elements_from value (n + 1) count) is ∙ rest next
+
+value_in-from : (value : ℕ → Option (List ℕ)) (n count k : ℕ) → n ≤ k → k < n + count → value_in (elements_from value n count) k ≡ value k
+value_in-from value n zero k low high = absurd (omega arith)
+value_in-from value n (suc count) k low high =
+    from_by value n count k (n == k) refl low high (λ next. value_in-from value (n + 1) count k next (omega arith))
+
+-- the value of an element of the response
+pub response-each : (m : Contents) (a : Outcome) (n : ℕ) → 2 ≤ n → n ≤ 128 → value_in (response m a).elements n ≡ element m a n
+unfolding response
+response-each m a n low high = value_in-from (element m a) 2 127 n low (omega arith)
+
+-- no other number has a value in a response
+pub response-listed : (m : Contents) (a : Outcome) → response m a ≡ record { mti = response_mti m.mti; elements = elements_at (element m a) (2 ∷ 3 ∷ 4 ∷ 7 ∷ 11 ∷ 12 ∷ 13 ∷ 32 ∷ 33 ∷ 37 ∷ 38 ∷ 39 ∷ 41 ∷ 42 ∷ 49 ∷ 54 ∷ 70 ∷ 90 ∷ []) }
+unfolding response
+response-listed m a = refl

@@ -1,0 +1,80 @@
+use Rattle.std.proofs.Common.{◌≡◌, ℕ, Bool, true, false, refl, arith, ap, sym, ◌∙◌, subst, List, [], ◌∷◌}
+use Rattle.std.specs.Prelude.{IsTrue, ◌↔◌, ◌&&◌, ◌==◌}
+use Rattle.std.specs.Str.{bytes_eq}
+use Rattle.std.specs.Cmp.Lexicographic.{same_text}
+use Rattle.std.proofs.lemmas.Grind.{common_steps}
+use Rattle.iso_order.specs.declared.key.TxKey.{TxKey}
+use Rattle.iso_order.specs.AccountNumber.{AccountNumber}
+use Rattle.iso_order.specs.declared.act.Money.{Money}
+use Rattle.iso_order.specs.declared.act.Act.{Act}
+use Rattle.iso_order.specs.declared.act.Act.TheVariants.{Debit, Credit, Inquiry, Undo}
+use Rattle.iso_order.specs.Order.{Instruction, same_pan, same_money, same_act, same_order}
+use Rattle.iso_order.specs.Key.{same_key}
+
+-- keys that compare alike are one
+pub same_key_is : (a b : TxKey) → same_key a b ≡ true → a ≡ b
+same_key_is a b h = grind (arith, common_steps)
+
+pub same_key_self : (a : TxKey) → same_key a a ≡ true
+same_key_self a = grind (arith, common_steps)
+
+pub same_key_sym : (a b : TxKey) → same_key a b ≡ same_key b a
+same_key_sym a b = grind (arith, common_steps)
+
+pub same_pan_is : (a b : AccountNumber) → same_pan a b ≡ true → a ≡ b
+same_pan_is a b h = grind (arith, common_steps)
+
+pub same_pan_self : (a : AccountNumber) → same_pan a a ≡ true
+same_pan_self a = grind (arith, common_steps)
+
+bytes_is : (a b : List ℕ) → bytes_eq a b ≡ true → a ≡ b
+bytes_is a b h = same_text a b (sym h)
+
+bytes_self : (a : List ℕ) → bytes_eq a a ≡ true
+bytes_self [] = refl
+bytes_self (x ∷ xs) = grind (arith, common_steps, bytes_self xs)
+
+-- both sides of an `&&` that is true
+pub both : (p q : Bool) → p && q ≡ true → (p ≡ true) × (q ≡ true)
+both true q h = (refl, h)
+both false q h = cc
+
+pub same_money_is : (a b : Money) → same_money a b ≡ true → a ≡ b
+same_money_is a b h =
+    let h1 = both (same_pan a.pan b.pan && (a.amount == b.amount)) (bytes_eq a.currency b.currency) h in
+    let h2 = both (same_pan a.pan b.pan) (a.amount == b.amount) h1.0 in
+    let pans = same_pan_is a.pan b.pan h2.0 in
+    let currencies = bytes_is a.currency b.currency h1.1 in
+    let amounts : a.amount ≡ b.amount = grind (arith, common_steps, h2.1) in
+    grind arith
+
+pub same_money_self : (a : Money) → same_money a a ≡ true
+same_money_self a = grind (arith, common_steps, bytes_self a.currency)
+
+pub same_act_is : (a b : Act) → same_act a b ≡ true → a ≡ b
+same_act_is (Debit a) (Debit b) h = ap Debit (same_money_is a b h)
+same_act_is (Credit a) (Credit b) h = ap Credit (same_money_is a b h)
+same_act_is (Inquiry a) (Inquiry b) h = ap Inquiry (same_money_is a b h)
+same_act_is (Undo a) (Undo b) h = ap Undo (same_key_is a b h)
+same_act_is _ _ h = cc
+
+pub same_act_self : (a : Act) → same_act a a ≡ true
+same_act_self (Debit m) = same_money_self m
+same_act_self (Credit m) = same_money_self m
+same_act_self (Inquiry m) = same_money_self m
+same_act_self (Undo k) = same_key_self k
+
+pub same_order_is : (a b : Instruction) → same_order a b ≡ true → a ≡ b
+same_order_is a b h = grind (arith, common_steps, same_key_is a.key b.key, same_act_is a.act b.act)
+
+pub same_order_self : (a : Instruction) → same_order a a ≡ true
+same_order_self a = grind (arith, same_key_self a.key, same_act_self a.act)
+
+-- the test that tells whether two orders are one is same_order
+pub same_order_told : (a b : Instruction) (r : Bool) → (IsTrue r ↔ (a ≡ b)) → r ≡ same_order a b
+same_order_told a b true h = sym (subst (λ c. same_order a c ≡ true) (h.0 refl) (same_order_self a))
+same_order_told a b false h =
+    elim (same_order a b) as (λ s. same_order a b ≡ s → false ≡ s) [
+      | true ↦ λ e. h.1 (same_order_is a b e)
+      | false ↦ λ e. refl
+    ] refl

@@ -1,0 +1,55 @@
+-- Where a balance is shown, the message has a currency.
+use Rattle.std.proofs.Common.{◌≡◌, ℕ, Bool, true, false, ◌&&◌, List, [], ◌∷◌, ◌++◌, length, refl, sym, ap, ◌∙◌, subst}
+use Rattle.std.specs.Prelude.{ℤ, Option, Some, None, not, if◌then◌else◌, ◌==◌, nat_le, unsigned_abs}
+use Rattle.std.specs.List.{list_all}
+use Rattle.std.proofs.lemmas.Bool.{and_parts, eqb-true}
+use Rattle.iso_wire.specs.Contents.{Contents}
+use Rattle.iso_wire.specs.Elements.{has}
+use Rattle.iso_order.specs.declared.verdict.Verdict.{Verdict}
+use Rattle.iso_order.specs.declared.verdict.Verdict.TheVariants.{Reply}
+use Rattle.iso_order.specs.Fields.{class, function, text}
+use Rattle.iso_order.specs.Order.{is_currency, is_letter_or_digit}
+use Rattle.iso_order.specs.Response.{asks_balance, is_showable}
+use Rattle.iso_order.specs.Text.{are_digits}
+use Rattle.iso_order.specs.Verdict.{first_of, answered_lines, network_lines, key_lines, reversal_lines, act_lines, amount_lines, credited, verdict}
+
+abbrev Lines : Type 0
+Lines = List (Bool × Verdict)
+
+refused_by : (t : Bool) (v w : Verdict) → asks_balance (if t then v else w) ≡ true → asks_balance v ≡ false → (t ≡ false) × (asks_balance w ≡ true)
+refused_by true v w h none = absurd cc
+refused_by false v w h none = (refl, h)
+
+not_true : (b : Bool) → not b ≡ true → b ≡ false
+not_true true h = sym h
+not_true false h = refl
+
+not_false : (b : Bool) → not b ≡ false → b ≡ true
+not_false true h = refl
+not_false false h = sym h
+
+-- lines of other verdicts
+behind_lines : (lines rest : Lines) (last : Verdict) → list_all (λ (l : Bool × Verdict). not (asks_balance l.1)) lines ≡ true → asks_balance (first_of (lines ++ rest) last) ≡ true → asks_balance (first_of rest last) ≡ true
+behind_lines [] rest last none h = h
+behind_lines (l ∷ lines) rest last none h =
+    let parts = and_parts (not (asks_balance l.1)) (list_all (λ (k : Bool × Verdict). not (asks_balance k.1)) lines) none in
+    behind_lines lines rest last parts.1 (refused_by l.0 l.1 (first_of (lines ++ rest) last) h (not_true (asks_balance l.1) parts.0)).1
+
+-- an inquiry has passed the line that asks for a currency
+pub asks_balance-currency : (m : Contents) → asks_balance (verdict m) ≡ true → is_currency (text m 49) ≡ true
+unfolding verdict
+asks_balance-currency m h =
+    let completion : Bool × Verdict = (class m == 2 && function m == 2 && has m.elements 90, Reply 12) in
+    let digits = are_digits 1 19 (text m 2) && are_digits 6 6 (text m 3) in
+    let fields : Bool × Verdict = (not (digits && is_currency (text m 49)), Reply 30) in
+    let front = answered_lines m ++ network_lines m ++ key_lines m ++ reversal_lines m ++ completion ∷ [] in
+    let behind = behind_lines front (fields ∷ (act_lines m ++ amount_lines m)) (credited m) refl h in
+    let refused = (refused_by (not (digits && is_currency (text m 49))) (Reply 30) (first_of (act_lines m ++ amount_lines m) (credited m)) behind refl).0 in
+    (and_parts digits (is_currency (text m 49)) (not_false (digits && is_currency (text m 49)) refused)).1
+
+pub shown-currency : (m : Contents) (s : Option ℤ) (z : ℤ) → s ≡ Some z → is_showable m s ≡ true → length (text m 49) ≡ 3
+shown-currency m s z is h =
+    let some : is_showable m (Some z) ≡ true = rw is at h in
+    let asks = (and_parts (nat_le (unsigned_abs z) 999999999999) (asks_balance (verdict m)) some).1 in
+    let currency = asks_balance-currency m asks in
+    eqb-true (length (text m 49)) 3 (and_parts (length (text m 49) == 3) (list_all is_letter_or_digit (text m 49)) currency).0

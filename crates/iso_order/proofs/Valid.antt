@@ -1,0 +1,108 @@
+-- What a valid order keeps.
+use Rattle.std.proofs.Common.{◌≡◌, ◌≢◌, ℕ, ◌+◌, ◌-◌, ◌/◌, ◌%◌, ◌<◌, ◌≤◌, Bool, true, false, refl, arith, eq-eqb, le-leb, ◌^◌, ◌&&◌}
+use Rattle.std.proofs.lemmas.Bool.{and_parts, eqb-true, leb-true}
+use Rattle.std.proofs.lemmas.Bool.Decides.{nat_tests}
+use Rattle.iso_order.specs.declared.key.TxKey.{TxKey}
+use Rattle.iso_order.specs.declared.act.Act.{Act}
+use Rattle.iso_order.specs.declared.act.Act.TheVariants.{Debit, Credit, Inquiry, Undo}
+use Rattle.iso_order.specs.declared.act.Money.{Money}
+use Rattle.std.specs.Prelude.{IsTrue, ◌==◌, ◌||◌, nat_lt, nat_le}
+use Rattle.iso_order.specs.Fields.{asks, base_of, is_original}
+use Rattle.iso_order.specs.Key.{class_of, function_of, is_valid_key}
+use Rattle.iso_order.specs.Order.{Instruction, is_account, is_moved, is_payment, is_valid_act, is_valid, amount_of}
+
+moved-bound : (m : Money) → is_moved m ≡ true → m.amount < 1000000000000
+moved-bound m h = let most = (and_parts (is_account m && nat_le 1 m.amount) (nat_le m.amount 999999999999) h).1 in grind (arith, nat_tests)
+
+-- the amount of a valid order has at most twelve digits
+pub amount-bound : (key : TxKey) (act : Act) → is_valid_act key act ≡ true → amount_of act < 1000000000000
+amount-bound key (Debit m) h = moved-bound m (and_parts (is_payment key) (is_moved m) h).1
+amount-bound key (Credit m) h = moved-bound m (and_parts (class_of key == 2) (is_moved m) h).1
+amount-bound key (Inquiry m) h = let zero_amount = (and_parts (is_payment key && function_of key == 0) (m.amount == 0) (and_parts (is_payment key && function_of key == 0 && m.amount == 0) (is_account m) h).0).1 in grind (arith, nat_tests)
+amount-bound key (Undo k) h = omega arith
+
+-- the amount of an order has at most twelve digits
+pub valid-bound : (o : Instruction) → IsTrue (is_valid o) → amount_of o.act < 1000000000000
+unfolding is_valid
+valid-bound o h =
+    amount-bound o.key o.act (and_parts (is_valid_key o.key) (is_valid_act o.key o.act) h).1
+
+-- ---- keys
+
+-- what a message type without a repeat keeps of the one that it comes from
+pub record Base (mti base : ℕ) : Type 0 where
+  pub below : base < 1000
+  pub class : base / 100 % 10 ≡ mti / 100 % 10
+  pub function : base / 10 % 10 ≡ mti / 10 % 10
+  pub origin : (base % 10 == 0 || base % 10 == 2 || base % 10 == 4) ≡ true
+
+even_digit : (o : ℕ) → o ≤ 4 → o % 2 ≡ 0 → (o == 0 || o == 2 || o == 4) ≡ true
+even_digit o le even = grind (arith, nat_tests)
+
+pub base-keeps : (mti : ℕ) → mti / 1000 ≡ 0 → mti % 10 ≤ 5 → Base mti (base_of mti)
+base-keeps mti version origin =
+    record {
+      below = omega arith;
+      class = omega arith;
+      function = omega arith;
+      origin = even_digit (base_of mti % 10) (omega arith) (omega arith);
+    }
+
+pub key-valid : (k : TxKey) → k.base < 1000 → asks (function_of k) ≡ true → (k.base % 10 == 0 || k.base % 10 == 2 || k.base % 10 == 4) ≡ true → k.stan ≤ 999999 → k.sent ≤ 9999999999 → k.acquirer ≤ 99999999999 → is_valid_key k ≡ true
+key-valid k base function origin stan sent acquirer = grind (arith, nat_tests)
+
+pub key-acquirer : (k : TxKey) → is_valid_key k ≡ true → k.acquirer ≤ 99999999999
+key-acquirer k h = grind (arith, nat_tests)
+
+pub key-request : (k : TxKey) → is_valid_key k ≡ true → function_of k ≢ 2 → (function_of k == 0) ≡ true
+key-request k h request = grind (arith, nat_tests)
+
+-- ---- orders
+
+original_parts : (mti : ℕ) → is_original mti ≡ true → (mti / 1000 ≡ 0) × ((mti / 100 % 10 == 1 || mti / 100 % 10 == 2) ≡ true) × (asks (mti / 10 % 10) ≡ true) × (mti % 10 ≤ 5)
+original_parts mti h =
+    let origin = and_parts (mti / 1000 == 0 && (mti / 100 % 10 == 1 || mti / 100 % 10 == 2) && asks (mti / 10 % 10)) (nat_le (mti % 10) 5) h in
+    let function = and_parts (mti / 1000 == 0 && (mti / 100 % 10 == 1 || mti / 100 % 10 == 2)) (asks (mti / 10 % 10)) origin.0 in
+    let class = and_parts (mti / 1000 == 0) (mti / 100 % 10 == 1 || mti / 100 % 10 == 2) function.0 in
+    (eqb-true (mti / 1000) 0 class.0, class.1, function.1, leb-true (mti % 10) 5 origin.1)
+
+pub both_true : (p q : Bool) → p ≡ true → q ≡ true → (p && q) ≡ true
+both_true p q h k = rw h k
+
+module _ (key : TxKey) (mti stan sent : ℕ) (valid : is_valid_key key ≡ true) (original : is_original mti ≡ true) (stan_fits : stan < 10 ^ 6) (sent_fits : sent < 10 ^ 10) where
+  pub undo-valid : class_of key ≡ 4 → IsTrue (is_valid (record { key = key; act = Undo (record { base = base_of mti; stan = stan; sent = sent; acquirer = key.acquirer }) }))
+  unfolding is_valid
+  undo-valid class =
+      let parts = original_parts mti original in
+      let base = base-keeps mti parts.0 parts.3 in
+      let o : TxKey = record { base = base_of mti; stan = stan; sent = sent; acquirer = key.acquirer } in
+      let named : is_valid_key o ≡ true = key-valid o base.below (rw base.function parts.2) base.origin (omega arith) (omega arith) (key-acquirer key valid) in
+      let payment : is_payment o ≡ true = rw base.class parts.1 in
+      let four : (class_of key == 4) ≡ true = eq-eqb (class_of key) 4 class in
+      let own : (o.acquirer == key.acquirer) ≡ true = eq-eqb key.acquirer key.acquirer refl in
+      both_true (is_valid_key key) _ valid
+      (both_true (class_of key == 4 && is_valid_key o && is_payment o) (o.acquirer == key.acquirer)
+      (both_true (class_of key == 4 && is_valid_key o) (is_payment o) (both_true (class_of key == 4) (is_valid_key o) four named) payment) own)
+
+module _ (key : TxKey) (m : Money) (valid : is_valid_key key ≡ true) (account : is_account m ≡ true) where
+  moved : 1 ≤ m.amount → m.amount ≤ 999999999999 → is_moved m ≡ true
+  moved least most =
+      both_true (is_account m && nat_le 1 m.amount) (nat_le m.amount 999999999999)
+      (both_true (is_account m) (nat_le 1 m.amount) account (le-leb 1 m.amount least)) (le-leb m.amount 999999999999 most)
+
+  pub debit-valid : is_payment key ≡ true → 1 ≤ m.amount → m.amount ≤ 999999999999 → IsTrue (is_valid (record { key = key; act = Debit m }))
+  unfolding is_valid
+  debit-valid payment least most =
+      both_true (is_valid_key key) _ valid (both_true (is_payment key) (is_moved m) payment (moved least most))
+
+  pub credit-valid : class_of key ≡ 2 → 1 ≤ m.amount → m.amount ≤ 999999999999 → IsTrue (is_valid (record { key = key; act = Credit m }))
+  unfolding is_valid
+  credit-valid two least most =
+      both_true (is_valid_key key) _ valid (both_true (class_of key == 2) (is_moved m) (eq-eqb (class_of key) 2 two) (moved least most))
+
+  pub inquiry-valid : is_payment key ≡ true → function_of key ≢ 2 → m.amount ≡ 0 → IsTrue (is_valid (record { key = key; act = Inquiry m }))
+  unfolding is_valid
+  inquiry-valid payment request none =
+      both_true (is_valid_key key) _ valid
+      (both_true (is_payment key && function_of key == 0 && m.amount == 0) (is_account m)
+      (both_true (is_payment key && function_of key == 0) (m.amount == 0) (both_true (is_payment key) (function_of key == 0) payment (key-request key valid request)) (eq-eqb m.amount 0 none)) account)

@@ -1,0 +1,15 @@
+use Rattle.std.proofs.Common.{sym, ◌∙◌, arith}
+use Rattle.iso_order.proofs.Valid.{debit-valid, credit-valid}
+use Rattle.iso_order.proofs.verdict.moved.Goals as goal
+
+pub valid-requires : goal.valid-requires
+valid-requires c =
+    let below = c.in-Some.ensures.below in
+    debit-valid c.args.key.now (record { pan = c.args.money.pan; amount = c.in-Some.amount; currency = c.args.money.currency }) c.requires.valid c.requires.account
+    c.requires.class (omega (arith, c.in-Some.amount-test.1)) (omega (arith, below))
+
+pub valid-requires-2 : goal.valid-requires-2
+valid-requires-2 c =
+    let below = c.in-Some.ensures.below in
+    credit-valid c.args.key.now (record { pan = c.args.money.pan; amount = c.in-Some.amount; currency = c.args.money.currency }) c.requires.valid c.requires.account
+    (c.requires.credit (sym c.is_debit.ensures ∙ c.if-is_debit.false)) (omega (arith, c.in-Some.amount-test.1)) (omega (arith, below))

@@ -1,0 +1,93 @@
+-- What is read in a message.
+use Rattle.std.specs.Prelude.{ℕ, Bool, ◌-◌, ◌/◌, ◌%◌, ◌==◌, ◌&&◌, ◌||◌, nat_le, unwrap_or, List, [], length, take, drop}
+use Rattle.iso_wire.specs.Contents.{Contents}
+use Rattle.iso_wire.specs.Elements.{value_in}
+use Rattle.iso_order.specs.declared.act.Money.{Money}
+use Rattle.iso_order.specs.declared.key.TxKey.{TxKey}
+use Rattle.iso_order.specs.Text.{are_digits, number}
+
+-- ---- its type: version, class, function and origin (ISO 8583:1987, message type identifier)
+
+abbrev pub version : Contents → ℕ
+version m = m.mti / 1000
+
+abbrev pub class : Contents → ℕ
+class m = m.mti / 100 % 10
+
+abbrev pub function : Contents → ℕ
+function m = m.mti / 10 % 10
+
+abbrev pub origin : Contents → ℕ
+origin m = m.mti % 10
+
+-- a request and an advice ask for a response
+abbrev pub asks : ℕ → Bool
+asks f = f == 0 || f == 2
+
+-- the type without a repeat: the origin is rounded down to even
+abbrev pub base_of : ℕ → ℕ
+base_of mti = mti - mti % 2
+
+-- ---- its elements
+
+-- the value of an element, nothing where it is missing
+abbrev pub text : Contents → ℕ → List ℕ
+text m n = unwrap_or (value_in m.elements n) []
+
+-- the number of some of the digits of a value
+abbrev pub part : ℕ → ℕ → List ℕ → ℕ
+part from count v = number (take count (drop from v))
+
+-- the time, the trace number and the acquirer are there (elements 7, 11, 32)
+abbrev pub has_key : Contents → Bool
+has_key m = are_digits 10 10 (text m 7) && are_digits 6 6 (text m 11) && are_digits 1 11 (text m 32)
+
+-- the key of its transaction
+abbrev pub key_of : Contents → TxKey
+key_of m = record { base = base_of m.mti; stan = number (text m 11); sent = number (text m 7); acquirer = number (text m 32) }
+
+-- the money that it speaks of, but for the amount (elements 2, 49)
+abbrev pub money_of : Contents → ℕ → Money
+money_of m amount = record { pan = record { digits = number (text m 2); len = length (text m 2) }; amount = amount; currency = text m 49 }
+
+-- ---- the transaction that a reversal names (element 90, original data elements)
+
+-- the message type, the trace number, the time and the acquirer
+abbrev pub original_mti : Contents → ℕ
+original_mti m = part 0 4 (text m 90)
+
+abbrev pub original_stan : Contents → ℕ
+original_stan m = part 4 6 (text m 90)
+
+abbrev pub original_sent : Contents → ℕ
+original_sent m = part 10 10 (text m 90)
+
+abbrev pub original_acquirer : Contents → ℕ
+original_acquirer m = part 20 11 (text m 90)
+
+-- a request or an advice of class 1 or 2, or a repeat of one
+abbrev pub is_original : ℕ → Bool
+is_original mti = mti / 1000 == 0 && (mti / 100 % 10 == 1 || mti / 100 % 10 == 2) && asks (mti / 10 % 10) && nat_le (mti % 10) 5
+
+-- no acquirer, or the message's own
+abbrev pub is_own : Contents → Bool
+is_own m = original_acquirer m == 0 || original_acquirer m == number (text m 32)
+
+-- its key, under the message's own acquirer
+abbrev pub original_of : Contents → TxKey
+original_of m = record { base = base_of (original_mti m); stan = original_stan m; sent = original_sent m; acquirer = number (text m 32) }
+
+-- ---- what is asked of an account (element 3, processing code)
+
+-- its first two digits
+abbrev pub kind : Contents → ℕ
+kind m = part 0 2 (text m 3)
+
+abbrev pub is_debit : ℕ → Bool
+is_debit k = k == 0 || k == 1
+
+abbrev pub is_credit : ℕ → Bool
+is_credit k = k == 20 || k == 21
+
+abbrev pub is_inquiry : ℕ → Bool
+is_inquiry k = k == 31

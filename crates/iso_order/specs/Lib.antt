@@ -1,0 +1,9 @@
+pub mod AccountNumber
+pub mod Fields
+pub mod Key
+pub mod Order
+pub mod Outcome
+pub mod Pan
+pub mod Response
+pub mod Text
+pub mod Verdict

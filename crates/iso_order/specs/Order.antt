@@ -1,0 +1,78 @@
+-- What an order is, and which orders a message can carry.
+use Rattle.std.specs.Prelude.{ℕ, Bool, false, List, length, ◌==◌, ◌&&◌, ◌||◌, nat_le}
+use Rattle.std.specs.List.{list_all}
+use Rattle.std.specs.Str.{bytes_eq}
+use Rattle.iso_order.specs.declared.key.TxKey.{TxKey}
+use Rattle.iso_order.specs.declared.act.Act.{Act}
+use Rattle.iso_order.specs.declared.act.Act.TheVariants.{Debit, Credit, Inquiry, Undo}
+use Rattle.iso_order.specs.declared.act.Money.{Money}
+use Rattle.iso_order.specs.AccountNumber.{AccountNumber, is_pan}
+use Rattle.iso_order.specs.Key.{class_of, function_of, is_valid_key, same_key}
+
+-- the key under which it is asked, and what is asked
+pub record Instruction : Type 0 where
+  pub key : TxKey
+  pub act : Act
+
+-- ---- which orders are valid
+
+abbrev pub is_letter_or_digit : ℕ → Bool
+is_letter_or_digit b = (nat_le 48 b && nat_le b 57) || (nat_le 65 b && nat_le b 90) || (nat_le 97 b && nat_le b 122)
+
+-- three letters or digits (element 49, currency code)
+abbrev pub is_currency : List ℕ → Bool
+is_currency text = length text == 3 && list_all is_letter_or_digit text
+
+-- an account number and a currency (elements 2, 49)
+abbrev pub is_account : Money → Bool
+is_account m = is_pan m.pan && is_currency m.currency
+
+-- an amount from 1 to twelve nines (element 4)
+abbrev pub is_moved : Money → Bool
+is_moved m = is_account m && nat_le 1 m.amount && nat_le m.amount 999999999999
+
+-- class 1 or 2
+abbrev pub is_payment : TxKey → Bool
+is_payment k = class_of k == 1 || class_of k == 2
+
+-- what a message with the key can ask
+abbrev pub is_valid_act : TxKey → Act → Bool
+is_valid_act key (Debit m) = is_payment key && is_moved m
+is_valid_act key (Credit m) = class_of key == 2 && is_moved m
+is_valid_act key (Inquiry m) = is_payment key && function_of key == 0 && m.amount == 0 && is_account m
+is_valid_act key (Undo original) = class_of key == 4 && is_valid_key original && is_payment original && original.acquirer == key.acquirer
+
+-- an order that a message can carry
+unfoldable pub is_valid : Instruction → Bool
+is_valid o = is_valid_key o.key && is_valid_act o.key o.act
+
+-- ---- which orders are one
+
+abbrev pub same_pan : AccountNumber → AccountNumber → Bool
+same_pan a b = a.digits == b.digits && a.len == b.len
+
+abbrev pub same_currency : List ℕ → List ℕ → Bool
+same_currency a b = bytes_eq a b
+
+abbrev pub same_money : Money → Money → Bool
+same_money a b = same_pan a.pan b.pan && a.amount == b.amount && same_currency a.currency b.currency
+
+abbrev pub same_act : Act → Act → Bool
+same_act (Debit a) (Debit b) = same_money a b
+same_act (Credit a) (Credit b) = same_money a b
+same_act (Inquiry a) (Inquiry b) = same_money a b
+same_act (Undo a) (Undo b) = same_key a b
+same_act _ _ = false
+
+-- the same is asked under the same key
+abbrev pub same_order : Instruction → Instruction → Bool
+same_order a b = same_key a.key b.key && same_act a.act b.act
+
+-- ---- amounts
+
+-- the amount that an order moves or holds, 0 where it does neither
+abbrev pub amount_of : Act → ℕ
+amount_of (Debit m) = m.amount
+amount_of (Credit m) = m.amount
+amount_of (Inquiry m) = m.amount
+amount_of (Undo k) = 0

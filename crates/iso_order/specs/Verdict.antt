@@ -1,0 +1,105 @@
+-- The verdict on a message: a table of cases, of which the first that holds decides.
+use Rattle.std.specs.Prelude.{ℕ, Bool, not, ◌==◌, ◌&&◌, ◌||◌, nat_lt, if◌then◌else◌, List, [], ◌∷◌, ◌++◌}
+use Rattle.iso_wire.specs.Contents.{Contents}
+use Rattle.iso_wire.specs.Elements.{has}
+use Rattle.iso_order.specs.declared.act.Act.{Act}
+use Rattle.iso_order.specs.declared.act.Act.TheVariants.{Debit, Credit, Inquiry, Undo}
+use Rattle.iso_order.specs.declared.verdict.Verdict.{Verdict}
+use Rattle.iso_order.specs.declared.verdict.Verdict.TheVariants.{Order, Reply, Silent}
+use Rattle.iso_order.specs.Fields.{version, class, function, origin, asks, text, has_key, key_of, money_of, original_mti, is_original, is_own, original_of, kind, is_debit, is_credit, is_inquiry}
+use Rattle.iso_order.specs.Order.{Instruction, is_currency}
+use Rattle.iso_order.specs.Text.{are_digits, number}
+
+-- the verdict of the first case that holds, else the last one
+abbrev pub first_of : List (Bool × Verdict) → Verdict → Verdict
+first_of [] last = last
+first_of (line ∷ lines) last = if line.0 then line.1 else first_of lines last
+
+-- what is asked under the message's key
+abbrev pub asked : Contents → Act → Verdict
+asked m act = Order (record { key = key_of m; act = act })
+
+-- ---- the lines of the table
+
+-- who is answered at all
+abbrev pub answered_lines : Contents → List (Bool × Verdict)
+answered_lines m =
+    (not (version m == 0 && asks (function m)), Silent)
+    ∷ (nat_lt 5 (origin m), Reply 12)
+    ∷ []
+
+-- class 8: sign on, sign off and the echo test (element 70, network management information code)
+abbrev pub network_lines : Contents → List (Bool × Verdict)
+network_lines m =
+    (class m == 8 && not (are_digits 3 3 (text m 70)), Reply 30)
+    ∷ (class m == 8 && (number (text m 70) == 1 || number (text m 70) == 2 || number (text m 70) == 301), Reply 0)
+    ∷ []
+
+-- classes that are served, and messages that have a key
+abbrev pub key_lines : Contents → List (Bool × Verdict)
+key_lines m =
+    (not (class m == 1 || class m == 2 || class m == 4), Reply 12)
+    ∷ (not (has_key m), Reply 30)
+    ∷ []
+
+-- class 4: a reversal of the transaction that element 90 names; replacement amounts (element 95) aren't served
+abbrev pub reversal_lines : Contents → List (Bool × Verdict)
+reversal_lines m =
+    (class m == 4 && has m.elements 95, Reply 12)
+    ∷ (class m == 4 && not (are_digits 42 42 (text m 90)), Reply 30)
+    ∷ (class m == 4 && not (is_original (original_mti m)), Reply 12)
+    ∷ (class m == 4 && not (is_own m), Reply 12)
+    ∷ (class m == 4, asked m (Undo (original_of m)))
+    ∷ []
+
+-- classes 1 and 2: the account, the processing code and the currency (elements 2, 3, 49)
+abbrev pub account_lines : Contents → List (Bool × Verdict)
+account_lines m =
+    (class m == 2 && function m == 2 && has m.elements 90, Reply 12)
+    ∷ (not (are_digits 1 19 (text m 2) && are_digits 6 6 (text m 3) && is_currency (text m 49)), Reply 30)
+    ∷ []
+
+-- classes 1 and 2: which acts are served (element 3)
+abbrev pub act_lines : Contents → List (Bool × Verdict)
+act_lines m =
+    (not (is_debit (kind m) || is_credit (kind m) || is_inquiry (kind m)), Reply 12)
+    ∷ ((is_credit (kind m) && class m == 1) || (is_inquiry (kind m) && function m == 2), Reply 12)
+    ∷ (is_inquiry (kind m), asked m (Inquiry (money_of m 0)))
+    ∷ []
+
+-- classes 1 and 2: the amount (element 4)
+abbrev pub amount_lines : Contents → List (Bool × Verdict)
+amount_lines m =
+    (not (are_digits 12 12 (text m 4)), Reply 30)
+    ∷ (number (text m 4) == 0, Reply 13)
+    ∷ (is_debit (kind m), asked m (Debit (money_of m (number (text m 4)))))
+    ∷ []
+
+-- the last line: a credit
+abbrev pub credited : Contents → Verdict
+credited m = asked m (Credit (money_of m (number (text m 4))))
+
+-- the whole table
+unfoldable pub verdict : Contents → Verdict
+verdict m =
+    first_of (answered_lines m ++ network_lines m ++ key_lines m ++ reversal_lines m ++ account_lines m ++ act_lines m ++ amount_lines m) (credited m)
+
+-- ---- what an order of a verdict keeps
+
+-- a fact on the order, where there is one
+abbrev pub IfOrder : Verdict → (Instruction → Type 0) → Type 0
+IfOrder (Order o) P = P o
+IfOrder (Reply code) P = Unit {0}
+IfOrder Silent P = Unit {0}
+
+-- a fact where there is an answer
+abbrev pub IfAnswered : Verdict → Type 0 → Type 0
+IfAnswered (Order o) P = P
+IfAnswered (Reply code) P = P
+IfAnswered Silent P = Unit {0}
+
+-- a fact on the response code, where the message is answered at once
+abbrev pub IfReply : Verdict → (ℕ → Type 0) → Type 0
+IfReply (Reply code) P = P code
+IfReply (Order o) P = Unit {0}
+IfReply Silent P = Unit {0}

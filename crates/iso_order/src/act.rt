@@ -1,0 +1,102 @@
+//! What an order asks.
+
+ghost use Rattle.std.specs.Prelude.{◌≡◌, Some, None, if◌then◌else◌};
+ghost use Rattle.std.specs.List.{list_all};
+ghost use Rattle.iso_order.specs.Order.{is_letter_or_digit, is_currency, is_account, is_moved, is_valid_act};
+
+use crate::key::TxKey;
+use crate::pan::Pan;
+
+/// An amount of a currency, on an account.
+#[derive(Clone, Copy, Debug, PartialEq, Eq)]
+pub struct Money {
+    /// The account (element 2).
+    pub pan: Pan,
+    /// The amount in minor units (element 4), 0 in an inquiry.
+    pub amount: u64,
+    /// The currency (element 49): three letters or digits.
+    pub currency: [u8; 3],
+}
+
+/// What an order asks.
+#[derive(Clone, Copy, Debug, PartialEq, Eq)]
+pub enum Act {
+    /// Take the amount from the account: hold it in class 1, post it in class 2.
+    Debit(Money),
+    /// Give the amount to the account.
+    Credit(Money),
+    /// Tell what is available.
+    Inquiry(Money),
+    /// Take back the transaction of that key, whenever it comes.
+    Undo(TxKey),
+}
+
+fn is_letter_or_digit(byte: u8) -> bool
+    ensures { result ≡ is_letter_or_digit byte }
+{
+    matches!(byte, b'0'..=b'9' | b'A'..=b'Z' | b'a'..=b'z')
+}
+
+fn are_letters_or_digits(text: &[u8]) -> bool
+    ensures { result ≡ list_all is_letter_or_digit text.now }
+{
+    text.iter().all(|byte| is_letter_or_digit(*byte))
+}
+
+/// Whether the text is a currency: three letters or digits.
+fn is_currency(text: &[u8]) -> bool
+    ensures { result ≡ is_currency text.now }
+{
+    text.len() == 3 && are_letters_or_digits(text)
+}
+
+/// The currency that a text is: three letters or digits.
+pub(crate) fn currency_of(text: &[u8]) -> Option<[u8; 3]>
+    ensures { result ≡ (if is_currency text.now then Some text.now else None) }
+{
+    match text {
+        [a, b, c] if are_letters_or_digits(text) => Some([*a, *b, *c]),
+        _ => None,
+    }
+}
+
+impl Money {
+    /// Whether it names an account and a currency.
+    fn is_account(&self) -> bool
+        ensures { result ≡ is_account self.now }
+    {
+        let _digits = self.pan.len();
+        is_currency(&self.currency)
+    }
+
+    /// Whether it is an amount that can be moved: 1 to 999,999,999,999.
+    fn is_moved(&self) -> bool
+        ensures { result ≡ is_moved self.now }
+    {
+        self.is_account() && 1 <= self.amount && self.amount <= 999_999_999_999
+    }
+}
+
+impl Act {
+    /// Whether a message with that key can ask it.
+    pub(crate) fn is_valid(&self, key: &TxKey) -> bool
+        ensures { result ≡ is_valid_act key.now self.now }
+    {
+        match self {
+            Act::Debit(money) => matches!(key.class(), 1 | 2) && money.is_moved(),
+            Act::Credit(money) => key.class() == 2 && money.is_moved(),
+            Act::Inquiry(money) => {
+                matches!(key.class(), 1 | 2)
+                    && key.function() == 0
+                    && money.amount == 0
+                    && money.is_account()
+            }
+            Act::Undo(original) => {
+                key.class() == 4
+                    && original.is_valid()
+                    && matches!(original.class(), 1 | 2)
+                    && original.acquirer == key.acquirer
+            }
+        }
+    }
+}

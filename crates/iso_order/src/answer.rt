@@ -1,0 +1,27 @@
+//! What an issuer answers.
+
+use std::marker::Model;
+
+/// What an issuer answers to an order.
+#[derive(Clone, Copy, Debug, PartialEq, Eq)]
+pub struct Answer {
+    /// The response code (element 39): two digits, 0 where the order is granted.
+    pub code: u8,
+    /// The place of the order in the journal, 0 where it has none: at most 999,999.
+    pub seq: u32,
+    /// The balance that an inquiry shows.
+    pub shown: Option<i64>,
+}
+
+impl Model for Answer {
+    ghost use Rattle.std.specs.Prelude.{◌≤◌};
+    ghost use Rattle.iso_order.specs.Outcome.{Outcome};
+
+    ghost Value = { Outcome };
+
+    ghost view = { λ a. record { code = a.code; seq = a.seq; shown = a.shown } };
+
+    ghost invariant = { λ a. (a.code ≤ 99) × (a.seq ≤ 999999) };
+
+    ghost inverse = { λ v. record { code = v.code; seq = v.seq; shown = v.shown } };
+}

@@ -1,0 +1,58 @@
+//! Account numbers.
+
+ghost use Rattle.std.specs.Prelude.{◌≡◌, true};
+ghost use Rattle.iso_order.specs.Pan.{pan_of};
+
+use crate::text::number_of;
+use std::marker::Model;
+
+/// An account number: 1 to 19 digits (element 2). `01` and `1` are two account numbers.
+#[derive(Clone, Copy, Debug, PartialEq, Eq, PartialOrd, Ord, Hash)]
+pub struct Pan {
+    digits: u64,
+    len: u8,
+}
+
+impl Model for Pan {
+    ghost use Rattle.std.specs.Prelude.{◌≡◌, true};
+    ghost use Rattle.iso_order.specs.AccountNumber.{AccountNumber, is_pan};
+
+    ghost Value = { AccountNumber };
+
+    ghost view = { λ p. record { digits = p.digits; len = p.len } };
+
+    ghost invariant = { λ p. is_pan (record { digits = p.digits; len = p.len }) ≡ true };
+
+    ghost inverse = { λ v. record { digits = v.digits; len = v.len } };
+}
+
+impl Pan {
+    ghost use Rattle.iso_order.specs.AccountNumber.{is_pan};
+
+    /// The account number that a text of 1 to 19 digits is; `None` for every other text. Takes no memory.
+    pub fn from_digits(text: &[u8]) -> Option<Pan>
+        ensures { result ≡ pan_of text.now }
+    {
+        let digits = number_of(text, 1, 19)?;
+        Some(Pan {
+            digits,
+            len: text.len() as u8,
+        })
+    }
+
+    /// The digits, as a number. Takes no memory.
+    pub fn digits(&self) -> u64
+        ensures value { result ≡ self.now.digits }
+        ensures valid { is_pan self.now ≡ true }
+    {
+        self.digits
+    }
+
+    /// How many digits there are. Takes no memory.
+    pub fn len(&self) -> u8
+        ensures value { result ≡ self.now.len }
+        ensures valid { is_pan self.now ≡ true }
+    {
+        self.len
+    }
+}

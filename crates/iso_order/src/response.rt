@@ -1,0 +1,195 @@
+//! The response to a message.
+
+ghost use Rattle.std.specs.Prelude.{◌≡◌, ℕ, ◌≤◌, ◌^◌, ◌++◌, ◌∷◌, length, true, false, [], OnOk, IfOk, unsigned_abs};
+ghost use Rattle.iso_parts.specs.Mti.{number};
+ghost use Rattle.iso_wire.specs.Decimal.{decimal};
+ghost use Rattle.iso_wire.specs.Elements.{value_in, is_number, IsBelow};
+ghost use Rattle.iso_order.specs.Fields.{class, function, asks, text};
+ghost use Rattle.iso_order.specs.Response.{response, response_mti, is_echoed, is_approved, sign, approval, additional, balance, element, entry, elements_at, ascend, is_responded, is_showable};
+
+use crate::answer::Answer;
+use crate::fields::{text, type_of};
+use iso_parts::Mti;
+use iso_table::NoMemory;
+use iso_wire::Message;
+use std::alloc::{AllocError, Global};
+
+/// The elements that a response can have.
+const ANSWERED: [u8; 18] = [
+    2, 3, 4, 7, 11, 12, 13, 32, 33, 37, 38, 39, 41, 42, 49, 54, 70, 90,
+];
+
+/// Writes the number's last digits, as many as there are places.
+fn write_decimal(out: &mut [u8], v: u64)
+    ensures { out.new ≡ decimal (length out.old) v }
+{
+    let mut rest = v;
+    let mut at = out.len();
+    while at > 0 {
+        at -= 1;
+        out[at] = b'0' + (rest % 10) as u8;
+        rest /= 10;
+    }
+}
+
+/// The type of the response: the next function, and no repeat.
+fn response_type(message: &Message) -> Mti
+    requires { asks (function message.now) ≡ true }
+    ensures { number result ≡ response_mti message.now.mti }
+{
+    message.mti().response().unwrap()
+}
+
+/// Whether a payment is granted, and has a place in the journal.
+fn is_approved(message: &Message, answer: &Answer) -> bool
+    ensures { result ≡ is_approved message.now answer.now }
+{
+    let class = type_of(message).class;
+    answer.code == 0 && answer.seq > 0 && (class == 1 || class == 2)
+}
+
+/// `C`, or `D` below zero.
+fn sign(shown: i64) -> u8
+    ensures { result ≡ sign shown }
+{
+    if shown < 0 { b'D' } else { b'C' }
+}
+
+/// An additional amount: account type 00, amount type 02, currency, sign and twelve digits.
+fn block(currency: &[u8], sign: u8, amount: u64) -> [u8; 20]
+    requires { length currency.now ≡ 3 }
+    ensures { result ≡ 48 ∷ 48 ∷ 48 ∷ 50 ∷ (currency.now ++ sign ∷ decimal 12 amount) }
+{
+    match currency {
+        [a, b, c] => {
+            let mut block = [
+                b'0', b'0', b'0', b'2', *a, *b, *c, sign, 0, 0, 0, 0, 0, 0, 0, 0, 0, 0, 0, 0,
+            ];
+            write_decimal(&mut block[8..], amount);
+            block
+        }
+        _ => unreachable!(),
+    }
+}
+
+/// What is available, as an additional amount.
+fn additional(currency: &[u8], shown: i64) -> [u8; 20]
+    requires { length currency.now ≡ 3 }
+    ensures { result ≡ additional currency.now shown }
+{
+    block(currency, sign(shown), shown.unsigned_abs())
+}
+
+/// Adds the approval number, where there is one.
+fn add_approval(
+    message: &Message,
+    answer: &Answer,
+    response: &mut Message,
+) -> Result<(), AllocError>
+    requires { IsBelow 38 response.old.elements }
+    ensures { OnOk result (response.new ≡ record response.old {
+      elements = response.old.elements ++ entry 38 (approval message.now answer.now);
+    }) }
+{
+    if !is_approved(message, answer) {
+        return Ok(());
+    }
+    let mut digits = [0; 6];
+    write_decimal(&mut digits, answer.seq as u64);
+    response.append(38, &digits)
+}
+
+/// Adds the response code.
+fn add_code(answer: &Answer, response: &mut Message) -> Result<(), AllocError>
+    requires { IsBelow 39 response.old.elements }
+    ensures { OnOk result (response.new ≡ record response.old {
+      elements = response.old.elements ++ (39, decimal 2 answer.now.code) ∷ [];
+    }) }
+{
+    let mut digits = [0; 2];
+    write_decimal(&mut digits, answer.code as u64);
+    response.append(39, &digits)
+}
+
+/// Adds the balance, where one is shown.
+fn add_balance(message: &Message, answer: &Answer, response: &mut Message) -> Result<(), AllocError>
+    requires behind { IsBelow 54 response.old.elements }
+    requires shown { is_showable message.now answer.now.shown ≡ true }
+    ensures { OnOk result (response.new ≡ record response.old {
+      elements = response.old.elements ++ entry 54 (balance message.now answer.now);
+    }) }
+{
+    match answer.shown {
+        Some(shown) => response.append(54, &additional(text(message, 49), shown)),
+        None => Ok(()),
+    }
+}
+
+/// Gives an element of the message back.
+fn echo(message: &Message, n: u8, response: &mut Message) -> Result<(), AllocError>
+    requires number { is_number n ≡ true }
+    requires behind { IsBelow n response.old.elements }
+    ensures { OnOk result (response.new ≡ record response.old {
+      elements = response.old.elements ++ entry n (value_in message.now.elements n);
+    }) }
+{
+    match message.get(n) {
+        Some(value) => response.append(n, value),
+        None => Ok(()),
+    }
+}
+
+/// Adds an element of the response, where it has a value.
+fn add(message: &Message, answer: &Answer, n: u8, response: &mut Message) -> Result<(), AllocError>
+    requires number { is_responded n ≡ true }
+    requires behind { IsBelow n response.old.elements }
+    requires shown { is_showable message.now answer.now.shown ≡ true }
+    ensures ok { OnOk result (response.new ≡ record response.old {
+      elements = response.old.elements ++ entry n (element message.now answer.now n);
+    }) }
+{
+    match n {
+        38 => add_approval(message, answer, response),
+        39 => add_code(answer, response),
+        54 => add_balance(message, answer, response),
+        _ => echo(message, n, response),
+    }
+}
+
+/// Adds the elements of those numbers.
+fn add_all(
+    message: &Message,
+    answer: &Answer,
+    numbers: &[u8],
+    response: &mut Message,
+) -> Result<(), AllocError>
+    requires numbers { ascend 2 numbers.now ≡ true }
+    requires empty { response.old.elements ≡ [] }
+    requires shown { is_showable message.now answer.now.shown ≡ true }
+    ensures { OnOk result (response.new ≡ record response.old {
+      elements = elements_at (element message.now answer.now) numbers.now;
+    }) }
+{
+    for n in numbers {
+        add(message, answer, *n, response)?;
+    }
+    Ok(())
+}
+
+/// The response to a message, which asks for one: what the message has of the elements that are given back, the
+/// response code (element 39), where a payment is granted its approval number (38), and the balance that is
+/// shown (54).
+pub fn respond(alloc: Global, message: &Message, answer: &Answer) -> Result<Message, NoMemory>
+    // A request or an advice.
+    requires asks { asks (function message.now) ≡ true }
+    // A balance of at most twelve digits, shown where the verdict is an inquiry.
+    requires shown { is_showable message.now answer.now.shown ≡ true }
+    ensures whole { IfOk result (λ made. made ≡ response message.now answer.now) }
+    // Element by element.
+    ensures each { IfOk result (λ made. (n : ℕ) → 2 ≤ n → n ≤ 128
+        → value_in made.elements n ≡ element message.now answer.now n) }
+{
+    let mut response = Message::new(alloc, response_type(message));
+    add_all(message, answer, &ANSWERED, &mut response)?;
+    Ok(response)
+}

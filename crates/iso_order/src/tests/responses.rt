@@ -1,0 +1,175 @@
+//! The responses that messages get.
+
+use super::{message, payment};
+use crate::{Act, Answer, Verdict, order_of, respond};
+use iso_wire::Message;
+use std::alloc::Global;
+use std::test::Fail;
+
+/// The response to a message that is answered.
+fn response(alloc: Global, message: &Message, code: u8, seq: u32) -> Result<Message, Fail> {
+    if code > 99 || seq > 999_999 {
+        return Err("no answer".into());
+    }
+    let shown = None;
+    match order_of(message) {
+        Verdict::Silent => Err("silent".into()),
+        Verdict::Reply(_) | Verdict::Order(_) => {
+            Ok(respond(alloc, message, &Answer { code, seq, shown })?)
+        }
+    }
+}
+
+/// A message, what it is answered, and the response.
+#[derive(Drop)]
+struct Case {
+    name: &'static str,
+    mti: u16,
+    asked: &'static [(u8, &'static [u8])],
+    code: u8,
+    seq: u32,
+    response: u16,
+    answered: &'static [(u8, &'static [u8])],
+}
+
+fn cases() -> [Case; 4] {
+    [
+        Case {
+            name: "granted",
+            mti: 201,
+            asked: &[
+                (2, b"4111111111111111"),
+                (3, b"000000"),
+                (4, b"000000001000"),
+                (7, b"0102030405"),
+                (11, b"000007"),
+                (32, b"12345"),
+                (49, b"840"),
+            ],
+            code: 0,
+            seq: 1,
+            response: 210,
+            answered: &[
+                (2, b"4111111111111111"),
+                (3, b"000000"),
+                (4, b"000000001000"),
+                (7, b"0102030405"),
+                (11, b"000007"),
+                (32, b"12345"),
+                (38, b"000001"),
+                (39, b"00"),
+                (49, b"840"),
+            ],
+        },
+        Case {
+            name: "declined",
+            mti: 100,
+            asked: &[
+                (2, b"4111111111111111"),
+                (3, b"000000"),
+                (4, b"000000001000"),
+                (7, b"0102030405"),
+                (11, b"000007"),
+                (14, b"0130"),
+                (32, b"12345"),
+                (41, b"TERM1"),
+                (49, b"840"),
+            ],
+            code: 51,
+            seq: 2,
+            response: 110,
+            answered: &[
+                (2, b"4111111111111111"),
+                (3, b"000000"),
+                (4, b"000000001000"),
+                (7, b"0102030405"),
+                (11, b"000007"),
+                (32, b"12345"),
+                (39, b"51"),
+                (41, b"TERM1"),
+                (49, b"840"),
+            ],
+        },
+        Case {
+            name: "reversed",
+            mti: 420,
+            asked: &[
+                (7, b"0102030500"),
+                (11, b"000008"),
+                (32, b"12345"),
+                (90, b"020000000701020304050000001234500000000000"),
+            ],
+            code: 0,
+            seq: 2,
+            response: 430,
+            answered: &[
+                (7, b"0102030500"),
+                (11, b"000008"),
+                (32, b"12345"),
+                (39, b"00"),
+                (90, b"020000000701020304050000001234500000000000"),
+            ],
+        },
+        Case {
+            name: "signed on",
+            mti: 820,
+            asked: &[(7, b"0102030405"), (70, b"001"), (128, b"code")],
+            code: 0,
+            seq: 0,
+            response: 830,
+            answered: &[(7, b"0102030405"), (39, b"00"), (70, b"001")],
+        },
+    ]
+}
+
+#[test]
+fn responses(rt: HostRuntime) -> Result<(), Fail> {
+    for case in cases() {
+        let asked = message(rt.alloc(), case.mti, case.asked)?;
+        let made = response(rt.alloc(), &asked, case.code, case.seq)?;
+        let want = message(rt.alloc(), case.response, case.answered)?;
+        assert!(rt; made.equals(&want), "{}", case.name);
+    }
+    Ok(())
+}
+
+/// The response to an inquiry that shows a balance.
+fn shown(alloc: Global, message: &Message, shown: i64) -> Result<Message, Fail> {
+    if shown.unsigned_abs() > 999_999_999_999 {
+        return Err("too wide".into());
+    }
+    let Verdict::Order(order) = order_of(message) else {
+        return Err("no order".into());
+    };
+    let Act::Inquiry(_) = order.act() else {
+        return Err("no inquiry".into());
+    };
+    let shown = Some(shown);
+    Ok(respond(
+        alloc,
+        message,
+        &Answer {
+            code: 0,
+            seq: 2,
+            shown,
+        },
+    )?)
+}
+
+#[test]
+fn balances(rt: HostRuntime) -> Result<(), Fail> {
+    let cases: [(&str, i64, &[u8]); 4] = [
+        ("above zero", 4000, b"0002840C000000004000"),
+        ("below zero", -50, b"0002840D000000000050"),
+        ("zero", 0, b"0002840C000000000000"),
+        ("twelve digits", -999_999_999_999, b"0002840D999999999999"),
+    ];
+    for (name, balance, text) in cases {
+        let inquiry = payment(rt.alloc(), 200, 3, Some(b"310000"))?;
+        let made = shown(rt.alloc(), &inquiry, balance)?;
+        assert_eq!(rt; made.get(54), Some(text), "{name}");
+        assert_eq!(rt; made.get(39), Some(b"00".as_slice()), "{name}");
+        assert_eq!(rt; made.get(38), Some(b"000002".as_slice()), "{name}");
+    }
+    Ok(())
+}

@@ -1,0 +1,286 @@
+//! What a message asks of an issuer.
+
+ghost use Rattle.std.specs.Prelude.{◌≡◌, ◌==◌, ◌&&◌, ◌≤◌, ◌++◌, ◌⊎◌, List, Bool, true, false, Some, None, IsTrue, if◌then◌else◌};
+ghost use Rattle.iso_wire.specs.Elements.{has};
+ghost use Rattle.iso_order.specs.Fields.{version, class, function, origin, asks, key_of, is_original, kind, is_debit, is_credit, is_inquiry, money_of, part};
+ghost use Rattle.iso_order.specs.Key.{class_of, function_of, is_valid_key};
+ghost use Rattle.iso_order.specs.Order.{is_valid, is_account, is_currency, is_payment};
+ghost use Rattle.iso_order.specs.Text.{are_digits};
+ghost use Rattle.iso_order.specs.Verdict.{first_of, network_lines, key_lines, reversal_lines, account_lines, act_lines, amount_lines, credited, verdict, IfReply, IfOrder, IfAnswered};
+
+use crate::act::{Act, Money, currency_of};
+use crate::fields::{base_of, has, key_of, text, type_of};
+use crate::key::TxKey;
+use crate::order::Order;
+use crate::pan::Pan;
+use crate::text::{are_digits, number_of, part};
+use iso_wire::Message;
+
+/// What a message asks, and what it gets where it asks nothing of the issuer.
+#[derive(Clone, Copy, Debug, PartialEq, Eq)]
+pub enum Verdict {
+    /// The issuer decides.
+    Order(Order),
+    /// It is answered at once, with this response code.
+    Reply(u8),
+    /// It is not answered.
+    Silent,
+}
+
+/// Class 8: sign on, sign off and the echo test.
+fn network(message: &Message) -> Verdict
+    requires { class message.now ≡ 8 }
+    ensures { result ≡ first_of (network_lines message.now) (Verdict.Reply 12) }
+{
+    match number_of(text(message, 70), 3, 3) {
+        None => Verdict::Reply(30),
+        Some(1 | 2 | 301) => Verdict::Reply(0),
+        Some(_) => Verdict::Reply(12),
+    }
+}
+
+/// Whether the number is the type of a message that can be reversed.
+fn is_original(mti: u16) -> bool
+    ensures { result ≡ is_original mti }
+{
+    mti / 1000 == 0
+        && matches!(mti / 100 % 10, 1 | 2)
+        && matches!(mti / 10 % 10, 0 | 2)
+        && mti % 10 <= 5
+}
+
+/// Class 4: a reversal of the transaction that element 90 names.
+fn reversal(message: &Message, key: &TxKey) -> Verdict
+    requires class { class message.now ≡ 4 }
+    requires key { key.now ≡ key_of message.now }
+    requires valid { is_valid_key key.now ≡ true }
+    requires key_class { class_of key.now ≡ 4 }
+    ensures verdict { (lines : List (Bool × Verdict)) (last : Verdict)
+        → result ≡ first_of (reversal_lines message.now ++ lines) last }
+    ensures valid { IfOrder result (λ o. IsTrue (is_valid o)) }
+    ensures key { IfOrder result (λ o. o.key ≡ key_of message.now) }
+{
+    if has(message, 95) {
+        return Verdict::Reply(12);
+    }
+    let data = text(message, 90);
+    if !are_digits(data, 42, 42) {
+        return Verdict::Reply(30);
+    }
+    let mti = part(data, 0, 4) as u16;
+    if !is_original(mti) {
+        return Verdict::Reply(12);
+    }
+    let acquirer = part(data, 20, 11);
+    if acquirer != 0 && acquirer != key.acquirer {
+        return Verdict::Reply(12);
+    }
+    let original = TxKey {
+        base: base_of(mti),
+        stan: part(data, 4, 6) as u32,
+        sent: part(data, 10, 10),
+        acquirer: key.acquirer,
+    };
+    Verdict::Order(Order::valid(*key, Act::Undo(original)))
+}
+
+/// The first two digits of the processing code, where it has six.
+fn kind_of(code: &[u8]) -> Option<u64>
+    ensures value { result ≡ (if are_digits 6 6 code.now then Some (part 0 2 code.now) else None) }
+{
+    if are_digits(code, 6, 6) {
+        Some(part(code, 0, 2))
+    } else {
+        None
+    }
+}
+
+/// Whether the processing code asks for a debit: goods and services, or cash.
+fn is_debit(code: u64) -> bool
+    ensures { result ≡ is_debit code }
+{
+    matches!(code, 0 | 1)
+}
+
+/// Whether the processing code asks for a credit: a return, or a deposit.
+fn is_credit(code: u64) -> bool
+    ensures { result ≡ is_credit code }
+{
+    matches!(code, 20 | 21)
+}
+
+/// Whether the processing code asks for what is available.
+fn is_inquiry(code: u64) -> bool
+    ensures { result ≡ is_inquiry code }
+{
+    code == 31
+}
+
+/// A debit or a credit of the amount in element 4.
+fn moved(message: &Message, key: &TxKey, code: u64, money: Money) -> Verdict
+    requires key { key.now ≡ key_of message.now }
+    requires code { code ≡ kind message.now }
+    requires money { money ≡ money_of message.now 0 }
+    requires valid { is_valid_key key.now ≡ true }
+    requires class { is_payment key.now ≡ true }
+    requires credit { is_debit code ≡ false → class_of key.now ≡ 2 }
+    requires account { is_account money ≡ true }
+    ensures verdict { result ≡ first_of (amount_lines message.now) (credited message.now) }
+    ensures valid { IfOrder result (λ o. IsTrue (is_valid o)) }
+    ensures key { IfOrder result (λ o. o.key ≡ key_of message.now) }
+{
+    let amount = match number_of(text(message, 4), 12, 12) {
+        None => return Verdict::Reply(30),
+        Some(0) => return Verdict::Reply(13),
+        Some(amount) => amount,
+    };
+    let currency = money.currency;
+    let moved = Money {
+        pan: money.pan,
+        amount,
+        currency,
+    };
+    if is_debit(code) {
+        return Verdict::Order(Order::valid(*key, Act::Debit(moved)));
+    }
+    Verdict::Order(Order::valid(*key, Act::Credit(moved)))
+}
+
+/// What the processing code asks of the account.
+fn asked(message: &Message, key: &TxKey, code: u64, money: Money) -> Verdict
+    requires key { key.now ≡ key_of message.now }
+    requires code { code ≡ kind message.now }
+    requires money { money ≡ money_of message.now 0 }
+    requires valid { is_valid_key key.now ≡ true }
+    requires payment { is_payment key.now ≡ true }
+    requires class { class_of key.now ≡ class message.now }
+    requires function { function_of key.now ≡ function message.now }
+    requires account { is_account money ≡ true }
+    ensures verdict { result
+        ≡ first_of (act_lines message.now ++ amount_lines message.now) (credited message.now) }
+    ensures valid { IfOrder result (λ o. IsTrue (is_valid o)) }
+    ensures key { IfOrder result (λ o. o.key ≡ key_of message.now) }
+{
+    if !is_debit(code) && !is_credit(code) && !is_inquiry(code) {
+        return Verdict::Reply(12);
+    }
+    if is_credit(code) && key.class() == 1 {
+        return Verdict::Reply(12);
+    }
+    if is_inquiry(code) {
+        if key.function() == 2 {
+            return Verdict::Reply(12);
+        }
+        return Verdict::Order(Order::valid(*key, Act::Inquiry(money)));
+    }
+    moved(message, key, code, money)
+}
+
+/// Whether it is an advice of class 2 that names another transaction.
+fn is_completion(message: &Message, key: &TxKey) -> bool
+    requires class { class_of key.now ≡ class message.now }
+    requires function { function_of key.now ≡ function message.now }
+    ensures { result ≡ (class message.now == 2 && function message.now == 2 && has message.now.elements 90) }
+{
+    key.class() == 2 && key.function() == 2 && has(message, 90)
+}
+
+/// The account and the currency that are there, with no amount.
+fn account(pan: Pan, currency: [u8; 3]) -> Money
+    requires { is_currency currency ≡ true }
+    ensures money { result ≡ record { pan = pan; amount = 0; currency = currency } }
+    ensures account { is_account result ≡ true }
+{
+    let _digits = pan.len();
+    Money {
+        pan,
+        amount: 0,
+        currency,
+    }
+}
+
+/// Classes 1 and 2: what is asked of which account.
+fn payment(message: &Message, key: &TxKey) -> Verdict
+    requires key { key.now ≡ key_of message.now }
+    requires valid { is_valid_key key.now ≡ true }
+    requires payment { is_payment key.now ≡ true }
+    requires class { class_of key.now ≡ class message.now }
+    requires function { function_of key.now ≡ function message.now }
+    ensures verdict { result ≡ first_of (account_lines message.now ++ act_lines message.now
+        ++ amount_lines message.now) (credited message.now) }
+    ensures valid { IfOrder result (λ o. IsTrue (is_valid o)) }
+    ensures key { IfOrder result (λ o. o.key ≡ key_of message.now) }
+{
+    if is_completion(message, key) {
+        return Verdict::Reply(12);
+    }
+    let Some(pan) = Pan::from_digits(text(message, 2)) else {
+        return Verdict::Reply(30);
+    };
+    let Some(code) = kind_of(text(message, 3)) else {
+        return Verdict::Reply(30);
+    };
+    let Some(currency) = currency_of(text(message, 49)) else {
+        return Verdict::Reply(30);
+    };
+    let money = account(pan, currency);
+    asked(message, key, code, money)
+}
+
+/// Classes 1, 2 and 4: what is asked under the message's key.
+fn keyed(message: &Message, digit: u8) -> Verdict
+    requires version { version message.now ≡ 0 }
+    requires asks { asks (function message.now) ≡ true }
+    requires origin { origin message.now ≤ 5 }
+    requires class { digit ≡ class message.now }
+    requires served { (digit ≡ 1) ⊎ (digit ≡ 2) ⊎ (digit ≡ 4) }
+    ensures verdict { result ≡ first_of (key_lines message.now ++ reversal_lines message.now
+        ++ account_lines message.now ++ act_lines message.now ++ amount_lines message.now) (credited message.now) }
+    ensures valid { IfOrder result (λ o. IsTrue (is_valid o)) }
+    ensures key { IfOrder result (λ o. o.key ≡ key_of message.now) }
+{
+    let Some(key) = key_of(message) else {
+        return Verdict::Reply(30);
+    };
+    if digit == 4 {
+        reversal(message, &key)
+    } else {
+        payment(message, &key)
+    }
+}
+
+/// The verdict of the first line of the table that holds.
+#[tactic(auto, unfolding(crate::specs::Verdict::verdict))]
+fn verdict_of(message: &Message) -> Verdict
+    ensures verdict { result ≡ verdict message.now }
+    ensures valid { IfOrder result (λ o. IsTrue (is_valid o)) }
+    ensures key { IfOrder result (λ o. o.key ≡ key_of message.now) }
+    ensures answered { IfAnswered result (asks (function message.now) ≡ true) }
+{
+    let mti = type_of(message);
+    if mti.version != 0 || !matches!(mti.function, 0 | 2) {
+        return Verdict::Silent;
+    }
+    if mti.origin > 5 {
+        return Verdict::Reply(12);
+    }
+    match mti.class {
+        8 => network(message),
+        1 | 2 | 4 => keyed(message, mti.class),
+        _ => Verdict::Reply(12),
+    }
+}
+
+/// What a message asks: the verdict of the first line of the table that holds. Takes no memory.
+pub fn order_of(message: &Message) -> Verdict
+    ensures verdict { result ≡ verdict message.now }
+    ensures valid { IfOrder result (λ o. IsTrue (is_valid o)) }
+    // Each delivery of a transaction has one key: its type has no repeat, its acquirer no leading zeros.
+    ensures key { IfOrder result (λ o. o.key ≡ key_of message.now) }
+    // A message that is answered has a response.
+    ensures answered { IfAnswered result (asks (function message.now) ≡ true) }
+    // A response code has two digits.
+    ensures code { IfReply result (λ code. code ≤ 99) }
+{
+    verdict_of(message)
+}
