@@ -1,4 +1,4 @@
-use Rattle.std.proofs.Common.{◌≡◌, ℕ, Bool, true, false, refl, arith, ap, sym, ◌∙◌, subst, List, [], ◌∷◌}
+use Rattle.std.proofs.Common.{◌≡◌, ℕ, Bool, true, false, refl, arith, ap, sym, subst, List, [], ◌∷◌}
 use Rattle.std.specs.Prelude.{IsTrue, ◌↔◌, ◌&&◌, ◌==◌}
 use Rattle.std.specs.Str.{bytes_eq}
 use Rattle.std.specs.Cmp.Lexicographic.{same_text}
@@ -41,11 +41,11 @@ both false q h = cc
 
 pub same_money_is : (a b : Money) → same_money a b ≡ true → a ≡ b
 same_money_is a b h =
-    let h1 = both (same_pan a.pan b.pan && (a.amount == b.amount)) (bytes_eq a.currency b.currency) h in
-    let h2 = both (same_pan a.pan b.pan) (a.amount == b.amount) h1.0 in
-    let pans = same_pan_is a.pan b.pan h2.0 in
-    let currencies = bytes_is a.currency b.currency h1.1 in
-    let amounts : a.amount ≡ b.amount = grind (arith, common_steps, h2.1) in
+    let parts = both (same_pan a.pan b.pan && (a.amount == b.amount)) (bytes_eq a.currency b.currency) h in
+    let first = both (same_pan a.pan b.pan) (a.amount == b.amount) parts.0 in
+    let pans = same_pan_is a.pan b.pan first.0 in
+    let currencies = bytes_is a.currency b.currency parts.1 in
+    let amounts : a.amount ≡ b.amount = grind (arith, common_steps, first.1) in
     grind arith
 
 pub same_money_self : (a : Money) → same_money a a ≡ true

@@ -1,6 +1,6 @@
 -- Where a balance is shown, the message has a currency.
-use Rattle.std.proofs.Common.{◌≡◌, ℕ, Bool, true, false, ◌&&◌, List, [], ◌∷◌, ◌++◌, length, refl, sym, ap, ◌∙◌, subst}
-use Rattle.std.specs.Prelude.{ℤ, Option, Some, None, not, if◌then◌else◌, ◌==◌, nat_le, unsigned_abs}
+use Rattle.std.proofs.Common.{◌≡◌, Bool, true, false, ◌&&◌, List, [], ◌∷◌, ◌++◌, length, refl, sym}
+use Rattle.std.specs.Prelude.{ℤ, Option, Some, not, if◌then◌else◌, ◌==◌, nat_le, unsigned_abs}
 use Rattle.std.specs.List.{list_all}
 use Rattle.std.proofs.lemmas.Bool.{and_parts, eqb-true}
 use Rattle.iso_wire.specs.Contents.{Contents}

@@ -1,11 +1,11 @@
 -- How the verdict table is read, block by block.
-use Rattle.std.proofs.Common.{◌≡◌, ◌≢◌, ℕ, arith, length, Bool, true, false, refl, List, ◌++◌, ◌∙◌}
+use Rattle.std.proofs.Common.{◌≡◌, ◌≢◌, ℕ, arith, length, Bool, true, false, refl, List, ◌++◌}
 use Rattle.std.specs.Prelude.{Some, None, option_map, if◌then◌else◌, ◌⊎◌, ◌==◌, ◌&&◌, ◌||◌, nat_lt}
 use Rattle.iso_wire.specs.Elements.{has}
 use Rattle.iso_wire.specs.Contents.{Contents}
 use Rattle.iso_order.specs.declared.verdict.Verdict.{Verdict}
-use Rattle.iso_order.specs.declared.verdict.Verdict.TheVariants.{Reply, Silent}
-use Rattle.iso_order.specs.Fields.{version, class, function, origin, asks, text, has_key, key_of}
+use Rattle.iso_order.specs.declared.verdict.Verdict.TheVariants.{Reply}
+use Rattle.iso_order.specs.Fields.{version, class, function, origin, asks, text, has_key}
 use Rattle.iso_order.specs.Order.{is_currency}
 use Rattle.iso_order.specs.AccountNumber.{AccountNumber}
 use Rattle.iso_order.specs.Pan.{pan_of}

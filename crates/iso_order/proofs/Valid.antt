@@ -1,12 +1,12 @@
 -- What a valid order keeps.
-use Rattle.std.proofs.Common.{◌≡◌, ◌≢◌, ℕ, ◌+◌, ◌-◌, ◌/◌, ◌%◌, ◌<◌, ◌≤◌, Bool, true, false, refl, arith, eq-eqb, le-leb, ◌^◌, ◌&&◌}
+use Rattle.std.proofs.Common.{◌≡◌, ◌≢◌, ℕ, ◌/◌, ◌%◌, ◌<◌, ◌≤◌, Bool, true, refl, arith, eq-eqb, le-leb, ◌^◌, ◌&&◌}
 use Rattle.std.proofs.lemmas.Bool.{and_parts, eqb-true, leb-true}
 use Rattle.std.proofs.lemmas.Bool.Decides.{nat_tests}
 use Rattle.iso_order.specs.declared.key.TxKey.{TxKey}
 use Rattle.iso_order.specs.declared.act.Act.{Act}
 use Rattle.iso_order.specs.declared.act.Act.TheVariants.{Debit, Credit, Inquiry, Undo}
 use Rattle.iso_order.specs.declared.act.Money.{Money}
-use Rattle.std.specs.Prelude.{IsTrue, ◌==◌, ◌||◌, nat_lt, nat_le}
+use Rattle.std.specs.Prelude.{IsTrue, ◌==◌, ◌||◌, nat_le}
 use Rattle.iso_order.specs.Fields.{asks, base_of, is_original}
 use Rattle.iso_order.specs.Key.{class_of, function_of, is_valid_key}
 use Rattle.iso_order.specs.Order.{Instruction, is_account, is_moved, is_payment, is_valid_act, is_valid, amount_of}

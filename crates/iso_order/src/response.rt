@@ -1,11 +1,11 @@
 //! The response to a message.
 
-ghost use Rattle.std.specs.Prelude.{◌≡◌, ℕ, ◌≤◌, ◌^◌, ◌++◌, ◌∷◌, length, true, false, [], OnOk, IfOk, unsigned_abs};
+ghost use Rattle.std.specs.Prelude.{◌≡◌, ℕ, ◌≤◌, ◌++◌, ◌∷◌, length, true, false, [], OnOk, IfOk};
 ghost use Rattle.iso_parts.specs.Mti.{number};
 ghost use Rattle.iso_wire.specs.Decimal.{decimal};
 ghost use Rattle.iso_wire.specs.Elements.{value_in, is_number, IsBelow};
 ghost use Rattle.iso_order.specs.Fields.{class, function, asks, text};
-ghost use Rattle.iso_order.specs.Response.{response, response_mti, is_echoed, is_approved, sign, approval, additional, balance, element, entry, elements_at, ascend, is_responded, is_showable};
+ghost use Rattle.iso_order.specs.Response.{response, response_mti, is_approved, sign, approval, additional, balance, element, entry, elements_at, ascend, is_responded, is_showable};
 
 use crate::answer::Answer;
 use crate::fields::{text, type_of};

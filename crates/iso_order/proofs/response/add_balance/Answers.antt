@@ -1,5 +1,4 @@
-use Rattle.std.proofs.Common.{ap, ◌∙◌, sym, length, List, ℕ, Option}
-use Rattle.std.specs.Prelude.{ℤ}
+use Rattle.std.proofs.Common.{ap, ◌∙◌, sym, length, List, ℕ}
 use Rattle.iso_order.specs.Outcome.{Outcome}
 use Rattle.iso_order.proofs.Shown.{shown-currency}
 use Rattle.iso_order.proofs.response.add_balance.Goals as goal

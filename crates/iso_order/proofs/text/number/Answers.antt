@@ -1,4 +1,4 @@
-use Rattle.std.proofs.Common.{◌∙◌, ap, sym, arith}
+use Rattle.std.proofs.Common.{arith}
 use Rattle.iso_order.proofs.Numbers.{number-more, digit_at, power-more, power-fits}
 use Rattle.iso_order.proofs.text.number.Goals as goal
 

@@ -1,4 +1,4 @@
-use Rattle.std.proofs.Common.{sym, ◌∙◌, ap}
+use Rattle.std.proofs.Common.{◌∙◌, ap}
 use Rattle.iso_order.specs.declared.act.Money.{Money}
 use Rattle.iso_order.proofs.Valid.{inquiry-valid}
 use Rattle.iso_order.proofs.verdict.asked.Goals as goal

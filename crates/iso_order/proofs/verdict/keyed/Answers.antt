@@ -1,4 +1,4 @@
-use Rattle.std.proofs.Common.{◌≡◌, true, false, sym, ◌∙◌, ◌++◌, ap}
+use Rattle.std.proofs.Common.{◌≡◌, true, false, sym, ◌∙◌, ◌++◌}
 use Rattle.std.specs.Prelude.{◌==◌, ◌||◌}
 use Rattle.iso_order.specs.Fields.{class, has_key, key_of}
 use Rattle.iso_order.specs.Verdict.{reversal_lines, account_lines, act_lines, amount_lines, credited}
