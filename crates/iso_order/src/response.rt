@@ -11,26 +11,16 @@ use crate::answer::Answer;
 use crate::fields::{text, type_of};
 use iso_parts::Mti;
 use iso_table::NoMemory;
-use iso_wire::Message;
+use iso_wire::{Message, write_decimal};
 use std::alloc::{AllocError, Global};
+
+/// Room for the values of a usual response.
+const USUAL_BYTES: usize = 256;
 
 /// The elements that a response can have.
 const ANSWERED: [u8; 18] = [
     2, 3, 4, 7, 11, 12, 13, 32, 33, 37, 38, 39, 41, 42, 49, 54, 70, 90,
 ];
-
-/// Writes the number's last digits, as many as there are places.
-fn write_decimal(out: &mut [u8], v: u64)
-    ensures { out.new ≡ decimal (length out.old) v }
-{
-    let mut rest = v;
-    let mut at = out.len();
-    while at > 0 {
-        at -= 1;
-        out[at] = b'0' + (rest % 10) as u8;
-        rest /= 10;
-    }
-}
 
 /// The type of the response: the next function, and no repeat.
 fn response_type(message: &Message) -> Mti
@@ -189,7 +179,8 @@ pub fn respond(alloc: Global, message: &Message, answer: &Answer) -> Result<Mess
     ensures each { IfOk result (λ made. (n : ℕ) → 2 ≤ n → n ≤ 128
         → value_in made.elements n ≡ element message.now answer.now n) }
 {
-    let mut response = Message::new(alloc, response_type(message));
+    let mti = response_type(message);
+    let mut response = Message::with_room(alloc, mti, ANSWERED.len(), USUAL_BYTES)?;
     add_all(message, answer, &ANSWERED, &mut response)?;
     Ok(response)
 }

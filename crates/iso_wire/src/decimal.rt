@@ -16,7 +16,7 @@ pub fn digits_of(v: u64) -> u8
     }
 }
 
-/// Writes the number's last digits, as many as there are places.
+/// Writes the number's last decimal digits as characters, as many as there are places. Takes no memory.
 pub fn write_decimal(out: &mut [u8], v: u64)
     ensures { out.new ≡ decimal (length out.old) v }
 {

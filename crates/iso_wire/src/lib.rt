@@ -12,7 +12,7 @@ mod packing;
 mod tests;
 mod unpacking;
 
-pub use decimal::digits_of;
+pub use decimal::{digits_of, write_decimal};
 pub use fault::{PackFault, SetFault, UnpackCause, UnpackFault};
 pub use message::Message;
 pub use packing::pack;

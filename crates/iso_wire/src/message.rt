@@ -1,6 +1,6 @@
 //! Messages.
 
-ghost use Rattle.std.specs.Prelude.{◌≡◌, ◌<◌, ◌≤◌, ◌^◌, ◌++◌, ◌∷◌, [], ℕ, All, true, false, ◌↔◌, OnOk, OnErr, IsTrue, IsOkUnless, MatchOption, Some, None};
+ghost use Rattle.std.specs.Prelude.{◌≡◌, ◌<◌, ◌≤◌, ◌^◌, ◌++◌, ◌∷◌, [], ℕ, All, true, false, ◌↔◌, IfOk, OnOk, OnErr, IsTrue, IsOkUnless, MatchOption, Some, None};
 ghost use Rattle.iso_parts.specs.Bits.{contains};
 ghost use Rattle.iso_parts.specs.Mti.{number};
 ghost use Rattle.iso_wire.specs.Contents.{Contents};
@@ -55,6 +55,19 @@ impl Message {
             mti,
             elements: Elements::new(alloc),
         }
+    }
+
+    /// A message of that type with no elements, and room for so many elements whose values have so many bytes.
+    pub fn with_room(
+        alloc: Global,
+        mti: Mti,
+        elements: usize,
+        bytes: usize,
+    ) -> Result<Message, AllocError>
+        ensures { IfOk result (λ made. made ≡ record { mti = number mti; elements = [] }) }
+    {
+        let elements = Elements::with_room(alloc, elements, bytes)?;
+        Ok(Message { mti, elements })
     }
 
     /// The message of that type with those elements.

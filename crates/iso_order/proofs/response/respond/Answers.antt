@@ -9,8 +9,8 @@ returns-clause-whole c =
     let value = element c.args.message.now c.args.answer.now in
     let numbers : List ℕ = 2 ∷ 3 ∷ 4 ∷ 7 ∷ 11 ∷ 12 ∷ 13 ∷ 32 ∷ 33 ∷ 37 ∷ 38 ∷ 39 ∷ 41 ∷ 42 ∷ 49 ∷ 54 ∷ 70 ∷ 90 ∷ [] in
     c.in_ok-add_all.ensures
-    ∙ ap (λ (made : Contents). record made { elements = elements_at value numbers }) c.new-response.ensures
-    ∙ ap (λ (mti : ℕ). record { mti = mti; elements = elements_at value numbers }) c.response_type.ensures
+    ∙ ap (λ (made : Contents). record made { elements = elements_at value numbers }) c.in_ok-response.ensures
+    ∙ ap (λ (mti : ℕ). record { mti = mti; elements = elements_at value numbers }) c.response_type-mti.ensures
     ∙ sym (response-listed c.args.message.now c.args.answer.now)
 
 pub returns-clause-each : goal.returns-clause-each
