@@ -1,0 +1,97 @@
+-- Accounts, as a document lists them.
+use Rattle.std.proofs.Common.{◌≡◌, ℕ, ◌+◌, ◌<◌, Bool, true, false, cond, List, [], ◌∷◌, ◌++◌, length, drop, take, get_or, map, Option, Some, None, option_map, refl, sym, ap, ◌∙◌, append_assoc, add-one}
+use Rattle.std.specs.Prelude.{is_some, ◌||◌, option_and_then}
+use Rattle.std.proofs.Math.Seq.{drop-cons}
+use Rattle.serde_json.specs.View.{view, items_view}
+use Rattle.serde_json.specs.declared.value.Value.{Value}
+use Rattle.iso_order.specs.AccountNumber.{AccountNumber}
+use Rattle.iso_order.specs.Order.{same_pan}
+use Rattle.iso_issuer.specs.declared.account.Account.{Account}
+use Rattle.iso_issuer.specs.declared.document.Listed.{Listed}
+use Rattle.iso_issuer.specs.Account.{account_of, HasDistinctNumbers}
+use Rattle.iso_issuer.specs.declared.fault.AccountsFault.{AccountsFault}
+use Rattle.iso_issuer.specs.declared.fault.AccountsFault.TheVariants.{Twice, OutOfRange}
+use Rattle.iso_issuer.specs.Document.{listed_in, rows_in, is_listed, as_listed, is_out_of_range, row_fault, or_else, first_fault}
+use Rattle.iso_issuer.proofs.Keys.{same_pan_sym}
+
+-- ---- rows
+
+cons_map : (so_far : List Listed) (row : Listed) (rest : Option (List Listed)) → option_map (λ rs. so_far ++ rs) (option_map (λ rs. row ∷ rs) rest) ≡ option_map (λ rs. (so_far ++ row ∷ []) ++ rs) rest
+cons_map so_far row None = refl
+cons_map so_far row (Some rs) = ap (λ (xs : List Listed). Some xs) (sym (append_assoc so_far (row ∷ []) rs))
+
+-- one row more is read
+pub rows_more : (values : List Value) (i : ℕ) (v : Value) (row : Listed) (so_far : List Listed) (total : Option (List Listed)) → i < length values → listed_in (view (get_or values i v)) ≡ Some row
+    → total ≡ option_map (λ rest. so_far ++ rest) (rows_in (items_view (drop i values))) → total ≡ option_map (λ rest. (so_far ++ row ∷ []) ++ rest) (rows_in (items_view (drop (i + 1) values)))
+rows_more values i v row so_far total lt is judged =
+    let less : drop i values ≡ get_or values i v ∷ drop (i + 1) values = drop-cons values i v lt ∙ ap (λ (k : ℕ). get_or values i v ∷ drop k values) (sym (add-one i)) in
+    let rest : Option (List Listed) = rows_in (items_view (drop (i + 1) values)) in
+    let here : rows_in (items_view (drop i values)) ≡ option_map (λ rs. row ∷ rs) rest = ap (λ (vs : List Value). rows_in (items_view vs)) less ∙ ap (λ (o : Option Listed). option_and_then (λ r. option_map (λ rs. r ∷ rs) rest) o) is in
+    judged ∙ ap (option_map (λ rs. so_far ++ rs)) here ∙ cons_map so_far row rest
+
+-- ---- numbers
+
+-- a number is listed where it has an account
+pub listed-found : (accounts : List Account) (pan : AccountNumber) → is_listed (map as_listed accounts) pan ≡ is_some (account_of accounts pan)
+listed-found [] pan = refl
+listed-found (a ∷ later) pan = by_test (same_pan a.pan pan) (listed-found later pan)
+  where
+    by_test : (b : Bool) → is_listed (map as_listed later) pan ≡ is_some (account_of later pan) → (b || is_listed (map as_listed later) pan) ≡ is_some (cond b (Some a) (account_of later pan))
+    by_test true known = refl
+    by_test false known = known
+
+pub is_none-of : (o : Option Account) → is_some o ≡ false → o ≡ None
+is_none-of None h = refl
+is_none-of (Some a) h = cc
+
+-- a new number keeps them distinct
+pub numbers-push : (accounts : List Account) (a : Account) → HasDistinctNumbers accounts → account_of accounts a.pan ≡ None → HasDistinctNumbers (accounts ++ a ∷ [])
+numbers-push [] a distinct new = (refl, tt)
+numbers-push (b ∷ later) a distinct new =
+    let apart = missing (same_pan b.pan a.pan) b (account_of later a.pan) new in
+    (none_push later a b.pan distinct.0 (same_pan_sym a.pan b.pan ∙ apart.0), numbers-push later a distinct.1 apart.1)
+  where
+    missing : (t : Bool) (b : Account) (next : Option Account) → cond t (Some b) next ≡ None → (t ≡ false) × (next ≡ None)
+    missing true b next h = cc
+    missing false b next h = (refl, h)
+
+    none_push : (accounts : List Account) (a : Account) (pan : AccountNumber) → account_of accounts pan ≡ None → same_pan a.pan pan ≡ false → account_of (accounts ++ a ∷ []) pan ≡ None
+    none_push [] a pan h new = ap (λ t. cond t (Some a) None) new
+    none_push (b ∷ later) a pan h new =
+        let apart = missing (same_pan b.pan pan) b (account_of later pan) h in
+        ap (λ t. cond t (Some b) (account_of (later ++ a ∷ []) pan)) apart.0 ∙ none_push later a pan apart.1 new
+
+-- ---- the first fault
+
+-- an account that is made is the listed one, and in range
+pub ranged : (t : Bool) (made row : Listed) → Some made ≡ cond t None (Some row) → (t ≡ false) × (made ≡ row)
+ranged true made row h = cc
+ranged false made row h = (refl, cc)
+
+-- the fault of one account, or else that of the rest
+pub fault_at : (rows : List Listed) (i : ℕ) (row : Listed) (fault : Option AccountsFault) → i < length rows → row ≡ get_or rows i row
+    → first_fault [] rows ≡ first_fault (take i rows) (drop i rows) → row_fault (take i rows) row ≡ fault
+    → first_fault [] rows ≡ or_else fault (first_fault (take i rows ++ row ∷ []) (drop (i + 1) rows))
+fault_at rows i row fault lt is rest here =
+    let less : drop i rows ≡ row ∷ drop (i + 1) rows =
+    drop-cons rows i row lt ∙ ap (λ (k : ℕ). get_or rows i row ∷ drop k rows) (sym (add-one i)) ∙ ap (λ (r : Listed). r ∷ drop (i + 1) rows) (sym is) in
+    rest ∙ ap (first_fault (take i rows)) less ∙ ap (λ (o : Option AccountsFault). or_else o (first_fault (take i rows ++ row ∷ []) (drop (i + 1) rows))) here
+
+-- the number of an earlier account
+pub fault-twice : (earlier : List Listed) (row : Listed) (i : ℕ) → is_out_of_range row.opening ≡ false → is_listed earlier row.pan ≡ true → length earlier ≡ i → row_fault earlier row ≡ Some (Twice i)
+fault-twice earlier row i inside known count =
+    by_tests (is_out_of_range row.opening) (is_listed earlier row.pan) inside known ∙ ap (λ (n : ℕ). Some (Twice n)) count
+  where
+    by_tests : (o l : Bool) → o ≡ false → l ≡ true → cond o (Some (OutOfRange (length earlier))) (cond l (Some (Twice (length earlier))) None) ≡ Some (Twice (length earlier))
+    by_tests true l h k = cc
+    by_tests false true h k = refl
+    by_tests false false h k = cc
+
+-- nothing wrong with an account
+pub fault-none : (earlier : List Listed) (row : Listed) → is_out_of_range row.opening ≡ false → is_listed earlier row.pan ≡ false → row_fault earlier row ≡ None
+fault-none earlier row inside new = by_tests (is_out_of_range row.opening) (is_listed earlier row.pan) inside new
+  where
+    by_tests : (o l : Bool) → o ≡ false → l ≡ false → ◌≡◌ {A = Option AccountsFault} (cond o (Some (OutOfRange (length earlier))) (cond l (Some (Twice (length earlier))) None)) None
+    by_tests true l h k = cc
+    by_tests false true h k = cc
+    by_tests false false h k = refl

@@ -1,0 +1,66 @@
+-- The entries of a journal, and one more.
+use Rattle.std.proofs.Common.{◌≡◌, ℕ, Bool, true, false, refl, arith, ap, sym, ◌∙◌, List, [], ◌∷◌, ◌++◌, length, ◌<◌, append_assoc, cond, length-append}
+use Rattle.std.specs.Prelude.{IsTrue, ◌||◌, map, Some, None, is_some}
+use Rattle.std.proofs.lemmas.List.{map-append, append-nil}
+use Rattle.iso_order.specs.declared.key.TxKey.{TxKey}
+use Rattle.iso_order.specs.Key.{same_key}
+use Rattle.iso_order.specs.Order.{Instruction}
+use Rattle.iso_issuer.specs.declared.account.Account.{Account}
+use Rattle.iso_issuer.specs.declared.journal.Entry.{Entry}
+use Rattle.iso_issuer.specs.Journal.{firsts, is_entered, entry_at}
+use Rattle.iso_issuer.specs.Decision.{entered, new_entry}
+use Rattle.iso_issuer.specs.Books.{IsKept}
+use Rattle.iso_issuer.proofs.Firsts.{firsts-new, firsts-distinct, distinct-push}
+
+-- an order more is one entry more, decided on those before it
+pub entered-push : (accounts : List Account) (before : List Entry) (os : List Instruction) (o : Instruction) →
+    entered accounts before (os ++ o ∷ []) ≡ entered accounts before os ++ new_entry accounts (entered accounts before os) o ∷ []
+entered-push accounts before [] o = refl
+entered-push accounts before (p ∷ ps) o = entered-push accounts (before ++ new_entry accounts before p ∷ []) ps o
+
+-- the entries are of the orders
+pub orders-entered : (accounts : List Account) (before : List Entry) (os : List Instruction) →
+    map (λ e. e.order) (entered accounts before os) ≡ map (λ e. e.order) before ++ os
+orders-entered accounts before [] = sym (append-nil _)
+orders-entered accounts before (o ∷ os) =
+    orders-entered accounts (before ++ new_entry accounts before o ∷ []) os
+    ∙ ap (λ xs. xs ++ os) (map-append (λ e. e.order) before (new_entry accounts before o ∷ []))
+    ∙ append_assoc (map (λ e. e.order) before) (o ∷ []) os
+
+-- a key is entered where it has an entry
+pub entered-found : (es : List Entry) (k : TxKey) → is_entered (map (λ e. e.order) es) k ≡ is_some (entry_at es k)
+entered-found [] k = refl
+entered-found (e ∷ es) k = by_test (same_key e.order.key k) (entered-found es k)
+  where
+    by_test : (b : Bool) → is_entered (map (λ e. e.order) es) k ≡ is_some (entry_at es k) → (b || is_entered (map (λ e. e.order) es) k) ≡ is_some (cond b (Some e) (entry_at es k))
+    by_test true known = refl
+    by_test false known = known
+
+-- one entry more is kept
+pub kept-push : (accounts : List Account) (limit : ℕ) (es : List Entry) (o : Instruction) →
+    IsKept accounts limit es → length es < limit → entry_at es o.key ≡ None → IsKept accounts limit (es ++ new_entry accounts es o ∷ [])
+kept-push accounts limit es o kept below new =
+    let orders : map (λ e. e.order) (es ++ new_entry accounts es o ∷ []) ≡ map (λ e. e.order) es ++ o ∷ [] = map-append (λ e. e.order) es (new_entry accounts es o ∷ []) in
+    let is_new : is_entered (map (λ e. e.order) es) o.key ≡ false = entered-found es o.key ∙ ap is_some new in
+    record {
+      few = omega (arith, length-append es (new_entry accounts es o ∷ []));
+      limited = kept.limited;
+      decided =
+          rw orders (
+          ap (λ j. j ++ new_entry accounts j o ∷ []) kept.decided
+          ∙ sym (entered-push accounts [] (map (λ e. e.order) es) o));
+      distinct = rw orders (distinct-push (map (λ e. e.order) es) o kept.distinct is_new);
+    }
+
+-- a test that is false is not true
+pub never : (b : Bool) → b ≡ false → IsTrue b → ⊥
+never true e h = cc
+never false e h = cc
+
+-- the orders, after one entry more
+pub orders-push : (accounts : List Account) (limit : ℕ) (es : List Entry) (o : Instruction) →
+    IsKept accounts limit es → entry_at es o.key ≡ None →
+    map (λ e. e.order) (es ++ new_entry accounts es o ∷ []) ≡ firsts (map (λ e. e.order) es ++ o ∷ [])
+orders-push accounts limit es o kept new =
+    map-append (λ e. e.order) es (new_entry accounts es o ∷ [])
+    ∙ sym (firsts-new (map (λ e. e.order) es) o (entered-found es o.key ∙ ap is_some new) ∙ ap (λ xs. xs ++ o ∷ []) (firsts-distinct (map (λ e. e.order) es) kept.distinct))

@@ -1,0 +1,7 @@
+pub mod Keys
+pub mod Firsts
+pub mod Entries
+pub mod Runs
+mod Members
+mod Documents
+mod Texts

@@ -1,0 +1,95 @@
+-- How an order is answered. Which case gets which code is our own rule.
+use Rattle.std.specs.Prelude.{ℕ, Bool, List, [], ◌∷◌, ◌++◌, ◌==◌, ◌&&◌, ◌||◌, ◌+◌, length, Option, Some, None, option_map, if◌then◌else◌, ℤ, pos, negsuc, int_lt}
+use Rattle.iso_order.specs.declared.key.TxKey.{TxKey}
+use Rattle.iso_order.specs.declared.act.Act.{Act}
+use Rattle.iso_order.specs.declared.act.Act.TheVariants.{Debit, Credit, Inquiry, Undo}
+use Rattle.iso_order.specs.declared.act.Money.{Money}
+use Rattle.iso_order.specs.Outcome.{Outcome}
+use Rattle.iso_order.specs.Key.{function_of}
+use Rattle.iso_order.specs.Order.{Instruction, same_order, same_currency}
+use Rattle.iso_issuer.specs.declared.account.Account.{Account}
+use Rattle.iso_issuer.specs.declared.journal.Entry.{Entry}
+use Rattle.iso_issuer.specs.Account.{account_of}
+use Rattle.iso_issuer.specs.Journal.{is_reversed, entry_at}
+use Rattle.iso_issuer.specs.Balance.{available}
+
+-- ---- the code of a new order, on the entries before it
+
+-- more than twelve digits
+abbrev pub is_wide : ℤ → Bool
+is_wide z = int_lt (pos 999999999999) z || int_lt z (negsuc 999999999998)
+
+-- on its account: a debit that is a request has 51 over the available amount, an inquiry 96 that can't be shown
+abbrev pub amount_code : List Entry → TxKey → Act → Account → ℕ
+amount_code before key (Debit m) a = if (function_of key == 0) && int_lt (available before a) (pos m.amount) then 51 else 0
+amount_code before key (Inquiry m) a = if is_wide (available before a) then 96 else 0
+amount_code before key (Credit m) a = 0
+amount_code before key (Undo k) a = 0
+
+-- 14 without an account, 12 in another currency
+abbrev pub account_code : List Entry → Instruction → Money → Option Account → ℕ
+account_code before o m None = 14
+account_code before o m (Some a) =
+    if same_currency a.currency m.currency then amount_code before o.key o.act a else 12
+
+-- the money that an order is about; a reversal is about none
+abbrev pub money_of : Act → Option Money
+money_of (Debit m) = Some m
+money_of (Credit m) = Some m
+money_of (Inquiry m) = Some m
+money_of (Undo k) = None
+
+-- 0 for a reversal, 21 for what an entry reverses
+abbrev pub money_code : List Account → List Entry → Instruction → Option Money → ℕ
+money_code accounts before o None = 0
+money_code accounts before o (Some m) =
+    if is_reversed before o.key then 21
+    else account_code before o m (account_of accounts m.pan)
+
+abbrev pub code_of : List Account → List Entry → Instruction → ℕ
+code_of accounts before o = money_code accounts before o (money_of o.act)
+
+-- ---- the answer to a new order, on the entries before it
+
+-- an inquiry shows the available amount
+abbrev pub shown_by : List Account → List Entry → Act → Option ℤ
+shown_by accounts before (Inquiry m) = option_map (available before) (account_of accounts m.pan)
+shown_by accounts before (Debit m) = None
+shown_by accounts before (Credit m) = None
+shown_by accounts before (Undo k) = None
+
+-- its code, its place from 1 on, and what it shows where the code is 0
+abbrev pub new_answer : List Account → List Entry → Instruction → Outcome
+new_answer accounts before o =
+    record {
+      code = code_of accounts before o;
+      seq = length before + 1;
+      shown = if code_of accounts before o == 0 then shown_by accounts before o.act else None;
+    }
+
+-- ---- the journal of orders
+
+abbrev pub new_entry : List Account → List Entry → Instruction → Entry
+new_entry accounts before o = record { order = o; answer = new_answer accounts before o }
+
+-- the entries after these orders, each decided on the entries before it
+abbrev pub entered : List Account → List Entry → List Instruction → List Entry
+entered accounts before [] = before
+entered accounts before (o ∷ os) = entered accounts (before ++ new_entry accounts before o ∷ []) os
+
+abbrev pub journal_of : List Account → List Instruction → List Entry
+journal_of accounts orders = entered accounts [] orders
+
+-- ---- the reply to any order
+
+-- the first answer again, or 94 to another order of that key
+abbrev pub repeated : Entry → Instruction → Outcome
+repeated e o = if same_order e.order o then e.answer else record { code = 94; seq = 0; shown = None }
+
+abbrev pub reply_by : List Account → List Entry → Instruction → Option Entry → Outcome
+reply_by accounts journal o None = new_answer accounts journal o
+reply_by accounts journal o (Some e) = repeated e o
+
+-- that of the entry of its key, where there is one, else a new answer
+abbrev pub reply : List Account → List Entry → Instruction → Outcome
+reply accounts journal o = reply_by accounts journal o (entry_at journal o.key)

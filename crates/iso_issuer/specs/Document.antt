@@ -1,0 +1,117 @@
+-- The accounts that a JSON document lists. The document's shape is our own.
+use Rattle.std.specs.Prelude.{◌≡◌, ℕ, ℤ, pos, negsuc, int_lt, ◌+◌, ◌==◌, ◌||◌, List, [], ◌∷◌, ◌++◌, length, map, Bool, false, Option, None, Some, option_map, option_and_then, Result, Ok, Err, if◌then◌else◌, codes}
+use Rattle.std.specs.List.{list_any}
+use Rattle.std.specs.Str.{IsUtf8}
+use Rattle.serde_json.specs.Data.{Data, Items, no_items, item, Members, no_members, member}
+use Rattle.serde_json.specs.Find.{get, as_object, as_array, as_str, as_number, as_i64}
+use Rattle.serde_json.specs.Read.{read}
+use Rattle.iso_order.specs.AccountNumber.{AccountNumber}
+use Rattle.iso_order.specs.Order.{same_pan, is_currency}
+use Rattle.iso_order.specs.Pan.{pan_of}
+use Rattle.iso_issuer.specs.declared.account.Account.{Account}
+use Rattle.iso_issuer.specs.declared.document.Listed.{Listed}
+use Rattle.iso_issuer.specs.declared.fault.AccountsFault.{AccountsFault}
+use Rattle.iso_issuer.specs.declared.fault.AccountsFault.TheVariants.{Shape, Twice, OutOfRange}
+
+-- ---- the shape
+
+abbrev pub member_count : Members → ℕ
+member_count no_members = 0
+member_count (member k d ms) = member_count ms + 1
+
+abbrev pub counts_to : ℕ → Option Members → Bool
+counts_to n None = false
+counts_to n (Some ms) = member_count ms == n
+
+-- an object of so many members
+abbrev pub has_size : ℕ → Data → Bool
+has_size n d = counts_to n (as_object d)
+
+-- the text at a member
+abbrev pub text_at : List ℕ → Data → Option (List ℕ)
+text_at key d = option_and_then as_str (get key d)
+
+-- the whole number at a member, where it fits an i64
+abbrev pub number_at : List ℕ → Data → Option ℤ
+number_at key d = option_and_then (λ m. option_and_then as_i64 (as_number m)) (get key d)
+
+-- three ASCII letters or digits
+abbrev pub currency_of : List ℕ → Option (List ℕ)
+currency_of text = if is_currency text then Some text else None
+
+abbrev pub listed : Option AccountNumber → Option (List ℕ) → Option ℤ → Option Listed
+listed (Some pan) (Some currency) (Some opening) = Some (record { pan = pan; currency = currency; opening = opening })
+listed (Some pan) (Some currency) None = None
+listed (Some pan) None opening = None
+listed None currency opening = None
+
+-- an object of `pan`, `currency` and `opening`, and of no other member
+abbrev pub listed_in : Data → Option Listed
+listed_in d =
+    if has_size 3 d then
+    listed (option_and_then pan_of (text_at (codes "pan") d)) (option_and_then currency_of (text_at (codes "currency") d)) (number_at (codes "opening") d)
+    else None
+
+-- the accounts of an array, each of them one
+abbrev pub rows_in : Items → Option (List Listed)
+rows_in no_items = Some []
+rows_in (item d ds) = option_and_then (λ row. option_map (λ rows. row ∷ rows) (rows_in ds)) (listed_in d)
+
+-- an object of an array `accounts`, and of no other member
+abbrev pub document_in : Data → Option (List Listed)
+document_in d = if has_size 1 d then option_and_then rows_in (option_and_then as_array (get (codes "accounts") d)) else None
+
+-- ---- the first fault
+
+-- over 9,000,000,000,000,000 minor units, either way
+abbrev pub is_out_of_range : ℤ → Bool
+is_out_of_range z = int_lt z (negsuc 8999999999999999) || int_lt (pos 9000000000000000) z
+
+-- an account of this number is among them, whatever its currency; `01` and `1` are two numbers
+abbrev pub is_listed : List Listed → AccountNumber → Bool
+is_listed rows pan = list_any (λ row. same_pan row.pan pan) rows
+
+-- what is wrong with an account after those before it
+abbrev pub row_fault : List Listed → Listed → Option AccountsFault
+row_fault earlier row =
+    if is_out_of_range row.opening then Some (OutOfRange (length earlier))
+    else if is_listed earlier row.pan then Some (Twice (length earlier))
+    else None
+
+abbrev pub or_else : Option AccountsFault → Option AccountsFault → Option AccountsFault
+or_else (Some e) next = Some e
+or_else None next = next
+
+abbrev pub first_fault : List Listed → List Listed → Option AccountsFault
+first_fault earlier [] = None
+first_fault earlier (row ∷ rows) = or_else (row_fault earlier row) (first_fault (earlier ++ row ∷ []) rows)
+
+-- ---- the document
+
+abbrev pub unless : List Listed → Option AccountsFault → Result (List Listed) AccountsFault
+unless rows None = Ok rows
+unless rows (Some e) = Err e
+
+abbrev pub judged : Option (List Listed) → Result (List Listed) AccountsFault
+judged None = Err Shape
+judged (Some rows) = unless rows (first_fault [] rows)
+
+-- the accounts of a value, or the first fault
+abbrev pub accounts_in : Data → Result (List Listed) AccountsFault
+accounts_in d = judged (document_in d)
+
+-- an account as a document lists it
+abbrev pub as_listed : Account → Listed
+as_listed a = record { pan = a.pan; currency = a.currency; opening = a.opening }
+
+-- the text is no JSON
+abbrev pub IsNotJson : List ℕ → Type 0
+IsNotJson text = IsUtf8 text → read text ≡ None
+
+-- the text is JSON of these accounts, in their order
+abbrev pub ListsAccounts : List ℕ → List Account → Type 0
+ListsAccounts text accounts = (d : Data) × IsUtf8 text × (read text ≡ Some d) × (accounts_in d ≡ Ok (map as_listed accounts))
+
+-- the text is JSON, and this is the first thing wrong with it
+abbrev pub HasFault : List ℕ → AccountsFault → Type 0
+HasFault text e = (d : Data) × IsUtf8 text × (read text ≡ Some d) × (accounts_in d ≡ Err e)

@@ -1,0 +1,109 @@
+//! The accounts of an issuer.
+
+ghost use Rattle.std.specs.Prelude.{◌≡◌, ◌≢◌, IfOk, IfErr, IsErrOf, None, Some, map, [], option_map, if◌then◌else◌};
+ghost use Rattle.iso_issuer.specs.declared.fault.AccountsFault.TheVariants.{NotJson, Shape, Memory};
+ghost use Rattle.iso_issuer.specs.Account.{account_of, HasDistinctNumbers};
+ghost use Rattle.iso_issuer.specs.Document.{is_out_of_range, first_fault, as_listed, IsNotJson, ListsAccounts, HasFault};
+
+use crate::account::Account;
+use crate::document::{Listed, document_in, value_of};
+use crate::fault::AccountsFault;
+use iso_order::Pan;
+use std::alloc::Global;
+use std::marker::Model;
+
+/// The accounts of an issuer, no two of one number, in the order in which they were listed.
+#[derive(Drop)]
+pub struct Accounts {
+    accounts: Vec<Account>,
+}
+
+impl Model for Accounts {
+    ghost use Rattle.std.specs.Prelude.{List};
+    ghost use Rattle.iso_issuer.specs.declared.account.Account.{Account};
+    ghost use Rattle.iso_issuer.specs.Account.{HasDistinctNumbers};
+
+    ghost Value = { List Account };
+
+    ghost view = { λ a. a.accounts.items };
+
+    ghost invariant = { λ a. HasDistinctNumbers a.accounts.items };
+}
+
+/// The account of a number, where there is one.
+pub fn account_of(accounts: &[Account], pan: Pan) -> Option<Account>
+    ensures { result ≡ account_of accounts.now pan }
+{
+    accounts.iter().copied().find(|a| a.pan == pan)
+}
+
+/// The most that an account may hold at first, in minor units, either way.
+const MOST: i64 = 9_000_000_000_000_000;
+
+/// The account that is listed, unless its opening amount is out of range.
+fn in_range(row: Listed) -> Option<Account>
+    ensures { option_map as_listed result ≡ (if is_out_of_range row.opening then None else Some row) }
+{
+    if row.opening < -MOST || MOST < row.opening {
+        return None;
+    }
+    let Listed {
+        pan,
+        currency,
+        opening,
+    } = row;
+    Some(Account {
+        pan,
+        currency,
+        opening,
+    })
+}
+
+/// The listed accounts, each of which is in range and has a number of its own.
+fn judged(alloc: Global, listed: &[Listed]) -> Result<Vec<Account>, AccountsFault>
+    ensures ok { IfOk result (λ accounts. map as_listed accounts.items ≡ listed.now) }
+    ensures distinct { IfOk result (λ accounts. HasDistinctNumbers accounts.items) }
+    ensures none { IfOk result (λ _. first_fault [] listed.now ≡ None) }
+    ensures fault { IfErr result (λ e. e ≢ Memory → first_fault [] listed.now ≡ Some e) }
+    ensures json { IsErrOf result AccountsFault.NotJson → ⊥ }
+{
+    let mut accounts = Vec::new(alloc);
+    for (i, row) in listed.iter().enumerate() {
+        let Some(account) = in_range(*row) else {
+            return Err(AccountsFault::OutOfRange(i));
+        };
+        if account_of(&accounts, account.pan).is_some() {
+            return Err(AccountsFault::Twice(i));
+        }
+        accounts.push(account)?;
+    }
+    Ok(accounts)
+}
+
+impl Accounts {
+    /// The accounts that a JSON text lists: `{"accounts":[..]}`, each of them an object of `pan` (a
+    /// text of 1 to 19 digits), `currency` (a text of three letters or digits) and `opening` (a whole
+    /// number of minor units). Or else the first fault: no JSON, another shape, and then account by
+    /// account an opening amount out of range, and a number that stood before.
+    pub fn from_json(alloc: Global, text: &[u8]) -> Result<Accounts, AccountsFault>
+        ensures ok { IfOk result (ListsAccounts text.now) }
+        ensures not_json { IsErrOf result AccountsFault.NotJson → IsNotJson text.now }
+        ensures fault { IfErr result (λ e. e ≢ Memory → e ≢ NotJson → HasFault text.now e) }
+    {
+        let value = value_of(alloc, text)?;
+        let listed = document_in(alloc, &value)?;
+        let accounts = judged(alloc, &listed)?;
+        Ok(Accounts { accounts })
+    }
+
+    pub(crate) fn as_slice(&self) -> &[Account]
+        ensures same { result.now ≡ self.now }
+        ensures distinct { HasDistinctNumbers self.now }
+    {
+        self.accounts.as_slice()
+    }
+
+    pub(crate) fn allocator(&self) -> Global {
+        *self.accounts.allocator()
+    }
+}

@@ -1,0 +1,141 @@
+//! Accounts as a JSON document lists them.
+
+ghost use Rattle.std.specs.Prelude.{◌≡◌, ◌≢◌, ℕ, List, IfOk, IfErr, IsErrOf, None, Some, option_map};
+ghost use Rattle.std.specs.List.{list_all};
+ghost use Rattle.std.specs.Str.{IsUtf8};
+ghost use Rattle.serde_json.specs.Read.{read};
+ghost use Rattle.serde_json.specs.View.{view, items_view};
+ghost use Rattle.iso_order.specs.AccountNumber.{AccountNumber};
+ghost use Rattle.iso_order.specs.Order.{is_letter_or_digit};
+ghost use Rattle.iso_order.specs.Pan.{pan_of};
+ghost use Rattle.iso_issuer.specs.declared.fault.AccountsFault.TheVariants.{NotJson, Shape, Memory};
+ghost use Rattle.iso_issuer.specs.Document.{has_size, text_at, number_at, currency_of, listed_in, rows_in, document_in, IsNotJson};
+
+use crate::fault::AccountsFault;
+use iso_order::Pan;
+use serde_json::{Category, Value};
+use std::alloc::Global;
+
+/// An account that a document lists.
+#[derive(Clone, Copy, Debug)]
+pub struct Listed {
+    pub pan: Pan,
+    pub currency: [u8; 3],
+    pub opening: i64,
+}
+
+/// Whether a JSON value is an object of so many members.
+fn has_members(value: &Value, size: usize) -> bool
+    ensures { result ≡ has_size size (view value.now) }
+{
+    match value.as_object() {
+        Some(members) => members.len() == size,
+        None => false,
+    }
+}
+
+/// The text at a member.
+fn text_at<'a>(value: &'a Value, key: &str) -> Option<&'a str>
+    ensures { option_map (λ text. text.now) result ≡ text_at key.now (view value.now) }
+{
+    value.get(key)?.as_str()
+}
+
+/// The whole number at a member.
+fn number_at(value: &Value, key: &str) -> Option<i64>
+    ensures { result ≡ number_at key.now (view value.now) }
+{
+    value.get(key)?.as_i64()
+}
+
+fn is_letter_or_digit(c: u8) -> bool
+    ensures { result ≡ is_letter_or_digit c }
+{
+    matches!(c, b'0'..=b'9' | b'A'..=b'Z' | b'a'..=b'z')
+}
+
+fn are_letters_or_digits(text: &[u8]) -> bool
+    ensures { result ≡ list_all is_letter_or_digit text.now }
+{
+    text.iter().all(|c| is_letter_or_digit(*c))
+}
+
+/// The currency that three letters or digits are.
+fn currency_of(text: &[u8]) -> Option<[u8; 3]>
+    ensures { result ≡ currency_of text.now }
+{
+    match text {
+        [a, b, c] if are_letters_or_digits(text) => Some([*a, *b, *c]),
+        _ => None,
+    }
+}
+
+/// Two texts are one account number only where they are one text: `01` and `1` are two.
+pub fn texts_apart()
+    ensures { (a b : List ℕ) (pan : AccountNumber) → pan_of a ≡ Some pan → pan_of b ≡ Some pan → a ≡ b }
+{}
+
+/// The account that a JSON value is.
+fn listed_in(value: &Value) -> Option<Listed>
+    ensures { result ≡ listed_in (view value.now) }
+{
+    if !has_members(value, 3) {
+        return None;
+    }
+    let pan = Pan::from_digits(text_at(value, "pan")?.as_bytes())?;
+    let currency = currency_of(text_at(value, "currency")?.as_bytes())?;
+    let opening = number_at(value, "opening")?;
+    Some(Listed {
+        pan,
+        currency,
+        opening,
+    })
+}
+
+/// The accounts that these JSON values are.
+fn rows_in(alloc: Global, values: &[Value]) -> Result<Vec<Listed>, AccountsFault>
+    ensures ok { IfOk result (λ rows. rows_in (items_view values.now) ≡ Some rows.items) }
+    ensures fault { IfErr result (λ e. e ≢ Memory → e ≡ Shape) }
+    ensures shape { IfErr result (λ e. e ≢ Memory → rows_in (items_view values.now) ≡ None) }
+{
+    let mut rows = Vec::new(alloc);
+    for value in values {
+        let Some(row) = listed_in(value) else {
+            return Err(AccountsFault::Shape);
+        };
+        rows.push(row)?;
+    }
+    Ok(rows)
+}
+
+/// The accounts that a JSON value lists.
+pub fn document_in(alloc: Global, value: &Value) -> Result<Vec<Listed>, AccountsFault>
+    ensures ok { IfOk result (λ rows. document_in (view value.now) ≡ Some rows.items) }
+    ensures fault { IfErr result (λ e. e ≢ Memory → e ≡ Shape) }
+    ensures shape { IfErr result (λ e. e ≢ Memory → document_in (view value.now) ≡ None) }
+{
+    if !has_members(value, 1) {
+        return Err(AccountsFault::Shape);
+    }
+    let Some(list) = value.get("accounts") else {
+        return Err(AccountsFault::Shape);
+    };
+    let Some(values) = list.as_array() else {
+        return Err(AccountsFault::Shape);
+    };
+    rows_in(alloc, values.as_slice())
+}
+
+/// The JSON value of a text.
+pub fn value_of(alloc: Global, text: &[u8]) -> Result<Value, AccountsFault>
+    ensures utf8 { IfOk result (λ _. IsUtf8 text.now) }
+    ensures read { IfOk result (λ value. read text.now ≡ Some (view value)) }
+    ensures fault { IfErr result (λ e. e ≢ Memory → e ≡ NotJson) }
+    ensures not_json { IsErrOf result AccountsFault.NotJson → IsNotJson text.now }
+{
+    match Value::from_slice(alloc, text) {
+        Ok(value) => Ok(value),
+        Err(error) if error.classify() == Category::Memory => Err(AccountsFault::Memory),
+        Err(_) => Err(AccountsFault::NotJson),
+    }
+}

@@ -1,0 +1,127 @@
+//! The issuer.
+
+ghost use Rattle.std.specs.Prelude.{◌≡◌, ◌≤◌, ◌↔◌, ◌++◌, ◌∷◌, [], IsTrue, length, IfOk, OnOk, OnErr, IsOk, option_map};
+ghost use Rattle.iso_issuer.specs.Account.{account_of};
+ghost use Rattle.iso_issuer.specs.Journal.{firsts, is_entered};
+ghost use Rattle.iso_issuer.specs.Balance.{ledger, available};
+ghost use Rattle.iso_issuer.specs.Decision.{reply};
+ghost use Rattle.iso_issuer.specs.Books.{journal, IsFullFor, IsRoomFor, IsRun, answered_of};
+
+use crate::accounts::Accounts;
+use crate::balance::{available_at, ledger_at};
+use crate::decision::{new_answer, repeated};
+use crate::fault::Refused;
+use crate::journal::{Entry, entry_at};
+use iso_order::{Answer, NoMemory, Order, Pan};
+use std::alloc::Global;
+use std::marker::Model;
+
+/// An issuer: its accounts, and the journal of the orders that were entered. Each call looks through
+/// the whole journal.
+#[derive(Drop)]
+pub struct Issuer {
+    accounts: Accounts,
+    limit: u32,
+    entries: Vec<Entry>,
+}
+
+impl Model for Issuer {
+    ghost use Rattle.std.specs.Prelude.{map};
+    ghost use Rattle.iso_issuer.specs.Books.{Books, IsKept};
+
+    ghost Value = { Books };
+
+    ghost view = { λ i. record { accounts = i.accounts; limit = i.limit; orders = map (λ e. e.order) i.entries.items } };
+
+    ghost invariant = { λ i. IsKept i.accounts i.limit i.entries.items };
+}
+
+impl Issuer {
+    /// An issuer with an empty journal, which takes at most `limit` orders. Takes no memory. The
+    /// journal grows by the allocator of the accounts.
+    pub fn new(accounts: Accounts, limit: u32) -> Issuer
+        requires least { 1 ≤ limit }
+        requires most { limit ≤ 999999 }
+        ensures { result ≡ record { accounts = accounts; limit = limit; orders = [] } }
+    {
+        let entries = Vec::new(accounts.allocator());
+        Issuer {
+            accounts,
+            limit,
+            entries,
+        }
+    }
+
+    /// Answers an order: decides it once, however often it comes. A repeat gets the first answer again,
+    /// and another order of a known key 94. A new key is entered with its code, its place in the
+    /// journal and, for an inquiry, what is available. A known key and a full journal take no memory.
+    pub fn handle(&mut self, order: Order) -> Result<Answer, Refused>
+        // A key that is known takes no memory.
+        ensures repeat { IsTrue (is_entered self.old.orders order.key) → IsOk result }
+
+        ensures answer { IfOk result (λ answer. answer ≡ reply self.old.accounts (journal self.old) order) }
+        ensures entered { OnOk result (self.new ≡ record self.old { orders = firsts (self.old.orders ++ order ∷ []) }) }
+
+        // A new key at the limit is refused as such, and nothing else is.
+        ensures full { (result ≡ Err Refused.Full) ↔ IsFullFor self.old order.key }
+        ensures memory { result ≡ Err Refused.Memory → IsRoomFor self.old order.key }
+        ensures unchanged { OnErr result (self.new ≡ self.old) }
+    {
+        match entry_at(&self.entries, order.key()) {
+            Some(entry) => Ok(repeated(entry, order)),
+            None => {
+                if self.entries.len() >= self.limit as usize {
+                    return Err(Refused::Full);
+                }
+                let answer = new_answer(self.accounts.as_slice(), &self.entries, order);
+                match self.entries.push(Entry { order, answer }) {
+                    Ok(()) => Ok(answer),
+                    Err(_) => Err(Refused::Memory),
+                }
+            }
+        }
+    }
+
+    /// Answers a list of orders, each as `handle` does. The room for the answers is taken first; where
+    /// there is none, no order is handled.
+    pub fn run(
+        &mut self,
+        alloc: Global,
+        orders: &[Order],
+    ) -> Result<Vec<Result<Answer, Refused>>, NoMemory>
+        ensures run { IfOk result (λ answers. IsRun self.old orders.now answers.items self.new) }
+        ensures entered { IfOk result (λ answers. self.new.orders ≡ firsts (self.old.orders ++ answered_of orders.now answers.items)) }
+        ensures unchanged { OnErr result (self.new ≡ self.old) }
+    {
+        // The keys are distinct, before any order is handled.
+        let _ = &self.entries;
+        let mut answers = Vec::with_capacity(alloc, orders.len())?;
+        for order in orders {
+            let answer = self.handle(*order);
+            answers.push(answer).unwrap();
+        }
+        Ok(answers)
+    }
+
+    /// What is on an account, where there is such an account. Takes no memory.
+    pub fn ledger(&self, pan: Pan) -> Option<i64>
+        ensures { result ≡ option_map (ledger (journal self.now)) (account_of self.now.accounts pan) }
+    {
+        ledger_at(self.accounts.as_slice(), &self.entries, pan)
+    }
+
+    /// What may still be taken from an account, where there is such an account: what is on it, less
+    /// what is held. Takes no memory.
+    pub fn available(&self, pan: Pan) -> Option<i64>
+        ensures { result ≡ option_map (available (journal self.now)) (account_of self.now.accounts pan) }
+    {
+        available_at(self.accounts.as_slice(), &self.entries, pan)
+    }
+
+    /// How many orders were entered. Takes no memory.
+    pub fn len(&self) -> u32
+        ensures { result ≡ length self.now.orders }
+    {
+        self.entries.len() as u32
+    }
+}

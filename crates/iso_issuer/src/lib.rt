@@ -1,0 +1,18 @@
+//! An issuer: its accounts, and a journal that answers each payment order once, reversals included.
+#![tactic(auto)]
+
+mod account;
+mod accounts;
+mod balance;
+mod decision;
+mod document;
+mod fault;
+mod issuer;
+mod journal;
+
+pub use accounts::Accounts;
+pub use fault::{AccountsFault, Refused};
+pub use issuer::Issuer;
+
+#[cfg(test)]
+mod tests;

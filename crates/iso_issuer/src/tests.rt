@@ -1,0 +1,105 @@
+use super::*;
+use iso_order::{Act, Answer, Money, Order, Pan, TxKey};
+use std::alloc::Global;
+use std::test::*;
+
+mod days;
+mod documents;
+
+const fn key(base: u16, stan: u32) -> TxKey {
+    TxKey {
+        base,
+        stan,
+        sent: 102_030_405,
+        acquirer: 12_345,
+    }
+}
+
+fn pan(text: &[u8]) -> Result<Pan, Fail> {
+    Ok(Pan::from_digits(text).ok_or("1 to 19 digits")?)
+}
+
+fn account() -> Result<Pan, Fail> {
+    pan(b"4111111111111111")
+}
+
+/// An amount of currency 840, on the account.
+fn money(amount: u64) -> Result<Money, Fail> {
+    Ok(Money {
+        pan: account()?,
+        amount,
+        currency: *b"840",
+    })
+}
+
+fn order(base: u16, stan: u32, act: Act) -> Result<Order, Fail> {
+    Ok(Order::new(key(base, stan), act).ok_or("what a message can carry")?)
+}
+
+fn debit(base: u16, stan: u32, amount: u64) -> Result<Order, Fail> {
+    order(base, stan, Act::Debit(money(amount)?))
+}
+
+/// An issuer of the account alone.
+fn issuer(alloc: Global, opening: i64, limit: u32) -> Result<Issuer, Fail> {
+    if limit < 1 || 999_999 < limit {
+        return Err("a limit from 1 to 999,999")?;
+    }
+    let account = "\"currency\":\"840\",\"pan\":\"4111111111111111\"";
+    let text = format!(in alloc; "{{\"accounts\":[{{{account},\"opening\":{opening}}}]}}")?;
+    let accounts = Accounts::from_json(alloc, text.as_bytes())?;
+    Ok(Issuer::new(accounts, limit))
+}
+
+#[test]
+fn limits(rt: HostRuntime) -> Result<(), Fail> {
+    let first = debit(200, 1, 10)?;
+    let second = debit(200, 2, 10)?;
+    let third = debit(200, 3, 10)?;
+
+    let mut one = issuer(rt.alloc(), 100, 1)?;
+    let answer = one.handle(first)?;
+    assert_eq!(rt; one.handle(second), Err(Refused::Full));
+    assert_eq!(rt; one.handle(first), Ok(answer));
+    assert_eq!(rt; (one.len(), one.ledger(account()?)), (1, Some(90)));
+
+    let mut two = issuer(rt.alloc(), 100, 2)?;
+    assert_eq!(rt; two.handle(first), Ok(answer));
+    assert_eq!(rt; two.handle(second)?.seq, 2);
+    assert_eq!(rt; two.handle(third), Err(Refused::Full));
+    assert_eq!(rt; two.handle(first), Ok(answer));
+    assert_eq!(rt; (two.len(), two.available(account()?)), (2, Some(80)));
+
+    let mut most = issuer(rt.alloc(), 100, 999_999)?;
+    assert_eq!(rt; most.handle(third)?.seq, 1);
+    assert_eq!(rt; most.len(), 1);
+    Ok(())
+}
+
+#[test]
+fn runs(rt: HostRuntime) -> Result<(), Fail> {
+    let mut issuer = issuer(rt.alloc(), 5000, 1)?;
+    let purchase = debit(200, 7, 1000)?;
+    let other = debit(200, 8, 1000)?;
+    let answers = issuer.run(rt.alloc(), &[purchase, purchase, other])?;
+    let answer = Answer {
+        code: 0,
+        seq: 1,
+        shown: None,
+    };
+    let expected = [Ok(answer), Ok(answer), Err(Refused::Full)];
+    assert_eq!(rt; answers.as_slice(), expected.as_slice());
+    assert_eq!(rt; issuer.len(), 1);
+    assert_eq!(rt; issuer.ledger(account()?), Some(4000));
+    Ok(())
+}
+
+#[test]
+fn faults_are_told(rt: HostRuntime) -> Result<(), Fail> {
+    let fault = AccountsFault::Twice(1).to_string(rt.alloc())?;
+    assert_eq!(rt;
+        fault.as_str(),
+        "account 1 has the number of an earlier one"
+    );
+    Ok(())
+}
