@@ -5,6 +5,7 @@ use std::test::*;
 
 mod days;
 mod documents;
+mod wire;
 
 const fn key(base: u16, stan: u32) -> TxKey {
     TxKey {

@@ -1,4 +1,6 @@
 //! The command, from words and bytes to bytes and a status.
+ghost use Rattle.std.specs.Prelude.{None};
+
 use crate::act::act;
 use crate::fakes::{FewBytes, FewTaken, sevens};
 use crate::source::{Source, SourceFault};

@@ -1,0 +1,182 @@
+//! Orders as bytes: what comes from the wire, and what goes back.
+use super::*;
+use iso_order::{Verdict, order_of, respond};
+use iso_table::Table;
+use iso_wire::{pack, unpack};
+use std::process::Abort;
+
+const PAYMENT: &[u8] =
+    b"0200722000010000800016411111111111111100000000000000100001020304050000070512345840";
+
+const PAYMENT_AGAIN: &[u8] =
+    b"0201722000010000800016411111111111111100000000000000100001020304050000070512345840";
+
+const PAYMENT_OF_MORE: &[u8] =
+    b"0200722000010000800016411111111111111100000000000000200001020304050000070512345840";
+
+const GRANTED: &[u8] =
+    b"021072200001060080001641111111111111110000000000000010000102030405000007051234500000100840";
+
+const UNDONE_BEFORE: &[u8] =
+    b"021072200001020080001641111111111111110000000000000010000102030405000007051234521840";
+
+const ANOTHER_ORDER: &[u8] =
+    b"021072200001020080001641111111111111110000000000000020000102030405000007051234594840";
+
+const REVERSAL: &[u8] =
+    b"04208220000100000000000000400000000001020305000000080512345020000000701020304050000001234500000000000";
+
+const REVERSAL_AGAIN: &[u8] =
+    b"04218220000100000000000000400000000001020305000000080512345020000000701020304050000001234500000000000";
+
+const REVERSED: &[u8] =
+    b"0430822000010200000000000040000000000102030500000008051234500020000000701020304050000001234500000000000";
+
+const NEXT_REVERSAL: &[u8] =
+    b"04208220000100000000000000400000000001020305000000090512345020000000701020304050000001234500000000000";
+
+const NEXT_REVERSED: &[u8] =
+    b"0430822000010200000000000040000000000102030500000009051234500020000000701020304050000001234500000000000";
+
+const INQUIRY: &[u8] = b"0200622000010000800016411111111111111131000001020306000000090512345840";
+
+const BALANCE: &[u8] =
+    b"0210622000010600840016411111111111111131000001020306000000090512345000002008400200002840C000000004000";
+
+const HOLD: &[u8] =
+    b"0100722000010000800016411111111111111100000000000000007001020304050000070512345840";
+
+const HELD: &[u8] =
+    b"011072200001060080001641111111111111110000000000000000700102030405000007051234500000100840";
+
+const DEBIT: &[u8] =
+    b"0200722000010000800016411111111111111100000000000000004001020304050000080512345840";
+
+const TOO_MUCH: &[u8] =
+    b"021072200001020080001641111111111111110000000000000000400102030405000008051234551840";
+
+const HOLD_REVERSAL: &[u8] =
+    b"04208220000100000000000000400000000001020305000000100512345010000000701020304050000001234500000000000";
+
+const HOLD_REVERSED: &[u8] =
+    b"0430822000010200000000000040000000000102030500000010051234500010000000701020304050000001234500000000000";
+
+const ADVICE: &[u8] =
+    b"0220722000010000800016411111111111111100000000000000015001020304050000090512345840";
+
+const ADVISED: &[u8] =
+    b"023072200001060080001641111111111111110000000000000001500102030405000009051234500000400840";
+
+const LATE_INQUIRY: &[u8] =
+    b"0200622000010000800016411111111111111131000001020306000000110512345840";
+
+const LATE_BALANCE: &[u8] =
+    b"0210622000010600840016411111111111111131000001020306000000110512345000005008400200002840D000000000050";
+
+/// The bytes of a request, those of its response, and the ledger then.
+#[derive(Drop)]
+struct Exchange {
+    name: &'static str,
+    request: &'static [u8],
+    response: &'static [u8],
+    ledger: i64,
+}
+
+const fn step(
+    name: &'static str,
+    request: &'static [u8],
+    response: &'static [u8],
+    ledger: i64,
+) -> Exchange {
+    Exchange {
+        name,
+        request,
+        response,
+        ledger,
+    }
+}
+
+/// The bytes of the response to a request.
+fn response_to(
+    alloc: Global,
+    table: &Table,
+    issuer: &mut Issuer,
+    bytes: &[u8],
+) -> Result<Vec<u8>, Fail> {
+    let (message, used) = unpack(alloc, table, bytes)?;
+    if used < bytes.len() {
+        return Err("bytes behind the message")?;
+    }
+    let Verdict::Order(order) = order_of(&message) else {
+        return Err("no order")?;
+    };
+    let answer = issuer.handle(order)?;
+    let response = match (order.act(), answer.shown) {
+        (_, None) => respond(alloc, &message, &answer)?,
+        (Act::Inquiry(_), Some(shown)) if shown.unsigned_abs() <= 999_999_999_999 => {
+            respond(alloc, &message, &answer)?
+        }
+        _ => return Err("a balance that can't be shown")?,
+    };
+    Ok(pack(alloc, table, &response)?)
+}
+
+fn exchanges(rt: &impl Abort, alloc: Global, opening: i64, day: &[Exchange]) -> Result<(), Fail> {
+    let table = Table::ascii87(alloc)?;
+    let mut issuer = issuer(alloc, opening, 999_999)?;
+    for step in day {
+        let name = step.name;
+        let response = response_to(alloc, &table, &mut issuer, step.request)?;
+        assert_eq!(rt; response.as_slice(), step.response, "{name}");
+        assert_eq!(rt; issuer.ledger(account()?), Some(step.ledger), "{name}");
+    }
+    Ok(())
+}
+
+#[test]
+fn a_payment_its_repeats_and_its_reversal(rt: HostRuntime) -> Result<(), Fail> {
+    let day = [
+        step("a payment", PAYMENT, GRANTED, 4000),
+        step("its repeat", PAYMENT_AGAIN, GRANTED, 4000),
+        step(
+            "another amount under its key",
+            PAYMENT_OF_MORE,
+            ANOTHER_ORDER,
+            4000,
+        ),
+        step("an inquiry", INQUIRY, BALANCE, 4000),
+        step("its reversal", REVERSAL, REVERSED, 5000),
+        step(
+            "its repeat, once it is reversed",
+            PAYMENT_AGAIN,
+            GRANTED,
+            5000,
+        ),
+        step("the inquiry again", INQUIRY, BALANCE, 5000),
+        step("another reversal of it", NEXT_REVERSAL, NEXT_REVERSED, 5000),
+    ];
+    exchanges(&rt, rt.alloc(), 5000, &day)
+}
+
+#[test]
+fn a_reversal_before_its_payment(rt: HostRuntime) -> Result<(), Fail> {
+    let day = [
+        step("the reversal", REVERSAL, REVERSED, 5000),
+        step("the payment", PAYMENT, UNDONE_BEFORE, 5000),
+        step("the reversal again", REVERSAL_AGAIN, REVERSED, 5000),
+        step("the payment again", PAYMENT_AGAIN, UNDONE_BEFORE, 5000),
+    ];
+    exchanges(&rt, rt.alloc(), 5000, &day)
+}
+
+#[test]
+fn a_hold_and_an_advice(rt: HostRuntime) -> Result<(), Fail> {
+    let day = [
+        step("a hold", HOLD, HELD, 100),
+        step("a debit over what is available", DEBIT, TOO_MUCH, 100),
+        step("the hold's reversal", HOLD_REVERSAL, HOLD_REVERSED, 100),
+        step("an advice", ADVICE, ADVISED, -50),
+        step("an inquiry", LATE_INQUIRY, LATE_BALANCE, -50),
+    ];
+    exchanges(&rt, rt.alloc(), 100, &day)
+}
