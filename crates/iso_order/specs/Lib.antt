@@ -1,5 +1,6 @@
 pub mod AccountNumber
 pub mod Fields
+pub mod Fitting
 pub mod Key
 pub mod Order
 pub mod Outcome

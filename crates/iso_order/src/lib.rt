@@ -5,6 +5,7 @@ mod act;
 mod answer;
 mod fields;
 mod key;
+pub mod laws;
 mod order;
 mod pan;
 mod response;

@@ -14,3 +14,4 @@ pub mod Buffers
 pub mod Plain
 pub mod Stable
 pub mod PlainBitmaps
+pub mod Sizes

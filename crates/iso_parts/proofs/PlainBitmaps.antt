@@ -1,6 +1,6 @@
 -- The bitmaps that are written are bitmaps of the set.
-use Rattle.std.proofs.Common.{◌≡◌, ℕ, ◌+◌, ◌*◌, ◌/◌, ◌%◌, ◌<◌, ◌≤◌, Bool, true, false, List, [], ◌∷◌, ◌++◌, length, take, drop, get_or, refl, sym, ap, subst, ◌∙◌, arith}
-use Rattle.std.proofs.lemmas.List.{take_at, drop_at, take-append-drop, length-take, length-drop}
+use Rattle.std.proofs.Common.{◌≡◌, ℕ, ◌/◌, ◌%◌, Bool, true, false, List, [], ◌∷◌, ◌++◌, length, take, drop, get_or, refl, sym, ap, ◌∙◌, arith}
+use Rattle.std.proofs.lemmas.List.{take_at, drop_at, take-append-drop}
 use Rattle.hex.specs.Hex.{decode_of, encode_with, encode_upper, upper_digits, IsBytes}
 use Rattle.hex.proofs.HexLemmas.{decode_of-encode_upper, length-encode_with}
 use Rattle.iso_parts.specs.declared.bitmap.BitmapCoding.{BitmapCoding}

@@ -168,7 +168,10 @@ impl Coding {
     {
         match self {
             Coding::Ascii | Coding::Raw => Ok(out.extend_from_slice(body)?),
-            Coding::Bcd => push_digits(n, body, out),
+            Coding::Bcd => {
+                out.reserve(n as usize)?;
+                push_digits(n, body, out)
+            }
             Coding::HexText => push_bytes(n, body, out),
         }
     }

@@ -1,6 +1,6 @@
 //! Fields: a value as the part of a message, its length and then its body.
 
-ghost use Rattle.std.specs.Prelude.{IfOk, drop, vec_len, ◌≡◌, ◌≢◌, ℕ, List, take, ◌+◌, ◌-◌, ◌≤◌, ◌++◌, ◌↔◌, length, replicate, OnOk, OnErr, IfErr, IsTrue, None, Some};
+ghost use Rattle.std.specs.Prelude.{IfOk, IfSome, drop, vec_len, ◌≡◌, ◌≢◌, ℕ, List, take, ◌+◌, ◌-◌, ◌≤◌, ◌++◌, ◌↔◌, length, replicate, OnOk, OnErr, IfErr, IsTrue, None, Some};
 ghost use Rattle.iso_parts.specs.declared.fault.FieldFault.TheVariants.{Memory};
 ghost use Rattle.iso_parts.specs.Row.{is_length, refusal, IsGood, Fits};
 ghost use Rattle.iso_parts.specs.Part.{with_pads, padded, plain, plain_part, Part, Keeps};
@@ -75,6 +75,19 @@ fn append_filled_bcd(spec: &FieldSpec, value: &[u8], out: &mut Vec<u8>) -> Resul
     Coding::Bcd.append_text(text, out)
 }
 
+/// Room for the part of a value of so many characters.
+fn room_for(spec: &FieldSpec, count: usize) -> usize
+    requires few { count ≤ 999 }
+    requires small { spec.now.max ≤ 999 }
+{
+    let characters = if spec.pad == Pad::None {
+        count
+    } else {
+        spec.max as usize
+    };
+    spec.length.prefix_size() + 2 * characters
+}
+
 /// Appends the plain part of a value that fits. Where memory runs out, more than was there may stand behind it.
 fn append_part(spec: &FieldSpec, value: &[u8], out: &mut Vec<u8>) -> Result<(), AllocError>
     requires good { IsGood spec.now }
@@ -82,6 +95,7 @@ fn append_part(spec: &FieldSpec, value: &[u8], out: &mut Vec<u8>) -> Result<(), 
     ensures ok { OnOk result (out.new.items ≡ out.old.items ++ plain_part spec.now value.now) }
     ensures err { OnErr result (Keeps out.old.items out.new.items) }
 {
+    out.reserve(room_for(spec, value.len()))?;
     spec.length.append(value.len(), out)?;
     if spec.pad == Pad::None {
         return spec.coding.append_text(value, out);
@@ -179,7 +193,8 @@ pub fn append_value(
     out: &mut Vec<u8>,
 ) -> Result<Option<usize>, FieldFault>
     requires { IsGood spec.now }
-    ensures { AppendsValue out.old.items out.new.items result (part_at spec.now bytes.now) }
+    ensures exact { AppendsValue out.old.items out.new.items result (part_at spec.now bytes.now) }
+    ensures room { IfOk result (λ got. IfSome got (λ used. used ≤ length bytes.now)) }
 {
     let front = spec.length.prefix_size();
     if bytes.len() < front {

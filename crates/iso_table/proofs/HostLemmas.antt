@@ -1,11 +1,10 @@
 -- A table is ready for a host exactly where nothing is wrong with it.
-use Rattle.std.proofs.Common.{◌≡◌, ℕ, Bool, true, false, cond, eqb, List, [], ◌∷◌, Option, Some, None, refl, sym, ap, ◌∙◌, arith}
-use Rattle.std.proofs.lemmas.Bool.{eqb-true}
+use Rattle.std.proofs.Common.{◌≡◌, Bool, true, false, cond, eqb, List, [], ◌∷◌, Option, Some, None, refl, arith}
 use Rattle.std.proofs.lemmas.Bool.Decides.{nat_tests}
 use Rattle.iso_parts.specs.declared.spec.FieldSpec.{FieldSpec}
 use Rattle.iso_table.specs.declared.host.HostRow.{HostRow}
 use Rattle.iso_table.specs.declared.fault.HostTableFault.{HostTableFault}
-use Rattle.iso_table.specs.declared.fault.HostTableFault.TheVariants.{NotVersion0, NoRow, RowShape}
+use Rattle.iso_table.specs.declared.fault.HostTableFault.TheVariants.{NoRow, RowShape}
 use Rattle.iso_table.specs.Layout.{Layout, row_at}
 use Rattle.iso_table.specs.HostReady.{is_shape, row_fault, first_of, rows_fault, host_rows, host_fault, IsHostRow, AreHostRows, IsHostReady}
 

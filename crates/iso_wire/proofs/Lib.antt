@@ -13,3 +13,5 @@ pub mod Loop
 pub mod Appends
 pub mod Packs
 pub mod Endings
+pub mod FrameHeaders
+pub mod FrameSplits

@@ -8,3 +8,4 @@ pub mod Spelling
 pub mod Refusal
 pub mod Faults
 pub mod Reading
+pub mod Frame

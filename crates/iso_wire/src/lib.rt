@@ -1,10 +1,14 @@
-//! Messages as bytes: `pack` writes a message under a table, `unpack` reads one.
+//! Messages as bytes: `pack` writes a message under a table, `unpack` reads one. `frame` puts a header before bytes,
+//! `unframe` takes them out.
 #![tactic(auto)]
 
 mod bitmaps;
 mod decimal;
 mod elements;
 mod fault;
+mod framing;
+mod header;
+mod laws;
 mod message;
 mod numbers;
 mod packing;
@@ -14,6 +18,9 @@ mod unpacking;
 
 pub use decimal::{digits_of, write_decimal};
 pub use fault::{PackFault, SetFault, UnpackCause, UnpackFault};
+pub use framing::{FrameFault, Framed, append_frame, frame, unframe};
+pub use header::Header;
+pub use laws::splits_once;
 pub use message::Message;
 pub use packing::pack;
 pub use unpacking::unpack;

@@ -5,6 +5,7 @@ use iso_table::{Draft, Row, Table, TableFault};
 use std::alloc::{AllocError, Global};
 use std::test::*;
 
+mod frames;
 mod messages;
 mod refusals;
 

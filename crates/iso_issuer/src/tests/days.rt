@@ -250,3 +250,37 @@ fn reversals_of_other_keys(rt: HostRuntime) -> Result<(), Fail> {
     ];
     play(&rt, rt.alloc(), 100, &day)
 }
+
+#[test]
+fn a_day_of_one_account(rt: HostRuntime) -> Result<(), Fail> {
+    let purchase = debit(200, 7, 1000)?;
+    let changed = debit(200, 7, 2000)?;
+    let asked = inquiry(9)?;
+    let undone = debit(200, 12, 1000)?;
+    let hold = debit(100, 20, 700)?;
+    let dear = debit(200, 21, 4500)?;
+    let late = undo(8, 200, 7)?;
+    let early = undo(13, 200, 12)?;
+    let released = undo(22, 100, 20)?;
+    let day = [
+        ("a purchase", purchase, granted(1), (4000, 4000)),
+        ("its repeat", purchase, granted(1), (4000, 4000)),
+        ("another amount", changed, declined(94, 0), (4000, 4000)),
+        ("an inquiry", asked, shows(2, 4000), (4000, 4000)),
+        ("a late reversal", late, granted(3), (5000, 5000)),
+        ("the purchase again", purchase, granted(1), (5000, 5000)),
+        ("the inquiry again", asked, shows(2, 4000), (5000, 5000)),
+        ("an early reversal", early, granted(4), (5000, 5000)),
+        ("its payment", undone, declined(21, 5), (5000, 5000)),
+        ("a hold", hold, granted(6), (5000, 4300)),
+        ("over the available", dear, declined(51, 7), (5000, 4300)),
+        ("the hold is reversed", released, granted(8), (5000, 5000)),
+        (
+            "the declined one again",
+            dear,
+            declined(51, 7),
+            (5000, 5000),
+        ),
+    ];
+    play(&rt, rt.alloc(), 5000, &day)
+}

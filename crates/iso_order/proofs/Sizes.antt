@@ -1,0 +1,133 @@
+-- Under a table that is ready for a host every response that is written is short.
+use Rattle.std.proofs.Common.{◌≡◌, ℕ, ◌+◌, ◌-◌, ◌*◌, ◌≤◌, Bool, true, ◌&&◌, List, [], ◌∷◌, ◌++◌, length, length-append, Option, Some, None, refl, ap, subst, sym, ◌∙◌, arith, map}
+use Rattle.std.specs.Prelude.{nat_le, ◌==◌, IfSome}
+use Rattle.std.specs.List.{flat_map, list_all}
+use Rattle.std.proofs.lemmas.Bool.{and_parts, eqb-true}
+use Rattle.std.proofs.lemmas.Bool.Decides.{nat_tests}
+use Rattle.iso_parts.specs.declared.fault.FieldFault.{FieldFault}
+use Rattle.iso_parts.specs.declared.padding.Pad.{Pad}
+use Rattle.iso_parts.specs.declared.padding.Pad.TheVariants as pads
+use Rattle.iso_parts.specs.declared.prefix.Digits.{Digits}
+use Rattle.iso_parts.specs.declared.prefix.Digits.TheVariants as digits
+use Rattle.iso_parts.specs.declared.spec.FieldSpec.{FieldSpec}
+use Rattle.iso_parts.specs.Part.{with_pads, padded}
+use Rattle.iso_parts.specs.Row.{refusal, Fits}
+use Rattle.iso_parts.proofs.Plain.{fits_from_refusal}
+use Rattle.iso_parts.proofs.Sizes.{plain_maps_most, plain_part_most, padded_most}
+use Rattle.iso_table.specs.declared.host.HostRow.{HostRow}
+use Rattle.iso_table.specs.declared.host.Shape.{Shape}
+use Rattle.iso_table.specs.declared.host.Shape.TheVariants as shapes
+use Rattle.iso_table.specs.HostReady.{is_n, is_an, is_n_or_an, is_fixed, is_counted, is_unpadded, is_shape, host_rows, IsHostRow, AreHostRows}
+use Rattle.iso_table.specs.Layout.{row_at}
+use Rattle.iso_wire.specs.Contents.{Contents}
+use Rattle.iso_wire.specs.Refusal.{refused_field, refused_by}
+use Rattle.iso_wire.specs.Spelling.{mti_bytes, plain_by, plain_of}
+use Rattle.iso_order.specs.Fields.{text}
+use Rattle.iso_order.specs.Fitting.{ResponsesAreShort}
+use Rattle.iso_order.specs.Outcome.{Outcome}
+use Rattle.iso_order.specs.Response.{element, entry, elements_at, response, is_showable}
+use Rattle.iso_order.proofs.Ascending.{response-listed}
+use Rattle.iso_order.proofs.Fits.{IsTaken, Values, balance_by, length-additional, element_taken}
+use Rattle.iso_order.proofs.Shown.{shown-currency}
+
+-- ---- rows
+
+padded_short : (s : FieldSpec) (v : List ℕ) → Fits s v → s.max ≤ 99 → length (padded s v) ≤ 99
+padded_short s v fits few = omega (arith, padded_most s v fits)
+
+unpadded : (p : Pad) (n : ℕ) (v : List ℕ) → is_unpadded p ≡ true → with_pads p n v ≡ v
+unpadded pads.None n v is = refl
+unpadded (pads.Left p) n v is = absurd cc
+unpadded (pads.Right p) n v is = absurd cc
+
+-- values have at most 99 characters; those of amounts stand at element 54 alone
+abbrev is_narrow_by : Shape → ℕ → Bool
+is_narrow_by (shapes.Digits n) number = nat_le n 99
+is_narrow_by (shapes.DigitsUpTo n) number = nat_le n 99
+is_narrow_by (shapes.Text n) number = nat_le n 99
+is_narrow_by shapes.Amounts number = number == 54
+is_narrow_by (shapes.AnyUpTo n) number = nat_le n 99
+
+abbrev is_narrow : HostRow → Bool
+is_narrow h = is_narrow_by h.2 h.0
+
+same_few : (max n : ℕ) → (max == n) ≡ true → nat_le n 99 ≡ true → max ≤ 99
+same_few max n same few = grind (arith, nat_tests)
+
+most_few : (max n : ℕ) → nat_le max n ≡ true → nat_le n 99 ≡ true → max ≤ 99
+most_few max n most few = grind (arith, nat_tests)
+
+shape_short : (h : Shape) (number : ℕ) (s : FieldSpec) (v : List ℕ) → is_narrow_by h number ≡ true → is_shape h s ≡ true → Fits s v → ((number == 54) ≡ true → length v ≡ 20) → length (padded s v) ≤ 99
+shape_short (shapes.Digits n) number s v few shape fits amount =
+    let p = and_parts (is_n s.class && is_fixed s.length && (s.max == n)) (is_unpadded s.pad) shape in
+    padded_short s v fits (same_few s.max n (and_parts (is_n s.class && is_fixed s.length) (s.max == n) p.0).1 few)
+shape_short (shapes.DigitsUpTo n) number s v few shape fits amount =
+    let p = and_parts (is_n s.class && is_counted s.length && nat_le s.max n) (is_unpadded s.pad) shape in
+    padded_short s v fits (most_few s.max n (and_parts (is_n s.class && is_counted s.length) (nat_le s.max n) p.0).1 few)
+shape_short (shapes.Text n) number s v few shape fits amount =
+    let p = and_parts (is_n_or_an s.class && is_fixed s.length && (s.max == n)) (is_unpadded s.pad) shape in
+    padded_short s v fits (same_few s.max n (and_parts (is_n_or_an s.class && is_fixed s.length) (s.max == n) p.0).1 few)
+shape_short shapes.Amounts number s v is shape fits amount =
+    let p = and_parts (is_an s.class && is_counted s.length && nat_le 20 s.max) (is_unpadded s.pad) shape in
+    let twenty = amount is in
+    let same = ap length (unpadded s.pad (s.max - length v) v p.1) in
+    omega arith
+shape_short (shapes.AnyUpTo n) number s v few shape fits amount = padded_short s v fits (most_few s.max n shape few)
+
+accepted_by : (n : ℕ) (e : Option FieldFault) → refused_field n e ≡ None → e ≡ None
+accepted_by n None h = refl
+accepted_by n (Some e) h = absurd cc
+
+value_short : (h : HostRow) (r : Option FieldSpec) (v : List ℕ) → is_narrow h ≡ true → IsHostRow h r → refused_by r h.0 v ≡ None → ((h.0 == 54) ≡ true → length v ≡ 20) → length (plain_by r v) ≤ 202
+value_short h None v narrow row taken amount = omega arith
+value_short h (Some s) v narrow row taken amount =
+    let fits = fits_from_refusal s v (accepted_by h.0 (refusal s v) taken) in
+    let few = shape_short h.2 h.0 s v narrow row fits amount in
+    omega (arith, plain_part_most s v)
+
+-- ---- the elements
+
+entry_short : (rows : List (Option FieldSpec)) (h : HostRow) (o : Option (List ℕ)) (es : Values) (most : ℕ) → is_narrow h ≡ true → IsHostRow h (row_at rows h.0) → IfSome o (IsTaken rows h.0) → ((h.0 == 54) ≡ true → IfSome o (λ v. length v ≡ 20))
+    → length (flat_map (plain_of rows) es) ≤ most → length (flat_map (plain_of rows) (entry h.0 o ++ es)) ≤ 202 + most
+entry_short rows h (Some v) es most narrow row taken amount rest =
+    let here = value_short h (row_at rows h.0) v narrow row taken amount in
+    omega (arith, length-append (plain_of rows (h.0, v)) (flat_map (plain_of rows) es))
+entry_short rows h None es most narrow row taken amount rest = omega arith
+
+elements_short : (rows : List (Option FieldSpec)) (value : ℕ → Option (List ℕ)) (hs : List HostRow) → list_all is_narrow hs ≡ true → AreHostRows hs rows → ((n : ℕ) → IfSome (value n) (IsTaken rows n)) → ((n : ℕ) → (n == 54) ≡ true → IfSome (value n) (λ v. length v ≡ 20))
+    → length (flat_map (plain_of rows) (elements_at value (map (λ (h : HostRow). h.0) hs))) ≤ 202 * length hs
+elements_short rows value [] narrow good taken amount = omega arith
+elements_short rows value (h ∷ hs) narrow good taken amount =
+    let both = and_parts (is_narrow h) (list_all is_narrow hs) narrow in
+    let rest = elements_short rows value hs both.1 good.1 taken amount in
+    let whole = entry_short rows h (value h.0) (elements_at value (map (λ (k : HostRow). k.0) hs)) (202 * length hs) both.0 good.0 (taken h.0) (amount h.0) rest in
+    omega arith
+
+-- what is shown has twenty characters
+amount_twenty : (m : Contents) (a : Outcome) → is_showable m a.shown ≡ true → (n : ℕ) → (n == 54) ≡ true → IfSome (element m a n) (λ v. length v ≡ 20)
+amount_twenty m a shown n is =
+    subst (λ (k : ℕ). IfSome (element m a k) (λ v. length v ≡ 20)) (sym (eqb-true n 54 is))
+    (balance_by m a.shown (λ v. length v ≡ 20) shown (λ z some. length-additional (text m 49) z (shown-currency m (Some z) z refl some)))
+
+-- ---- the type
+
+type_short : (k : Digits) (n : ℕ) → length (mti_bytes k n) ≤ 4
+type_short digits.Ascii n = omega arith
+type_short digits.Bcd n = omega arith
+
+-- ---- the whole response
+
+pub responses_short_lem : ResponsesAreShort
+responses_short_lem t m a out s plain =
+    let value = element m a in
+    let listed : (response m a).elements ≡ elements_at value (map (λ (h : HostRow). h.0) host_rows) = ap (λ (made : Contents). made.elements) (response-listed m a) in
+    let maps = plain.spelling.maps in
+    let parts = plain.spelling.parts in
+    let bytes = ap length plain.spelling.bytes in
+    let kind = type_short t.mti (response m a).mti in
+    let bitmaps = plain_maps_most t.bitmap _ maps plain.bitmaps in
+    let written : length parts ≡ length (flat_map (plain_of t.rows) (elements_at value (map (λ (h : HostRow). h.0) host_rows))) = ap length (plain.parts ∙ ap (flat_map (plain_of t.rows)) listed) in
+    let elements = elements_short t.rows value host_rows refl s.ready.rows (element_taken t m a s) (amount_twenty m a s.shown) in
+    let front = length-append (mti_bytes t.mti (response m a).mti) (maps ++ parts) in
+    let behind = length-append maps parts in
+    omega arith

@@ -1,0 +1,25 @@
+-- Every response can be written under a table that is ready for a host.
+use Rattle.std.specs.Prelude.{◌≡◌, ℕ, ◌≤◌, true, List, length, None}
+use Rattle.iso_table.specs.HostReady.{IsHostReady}
+use Rattle.iso_table.specs.Layout.{Layout}
+use Rattle.iso_wire.specs.Contents.{Contents}
+use Rattle.iso_wire.specs.Refusal.{message_refusal}
+use Rattle.iso_wire.specs.Spelling.{Spelling, PlainSpelling}
+use Rattle.iso_order.specs.Fields.{function, asks}
+use Rattle.iso_order.specs.Outcome.{Outcome}
+use Rattle.iso_order.specs.Response.{response, is_showable}
+
+-- the message was read under a table that is ready for a host, and what is shown can be shown
+pub record IsServed (t : Layout) (m : Contents) (a : Outcome) : Type 0 where
+  pub ready : IsHostReady t
+  pub bytes : List ℕ
+  pub read : Spelling t m bytes
+  pub shown : is_showable m a.shown ≡ true
+
+-- the table refuses no response to a request or an advice
+abbrev pub ResponsesFit : Type 0
+ResponsesFit = (t : Layout) (m : Contents) (a : Outcome) → IsServed t m a → asks (function m) ≡ true → message_refusal t (response m a) ≡ None
+
+-- a response that is written has at most 9,999 bytes: four digits tell its length
+abbrev pub ResponsesAreShort : Type 0
+ResponsesAreShort = (t : Layout) (m : Contents) (a : Outcome) (out : List ℕ) → IsServed t m a → PlainSpelling t (response m a) out → length out ≤ 9999

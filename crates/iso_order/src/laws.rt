@@ -1,0 +1,14 @@
+//! What holds of every response: functions that do nothing, and whose contracts are laws.
+
+ghost use Rattle.iso_order.specs.Fitting.{ResponsesFit, ResponsesAreShort};
+
+/// The response to each request or advice that was unpacked with a table that is ready for a host fits that table:
+/// `pack` refuses none.
+pub fn responses_fit()
+    ensures { ResponsesFit }
+{}
+
+/// Such a response, as `pack` writes it, has at most 9,999 bytes: each header can tell its length.
+pub fn responses_are_short()
+    ensures { ResponsesAreShort }
+{}

@@ -1,0 +1,98 @@
+//! Frames: a header that counts the body, and the body.
+
+ghost use Rattle.std.specs.Prelude.{◌≡◌, ◌↔◌, ◌+◌, ◌<◌, ◌≤◌, ℕ, List, [], ◌∷◌, ◌++◌, length, IfOk, OnOk, OnErr, IsErrOf, IsOkUnless, true};
+ghost use Rattle.iso_wire.specs.declared.framing.FrameFault.TheVariants as faults;
+ghost use Rattle.iso_wire.specs.Frame.{largest, header_size, frame_of, Frames, frame_at, Unframes, AnswersFront, IsGot, is_bad_header};
+
+use crate::header::Header;
+use std::alloc::{AllocError, Global};
+use thiserror::Error;
+
+/// Why bytes are not put into a frame, or not taken out of one.
+#[derive(Clone, Copy, Debug, PartialEq, Eq, Error)]
+pub enum FrameFault {
+    /// The header cannot count the body: it is of more than 65,535 bytes, or more than 9,999 where the header is of
+    /// digits.
+    #[error("the body is too long for its header")]
+    TooLong,
+    /// The header isn't of digits.
+    #[error("the header isn't of digits")]
+    BadDigits,
+    /// Memory ran out.
+    #[error("there is no memory")]
+    Memory,
+}
+
+impl From<AllocError> for FrameFault {
+    ghost from_gives = { λ _ e. e ≡ faults.Memory };
+
+    fn from(_e: AllocError) -> FrameFault {
+        FrameFault::Memory
+    }
+}
+
+/// What stands at the front of some bytes.
+#[derive(Clone, Copy, Debug, PartialEq, Eq)]
+pub enum Framed<'a> {
+    /// A whole frame, of `used` bytes with its header.
+    Got { body: &'a [u8], used: usize },
+    /// The bytes end inside the frame.
+    More,
+}
+
+/// Appends a frame: the header of the body, and the body. On a fault nothing is changed.
+pub fn append_frame(header: Header, body: &[u8], out: &mut Vec<u8>) -> Result<(), FrameFault>
+    ensures ok { OnOk result (out.new.items ≡ out.old.items ++ frame_of header body.now) }
+    ensures err { OnErr result (out.new.items ≡ out.old.items) }
+    ensures too_long { IsErrOf result faults.TooLong ↔ (largest header < length body.now) }
+    ensures memory { length body.now ≤ largest header → IsOkUnless result faults.Memory }
+{
+    if body.len() > header.limit() {
+        return Err(FrameFault::TooLong);
+    }
+    out.reserve(header.size() + body.len())?;
+    header.append(body.len(), out)?;
+    out.extend_from_slice(body)?;
+    Ok(())
+}
+
+/// The frame of a body.
+pub fn frame(alloc: Global, header: Header, body: &[u8]) -> Result<Vec<u8>, FrameFault>
+    // What is made is the frame of the one body.
+    ensures framed { IfOk result (λ out. Frames header (body.now ∷ []) out.items) }
+    ensures too_long { IsErrOf result faults.TooLong ↔ (largest header < length body.now) }
+    // A body that fits is framed, unless memory runs out.
+    ensures memory { length body.now ≤ largest header → IsOkUnless result faults.Memory }
+{
+    let mut out = Vec::new(alloc);
+    append_frame(header, body, &mut out)?;
+    Ok(out)
+}
+
+/// Reads the frame that the input begins with: the header when it is whole, and then the body. Takes no memory.
+///
+/// The only fault is `BadDigits`.
+pub fn unframe<'a>(header: Header, input: &'a [u8]) -> Result<Framed<'a>, FrameFault>
+    ensures read { Unframes result (frame_at header input.now) }
+    // A frame that is got begins the input; more is wanted where neither a frame nor a bad header does.
+    ensures front { AnswersFront header input.now result }
+    // Each whole frame that begins the input is got.
+    ensures got { (body more : List ℕ) → length body ≤ largest header → input.now ≡ frame_of header body ++ more → IsGot result body (header_size header + length body) }
+    ensures bad { IsErrOf result faults.BadDigits ↔ (is_bad_header header input.now ≡ true) }
+{
+    let size = header.size();
+    if input.len() < size {
+        return Ok(Framed::More);
+    }
+    let (front, rest) = input.split_at(size);
+    let Some(length) = header.length_of(front) else {
+        return Err(FrameFault::BadDigits);
+    };
+    if rest.len() < length {
+        return Ok(Framed::More);
+    }
+    Ok(Framed::Got {
+        body: &rest[..length],
+        used: size + length,
+    })
+}

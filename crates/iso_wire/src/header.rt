@@ -1,0 +1,92 @@
+//! The header of a frame.
+
+ghost use Rattle.std.specs.Prelude.{◌≡◌, ◌≤◌, ◌++◌, length, vec_capacity, OnOk, OnErr};
+ghost use Rattle.iso_wire.specs.Reading.{four_digits};
+ghost use Rattle.iso_wire.specs.Frame.{largest, header_size, header_of, length_in};
+
+use std::alloc::AllocError;
+
+/// How a frame counts its body. The header's own bytes don't count.
+#[derive(Clone, Copy, Debug, PartialEq, Eq)]
+pub enum Header {
+    /// Two bytes, the high one first.
+    Binary2,
+    /// Four ASCII digits.
+    Ascii4,
+    /// Two bytes of two BCD digits each.
+    Bcd2,
+}
+
+/// The number of four digits.
+fn number_of(a: u8, b: u8, c: u8, d: u8) -> Option<usize>
+    ensures { result ≡ four_digits a b c d }
+{
+    match (a, b, c, d) {
+        (b'0'..=b'9', b'0'..=b'9', b'0'..=b'9', b'0'..=b'9') => Some(
+            1000 * (a - b'0') as usize
+                + 100 * (b - b'0') as usize
+                + 10 * (c - b'0') as usize
+                + (d - b'0') as usize,
+        ),
+        _ => None,
+    }
+}
+
+impl Header {
+    /// How many bytes the header takes.
+    pub fn size(self) -> usize
+        ensures { result ≡ header_size self }
+    {
+        match self {
+            Header::Binary2 | Header::Bcd2 => 2,
+            Header::Ascii4 => 4,
+        }
+    }
+
+    /// The length of the longest body that the header can count.
+    pub fn limit(self) -> usize
+        ensures { result ≡ largest self }
+    {
+        match self {
+            Header::Binary2 => 65535,
+            Header::Ascii4 | Header::Bcd2 => 9999,
+        }
+    }
+
+    /// The body's length that a whole header tells, and `None` where the bytes aren't one of digits. Takes no memory.
+    pub fn length_of(self, header: &[u8]) -> Option<usize>
+        ensures { result ≡ length_in self header.now }
+    {
+        match (self, header) {
+            (Header::Binary2, [high, low]) => Some(256 * *high as usize + *low as usize),
+            (Header::Ascii4, [a, b, c, d]) => number_of(*a, *b, *c, *d),
+            (Header::Bcd2, [x, y]) => number_of(
+                b'0' + *x / 16,
+                b'0' + *x % 16,
+                b'0' + *y / 16,
+                b'0' + *y % 16,
+            ),
+            _ => None,
+        }
+    }
+
+    /// Appends the header of a body of `n` bytes.
+    pub(crate) fn append(self, n: usize, out: &mut Vec<u8>) -> Result<(), AllocError>
+        requires { n ≤ largest self }
+        ensures ok { OnOk result (out.new.items ≡ out.old.items ++ header_of self n) }
+        ensures err { OnErr result (out.new.items ≡ out.old.items) }
+        ensures capacity { vec_capacity out.old ≤ vec_capacity out.new }
+    {
+        let (a, b, c, d) = (n / 1000, n / 100 % 10, n / 10 % 10, n % 10);
+        match self {
+            Header::Binary2 => out.extend_from_slice(&[(n / 256) as u8, (n % 256) as u8]),
+            Header::Ascii4 => out.extend_from_slice(&[
+                b'0' + a as u8,
+                b'0' + b as u8,
+                b'0' + c as u8,
+                b'0' + d as u8,
+            ]),
+            Header::Bcd2 => out.extend_from_slice(&[(16 * a + b) as u8, (16 * c + d) as u8]),
+        }
+    }
+}

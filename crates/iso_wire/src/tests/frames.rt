@@ -1,0 +1,153 @@
+//! Frames whose bytes are known from outside.
+
+use super::*;
+use crate::FrameFault::{BadDigits, TooLong};
+use crate::Framed::{Got, More};
+use crate::Header::{Ascii4, Bcd2, Binary2};
+use crate::{FrameFault, Framed, Header, append_frame, frame, splits_once, unframe};
+
+#[test]
+fn bodies_are_framed(rt: HostRuntime) -> Result<(), Fail> {
+    let cases: [(&str, Header, &[u8], &[u8]); 5] = [
+        (
+            "an echo behind two bytes",
+            Binary2,
+            ECHO,
+            b"\x00\x370800822000000000000004000000000000000102030405000001301",
+        ),
+        (
+            "an echo behind four digits",
+            Ascii4,
+            ECHO,
+            b"00550800822000000000000004000000000000000102030405000001301",
+        ),
+        (
+            "an echo behind two bytes of digits",
+            Bcd2,
+            ECHO,
+            b"\x00\x550800822000000000000004000000000000000102030405000001301",
+        ),
+        ("nothing behind two bytes", Binary2, b"", b"\x00\x00"),
+        ("nothing behind four digits", Ascii4, b"", b"0000"),
+    ];
+    for (name, header, body, want) in cases {
+        let made = frame(rt.alloc(), header, body)?;
+        assert_eq!(rt; made.as_slice(), want, "{name}");
+        let read = unframe(header, &made);
+        assert_eq!(rt;
+            read,
+            Ok(Got {
+                body,
+                used: want.len()
+            }),
+            "{name}"
+        );
+    }
+    Ok(())
+}
+
+#[test]
+fn long_bodies(rt: HostRuntime) -> Result<(), Fail> {
+    let cases: [(Header, usize, Result<&[u8], FrameFault>); 7] = [
+        (Binary2, 10_000, Ok(b"\x27\x10")),
+        (Ascii4, 10_000, Err(TooLong)),
+        (Bcd2, 10_000, Err(TooLong)),
+        (Ascii4, 9_999, Ok(b"9999")),
+        (Bcd2, 9_999, Ok(b"\x99\x99")),
+        (Binary2, 65_535, Ok(b"\xFF\xFF")),
+        (Binary2, 65_536, Err(TooLong)),
+    ];
+    for (header, length, want) in cases {
+        let body = vec![in rt.alloc(); b'x'; length]?;
+        let made = frame(rt.alloc(), header, &body);
+        let front = match &made {
+            Ok(bytes) => Ok(&bytes[..header.size().min(bytes.len())]),
+            Err(fault) => Err(*fault),
+        };
+        assert_eq!(rt; front, want, "{header:?} before {length} bytes");
+    }
+    Ok(())
+}
+
+#[test]
+fn frames_are_read(rt: HostRuntime) -> Result<(), Fail> {
+    let cases: [(&str, Header, &[u8], Result<Framed<'static>, FrameFault>); 11] = [
+        ("no bytes", Binary2, b"", Ok(More)),
+        ("half a header", Bcd2, b"\x00", Ok(More)),
+        ("a header not of digits", Bcd2, b"\x00\x5A", Err(BadDigits)),
+        (
+            "an empty body",
+            Bcd2,
+            b"\x00\x00",
+            Ok(Got { body: b"", used: 2 }),
+        ),
+        (
+            "a body of 10",
+            Bcd2,
+            b"\x00\x100123456789",
+            Ok(Got {
+                body: b"0123456789",
+                used: 12,
+            }),
+        ),
+        ("half a header with a letter", Ascii4, b"00x", Ok(More)),
+        ("a header with a letter", Ascii4, b"00x5", Err(BadDigits)),
+        (
+            "a body and more",
+            Ascii4,
+            b"0002abcd",
+            Ok(Got {
+                body: b"ab",
+                used: 6,
+            }),
+        ),
+        ("a body without its end", Ascii4, b"0005abcd", Ok(More)),
+        (
+            "bytes that are no digits",
+            Binary2,
+            b"\x00\x0Aabcdefghij",
+            Ok(Got {
+                body: b"abcdefghij",
+                used: 12,
+            }),
+        ),
+        (
+            "a high byte alone",
+            Binary2,
+            b"\x01\x00abcdefghij",
+            Ok(More),
+        ),
+    ];
+    for (name, header, bytes, want) in cases {
+        assert_eq!(rt; unframe(header, bytes), want, "{name}");
+    }
+    Ok(())
+}
+
+#[test]
+fn frames_are_appended(rt: HostRuntime) -> Result<(), Fail> {
+    let mut out = vec![in rt.alloc(); b'a', b'b']?;
+    append_frame(Ascii4, b"c", &mut out)?;
+    assert_eq!(rt; out.as_slice(), b"ab0001c".as_slice());
+    let long = vec![in rt.alloc(); b'x'; 10_000]?;
+    assert_eq!(rt; append_frame(Ascii4, &long, &mut out), Err(TooLong));
+    assert_eq!(rt; out.as_slice(), b"ab0001c".as_slice());
+    Ok(())
+}
+
+#[test]
+fn headers_tell_lengths(rt: HostRuntime) -> Result<(), Fail> {
+    splits_once();
+    let cases: [(Header, &[u8], Option<usize>); 5] = [
+        (Binary2, b"\x27\x10", Some(10_000)),
+        (Ascii4, b"0055", Some(55)),
+        (Bcd2, b"\x00\x55", Some(55)),
+        (Bcd2, b"\x00\x5A", None),
+        (Ascii4, b"055", None),
+    ];
+    for (header, bytes, want) in cases {
+        assert_eq!(rt; header.length_of(bytes), want, "{header:?}");
+    }
+    assert_eq!(rt; Binary2.limit(), 65_535);
+    Ok(())
+}
