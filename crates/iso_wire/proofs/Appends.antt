@@ -3,7 +3,6 @@ use Rattle.std.proofs.Common.{◌≡◌, ℕ, List, [], ◌∷◌, ◌++◌, len
 use Rattle.std.proofs.lemmas.List.{take_at, drop_at}
 use Rattle.iso_wire.specs.declared.elements.Entry.{Entry}
 use Rattle.iso_wire.specs.Entries.{elements_of}
-use Rattle.iso_wire.proofs.Orders.{Values}
 
 pub appended : (index : List Entry) (old v now : List ℕ) (n from : ℕ) → from ≡ length old → now ≡ old ++ v → elements_of index (take from now) ++ (n, drop from now) ∷ [] ≡ elements_of index old ++ (n, v) ∷ []
 appended index old v now n from place is =
