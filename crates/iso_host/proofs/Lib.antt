@@ -1,2 +1,7 @@
+mod JournalLemmas
+mod OutputLemmas
+mod Running
+mod ServeLemmas
+mod ShownLemmas
 mod StreamLemmas
 mod Walks

@@ -5,6 +5,7 @@ use Rattle.std.proofs.KnownBytes.{Appends-trans}
 use Rattle.std.specs.declared.option.Option.{Option}
 use Rattle.std.specs.Io.KnownBytes.{Appends}
 use Rattle.iso_host.specs.Counts.{Counts}
+use Rattle.iso_host.specs.Serving.{Spends}
 use Rattle.iso_host.specs.Writing.{Moves}
 
 -- `&bs[at..]`, as a proof sees it
@@ -23,3 +24,12 @@ moves_more old mid new count n s k e =
     let moved : new.moved ≡ mid.moved + n = ap (λ (c : Counts). c.moved) e in
     let failures : new.failures ≡ mid.failures = ap (λ (c : Counts). c.failures) e in
     record { calls = omega (arith, s.calls); moved = omega (arith, s.moved); failures = failures ∙ s.failures }
+
+-- one more call, which moved a byte and took a turn
+pub spends_more : (old mid new : Counts) (before left n : ℕ) → Spends old mid before left → 0 < left → 0 < n
+    → new ≡ record { calls = mid.calls + 1; moved = mid.moved + n; failures = mid.failures } → Spends old new before (left - 1)
+spends_more old mid new before left n s h k e =
+    let calls : new.calls ≡ mid.calls + 1 = ap (λ (c : Counts). c.calls) e in
+    let moved : new.moved ≡ mid.moved + n = ap (λ (c : Counts). c.moved) e in
+    let failures : new.failures ≡ mid.failures = ap (λ (c : Counts). c.failures) e in
+    record { fewer = omega (arith, s.fewer); calls = omega arith; moved = omega arith; failures = failures ∙ s.failures }

@@ -1,5 +1,11 @@
+pub mod Asking
 pub mod Counted
 pub mod Counts
+pub mod Entering
+pub mod Handled
+pub mod Output
+pub mod Served
+pub mod Serving
 pub mod Standard
 pub mod Stream
 pub mod Writing

@@ -1,5 +1,7 @@
-//! The edge of the host: readers and writers whose bytes and calls contracts can name.
+//! The engine of an issuer host: frames from a reader, and the frames of their responses to a writer.
 //!
+//! - `serve`: reads frames to the end of the input, hands each order to an issuer, and writes each response before the
+//!   next frame is looked at. `ServeFault` says why it ends before, `Report` what came.
 //! - `Inlet` and `Outlet`: a reader and a writer of bytes. Contracts see the bytes that are left or
 //!   held, where they are known, and exact counts of the calls, the bytes moved and the failures.
 //! - `Std`: a std reader as an inlet, a std writer as an outlet.
@@ -7,9 +9,13 @@
 //! - `write_all`: whole bytes to an outlet, and a flush.
 #![tactic(auto)]
 
+mod buffer;
 mod counting;
 #[cfg(test)]
 mod fakes;
+mod fault;
+mod handling;
+mod serving;
 mod standard;
 mod streams;
 #[cfg(test)]
@@ -17,6 +23,8 @@ mod tests;
 mod writing;
 
 pub use counting::{Call, Tally};
+pub use fault::{Report, ServeFault};
+pub use serving::serve;
 pub use standard::Std;
 pub use streams::{Failed, Inlet, Outlet};
 pub use writing::write_all;

@@ -1,4 +1,6 @@
 //! Streams in memory, whole and failing.
+mod serving;
+
 use crate::fakes::{FewBytes, FewTaken};
 use crate::standard::Std;
 use crate::streams::{Failed, Inlet, Outlet};

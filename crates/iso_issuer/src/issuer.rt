@@ -2,7 +2,7 @@
 
 ghost use Rattle.std.specs.Prelude.{◌≡◌, ◌≤◌, ◌↔◌, ◌++◌, ◌∷◌, [], IsTrue, length, IfOk, OnOk, OnErr, IsOk, option_map};
 ghost use Rattle.iso_issuer.specs.Account.{account_of};
-ghost use Rattle.iso_issuer.specs.Journal.{firsts, is_entered};
+ghost use Rattle.iso_issuer.specs.Journal.{firsts, is_entered, HasDistinctKeys};
 ghost use Rattle.iso_issuer.specs.Balance.{ledger, available};
 ghost use Rattle.iso_issuer.specs.Decision.{reply};
 ghost use Rattle.iso_issuer.specs.Books.{journal, IsFullFor, IsRoomFor, IsRun, answered_of};
@@ -118,9 +118,11 @@ impl Issuer {
         available_at(self.accounts.as_slice(), &self.entries, pan)
     }
 
-    /// How many orders were entered. Takes no memory.
+    /// How many orders were entered: no two of one key, and at most as many as the limit. Takes no memory.
     pub fn len(&self) -> u32
-        ensures { result ≡ length self.now.orders }
+        ensures len { result ≡ length self.now.orders }
+        ensures few { length self.now.orders ≤ self.now.limit }
+        ensures distinct { HasDistinctKeys self.now.orders }
     {
         self.entries.len() as u32
     }

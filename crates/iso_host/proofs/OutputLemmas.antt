@@ -1,0 +1,72 @@
+-- One more body: the stream and the output.
+use Rattle.std.proofs.Common.{◌≡◌, ℕ, zero, suc, ◌-◌, ◌≤◌, List, [], ◌∷◌, ◌++◌, length, take, sym, subst, refl, arith, ap, ◌∙◌, append_assoc, append-nil, length-append}
+use Rattle.std.proofs.Math.Seq.{take-append_seam}
+use Rattle.iso_table.specs.Layout.{Layout}
+use Rattle.iso_wire.specs.declared.header.Header.{Header}
+use Rattle.iso_wire.specs.Frame.{frame_of, frames_of, AllFit, largest}
+use Rattle.iso_issuer.specs.Books.{Books}
+use Rattle.iso_host.specs.Entering.{books_after}
+use Rattle.iso_host.specs.Output.{IsAnswer, IsOutputFrom, IsOutput}
+use Rattle.iso_host.specs.Served.{front, IsPrefix}
+
+-- ---- the stream
+
+pub frames_more : (h : Header) (bodies : List (List ℕ)) (body rest : List ℕ) → frames_of h (bodies ++ body ∷ []) ++ rest ≡ frames_of h bodies ++ (frame_of h body ++ rest)
+frames_more h [] body rest = ap (λ (l : List ℕ). l ++ rest) (append-nil (frame_of h body))
+frames_more h (x ∷ xs) body rest =
+    append_assoc (frame_of h x) (frames_of h (xs ++ body ∷ [])) rest ∙ ap (λ (l : List ℕ). frame_of h x ++ l) (frames_more h xs body rest)
+    ∙ sym (append_assoc (frame_of h x) (frames_of h xs) (frame_of h body ++ rest))
+
+pub AllFit_more : (h : Header) (bodies : List (List ℕ)) (body : List ℕ) → AllFit h bodies → length body ≤ largest h → AllFit h (bodies ++ body ∷ [])
+AllFit_more h [] body f k = (k, tt)
+AllFit_more h (x ∷ xs) body f k = (f.0, AllFit_more h xs body f.1 k)
+
+pub front_more : (bodies : List (List ℕ)) (body : List ℕ) → front (bodies ++ body ∷ []) ≡ bodies
+front_more bodies body =
+    let size : length (bodies ++ body ∷ []) - 1 ≡ length bodies = omega (arith, length-append bodies (body ∷ [])) in
+    ap (λ (n : ℕ). take n (bodies ++ body ∷ [])) size ∙ take-append_seam bodies (body ∷ [])
+
+-- ---- the output
+
+output_from_more : (t : Layout) (h : Header) (books : Books) (earlier bodies : List (List ℕ)) (body out first : List ℕ)
+    → IsOutputFrom t h books earlier bodies out → IsAnswer t h (books_after t books (earlier ++ bodies)) body first → IsOutputFrom t h books earlier (bodies ++ body ∷ []) (out ++ first)
+output_from_more t h books earlier [] body out first is answer = (
+  first,
+  [],
+  subst (λ (l : List (List ℕ)). IsAnswer t h (books_after t books l) body first) (append-nil earlier) answer,
+  refl,
+  ap (λ (l : List ℕ). l ++ first) is ∙ sym (append-nil first),
+)
+output_from_more t h books earlier (x ∷ xs) body out first is answer =
+    let later = subst (λ (l : List (List ℕ)). IsAnswer t h (books_after t books l) body first) (sym (append_assoc earlier (x ∷ []) xs)) answer in (
+      is.0,
+      is.1 ++ first,
+      is.2,
+      output_from_more t h books (earlier ++ x ∷ []) xs body is.1 first is.3 later,
+      ap (λ (l : List ℕ). l ++ first) is.4 ∙ append_assoc is.0 is.1 first,
+    )
+
+pub output_none : (t : Layout) (h : Header) (books : Books) → IsOutput t h books [] []
+unfolding IsOutput
+output_none t h books = refl
+
+pub output_more : (t : Layout) (h : Header) (books : Books) (bodies : List (List ℕ)) (body out first : List ℕ)
+    → IsOutput t h books bodies out → IsAnswer t h (books_after t books bodies) body first → IsOutput t h books (bodies ++ body ∷ []) (out ++ first)
+unfolding IsOutput
+output_more t h books bodies body out first is answer = output_from_more t h books [] bodies body out first is answer
+
+output_from_take : (t : Layout) (h : Header) (books : Books) (n : ℕ) (earlier bodies : List (List ℕ)) (out : List ℕ)
+    → IsOutputFrom t h books earlier bodies out → (less : List ℕ) × IsOutputFrom t h books earlier (take n bodies) less × IsPrefix less out
+output_from_take t h books zero earlier bodies out is = ([], refl, (out, refl))
+output_from_take t h books (suc n) earlier [] out is = ([], refl, (out, refl))
+output_from_take t h books (suc n) earlier (x ∷ xs) out is =
+    let rest = output_from_take t h books n (earlier ++ x ∷ []) xs is.1 is.3 in (
+      is.0 ++ rest.0,
+      (is.0, rest.0, is.2, rest.1, refl),
+      (rest.2.0, is.4 ∙ ap (λ (l : List ℕ). is.0 ++ l) rest.2.1 ∙ sym (append_assoc is.0 rest.0 rest.2.0)),
+    )
+
+pub output_front : (t : Layout) (h : Header) (books : Books) (bodies : List (List ℕ)) (out : List ℕ)
+    → IsOutput t h books bodies out → (less : List ℕ) × IsOutput t h books (front bodies) less × IsPrefix less out
+unfolding IsOutput
+output_front t h books bodies out is = output_from_take t h books (length bodies - 1) [] bodies out is

@@ -1,0 +1,57 @@
+-- What the body of a frame asks.
+use Rattle.std.specs.Prelude.{ℕ, ◌==◌, Bool, true, false, List, [], ◌∷◌, ◌++◌, length, Option, Some, None, option_map, Result, Ok, Err, count_by, if◌then◌else◌}
+use Rattle.iso_table.specs.Layout.{Layout}
+use Rattle.iso_wire.specs.declared.fault.UnpackFault.{UnpackFault}
+use Rattle.iso_wire.specs.Contents.{Contents}
+use Rattle.iso_wire.specs.Reading.{message_at}
+use Rattle.iso_order.specs.declared.verdict.Verdict.{Verdict}
+use Rattle.iso_order.specs.declared.verdict.Verdict.TheVariants.{Order, Reply, Silent}
+use Rattle.iso_order.specs.Order.{Instruction}
+use Rattle.iso_order.specs.Verdict.{verdict}
+
+-- the message that was read, where it takes so many bytes
+abbrev pub whole_by : ℕ → Result (Contents × ℕ) UnpackFault → Option Contents
+whole_by size (Ok x) = if x.1 == size then Some x.0 else None
+whole_by size (Err e) = None
+
+-- the message that the whole body is
+unfoldable pub message_in : Layout → List ℕ → Option Contents
+message_in t body = whole_by (length body) (message_at t body)
+
+-- the verdict on it, none where the body is unreadable
+abbrev pub asked_of : Layout → List ℕ → Option Verdict
+asked_of t body = option_map verdict (message_in t body)
+
+-- the order, where one is asked
+abbrev pub orders_in : Option Verdict → List Instruction
+orders_in (Some (Order o)) = o ∷ []
+orders_in (Some (Reply code)) = []
+orders_in (Some Silent) = []
+orders_in None = []
+
+-- the orders that these bodies ask
+abbrev pub orders_of : Layout → List (List ℕ) → List Instruction
+orders_of t [] = []
+orders_of t (body ∷ bodies) = orders_in (asked_of t body) ++ orders_of t bodies
+
+-- ---- the kinds of bodies
+
+abbrev pub is_unreadable : Option Verdict → Bool
+is_unreadable None = true
+is_unreadable (Some v) = false
+
+abbrev pub is_silent : Option Verdict → Bool
+is_silent (Some Silent) = true
+is_silent (Some (Reply code)) = false
+is_silent (Some (Order o)) = false
+is_silent None = false
+
+abbrev pub is_answered : Option Verdict → Bool
+is_answered (Some (Order o)) = true
+is_answered (Some (Reply code)) = true
+is_answered (Some Silent) = false
+is_answered None = false
+
+-- how many of these bodies are of this kind
+abbrev pub count_asked : Layout → (Option Verdict → Bool) → List (List ℕ) → ℕ
+count_asked t kind bodies = count_by (λ body. kind (asked_of t body)) bodies

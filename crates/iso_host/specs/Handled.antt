@@ -1,0 +1,27 @@
+-- What handling one body gives and leaves.
+use Rattle.std.specs.Prelude.{◌≡◌, ◌⊎◌, ℕ, ℤ, unsigned_abs, nat_le, Bool, true, ◌&&◌, List, [], IsTrue, Option, Some, None}
+use Rattle.iso_table.specs.Layout.{Layout}
+use Rattle.iso_wire.specs.declared.header.Header.{Header}
+use Rattle.iso_order.specs.declared.act.Act.{Act}
+use Rattle.iso_order.specs.Response.{is_inquiry_order}
+use Rattle.iso_issuer.specs.Books.{Books}
+use Rattle.iso_host.specs.declared.handling.Handled.{Handled}
+use Rattle.iso_host.specs.declared.handling.Handled.TheVariants.{Unreadable, Silent, Answered}
+use Rattle.iso_host.specs.Asking.{asked_of, is_unreadable, is_silent, is_answered}
+use Rattle.iso_host.specs.Entering.{entered}
+use Rattle.iso_host.specs.Output.{IsAnswer}
+
+-- the kind of the body, and what is written for it
+abbrev pub Handles : Layout → Header → Books → List ℕ → Handled → Type 0
+Handles t h books body Unreadable = IsTrue (is_unreadable (asked_of t body)) × IsAnswer t h books body []
+Handles t h books body Silent = IsTrue (is_silent (asked_of t body)) × IsAnswer t h books body []
+Handles t h books body (Answered bytes) = IsTrue (is_answered (asked_of t body)) × IsAnswer t h books body bytes.items
+
+-- the body's order was entered, or the books are as they were
+abbrev pub EntersOrKeeps : Layout → Books → Books → List ℕ → Type 0
+EntersOrKeeps t old new body = (new ≡ old) ⊎ (new ≡ entered t old body)
+
+-- a balance of at most twelve digits is shown for an inquiry, and none for another act
+abbrev pub is_shown_for : Act → Option ℤ → Bool
+is_shown_for act None = true
+is_shown_for act (Some z) = nat_le (unsigned_abs z) 999999999999 && is_inquiry_order act

@@ -1,0 +1,63 @@
+-- What is written for a stream of frames.
+use Rattle.std.specs.Prelude.{◌≡◌, ℕ, ◌≤◌, List, [], ◌∷◌, ◌++◌, length, Option, Some, None, option_map, if◌then◌else◌}
+use Rattle.iso_table.specs.Layout.{Layout}
+use Rattle.iso_wire.specs.declared.header.Header.{Header}
+use Rattle.iso_wire.specs.Contents.{Contents}
+use Rattle.iso_wire.specs.Frame.{frame_of, largest}
+use Rattle.iso_wire.specs.Spelling.{PlainSpelling}
+use Rattle.iso_order.specs.declared.verdict.Verdict.{Verdict}
+use Rattle.iso_order.specs.declared.verdict.Verdict.TheVariants.{Order, Reply, Silent}
+use Rattle.iso_order.specs.Order.{Instruction}
+use Rattle.iso_order.specs.Outcome.{Outcome}
+use Rattle.iso_order.specs.Response.{response}
+use Rattle.iso_order.specs.Verdict.{verdict}
+use Rattle.iso_issuer.specs.Books.{Books, journal}
+use Rattle.iso_issuer.specs.Decision.{reply}
+use Rattle.iso_host.specs.Asking.{message_in}
+use Rattle.iso_host.specs.Entering.{books_after, is_full}
+
+-- ---- the response to a body
+
+-- the issuer's answer to an order, 96 where its journal is full
+abbrev pub outcome_for : Books → Instruction → Outcome
+outcome_for books o =
+    if is_full books.limit books.orders o.key then record { code = 96; seq = 0; shown = None }
+    else reply books.accounts (journal books) o
+
+-- the answer to a verdict, where it is answered
+abbrev pub outcome_of : Books → Verdict → Option Outcome
+outcome_of books (Order o) = Some (outcome_for books o)
+outcome_of books (Reply code) = Some (record { code = code; seq = 0; shown = None })
+outcome_of books Silent = None
+
+abbrev pub response_with : Contents → Option Outcome → Option Contents
+response_with m outcome = option_map (response m) outcome
+
+-- the response to the message that a body is
+abbrev pub response_to : Books → Option Contents → Option Contents
+response_to books None = None
+response_to books (Some m) = response_with m (outcome_of books (verdict m))
+
+-- ---- its bytes
+
+-- the frame of the response's plain spelling, or nothing
+abbrev pub IsFramed : Layout → Header → Option Contents → List ℕ → Type 0
+IsFramed t h None bytes = bytes ≡ []
+IsFramed t h (Some r) bytes = (plain : List ℕ) × PlainSpelling t r plain × (length plain ≤ largest h) × (bytes ≡ frame_of h plain)
+
+-- what is written for a body at these books
+unfoldable pub IsAnswer : Layout → Header → Books → List ℕ → List ℕ → Type 0
+IsAnswer t h books body bytes = IsFramed t h (response_to books (message_in t body)) bytes
+
+-- ---- of a stream
+
+-- what is written for these bodies, after the earlier ones
+abbrev pub IsOutputFrom : Layout → Header → Books → List (List ℕ) → List (List ℕ) → List ℕ → Type 0
+IsOutputFrom t h books earlier [] bytes = bytes ≡ []
+IsOutputFrom t h books earlier (body ∷ bodies) bytes =
+    (first : List ℕ) × (others : List ℕ) × IsAnswer t h (books_after t books earlier) body first
+    × IsOutputFrom t h books (earlier ++ body ∷ []) bodies others × (bytes ≡ first ++ others)
+
+-- what is written for these bodies
+unfoldable pub IsOutput : Layout → Header → Books → List (List ℕ) → List ℕ → Type 0
+IsOutput t h books bodies bytes = IsOutputFrom t h books [] bodies bytes

@@ -1,0 +1,109 @@
+-- What a call of `serve` leaves.
+use Rattle.std.specs.Prelude.{◌≡◌, ◌≢◌, ◌⊎◌, ℕ, ◌+◌, ◌-◌, ◌<◌, ◌≤◌, Bool, true, false, List, [], ◌++◌, length, take, Result, Ok, Err, if◌then◌else◌}
+use Rattle.std.specs.declared.option.Option.{Option}
+use Rattle.std.specs.Io.KnownBytes.{Appends, Consumes, IsAtEnd}
+use Rattle.std.specs.Io.Iter.{u64_saturate}
+use Rattle.iso_table.specs.Layout.{Layout}
+use Rattle.iso_wire.specs.declared.header.Header.{Header}
+use Rattle.iso_wire.specs.Frame.{frames_of, AllFit, NoFrame, is_bad_header}
+use Rattle.iso_order.specs.declared.verdict.Verdict.{Verdict}
+use Rattle.iso_issuer.specs.Books.{Books}
+use Rattle.iso_host.specs.Counts.{Counts}
+use Rattle.iso_host.specs.Entering.{books_after}
+use Rattle.iso_host.specs.Asking.{is_answered, is_silent, is_unreadable, count_asked}
+use Rattle.iso_host.specs.Output.{IsOutput}
+use Rattle.iso_host.specs.declared.fault.Report.{Report}
+use Rattle.iso_host.specs.declared.fault.ServeFault.{ServeFault}
+use Rattle.iso_host.specs.declared.fault.ServeFault.TheVariants.{Read, Write, BadHeader, CutFrame, Memory, TooManyTurns}
+
+-- ---- the bytes and the journal
+
+-- these bodies came in whole frames and then this rest; they were handled and answered, and no other
+pub record Served (t : Layout) (h : Header) (unread left held written : Option (List ℕ)) (old new : Books) (bodies : List (List ℕ)) (rest : List ℕ) : Type 0 where
+  pub read : Consumes unread left (frames_of h bodies ++ rest)
+  pub fit : AllFit h bodies
+  pub books : new ≡ books_after t old bodies
+  pub bytes : List ℕ
+  pub output : IsOutput t h old bodies bytes
+  pub answers : Appends held written bytes
+
+-- all but the last
+abbrev pub front : List (List ℕ) → List (List ℕ)
+front bodies = take (length bodies - 1) bodies
+
+abbrev pub IsPrefix : List ℕ → List ℕ → Type 0
+IsPrefix xs ys = (more : List ℕ) × (ys ≡ xs ++ more)
+
+-- these bodies came in whole frames; they were handled, and all their answers but the last were written, and of the
+-- last one nothing or a part
+pub record Stopped (t : Layout) (h : Header) (unread left held written : Option (List ℕ)) (old new : Books) (bodies : List (List ℕ)) (rest bytes : List ℕ) : Type 0 where
+  pub read : Consumes unread left (frames_of h bodies ++ rest)
+  pub fit : AllFit h bodies
+  pub books : new ≡ books_after t old bodies
+  pub answers : Appends held written bytes
+  pub less : List ℕ
+  pub less_output : IsOutput t h old (front bodies) less
+  pub no_less : IsPrefix less bytes
+  pub no_more : (bytes ≡ less) ⊎ ((most : List ℕ) × IsOutput t h old bodies most × IsPrefix bytes most)
+
+-- ---- the report
+
+-- the bodies by kind
+pub record Reports (t : Layout) (report : Report) (bodies : List (List ℕ)) : Type 0 where
+  pub frames : report.frames ≡ u64_saturate (length bodies)
+  pub answered : report.answered ≡ u64_saturate (count_asked t is_answered bodies)
+  pub silent : report.silent ≡ u64_saturate (count_asked t is_silent bodies)
+  pub unreadable : report.unreadable ≡ u64_saturate (count_asked t is_unreadable bodies)
+
+-- one more body of this kind, or none
+abbrev pub one_more : Bool → ℕ → ℕ
+one_more is_kind n = if is_kind then u64_saturate (n + 1) else n
+
+pub record ReportsOneMore (old new : Report) (asked : Option Verdict) : Type 0 where
+  pub frames : new.frames ≡ u64_saturate (old.frames + 1)
+  pub answered : new.answered ≡ one_more (is_answered asked) old.answered
+  pub silent : new.silent ≡ one_more (is_silent asked) old.silent
+  pub unreadable : new.unreadable ≡ one_more (is_unreadable asked) old.unreadable
+
+-- ---- each end
+
+module _ (t : Layout) (h : Header) (unread left held written : Option (List ℕ)) (old new : Books) where
+  -- all whole frames were handled and answered, and P holds of the bodies and the rest
+  abbrev pub Whole : (List (List ℕ) → List ℕ → Type 0) → Type 0
+  Whole P = (bodies : List (List ℕ)) × (rest : List ℕ) × Served t h unread left held written old new bodies rest × NoFrame h rest × P bodies rest
+
+  -- some whole frames were handled, and the last answer may be missing or cut short
+  abbrev pub Cut : Type 0
+  Cut = (bodies : List (List ℕ)) × (rest : List ℕ) × (bytes : List ℕ) × Stopped t h unread left held written old new bodies rest bytes
+
+  -- what is read, written and entered, by what `serve` answers
+  abbrev pub Outcome : Result Report ServeFault → Type 0
+  Outcome (Ok report) = Whole (λ bodies rest. (rest ≡ []) × IsAtEnd left × Reports t report bodies)
+  Outcome (Err Read) = Whole (λ bodies rest. Unit {0})
+  Outcome (Err BadHeader) = Whole (λ bodies rest. is_bad_header h rest ≡ true)
+  Outcome (Err CutFrame) = Whole (λ bodies rest. (rest ≢ []) × IsAtEnd left × (is_bad_header h rest ≡ false))
+  Outcome (Err Write) = Cut
+  Outcome (Err Memory) = Cut
+  Outcome (Err TooManyTurns) = Cut
+
+-- ---- the cause of each end
+
+-- neither stream failed
+pub record NoFailure (r0 r1 w0 w1 : Counts) : Type 0 where
+  pub reader : r1.failures ≡ r0.failures
+  pub writer : w1.failures ≡ w0.failures
+
+-- each turn was taken by a read or a write, and moved a byte
+pub record TookTurns (r0 r1 w0 w1 : Counts) (turns : ℕ) : Type 0 where
+  pub calls : r1.calls + w1.calls ≡ r0.calls + w0.calls + turns
+  pub moved : turns + (r0.moved + w0.moved) ≤ r1.moved + w1.moved
+
+-- a failure is told only where the stream failed, and every other answer only where neither did
+abbrev pub Cause : Counts → Counts → Counts → Counts → ℕ → Result Report ServeFault → Type 0
+Cause r0 r1 w0 w1 turns (Ok report) = NoFailure r0 r1 w0 w1
+Cause r0 r1 w0 w1 turns (Err Read) = r0.failures < r1.failures
+Cause r0 r1 w0 w1 turns (Err Write) = w0.failures < w1.failures
+Cause r0 r1 w0 w1 turns (Err BadHeader) = NoFailure r0 r1 w0 w1
+Cause r0 r1 w0 w1 turns (Err CutFrame) = NoFailure r0 r1 w0 w1
+Cause r0 r1 w0 w1 turns (Err Memory) = NoFailure r0 r1 w0 w1
+Cause r0 r1 w0 w1 turns (Err TooManyTurns) = NoFailure r0 r1 w0 w1 × TookTurns r0 r1 w0 w1 turns

@@ -1,0 +1,159 @@
+//! One body: what it asks, and the frame of its response.
+ghost use Rattle.std.specs.Prelude.{◌≡◌, ℕ, ◌≤◌, List, length, true, IfOk, OnOk, OnErr, IfSome, None, Some};
+ghost use Rattle.iso_table.specs.HostReady.{IsHostReady};
+ghost use Rattle.iso_wire.specs.Refusal.{message_refusal};
+ghost use Rattle.iso_wire.specs.Spelling.{PlainSpelling, Spelling};
+ghost use Rattle.iso_order.specs.Fields.{function, asks};
+ghost use Rattle.iso_order.specs.Response.{response, is_showable};
+ghost use Rattle.iso_order.specs.Verdict.{verdict};
+ghost use Rattle.iso_host.specs.Asking.{message_in, orders_in};
+ghost use Rattle.iso_host.specs.Entering.{entered, with_order, with_orders};
+ghost use Rattle.iso_host.specs.Handled.{Handles, EntersOrKeeps, is_shown_for};
+ghost use Rattle.iso_host.specs.Output.{outcome_for, outcome_of, IsFramed};
+
+use iso_issuer::{Issuer, Refused};
+use iso_order::laws::{responses_are_short, responses_fit};
+use iso_order::{Answer, NoMemory, Order, Verdict, order_of, respond};
+use iso_table::Table;
+use iso_wire::{FrameFault, Header, Message, PackFault, UnpackCause, frame, pack, unpack};
+use std::alloc::Global;
+
+/// What came of a body.
+#[derive(Drop)]
+pub enum Handled {
+    /// It is not one whole message.
+    Unreadable,
+    /// Its message is not answered.
+    Silent,
+    /// The frame of its response.
+    Answered(Vec<u8>),
+}
+
+/// The message that the whole body is, if it is one.
+#[tactic(auto, unfolding(crate::specs::Asking::message_in))]
+fn whole_message(alloc: Global, table: &Table, body: &[u8]) -> Result<Option<Message>, NoMemory>
+    ensures whole { IfOk result (λ message. message ≡ message_in table.now body.now) }
+    ensures read { IfOk result (λ message. IfSome message (λ m. (bytes : List ℕ) × Spelling table.now m bytes)) }
+{
+    match unpack(alloc, table, body) {
+        Ok((message, used)) => {
+            if used == body.len() {
+                Ok(Some(message))
+            } else {
+                Ok(None)
+            }
+        }
+        Err(fault) => match fault.cause {
+            UnpackCause::Memory => Err(NoMemory),
+            _ => Ok(None),
+        },
+    }
+}
+
+/// Has the issuer answer an order: 96 where its journal is full.
+fn answer_order(issuer: &mut Issuer, order: Order) -> Result<Answer, NoMemory>
+    ensures answer { IfOk result (λ answer. answer ≡ outcome_for issuer.old order) }
+    ensures shown { IfOk result (λ answer. is_shown_for order.act answer.shown ≡ true) }
+    ensures entered { OnOk result (issuer.new ≡ record issuer.old { orders = with_order issuer.old.limit issuer.old.orders order }) }
+    ensures unchanged { OnErr result (issuer.new ≡ issuer.old) }
+{
+    let _entries = issuer.len();
+    match issuer.handle(order) {
+        Ok(answer) => Ok(answer),
+        Err(Refused::Full) => Ok(Answer {
+            code: 96,
+            seq: 0,
+            shown: None,
+        }),
+        Err(Refused::Memory) => Err(NoMemory),
+    }
+}
+
+/// The answer to a message, if it gets one. An order is entered before it is answered.
+fn answer_to(issuer: &mut Issuer, message: &Message) -> Result<Option<Answer>, NoMemory>
+    ensures answer { IfOk result (λ answer. answer ≡ outcome_of issuer.old (verdict message.now)) }
+    ensures asks { IfOk result (λ answer. IfSome answer (λ a. asks (function message.now) ≡ true)) }
+    ensures shown { IfOk result (λ answer. IfSome answer (λ a. is_showable message.now a.shown ≡ true)) }
+    ensures entered { OnOk result (issuer.new ≡ record issuer.old { orders = with_orders issuer.old.limit issuer.old.orders (orders_in (Some (verdict message.now))) }) }
+    ensures unchanged { OnErr result (issuer.new ≡ issuer.old) }
+{
+    match order_of(message) {
+        Verdict::Silent => Ok(None),
+        Verdict::Reply(code) => Ok(Some(Answer {
+            code,
+            seq: 0,
+            shown: None,
+        })),
+        Verdict::Order(order) => match answer_order(issuer, order) {
+            Ok(answer) => Ok(Some(answer)),
+            Err(fault) => Err(fault),
+        },
+    }
+}
+
+/// The frame of a response. The table refuses none, and each header can count it.
+fn framed_response(
+    alloc: Global,
+    table: &Table,
+    header: Header,
+    response: &Message,
+) -> Result<Vec<u8>, NoMemory>
+    requires fits { message_refusal table.now response.now ≡ None }
+    requires short { (bytes : List ℕ) → PlainSpelling table.now response.now bytes → length bytes ≤ 9999 }
+    ensures { IfOk result (λ bytes. IsFramed table.now header (Some response.now) bytes.items) }
+{
+    let packed = match pack(alloc, table, response) {
+        Ok(packed) => packed,
+        Err(PackFault::Memory) => return Err(NoMemory),
+        Err(_) => unreachable!(),
+    };
+    match frame(alloc, header, &packed) {
+        Ok(bytes) => Ok(bytes),
+        Err(FrameFault::Memory) => Err(NoMemory),
+        Err(_) => unreachable!(),
+    }
+}
+
+/// The frame of the response to a message.
+fn answer_frame(
+    alloc: Global,
+    table: &Table,
+    header: Header,
+    message: &Message,
+    answer: &Answer,
+) -> Result<Vec<u8>, NoMemory>
+    requires ready { IsHostReady table.now }
+    requires read { (bytes : List ℕ) × Spelling table.now message.now bytes }
+    requires asks { asks (function message.now) ≡ true }
+    requires shown { is_showable message.now answer.now.shown ≡ true }
+    ensures { IfOk result (λ bytes. IsFramed table.now header (Some (response message.now answer.now)) bytes.items) }
+{
+    responses_fit();
+    responses_are_short();
+    let response = respond(alloc, message, answer)?;
+    framed_response(alloc, table, header, &response)
+}
+
+/// Handles one body: an order is entered, and then the response is made. After an `Err` its order may be entered.
+#[tactic(auto, unfolding(crate::specs::Output::IsAnswer))]
+pub fn handle_body(
+    alloc: Global,
+    table: &Table,
+    header: Header,
+    issuer: &mut Issuer,
+    body: &[u8],
+) -> Result<Handled, NoMemory>
+    requires { IsHostReady table.now }
+    ensures handled { IfOk result (Handles table.now header issuer.old body.now) }
+    ensures entered { OnOk result (issuer.new ≡ entered table.now issuer.old body.now) }
+    ensures memory { OnErr result (EntersOrKeeps table.now issuer.old issuer.new body.now) }
+{
+    let Some(message) = whole_message(alloc, table, body)? else {
+        return Ok(Handled::Unreadable);
+    };
+    let Some(answer) = answer_to(issuer, &message)? else {
+        return Ok(Handled::Silent);
+    };
+    let bytes = answer_frame(alloc, table, header, &message, &answer)?;
+    Ok(Handled::Answered(bytes))
+}

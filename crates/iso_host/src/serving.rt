@@ -1,0 +1,159 @@
+//! The engine: frames from a reader, and the frames of their responses to a writer.
+ghost use Rattle.std.specs.Prelude.{OnOk};
+ghost use Rattle.iso_table.specs.HostReady.{IsHostReady};
+ghost use Rattle.iso_host.specs.Asking.{asked_of};
+ghost use Rattle.iso_host.specs.Served.{Outcome, Cause, ReportsOneMore};
+ghost use Rattle.iso_host.specs.Serving.{AnswersInto, SpendsOnWrite, Ends};
+ghost use Rattle.iso_host.specs.Writing.{WritesFront};
+
+use crate::buffer::{drop_front, read_more};
+use crate::fault::{Report, ServeFault};
+use crate::handling::{Handled, handle_body};
+use crate::streams::{Inlet, Outlet};
+use iso_issuer::Issuer;
+use iso_table::Table;
+use iso_wire::{Framed, Header, unframe};
+use std::alloc::Global;
+
+/// The report before the first frame.
+const NO_FRAMES: Report = Report {
+    frames: 0,
+    answered: 0,
+    silent: 0,
+    unreadable: 0,
+};
+
+/// Writes the bytes whole, and flushes. Each write takes one of the turns that are left.
+fn write_whole<W: Outlet>(writer: &mut W, bytes: &[u8], left: &mut u64) -> Result<(), ServeFault>
+    ensures written { WritesFront (W.contents writer.old) (W.contents writer.new) bytes.now result }
+    ensures spent { SpendsOnWrite (W.counts writer.old) (W.counts writer.new) left.old left.new result }
+{
+    let mut at = 0;
+    while at < bytes.len() {
+        if *left == 0 {
+            return Err(ServeFault::TooManyTurns);
+        }
+        *left -= 1;
+        let Ok(count) = writer.write(&bytes[at..]) else {
+            return Err(ServeFault::Write);
+        };
+        at += count;
+    }
+    match writer.flush() {
+        Ok(()) => Ok(()),
+        Err(_) => Err(ServeFault::Write),
+    }
+}
+
+/// Handles one body and writes its answer. After `Memory` nothing was written.
+fn answer_body<W: Outlet>(
+    alloc: Global,
+    table: &Table,
+    header: Header,
+    issuer: &mut Issuer,
+    body: &[u8],
+    writer: &mut W,
+    left: &mut u64,
+    report: &mut Report,
+) -> Result<(), ServeFault>
+    requires { IsHostReady table.now }
+    ensures answered { AnswersInto table.now header issuer.old issuer.new body.now (W.contents writer.old) (W.contents writer.new) result }
+    ensures spent { SpendsOnWrite (W.counts writer.old) (W.counts writer.new) left.old left.new result }
+    ensures report { OnOk result (ReportsOneMore report.old report.new (asked_of table.now body.now)) }
+{
+    let Ok(handled) = handle_body(alloc, table, header, issuer, body) else {
+        return Err(ServeFault::Memory);
+    };
+    report.frames = report.frames.saturating_add(1);
+    match handled {
+        Handled::Unreadable => {
+            report.unreadable = report.unreadable.saturating_add(1);
+            Ok(())
+        }
+        Handled::Silent => {
+            report.silent = report.silent.saturating_add(1);
+            Ok(())
+        }
+        Handled::Answered(bytes) => {
+            if let Err(fault) = write_whole(writer, bytes.as_slice(), left) {
+                return Err(fault);
+            }
+            report.answered = report.answered.saturating_add(1);
+            Ok(())
+        }
+    }
+}
+
+/// How serving ends where the input does, with these bytes left: between frames, or inside one.
+fn ended(rest: &[u8], report: Report) -> Result<Report, ServeFault>
+    ensures { Ends rest.now report result }
+{
+    if rest.is_empty() {
+        Ok(report)
+    } else {
+        Err(ServeFault::CutFrame)
+    }
+}
+
+/// Reads frames to the end of the input, handles each body, and writes its answer before the next frame is looked at.
+///
+/// A body that is not one whole message is passed over, and so is a message that is not to be answered. An order is
+/// entered and then answered, with 96 where the issuer's journal is full. Each answer is written whole and flushed.
+/// The reads and writes together are at most `turns`.
+///
+/// The table is one that `Table::host_ready` accepts. At `Ok`, `Read`, `BadHeader` and `CutFrame` all whole frames are
+/// handled and answered. At `Write`, `Memory` and `TooManyTurns` the last answer may be missing or cut short, though its
+/// order may be entered: sent again, it gets that answer.
+pub fn serve<R: Inlet, W: Outlet>(
+    alloc: Global,
+    table: &Table,
+    header: Header,
+    issuer: &mut Issuer,
+    reader: &mut R,
+    writer: &mut W,
+    turns: u64,
+) -> Result<Report, ServeFault>
+    requires { IsHostReady table.now }
+    // What was read, written and entered, by how it ends.
+    ensures outcome { Outcome table.now header (R.remaining reader.old) (R.remaining reader.new)
+        (W.contents writer.old) (W.contents writer.new) issuer.old issuer.new result }
+    // Each end has its cause in the counts of the two streams.
+    ensures cause { Cause (R.counts reader.old) (R.counts reader.new)
+        (W.counts writer.old) (W.counts writer.new) turns result }
+{
+    let _entries = issuer.len();
+    let mut left = turns;
+    let mut report = NO_FRAMES;
+    let mut buffer = Vec::new(alloc);
+    let mut at = 0;
+    'frames: loop {
+        match unframe(header, &buffer[at..]) {
+            Err(_) => return Err(ServeFault::BadHeader),
+            Ok(Framed::Got { body, used }) => {
+                let answered = answer_body(
+                    alloc,
+                    table,
+                    header,
+                    issuer,
+                    body,
+                    writer,
+                    &mut left,
+                    &mut report,
+                );
+                if let Err(fault) = answered {
+                    return Err(fault);
+                }
+                at += used;
+            }
+            Ok(Framed::More) => {
+                drop_front(&mut buffer, at);
+                at = 0;
+                match read_more(reader, &mut buffer, &mut left) {
+                    Err(fault) => return Err(fault),
+                    Ok(0) => return ended(&buffer, report),
+                    Ok(_) => {}
+                }
+            }
+        }
+    }
+}

@@ -1,0 +1,253 @@
+//! Streams of frames whose bytes are known from outside.
+
+use crate::fakes::{FewBytes, FewTaken};
+use crate::fault::{Report, ServeFault};
+use crate::serving::serve;
+use crate::standard::Std;
+use iso_issuer::{Accounts, Issuer};
+use iso_order::Pan;
+use iso_table::Table;
+use iso_wire::Header;
+use std::alloc::Global;
+use std::test::Fail;
+
+/// A purchase of 10.00, and the same sent again.
+const PURCHASE: &[u8] =
+    b"02007220000100008000164111111111111111000000000000001000010203040500000705123458\
+40";
+
+const REPEAT: &[u8] =
+    b"02017220000100008000164111111111111111000000000000001000010203040500000705123458\
+40";
+
+/// The response to both.
+const GRANTED: &[u8] =
+    b"0210722000010600800016411111111111111100000000000000100001020304050000070512345000001\
+00840";
+
+/// An echo test, and its response.
+const ECHO: &[u8] = b"0800822000000000000004000000000000000102030405000001301";
+
+const ECHOED: &[u8] = b"081082200000020000000400000000000000010203040500000100301";
+
+const ACCOUNTS: &[u8] =
+    b"{\"accounts\":[{\"currency\":\"840\",\"opening\":5000,\"pan\":\"4111111111111111\"}]}";
+
+fn joined(alloc: Global, pieces: &[&[u8]]) -> Result<Vec<u8>, Fail> {
+    let mut bytes = Vec::new(alloc);
+    for piece in pieces {
+        bytes.extend_from_slice(piece)?;
+    }
+    Ok(bytes)
+}
+
+/// An issuer of one account.
+fn issuer(alloc: Global) -> Result<Issuer, Fail> {
+    Ok(Issuer::new(Accounts::from_json(alloc, ACCOUNTS)?, 5))
+}
+
+/// How serving the reader ends, frames behind four digits.
+fn served(
+    alloc: Global,
+    issuer: &mut Issuer,
+    reader: FewBytes,
+    writer: &mut FewTaken,
+    turns: u64,
+) -> Result<Result<Report, ServeFault>, Fail> {
+    let table = Table::ascii87(alloc)?;
+    table.host_ready()?;
+    let mut input = Std::new(reader);
+    let mut output = Std::new(writer);
+    let ended = serve(
+        alloc,
+        &table,
+        Header::Ascii4,
+        issuer,
+        &mut input,
+        &mut output,
+        turns,
+    );
+    Ok(ended)
+}
+
+fn ledger(issuer: &Issuer) -> Result<Option<i64>, Fail> {
+    let pan = Pan::from_digits(b"4111111111111111").ok_or("1 to 19 digits")?;
+    Ok(issuer.ledger(pan))
+}
+
+#[test]
+fn serves_in_pieces_of_any_size(rt: HostRuntime) -> Result<(), Fail> {
+    let alloc = rt.alloc();
+    let input = joined(
+        alloc,
+        &[
+            b"0082", PURCHASE, b"0082", REPEAT, b"0090", GRANTED, b"0003abc", b"0055", ECHO,
+        ],
+    )?;
+    let wanted = joined(
+        alloc,
+        &[b"0090", GRANTED, b"0090", GRANTED, b"0057", ECHOED],
+    )?;
+    for piece in [1usize, 7, 86, 5000] {
+        let mut issuer = issuer(alloc)?;
+        let reader = FewBytes {
+            bytes: &input,
+            piece,
+            calls: 1000,
+        };
+        let mut writer = FewTaken::new(alloc, piece, 1000, false);
+        let ended = served(alloc, &mut issuer, reader, &mut writer, 1000)?;
+        let report = Report {
+            frames: 5,
+            answered: 3,
+            silent: 1,
+            unreadable: 1,
+        };
+        assert_eq!(rt; ended, Ok(report), "{piece} bytes a call");
+        assert_eq!(rt;
+            writer.taken.as_slice(),
+            wanted.as_slice(),
+            "{piece} bytes a call"
+        );
+        assert_eq!(rt; writer.flushes, 3, "{piece} bytes a call");
+        assert_eq!(rt; ledger(&issuer)?, Some(4000), "{piece} bytes a call");
+    }
+    Ok(())
+}
+
+#[test]
+fn writes_a_response_at_once(rt: HostRuntime) -> Result<(), Fail> {
+    let alloc = rt.alloc();
+    let input = joined(alloc, &[b"0055", ECHO])?;
+    let mut issuer = issuer(alloc)?;
+    let reader = FewBytes {
+        bytes: &input,
+        piece: 5000,
+        calls: 2,
+    };
+    let mut writer = FewTaken::new(alloc, 5000, 1, false);
+    let ended = served(alloc, &mut issuer, reader, &mut writer, 3)?;
+    assert_eq!(rt; ended.map(|report| report.answered), Ok(1));
+    assert_eq!(rt; writer.calls, 0);
+    Ok(())
+}
+
+#[test]
+fn ends_where_a_stream_does(rt: HostRuntime) -> Result<(), Fail> {
+    use ServeFault::{BadHeader, CutFrame, Read, TooManyTurns, Write};
+    let alloc = rt.alloc();
+    let purchase = joined(alloc, &[b"0082", PURCHASE])?;
+    let granted = joined(alloc, &[b"0090", GRANTED])?;
+    let none: &[u8] = b"";
+    for (name, bytes, reads, taken, writes, turns, wanted, written, left) in [
+        (
+            "a failing read",
+            purchase.as_slice(),
+            1,
+            200,
+            9,
+            99,
+            Read,
+            granted.as_slice(),
+            4000,
+        ),
+        (
+            "a failing write",
+            purchase.as_slice(),
+            9,
+            10,
+            1,
+            99,
+            Write,
+            b"0090021072",
+            4000,
+        ),
+        (
+            "a writer that takes nothing",
+            purchase.as_slice(),
+            9,
+            0,
+            9,
+            99,
+            Write,
+            none,
+            4000,
+        ),
+        (
+            "a turn too few",
+            purchase.as_slice(),
+            9,
+            200,
+            9,
+            1,
+            TooManyTurns,
+            none,
+            4000,
+        ),
+        ("no turn", none, 9, 200, 9, 0, TooManyTurns, none, 5000),
+        ("no digits", b"00A2", 9, 200, 9, 99, BadHeader, none, 5000),
+        (
+            "a cut frame",
+            b"00820123456789",
+            9,
+            200,
+            9,
+            99,
+            CutFrame,
+            none,
+            5000,
+        ),
+        ("a cut header", b"008", 9, 200, 9, 99, CutFrame, none, 5000),
+    ] {
+        let mut issuer = issuer(alloc)?;
+        let reader = FewBytes {
+            bytes,
+            piece: 200,
+            calls: reads,
+        };
+        let mut writer = FewTaken::new(alloc, taken, writes, false);
+        let ended = served(alloc, &mut issuer, reader, &mut writer, turns)?;
+        assert_eq!(rt; ended, Err(wanted), "{name}");
+        assert_eq!(rt; writer.taken.as_slice(), written, "{name}");
+        assert_eq!(rt; ledger(&issuer)?, Some(left), "{name}");
+    }
+    Ok(())
+}
+
+#[test]
+fn a_failing_flush_is_a_failing_write(rt: HostRuntime) -> Result<(), Fail> {
+    let alloc = rt.alloc();
+    let input = joined(alloc, &[b"0055", ECHO])?;
+    let mut issuer = issuer(alloc)?;
+    let reader = FewBytes {
+        bytes: &input,
+        piece: 5000,
+        calls: 9,
+    };
+    let mut writer = FewTaken::new(alloc, 5000, 9, true);
+    let ended = served(alloc, &mut issuer, reader, &mut writer, 99)?;
+    assert_eq!(rt; ended, Err(ServeFault::Write));
+    assert_eq!(rt; writer.taken.len(), 61);
+    Ok(())
+}
+
+#[test]
+fn nothing_to_serve(rt: HostRuntime) -> Result<(), Fail> {
+    let alloc = rt.alloc();
+    let mut issuer = issuer(alloc)?;
+    let reader = FewBytes {
+        bytes: b"",
+        piece: 5000,
+        calls: 1,
+    };
+    let mut writer = FewTaken::new(alloc, 5000, 0, false);
+    let ended = served(alloc, &mut issuer, reader, &mut writer, 1)?;
+    let report = Report {
+        frames: 0,
+        answered: 0,
+        silent: 0,
+        unreadable: 0,
+    };
+    assert_eq!(rt; ended, Ok(report));
+    Ok(())
+}
