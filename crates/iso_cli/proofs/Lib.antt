@@ -1,3 +1,4 @@
 mod CommandLemmas
 mod SourceLemmas
 mod InputLemmas
+mod RunLemmas

@@ -1,7 +1,9 @@
 -- What the words of a command line ask.
 use Rattle.std.specs.Prelude.{◌≡◌, ◌⊎◌, ◌==◌, not, IsTrue, Bool, true, false, ℕ, List, [], ◌∷◌, codes}
+use Rattle.iso_wire.specs.declared.header.Header.{Header}
+use Rattle.iso_wire.specs.declared.header.Header.TheVariants.{Binary2, Ascii4, Bcd2}
 use Rattle.iso_cli.specs.declared.words.Job.{Job}
-use Rattle.iso_cli.specs.declared.words.Job.TheVariants.{Echo, Check, Show, Convert}
+use Rattle.iso_cli.specs.declared.words.Job.TheVariants.{Echo, Check, Show, Convert, Run}
 
 -- the word doesn't start with a dash
 abbrev pub is_name : List ℕ → Bool
@@ -14,6 +16,12 @@ AsksShow words table false = words ≡ codes "show" ∷ table ∷ []
 AsksShow words table true =
     (words ≡ codes "show" ∷ codes "--clear" ∷ table ∷ []) ⊎ (words ≡ codes "show" ∷ table ∷ codes "--clear" ∷ [])
 
+-- the name of a header
+abbrev pub header_name : Header → List ℕ
+header_name Binary2 = codes "binary2"
+header_name Ascii4 = codes "ascii4"
+header_name Bcd2 = codes "bcd2"
+
 -- these words spell this job
 abbrev pub Asks : List (List ℕ) → Job → Type 0
 Asks words Echo = words ≡ []
@@ -21,6 +29,26 @@ Asks words (Check table) = IsTrue (is_name table.now) × (words ≡ codes "check
 Asks words (Show table clear) = IsTrue (is_name table.now) × AsksShow words table.now clear
 Asks words (Convert from to) =
     IsTrue (is_name from.now) × IsTrue (is_name to.now) × (words ≡ codes "convert" ∷ from.now ∷ to.now ∷ [])
+Asks words (Run table accounts header) =
+    IsTrue (is_name table.now) × IsTrue (is_name accounts.now) × (words ≡ codes "run" ∷ table.now ∷ accounts.now ∷ header_name header ∷ [])
+
+-- every job but a host on a stream
+abbrev pub is_codec : Job → Bool
+is_codec Echo = true
+is_codec (Check table) = true
+is_codec (Show table clear) = true
+is_codec (Convert from to) = true
+is_codec (Run table accounts header) = false
+
+-- these words spell none of these jobs
+abbrev pub AsksNoCodec : List (List ℕ) → Type 0
+AsksNoCodec words = (job : Job) → is_codec job ≡ true → Asks words job → ⊥
+
+-- these words spell no host on a stream
+abbrev pub AsksNoRun : List (List ℕ) → Type 0
+AsksNoRun words =
+    (table accounts : List ℕ) (header : Header) → IsTrue (is_name table) → IsTrue (is_name accounts)
+    → words ≡ codes "run" ∷ table ∷ accounts ∷ header_name header ∷ [] → ⊥
 
 -- these words spell no job
 abbrev pub AsksNothing : List (List ℕ) → Type 0

@@ -32,15 +32,23 @@ show_app = with_rule (with_rule (bare_app (codes "show")) (name_rule (codes "tab
 abbrev pub convert_app : App
 convert_app = with_rule (with_rule (bare_app (codes "convert")) (name_rule (codes "from"))) (name_rule (codes "to"))
 
+-- `run TABLE ACCOUNTS HEADER`
+abbrev pub run_app : App
+run_app = with_rule (with_rule (with_rule (bare_app (codes "run")) (name_rule (codes "table"))) (name_rule (codes "accounts"))) (name_rule (codes "header"))
+
 -- the command before its subcommands
 abbrev pub iso_alone : App
 iso_alone = record (bare_app (codes "iso")) {
   top = record (bare_app (codes "iso")).top { no_binary_name = true; subcommand_required = true };
 }
 
+-- the command with the subcommands that take one message, or none
+abbrev pub codec_app : App
+codec_app = with_subcommand (with_subcommand (with_subcommand iso_alone check_app.top) show_app.top) convert_app.top
+
 -- the whole command
 abbrev pub iso_app : App
-iso_app = with_subcommand (with_subcommand (with_subcommand iso_alone check_app.top) show_app.top) convert_app.top
+iso_app = with_subcommand codec_app run_app.top
 
 -- the argument follows this rule, in its own command alone
 pub record FollowsRule (rule : Rule) (arg : Arg) : Type 0 where

@@ -6,3 +6,4 @@ pub mod Stops
 pub mod Tells
 pub mod Tables
 pub mod Acts
+pub mod Runs

@@ -1,7 +1,9 @@
 -- How each way to stop is told.
 use Rattle.std.specs.Prelude.{ℕ, List, [], ◌∷◌, ◌++◌, Option, Some, None, option_map, codes}
+use Rattle.iso_host.specs.declared.fault.ServeFault.{ServeFault}
+use Rattle.iso_host.specs.declared.fault.ServeFault.TheVariants as serving
 use Rattle.iso_cli.specs.declared.stop.Stop.{Stop}
-use Rattle.iso_cli.specs.declared.stop.Stop.TheVariants.{Words, File, Read, Write, Memory, TooManyTurns, InputTooLong, TrailingBytes, Table, Unpack, Pack}
+use Rattle.iso_cli.specs.declared.stop.Stop.TheVariants.{Words, File, Read, Write, Memory, TooManyTurns, InputTooLong, TrailingBytes, BadHeader, CutFrame, Table, Host, Accounts, Unpack, Pack}
 use Rattle.iso_cli.specs.declared.source.SourceFault.{SourceFault}
 use Rattle.iso_cli.specs.declared.source.SourceFault.TheVariants as source
 use Rattle.iso_cli.specs.declared.streaming.InputFault.{InputFault}
@@ -19,11 +21,15 @@ status_of Memory = 3
 status_of TooManyTurns = 3
 status_of InputTooLong = 1
 status_of TrailingBytes = 1
+status_of BadHeader = 1
+status_of CutFrame = 1
 status_of (Table fault) = 1
+status_of (Host fault) = 1
+status_of (Accounts fault) = 1
 status_of (Unpack fault) = 1
 status_of (Pack fault) = 1
 
--- the text of the fault line, where it names no fault of a table, of an input or of a message
+-- the text of the fault line, where it names no fault of a table, of accounts, of an input or of a message
 abbrev pub text_of : Stop → Option (List ℕ)
 text_of Words = Some (codes "command line refused")
 text_of File = Some (codes "failed: File")
@@ -33,7 +39,11 @@ text_of Memory = Some (codes "failed: Memory")
 text_of TooManyTurns = Some (codes "failed: TooManyTurns")
 text_of InputTooLong = Some (codes "refused: InputTooLong")
 text_of TrailingBytes = Some (codes "refused: TrailingBytes")
+text_of BadHeader = Some (codes "refused: BadHeader")
+text_of CutFrame = Some (codes "refused: CutFrame")
 text_of (Table fault) = None
+text_of (Host fault) = None
+text_of (Accounts fault) = None
 text_of (Unpack fault) = None
 text_of (Pack fault) = None
 
@@ -52,6 +62,15 @@ stop_of_input input.Memory = Memory
 abbrev pub stop_of_source : SourceFault → Stop
 stop_of_source source.File = File
 stop_of_source source.Memory = Memory
+
+-- the stop that an end of serving is
+abbrev pub stop_of_serving : ServeFault → Stop
+stop_of_serving serving.Read = Read
+stop_of_serving serving.Write = Write
+stop_of_serving serving.BadHeader = BadHeader
+stop_of_serving serving.CutFrame = CutFrame
+stop_of_serving serving.Memory = Memory
+stop_of_serving serving.TooManyTurns = TooManyTurns
 
 -- the stop that a fault of the words is
 abbrev pub stop_of_words : WordsFault → Stop

@@ -1,34 +1,47 @@
 //! What the command does.
 
 ghost use Rattle.std.specs.Prelude.{◌≡◌, ◌≤◌, ℕ, List, [], ◌∷◌, map, codes, OnOk};
+ghost use Rattle.iso_wire.specs.declared.header.Header.{Header};
 ghost use Rattle.iso_cli.specs.Acts.{ConvertsOver, EchoesOver};
+ghost use Rattle.iso_cli.specs.Asks.{header_name};
+ghost use Rattle.iso_cli.specs.Runs.{RunsOver};
 
 use crate::check::check;
 use crate::convert::convert;
 use crate::echo::echo;
+use crate::report::tell_report;
+use crate::run::run;
 use crate::show::show;
 use crate::source::Source;
 use crate::stop::{Stop, tell};
 use crate::words::{Job, parse};
-use iso_host::{Inlet, Outlet};
+use iso_host::{Inlet, Outlet, Report};
 use std::alloc::Global;
 
+/// Does what the words ask. A host on a stream has a report at its end.
 fn perform<S: Source, I: Inlet, O: Outlet>(
     alloc: Global,
     words: &[&str],
     source: &S,
     input: &mut I,
     output: &mut O,
-) -> Result<(), Stop>
+) -> Result<Option<Report>, Stop>
     ensures echo { words.now ≡ [] → OnOk result (EchoesOver (I.remaining input.old) (O.contents output.old) (O.contents output.new)) }
     ensures convert { (from to : List ℕ) → map (λ w. w.now) words.now ≡ codes "convert" ∷ from ∷ to ∷ [] → OnOk result (ConvertsOver (S.file source.now) from to (I.remaining input.old) (O.contents output.old) (O.contents output.new)) }
+    ensures run { (table accounts : List ℕ) (header : Header) → map (λ w. w.now) words.now ≡ codes "run" ∷ table ∷ accounts ∷ header_name header ∷ [] → OnOk result (RunsOver (S.file source.now) table accounts header (I.remaining input.old) (O.contents output.old) (O.contents output.new)) }
 {
     match parse(alloc, words)? {
-        Job::Echo => echo(alloc, input, output),
-        Job::Check { table } => check(alloc, table, source, output),
-        Job::Show { table, clear } => show(alloc, table, clear, source, input, output),
-        Job::Convert { from, to } => convert(alloc, from, to, source, input, output),
+        Job::Echo => echo(alloc, input, output)?,
+        Job::Check { table } => check(alloc, table, source, output)?,
+        Job::Show { table, clear } => show(alloc, table, clear, source, input, output)?,
+        Job::Convert { from, to } => convert(alloc, from, to, source, input, output)?,
+        Job::Run {
+            table,
+            accounts,
+            header,
+        } => return Ok(Some(run(alloc, table, accounts, header, source, input, output)?)),
     }
+    Ok(None)
 }
 
 /// Does what the words ask, and gives the status: 0 done, 1 an input was refused, 2 the command line was, 3 a
@@ -45,10 +58,13 @@ pub fn act<S: Source, I: Inlet, O: Outlet, F: Outlet>(
     ensures echo { words.now ≡ [] → result ≡ 0 → EchoesOver (I.remaining input.old) (O.contents output.old) (O.contents output.new) }
     // `convert`: the plain spelling under the second table of what the input spells under the first.
     ensures convert { (from to : List ℕ) → map (λ w. w.now) words.now ≡ codes "convert" ∷ from ∷ to ∷ [] → result ≡ 0 → ConvertsOver (S.file source.now) from to (I.remaining input.old) (O.contents output.old) (O.contents output.new) }
+    // `run`: the output for the bodies of the whole input, for the accounts of the document, with an empty journal.
+    ensures run { (table accounts : List ℕ) (header : Header) → map (λ w. w.now) words.now ≡ codes "run" ∷ table ∷ accounts ∷ header_name header ∷ [] → result ≡ 0 → RunsOver (S.file source.now) table accounts header (I.remaining input.old) (O.contents output.old) (O.contents output.new) }
     ensures status { result ≤ 3 }
 {
     match perform(alloc, words, source, input, output) {
-        Ok(()) => 0,
+        Ok(None) => 0,
+        Ok(Some(report)) => tell_report(alloc, faults, report),
         Err(stop) => tell(alloc, faults, stop),
     }
 }

@@ -4,16 +4,20 @@
 //! - `check TABLE`: whether a table is good
 //! - `show TABLE [--clear]`: the lines of the message on the input
 //! - `convert FROM TO`: the message on the input under another table
+//! - `run TABLE ACCOUNTS HEADER`: an issuer host, frames on the input and the frames of their responses
 #![tactic(auto)]
 
 mod act;
 mod check;
 mod convert;
 mod describe;
+mod documents;
 mod echo;
 #[cfg(test)]
 mod fakes;
 mod refusal;
+mod report;
+mod run;
 mod show;
 mod source;
 mod stop;

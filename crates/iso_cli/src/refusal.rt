@@ -1,8 +1,9 @@
-//! The fault lines that name what is wrong with a table, an input or a message.
+//! The fault lines that name what is wrong with a table, with accounts, an input or a message.
 
 use crate::stop::Stop;
+use iso_issuer::AccountsFault;
 use iso_parts::FieldFault;
-use iso_table::TableFault;
+use iso_table::{HostTableFault, TableFault};
 use iso_wire::{PackFault, UnpackCause, UnpackFault};
 use std::alloc::{AllocError, Global};
 
@@ -19,6 +20,26 @@ fn table_fault(fault: TableFault) -> (&'static str, Option<u16>) {
         TableFault::PadNotAllowed(n) => ("PadNotAllowed", Some(n)),
         TableFault::Profile => ("Profile", None),
         TableFault::Memory => ("Memory", None),
+    }
+}
+
+/// A fault's name, and the element that it names.
+fn host_fault(fault: HostTableFault) -> (&'static str, Option<u16>) {
+    match fault {
+        HostTableFault::NotVersion0 => ("NotVersion0", None),
+        HostTableFault::NoRow(n) => ("NoRow", Some(u16::from(n))),
+        HostTableFault::RowShape(n) => ("RowShape", Some(u16::from(n))),
+    }
+}
+
+/// A fault's name, and the account that it names, counted from 0.
+fn accounts_fault(fault: AccountsFault) -> (&'static str, Option<usize>) {
+    match fault {
+        AccountsFault::NotJson => ("NotJson", None),
+        AccountsFault::Shape => ("Shape", None),
+        AccountsFault::Twice(i) => ("Twice", Some(i)),
+        AccountsFault::OutOfRange(i) => ("OutOfRange", Some(i)),
+        AccountsFault::Memory => ("Memory", None),
     }
 }
 
@@ -72,16 +93,26 @@ fn named_line(
     }
 }
 
+/// `refused: accounts NAME`, and the account where one is named.
+fn accounts_line(alloc: Global, fault: AccountsFault) -> Result<String, AllocError> {
+    match accounts_fault(fault) {
+        (name, Some(i)) => format!(in alloc; "refused: accounts {name} {i}\n"),
+        (name, None) => format!(in alloc; "refused: accounts {name}\n"),
+    }
+}
+
 fn unpack_line(alloc: Global, fault: UnpackFault) -> Result<String, AllocError> {
     let name = unpack_cause(fault.cause);
     let (element, at) = (fault.element, fault.at);
     format!(in alloc; "refused: unpack {name} element {element} at {at}\n")
 }
 
-/// The fault line of a stop that names a fault of a table, an input or a message.
+/// The fault line of a stop that names a fault of a table, of accounts, of an input or of a message.
 pub fn refusal_line(alloc: Global, stop: Stop) -> Result<String, AllocError> {
     match stop {
         Stop::Table(fault) => named_line(alloc, "table", table_fault(fault)),
+        Stop::Host(fault) => named_line(alloc, "host", host_fault(fault)),
+        Stop::Accounts(fault) => accounts_line(alloc, fault),
         Stop::Pack(fault) => named_line(alloc, "pack", pack_fault(fault)),
         Stop::Unpack(fault) => unpack_line(alloc, fault),
         _ => String::from_str(alloc, "failed: Memory\n"),

@@ -1,14 +1,15 @@
 //! How the command stops where it doesn't end well: a line on the fault stream, and a status.
 ghost use Rattle.std.specs.Prelude.{◌≡◌, ◌<◌, ◌≤◌, option_map};
-ghost use Rattle.iso_cli.specs.Stops.{status_of, line_of, stop_of_input, stop_of_source, stop_of_words};
+ghost use Rattle.iso_cli.specs.Stops.{status_of, line_of, stop_of_input, stop_of_serving, stop_of_source, stop_of_words};
 ghost use Rattle.iso_cli.specs.Tells.{Tells, TellsLine};
 
 use crate::refusal::refusal_line;
 use crate::source::SourceFault;
 use crate::streaming::InputFault;
 use crate::words::WordsFault;
-use iso_host::{Failed, Outlet, write_all};
-use iso_table::{NoMemory, TableFault};
+use iso_host::{Failed, Outlet, ServeFault, write_all};
+use iso_issuer::AccountsFault;
+use iso_table::{HostTableFault, NoMemory, TableFault};
 use iso_wire::{PackFault, UnpackCause, UnpackFault};
 use std::alloc::{AllocError, Global};
 
@@ -31,8 +32,16 @@ pub enum Stop {
     InputTooLong,
     /// Bytes follow the message.
     TrailingBytes,
+    /// The header of a frame isn't of digits.
+    BadHeader,
+    /// The input ends inside a frame.
+    CutFrame,
     /// A table is refused.
     Table(TableFault),
+    /// An issuer host can't serve under a table.
+    Host(HostTableFault),
+    /// A document of accounts is refused.
+    Accounts(AccountsFault),
     /// The input begins with no message.
     Unpack(UnpackFault),
     /// The message has no bytes under the table.
@@ -46,8 +55,9 @@ impl Stop {
         ensures range { (1 ≤ result) × (result ≤ 3) }
     {
         match self {
-            Stop::InputTooLong | Stop::TrailingBytes => 1,
-            Stop::Table(_) | Stop::Unpack(_) | Stop::Pack(_) => 1,
+            Stop::InputTooLong | Stop::TrailingBytes | Stop::BadHeader | Stop::CutFrame => 1,
+            Stop::Table(_) | Stop::Host(_) | Stop::Accounts(_) => 1,
+            Stop::Unpack(_) | Stop::Pack(_) => 1,
             Stop::Words => 2,
             Stop::File | Stop::Read | Stop::Write | Stop::Memory | Stop::TooManyTurns => 3,
         }
@@ -66,7 +76,10 @@ impl Stop {
             Stop::TooManyTurns => Some("failed: TooManyTurns\n"),
             Stop::InputTooLong => Some("refused: InputTooLong\n"),
             Stop::TrailingBytes => Some("refused: TrailingBytes\n"),
-            Stop::Table(_) | Stop::Unpack(_) | Stop::Pack(_) => None,
+            Stop::BadHeader => Some("refused: BadHeader\n"),
+            Stop::CutFrame => Some("refused: CutFrame\n"),
+            Stop::Table(_) | Stop::Host(_) | Stop::Accounts(_) => None,
+            Stop::Unpack(_) | Stop::Pack(_) => None,
         }
     }
 }
@@ -106,6 +119,21 @@ impl From<WordsFault> for Stop {
     }
 }
 
+impl From<ServeFault> for Stop {
+    ghost from_gives = { λ fault stop. stop ≡ stop_of_serving fault };
+
+    fn from(fault: ServeFault) -> Stop {
+        match fault {
+            ServeFault::Read => Stop::Read,
+            ServeFault::Write => Stop::Write,
+            ServeFault::BadHeader => Stop::BadHeader,
+            ServeFault::CutFrame => Stop::CutFrame,
+            ServeFault::Memory => Stop::Memory,
+            ServeFault::TooManyTurns => Stop::TooManyTurns,
+        }
+    }
+}
+
 impl From<NoMemory> for Stop {
     fn from(_fault: NoMemory) -> Stop {
         Stop::Memory
@@ -123,6 +151,21 @@ impl From<TableFault> for Stop {
         match fault {
             TableFault::Memory => Stop::Memory,
             other => Stop::Table(other),
+        }
+    }
+}
+
+impl From<HostTableFault> for Stop {
+    fn from(fault: HostTableFault) -> Stop {
+        Stop::Host(fault)
+    }
+}
+
+impl From<AccountsFault> for Stop {
+    fn from(fault: AccountsFault) -> Stop {
+        match fault {
+            AccountsFault::Memory => Stop::Memory,
+            other => Stop::Accounts(other),
         }
     }
 }
@@ -147,10 +190,10 @@ impl From<PackFault> for Stop {
 
 /// Writes a line, and gives the status. Where the fault stream itself fails nothing more is written, and the
 /// status is 3.
-fn tell_line<F: Outlet>(faults: &mut F, line: &str, status: u8) -> u8
-    requires { (1 ≤ status) × (status ≤ 3) }
+pub fn tell_line<F: Outlet>(faults: &mut F, line: &str, status: u8) -> u8
+    requires { status ≤ 3 }
     ensures told { TellsLine (F.contents faults.old) (F.contents faults.new) (F.counts faults.old) (F.counts faults.new) line.now status result }
-    ensures range { (1 ≤ result) × (result ≤ 3) }
+    ensures range { (status ≤ result) × (result ≤ 3) }
 {
     match write_all(faults, line.as_bytes()) {
         Ok(()) => status,

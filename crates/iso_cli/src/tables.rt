@@ -4,7 +4,8 @@ ghost use Rattle.std.specs.Prelude.{IfOk, IfSome};
 ghost use Rattle.iso_table.specs.Document.{IsTableOf};
 ghost use Rattle.iso_cli.specs.Tables.{IsNamed};
 
-use crate::source::{MOST_BYTES, Source};
+use crate::documents::document;
+use crate::source::Source;
 use crate::stop::Stop;
 use iso_table::Table;
 use std::alloc::Global;
@@ -13,10 +14,7 @@ use std::alloc::Global;
 fn table_at<S: Source>(alloc: Global, source: &S, path: &str) -> Result<Table, Stop>
     ensures { IfOk result (λ table. IfSome (S.file source.now path.now) (λ text. IsTableOf text table)) }
 {
-    let text = source.read(alloc, path)?;
-    if text.len() > MOST_BYTES as usize {
-        return Err(Stop::InputTooLong);
-    }
+    let text = document(alloc, source, path)?;
     Ok(Table::from_json(alloc, &text)?)
 }
 

@@ -3,11 +3,12 @@
 //! `clap` judges the words, and what it lets pass is matched word by word, so that contracts can speak of the words.
 ghost use Rattle.std.specs.Prelude.{◌≡◌, IfOk, IfSome, IfNone, IfErr, IsErrOf, map, true};
 ghost use Rattle.clap.specs.Words.{takes};
-ghost use Rattle.iso_cli.specs.Asks.{Asks, AsksNothing, is_name};
-ghost use Rattle.iso_cli.specs.CommandLine.{FollowsRule, IsCommand, bare_app, check_app, clear_rule, convert_app, iso_alone, iso_app, name_rule, show_app};
+ghost use Rattle.iso_cli.specs.Asks.{Asks, AsksNoCodec, AsksNothing, AsksNoRun, header_name, is_name};
+ghost use Rattle.iso_cli.specs.CommandLine.{FollowsRule, IsCommand, bare_app, check_app, clear_rule, codec_app, convert_app, iso_alone, iso_app, name_rule, run_app, show_app};
 
 use clap::error::ErrorKind;
 use clap::{Arg, ArgAction, Command};
+use iso_wire::Header;
 use std::alloc::{AllocError, Global};
 
 /// What the words ask.
@@ -33,6 +34,15 @@ pub enum Job<'a> {
         from: &'a str,
         /// The path or name of the table that is written by.
         to: &'a str,
+    },
+    /// `run TABLE ACCOUNTS HEADER`
+    Run {
+        /// The table's path or name.
+        table: &'a str,
+        /// The path of the accounts.
+        accounts: &'a str,
+        /// How a frame counts its body.
+        header: Header,
     },
 }
 
@@ -91,6 +101,15 @@ fn convert_command<'a>(alloc: Global) -> Result<Command<'a>, AllocError>
         .arg(required(alloc, "to"))
 }
 
+fn run_command<'a>(alloc: Global) -> Result<Command<'a>, AllocError>
+    ensures { IfOk result (IsCommand run_app) }
+{
+    bare(alloc, "run")
+        .arg(required(alloc, "table"))?
+        .arg(required(alloc, "accounts"))?
+        .arg(required(alloc, "header"))
+}
+
 /// The command before its subcommands.
 fn alone<'a>(alloc: Global) -> Command<'a>
     ensures { IsCommand iso_alone result }
@@ -100,14 +119,23 @@ fn alone<'a>(alloc: Global) -> Command<'a>
         .subcommand_required(true)
 }
 
+/// The command with the subcommands that take one message, or none.
 #[tactic(auto, using(crate::proofs::CommandLemmas::adds))]
-fn command<'a>(alloc: Global) -> Result<Command<'a>, AllocError>
-    ensures { IfOk result (IsCommand iso_app) }
+fn codec_command<'a>(alloc: Global) -> Result<Command<'a>, AllocError>
+    ensures { IfOk result (IsCommand codec_app) }
 {
     alone(alloc)
         .subcommand(check_command(alloc)?)?
         .subcommand(show_command(alloc)?)?
         .subcommand(convert_command(alloc)?)
+}
+
+/// The whole command.
+#[tactic(auto, using(crate::proofs::CommandLemmas::adds))]
+fn command<'a>(alloc: Global) -> Result<Command<'a>, AllocError>
+    ensures { IfOk result (IsCommand iso_app) }
+{
+    codec_command(alloc)?.subcommand(run_command(alloc)?)
 }
 
 /// Whether `clap` lets the words pass.
@@ -131,10 +159,38 @@ fn is_name(word: &str) -> bool
     !word.starts_with('-')
 }
 
-/// What the words ask, by the words alone.
-fn job_of<'a>(words: &'a [&'a str]) -> Option<Job<'a>>
+/// The header of this name.
+fn header_named(word: &str) -> Option<Header>
+    ensures found { IfSome result (λ header. word.now ≡ header_name header) }
+    ensures none { IfNone result ((header : Header) → word.now ≡ header_name header → ⊥) }
+{
+    match word {
+        "binary2" => Some(Header::Binary2),
+        "ascii4" => Some(Header::Ascii4),
+        "bcd2" => Some(Header::Bcd2),
+        _ => None,
+    }
+}
+
+/// What the words of a host on a stream ask.
+fn run_of<'a>(words: &'a [&'a str]) -> Option<Job<'a>>
     ensures found { IfSome result (Asks (map (λ w. w.now) words.now)) }
-    ensures none { IfNone result (AsksNothing (map (λ w. w.now) words.now)) }
+    ensures none { IfNone result (AsksNoRun (map (λ w. w.now) words.now)) }
+{
+    match words {
+        ["run", table, accounts, header] if is_name(table) && is_name(accounts) => Some(Job::Run {
+            table,
+            accounts,
+            header: header_named(header)?,
+        }),
+        _ => None,
+    }
+}
+
+/// What the words of every other job ask.
+fn codec_job_of<'a>(words: &'a [&'a str]) -> Option<Job<'a>>
+    ensures found { IfSome result (Asks (map (λ w. w.now) words.now)) }
+    ensures none { IfNone result (AsksNoCodec (map (λ w. w.now) words.now)) }
 {
     match words {
         [] => Some(Job::Echo),
@@ -150,9 +206,20 @@ fn job_of<'a>(words: &'a [&'a str]) -> Option<Job<'a>>
     }
 }
 
+/// What the words ask, by the words alone.
+fn job_of<'a>(words: &'a [&'a str]) -> Option<Job<'a>>
+    ensures found { IfSome result (Asks (map (λ w. w.now) words.now)) }
+    ensures none { IfNone result (AsksNothing (map (λ w. w.now) words.now)) }
+{
+    match codec_job_of(words) {
+        Some(job) => Some(job),
+        None => run_of(words),
+    }
+}
+
 /// What the words ask, if they are a command line. The words are those behind the program's name.
 ///
-/// No name of a table starts with a dash.
+/// No name of a table and no path of accounts starts with a dash.
 pub fn parse<'a>(alloc: Global, words: &'a [&'a str]) -> Result<Job<'a>, WordsFault>
     ensures found { IfOk result (Asks (map (λ w. w.now) words.now)) }
     ensures refused { IsErrOf result WordsFault.Refused → AsksNothing (map (λ w. w.now) words.now) }

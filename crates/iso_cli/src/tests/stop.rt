@@ -3,7 +3,7 @@ use crate::source::SourceFault;
 use crate::stop::{Stop, tell};
 use crate::streaming::InputFault;
 use crate::words::WordsFault;
-use iso_host::Std;
+use iso_host::{ServeFault, Std};
 
 #[test]
 fn tells_each_stop(rt: HostRuntime) {
@@ -20,6 +20,8 @@ fn tells_each_stop(rt: HostRuntime) {
             1,
             b"refused: TrailingBytes\n".as_slice(),
         ),
+        (Stop::BadHeader, 1, b"refused: BadHeader\n".as_slice()),
+        (Stop::CutFrame, 1, b"refused: CutFrame\n".as_slice()),
     ] {
         let mut lines = Vec::new(rt.alloc());
         let mut faults = Std::new(&mut lines);
@@ -82,4 +84,10 @@ fn each_fault_has_its_stop(rt: HostRuntime) {
     assert_eq!(rt; Stop::from(SourceFault::File), Stop::File);
     assert_eq!(rt; Stop::from(SourceFault::Memory), Stop::Memory);
     assert_eq!(rt; Stop::from(WordsFault::Memory), Stop::Memory);
+    assert_eq!(rt; Stop::from(ServeFault::Read), Stop::Read);
+    assert_eq!(rt; Stop::from(ServeFault::Write), Stop::Write);
+    assert_eq!(rt; Stop::from(ServeFault::BadHeader), Stop::BadHeader);
+    assert_eq!(rt; Stop::from(ServeFault::CutFrame), Stop::CutFrame);
+    assert_eq!(rt; Stop::from(ServeFault::Memory), Stop::Memory);
+    assert_eq!(rt; Stop::from(ServeFault::TooManyTurns), Stop::TooManyTurns);
 }

@@ -1,6 +1,7 @@
 use crate::stop::{Stop, tell};
 use crate::words::{Job, parse};
 use iso_host::Std;
+use iso_wire::Header;
 
 #[test]
 fn reads_each_form(rt: HostRuntime) {
@@ -53,6 +54,33 @@ fn reads_each_form(rt: HostRuntime) {
             ["convert", "a", "a"].as_slice(),
             Job::Convert { from: "a", to: "a" },
         ),
+        (
+            "run over two bytes of a number",
+            ["run", "t.json", "a b", "binary2"].as_slice(),
+            Job::Run {
+                table,
+                accounts: "a b",
+                header: Header::Binary2,
+            },
+        ),
+        (
+            "run over four digits",
+            ["run", "", "t.json", "ascii4"].as_slice(),
+            Job::Run {
+                table: "",
+                accounts: table,
+                header: Header::Ascii4,
+            },
+        ),
+        (
+            "run over two bytes of four digits",
+            ["run", "t.json", "t.json", "bcd2"].as_slice(),
+            Job::Run {
+                table,
+                accounts: table,
+                header: Header::Bcd2,
+            },
+        ),
     ] {
         assert_eq!(rt; parse(rt.alloc(), words), Ok(wanted), "{name}");
     }
@@ -66,7 +94,6 @@ const REFUSED: &[&[&str]] = &[
     &["checks", "t"],
     &["Check", "t"],
     &["check t"],
-    &["run", "t", "accounts", "binary2"],
     &["serve", "t", "accounts", "binary2", "8000", "1"],
     // help and version
     &["help"],
@@ -103,6 +130,11 @@ const REFUSED: &[&[&str]] = &[
     &["convert", "a", "-b"],
     &["convert", "a", "--"],
     &["convert", "--", "a", "b"],
+    &["run", "-t", "a", "bcd2"],
+    &["run", "t", "-a", "bcd2"],
+    &["run", "t", "a", "-bcd2"],
+    &["run", "t", "a", "--", "bcd2"],
+    &["run", "--help"],
     // too few, too many
     &["check"],
     &["check", "a", "b"],
@@ -111,6 +143,16 @@ const REFUSED: &[&[&str]] = &[
     &["convert"],
     &["convert", "a"],
     &["convert", "a", "b", "c"],
+    &["run"],
+    &["run", "t", "a"],
+    &["run", "t", "a", "bcd2", "bcd2"],
+    // headers
+    &["run", "t", "a", ""],
+    &["run", "t", "a", "ascii"],
+    &["run", "t", "a", "Ascii4"],
+    &["run", "t", "a", "binary4"],
+    &["run", "t", "a", "bcd2 "],
+    &["run", "ascii4", "t", "a"],
     // the flag
     &["--clear"],
     &["--clear", "show", "t"],

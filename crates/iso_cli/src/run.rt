@@ -1,0 +1,70 @@
+//! The issuer host on a stream: frames in, the frames of their responses out.
+
+ghost use Rattle.std.specs.Prelude.{◌≡◌, IfOk, IfSome, OnOk};
+ghost use Rattle.iso_issuer.specs.Document.{ListsAccounts};
+ghost use Rattle.iso_table.specs.HostReady.{IsHostReady};
+ghost use Rattle.iso_cli.specs.Runs.{RunsOver};
+ghost use Rattle.iso_cli.specs.Tables.{IsNamed};
+
+use crate::documents::document;
+use crate::source::Source;
+use crate::stop::Stop;
+use crate::tables::table_named;
+use iso_host::{Inlet, Outlet, Report, serve};
+use iso_issuer::{Accounts, Issuer};
+use iso_table::Table;
+use iso_wire::Header;
+use std::alloc::Global;
+
+/// The most orders that the journal takes.
+const MOST_ENTRIES: u32 = 999_999;
+
+/// The most reads and writes.
+const MOST_TURNS: u64 = 100_000_000;
+
+/// The table that a word names, if an issuer host can serve under it.
+fn host_table<S: Source>(alloc: Global, source: &S, word: &str) -> Result<Table, Stop>
+    ensures named { IfOk result (IsNamed (S.file source.now) word.now) }
+    ensures ready { IfOk result IsHostReady }
+{
+    let table = table_named(alloc, source, word)?;
+    table.host_ready()?;
+    Ok(table)
+}
+
+/// The accounts of the document at a path.
+fn accounts_at<S: Source>(alloc: Global, source: &S, path: &str) -> Result<Accounts, Stop>
+    ensures { IfOk result (λ accounts. IfSome (S.file source.now path.now) (λ text. ListsAccounts text accounts)) }
+{
+    let text = document(alloc, source, path)?;
+    Ok(Accounts::from_json(alloc, &text)?)
+}
+
+/// Reads frames to the end of the input, and writes the frame of each response. The journal is empty at first.
+pub fn run<S: Source, I: Inlet, O: Outlet>(
+    alloc: Global,
+    table: &str,
+    accounts: &str,
+    header: Header,
+    source: &S,
+    input: &mut I,
+    output: &mut O,
+) -> Result<Report, Stop>
+    ensures { OnOk result (RunsOver (S.file source.now) table.now accounts.now header (I.remaining input.old) (O.contents output.old) (O.contents output.new)) }
+{
+    let table = host_table(alloc, source, table)?;
+    let accounts = accounts_at(alloc, source, accounts)?;
+    let mut issuer = Issuer::new(accounts, MOST_ENTRIES);
+    match serve(
+        alloc,
+        &table,
+        header,
+        &mut issuer,
+        input,
+        output,
+        MOST_TURNS,
+    ) {
+        Ok(report) => Ok(report),
+        Err(fault) => Err(Stop::from(fault)),
+    }
+}
