@@ -1,0 +1,150 @@
+//! Good tables, and tables that are refused.
+
+use super::{Case, TERMINALS, runs};
+use std::test::Fail;
+
+#[test]
+fn a_table_is_checked(rt: HostRuntime) -> Result<(), Fail> {
+    let cases = [
+        Case {
+            name: "the 1987 table in ASCII",
+            words: &["check", "ascii87"],
+            input: b"",
+            status: 0,
+            output: b"OK version=0 rows=126 max=36470\n",
+            faults: b"",
+        },
+        Case {
+            name: "the 1987 table in BCD",
+            words: &["check", "bcd87"],
+            input: b"",
+            status: 0,
+            output: b"OK version=0 rows=126 max=36141\n",
+            faults: b"",
+        },
+        Case {
+            name: "a table of one row",
+            words: &["check", "table.json"],
+            input: b"",
+            status: 0,
+            output: b"OK version=0 rows=1 max=44\n",
+            faults: b"",
+        },
+        Case {
+            name: "a missing file",
+            words: &["check", "nowhere.json"],
+            input: b"",
+            status: 3,
+            output: b"",
+            faults: b"failed: File\n",
+        },
+        Case {
+            name: "no table",
+            words: &["check"],
+            input: b"",
+            status: 2,
+            output: b"",
+            faults: b"command line refused\n",
+        },
+        Case {
+            name: "an unknown command",
+            words: &["run", "ascii87", "accounts.json", "ascii4"],
+            input: b"",
+            status: 2,
+            output: b"",
+            faults: b"command line refused\n",
+        },
+        Case {
+            name: "help",
+            words: &["--help"],
+            input: b"",
+            status: 2,
+            output: b"",
+            faults: b"command line refused\n",
+        },
+    ];
+    runs(&rt, &cases, TERMINALS)
+}
+
+#[test]
+fn a_table_is_refused(rt: HostRuntime) -> Result<(), Fail> {
+    let documents = [
+        (
+            "LL of 100",
+            b"{\"bitmap\":\"hex\",\"mti\":\"ascii\",\"profile\":1,\"rows\":[{\"class\":\"N\",\"coding\":\"ascii\",\"length\":\"LL\",\"prefix\":\"ascii\",\"max\":100,\"number\":2,\"pad\":\"none\"}],\"version\":0}".as_slice(),
+            b"refused: table BadMax element 2\n".as_slice(),
+        ),
+        (
+            "BCD letters",
+            b"{\"bitmap\":\"hex\",\"mti\":\"ascii\",\"profile\":1,\"rows\":[{\"class\":\"ANS\",\"coding\":\"bcd\",\"length\":\"LL\",\"prefix\":\"ascii\",\"max\":19,\"number\":2,\"pad\":\"none\"}],\"version\":0}".as_slice(),
+            b"refused: table CodingClass element 2\n".as_slice(),
+        ),
+        (
+            "element 65",
+            b"{\"bitmap\":\"hex\",\"mti\":\"ascii\",\"profile\":1,\"rows\":[{\"class\":\"N\",\"coding\":\"ascii\",\"length\":\"LL\",\"prefix\":\"ascii\",\"max\":19,\"number\":65,\"pad\":\"none\"}],\"version\":0}".as_slice(),
+            b"refused: table BadNumber element 65\n".as_slice(),
+        ),
+        (
+            "a number twice",
+            b"{\"bitmap\":\"hex\",\"mti\":\"ascii\",\"profile\":1,\"rows\":[{\"class\":\"N\",\"coding\":\"ascii\",\"length\":\"LL\",\"prefix\":\"ascii\",\"max\":19,\"number\":2,\"pad\":\"none\"},{\"class\":\"N\",\"coding\":\"ascii\",\"length\":\"LL\",\"prefix\":\"ascii\",\"max\":19,\"number\":2,\"pad\":\"none\"}],\"version\":0}".as_slice(),
+            b"refused: table Twice element 2\n".as_slice(),
+        ),
+        (
+            "version 3",
+            b"{\"bitmap\":\"hex\",\"mti\":\"ascii\",\"profile\":1,\"rows\":[{\"class\":\"N\",\"coding\":\"ascii\",\"length\":\"LL\",\"prefix\":\"ascii\",\"max\":19,\"number\":2,\"pad\":\"none\"}],\"version\":3}".as_slice(),
+            b"refused: table BadVersion\n".as_slice(),
+        ),
+        (
+            "a pad on LL",
+            b"{\"bitmap\":\"hex\",\"mti\":\"ascii\",\"profile\":1,\"rows\":[{\"class\":\"N\",\"coding\":\"ascii\",\"length\":\"LL\",\"prefix\":\"ascii\",\"max\":19,\"number\":2,\"pad\":\"left:30\"}],\"version\":0}".as_slice(),
+            b"refused: table PadNotAllowed element 2\n".as_slice(),
+        ),
+        (
+            "half a document",
+            b"{".as_slice(),
+            b"refused: table NotJson\n".as_slice(),
+        ),
+        (
+            "profile 7",
+            b"{\"bitmap\":\"hex\",\"mti\":\"ascii\",\"profile\":7,\"rows\":[{\"class\":\"N\",\"coding\":\"ascii\",\"length\":\"LL\",\"prefix\":\"ascii\",\"max\":19,\"number\":2,\"pad\":\"none\"}],\"version\":0}".as_slice(),
+            b"refused: table Profile\n".as_slice(),
+        ),
+        (
+            "an unknown member",
+            b"{\"bitmap\":\"hex\",\"mti\":\"ascii\",\"profile\":1,\"rows\":[{\"class\":\"N\",\"coding\":\"ascii\",\"length\":\"LL\",\"prefix\":\"ascii\",\"max\":19,\"number\":2,\"pad\":\"none\",\"note\":1}],\"version\":0}".as_slice(),
+            b"refused: table Shape\n".as_slice(),
+        ),
+        (
+            "a number with a point",
+            b"{\"bitmap\":\"hex\",\"mti\":\"ascii\",\"profile\":1,\"rows\":[{\"class\":\"N\",\"coding\":\"ascii\",\"length\":\"LL\",\"prefix\":\"ascii\",\"max\":19.0,\"number\":2,\"pad\":\"none\"}],\"version\":0}".as_slice(),
+            b"refused: table Shape\n".as_slice(),
+        ),
+        (
+            "a number of 20 digits",
+            b"{\"bitmap\":\"hex\",\"mti\":\"ascii\",\"profile\":1,\"rows\":[{\"class\":\"N\",\"coding\":\"ascii\",\"length\":\"LL\",\"prefix\":\"ascii\",\"max\":12345678901234567890,\"number\":2,\"pad\":\"none\"}],\"version\":0}".as_slice(),
+            b"refused: table Shape\n".as_slice(),
+        ),
+        (
+            "an empty file",
+            b"".as_slice(),
+            b"refused: table NotJson\n".as_slice(),
+        ),
+        (
+            "another encoding",
+            b"\xFF\xFE{\0".as_slice(),
+            b"refused: table NotJson\n".as_slice(),
+        ),
+    ];
+    for (name, text, faults) in &documents {
+        let case = Case {
+            name,
+            words: &["check", "table.json"],
+            input: b"",
+            status: 1,
+            output: b"",
+            faults,
+        };
+        runs(&rt, &[case], text)?;
+    }
+    Ok(())
+}

@@ -1,0 +1,123 @@
+//! Values and bytes that no row takes.
+
+use super::*;
+
+#[test]
+fn values_are_refused(rt: HostRuntime) -> Result<(), Fail> {
+    let signed = row(CharClass::XN, Coding::Ascii, Length::Fixed, 9, Pad::None);
+    let cases = [
+        (
+            "a letter for the sign",
+            signed,
+            b"E00000150".as_slice(),
+            FieldFault::NotInClass,
+        ),
+        (
+            "five of six digits",
+            number(Coding::Ascii, Length::Fixed, 6),
+            b"12345",
+            FieldFault::WrongLength,
+        ),
+        (
+            "zeros at the padded end",
+            zero_filled(Coding::Ascii),
+            b"0012",
+            FieldFault::PadEnd,
+        ),
+        (
+            "a blank at the padded end",
+            terminal(),
+            b"TERM1 ",
+            FieldFault::PadEnd,
+        ),
+        (
+            "a blank at the end of a full value",
+            terminal(),
+            b"TERMINA ",
+            FieldFault::PadEnd,
+        ),
+        (
+            "one character too many",
+            terminal(),
+            b"TERMINALS",
+            FieldFault::WrongLength,
+        ),
+        (
+            "a control character",
+            terminal(),
+            b"TERM\x1F",
+            FieldFault::NotInClass,
+        ),
+    ];
+    for (name, row, value, fault) in &cases {
+        assert!(rt; row.good().is_ok(), "{name}");
+        let mut out = Vec::from_slice(rt.alloc(), b"before")?;
+        assert_eq!(rt; encode_field(row, value, &mut out), Err(*fault), "{name}");
+        assert_eq!(rt; out.as_slice(), b"before".as_slice(), "{name}");
+    }
+    Ok(())
+}
+
+#[test]
+fn bytes_are_refused(rt: HostRuntime) -> Result<(), Fail> {
+    let digits = bytes(Coding::HexText, Length::Fixed, 8);
+    let bcd = number(Coding::Bcd, Length::LL(Digits::Bcd), 19);
+    let long = row(
+        CharClass::ANS,
+        Coding::Ascii,
+        Length::LLL(Digits::Bcd),
+        120,
+        Pad::None,
+    );
+    let ascii = number(Coding::Ascii, Length::LL(Digits::Ascii), 19);
+    let cases = [
+        (
+            "G is no digit",
+            digits,
+            b"0123456789ABCDEG".as_slice(),
+            FieldFault::BadHex,
+        ),
+        (
+            "a leading nibble",
+            long,
+            b"\x10\x20",
+            FieldFault::BadLengthDigits,
+        ),
+        (
+            "a letter in a length",
+            ascii,
+            b"1x",
+            FieldFault::BadLengthDigits,
+        ),
+        (
+            "a length over the maximum",
+            ascii,
+            b"20",
+            FieldFault::LengthOver,
+        ),
+        ("a filler of 1", bcd, b"\x03\x13\x01", FieldFault::BadFiller),
+        ("a nibble above 9", bcd, b"\x02\x0A", FieldFault::NotInClass),
+    ];
+    for (name, row, part, fault) in &cases {
+        assert!(rt; row.good().is_ok(), "{name}");
+        let mut value = Vec::from_slice(rt.alloc(), b"before")?;
+        assert_eq!(rt; append_value(row, part, &mut value), Err(*fault), "{name}");
+        assert_eq!(rt; value.as_slice(), b"before".as_slice(), "{name}");
+    }
+    Ok(())
+}
+
+#[test]
+fn bytes_are_missing(rt: HostRuntime) -> Result<(), Fail> {
+    let ascii = number(Coding::Ascii, Length::LL(Digits::Ascii), 19);
+    assert!(rt; ascii.good().is_ok());
+    for part in [b"".as_slice(), b"1", b"03", b"0312"] {
+        let mut value = Vec::new(rt.alloc());
+        assert_eq!(rt;
+            append_value(&ascii, part, &mut value),
+            Ok(None),
+            "{part:?}"
+        );
+    }
+    Ok(())
+}

@@ -1,0 +1,213 @@
+//! Values and the parts that stand for them.
+
+use super::*;
+
+/// A row and a value, and the part that stands for it.
+#[derive(Drop)]
+struct Case {
+    name: &'static str,
+    row: FieldSpec,
+    value: &'static [u8],
+    part: &'static [u8],
+}
+
+fn parts() -> [Case; 19] {
+    let (ascii, bcd) = (Digits::Ascii, Digits::Bcd);
+    [
+        Case {
+            name: "an odd number under BCD",
+            row: number(Coding::Bcd, Length::LL(bcd), 19),
+            value: b"378282246310005",
+            part: b"\x15\x03\x78\x28\x22\x46\x31\x00\x05",
+        },
+        Case {
+            name: "an even number under BCD",
+            row: number(Coding::Bcd, Length::Fixed, 4),
+            value: b"0102",
+            part: b"\x01\x02",
+        },
+        Case {
+            name: "three digits of a length under BCD",
+            row: row(
+                CharClass::ANS,
+                Coding::Ascii,
+                Length::LLL(bcd),
+                120,
+                Pad::None,
+            ),
+            value: b"0002840C000000004000",
+            part: b"\x00\x200002840C000000004000",
+        },
+        Case {
+            name: "three raw bytes",
+            row: bytes(Coding::Raw, Length::LLL(bcd), 999),
+            value: b"\x9F\x26\x08",
+            part: b"\x00\x03\x9F\x26\x08",
+        },
+        Case {
+            name: "eight bytes as digits",
+            row: bytes(Coding::HexText, Length::Fixed, 8),
+            value: b"\x01\x23\x45\x67\x89\xAB\xCD\xEF",
+            part: b"0123456789ABCDEF",
+        },
+        Case {
+            name: "two bytes as digits behind a length",
+            row: bytes(Coding::HexText, Length::LL(ascii), 8),
+            value: b"\x0A\xB0",
+            part: b"020AB0",
+        },
+        Case {
+            name: "a signed amount",
+            row: row(CharClass::XN, Coding::Ascii, Length::Fixed, 9, Pad::None),
+            value: b"D00000150",
+            part: b"D00000150",
+        },
+        Case {
+            name: "an empty number",
+            row: number(Coding::Ascii, Length::LL(ascii), 19),
+            value: b"",
+            part: b"00",
+        },
+        Case {
+            name: "an empty signed amount",
+            row: row(
+                CharClass::XN,
+                Coding::Ascii,
+                Length::LL(ascii),
+                9,
+                Pad::None,
+            ),
+            value: b"",
+            part: b"00",
+        },
+        Case {
+            name: "zeros on the left",
+            row: zero_filled(Coding::Ascii),
+            value: b"12",
+            part: b"000012",
+        },
+        Case {
+            name: "zeros on the left alone",
+            row: zero_filled(Coding::Ascii),
+            value: b"",
+            part: b"000000",
+        },
+        Case {
+            name: "zeros on the left under BCD",
+            row: zero_filled(Coding::Bcd),
+            value: b"123",
+            part: b"\x00\x01\x23",
+        },
+        Case {
+            name: "a pad on the right under BCD",
+            row: row(
+                CharClass::Z,
+                Coding::Bcd,
+                Length::Fixed,
+                5,
+                Pad::Right(b'?'),
+            ),
+            value: b"4=1",
+            part: b"\x04\xD1\xFF",
+        },
+        Case {
+            name: "a track under BCD",
+            row: row(CharClass::Z, Coding::Bcd, Length::LL(bcd), 37, Pad::None),
+            value: b"4=1",
+            part: b"\x03\x04\xD1",
+        },
+        Case {
+            name: "a terminal with blanks",
+            row: terminal(),
+            value: b"TERM1",
+            part: b"TERM1   ",
+        },
+        Case {
+            name: "blanks alone",
+            row: terminal(),
+            value: b"",
+            part: b"        ",
+        },
+        Case {
+            name: "a terminal of full length",
+            row: terminal(),
+            value: b"TERMINAL",
+            part: b"TERMINAL",
+        },
+        Case {
+            name: "letters and digits",
+            row: row(CharClass::AN, Coding::Ascii, Length::Fixed, 3, Pad::None),
+            value: b"8aZ",
+            part: b"8aZ",
+        },
+        Case {
+            name: "letters behind three digits of a length",
+            row: row(
+                CharClass::A,
+                Coding::Ascii,
+                Length::LLL(ascii),
+                999,
+                Pad::None,
+            ),
+            value: b"Abc",
+            part: b"003Abc",
+        },
+    ]
+}
+
+#[test]
+fn values_are_written(rt: HostRuntime) -> Result<(), Fail> {
+    for case in &parts() {
+        let name = case.name;
+        assert!(rt; case.row.good().is_ok(), "{name}");
+        let mut out = Vec::from_slice(rt.alloc(), b"before")?;
+        encode_field(&case.row, case.value, &mut out)?;
+        let expected = [b"before", case.part].concat(rt.alloc())?;
+        assert_eq!(rt; out.as_slice(), expected.as_slice(), "{name}");
+    }
+    Ok(())
+}
+
+#[test]
+fn parts_are_read(rt: HostRuntime) -> Result<(), Fail> {
+    for case in &parts() {
+        let name = case.name;
+        assert!(rt; case.row.good().is_ok(), "{name}");
+        let longer = [case.part, b"7?"].concat(rt.alloc())?;
+        match decode_field(rt.alloc(), &case.row, &longer)? {
+            Step::Got { value, used } => {
+                assert_eq!(rt; value.as_slice(), case.value, "{name}");
+                assert_eq!(rt; used, case.part.len(), "{name}");
+            }
+            Step::More => return Err(name)?,
+        }
+    }
+    Ok(())
+}
+
+#[test]
+fn other_spellings_are_read(rt: HostRuntime) -> Result<(), Fail> {
+    let cases = [
+        Case {
+            name: "filler F",
+            row: number(Coding::Bcd, Length::LL(Digits::Bcd), 19),
+            value: b"378282246310005",
+            part: b"\x15\xF3\x78\x28\x22\x46\x31\x00\x05",
+        },
+        Case {
+            name: "digits in lower case",
+            row: bytes(Coding::HexText, Length::Fixed, 8),
+            value: b"\x01\x23\x45\x67\x89\xAB\xCD\xEF",
+            part: b"0123456789abcdef",
+        },
+    ];
+    for case in &cases {
+        let name = case.name;
+        assert!(rt; case.row.good().is_ok(), "{name}");
+        let mut value = Vec::new(rt.alloc());
+        let used = append_value(&case.row, case.part, &mut value)?;
+        assert_eq!(rt; used, Some(case.part.len()), "{name}");
+        assert_eq!(rt; value.as_slice(), case.value, "{name}");
+    }
+    Ok(())
+}
