@@ -15,8 +15,8 @@ pub record Going (t : Layout) (h : Header) (unread left held written : Option (L
   pub reports : Reports t report bodies
 
 -- each turn was taken by a read or a write, and moved a byte; none failed
-pub record Running (r0 r w0 w : Counts) (turns left : ℕ) : Type 0 where
-  pub calls : r.calls + w.calls + left ≡ r0.calls + w0.calls + turns
-  pub moved : r.calls + w.calls + (r0.moved + w0.moved) ≤ r0.calls + w0.calls + (r.moved + w.moved)
-  pub reader : r.failures ≡ r0.failures
-  pub writer : w.failures ≡ w0.failures
+pub record Running (reader_old r writer_old w : Counts) (turns left : ℕ) : Type 0 where
+  pub calls : r.calls + w.calls + left ≡ reader_old.calls + writer_old.calls + turns
+  pub moved : r.calls + w.calls + (reader_old.moved + writer_old.moved) ≤ reader_old.calls + writer_old.calls + (r.moved + w.moved)
+  pub reader : r.failures ≡ reader_old.failures
+  pub writer : w.failures ≡ writer_old.failures

@@ -230,8 +230,8 @@ going_more t h unread left held written after old mid new before report items bo
   reports = reports_more t before report going.bodies body going.reports reports;
 }
 
-pub running_write : (r0 r w0 w w' : Counts) (turns left left' : ℕ) → Running r0 r w0 w turns left → Spends w w' left left' → Running r0 r w0 w' turns left'
-running_write r0 r w0 w w' turns left left' running spends = record {
+pub running_write : (reader_old r writer_old w w' : Counts) (turns left left' : ℕ) → Running reader_old r writer_old w turns left → Spends w w' left left' → Running reader_old r writer_old w' turns left'
+running_write reader_old r writer_old w w' turns left left' running spends = record {
   calls = omega (arith, running.calls, spends.calls);
   moved = omega (arith, running.moved, spends.moved);
   reader = running.reader;
@@ -292,14 +292,14 @@ ends_whole t h unread left later held written old new report rest buffer after n
     )
 
 -- and neither stream failed
-pub ends_without_failure : (r0 r r' w0 w : Counts) (turns left left' n : ℕ) (rest : List ℕ) (report : Report) (result : Result Report ServeFault) → Running r0 r w0 w turns left
-    → SpendsOnRead r r' left left' (Ok n) → Ends rest report result → Cause r0 r' w0 w turns result
-ends_without_failure r0 r r' w0 w turns left left' n rest report (Ok x) running reads ends = record { reader = reads.0.failures ∙ running.reader; writer = running.writer }
-ends_without_failure r0 r r' w0 w turns left left' n rest report (Err e) running reads ends =
-    subst (λ (x : ServeFault). Cause r0 r' w0 w turns (Err x)) (sym ends.1) (record { reader = reads.0.failures ∙ running.reader; writer = running.writer })
+pub ends_without_failure : (reader_old r r' writer_old w : Counts) (turns left left' n : ℕ) (rest : List ℕ) (report : Report) (result : Result Report ServeFault) → Running reader_old r writer_old w turns left
+    → SpendsOnRead r r' left left' (Ok n) → Ends rest report result → Cause reader_old r' writer_old w turns result
+ends_without_failure reader_old r r' writer_old w turns left left' n rest report (Ok x) running reads ends = record { reader = reads.0.failures ∙ running.reader; writer = running.writer }
+ends_without_failure reader_old r r' writer_old w turns left left' n rest report (Err e) running reads ends =
+    subst (λ (x : ServeFault). Cause reader_old r' writer_old w turns (Err x)) (sym ends.1) (record { reader = reads.0.failures ∙ running.reader; writer = running.writer })
 
-pub running_read : (r0 r r' w0 w : Counts) (turns left left' n : ℕ) → Running r0 r w0 w turns left → SpendsOnRead r r' left left' (Ok n) → (n ≡ 0 → ⊥) → Running r0 r' w0 w turns left'
-running_read r0 r r' w0 w turns left left' n running reads some = record {
+pub running_read : (reader_old r r' writer_old w : Counts) (turns left left' n : ℕ) → Running reader_old r writer_old w turns left → SpendsOnRead r r' left left' (Ok n) → (n ≡ 0 → ⊥) → Running reader_old r' writer_old w turns left'
+running_read reader_old r r' writer_old w turns left left' n running reads some = record {
   calls = omega (arith, running.calls, reads.0.calls, reads.1);
   moved = omega (arith, running.moved, reads.0.calls, reads.0.moved);
   reader = reads.0.failures ∙ running.reader;

@@ -89,21 +89,21 @@ module _ (t : Layout) (h : Header) (unread left held written : Option (List ℕ)
 -- ---- the cause of each end
 
 -- neither stream failed
-pub record NoFailure (r0 r1 w0 w1 : Counts) : Type 0 where
-  pub reader : r1.failures ≡ r0.failures
-  pub writer : w1.failures ≡ w0.failures
+pub record NoFailure (reader_old reader_new writer_old writer_new : Counts) : Type 0 where
+  pub reader : reader_new.failures ≡ reader_old.failures
+  pub writer : writer_new.failures ≡ writer_old.failures
 
 -- each turn was taken by a read or a write, and moved a byte
-pub record TookTurns (r0 r1 w0 w1 : Counts) (turns : ℕ) : Type 0 where
-  pub calls : r1.calls + w1.calls ≡ r0.calls + w0.calls + turns
-  pub moved : turns + (r0.moved + w0.moved) ≤ r1.moved + w1.moved
+pub record TookTurns (reader_old reader_new writer_old writer_new : Counts) (turns : ℕ) : Type 0 where
+  pub calls : reader_new.calls + writer_new.calls ≡ reader_old.calls + writer_old.calls + turns
+  pub moved : turns + (reader_old.moved + writer_old.moved) ≤ reader_new.moved + writer_new.moved
 
 -- a failure is told only where the stream failed, and every other answer only where neither did
 abbrev pub Cause : Counts → Counts → Counts → Counts → ℕ → Result Report ServeFault → Type 0
-Cause r0 r1 w0 w1 turns (Ok report) = NoFailure r0 r1 w0 w1
-Cause r0 r1 w0 w1 turns (Err Read) = r0.failures < r1.failures
-Cause r0 r1 w0 w1 turns (Err Write) = w0.failures < w1.failures
-Cause r0 r1 w0 w1 turns (Err BadHeader) = NoFailure r0 r1 w0 w1
-Cause r0 r1 w0 w1 turns (Err CutFrame) = NoFailure r0 r1 w0 w1
-Cause r0 r1 w0 w1 turns (Err Memory) = NoFailure r0 r1 w0 w1
-Cause r0 r1 w0 w1 turns (Err TooManyTurns) = NoFailure r0 r1 w0 w1 × TookTurns r0 r1 w0 w1 turns
+Cause reader_old reader_new writer_old writer_new turns (Ok report) = NoFailure reader_old reader_new writer_old writer_new
+Cause reader_old reader_new writer_old writer_new turns (Err Read) = reader_old.failures < reader_new.failures
+Cause reader_old reader_new writer_old writer_new turns (Err Write) = writer_old.failures < writer_new.failures
+Cause reader_old reader_new writer_old writer_new turns (Err BadHeader) = NoFailure reader_old reader_new writer_old writer_new
+Cause reader_old reader_new writer_old writer_new turns (Err CutFrame) = NoFailure reader_old reader_new writer_old writer_new
+Cause reader_old reader_new writer_old writer_new turns (Err Memory) = NoFailure reader_old reader_new writer_old writer_new
+Cause reader_old reader_new writer_old writer_new turns (Err TooManyTurns) = NoFailure reader_old reader_new writer_old writer_new × TookTurns reader_old reader_new writer_old writer_new turns
