@@ -48,7 +48,7 @@ fn a_table_is_checked(rt: HostRuntime) -> Result<(), Fail> {
         },
         Case {
             name: "an unknown command",
-            words: &["run", "ascii87", "accounts.json", "ascii4"],
+            words: &["serve", "ascii87", "accounts.json", "ascii4", "8583", "1"],
             input: b"",
             status: 2,
             output: b"",
