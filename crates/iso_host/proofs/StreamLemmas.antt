@@ -18,7 +18,7 @@ appends_more a b c bs at n p q = subst (Appends a c) (sym (take-add at n bs)) (A
 
 -- one more call, which moved a byte
 pub moves_more : (old mid new : Counts) (count n : ℕ) → Moves old mid count → 0 < n
-    → new ≡ record { calls = mid.calls + 1; moved = mid.moved + n; failures = mid.failures } → Moves old new (count + n)
+    → new ≡ record mid { calls = mid.calls + 1; moved = mid.moved + n; unflushed = mid.unflushed + n } → Moves old new (count + n)
 moves_more old mid new count n s k e =
     let calls : new.calls ≡ mid.calls + 1 = ap (λ (c : Counts). c.calls) e in
     let moved : new.moved ≡ mid.moved + n = ap (λ (c : Counts). c.moved) e in
@@ -27,7 +27,7 @@ moves_more old mid new count n s k e =
 
 -- one more call, which moved a byte and took a turn
 pub spends_more : (old mid new : Counts) (before left n : ℕ) → Spends old mid before left → 0 < left → 0 < n
-    → new ≡ record { calls = mid.calls + 1; moved = mid.moved + n; failures = mid.failures } → Spends old new before (left - 1)
+    → new ≡ record mid { calls = mid.calls + 1; moved = mid.moved + n; unflushed = mid.unflushed + n } → Spends old new before (left - 1)
 spends_more old mid new before left n s h k e =
     let calls : new.calls ≡ mid.calls + 1 = ap (λ (c : Counts). c.calls) e in
     let moved : new.moved ≡ mid.moved + n = ap (λ (c : Counts). c.moved) e in

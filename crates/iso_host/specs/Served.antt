@@ -86,6 +86,18 @@ module _ (t : Layout) (h : Header) (unread left held written : Option (List ℕ)
   Outcome (Err Memory) = Cut
   Outcome (Err TooManyTurns) = Cut
 
+-- ---- flushing
+
+-- no more bytes wait for a flush than before, wherever all answers were written
+abbrev pub Flushes : Counts → Counts → Result Report ServeFault → Type 0
+Flushes old new (Ok report) = new.unflushed ≤ old.unflushed
+Flushes old new (Err Read) = new.unflushed ≤ old.unflushed
+Flushes old new (Err BadHeader) = new.unflushed ≤ old.unflushed
+Flushes old new (Err CutFrame) = new.unflushed ≤ old.unflushed
+Flushes old new (Err Write) = Unit {0}
+Flushes old new (Err Memory) = Unit {0}
+Flushes old new (Err TooManyTurns) = Unit {0}
+
 -- ---- the cause of each end
 
 -- neither stream failed

@@ -19,7 +19,7 @@ pub record Moves (old new : Counts) (count : ℕ) : Type 0 where
   pub moved : new.moved ≡ old.moved + count
   pub failures : new.failures ≡ old.failures
 
--- at Ok each byte was moved and no call failed, else the last call failed and no other
+-- at Ok each byte was moved and flushed and no call failed, else the last call failed and no other
 abbrev pub CountsWhole : {T E : Type 0} → Counts → Counts → List ℕ → Result T E → Type 0
-CountsWhole old new bytes (Ok x) = Moves old new (length bytes)
+CountsWhole old new bytes (Ok x) = Moves old new (length bytes) × (new.unflushed ≡ 0)
 CountsWhole old new bytes (Err e) = new.failures ≡ old.failures + 1

@@ -8,10 +8,14 @@ use std::marker::Model;
 /// What one call of a stream did.
 #[derive(Clone, Copy, Debug, PartialEq, Eq, Drop)]
 pub enum Call {
-    /// A read or a write moved so many bytes.
-    Moved(usize),
+    /// A read gave so many bytes.
+    Read(usize),
+    /// A write took so many bytes.
+    Wrote(usize),
     /// A read or a write failed, and moved nothing.
     Failed,
+    /// A flush passed on all that was written.
+    Flushed,
     /// A flush failed, which is no read and no write.
     FlushFailed,
 }

@@ -1,8 +1,8 @@
 //! The engine: frames from a reader, and the frames of their responses to a writer.
-ghost use Rattle.std.specs.Prelude.{OnOk};
+ghost use Rattle.std.specs.Prelude.{◌≡◌, ◌≤◌, OnOk};
 ghost use Rattle.iso_table.specs.HostReady.{IsHostReady};
 ghost use Rattle.iso_host.specs.Asking.{asked_of};
-ghost use Rattle.iso_host.specs.Served.{Outcome, Cause, ReportsOneMore};
+ghost use Rattle.iso_host.specs.Served.{Outcome, Cause, Flushes, ReportsOneMore};
 ghost use Rattle.iso_host.specs.Serving.{AnswersInto, SpendsOnWrite, Ends};
 ghost use Rattle.iso_host.specs.Writing.{WritesFront};
 
@@ -27,6 +27,7 @@ const NO_FRAMES: Report = Report {
 fn write_whole<W: Outlet>(writer: &mut W, bytes: &[u8], left: &mut u64) -> Result<(), ServeFault>
     ensures written { WritesFront (W.contents writer.old) (W.contents writer.new) bytes.now result }
     ensures spent { SpendsOnWrite (W.counts writer.old) (W.counts writer.new) left.old left.new result }
+    ensures flushed { OnOk result ((W.counts writer.new).unflushed ≡ 0) }
 {
     let mut at = 0;
     while at < bytes.len() {
@@ -59,6 +60,7 @@ fn answer_body<W: Outlet>(
     requires { IsHostReady table.now }
     ensures answered { AnswersInto table.now header issuer.old issuer.new body.now (W.contents writer.old) (W.contents writer.new) result }
     ensures spent { SpendsOnWrite (W.counts writer.old) (W.counts writer.new) left.old left.new result }
+    ensures flushed { OnOk result ((W.counts writer.new).unflushed ≤ (W.counts writer.old).unflushed) }
     ensures report { OnOk result (ReportsOneMore report.old report.new (asked_of table.now body.now)) }
 {
     let Ok(handled) = handle_body(alloc, table, header, issuer, body) else {
@@ -117,6 +119,8 @@ pub fn serve<R: Inlet, W: Outlet>(
     // What was read, written and entered, by how it ends.
     ensures outcome { Outcome table.now header (R.remaining reader.old) (R.remaining reader.new)
         (W.contents writer.old) (W.contents writer.new) issuer.old issuer.new result }
+    // Each answer is flushed.
+    ensures flushed { Flushes (W.counts writer.old) (W.counts writer.new) result }
     // Each end has its cause in the counts of the two streams.
     ensures cause { Cause (R.counts reader.old) (R.counts reader.new)
         (W.counts writer.old) (W.counts writer.new) turns result }

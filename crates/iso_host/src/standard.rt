@@ -37,7 +37,7 @@ impl<S: Read> Inlet for Std<S> {
     fn read(&mut self, buffer: &mut [u8]) -> Result<usize, Failed> {
         match self.stream.read(buffer) {
             Ok(count) => {
-                self.tally = self.tally.then(&Call::Moved(count));
+                self.tally = self.tally.then(&Call::Read(count));
                 Ok(count)
             }
             Err(_) => {
@@ -56,7 +56,7 @@ impl<S: Write> Outlet for Std<S> {
     fn write(&mut self, bytes: &[u8]) -> Result<usize, Failed> {
         match self.stream.write(bytes) {
             Ok(count) if count > 0 || bytes.is_empty() => {
-                self.tally = self.tally.then(&Call::Moved(count));
+                self.tally = self.tally.then(&Call::Wrote(count));
                 Ok(count)
             }
             _ => {
@@ -68,7 +68,10 @@ impl<S: Write> Outlet for Std<S> {
 
     fn flush(&mut self) -> Result<(), Failed> {
         match self.stream.flush() {
-            Ok(()) => Ok(()),
+            Ok(()) => {
+                self.tally = self.tally.then(&Call::Flushed);
+                Ok(())
+            }
             Err(_) => {
                 self.tally = self.tally.then(&Call::FlushFailed);
                 Err(Failed)

@@ -32,7 +32,7 @@ pub trait Outlet {
     // The bytes that the writer holds, where they are known.
     ghost contents: { Self → Option (List ℕ) };
 
-    // The writes made, the bytes that they took, and the failures of writes and flushes.
+    // The writes made, the bytes that they took, the failures of writes and flushes, and the bytes that wait for a flush.
     ghost counts: { Self → Counts };
 
     /// Writes some of the bytes, from the front on, and gives how many. At least one is taken of at least one.

@@ -12,6 +12,7 @@ frames-init g c = record {
     reports = record { frames = refl; answered = refl; silent = refl; unreadable = refl };
   };
   running = record { calls = omega arith; moved = omega arith; reader = refl; writer = refl };
+  flushed = omega arith;
 }
 
 pub returns-in-Err-answered-clause-outcome : goal.returns-in-Err-answered-clause-outcome
@@ -39,6 +40,7 @@ frames-preserved-in-Ok-Got g c =
       in_range = omega (arith, within.1, length-drop c.frames.at c.frames.buffer.items, c.frames.buffer.ok.0);
       going = going_more _ _ _ _ _ _ _ _ _ _ _ _ _ _ _ _ c.frames.invariant.going begins e.answered e.report;
       running = running_write _ _ _ _ _ _ _ _ c.frames.invariant.running e.spent;
+      flushed = omega (arith, e.flushed, c.frames.invariant.flushed);
     }
 
 pub returns-in-Err-read_more-clause-outcome : goal.returns-in-Err-read_more-clause-outcome
@@ -61,4 +63,5 @@ frames-preserved g c =
       in_range = omega arith;
       going = going_read _ _ _ _ _ _ _ _ _ _ _ _ _ _ c.frames.invariant.going c.drop_front.ensures e.bytes;
       running = running_read _ _ _ _ _ _ _ _ _ c.frames.invariant.running e.spent c.in-Ok.field-0-test.1;
+      flushed = c.frames.invariant.flushed;
     }

@@ -9,6 +9,7 @@ invariant-frames g l = record {
       (g.W.Outlet.contents l.writer) l.initial.issuer l.issuer l.report (drop l.at l.buffer.items);
   running : Running (g.R.Inlet.counts l.initial.reader) (g.R.Inlet.counts l.reader) (g.W.Outlet.counts l.initial.writer)
       (g.W.Outlet.counts l.writer) l.turns l.left;
+  flushed : (g.W.Outlet.counts l.writer).unflushed ≤ (g.W.Outlet.counts l.initial.writer).unflushed;
 }
 
 abbrev pub decreases-frames : goal.decreases-frames
