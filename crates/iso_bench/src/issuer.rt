@@ -1,0 +1,156 @@
+//! The speed of the issuer.
+
+use crate::orders::{accounts, purchase, reversal};
+use crate::speed::Speed;
+use anyhow::{Result, ensure};
+use iso_issuer::Issuer;
+use iso_order::Order;
+use std::alloc::Global;
+use std::rt::Clock;
+use std::time::Instant;
+
+/// The most entries of the journal.
+const LIMIT: u32 = 999_999;
+
+/// How many orders of each kind are measured, unless the journal has fewer entries.
+const SAMPLE: u32 = 2000;
+
+/// An issuer, and how many orders of each kind it was handed.
+#[derive(Drop)]
+struct Load {
+    issuer: Issuer,
+    purchases: u32,
+    reversals: u32,
+}
+
+/// Hands the orders over, each of which has to be granted.
+fn handed(rt: &impl Clock, issuer: &mut Issuer, orders: &[Order]) -> Result<Speed> {
+    let start = Instant::now(rt)?;
+    for order in orders {
+        let answer = issuer.handle(*order)?;
+        ensure!(answer.code == 0, "an order isn't granted");
+    }
+    Speed::since(rt, start, orders.len() as u64)
+}
+
+/// The place of the `i`th of `count` that are spread over the places from `from` to `to`.
+fn spread(from: u32, to: u32, count: u32, i: u32) -> u32 {
+    let step = to.saturating_sub(from) / count.max(1);
+    from.saturating_add(step.saturating_mul(i))
+}
+
+/// Purchases that were handed over, spread over all of them.
+fn repeats(alloc: Global, purchases: u32, count: u32) -> Result<Vec<Order>> {
+    let mut orders = Vec::new(alloc);
+    for i in 0..count {
+        orders.push(purchase(spread(0, purchases, count, i))?)?;
+    }
+    Ok(orders)
+}
+
+/// The next purchases.
+fn purchases(alloc: Global, from: u32, count: u32) -> Result<Vec<Order>> {
+    let mut orders = Vec::new(alloc);
+    for i in 0..count {
+        orders.push(purchase(from.saturating_add(i))?)?;
+    }
+    Ok(orders)
+}
+
+/// The next reversals, of purchases that are spread over those from `from` to `to`.
+fn reversals(alloc: Global, next: u32, from: u32, to: u32, count: u32) -> Result<Vec<Order>> {
+    let mut orders = Vec::new(alloc);
+    for i in 0..count {
+        let original = spread(from, to, count, i);
+        orders.push(reversal(next.saturating_add(i), original)?)?;
+    }
+    Ok(orders)
+}
+
+impl Load {
+    fn new(alloc: Global) -> Result<Load> {
+        Ok(Load {
+            issuer: Issuer::new(accounts(alloc)?, LIMIT),
+            purchases: 0,
+            reversals: 0,
+        })
+    }
+
+    /// Hands over purchases until the journal has so many entries.
+    fn fill(&mut self, size: u32) -> Result<()> {
+        let missing = size.saturating_sub(self.issuer.len());
+        let end = self.purchases.saturating_add(missing);
+        for n in self.purchases..end {
+            self.issuer.handle(purchase(n)?)?;
+        }
+        self.purchases = end;
+        Ok(())
+    }
+
+    /// Hands over so many new purchases.
+    fn hand_new(&mut self, rt: &impl Clock, alloc: Global, count: u32) -> Result<Speed> {
+        let orders = purchases(alloc, self.purchases, count)?;
+        self.purchases = self.purchases.saturating_add(count);
+        handed(rt, &mut self.issuer, &orders)
+    }
+
+    /// Hands over so many purchases again.
+    fn hand_again(&mut self, rt: &impl Clock, alloc: Global, count: u32) -> Result<Speed> {
+        let orders = repeats(alloc, self.purchases, count)?;
+        handed(rt, &mut self.issuer, &orders)
+    }
+
+    /// Hands over so many reversals, of purchases behind the first `from`.
+    fn hand_reversals(
+        &mut self,
+        rt: &impl Clock,
+        alloc: Global,
+        from: u32,
+        count: u32,
+    ) -> Result<Speed> {
+        let orders = reversals(alloc, self.reversals, from, self.purchases, count)?;
+        self.reversals = self.reversals.saturating_add(count);
+        handed(rt, &mut self.issuer, &orders)
+    }
+}
+
+/// Prints what one order took.
+fn print(rt: &impl Print, kind: &str, entries: u32, speed: Speed) -> Result<()> {
+    let nanos = speed.nanos_each();
+    let each_second = speed.each_second();
+    println!(rt; "{kind} entries={entries} nanoseconds={nanos} orders_per_second={each_second}")?;
+    Ok(())
+}
+
+/// Measures purchases until the journal has so many entries.
+fn measure_fill(rt: &(impl Clock + Print), load: &mut Load, size: u32) -> Result<()> {
+    let entries = load.issuer.len();
+    if size <= entries {
+        return Ok(());
+    }
+    let start = Instant::now(rt)?;
+    load.fill(size)?;
+    let speed = Speed::since(rt, start, u64::from(size - entries))?;
+    print(rt, "fill", size, speed)
+}
+
+/// Measures orders of each kind at that size. Reversed are purchases that came since the size before.
+fn measure_at(rt: &(impl Clock + Print), alloc: Global, load: &mut Load, size: u32) -> Result<()> {
+    let from = load.purchases;
+    measure_fill(rt, load, size)?;
+    let entries = load.issuer.len();
+    let count = entries.min(SAMPLE);
+    print(rt, "new", entries, load.hand_new(rt, alloc, count)?)?;
+    print(rt, "repeat", entries, load.hand_again(rt, alloc, count)?)?;
+    let speed = load.hand_reversals(rt, alloc, from, count)?;
+    print(rt, "reversal", entries, speed)
+}
+
+/// Measures orders of each kind, size by size.
+pub fn measure(rt: &(impl Clock + Print), alloc: Global, sizes: &[u32]) -> Result<()> {
+    let mut load = Load::new(alloc)?;
+    for size in sizes {
+        measure_at(rt, alloc, &mut load, *size)?;
+    }
+    Ok(())
+}

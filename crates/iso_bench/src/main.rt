@@ -1,0 +1,41 @@
+//! How fast the libraries are.
+//!
+//! - `codec TIMES`: messages are read and written, so many times
+//! - `issuer SIZE ..`: orders are handed to an issuer whose journal has so many entries, one size after the other
+//!
+//! Each line is one measure. Without words, or with others, it says how it is called.
+#![tactic(auto)]
+
+mod codec;
+mod issuer;
+mod messages;
+mod orders;
+mod speed;
+mod words;
+
+use anyhow::{Context, Result};
+use std::alloc::AllocError;
+use std::env;
+use words::{Job, job_of};
+
+const USAGE: &str = "usage: iso_bench codec TIMES | iso_bench issuer SIZE ..";
+
+/// The words behind the program's name.
+fn given_words(rt: &HostRuntime) -> Result<Vec<String>> {
+    let words = env::args(rt).context("reading the words")?;
+    let words: Result<Vec<String>, AllocError> = words.skip(1).collect(rt.alloc());
+    Ok(words?)
+}
+
+fn main(rt: HostRuntime) -> Result<()> {
+    let alloc = rt.alloc();
+    let words = given_words(&rt)?;
+    match job_of(alloc, &words)? {
+        Some(Job::Codec { times }) => codec::measure(&rt, alloc, times),
+        Some(Job::Issuer { sizes }) => issuer::measure(&rt, alloc, &sizes),
+        None => {
+            println!(rt; "{USAGE}")?;
+            Ok(())
+        }
+    }
+}

@@ -1,0 +1,64 @@
+//! The orders that an issuer is handed, and its accounts.
+
+use anyhow::{Context, Result};
+use iso_issuer::Accounts;
+use iso_order::{Act, Money, Order, Pan, TxKey};
+use iso_wire::write_decimal;
+use std::alloc::Global;
+
+/// How many accounts there are.
+const ACCOUNTS: u32 = 1000;
+
+/// The number of the first account.
+const FIRST: u64 = 4_000_000_000_000_000;
+
+/// How many trace numbers there are.
+const STANS: u64 = 1_000_000;
+
+/// No divisor of `STANS` but 1 divides it: its multiples go through all trace numbers, far from one another.
+const STRIDE: u64 = 7919;
+
+/// The accounts, on each of which is enough for every order.
+pub fn accounts(alloc: Global) -> Result<Accounts> {
+    let mut text = String::new(alloc);
+    text.push_str("{\"accounts\":[")?;
+    for i in 0..ACCOUNTS {
+        let comma = if i == 0 { "" } else { "," };
+        let pan = FIRST + u64::from(i);
+        let row = "\"currency\":\"840\",\"opening\":9000000000000";
+        write!(text, "{comma}{{{row},\"pan\":\"{pan}\"}}")?;
+    }
+    text.push_str("]}")?;
+    Ok(Accounts::from_json(alloc, text.as_bytes())?)
+}
+
+/// An amount on the account of the `n`th order.
+fn money(n: u32) -> Result<Money> {
+    let mut digits = [0; 16];
+    write_decimal(&mut digits, FIRST + u64::from(n % ACCOUNTS));
+    Ok(Money {
+        pan: Pan::from_digits(&digits).context("16 digits")?,
+        amount: 1000,
+        currency: *b"840",
+    })
+}
+
+/// The key of the `n`th order of that type. Of one type the first million differ.
+fn key(base: u16, n: u32) -> TxKey {
+    TxKey {
+        base,
+        stan: (u64::from(n) * STRIDE % STANS) as u32,
+        sent: 102_030_405,
+        acquirer: 12_345,
+    }
+}
+
+/// The `n`th purchase.
+pub fn purchase(n: u32) -> Result<Order> {
+    Order::new(key(200, n), Act::Debit(money(n)?)).context("a purchase")
+}
+
+/// The `n`th reversal, of that purchase.
+pub fn reversal(n: u32, purchase: u32) -> Result<Order> {
+    Order::new(key(420, n), Act::Undo(key(200, purchase))).context("a reversal")
+}
