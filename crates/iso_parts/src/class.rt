@@ -49,10 +49,15 @@ impl CharClass {
         }
     }
 
+    /// Whether each byte is of the class. The loop has no early end, so that many bytes are judged at a time.
     fn has_all(self, bytes: &[u8]) -> bool
         ensures { result ≡ list_all (is_member self) bytes.now }
     {
-        bytes.iter().all(|b| self.has(*b))
+        let mut all = true;
+        for b in bytes {
+            all &= self.has(*b);
+        }
+        all
     }
 
     /// Whether the bytes are a value of the class.
