@@ -14,4 +14,5 @@ pub mod Buffers
 pub mod Plain
 pub mod Stable
 pub mod PlainBitmaps
+pub mod SetBitmaps
 pub mod Sizes

@@ -1,7 +1,7 @@
 -- Bitmaps: which element numbers are in the set, and the bytes that say so (ISO 8583:1987, primary and secondary bitmap).
 use Rattle.std.specs.Prelude.{◌≡◌, ◌⊎◌, ℕ, ◌+◌, ◌-◌, ◌<◌, ◌≤◌, ◌==◌, ◌&&◌, nat_le, Bool, true, false, List, length, take, drop, Ok, if◌then◌else◌}
 use Rattle.std.specs.Int.{bit_at, w64, from_be_bytes}
-use Rattle.hex.specs.Hex.{decode_of, encode_upper}
+use Rattle.hex.specs.Hex.{IsBytes, decode_of, encode_upper}
 use Rattle.iso_parts.specs.declared.bitmap.Bitmap.{Bitmap}
 use Rattle.iso_parts.specs.declared.bitmap.BitmapCoding.{BitmapCoding}
 use Rattle.iso_parts.specs.declared.bitmap.BitmapCoding.TheVariants.{Raw, Hex}
@@ -79,10 +79,12 @@ abbrev pub in_coding : BitmapCoding → List ℕ → List ℕ
 in_coding Raw b = b
 in_coding Hex b = encode_upper b
 
--- the bytes are the bitmaps as they are written: a secondary one only where a number above 64 is in the set
+-- the bytes are the bitmaps as they are written: raw bytes in the coding, the secondary bitmap only where a number
+-- above 64 is in the set
 pub record PlainBitmaps (c : BitmapCoding) (set : ℕ → Bool) (b : List ℕ) : Type 0 where
   pub two : Bool
   pub raw : List ℕ
+  pub fits : IsBytes raw
   pub maps : Bitmaps Raw two set raw
   pub needed : two ≡ true → HasAbove set
   pub bytes : b ≡ in_coding c raw

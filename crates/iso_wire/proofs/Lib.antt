@@ -12,6 +12,7 @@ pub mod WalkLaws
 pub mod Loop
 pub mod Appends
 pub mod Packs
+pub mod PlainLaws
 pub mod Endings
 pub mod FrameHeaders
 pub mod FrameSplits

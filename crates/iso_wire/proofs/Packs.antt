@@ -66,6 +66,7 @@ plain_agree : (c : BitmapCoding) (set other : ℕ → Bool) (b : List ℕ) → (
 plain_agree c set other b agrees plain = record {
   two = plain.two;
   raw = plain.raw;
+  fits = plain.fits;
   maps = maps_agree Raw plain.two set other plain.raw agrees plain.maps;
   needed = λ is. let above = plain.needed is in (above.0, above.1, above.2, agrees above.0 (omega (arith, above.1)) above.2 ∙ above.3);
   bytes = plain.bytes;

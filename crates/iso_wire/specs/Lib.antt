@@ -6,6 +6,7 @@ pub mod Numbers
 pub mod Walk
 pub mod Spelling
 pub mod Refusal
+pub mod OneSpelling
 pub mod Faults
 pub mod Reading
 pub mod Frame

@@ -1,6 +1,33 @@
 //! Laws over the definitions. Their functions do nothing.
 
+ghost use Rattle.iso_wire.specs.Entries.{elements_of};
 ghost use Rattle.iso_wire.specs.Frame.{BadIsNoFrame, FirstOfSplit, SplitsBehind, SplitsOnce, SplitsSomehow};
+ghost use Rattle.iso_wire.specs.OneSpelling.{AreOfBytes, HasPlain, PlainOnce, WellFormed};
+
+use crate::elements::Entry;
+use crate::message::Message;
+
+/// The values in a buffer are of bytes.
+fn of_bytes(index: &[Entry], values: &[u8])
+    ensures { AreOfBytes (elements_of index.now values.now) }
+{}
+
+/// Each message is well formed: its type has four digits, its elements ascend, and their values are of bytes.
+pub fn well_formed(message: &Message)
+    ensures { WellFormed message.now }
+{
+    let _mti = message.mti();
+    let elements = message.parts();
+    of_bytes(&elements.index, &elements.values);
+}
+
+/// A well-formed message that the table doesn't refuse has one plain spelling, which `pack` writes.
+pub fn spelled_once()
+    // It has one.
+    ensures some { HasPlain }
+    // No message has two.
+    ensures once { PlainOnce }
+{}
 
 /// A stream of bytes is frames and a rest in one way.
 pub fn splits_once()

@@ -20,6 +20,7 @@ returns c =
     let plain : PlainBitmaps c.args.coding set (in_coding c.args.coding maps) = record {
       two = used == 16;
       raw = maps;
+      fits = fits;
       maps = c.write_raw-used.ensures.bytes;
       needed = needed used set c.write_raw-used.ensures.used;
       bytes = refl;
