@@ -41,7 +41,7 @@ fn joined(alloc: Global, pieces: &[&[u8]]) -> Result<Vec<u8>, Fail> {
     Ok(bytes)
 }
 
-/// An issuer of one account.
+/// An issuer of one account, whose journal takes five orders.
 fn issuer(alloc: Global) -> Result<Issuer, Fail> {
     Ok(Issuer::new(Accounts::from_json(alloc, ACCOUNTS)?, 5))
 }
@@ -249,5 +249,56 @@ fn nothing_to_serve(rt: HostRuntime) -> Result<(), Fail> {
         unreadable: 0,
     };
     assert_eq!(rt; ended, Ok(report));
+    Ok(())
+}
+
+#[test]
+fn a_full_journal_answers_ninety_six(rt: HostRuntime) -> Result<(), Fail> {
+    let alloc = rt.alloc();
+    let second: &[u8] =
+        b"0200722000010000800016411111111111111100000000000000100001020304050000100512345840";
+    let second_granted: &[u8] =
+        b"021072200001060080001641111111111111110000000000000010000102030405000010051234500000200840";
+    let third: &[u8] =
+        b"0200722000010000800016411111111111111100000000000000100001020304050000110512345840";
+    let third_refused: &[u8] =
+        b"021072200001020080001641111111111111110000000000000010000102030405000011051234596840";
+    let input = joined(
+        alloc,
+        &[
+            b"0082", PURCHASE, b"0082", second, b"0082", third, b"0082", REPEAT,
+        ],
+    )?;
+    let wanted = joined(
+        alloc,
+        &[
+            b"0090",
+            GRANTED,
+            b"0090",
+            second_granted,
+            b"0084",
+            third_refused,
+            b"0090",
+            GRANTED,
+        ],
+    )?;
+    let mut issuer = Issuer::new(Accounts::from_json(alloc, ACCOUNTS)?, 2);
+    let reader = FewBytes {
+        bytes: &input,
+        piece: 4096,
+        calls: 9,
+    };
+    let mut writer = FewTaken::new(alloc, 4096, 9, false);
+    let ended = served(alloc, &mut issuer, reader, &mut writer, 99)?;
+    let report = Report {
+        frames: 4,
+        answered: 4,
+        silent: 0,
+        unreadable: 0,
+    };
+    assert_eq!(rt; ended, Ok(report));
+    assert_eq!(rt; writer.taken.as_slice(), wanted.as_slice());
+    assert_eq!(rt; issuer.len(), 2);
+    assert_eq!(rt; ledger(&issuer)?, Some(3000));
     Ok(())
 }
