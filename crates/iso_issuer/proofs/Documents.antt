@@ -9,6 +9,8 @@ use Rattle.iso_order.specs.Order.{same_pan}
 use Rattle.iso_issuer.specs.declared.account.Account.{Account}
 use Rattle.iso_issuer.specs.declared.document.Listed.{Listed}
 use Rattle.iso_issuer.specs.Account.{account_of, HasDistinctNumbers}
+use Rattle.iso_issuer.specs.declared.balances.Balance.{Balance}
+use Rattle.iso_issuer.specs.Balances.{accounts_of, balance_at}
 use Rattle.iso_issuer.specs.declared.fault.AccountsFault.{AccountsFault}
 use Rattle.iso_issuer.specs.declared.fault.AccountsFault.TheVariants.{Twice, OutOfRange}
 use Rattle.iso_issuer.specs.Document.{listed_in, rows_in, is_listed, as_listed, is_out_of_range, row_fault, or_else, first_fault}
@@ -32,15 +34,16 @@ rows_more values i v row so_far total lt is judged =
 -- ---- numbers
 
 -- a number is listed where it has an account
-pub listed-found : (accounts : List Account) (pan : AccountNumber) → is_listed (map as_listed accounts) pan ≡ is_some (account_of accounts pan)
+pub listed-found : (balances : List Balance) (pan : AccountNumber) → is_listed (map as_listed (accounts_of balances)) pan ≡ is_some (balance_at balances pan)
 listed-found [] pan = refl
-listed-found (a ∷ later) pan = by_test (same_pan a.pan pan) (listed-found later pan)
+listed-found (b ∷ later) pan = by_test (same_pan b.account.pan pan) (listed-found later pan)
   where
-    by_test : (b : Bool) → is_listed (map as_listed later) pan ≡ is_some (account_of later pan) → (b || is_listed (map as_listed later) pan) ≡ is_some (cond b (Some a) (account_of later pan))
+    by_test : (t : Bool) → is_listed (map as_listed (accounts_of later)) pan ≡ is_some (balance_at later pan)
+        → (t || is_listed (map as_listed (accounts_of later)) pan) ≡ is_some (cond t (Some b) (balance_at later pan))
     by_test true known = refl
     by_test false known = known
 
-pub is_none-of : (o : Option Account) → is_some o ≡ false → o ≡ None
+pub is_none-of : {X : Type 0} (o : Option X) → is_some o ≡ false → o ≡ None
 is_none-of None h = refl
 is_none-of (Some a) h = cc
 

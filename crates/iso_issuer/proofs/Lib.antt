@@ -1,6 +1,12 @@
 pub mod Keys
+pub mod Places
+pub mod Index
+pub mod Changes
+pub mod Summed
 pub mod Firsts
 pub mod Entries
+pub mod Sums
+pub mod Room
 pub mod Runs
 mod Members
 mod Documents

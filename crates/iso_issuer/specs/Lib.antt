@@ -2,6 +2,8 @@ pub mod Range
 pub mod Account
 pub mod Journal
 pub mod Balance
+pub mod Balances
 pub mod Decision
 pub mod Books
+pub mod Index
 pub mod Document

@@ -2,39 +2,34 @@
 
 ghost use Rattle.std.specs.Prelude.{◌≡◌, ◌≢◌, IfOk, IfErr, IsErrOf, None, Some, map, [], option_map, if◌then◌else◌};
 ghost use Rattle.iso_issuer.specs.declared.fault.AccountsFault.TheVariants.{NotJson, Shape, Memory};
-ghost use Rattle.iso_issuer.specs.Account.{account_of, HasDistinctNumbers};
+ghost use Rattle.iso_issuer.specs.Account.{HasDistinctNumbers};
+ghost use Rattle.iso_issuer.specs.Balances.{accounts_of, opened};
 ghost use Rattle.iso_issuer.specs.Document.{is_out_of_range, first_fault, as_listed, IsNotJson, ListsAccounts, HasFault};
 
 use crate::account::Account;
+use crate::balances::Balances;
 use crate::document::{Listed, document_in, value_of};
 use crate::fault::AccountsFault;
-use iso_order::Pan;
 use std::alloc::Global;
 use std::marker::Model;
 
-/// The accounts of an issuer, no two of one number, in the order in which they were listed.
+/// The accounts of an issuer, no two of one number, in the order in which they were listed. The room
+/// for what an issuer keeps of each is part of them.
 #[derive(Drop)]
 pub struct Accounts {
-    accounts: Vec<Account>,
+    balances: Balances,
 }
 
 impl Model for Accounts {
-    ghost use Rattle.std.specs.Prelude.{List};
+    ghost use Rattle.std.specs.Prelude.{◌≡◌, List, map};
     ghost use Rattle.iso_issuer.specs.declared.account.Account.{Account};
-    ghost use Rattle.iso_issuer.specs.Account.{HasDistinctNumbers};
+    ghost use Rattle.iso_issuer.specs.Balances.{accounts_of, opened};
 
     ghost Value = { List Account };
 
-    ghost view = { λ a. a.accounts.items };
+    ghost view = { λ a. accounts_of a.balances };
 
-    ghost invariant = { λ a. HasDistinctNumbers a.accounts.items };
-}
-
-/// The account of a number, where there is one.
-pub fn account_of(accounts: &[Account], pan: Pan) -> Option<Account>
-    ensures { result ≡ account_of accounts.now pan }
-{
-    accounts.iter().copied().find(|a| a.pan == pan)
+    ghost invariant = { λ a. a.balances ≡ map opened (accounts_of a.balances) };
 }
 
 /// The most that an account may hold at first, in minor units, either way.
@@ -59,25 +54,25 @@ fn in_range(row: Listed) -> Option<Account>
     })
 }
 
-/// The listed accounts, each of which is in range and has a number of its own.
-fn judged(alloc: Global, listed: &[Listed]) -> Result<Vec<Account>, AccountsFault>
-    ensures ok { IfOk result (λ accounts. map as_listed accounts.items ≡ listed.now) }
-    ensures distinct { IfOk result (λ accounts. HasDistinctNumbers accounts.items) }
+/// The listed accounts as they are at first, each of which is in range and has a number of its own.
+fn judged(alloc: Global, listed: &[Listed]) -> Result<Balances, AccountsFault>
+    ensures ok { IfOk result (λ balances. map as_listed (accounts_of balances) ≡ listed.now) }
+    ensures opened { IfOk result (λ balances. balances ≡ map opened (accounts_of balances)) }
     ensures none { IfOk result (λ _. first_fault [] listed.now ≡ None) }
     ensures fault { IfErr result (λ e. e ≢ Memory → first_fault [] listed.now ≡ Some e) }
     ensures json { IsErrOf result AccountsFault.NotJson → ⊥ }
 {
-    let mut accounts = Vec::new(alloc);
+    let mut balances = Balances::new(alloc);
     for (i, row) in listed.iter().enumerate() {
         let Some(account) = in_range(*row) else {
             return Err(AccountsFault::OutOfRange(i));
         };
-        if account_of(&accounts, account.pan).is_some() {
+        if balances.get(account.pan).is_some() {
             return Err(AccountsFault::Twice(i));
         }
-        accounts.push(account)?;
+        balances.open(account)?;
     }
-    Ok(accounts)
+    Ok(balances)
 }
 
 impl Accounts {
@@ -92,18 +87,15 @@ impl Accounts {
     {
         let value = value_of(alloc, text)?;
         let listed = document_in(alloc, &value)?;
-        let accounts = judged(alloc, &listed)?;
-        Ok(Accounts { accounts })
+        let balances = judged(alloc, &listed)?;
+        Ok(Accounts { balances })
     }
 
-    pub(crate) fn as_slice(&self) -> &[Account]
-        ensures same { result.now ≡ self.now }
-        ensures distinct { HasDistinctNumbers self.now }
+    /// The balances of the accounts, as they are at first.
+    pub(crate) fn into_balances(self) -> Balances
+        ensures accounts { accounts_of result ≡ self }
+        ensures opened { result ≡ map opened self }
     {
-        self.accounts.as_slice()
-    }
-
-    pub(crate) fn allocator(&self) -> Global {
-        *self.accounts.allocator()
+        self.balances
     }
 }

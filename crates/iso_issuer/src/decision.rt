@@ -1,12 +1,14 @@
 //! How an order is answered, on the entries before it.
 
-ghost use Rattle.std.specs.Prelude.{◌≡◌, ◌<◌, ◌≤◌, length};
+ghost use Rattle.std.specs.Prelude.{◌≡◌, ◌<◌, ◌≤◌, List, Option, length, option_map};
+ghost use Rattle.iso_issuer.specs.declared.account.Account.{Account};
+ghost use Rattle.iso_issuer.specs.declared.journal.Entry.{Entry};
+ghost use Rattle.iso_issuer.specs.Balances.{accounts_of};
+ghost use Rattle.iso_issuer.specs.Index.{AreSums, balance_on};
 ghost use Rattle.iso_issuer.specs.Decision.{is_wide, amount_code, account_code, money_of, code_of, shown_by, new_answer, repeated};
 
-use crate::account::Account;
-use crate::accounts::account_of;
-use crate::balance::{available, available_at};
-use crate::journal::{Entry, is_reversed};
+use crate::balances::{Balance, Balances};
+use crate::journal::{Entry, Journal};
 use iso_order::{Act, Answer, Money, Order};
 
 /// Whether an amount has more than twelve digits.
@@ -17,21 +19,20 @@ fn is_wide(amount: i64) -> bool
 }
 
 /// The code on an account that is there and has the currency.
-fn amount_code(journal: &[Entry], order: Order, account: Account) -> u8
-    requires { length journal.now ≤ 999999 }
-    ensures value { result ≡ amount_code journal.now order.key order.act account }
+fn amount_code(order: Order, balance: Balance) -> u8
+    ensures value { (entries : List Entry) → (a : Account) → balance ≡ balance_on entries a → result ≡ amount_code entries order.key order.act a }
     ensures small { result ≤ 99 }
 {
     match order.act() {
         Act::Debit(money) => {
-            if order.key().function() == 0 && available(journal, account) < money.amount as i64 {
+            if order.key().function() == 0 && balance.available < money.amount as i64 {
                 51
             } else {
                 0
             }
         }
         Act::Inquiry(_) => {
-            if is_wide(available(journal, account)) {
+            if is_wide(balance.available) {
                 96
             } else {
                 0
@@ -41,16 +42,16 @@ fn amount_code(journal: &[Entry], order: Order, account: Account) -> u8
     }
 }
 
-fn account_code(journal: &[Entry], order: Order, money: Money, account: Option<Account>) -> u8
-    requires { length journal.now ≤ 999999 }
-    ensures value { result ≡ account_code journal.now order money account }
+fn account_code(order: Order, money: Money, balance: Option<Balance>) -> u8
+    ensures value { (entries : List Entry) → (account : Option Account) → balance ≡ option_map (balance_on entries) account
+        → result ≡ account_code entries order money account }
     ensures small { result ≤ 99 }
 {
-    match account {
+    match balance {
         None => 14,
-        Some(account) => {
-            if account.currency == money.currency {
-                amount_code(journal, order, account)
+        Some(balance) => {
+            if balance.account.currency == money.currency {
+                amount_code(order, balance)
             } else {
                 12
             }
@@ -69,45 +70,45 @@ fn money_of(order: Order) -> Option<Money>
 }
 
 /// The code of a new order.
-fn code_of(accounts: &[Account], journal: &[Entry], order: Order) -> u8
-    requires { length journal.now ≤ 999999 }
-    ensures value { result ≡ code_of accounts.now journal.now order }
+fn code_of(journal: &Journal, balances: &Balances, order: Order) -> u8
+    requires { AreSums journal.now balances.now }
+    ensures value { result ≡ code_of (accounts_of balances.now) journal.now order }
     ensures small { result ≤ 99 }
 {
     match money_of(order) {
         None => 0,
         Some(money) => {
-            if is_reversed(journal, order.key()) {
+            if journal.is_reversed(order.key()) {
                 21
             } else {
-                account_code(journal, order, money, account_of(accounts, money.pan))
+                account_code(order, money, balances.get(money.pan))
             }
         }
     }
 }
 
 /// What an order of code 0 shows.
-fn shown_by(accounts: &[Account], journal: &[Entry], order: Order) -> Option<i64>
-    requires { length journal.now ≤ 999999 }
-    ensures { result ≡ shown_by accounts.now journal.now order.act }
+fn shown_by(balances: &Balances, order: Order) -> Option<i64>
+    ensures { (entries : List Entry) → AreSums entries balances.now → result ≡ shown_by (accounts_of balances.now) entries order.act }
 {
     match order.act() {
-        Act::Inquiry(money) => available_at(accounts, journal, money.pan),
+        Act::Inquiry(money) => Some(balances.get(money.pan)?.available),
         Act::Debit(_) | Act::Credit(_) | Act::Undo(_) => None,
     }
 }
 
 /// The answer to a new order.
-pub fn new_answer(accounts: &[Account], journal: &[Entry], order: Order) -> Answer
-    requires { length journal.now < 999999 }
-    ensures { result ≡ new_answer accounts.now journal.now order }
+pub fn new_answer(journal: &Journal, balances: &Balances, order: Order) -> Answer
+    requires few { length journal.now < 999999 }
+    requires sums { AreSums journal.now balances.now }
+    ensures { result ≡ new_answer (accounts_of balances.now) journal.now order }
 {
-    let code = code_of(accounts, journal, order);
+    let code = code_of(journal, balances, order);
     Answer {
         code,
         seq: journal.len() as u32 + 1,
         shown: if code == 0 {
-            shown_by(accounts, journal, order)
+            shown_by(balances, order)
         } else {
             None
         },

@@ -54,10 +54,10 @@ impl<T: Drop> From<AllocFailed<T>> for AccountsFault {
     }
 }
 
-impl<T: Drop> From<AllocFailed<T>> for Refused {
+impl From<AllocError> for Refused {
     ghost from_gives = { λ _ e. e ≡ refused.Memory };
 
-    fn from(_e: AllocFailed<T>) -> Refused {
+    fn from(_e: AllocError) -> Refused {
         Refused::Memory
     }
 }

@@ -1,39 +1,44 @@
 //! The issuer.
 
-ghost use Rattle.std.specs.Prelude.{◌≡◌, ◌≤◌, ◌↔◌, ◌++◌, ◌∷◌, [], IsTrue, length, IfOk, OnOk, OnErr, IsOk, option_map};
+ghost use Rattle.std.specs.Prelude.{◌≡◌, ◌≤◌, ◌<◌, ◌↔◌, ◌++◌, ◌∷◌, [], IsTrue, false, length, IfOk, OnOk, OnErr, IfErr, IsOk, option_map};
+ghost use Rattle.iso_issuer.specs.declared.fault.Refused.TheVariants.{Memory};
 ghost use Rattle.iso_issuer.specs.Account.{account_of};
 ghost use Rattle.iso_issuer.specs.Journal.{firsts, is_entered, HasDistinctKeys};
 ghost use Rattle.iso_issuer.specs.Balance.{ledger, available};
-ghost use Rattle.iso_issuer.specs.Decision.{reply};
+ghost use Rattle.iso_issuer.specs.Decision.{new_answer, reply};
 ghost use Rattle.iso_issuer.specs.Books.{journal, IsFullFor, IsRoomFor, IsRun, answered_of};
 
 use crate::accounts::Accounts;
-use crate::balance::{available_at, ledger_at};
+use crate::balances::Balances;
+use crate::posting::change_by;
 use crate::decision::{new_answer, repeated};
 use crate::fault::Refused;
-use crate::journal::{Entry, entry_at};
+use crate::journal::Journal;
 use iso_order::{Answer, NoMemory, Order, Pan};
 use std::alloc::Global;
 use std::marker::Model;
 
-/// An issuer: its accounts, and the journal of the orders that were entered. Each call looks through
-/// the whole journal.
+/// An issuer: its accounts with what is on them, and the journal of the orders that were entered. No
+/// call looks through the journal or the accounts: what it needs is found by key and by number, and
+/// the balances are kept up to date.
 #[derive(Drop)]
 pub struct Issuer {
-    accounts: Accounts,
     limit: u32,
-    entries: Vec<Entry>,
+    balances: Balances,
+    journal: Journal,
 }
 
 impl Model for Issuer {
     ghost use Rattle.std.specs.Prelude.{map};
     ghost use Rattle.iso_issuer.specs.Books.{Books, IsKept};
+    ghost use Rattle.iso_issuer.specs.Balances.{accounts_of};
+    ghost use Rattle.iso_issuer.specs.Index.{IsSummed};
 
     ghost Value = { Books };
 
-    ghost view = { λ i. record { accounts = i.accounts; limit = i.limit; orders = map (λ e. e.order) i.entries.items } };
+    ghost view = { λ i. record { accounts = accounts_of i.balances; limit = i.limit; orders = map (λ e. e.order) i.journal } };
 
-    ghost invariant = { λ i. IsKept i.accounts i.limit i.entries.items };
+    ghost invariant = { λ i. IsKept (accounts_of i.balances) i.limit i.journal × IsSummed i.journal i.balances };
 }
 
 impl Issuer {
@@ -44,12 +49,31 @@ impl Issuer {
         requires most { limit ≤ 999999 }
         ensures { result ≡ record { accounts = accounts; limit = limit; orders = [] } }
     {
-        let entries = Vec::new(accounts.allocator());
+        let balances = accounts.into_balances();
+        let journal = Journal::new(balances.allocator());
         Issuer {
-            accounts,
             limit,
-            entries,
+            balances,
+            journal,
         }
+    }
+
+    /// Decides and enters an order of a new key, where there is room.
+    fn enter(&mut self, order: Order) -> Result<Answer, Refused>
+        requires new { is_entered self.old.orders order.key ≡ false }
+        requires below { length self.old.orders < self.old.limit }
+        ensures answer { IfOk result (λ answer. answer ≡ new_answer self.old.accounts (journal self.old) order) }
+        ensures entered { OnOk result (self.new ≡ record self.old { orders = self.old.orders ++ order ∷ [] }) }
+        ensures memory { IfErr result (λ e. e ≡ Memory) }
+        ensures unchanged { OnErr result (self.new ≡ self.old) }
+    {
+        let answer = new_answer(&self.journal, &self.balances, order);
+        let change = change_by(&self.journal, order, answer);
+        self.journal.enter(order, answer)?;
+        if let Some(change) = change {
+            self.balances.post(change);
+        }
+        Ok(answer)
     }
 
     /// Answers an order: decides it once, however often it comes. A repeat gets the first answer again,
@@ -67,17 +91,13 @@ impl Issuer {
         ensures memory { result ≡ Err Refused.Memory → IsRoomFor self.old order.key }
         ensures unchanged { OnErr result (self.new ≡ self.old) }
     {
-        match entry_at(&self.entries, order.key()) {
+        match self.journal.get(order.key()) {
             Some(entry) => Ok(repeated(entry, order)),
             None => {
-                if self.entries.len() >= self.limit as usize {
+                if self.journal.len() >= self.limit as usize {
                     return Err(Refused::Full);
                 }
-                let answer = new_answer(self.accounts.as_slice(), &self.entries, order);
-                match self.entries.push(Entry { order, answer }) {
-                    Ok(()) => Ok(answer),
-                    Err(_) => Err(Refused::Memory),
-                }
+                self.enter(order)
             }
         }
     }
@@ -94,7 +114,7 @@ impl Issuer {
         ensures unchanged { OnErr result (self.new ≡ self.old) }
     {
         // The keys are distinct, before any order is handled.
-        let _ = &self.entries;
+        let _ = &self.journal;
         let mut answers = Vec::with_capacity(alloc, orders.len())?;
         for order in orders {
             let answer = self.handle(*order);
@@ -107,7 +127,7 @@ impl Issuer {
     pub fn ledger(&self, pan: Pan) -> Option<i64>
         ensures { result ≡ option_map (ledger (journal self.now)) (account_of self.now.accounts pan) }
     {
-        ledger_at(self.accounts.as_slice(), &self.entries, pan)
+        Some(self.balances.get(pan)?.ledger)
     }
 
     /// What may still be taken from an account, where there is such an account: what is on it, less
@@ -115,7 +135,7 @@ impl Issuer {
     pub fn available(&self, pan: Pan) -> Option<i64>
         ensures { result ≡ option_map (available (journal self.now)) (account_of self.now.accounts pan) }
     {
-        available_at(self.accounts.as_slice(), &self.entries, pan)
+        Some(self.balances.get(pan)?.available)
     }
 
     /// How many orders were entered: no two of one key, and at most as many as the limit. Takes no memory.
@@ -124,6 +144,6 @@ impl Issuer {
         ensures few { length self.now.orders ≤ self.now.limit }
         ensures distinct { HasDistinctKeys self.now.orders }
     {
-        self.entries.len() as u32
+        self.journal.len() as u32
     }
 }

@@ -3,12 +3,14 @@
 
 mod account;
 mod accounts;
-mod balance;
+mod balances;
+mod change;
 mod decision;
 mod document;
 mod fault;
 mod issuer;
 mod journal;
+mod posting;
 
 pub use accounts::Accounts;
 pub use fault::{AccountsFault, Refused};

@@ -2,23 +2,29 @@ use Rattle.std.proofs.Common.{◌≡◌, ap, sym, ◌∙◌, arith, take, [], �
 use Rattle.std.specs.Prelude.{is_some}
 use Rattle.std.proofs.lemmas.Grind.{common_steps}
 use Rattle.std.proofs.lemmas.List.{map-append, take_more}
-use Rattle.iso_issuer.specs.Account.{account_of}
+use Rattle.iso_issuer.specs.declared.balances.Balance.{Balance}
+use Rattle.iso_issuer.specs.Balances.{accounts_of, balance_at, opened}
 use Rattle.iso_issuer.specs.declared.document.Listed.{Listed}
 use Rattle.iso_issuer.specs.declared.fault.AccountsFault.TheVariants.{Twice}
 use Rattle.iso_issuer.specs.Document.{as_listed, is_listed, is_out_of_range}
-use Rattle.iso_issuer.proofs.Documents.{listed-found, numbers-push, fault_at, fault-twice, fault-none, ranged, is_none-of}
+use Rattle.iso_issuer.proofs.Documents.{listed-found, fault_at, fault-twice, fault-none, ranged, is_none-of}
 use Rattle.iso_issuer.proofs.accounts.judged.Goals as goal
+
+pub open-requires : goal.open-requires
+open-requires c =
+    let none : is_some (balance_at c.loop-i.balances c.in-Some.account.pan) ≡ false = cc in
+    record { new = is_none-of (balance_at c.loop-i.balances c.in-Some.account.pan) none }
 
 pub returns-then-is_some-clause-fault : goal.returns-then-is_some-clause-fault
 returns-then-is_some-clause-fault c = λ not_memory.
     let rows = c.args.listed.now in
     let row = c.index-listed-i.result in
-    let items = c.loop-i.accounts.items in
+    let balances = c.loop-i.balances in
     let made = ranged (is_out_of_range row.opening) (as_listed c.in-Some.account) row c.in-Some.ensures in
-    let found : is_some (account_of items c.in-Some.account.pan) ≡ true = cc in
+    let found : is_some (balance_at balances c.in-Some.account.pan) ≡ true = cc in
     let known : is_listed (take c.loop-i.i rows) row.pan ≡ true =
-    ap (λ earlier. is_listed earlier row.pan) (sym c.loop-i.invariant.same) ∙ listed-found items row.pan
-    ∙ ap (λ (r : Listed). is_some (account_of items r.pan)) (sym made.1) ∙ found in
+    ap (λ earlier. is_listed earlier row.pan) (sym c.loop-i.invariant.same) ∙ listed-found balances row.pan
+    ∙ ap (λ (r : Listed). is_some (balance_at balances r.pan)) (sym made.1) ∙ found in
     let count : length (take c.loop-i.i rows) ≡ c.loop-i.i = grind (arith, common_steps) in
     fault_at rows c.loop-i.i row (Some (Twice c.loop-i.i)) c.loop-i-test.true c.index-listed-i.is c.loop-i.invariant.rest
     (fault-twice (take c.loop-i.i rows) row c.loop-i.i made.0 known count)
@@ -27,19 +33,19 @@ pub loop-i-preserved : goal.loop-i-preserved
 loop-i-preserved c =
     let rows = c.args.listed.now in
     let row = c.index-listed-i.result in
-    let items = c.loop-i.accounts.items in
+    let balances = c.loop-i.balances in
     let made = ranged (is_out_of_range row.opening) (as_listed c.in-Some.account) row c.in-Some.ensures in
-    let none : is_some (account_of items c.in-Some.account.pan) ≡ false = cc in
-    let missing : account_of items c.in-Some.account.pan ≡ None = is_none-of (account_of items c.in-Some.account.pan) none in
+    let none : is_some (balance_at balances c.in-Some.account.pan) ≡ false = cc in
     let new : is_listed (take c.loop-i.i rows) row.pan ≡ false =
-    ap (λ earlier. is_listed earlier row.pan) (sym c.loop-i.invariant.same) ∙ listed-found items row.pan
-    ∙ ap (λ (r : Listed). is_some (account_of items r.pan)) (sym made.1) ∙ none in
+    ap (λ earlier. is_listed earlier row.pan) (sym c.loop-i.invariant.same) ∙ listed-found balances row.pan
+    ∙ ap (λ (r : Listed). is_some (balance_at balances r.pan)) (sym made.1) ∙ none in
     let more : take (c.loop-i.i + 1) rows ≡ take c.loop-i.i rows ++ row ∷ [] =
     take_more rows c.loop-i.i row c.loop-i-test.true ∙ ap (λ (r : Listed). take c.loop-i.i rows ++ r ∷ []) (sym c.index-listed-i.is) in
-    rw (c.in_ok-push.ensures.items, more)
+    let grown : accounts_of (balances ++ opened c.in-Some.account ∷ []) ≡ accounts_of balances ++ c.in-Some.account ∷ [] = map-append (λ (b : Balance). b.account) balances (opened c.in-Some.account ∷ []) in
+    rw (c.in_ok-open.ensures.ok, more, grown)
     record {
-      same = map-append as_listed items (c.in-Some.account ∷ []) ∙ ap (λ xs. xs ++ as_listed c.in-Some.account ∷ []) c.loop-i.invariant.same
+      same = map-append as_listed (accounts_of balances) (c.in-Some.account ∷ []) ∙ ap (λ xs. xs ++ as_listed c.in-Some.account ∷ []) c.loop-i.invariant.same
           ∙ ap (λ (r : Listed). take c.loop-i.i rows ++ r ∷ []) made.1;
-      distinct = numbers-push items c.in-Some.account c.loop-i.invariant.distinct missing;
+      opened = ap (λ xs. xs ++ opened c.in-Some.account ∷ []) c.loop-i.invariant.opened ∙ sym (map-append opened (accounts_of balances) (c.in-Some.account ∷ []));
       rest = fault_at rows c.loop-i.i row None c.loop-i-test.true c.index-listed-i.is c.loop-i.invariant.rest (fault-none (take c.loop-i.i rows) row made.0 new);
     }

@@ -25,6 +25,6 @@ loop-order-preserved c =
 
 pub returns-clause-entered : goal.returns-clause-entered
 returns-clause-entered c =
-    let distinct : firsts c.args.self.now.orders ≡ c.args.self.now.orders = rw (← c.self.view_is) (firsts-distinct _ c.self.invariant.distinct) in
+    let distinct : firsts c.args.self.now.orders ≡ c.args.self.now.orders = rw (← c.self.view_is) (firsts-distinct _ c.self.invariant.0.distinct) in
     let all : take c.loop-order.order-index c.args.orders.now ≡ c.args.orders.now = grind (arith, common_steps) in
     run-after c.args.self.now c.loop-order.self c.args.orders.now c.loop-order.answers.items distinct (rw all at c.loop-order.invariant.run)

@@ -1,0 +1,62 @@
+-- The places of keys and of accounts, and one more.
+use Rattle.std.proofs.Common.{◌≡◌, ℕ, Bool, true, false, cond, refl, arith, ap, sym, ◌∙◌, subst, List, [], ◌∷◌, ◌++◌, length}
+use Rattle.std.specs.Prelude.{Some, None, option_map, ◌||◌}
+use Rattle.std.specs.Ordering.{is_eq}
+use Rattle.std.proofs.lemmas.Grind.{common_steps}
+use Rattle.std.proofs.lemmas.List.Folds.{list_any-append}
+use Rattle.iso_order.specs.declared.key.TxKey.{TxKey}
+use Rattle.iso_order.specs.AccountNumber.{AccountNumber}
+use Rattle.iso_order.specs.Key.{same_key}
+use Rattle.iso_order.specs.Order.{same_pan}
+use Rattle.iso_order.proofs.Same.{same_key_is, same_pan_is}
+use Rattle.iso_issuer.specs.declared.account.Account.{Account}
+use Rattle.iso_issuer.specs.declared.balances.Balance.{Balance}
+use Rattle.iso_issuer.specs.declared.journal.Entry.{Entry}
+use Rattle.iso_issuer.specs.Account.{account_of}
+use Rattle.iso_issuer.specs.Journal.{entry_at, is_reversed, names}
+use Rattle.iso_issuer.specs.Balances.{accounts_of, balance_at}
+use Rattle.iso_issuer.specs.Index.{key_cmp, place_of, pan_cmp, row_of}
+use Rattle.iso_issuer.proofs.Places.{place-push, place-back, found-map}
+
+-- keys tie in their order where they are the same
+key_tied : (k q : TxKey) → is_eq (key_cmp k q) ≡ same_key k q
+key_tied k q = grind (arith, common_steps)
+
+-- account numbers tie in their order where they are the same
+pan_tied : (p q : AccountNumber) → is_eq (pan_cmp p q) ≡ same_pan p q
+pan_tied p q = grind (arith, common_steps)
+
+not_entered : (entries : List Entry) (k q : TxKey) → entry_at entries k ≡ None → same_key k q ≡ true → entry_at entries q ≡ None
+not_entered entries k q new h = subst (λ k. entry_at entries k ≡ None) (same_key_is k q h) new
+
+-- the places, after one entry more under a new key
+pub place_of-push : (entries : List Entry) (e : Entry) (q : TxKey) → entry_at entries e.order.key ≡ None →
+    place_of (entries ++ e ∷ []) q ≡ cond (is_eq (key_cmp e.order.key q)) (Some (length entries)) (place_of entries q)
+place_of-push entries e q new =
+    place-push (λ x. same_key x.order.key q) entries e (not_entered entries e.order.key q new)
+    ∙ ap (λ b. cond b (Some (length entries)) (place_of entries q)) (sym (key_tied e.order.key q))
+
+-- what is added under a new key and taken away again leaves the places as they were
+pub place_of-back : (entries : List Entry) (k q : TxKey) (v : ℕ) → entry_at entries k ≡ None →
+    cond (is_eq (key_cmp k q)) None (cond (is_eq (key_cmp k q)) (Some v) (place_of entries q)) ≡ place_of entries q
+place_of-back entries k q v new =
+    place-back (λ x. same_key x.order.key q) entries (is_eq (key_cmp k q)) v (λ h. not_entered entries k q new (sym (key_tied k q) ∙ h))
+
+or_off : (b : Bool) → b || false ≡ b
+or_off true = refl
+or_off false = refl
+
+-- the keys that reversals name, after one entry more
+pub reversed-push : (es : List Entry) (e : Entry) (k : TxKey) → is_reversed (es ++ e ∷ []) k ≡ is_reversed es k || names e.order.act k
+reversed-push es e k = list_any-append (λ r. names r.order.act k) es (e ∷ []) ∙ ap (λ b. is_reversed es k || b) (or_off (names e.order.act k))
+
+-- the rows, after an account more of a new number
+pub row_of-push : (accounts : List Account) (a : Account) (q : AccountNumber) → account_of accounts a.pan ≡ None →
+    row_of (accounts ++ a ∷ []) q ≡ cond (is_eq (pan_cmp a.pan q)) (Some (length accounts)) (row_of accounts q)
+row_of-push accounts a q new =
+    place-push (λ x. same_pan x.pan q) accounts a (λ h. subst (λ p. account_of accounts p ≡ None) (same_pan_is a.pan q h) new)
+    ∙ ap (λ b. cond b (Some (length accounts)) (row_of accounts q)) (sym (pan_tied a.pan q))
+
+-- the account of a number is that of its balance
+pub account-at : (balances : List Balance) (pan : AccountNumber) → account_of (accounts_of balances) pan ≡ option_map (λ b. b.account) (balance_at balances pan)
+account-at balances pan = found-map (λ a. same_pan a.pan pan) (λ (b : Balance). b.account) balances

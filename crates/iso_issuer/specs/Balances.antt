@@ -1,0 +1,50 @@
+-- Balances of accounts, and changes of them.
+use Rattle.std.specs.Prelude.{ℕ, ℤ, pos, ◌+ℤ◌, ◌≤ℤ◌, ◌+◌, ◌*◌, List, Option, None, Some, find, map, if◌then◌else◌}
+use Rattle.iso_order.specs.AccountNumber.{AccountNumber}
+use Rattle.iso_order.specs.Order.{Instruction, same_pan}
+use Rattle.iso_issuer.specs.declared.account.Account.{Account}
+use Rattle.iso_issuer.specs.declared.balances.Balance.{Balance}
+use Rattle.iso_issuer.specs.declared.change.Change.{Change}
+use Rattle.iso_issuer.specs.declared.journal.Entry.{Entry}
+use Rattle.iso_issuer.specs.Journal.{stands}
+
+abbrev pub accounts_of : List Balance → List Account
+accounts_of balances = map (λ b. b.account) balances
+
+-- the balance of this number, where it has an account
+abbrev pub balance_at : List Balance → AccountNumber → Option Balance
+balance_at balances pan = find (λ b. same_pan b.account.pan pan) balances
+
+-- an account as it is at first
+abbrev pub opened : Account → Balance
+opened a = record { account = a; ledger = a.opening; available = a.opening }
+
+-- a balance with the amounts of a change added
+abbrev pub added : Change → Balance → Balance
+added c b = record { account = b.account; ledger = b.ledger +ℤ c.ledger; available = b.available +ℤ c.available }
+
+-- a balance after a change, which is of one account
+abbrev pub posted : Change → Balance → Balance
+posted c b = if same_pan c.pan b.account.pan then added c b else b
+
+-- what a change adds to the ledger of this number
+abbrev pub on_ledger : Option Change → AccountNumber → ℤ
+on_ledger None pan = pos 0
+on_ledger (Some c) pan = if same_pan c.pan pan then c.ledger else pos 0
+
+-- what a change adds to what is available on this number
+abbrev pub on_available : Option Change → AccountNumber → ℤ
+on_available None pan = pos 0
+on_available (Some c) pan = if same_pan c.pan pan then c.available else pos 0
+
+-- the amount of an entry that is there and stands, else 0
+abbrev pub counted : List Entry → (Instruction → ℕ) → Option Entry → ℕ
+counted entries amount None = 0
+counted entries amount (Some e) = if stands entries e then amount e.order else 0
+
+-- within 9,000,000,000,000,000 and an amount for each of n entries, either way
+pub record IsNear (n : ℕ) (b : Balance) : Type 0 where
+  pub ledger_low : pos 0 ≤ℤ (b.ledger +ℤ pos (9000000000000000 + 1000000000000 * n))
+  pub ledger_high : b.ledger ≤ℤ pos (9000000000000000 + 1000000000000 * n)
+  pub available_low : pos 0 ≤ℤ (b.available +ℤ pos (9000000000000000 + 1000000000000 * n))
+  pub available_high : b.available ≤ℤ pos (9000000000000000 + 1000000000000 * n)

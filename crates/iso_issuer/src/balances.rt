@@ -1,0 +1,115 @@
+//! What is on each account.
+
+ghost use Rattle.std.specs.Prelude.{◌≡◌, ◌++◌, ◌∷◌, [], None, OnOk, OnErr, All, map};
+ghost use Rattle.iso_issuer.specs.Balances.{added, balance_at, opened, posted, IsNear};
+
+use crate::account::Account;
+use crate::change::Change;
+use iso_order::Pan;
+use std::alloc::{AllocError, Global};
+use std::collections::BTreeMap;
+use std::marker::Model;
+
+/// An account, what is on it, and what may still be taken from it.
+#[derive(Clone, Copy, Debug)]
+pub struct Balance {
+    pub account: Account,
+    /// In minor units.
+    pub ledger: i64,
+    /// In minor units: the ledger less what is held.
+    pub available: i64,
+}
+
+/// The balances of accounts, no two of one number, in the order in which they were opened. Each is
+/// found by its number.
+#[derive(Drop)]
+pub struct Balances {
+    rows: Vec<Balance>,
+    places: BTreeMap<Pan, usize>,
+}
+
+impl Model for Balances {
+    ghost use Rattle.std.specs.Prelude.{List};
+    ghost use Rattle.iso_issuer.specs.declared.balances.Balance.{Balance};
+
+    ghost Value = { List Balance };
+
+    ghost use Rattle.iso_issuer.specs.Account.{HasDistinctNumbers};
+    ghost use Rattle.iso_issuer.specs.Balances.{accounts_of};
+    ghost use Rattle.iso_issuer.specs.Index.{AreRows};
+
+    ghost view = { λ b. b.rows.items };
+
+    ghost invariant = { λ b. AreRows b.places (accounts_of b.rows.items) × HasDistinctNumbers (accounts_of b.rows.items) };
+}
+
+/// The balance of an account at first.
+fn opened(account: Account) -> Balance
+    ensures { result ≡ opened account }
+{
+    let opening = account.opening;
+    Balance {
+        account,
+        ledger: opening,
+        available: opening,
+    }
+}
+
+/// A balance with a change added.
+fn changed(balance: Balance, change: Change) -> Balance
+    requires { IsNear 999999 balance }
+    ensures { result ≡ added change balance }
+{
+    Balance {
+        account: balance.account,
+        ledger: balance.ledger + change.ledger,
+        available: balance.available + change.available,
+    }
+}
+
+impl Balances {
+    /// No account.
+    pub fn new(alloc: Global) -> Balances
+        ensures { result ≡ [] }
+    {
+        Balances {
+            rows: Vec::new(alloc),
+            places: BTreeMap::new(alloc),
+        }
+    }
+
+    /// Opens an account of a new number.
+    pub fn open(&mut self, account: Account) -> Result<(), AllocError>
+        requires new { balance_at self.old account.pan ≡ None }
+        ensures ok { OnOk result (self.new ≡ self.old ++ opened account ∷ []) }
+        ensures unchanged { OnErr result (self.new ≡ self.old) }
+    {
+        self.rows.reserve(1)?;
+        self.places.insert(account.pan, self.rows.len())?;
+        let _ = self.rows.push(opened(account));
+        Ok(())
+    }
+
+    /// The balance of a number, where it has an account.
+    pub fn get(&self, pan: Pan) -> Option<Balance>
+        ensures { result ≡ balance_at self.now pan }
+    {
+        let place = *self.places.get(&pan)?;
+        Some(self.rows[place])
+    }
+
+    /// Adds a change to the balance of its account, where there is such an account.
+    pub fn post(&mut self, change: Change)
+        requires { All (IsNear 999999) self.old }
+        ensures { self.new ≡ map (posted change) self.old }
+    {
+        if let Some(place) = self.places.get(&change.pan) {
+            let place = *place;
+            self.rows[place] = changed(self.rows[place], change);
+        }
+    }
+
+    pub fn allocator(&self) -> Global {
+        *self.rows.allocator()
+    }
+}
