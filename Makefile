@@ -38,3 +38,4 @@ bench: $(COMMAND) $(BENCH)
 	@ORDERS=$(ORDERS) bench/streams.sh
 	@$(BENCH) codec 1000000
 	@$(BENCH) issuer $(SIZES)
+	@bench/instructions.sh $(SIZES)

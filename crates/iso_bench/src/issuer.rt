@@ -23,6 +23,9 @@ struct Load {
     reversals: u32,
 }
 
+/// Of so many entries that fill the journal one is a reversal, of the first of the purchases before it.
+const TENTH: u32 = 10;
+
 /// Hands the orders over, each of which has to be granted.
 fn handed(rt: &impl Clock, issuer: &mut Issuer, orders: &[Order]) -> Result<Speed> {
     let start = Instant::now(rt)?;
@@ -57,11 +60,12 @@ fn purchases(alloc: Global, from: u32, count: u32) -> Result<Vec<Order>> {
     Ok(orders)
 }
 
-/// The next reversals, of purchases that are spread over those from `from` to `to`.
+/// The next reversals, of purchases that are spread over those from `from` to `to` and weren't reversed.
 fn reversals(alloc: Global, next: u32, from: u32, to: u32, count: u32) -> Result<Vec<Order>> {
     let mut orders = Vec::new(alloc);
     for i in 0..count {
-        let original = spread(from, to, count, i);
+        let place = spread(from, to, count, i);
+        let original = place - place % (TENTH - 1) + 1;
         orders.push(reversal(next.saturating_add(i), original)?)?;
     }
     Ok(orders)
@@ -76,14 +80,26 @@ impl Load {
         })
     }
 
-    /// Hands over purchases until the journal has so many entries.
-    fn fill(&mut self, size: u32) -> Result<()> {
-        let missing = size.saturating_sub(self.issuer.len());
-        let end = self.purchases.saturating_add(missing);
-        for n in self.purchases..end {
-            self.issuer.handle(purchase(n)?)?;
+    /// The next order that fills the journal.
+    fn next(&mut self, is_reversal: bool) -> Result<Order> {
+        if is_reversal {
+            let original = (self.purchases / (TENTH - 1)).saturating_sub(1) * (TENTH - 1);
+            let order = reversal(self.reversals, original)?;
+            self.reversals = self.reversals.saturating_add(1);
+            Ok(order)
+        } else {
+            let order = purchase(self.purchases)?;
+            self.purchases = self.purchases.saturating_add(1);
+            Ok(order)
         }
-        self.purchases = end;
+    }
+
+    /// Hands over purchases, and their reversals, until the journal has so many entries.
+    fn fill(&mut self, size: u32) -> Result<()> {
+        for entries in self.issuer.len()..size {
+            let order = self.next(entries % TENTH == TENTH - 1)?;
+            self.issuer.handle(order)?;
+        }
         Ok(())
     }
 
@@ -122,7 +138,7 @@ fn print(rt: &impl Print, kind: &str, entries: u32, speed: Speed) -> Result<()> 
     Ok(())
 }
 
-/// Measures purchases until the journal has so many entries.
+/// Measures the orders that fill the journal to so many entries.
 fn measure_fill(rt: &(impl Clock + Print), load: &mut Load, size: u32) -> Result<()> {
     let entries = load.issuer.len();
     if size <= entries {

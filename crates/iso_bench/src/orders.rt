@@ -13,10 +13,10 @@ const ACCOUNTS: u32 = 1000;
 const FIRST: u64 = 4_000_000_000_000_000;
 
 /// How many trace numbers there are.
-const STANS: u64 = 1_000_000;
+const STANS: u32 = 1_000_000;
 
-/// No divisor of `STANS` but 1 divides it: its multiples go through all trace numbers, far from one another.
-const STRIDE: u64 = 7919;
+/// When the first order was sent.
+const FIRST_SENT: u64 = 101_000_000;
 
 /// The accounts, on each of which is enough for every order.
 pub fn accounts(alloc: Global) -> Result<Accounts> {
@@ -43,12 +43,19 @@ fn money(n: u32) -> Result<Money> {
     })
 }
 
-/// The key of the `n`th order of that type. Of one type the first million differ.
+/// A number that looks random. Each `n` has another one.
+fn scattered(n: u32) -> u32 {
+    let n = (n ^ (n >> 16)).wrapping_mul(0x85EB_CA6B);
+    let n = (n ^ (n >> 13)).wrapping_mul(0xC2B2_AE35);
+    n ^ (n >> 16)
+}
+
+/// The key of the `n`th order of that type: its trace number looks random, and each was sent at another time.
 fn key(base: u16, n: u32) -> TxKey {
     TxKey {
         base,
-        stan: (u64::from(n) * STRIDE % STANS) as u32,
-        sent: 102_030_405,
+        stan: scattered(n) % STANS,
+        sent: FIRST_SENT + u64::from(n),
         acquirer: 12_345,
     }
 }
