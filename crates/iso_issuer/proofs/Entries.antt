@@ -56,11 +56,3 @@ kept-push accounts limit es o kept below new =
 pub never : (b : Bool) → b ≡ false → IsTrue b → ⊥
 never true e h = cc
 never false e h = cc
-
--- the orders, after one entry more
-pub orders-push : (accounts : List Account) (limit : ℕ) (es : List Entry) (o : Instruction) →
-    IsKept accounts limit es → entry_at es o.key ≡ None →
-    map (λ e. e.order) (es ++ new_entry accounts es o ∷ []) ≡ firsts (map (λ e. e.order) es ++ o ∷ [])
-orders-push accounts limit es o kept new =
-    map-append (λ e. e.order) es (new_entry accounts es o ∷ [])
-    ∙ sym (firsts-new (map (λ e. e.order) es) o (entered-found es o.key ∙ ap is_some new) ∙ ap (λ xs. xs ++ o ∷ []) (firsts-distinct (map (λ e. e.order) es) kept.distinct))

@@ -31,13 +31,7 @@ fn amount_code(order: Order, balance: Balance) -> u8
                 0
             }
         }
-        Act::Inquiry(_) => {
-            if is_wide(balance.available) {
-                96
-            } else {
-                0
-            }
-        }
+        Act::Inquiry(_) => { if is_wide(balance.available) { 96 } else { 0 } }
         Act::Credit(_) | Act::Undo(_) => 0,
     }
 }

@@ -10,10 +10,10 @@ ghost use Rattle.iso_issuer.specs.Books.{journal, IsFullFor, IsRoomFor, IsRun, a
 
 use crate::accounts::Accounts;
 use crate::balances::Balances;
-use crate::posting::change_by;
 use crate::decision::{new_answer, repeated};
 use crate::fault::Refused;
 use crate::journal::Journal;
+use crate::posting::change_by;
 use iso_order::{Answer, NoMemory, Order, Pan};
 use std::alloc::Global;
 use std::marker::Model;

@@ -77,7 +77,7 @@ fn taken_back(journal: &Journal, original: TxKey) -> Option<Change>
         ≡ pos (counted journal.now (debit_of pan) (entry_at journal.now original)) -ℤ pos (counted journal.now (credit_to pan) (entry_at journal.now original)) }
     ensures available { (pan : AccountNumber) → on_available result pan
         ≡ pos (counted journal.now (debit_of pan) (entry_at journal.now original)) -ℤ pos (counted journal.now (credit_to pan) (entry_at journal.now original))
-            +ℤ pos (counted journal.now (hold_on pan) (entry_at journal.now original)) }
+        +ℤ pos (counted journal.now (hold_on pan) (entry_at journal.now original)) }
 {
     let undone = journal.get(original)?;
     let change = counted_of(journal, undone)?;

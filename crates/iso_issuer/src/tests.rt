@@ -5,6 +5,8 @@ use std::test::*;
 
 mod days;
 mod documents;
+mod generated;
+mod scanning;
 mod wire;
 
 const fn key(base: u16, stan: u32) -> TxKey {

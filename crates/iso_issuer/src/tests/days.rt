@@ -192,6 +192,21 @@ fn early_reversals(rt: HostRuntime) -> Result<(), Fail> {
 }
 
 #[test]
+fn reversals_without_memory(rt: HostRuntime) -> Result<(), Fail> {
+    let purchase = debit(200, 7, 1000)?;
+    let reversal = undo(8, 200, 7)?;
+    let mut issuer = issuer(rt.alloc(), 5000, 999_999)?;
+    // Where memory runs out (`rt try --test --fail-alloc N`), the reversal leaves no mark.
+    let (code, ledger) = match issuer.handle(reversal) {
+        Err(Refused::Memory) => (0, 4000),
+        answer => (21 + answer?.code, 5000),
+    };
+    assert_eq!(rt; issuer.handle(purchase)?.code, code);
+    assert_eq!(rt; issuer.ledger(account()?), Some(ledger));
+    Ok(())
+}
+
+#[test]
 fn reversals_of_what_moved_nothing(rt: HostRuntime) -> Result<(), Fail> {
     let first = debit(200, 1, 80)?;
     let second = debit(200, 2, 50)?;

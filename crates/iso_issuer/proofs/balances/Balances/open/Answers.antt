@@ -18,6 +18,7 @@ invariant_of-self-2 c =
     let unknown : balance_at rows c.args.account.pan ≡ None = rw c.self.view_is c.requires.new in
     let new : account_of accounts c.args.account.pan ≡ None = account-at rows c.args.account.pan ∙ ap (option_map (λ (b : Balance). b.account)) unknown in
     let count : c.len.result ≡ length accounts = grind (arith, common_steps, length-map) in
-    rw grown
-    ( λ q. c.in_ok-insert.ensures.updates.0 q ∙ rw (c.self.invariant.0 q, count) (sym (row_of-push accounts c.args.account q new))
-    , numbers-push accounts c.args.account c.self.invariant.1 new)
+    rw grown (
+      λ q. c.in_ok-insert.ensures.updates.0 q ∙ rw (c.self.invariant.0 q, count) (sym (row_of-push accounts c.args.account q new)),
+      numbers-push accounts c.args.account c.self.invariant.1 new,
+    )

@@ -8,11 +8,12 @@ use Rattle.iso_issuer.proofs.journal.Journal.enter.Goals as goal
 
 pub invariant_of-self-in-Err : goal.invariant_of-self-in-Err
 invariant_of-self-in-Err c =
-    let new : entry_at c.self.inside.entries.items c.args.order.key ≡ None = rw c.self.view_is c.requires.new in
-    ( λ q.
-        rw (c.reserve.ensures.items, c.remove.ensures.updates.0 q, c.in_ok-insert.ensures.updates.0 q, c.self.invariant.0 q, c.key-key.ensures.value)
-        (place_of-back c.self.inside.entries.items c.args.order.key q _ new)
-    , λ q. rw c.reserve.ensures.items (c.in-Err.ensures.unchanged q ∙ c.self.invariant.1 q))
+    let new : entry_at c.self.inside.entries.items c.args.order.key ≡ None = rw c.self.view_is c.requires.new in (
+      λ q.
+          rw (c.reserve.ensures.items, c.remove.ensures.updates.0 q, c.in_ok-insert.ensures.updates.0 q, c.self.invariant.0 q, c.key-key.ensures.value)
+          (place_of-back c.self.inside.entries.items c.args.order.key q _ new),
+      λ q. rw c.reserve.ensures.items (c.in-Err.ensures.unchanged q ∙ c.self.invariant.1 q),
+    )
 
 pub invariant_of-self-in-Ok : goal.invariant_of-self-in-Ok
 invariant_of-self-in-Ok c =
@@ -20,9 +21,10 @@ invariant_of-self-in-Ok c =
     let entry : Entry = record { order = c.args.order; answer = c.args.answer } in
     let new : entry_at entries c.args.order.key ≡ None = rw c.self.view_is c.requires.new in
     let items : c.push.new.self.items ≡ entries ++ entry ∷ [] = grind (arith, common_steps) in
-    let count : c.len.result ≡ length entries = grind (arith, common_steps) in
-    ( λ q.
-        rw (items, c.in_ok-insert.ensures.updates.0 q, c.self.invariant.0 q, c.key-key.ensures.value, count)
-        (sym (place_of-push entries entry q new))
-    , λ q.
-        rw items (c.in-Ok.ensures.ok q ∙ ap (λ b. b || names c.args.order.act q) (c.self.invariant.1 q) ∙ sym (reversed-push entries entry q)))
+    let count : c.len.result ≡ length entries = grind (arith, common_steps) in (
+      λ q.
+          rw (items, c.in_ok-insert.ensures.updates.0 q, c.self.invariant.0 q, c.key-key.ensures.value, count)
+          (sym (place_of-push entries entry q new)),
+      λ q.
+          rw items (c.in-Ok.ensures.ok q ∙ ap (λ b. b || names c.args.order.act q) (c.self.invariant.1 q) ∙ sym (reversed-push entries entry q)),
+    )

@@ -1,0 +1,170 @@
+//! Generated runs: the issuer answers as the plain program does.
+use super::scanning::{Listed, Scanning, Told};
+use super::*;
+use std::collections::BTreeSet;
+use std::process::Abort;
+
+const ACCOUNTS: &[u8] =
+    b"{\"accounts\":[{\"currency\":\"840\",\"opening\":5000,\"pan\":\"4111111111111111\"},
+    {\"currency\":\"840\",\"opening\":0,\"pan\":\"01\"},{\"currency\":\"978\",\"opening\":100,\"pan\":\"1\"}]}";
+
+/// The numbers of the accounts, and one that has none.
+const NUMBERS: [&[u8]; 4] = [b"4111111111111111", b"01", b"1", b"2"];
+
+/// Stands for a refusal among the codes.
+const FULL: u8 = 255;
+
+/// Draws numbers, always the same ones.
+#[derive(Drop)]
+struct Draws(u64);
+
+impl Draws {
+    fn next(&mut self) -> u64 {
+        self.0 = self
+            .0
+            .wrapping_mul(6_364_136_223_846_793_005)
+            .wrapping_add(1_442_695_040_888_963_407);
+        self.0 >> 33
+    }
+
+    /// The type of a payment.
+    fn base(&mut self) -> u16 {
+        match self.next() % 4 {
+            0 => 100,
+            1 => 220,
+            _ => 200,
+        }
+    }
+
+    /// One of few trace numbers, so that keys come again and reversals find them.
+    fn stan(&mut self) -> u32 {
+        (self.next() % 60) as u32
+    }
+
+    /// Money of one of four accounts, of which one is unknown, and seldom of another currency.
+    fn money(&mut self) -> Result<Money, Fail> {
+        let number = match self.next() % 8 {
+            0 => b"1".as_slice(),
+            1 | 2 => b"01",
+            3 => b"2",
+            _ => b"4111111111111111",
+        };
+        Ok(Money {
+            pan: pan(number)?,
+            amount: self.next() % 3000 + 1,
+            currency: if self.next() % 16 == 0 {
+                *b"978"
+            } else {
+                *b"840"
+            },
+        })
+    }
+
+    /// An order that a message can carry, or none.
+    fn order(&mut self) -> Result<Option<Order>, Fail> {
+        let kind = self.next() % 10;
+        let (base, stan) = (self.base(), self.stan());
+        let money = self.money()?;
+        let act = match kind {
+            0..=3 => Act::Debit(money),
+            4 | 5 => Act::Credit(money),
+            6 => Act::Inquiry(Money { amount: 0, ..money }),
+            _ => Act::Undo(key(base, stan)),
+        };
+        Ok(match act {
+            Act::Undo(_) => Order::new(key(420, self.stan()), act),
+            _ => Order::new(key(base, stan), act),
+        })
+    }
+}
+
+/// Handles an order, and again where memory ran out, which changed nothing.
+fn answered(rt: &impl Abort, issuer: &mut Issuer, order: Order) -> Result<Told, Refused> {
+    let len = issuer.len();
+    let answer = match issuer.handle(order) {
+        Err(Refused::Memory) => {
+            assert_eq!(rt; issuer.len(), len);
+            issuer.handle(order)?
+        }
+        answer => answer?,
+    };
+    Ok((answer.code, answer.seq as usize, answer.shown))
+}
+
+/// Whether the balances of a number are those that the plain program tells.
+fn tell_the_same(issuer: &Issuer, scanning: &Scanning, number: Pan) -> bool {
+    let told = scanning.balances(number);
+    issuer.ledger(number) == told.map(|t| t.0) && issuer.available(number) == told.map(|t| t.1)
+}
+
+/// Hands an order to the issuer and to the plain program, and tells its code.
+fn step(
+    rt: &impl Abort,
+    issuer: &mut Issuer,
+    scanning: &mut Scanning,
+    order: Order,
+) -> Result<u8, Fail> {
+    let told = answered(rt, issuer, order);
+    assert_eq!(rt; told, scanning.handle(order), "{order:?}");
+    assert_eq!(rt; issuer.len() as usize, scanning.len(), "{order:?}");
+    for text in NUMBERS {
+        let number = pan(text)?;
+        assert!(rt; tell_the_same(issuer, scanning, number), "{order:?}");
+    }
+    Ok(match told {
+        Ok((code, _, _)) => code,
+        Err(_) => FULL,
+    })
+}
+
+/// The accounts as the plain program takes them.
+fn listed() -> Result<[Listed; 3], Fail> {
+    let accounts = [
+        Listed {
+            pan: pan(b"4111111111111111")?,
+            currency: *b"840",
+            opening: 5000,
+        },
+        Listed {
+            pan: pan(b"01")?,
+            currency: *b"840",
+            opening: 0,
+        },
+        Listed {
+            pan: pan(b"1")?,
+            currency: *b"978",
+            opening: 100,
+        },
+    ];
+    Ok(accounts)
+}
+
+/// Hands the orders that are drawn to an issuer and to the plain program, and collects the codes.
+fn compare(
+    rt: &impl Abort,
+    alloc: Global,
+    draws: &mut Draws,
+    codes: &mut BTreeSet<u8>,
+) -> Result<(), Fail> {
+    let mut scanning = Scanning::new(alloc, listed()?, 120);
+    let mut issuer = Issuer::new(Accounts::from_json(alloc, ACCOUNTS)?, 120);
+    for _ in 0..300 {
+        if let Some(order) = draws.order()? {
+            codes.insert(step(rt, &mut issuer, &mut scanning, order)?)?;
+        }
+    }
+    Ok(())
+}
+
+#[test]
+fn generated_runs(rt: HostRuntime) -> Result<(), Fail> {
+    let mut draws = Draws(1);
+    let mut codes = BTreeSet::new(rt.alloc());
+    for _ in 0..3 {
+        compare(&rt, rt.alloc(), &mut draws, &mut codes)?;
+    }
+    for code in [0, 12, 14, 21, 51, 94, FULL] {
+        assert!(rt; codes.contains(&code), "{code}");
+    }
+    Ok(())
+}
