@@ -1,12 +1,15 @@
 -- One more body: the stream and the output.
-use Rattle.std.proofs.Common.{◌≡◌, ℕ, zero, suc, ◌-◌, ◌≤◌, List, [], ◌∷◌, ◌++◌, length, take, sym, subst, refl, arith, ap, ◌∙◌, append_assoc, append-nil, length-append}
+use Rattle.std.proofs.Common.{◌≡◌, ℕ, zero, suc, ◌-◌, ◌≤◌, List, [], ◌∷◌, ◌++◌, length, take, Option, Some, None, sym, subst, refl, arith, ap, ◌∙◌, append_assoc, append-nil, length-append}
 use Rattle.std.proofs.Math.Seq.{take-append_seam}
 use Rattle.iso_table.specs.Layout.{Layout}
 use Rattle.iso_wire.specs.declared.header.Header.{Header}
+use Rattle.iso_wire.specs.Contents.{Contents}
 use Rattle.iso_wire.specs.Frame.{frame_of, frames_of, AllFit, largest}
+use Rattle.iso_wire.specs.OneSpelling.{PlainOnce}
 use Rattle.iso_issuer.specs.Books.{Books}
 use Rattle.iso_host.specs.Entering.{books_after}
-use Rattle.iso_host.specs.Output.{IsAnswer, IsOutputFrom, IsOutput}
+use Rattle.iso_host.specs.Asking.{message_in}
+use Rattle.iso_host.specs.Output.{response_to, IsFramed, IsAnswer, IsOutputFrom, IsOutput, OutputOnce}
 use Rattle.iso_host.specs.Served.{front, IsPrefix}
 
 -- ---- the stream
@@ -70,3 +73,25 @@ pub output_front : (t : Layout) (h : Header) (books : Books) (bodies : List (Lis
     → IsOutput t h books bodies out → (less : List ℕ) × IsOutput t h books (front bodies) less × IsPrefix less out
 unfolding IsOutput
 output_front t h books bodies out is = output_from_take t h books (length bodies - 1) [] bodies out is
+
+-- ---- one output
+
+framed_once : (t : Layout) (h : Header) (r : Option Contents) (a b : List ℕ) → PlainOnce → IsFramed t h r a → IsFramed t h r b → a ≡ b
+framed_once t h None a b once one other = one ∙ sym other
+framed_once t h (Some r) a b once one other = one.3 ∙ ap (frame_of h) (once t r one.0 other.0 one.1 other.1) ∙ sym other.3
+
+answer_once : (t : Layout) (h : Header) (books : Books) (body a b : List ℕ) → PlainOnce → IsAnswer t h books body a → IsAnswer t h books body b → a ≡ b
+unfolding IsAnswer
+answer_once t h books body a b once one other = framed_once t h (response_to books (message_in t body)) a b once one other
+
+output_from_once : (t : Layout) (h : Header) (books : Books) (earlier bodies : List (List ℕ)) (a b : List ℕ) → PlainOnce → IsOutputFrom t h books earlier bodies a → IsOutputFrom t h books earlier bodies b → a ≡ b
+output_from_once t h books earlier [] a b once one other = one ∙ sym other
+output_from_once t h books earlier (x ∷ xs) a b once one other =
+    one.4
+    ∙ ap (λ (l : List ℕ). l ++ one.1) (answer_once t h (books_after t books earlier) x one.0 other.0 once one.2 other.2)
+    ∙ ap (λ (l : List ℕ). other.0 ++ l) (output_from_once t h books (earlier ++ x ∷ []) xs one.1 other.1 once one.3 other.3)
+    ∙ sym other.4
+
+pub output_once : PlainOnce → OutputOnce
+unfolding IsOutput
+output_once once t h books bodies a b one other = output_from_once t h books [] bodies a b once one other

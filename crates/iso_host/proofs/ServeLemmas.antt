@@ -66,26 +66,7 @@ module _ (t : Layout) (h : Header) (unread left held : Option (List ℕ)) (old :
       answers = Appends-trans held written after _ _ served.answers whole.appends;
     }
 
-    -- one more body is handled, and nothing of its answer is written
-    stopped_before : (after : Option (List ℕ)) (new : Books) (body : List ℕ) (used : ℕ) → Begins h bytes body used → new ≡ entered t mid body
-        → after ≡ written → Cut t h unread left held after old new
-    stopped_before after new body used begins enters same = (
-      bodies ++ body ∷ [],
-      drop used bytes,
-      served.bytes,
-      record {
-        read = read_more body used begins;
-        fit = AllFit_more h bodies body served.fit begins.fits;
-        books = entered_more new body enters;
-        answers = subst (λ o. Appends held o served.bytes) (sym same) served.answers;
-        less = served.bytes;
-        less_output = subst (λ l. IsOutput t h old l served.bytes) (sym (front_more bodies body)) served.output;
-        no_less = ([], sym (append-nil served.bytes));
-        no_more = inl refl;
-      },
-    )
-
-    -- one more body is handled, and its answer is written in part
+    -- one more body is handled, and of its answer nothing or a part is written
     stopped_after : (after : Option (List ℕ)) (new : Books) (body : List ℕ) (used : ℕ) → Begins h bytes body used → new ≡ entered t mid body
         → (answer : List ℕ) → IsAnswer t h mid body answer → WritesSome written after answer → Cut t h unread left held after old new
     stopped_after after new body used begins enters answer is some = (
@@ -100,13 +81,11 @@ module _ (t : Layout) (h : Header) (unread left held : Option (List ℕ)) (old :
         less = served.bytes;
         less_output = subst (λ l. IsOutput t h old l served.bytes) (sym (front_more bodies body)) served.output;
         no_less = (take some.0 answer, refl);
-        no_more = inr (
-          served.bytes ++ answer,
-          output_more t h old bodies body served.bytes answer served.output (answer_more body answer is),
-          (
-            drop some.0 answer,
-            ap (λ (l : List ℕ). served.bytes ++ l) (sym (take-append-drop some.0 answer)) ∙ sym (append_assoc served.bytes (take some.0 answer) (drop some.0 answer)),
-          ),
+        most = served.bytes ++ answer;
+        most_output = output_more t h old bodies body served.bytes answer served.output (answer_more body answer is);
+        no_more = (
+          drop some.0 answer,
+          ap (λ (l : List ℕ). served.bytes ++ l) (sym (take-append-drop some.0 answer)) ∙ sym (append_assoc served.bytes (take some.0 answer) (drop some.0 answer)),
         );
       },
     )
@@ -126,7 +105,9 @@ module _ (t : Layout) (h : Header) (unread left held : Option (List ℕ)) (old :
             less = front.0;
             less_output = front.1;
             no_less = front.2;
-            no_more = inr (served.bytes, served.output, ([], sym (append-nil served.bytes)));
+            most = served.bytes;
+            most_output = served.output;
+            no_more = ([], sym (append-nil served.bytes));
           },
         )
 
@@ -136,11 +117,7 @@ module _ (t : Layout) (h : Header) (unread left held : Option (List ℕ)) (old :
     stopped_answering after new body used begins (inl kept) =
         subst (λ (b : Books). Cut t h unread left held after old b) (sym kept.0)
         (subst (λ o. Cut t h unread left held o old mid) (sym kept.1) (stopped_here left [] (Consumes-nil left)))
-    stopped_answering after new body used begins (inr some) = by_bytes some.0 some.1
-      where
-        by_bytes : new ≡ entered t mid body → (after ≡ written) ⊎ ((answer : List ℕ) × IsAnswer t h mid body answer × WritesSome written after answer) → Cut t h unread left held after old new
-        by_bytes enters (inl same) = stopped_before after new body used begins enters same
-        by_bytes enters (inr part) = stopped_after after new body used begins enters part.0 part.1 part.2
+    stopped_answering after new body used begins (inr some) = stopped_after after new body used begins some.0 some.1.0 some.1.1 some.1.2
 
     pub stop_at : (T : Type 0) (after : Option (List ℕ)) (new : Books) (c0 c1 : Counts) (before turns : ℕ) (body : List ℕ) (used : ℕ) (fault : ServeFault) → Begins h bytes body used
         → AnswersPart t h mid new body written after → SpendsOnWrite {T = T} c0 c1 before turns (Err fault)

@@ -17,9 +17,9 @@ Handles t h books body Unreadable = IsTrue (is_unreadable (asked_of t body)) × 
 Handles t h books body Silent = IsTrue (is_silent (asked_of t body)) × IsAnswer t h books body []
 Handles t h books body (Answered bytes) = IsTrue (is_answered (asked_of t body)) × IsAnswer t h books body bytes.items
 
--- the body's order was entered, or the books are as they were
-abbrev pub EntersOrKeeps : Layout → Books → Books → List ℕ → Type 0
-EntersOrKeeps t old new body = (new ≡ old) ⊎ (new ≡ entered t old body)
+-- the books are as they were, or the body's order was entered, and the body has an answer
+abbrev pub EntersOrKeeps : Layout → Header → Books → Books → List ℕ → Type 0
+EntersOrKeeps t h old new body = (new ≡ old) ⊎ ((new ≡ entered t old body) × ((bytes : List ℕ) × IsAnswer t h old body bytes))
 
 -- a balance of at most twelve digits is shown for an inquiry, and none for another act
 abbrev pub is_shown_for : Act → Option ℤ → Bool

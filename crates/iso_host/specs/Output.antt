@@ -61,3 +61,7 @@ IsOutputFrom t h books earlier (body ∷ bodies) bytes =
 -- what is written for these bodies
 unfoldable pub IsOutput : Layout → Header → Books → List (List ℕ) → List ℕ → Type 0
 IsOutput t h books bodies bytes = IsOutputFrom t h books [] bodies bytes
+
+-- no bodies have two outputs
+abbrev pub OutputOnce : Type 0
+OutputOnce = (t : Layout) (h : Header) (books : Books) (bodies : List (List ℕ)) (a b : List ℕ) → IsOutput t h books bodies a → IsOutput t h books bodies b → a ≡ b

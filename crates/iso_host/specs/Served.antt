@@ -1,5 +1,5 @@
 -- What a call of `serve` leaves.
-use Rattle.std.specs.Prelude.{◌≡◌, ◌≢◌, ◌⊎◌, ℕ, ◌+◌, ◌-◌, ◌<◌, ◌≤◌, Bool, true, false, List, [], ◌++◌, length, take, Result, Ok, Err, if◌then◌else◌}
+use Rattle.std.specs.Prelude.{◌≡◌, ◌≢◌, ℕ, ◌+◌, ◌-◌, ◌<◌, ◌≤◌, Bool, true, false, List, [], ◌++◌, length, take, Result, Ok, Err, if◌then◌else◌}
 use Rattle.std.specs.declared.option.Option.{Option}
 use Rattle.std.specs.Io.KnownBytes.{Appends, Consumes, IsAtEnd}
 use Rattle.std.specs.Io.Iter.{u64_saturate}
@@ -34,8 +34,8 @@ front bodies = take (length bodies - 1) bodies
 abbrev pub IsPrefix : List ℕ → List ℕ → Type 0
 IsPrefix xs ys = (more : List ℕ) × (ys ≡ xs ++ more)
 
--- these bodies came in whole frames; they were handled, and all their answers but the last were written, and of the
--- last one nothing or a part
+-- these bodies came in whole frames; they were handled, and what was written lies between the output for all but the
+-- last and the output for all
 pub record Stopped (t : Layout) (h : Header) (unread left held written : Option (List ℕ)) (old new : Books) (bodies : List (List ℕ)) (rest bytes : List ℕ) : Type 0 where
   pub read : Consumes unread left (frames_of h bodies ++ rest)
   pub fit : AllFit h bodies
@@ -44,7 +44,9 @@ pub record Stopped (t : Layout) (h : Header) (unread left held written : Option 
   pub less : List ℕ
   pub less_output : IsOutput t h old (front bodies) less
   pub no_less : IsPrefix less bytes
-  pub no_more : (bytes ≡ less) ⊎ ((most : List ℕ) × IsOutput t h old bodies most × IsPrefix bytes most)
+  pub most : List ℕ
+  pub most_output : IsOutput t h old bodies most
+  pub no_more : IsPrefix bytes most
 
 -- ---- the report
 

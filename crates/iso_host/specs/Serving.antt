@@ -34,11 +34,12 @@ SpendsOnWrite old new before left (Err Memory) = Spends old new before left
 
 -- ---- answering
 
--- at an error the body's order was entered or not, and only where it was, some bytes at the front of its answer may be written
+-- at an error the books are as they were and nothing was written, or the body's order was entered and some bytes at the
+-- front of its answer were written, or none
 abbrev pub AnswersPart : Layout → Header → Books → Books → List ℕ → Option (List ℕ) → Option (List ℕ) → Type 0
 AnswersPart t h old new body held written =
     ((new ≡ old) × (written ≡ held))
-    ⊎ ((new ≡ entered t old body) × ((written ≡ held) ⊎ ((bytes : List ℕ) × IsAnswer t h old body bytes × WritesSome held written bytes)))
+    ⊎ ((new ≡ entered t old body) × ((bytes : List ℕ) × IsAnswer t h old body bytes × WritesSome held written bytes))
 
 -- the body's order was entered and its answer written
 pub record AnswersWhole (t : Layout) (h : Header) (old new : Books) (body : List ℕ) (held written : Option (List ℕ)) : Type 0 where

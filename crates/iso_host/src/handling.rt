@@ -12,10 +12,13 @@ ghost use Rattle.iso_host.specs.Handled.{Handles, EntersOrKeeps, is_shown_for};
 ghost use Rattle.iso_host.specs.Output.{outcome_for, outcome_of, IsFramed};
 
 use iso_issuer::{Issuer, Refused};
-use iso_order::laws::{responses_are_short, responses_fit};
+use iso_order::laws::{responses_are_short, responses_are_well_formed, responses_fit};
 use iso_order::{Answer, NoMemory, Order, Verdict, order_of, respond};
 use iso_table::Table;
-use iso_wire::{FrameFault, Header, Message, PackFault, UnpackCause, frame, pack, unpack};
+use iso_wire::{
+    FrameFault, Header, Message, PackFault, UnpackCause, frame, pack, spelled_once, unpack,
+    well_formed,
+};
 use std::alloc::Global;
 
 /// What came of a body.
@@ -134,7 +137,24 @@ fn answer_frame(
     framed_response(alloc, table, header, &response)
 }
 
-/// Handles one body: an order is entered, and then the response is made. After an `Err` its order may be entered.
+/// Each response has a frame: the table doesn't refuse it, so it has a plain spelling, which each header can count.
+fn has_frame(table: &Table, header: Header, message: &Message, answer: &Answer)
+    requires ready { IsHostReady table.now }
+    requires read { (bytes : List ℕ) × Spelling table.now message.now bytes }
+    requires asks { asks (function message.now) ≡ true }
+    requires shown { is_showable message.now answer.now.shown ≡ true }
+    ensures { (bytes : List ℕ) × IsFramed table.now header (Some (response message.now answer.now)) bytes }
+{
+    responses_fit();
+    responses_are_short();
+    responses_are_well_formed();
+    spelled_once();
+    well_formed(message);
+    let _version = table.version();
+}
+
+/// Handles one body: an order is entered, and then the response is made. After an `Err` its order may be entered:
+/// then the body has an answer, though it wasn't made.
 #[tactic(auto, unfolding(crate::specs::Output::IsAnswer))]
 pub fn handle_body(
     alloc: Global,
@@ -146,7 +166,7 @@ pub fn handle_body(
     requires { IsHostReady table.now }
     ensures handled { IfOk result (Handles table.now header issuer.old body.now) }
     ensures entered { OnOk result (issuer.new ≡ entered table.now issuer.old body.now) }
-    ensures memory { OnErr result (EntersOrKeeps table.now issuer.old issuer.new body.now) }
+    ensures memory { OnErr result (EntersOrKeeps table.now header issuer.old issuer.new body.now) }
 {
     let Some(message) = whole_message(alloc, table, body)? else {
         return Ok(Handled::Unreadable);
@@ -154,6 +174,7 @@ pub fn handle_body(
     let Some(answer) = answer_to(issuer, &message)? else {
         return Ok(Handled::Silent);
     };
+    has_frame(table, header, &message, &answer);
     let bytes = answer_frame(alloc, table, header, &message, &answer)?;
     Ok(Handled::Answered(bytes))
 }

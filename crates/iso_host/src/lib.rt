@@ -7,6 +7,7 @@
 //! - `Std`: a std reader as an inlet, a std writer as an outlet.
 //! - `Tally` and `Call`: the counts that an inlet or outlet of your own keeps. They cost nothing at run time.
 //! - `write_all`: whole bytes to an outlet, and a flush.
+//! - `laws`: bodies have one output.
 #![tactic(auto)]
 
 mod buffer;
@@ -15,6 +16,7 @@ mod counting;
 mod fakes;
 mod fault;
 mod handling;
+pub mod laws;
 mod serving;
 mod standard;
 mod streams;

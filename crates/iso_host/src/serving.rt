@@ -104,8 +104,9 @@ fn ended(rest: &[u8], report: Report) -> Result<Report, ServeFault>
 /// The reads and writes together are at most `turns`.
 ///
 /// The table is one that `Table::host_ready` accepts. At `Ok`, `Read`, `BadHeader` and `CutFrame` all whole frames are
-/// handled and answered. At `Write`, `Memory` and `TooManyTurns` the last answer may be missing or cut short, though its
-/// order may be entered: sent again, it gets that answer.
+/// handled and answered. At `Write`, `Memory` and `TooManyTurns` what is written lies between the output for all bodies
+/// that were handled but the last and the output for all of them: the last answer may be missing or cut short, though
+/// its order may be entered. Sent again, it gets that answer.
 pub fn serve<R: Inlet, W: Outlet>(
     alloc: Global,
     table: &Table,

@@ -13,7 +13,7 @@ use Rattle.iso_order.specs.Response.{entry, elements_at, elements_from, element,
 abbrev Values : Type 0
 Values = List (ℕ × List ℕ)
 
-ascend_parts : (low n : ℕ) (ns : List ℕ) → ascend low (n ∷ ns) ≡ true → (low ≤ n) × (is_responded n ≡ true) × (ascend (n + 1) ns ≡ true)
+pub ascend_parts : (low n : ℕ) (ns : List ℕ) → ascend low (n ∷ ns) ≡ true → (low ≤ n) × (is_responded n ≡ true) × (ascend (n + 1) ns ≡ true)
 ascend_parts low n ns h =
     let rest = and_parts (nat_le low n && is_responded n) (ascend (n + 1) ns) h in
     let first = and_parts (nat_le low n) (is_responded n) rest.0 in

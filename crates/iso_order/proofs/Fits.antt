@@ -46,7 +46,7 @@ version_kept mti h =
 part_taken : (rows : List (Option FieldSpec)) (n : ℕ) (v b : List ℕ) → PartAs rows n v b → IsTaken rows n v
 part_taken rows n v b part = ap (λ (r : Option FieldSpec). refused_by r n v) part.1 ∙ ap (refused_field n) (refusal_from_fits part.0 v part.2.1.0)
 
-value_by : (t : Bool) (v : List ℕ) (o : Option (List ℕ)) (P : List ℕ → Type 0) → (t ≡ true → P v) → IfSome o P → IfSome (if t then Some v else o) P
+pub value_by : (t : Bool) (v : List ℕ) (o : Option (List ℕ)) (P : List ℕ → Type 0) → (t ≡ true → P v) → IfSome o P → IfSome (if t then Some v else o) P
 value_by true v o P here rest = here refl
 value_by false v o P here rest = rest
 
@@ -59,7 +59,7 @@ value_taken rows (e ∷ es) b parts n =
 
 -- ---- the response code, the approval and the balance
 
-approval_by : (t : Bool) (v : List ℕ) (P : List ℕ → Type 0) → P v → IfSome (if t then Some v else None) P
+pub approval_by : (t : Bool) (v : List ℕ) (P : List ℕ → Type 0) → P v → IfSome (if t then Some v else None) P
 approval_by true v P here = here
 approval_by false v P here = tt
 
@@ -109,7 +109,7 @@ balance_taken t m a ready shown =
 
 -- ---- each element
 
-element_by : (is38 is39 is54 echoed : Bool) (x y z v : Option (List ℕ)) (P : List ℕ → Type 0) → (is38 ≡ true → IfSome x P) → (is39 ≡ true → IfSome y P) → (is54 ≡ true → IfSome z P) → IfSome v P
+pub element_by : (is38 is39 is54 echoed : Bool) (x y z v : Option (List ℕ)) (P : List ℕ → Type 0) → (is38 ≡ true → IfSome x P) → (is39 ≡ true → IfSome y P) → (is54 ≡ true → IfSome z P) → IfSome v P
     → IfSome (if is38 then x else if is39 then y else if is54 then z else if echoed then v else None) P
 element_by true is39 is54 echoed x y z v P a b c d = a refl
 element_by false true is54 echoed x y z v P a b c d = b refl

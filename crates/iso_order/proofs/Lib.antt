@@ -8,4 +8,5 @@ pub mod Shown
 pub mod Sizes
 pub mod Table
 pub mod Valid
+pub mod WellFormed
 mod Codes

@@ -1,13 +1,18 @@
--- Every response can be written under a table that is ready for a host.
+-- Every response is well formed, and can be written under a table that is ready for a host.
 use Rattle.std.specs.Prelude.{◌≡◌, ℕ, ◌≤◌, true, List, length, None}
 use Rattle.iso_table.specs.HostReady.{IsHostReady}
 use Rattle.iso_table.specs.Layout.{Layout}
 use Rattle.iso_wire.specs.Contents.{Contents}
+use Rattle.iso_wire.specs.OneSpelling.{WellFormed}
 use Rattle.iso_wire.specs.Refusal.{message_refusal}
 use Rattle.iso_wire.specs.Spelling.{Spelling, PlainSpelling}
 use Rattle.iso_order.specs.Fields.{function, asks}
 use Rattle.iso_order.specs.Outcome.{Outcome}
 use Rattle.iso_order.specs.Response.{response, is_showable}
+
+-- a response to a request or an advice is well formed
+abbrev pub ResponsesAreWellFormed : Type 0
+ResponsesAreWellFormed = (m : Contents) (a : Outcome) → WellFormed m → asks (function m) ≡ true → WellFormed (response m a)
 
 -- the message was read under a table that is ready for a host, and what is shown can be shown
 pub record IsServed (t : Layout) (m : Contents) (a : Outcome) : Type 0 where

@@ -1,6 +1,11 @@
 //! What holds of every response: functions that do nothing, and whose contracts are laws.
 
-ghost use Rattle.iso_order.specs.Fitting.{ResponsesFit, ResponsesAreShort};
+ghost use Rattle.iso_order.specs.Fitting.{ResponsesAreShort, ResponsesAreWellFormed, ResponsesFit};
+
+/// The response to a well-formed request or advice is well formed.
+pub fn responses_are_well_formed()
+    ensures { ResponsesAreWellFormed }
+{}
 
 /// The response to each request or advice that was unpacked with a table that is ready for a host fits that table:
 /// `pack` refuses none.

@@ -2,6 +2,7 @@
 
 use crate::fakes::{FewBytes, FewTaken};
 use crate::fault::{Report, ServeFault};
+use crate::laws::one_output;
 use crate::serving::serve;
 use crate::standard::Std;
 use iso_issuer::{Accounts, Issuer};
@@ -233,6 +234,7 @@ fn a_failing_flush_is_a_failing_write(rt: HostRuntime) -> Result<(), Fail> {
 
 #[test]
 fn nothing_to_serve(rt: HostRuntime) -> Result<(), Fail> {
+    one_output();
     let alloc = rt.alloc();
     let mut issuer = issuer(alloc)?;
     let reader = FewBytes {

@@ -1,0 +1,24 @@
+use Rattle.std.proofs.Common.{◌≡◌, ◌≤◌, ℕ, length, refl, arith}
+use Rattle.iso_wire.specs.declared.header.Header.{Header}
+use Rattle.iso_wire.specs.declared.header.Header.TheVariants.{Binary2, Ascii4, Bcd2}
+use Rattle.iso_wire.specs.Frame.{frame_of, largest}
+use Rattle.iso_order.specs.Fitting.{IsServed}
+use Rattle.iso_order.specs.Response.{response}
+use Rattle.iso_host.proofs.handling.has_frame.Goals as goal
+
+-- each header can count 9,999 bytes
+short_fits : (h : Header) (n : ℕ) → n ≤ 9999 → n ≤ largest h
+short_fits Binary2 n short = omega arith
+short_fits Ascii4 n short = short
+short_fits Bcd2 n short = short
+
+pub returns : goal.returns
+returns c =
+    let t = c.args.table.now in
+    let h = c.args.header in
+    let m = c.args.message.now in
+    let a = c.args.answer.now in
+    let served : IsServed t m a = record { ready = c.requires.ready; bytes = c.requires.read.0; read = c.requires.read.1; shown = c.requires.shown } in
+    let well = c.responses_are_well_formed.ensures m a c.well_formed-2.ensures c.requires.asks in
+    let plain = c.spelled_once.ensures.some t (response m a) c.version-version.ensures.good well (c.responses_fit.ensures t m a served c.requires.asks) in
+    (frame_of h plain.0, (plain.0, plain.1, short_fits h (length plain.0) (c.responses_are_short.ensures t m a plain.0 served plain.1), refl))

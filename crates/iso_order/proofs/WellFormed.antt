@@ -1,0 +1,106 @@
+-- The response to a well-formed message is well formed.
+use Rattle.std.proofs.Common.{◌≡◌, ℕ, zero, suc, ◌+◌, ◌/◌, ◌%◌, ◌<◌, ◌≤◌, Bool, true, false, ◌&&◌, List, [], ◌∷◌, ◌++◌, Option, Some, None, refl, sym, subst, arith}
+use Rattle.std.specs.Prelude.{ℤ, pos, int_lt, unsigned_abs, unwrap_or, ◌==◌, ◌||◌, if◌then◌else◌, IfSome, option_map}
+use Rattle.std.proofs.lemmas.Bool.{and_parts}
+use Rattle.std.proofs.lemmas.Bool.Decides.{nat_tests}
+use Rattle.iso_wire.specs.Contents.{Contents}
+use Rattle.iso_wire.specs.Decimal.{decimal}
+use Rattle.iso_wire.specs.Elements.{value_in, is_number, IsAscending}
+use Rattle.iso_wire.specs.OneSpelling.{AreOfBytes, WellFormed}
+use Rattle.iso_wire.specs.Spelling.{AreBytes}
+use Rattle.iso_wire.proofs.Messages.{bytes_append}
+use Rattle.iso_wire.proofs.Orders.{IsAscending-one, IsAscending-from}
+use Rattle.iso_order.specs.Fields.{asks, text}
+use Rattle.iso_order.specs.Fitting.{ResponsesAreWellFormed}
+use Rattle.iso_order.specs.Outcome.{Outcome}
+use Rattle.iso_order.specs.Response.{response_mti, is_echoed, is_approved, approval, sign, additional, balance, element, entry, elements_at, ascend, is_responded}
+use Rattle.iso_order.proofs.Ascending.{ascend_parts, response-listed}
+use Rattle.iso_order.proofs.Fits.{Values, value_by, approval_by, element_by}
+
+-- ---- its values
+
+bytes-none : AreBytes []
+bytes-none i = omega arith
+
+bytes-more : (b : ℕ) (v : List ℕ) → b < 256 → AreBytes v → AreBytes (b ∷ v)
+bytes-more b v lt rest zero = lt
+bytes-more b v lt rest (suc i) = rest i
+
+bytes-decimal : (n v : ℕ) → AreBytes (decimal n v)
+bytes-decimal zero v = bytes-none
+bytes-decimal (suc n) v = bytes_append (decimal n (v / 10)) ((48 + v % 10) ∷ []) (bytes-decimal n (v / 10)) (bytes-more (48 + v % 10) [] (omega arith) bytes-none)
+
+sign_by : (t : Bool) → (if t then 68 else 67) < 256
+sign_by true = omega arith
+sign_by false = omega arith
+
+bytes-additional : (currency : List ℕ) (z : ℤ) → AreBytes currency → AreBytes (additional currency z)
+bytes-additional currency z bytes =
+    let amount = decimal 12 (unsigned_abs z) in
+    let signed = bytes-more (sign z) amount (sign_by (int_lt z (pos 0))) (bytes-decimal 12 (unsigned_abs z)) in
+    let rest : List ℕ = currency ++ sign z ∷ amount in
+    let whole = bytes_append currency (sign z ∷ amount) bytes signed in
+    bytes-more 48 (48 ∷ 48 ∷ 50 ∷ rest) (omega arith)
+    (bytes-more 48 (48 ∷ 50 ∷ rest) (omega arith) (bytes-more 48 (50 ∷ rest) (omega arith) (bytes-more 50 rest (omega arith) whole)))
+
+bytes-balance : (currency : List ℕ) (shown : Option ℤ) → AreBytes currency → IfSome (option_map (additional currency) shown) AreBytes
+bytes-balance currency (Some z) bytes = bytes-additional currency z bytes
+bytes-balance currency None bytes = tt
+
+bytes-value : (es : Values) (n : ℕ) → AreOfBytes es → IfSome (value_in es n) AreBytes
+bytes-value [] n bytes = tt
+bytes-value (e ∷ es) n bytes = value_by (e.0 == n) e.1 (value_in es n) AreBytes (λ is. bytes.0) (bytes-value es n bytes.1)
+
+bytes-text : (v : Option (List ℕ)) → IfSome v AreBytes → AreBytes (unwrap_or v [])
+bytes-text (Some v) bytes = bytes
+bytes-text None bytes = bytes-none
+
+bytes-element : (m : Contents) (a : Outcome) (n : ℕ) → AreOfBytes m.elements → IfSome (element m a n) AreBytes
+bytes-element m a n bytes =
+    element_by (n == 38) (n == 39) (n == 54) (is_echoed n) (approval m a) (Some (decimal 2 a.code)) (balance m a) (value_in m.elements n) AreBytes
+    (λ is. approval_by (is_approved m a) (decimal 6 a.seq) AreBytes (bytes-decimal 6 a.seq))
+    (λ is. bytes-decimal 2 a.code)
+    (λ is. bytes-balance (text m 49) a.shown (bytes-text (value_in m.elements 49) (bytes-value m.elements 49 bytes)))
+    (bytes-value m.elements n bytes)
+
+bytes-entry : (n : ℕ) (v : Option (List ℕ)) (es : Values) → IfSome v AreBytes → AreOfBytes es → AreOfBytes (entry n v ++ es)
+bytes-entry n (Some v) es here rest = (here, rest)
+bytes-entry n None es here rest = rest
+
+bytes-at : (value : ℕ → Option (List ℕ)) (ns : List ℕ) → ((n : ℕ) → IfSome (value n) AreBytes) → AreOfBytes (elements_at value ns)
+bytes-at value [] each = tt
+bytes-at value (n ∷ ns) each = bytes-entry n (value n) (elements_at value ns) (each n) (bytes-at value ns each)
+
+-- ---- their order
+
+ascending-entry : (low n : ℕ) (v : Option (List ℕ)) (es : Values) → low ≤ n → is_number n ≡ true → IsAscending (n + 1) es → IsAscending low (entry n v ++ es)
+ascending-entry low n (Some v) es le number rest = let one = IsAscending-one n v number in (le, one.1, one.2, rest)
+ascending-entry low n None es le number rest = IsAscending-from low (n + 1) es (omega arith) rest
+
+ascending-at : (value : ℕ → Option (List ℕ)) (low : ℕ) (ns : List ℕ) → ascend low ns ≡ true → IsAscending low (elements_at value ns)
+ascending-at value low [] h = tt
+ascending-at value low (n ∷ ns) h =
+    let parts = ascend_parts low n ns h in
+    let number = (and_parts (is_number n) (n == 38 || n == 39 || n == 54 || is_echoed n) parts.1).0 in
+    ascending-entry low n (value n) (elements_at value ns) parts.0 number (ascending-at value (n + 1) ns parts.2)
+
+-- ---- its type
+
+-- a function of 0 or 2 has no carry
+type_small : (mti : ℕ) → mti < 10000 → asks (mti / 10 % 10) ≡ true → response_mti mti < 10000
+type_small mti small h =
+    let low : mti / 10 % 10 ≤ 2 = grind (arith, nat_tests) in
+    omega arith
+
+-- ---- the response
+
+pub responses_well_formed_lem : ResponsesAreWellFormed
+responses_well_formed_lem m a well answered =
+    let value = element m a in
+    let numbers : List ℕ = 2 ∷ 3 ∷ 4 ∷ 7 ∷ 11 ∷ 12 ∷ 13 ∷ 32 ∷ 33 ∷ 37 ∷ 38 ∷ 39 ∷ 41 ∷ 42 ∷ 49 ∷ 54 ∷ 70 ∷ 90 ∷ [] in
+    subst WellFormed (sym (response-listed m a))
+    (record {
+      mti = type_small m.mti well.mti answered;
+      ascending = ascending-at value 2 numbers refl;
+      bytes = bytes-at value numbers (λ n. bytes-element m a n well.bytes);
+    })
