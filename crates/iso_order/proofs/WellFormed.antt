@@ -1,5 +1,5 @@
 -- The response to a well-formed message is well formed.
-use Rattle.std.proofs.Common.{◌≡◌, ℕ, zero, suc, ◌+◌, ◌/◌, ◌%◌, ◌<◌, ◌≤◌, Bool, true, false, ◌&&◌, List, [], ◌∷◌, ◌++◌, Option, Some, None, refl, sym, subst, arith}
+use Rattle.std.proofs.Common.{◌≡◌, ℕ, zero, suc, ◌+◌, ◌/◌, ◌%◌, ◌<◌, ◌≤◌, Bool, true, false, List, [], ◌∷◌, ◌++◌, Option, Some, None, refl, sym, subst, arith}
 use Rattle.std.specs.Prelude.{ℤ, pos, int_lt, unsigned_abs, unwrap_or, ◌==◌, ◌||◌, if◌then◌else◌, IfSome, option_map}
 use Rattle.std.proofs.lemmas.Bool.{and_parts}
 use Rattle.std.proofs.lemmas.Bool.Decides.{nat_tests}
@@ -13,7 +13,7 @@ use Rattle.iso_wire.proofs.Orders.{IsAscending-one, IsAscending-from}
 use Rattle.iso_order.specs.Fields.{asks, text}
 use Rattle.iso_order.specs.Fitting.{ResponsesAreWellFormed}
 use Rattle.iso_order.specs.Outcome.{Outcome}
-use Rattle.iso_order.specs.Response.{response_mti, is_echoed, is_approved, approval, sign, additional, balance, element, entry, elements_at, ascend, is_responded}
+use Rattle.iso_order.specs.Response.{response_mti, is_echoed, is_approved, approval, sign, additional, balance, element, entry, elements_at, ascend}
 use Rattle.iso_order.proofs.Ascending.{ascend_parts, response-listed}
 use Rattle.iso_order.proofs.Fits.{Values, value_by, approval_by, element_by}
 
