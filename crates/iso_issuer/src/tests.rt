@@ -55,26 +55,33 @@ fn issuer(alloc: Global, opening: i64, limit: u32) -> Result<Issuer, Fail> {
 }
 
 #[test]
-fn limits(rt: HostRuntime) -> Result<(), Fail> {
-    let first = debit(200, 1, 10)?;
-    let second = debit(200, 2, 10)?;
-    let third = debit(200, 3, 10)?;
-
+fn limit_of_one(rt: HostRuntime) -> Result<(), Fail> {
+    let (first, second) = (debit(200, 1, 10)?, debit(200, 2, 10)?);
     let mut one = issuer(rt.alloc(), 100, 1)?;
     let answer = one.handle(first)?;
     assert_eq!(rt; one.handle(second), Err(Refused::Full));
     assert_eq!(rt; one.handle(first), Ok(answer));
     assert_eq!(rt; (one.len(), one.ledger(account()?)), (1, Some(90)));
+    Ok(())
+}
 
+#[test]
+fn limit_of_two(rt: HostRuntime) -> Result<(), Fail> {
+    let (first, second) = (debit(200, 1, 10)?, debit(200, 2, 10)?);
+    let third = debit(200, 3, 10)?;
     let mut two = issuer(rt.alloc(), 100, 2)?;
-    assert_eq!(rt; two.handle(first), Ok(answer));
+    let answer = two.handle(first)?;
     assert_eq!(rt; two.handle(second)?.seq, 2);
     assert_eq!(rt; two.handle(third), Err(Refused::Full));
     assert_eq!(rt; two.handle(first), Ok(answer));
     assert_eq!(rt; (two.len(), two.available(account()?)), (2, Some(80)));
+    Ok(())
+}
 
+#[test]
+fn greatest_limit(rt: HostRuntime) -> Result<(), Fail> {
     let mut most = issuer(rt.alloc(), 100, 999_999)?;
-    assert_eq!(rt; most.handle(third)?.seq, 1);
+    assert_eq!(rt; most.handle(debit(200, 3, 10)?)?.seq, 1);
     assert_eq!(rt; most.len(), 1);
     Ok(())
 }
