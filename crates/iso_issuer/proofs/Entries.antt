@@ -7,10 +7,10 @@ use Rattle.iso_order.specs.Key.{same_key}
 use Rattle.iso_order.specs.Order.{Instruction}
 use Rattle.iso_issuer.specs.declared.account.Account.{Account}
 use Rattle.iso_issuer.specs.declared.journal.Entry.{Entry}
-use Rattle.iso_issuer.specs.Journal.{firsts, is_entered, entry_at}
+use Rattle.iso_issuer.specs.Journal.{is_entered, entry_at}
 use Rattle.iso_issuer.specs.Decision.{entered, new_entry}
 use Rattle.iso_issuer.specs.Books.{IsKept}
-use Rattle.iso_issuer.proofs.Firsts.{firsts-new, firsts-distinct, distinct-push}
+use Rattle.iso_issuer.proofs.Firsts.{distinct-push}
 
 -- an order more is one entry more, decided on those before it
 pub entered-push : (accounts : List Account) (before : List Entry) (os : List Instruction) (o : Instruction) →
