@@ -8,6 +8,7 @@ use Rattle.iso_issuer.specs.declared.change.Change.{Change}
 use Rattle.iso_issuer.specs.declared.journal.Entry.{Entry}
 use Rattle.iso_issuer.specs.Journal.{stands}
 
+-- the accounts of the balances, in their order
 abbrev pub accounts_of : List Balance → List Account
 accounts_of balances = map (λ b. b.account) balances
 

@@ -1,0 +1,122 @@
+//! Words and documents that are refused.
+
+use super::*;
+use crate::fakes::FewBytes;
+
+/// Words and documents that are refused before the input is read.
+#[derive(Drop)]
+struct Refused {
+    name: &'static str,
+    words: [&'static str; 4],
+    accounts: &'static [u8],
+    status: u8,
+    faults: &'static [u8],
+}
+
+#[test]
+fn words_and_documents_are_refused_in_order(rt: HostRuntime) -> Result<(), Fail> {
+    let twice: &[u8] =
+        b"{\"accounts\":[{\"currency\":\"840\",\"opening\":5000,\"pan\":\"4111111111111111\"},{\"currency\":\"978\",\"opening\":0,\"pan\":\"4111111111111111\"}]}";
+    let most: &[u8] =
+        b"{\"accounts\":[{\"currency\":\"840\",\"opening\":9000000000000001,\"pan\":\"1\"}]}";
+    let cases = [
+        Refused {
+            name: "no such header, and no such files",
+            words: ["run", "none.json", "none.json", "ascii2"],
+            accounts: b"",
+            status: 2,
+            faults: b"command line refused\n",
+        },
+        Refused {
+            name: "an option in the place of the accounts",
+            words: ["run", "ascii87", "--accounts", "ascii4"],
+            accounts: b"",
+            status: 2,
+            faults: b"command line refused\n",
+        },
+        Refused {
+            name: "no such table",
+            words: ["run", "none.json", "accounts.json", "ascii4"],
+            accounts: b"{",
+            status: 3,
+            faults: b"failed: File\n",
+        },
+        Refused {
+            name: "accounts in the place of the table",
+            words: ["run", "accounts.json", "accounts.json", "ascii4"],
+            accounts: b"{",
+            status: 1,
+            faults: b"refused: table NotJson\n",
+        },
+        Refused {
+            name: "a table without an account number, before bad accounts",
+            words: ["run", "table.json", "accounts.json", "ascii4"],
+            accounts: b"{",
+            status: 1,
+            faults: b"refused: host NoRow element 2\n",
+        },
+        Refused {
+            name: "no such accounts",
+            words: ["run", "bcd87", "none.json", "ascii4"],
+            accounts: b"",
+            status: 3,
+            faults: b"failed: File\n",
+        },
+        Refused {
+            name: "accounts that are no JSON",
+            words: ["run", "ascii87", "accounts.json", "ascii4"],
+            accounts: b"{",
+            status: 1,
+            faults: b"refused: accounts NotJson\n",
+        },
+        Refused {
+            name: "accounts of another shape",
+            words: ["run", "ascii87", "accounts.json", "ascii4"],
+            accounts: b"{}",
+            status: 1,
+            faults: b"refused: accounts Shape\n",
+        },
+        Refused {
+            name: "an account twice",
+            words: ["run", "ascii87", "accounts.json", "ascii4"],
+            accounts: twice,
+            status: 1,
+            faults: b"refused: accounts Twice 1\n",
+        },
+        Refused {
+            name: "an amount out of range",
+            words: ["run", "ascii87", "accounts.json", "ascii4"],
+            accounts: most,
+            status: 1,
+            faults: b"refused: accounts OutOfRange 0\n",
+        },
+    ];
+    for case in &cases {
+        let name = case.name;
+        let documents = Documents {
+            accounts: case.accounts,
+            ..DOCUMENTS
+        };
+        let mut input = Std::new(FewBytes {
+            bytes: b"",
+            piece: 1,
+            calls: 0,
+        });
+        let mut written = Vec::new(rt.alloc());
+        let mut output = Std::new(&mut written);
+        let mut told = Vec::new(rt.alloc());
+        let mut faults = Std::new(&mut told);
+        let status = act(
+            rt.alloc(),
+            &case.words,
+            &documents,
+            &mut input,
+            &mut output,
+            &mut faults,
+        );
+        assert_eq!(rt; status, case.status, "{name}");
+        assert_eq!(rt; written.len(), 0, "{name}");
+        assert_eq!(rt; told.as_slice(), case.faults, "{name}");
+    }
+    Ok(())
+}
