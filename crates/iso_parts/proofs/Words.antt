@@ -7,6 +7,7 @@ use Rattle.hex.proofs.HexLemmas.{decode_of-ok}
 use Rattle.iso_parts.specs.declared.bitmap.BitmapCoding.{BitmapCoding}
 use Rattle.iso_parts.specs.declared.bitmap.BitmapCoding.TheVariants.{Raw, Hex}
 use Rattle.iso_parts.specs.Bits.{Bits, BitsIn, map_size}
+use Rattle.iso_parts.specs.MapLaws.{IsWordOf}
 use Rattle.iso_parts.specs.BitmapReading.{word_of, word_in}
 
 -- eight bytes are a word
@@ -15,14 +16,7 @@ word_fits b fits = omega (arith, fits 0, fits 1, fits 2, fits 3, fits 4, fits 5,
 
 -- ---- bytes of a set tell its word
 
-pub record WordRead (c : BitmapCoding) (set : ℕ → Bool) (b : List ℕ) : Type 0 where
-  pub word : ℕ
-  pub read : word_in c b ≡ Some word
-  pub small : word < 2 ^ 64
-  pub size : length b ≡ map_size c
-  pub bits : (k : ℕ) → 0 < k → k ≤ 64 → eqb (bit_at word (64 - k)) 1 ≡ set k
-
-pub word_again : (c : BitmapCoding) (set : ℕ → Bool) (b : List ℕ) → ((i : ℕ) → get_or b i 0 < 256) → BitsIn c set b → WordRead c set b
+pub word_again : (c : BitmapCoding) (set : ℕ → Bool) (b : List ℕ) → ((i : ℕ) → get_or b i 0 < 256) → BitsIn c set b → IsWordOf c set b
 word_again Raw set b fits bits = record { word = from_be_bytes w64 b; read = refl; small = word_fits b fits; size = bits.eight; bits = bits.bit }
 word_again Hex set b fits bits =
     let raw : List ℕ = bits.0 in

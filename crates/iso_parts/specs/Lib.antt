@@ -5,3 +5,5 @@ pub mod Bits
 pub mod BitmapReading
 pub mod Part
 pub mod Reading
+pub mod PartLaws
+pub mod MapLaws

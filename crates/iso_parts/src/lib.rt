@@ -7,6 +7,7 @@ mod class;
 mod encoding;
 mod fault;
 mod field;
+pub mod laws;
 mod mti;
 mod padding;
 mod prefix;

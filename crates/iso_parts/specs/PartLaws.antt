@@ -1,0 +1,27 @@
+-- What holds of the parts of every good row (ISO 8583:1987, structure of an element).
+use Rattle.std.specs.Prelude.{◌≡◌, ◌↔◌, ℕ, ◌+◌, ◌*◌, ◌≤◌, List, ◌++◌, length, take, None}
+use Rattle.hex.specs.Hex.{IsBytes}
+use Rattle.iso_parts.specs.declared.spec.FieldSpec.{FieldSpec}
+use Rattle.iso_parts.specs.Part.{Part, plain_part}
+use Rattle.iso_parts.specs.Reading.{Outcome, got, more, fault, part_at}
+use Rattle.iso_parts.specs.Row.{Fits, IsGood, refusal}
+
+-- bytes are missing
+abbrev pub IsMore : Outcome → Type 0
+IsMore more = Unit {0}
+IsMore (got v n) = ⊥
+IsMore (fault e) = ⊥
+
+pub record PartLaws : Type 0 where
+  -- a part of a value is read as that value and no byte more, whatever bytes follow
+  pub again : (s : FieldSpec) (v b rest : List ℕ) → IsGood s → Part s v b → part_at s (b ++ rest) ≡ got v (length b)
+  -- the bytes of a value that is read are a part of it
+  pub taken : (s : FieldSpec) (b v : List ℕ) (n : ℕ) → IsGood s → IsBytes b → part_at s b ≡ got v n → (n ≤ length b) × Part s v (take n b)
+  -- what is read stays, whatever bytes follow, unless bytes were missing
+  pub stays : (s : FieldSpec) (b rest : List ℕ) → (IsMore (part_at s b) → ⊥) → part_at s (b ++ rest) ≡ part_at s b
+  -- a value fits exactly where nothing refuses it
+  pub fits : (s : FieldSpec) (v : List ℕ) → Fits s v ↔ (refusal s v ≡ None)
+  -- the part that is written for a value is a part of it
+  pub plain : (s : FieldSpec) (v : List ℕ) → IsGood s → Fits s v → IsBytes v → Part s v (plain_part s v)
+  -- it has at most two bytes a character, and four
+  pub short : (s : FieldSpec) (v : List ℕ) → Fits s v → length (plain_part s v) ≤ 2 * s.max + 4
