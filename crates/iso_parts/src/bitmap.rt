@@ -119,11 +119,10 @@ impl Bitmap {
     }
 
     /// The set of a primary and a secondary bitmap's words, the first bit of each being the most significant.
-    pub fn from_words(first: u64, second: u64) -> Bitmap
+    pub(crate) fn from_words(first: u64, second: u64) -> Bitmap
         requires not_1 { first < 2 ^ 63 }
         requires not_65 { second < 2 ^ 63 }
-        ensures words { (result.first ≡ first) × (result.second ≡ second) }
-        ensures set { (n : ℕ) → contains result n ≡ in_words first second n }
+        ensures { (n : ℕ) → contains result n ≡ in_words first second n }
     {
         Bitmap { first, second }
     }

@@ -61,7 +61,7 @@ impl CharClass {
     }
 
     /// Whether the bytes are a value of the class.
-    pub fn takes(self, value: &[u8]) -> bool
+    pub(crate) fn takes(self, value: &[u8]) -> bool
         ensures { result ≡ is_in_class self value.now }
     {
         match value {
