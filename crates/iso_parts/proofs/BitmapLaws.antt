@@ -1,18 +1,20 @@
 -- Bitmaps that are read are those that the bytes spell, and those that are spelled are read.
-use Rattle.std.proofs.Common.{◌≡◌, ℕ, ◌+◌, ◌-◌, ◌*◌, ◌/◌, ◌%◌, ◌^◌, ◌<◌, ◌≤◌, Bool, true, false, cond, eqb, ltb, List, ◌++◌, length, take, drop, get_or, Option, Some, None, Result, Ok, Err, refl, sym, ap, subst, ◌∙◌, arith, inl, inr}
+use Rattle.std.proofs.Common.{◌≡◌, ◌≢◌, ℕ, ◌+◌, ◌-◌, ◌*◌, ◌/◌, ◌%◌, ◌^◌, ◌<◌, ◌≤◌, Bool, true, false, cond, eqb, ltb, List, ◌++◌, length, take, drop, get_or, Option, Some, None, Result, Ok, Err, refl, sym, ap, subst, ◌∙◌, arith, inl, inr}
 use Rattle.std.specs.Int.{bit_at}
+use Rattle.std.proofs.Math.Path.{fun_ext}
 use Rattle.std.proofs.lemmas.Bool.{cases_eq, cases_lt, ltb-false, ltb-true, le-ltb, lt-ltb, cond-true, cond-false}
 use Rattle.std.proofs.lemmas.Bool.Decides.{nat_tests}
-use Rattle.std.proofs.lemmas.Nat.Bits.{bit_at_cat_low, bit_at-zero}
+use Rattle.std.proofs.lemmas.Nat.Bits.{bit_at_above, bit_at_cat_low, bit_at-zero}
 use Rattle.std.proofs.lemmas.List.{take_at, length-append, length-take, length-drop, take-append-le, drop-append-le, take-take, drop-take, get_or-take, get_or-drop, get_or_past}
+use Rattle.iso_parts.specs.declared.bitmap.Bitmap.{Bitmap}
 use Rattle.iso_parts.specs.declared.bitmap.BitmapCoding.{BitmapCoding}
 use Rattle.iso_parts.specs.declared.bitmap.BitmapCoding.TheVariants.{Raw, Hex}
 use Rattle.iso_parts.specs.declared.bitmap.BitmapCause.TheVariants.{ThirdBitmap}
 use Rattle.iso_parts.specs.declared.bitmap.BitmapFault.{BitmapFault}
 use Rattle.iso_parts.specs.declared.bitmap.BitmapStep.{BitmapStep}
 use Rattle.iso_parts.specs.declared.bitmap.BitmapStep.TheVariants as steps
-use Rattle.iso_parts.specs.Bits.{BitsIn, map_size, in_words, first_set, second_set, One, Two, Bitmaps}
-use Rattle.iso_parts.specs.BitmapReading.{Maps, got, more, fault, top, word_in, first_by, second_by, maps_at, ReadsMaps, FoundMaps, IsRead}
+use Rattle.iso_parts.specs.Bits.{BitsIn, map_size, contains, in_words, AreElements, first_set, second_set, One, Two, Bitmaps}
+use Rattle.iso_parts.specs.BitmapReading.{Maps, IfRead, got, more, fault, top, word_in, first_by, second_by, maps_at, ReadsMaps, FoundMaps, IsRead}
 use Rattle.iso_parts.proofs.Words.{word_again, word_taken}
 
 -- ---- words and their first bit
@@ -141,14 +143,14 @@ pub maps_again : (c : BitmapCoding) (second : Bool) (set : ℕ → Bool) (m rest
 maps_again c true set m rest fits no_65 maps = two_read c set m rest fits no_65 maps
 maps_again c false set m rest fits no_65 maps = one_read c set m rest fits maps
 
+got_is : (w v n w' v' n' : ℕ) → got w v n ≡ got w' v' n' → (w ≡ w') × (v ≡ v') × (n ≡ n')
+got_is w v n w' v' n' e = (cc, cc, cc)
+
 -- what a function that reads gives, where the bytes begin with the bitmaps of a set
 is_read_by : (c : BitmapCoding) (set : ℕ → Bool) (b : List ℕ) (size : ℕ) (r : Result BitmapStep BitmapFault) → MapsRead c set b size → ReadsMaps r (maps_at c b) → IsRead set size r
 is_read_by c set b size (Ok (steps.Got bits used)) read h =
-    let same : got read.first read.second size ≡ got bits.first bits.second used = sym read.read ∙ h in
-    let first : read.first ≡ bits.first = cc in
-    let second : read.second ≡ bits.second = cc in
-    let count : size ≡ used = cc in
-    (sym count, λ k low high. ap (λ (n : ℕ). in_words n bits.second k) (sym first) ∙ ap (λ (n : ℕ). in_words read.first n k) (sym second) ∙ read.agrees k low high)
+    let same = got_is read.first read.second size h.first h.second used (sym read.read ∙ h.read) in
+    (sym same.2, λ k low high. h.numbers k ∙ ap (λ (n : ℕ). in_words n h.second k) (sym same.0) ∙ ap (λ (n : ℕ). in_words read.first n k) (sym same.1) ∙ read.agrees k low high)
 is_read_by c set b size (Ok steps.More) read h = let same : got read.first read.second size ≡ more = sym read.read ∙ h in absurd cc
 is_read_by c set b size (Err e) read h = let same : got read.first read.second size ≡ fault e.at e.cause = sym read.read ∙ h in absurd cc
 
@@ -165,9 +167,6 @@ Found c b w v used = (used ≤ length b) × ((two : Bool) × Bitmaps c two (in_w
 more_or : (t : Bool) (o : Maps) (w v n : ℕ) → cond t more o ≡ got w v n → (t ≡ false) × (o ≡ got w v n)
 more_or true o w v n e = absurd cc
 more_or false o w v n e = (refl, e)
-
-got_is : (w v n w' v' n' : ℕ) → got w v n ≡ got w' v' n' → (w ≡ w') × (v ≡ v') × (n ≡ n')
-got_is w v n w' v' n' e = (cc, cc, cc)
 
 one_first : (w k : ℕ) → w < top → 0 < k → k ≤ 64 → eqb (bit_at w (64 - k)) 1 ≡ first_set false (in_words w 0) k
 one_first w k small low high =
@@ -256,6 +255,44 @@ maps_taken c b w v n fits e =
 
 -- what a function that reads has found
 pub is_found : (c : BitmapCoding) (b : List ℕ) (r : Result BitmapStep BitmapFault) → ((i : ℕ) → get_or b i 0 < 256) → ReadsMaps r (maps_at c b) → FoundMaps c b r
-is_found c b (Ok (steps.Got bits used)) fits h = maps_taken c b bits.first bits.second used fits h
+is_found c b (Ok (steps.Got bits used)) fits h =
+    let found = maps_taken c b h.first h.second used fits h.read in
+    let same : in_words h.first h.second ≡ contains bits = fun_ext (λ k. sym (h.numbers k)) in
+    (found.0, (found.1.0, subst (λ (set : ℕ → Bool). Bitmaps c found.1.0 set (take used b)) same found.1.1))
 is_found c b (Ok steps.More) fits h = tt
 is_found c b (Err e) fits h = tt
+
+-- ---- the numbers of a set
+
+not_low : (w v n : ℕ) → w < 2 ^ 63 → n < 2 → in_words w v n ≡ true → ⊥
+not_low w v n small low here = let z = bit_at_above w 63 (64 - n) small (omega arith) in grind (arith, nat_tests)
+
+not_high : (w v n : ℕ) → 128 < n → in_words w v n ≡ true → ⊥
+not_high w v n high here = grind (arith, nat_tests)
+
+not_65 : (w v n : ℕ) → v < 2 ^ 63 → in_words w v n ≡ true → n ≢ 65
+not_65 w v n small here is = let z = bit_at_above v 63 (128 - n) small (omega arith) in grind (arith, nat_tests)
+
+-- words without their first bits have numbers of elements alone
+pub words_number : (w v : ℕ) → w < 2 ^ 63 → v < 2 ^ 63 → AreElements (in_words w v)
+words_number w v first second n here = (
+  elim (cases_lt n 2) [
+    | inl low ↦ absurd (not_low w v n first low here)
+    | inr le ↦ le
+  ],
+  elim (cases_lt 128 n) [
+    | inl high ↦ absurd (not_high w v n high here)
+    | inr le ↦ le
+  ],
+  not_65 w v n second here,
+)
+
+-- the numbers of a set
+pub set_numbers : (s : Bitmap) → AreElements (contains s)
+set_numbers s = words_number s.first s.second s.not_1 s.not_65
+
+-- so does a set that was read
+pub read_numbers : (r : Result BitmapStep BitmapFault) (o : Maps) → ReadsMaps r o → IfRead r AreElements
+read_numbers (Ok (steps.Got bits used)) o h = λ n here. words_number h.first h.second h.not_1 h.not_65 n (sym (h.numbers n) ∙ here)
+read_numbers (Ok steps.More) o h = tt
+read_numbers (Err e) o h = tt

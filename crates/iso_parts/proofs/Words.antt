@@ -1,5 +1,5 @@
 -- One bitmap: the word that is read is that of the bytes, and bytes of a set tell its word.
-use Rattle.std.proofs.Common.{◌≡◌, ℕ, ◌-◌, ◌^◌, ◌<◌, ◌≤◌, Bool, eqb, List, length, get_or, Some, Result, Ok, Err, refl, ap, subst, arith}
+use Rattle.std.proofs.Common.{◌≡◌, ℕ, ◌-◌, ◌^◌, ◌<◌, Bool, eqb, List, length, get_or, Some, Result, Ok, Err, refl, ap, subst, arith}
 use Rattle.std.specs.Int.{bit_at, w64, from_be_bytes}
 use Rattle.hex.specs.Hex.{decode_of}
 use Rattle.hex.specs.declared.error.FromHexError.{FromHexError}

@@ -1,5 +1,5 @@
 -- Reading bitmaps from the front of bytes, each one when it is whole.
-use Rattle.std.specs.Prelude.{◌≡◌, ℕ, ◌+◌, ◌-◌, ◌≤◌, nat_lt, Bool, List, length, take, drop, Result, Ok, Err, Option, Some, None, if◌then◌else◌}
+use Rattle.std.specs.Prelude.{◌≡◌, ℕ, ◌+◌, ◌-◌, ◌<◌, ◌≤◌, ◌^◌, nat_lt, Bool, List, length, take, drop, Result, Ok, Err, Option, Some, None, if◌then◌else◌}
 use Rattle.std.specs.Int.{w64, from_be_bytes}
 use Rattle.hex.specs.Hex.{decode_of}
 use Rattle.hex.specs.declared.error.FromHexError.{FromHexError}
@@ -10,7 +10,7 @@ use Rattle.iso_parts.specs.declared.bitmap.BitmapCause.TheVariants.{BadHex, Thir
 use Rattle.iso_parts.specs.declared.bitmap.BitmapFault.{BitmapFault}
 use Rattle.iso_parts.specs.declared.bitmap.BitmapStep.{BitmapStep}
 use Rattle.iso_parts.specs.declared.bitmap.BitmapStep.TheVariants as steps
-use Rattle.iso_parts.specs.Bits.{map_size, contains, Bitmaps}
+use Rattle.iso_parts.specs.Bits.{map_size, contains, in_words, Bitmaps}
 
 -- ---- one bitmap
 
@@ -55,9 +55,18 @@ maps_at c b = if nat_lt (length b) (map_size c) then more else first_by c b (wor
 
 -- ---- what functions answer
 
+-- reading gives two words, without the first bit of either: they have the numbers of the set
+pub record GotMaps (set : ℕ → Bool) (used : ℕ) (o : Maps) : Type 0 where
+  pub first : ℕ
+  pub second : ℕ
+  pub read : o ≡ got first second used
+  pub not_1 : first < 2 ^ 63
+  pub not_65 : second < 2 ^ 63
+  pub numbers : (n : ℕ) → set n ≡ in_words first second n
+
 -- the answer is what reading gives
 abbrev pub ReadsMaps : Result BitmapStep BitmapFault → Maps → Type 0
-ReadsMaps (Ok (steps.Got bits used)) o = o ≡ got bits.first bits.second used
+ReadsMaps (Ok (steps.Got bits used)) o = GotMaps (contains bits) used o
 ReadsMaps (Ok steps.More) o = o ≡ more
 ReadsMaps (Err e) o = o ≡ fault e.at e.cause
 
@@ -66,6 +75,12 @@ abbrev pub FoundMaps : BitmapCoding → List ℕ → Result BitmapStep BitmapFau
 FoundMaps c b (Ok (steps.Got bits used)) = (used ≤ length b) × ((two : Bool) × Bitmaps c two (contains bits) (take used b))
 FoundMaps c b (Ok steps.More) = Unit {0}
 FoundMaps c b (Err e) = Unit {0}
+
+-- of a set that was read
+abbrev pub IfRead : Result BitmapStep BitmapFault → ((ℕ → Bool) → Type 0) → Type 0
+IfRead (Ok (steps.Got bits used)) P = P (contains bits)
+IfRead (Ok steps.More) P = Unit {0}
+IfRead (Err e) P = Unit {0}
 
 -- the set was read from so many bytes
 abbrev pub IsRead : (ℕ → Bool) → ℕ → Result BitmapStep BitmapFault → Type 0

@@ -1,5 +1,5 @@
 -- Bitmaps: which element numbers are in the set, and the bytes that say so (ISO 8583:1987, primary and secondary bitmap).
-use Rattle.std.specs.Prelude.{◌≡◌, ◌⊎◌, ℕ, ◌+◌, ◌-◌, ◌<◌, ◌≤◌, ◌==◌, ◌&&◌, nat_le, Bool, true, false, List, length, take, drop, Ok, if◌then◌else◌}
+use Rattle.std.specs.Prelude.{◌≡◌, ◌≢◌, ◌⊎◌, ℕ, ◌+◌, ◌-◌, ◌<◌, ◌≤◌, ◌==◌, ◌&&◌, nat_le, Bool, true, false, List, length, take, drop, Ok, if◌then◌else◌}
 use Rattle.std.specs.Int.{bit_at, w64, from_be_bytes}
 use Rattle.hex.specs.Hex.{IsBytes, decode_of, encode_upper}
 use Rattle.iso_parts.specs.declared.bitmap.Bitmap.{Bitmap}
@@ -17,6 +17,10 @@ in_words first second n =
 -- whether the number is in the set
 abbrev pub contains : Bitmap → ℕ → Bool
 contains s n = in_words s.first s.second n
+
+-- each number of the set is that of an element: 2 to 64, 66 to 128
+abbrev pub AreElements : (ℕ → Bool) → Type 0
+AreElements set = (n : ℕ) → set n ≡ true → (2 ≤ n) × (n ≤ 128) × (n ≢ 65)
 
 -- the greatest number of the set, or 0 for none
 abbrev pub IsHighest : (ℕ → Bool) → ℕ → Type 0

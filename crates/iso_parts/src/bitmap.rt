@@ -83,6 +83,7 @@ impl BitmapCoding {
     fn append(self, maps: &[u8], out: &mut Vec<u8>) -> Result<(), AllocError>
         requires { length maps.now ≤ 16 }
         ensures ok { OnOk result (out.new.items ≡ out.old.items ++ in_coding self maps.now) }
+        ensures err { OnErr result (out.new.items ≡ out.old.items) }
         // Each item is a byte.
         ensures bytes { IsBytes maps.now }
     {
@@ -105,8 +106,8 @@ impl BitmapCoding {
 }
 
 impl Bitmap {
-    ghost use Rattle.iso_parts.specs.Bits.{contains, in_words, Bitmaps, PlainBitmaps, HasAbove, IsHighest};
-    ghost use Rattle.iso_parts.specs.BitmapReading.{ReadsMaps, FoundMaps, IsRead, maps_at};
+    ghost use Rattle.iso_parts.specs.Bits.{contains, in_words, AreElements, Bitmaps, PlainBitmaps, HasAbove, IsHighest};
+    ghost use Rattle.iso_parts.specs.BitmapReading.{ReadsMaps, FoundMaps, IfRead, IsRead, maps_at};
 
     /// No number.
     pub fn new() -> Bitmap
@@ -128,8 +129,11 @@ impl Bitmap {
     }
 
     /// Whether the number is in the set.
+    #[tactic(auto, using(crate::proofs::BitmapLaws::set_numbers))]
     pub fn has(&self, n: u8) -> bool
-        ensures { result ≡ contains self.now n }
+        ensures has { result ≡ contains self.now n }
+        // No set has a number that is none of an element.
+        ensures numbers { AreElements (contains self.now) }
     {
         match n {
             1..=64 => self.first >> (64 - n) & 1 == 1,
@@ -182,9 +186,11 @@ impl Bitmap {
         16
     }
 
-    /// Appends the bitmaps under a coding, hexadecimal digits in upper case.
+    /// Appends the bitmaps under a coding, hexadecimal digits in upper case. Where memory runs out, the vector stays
+    /// as it was.
     pub fn append(&self, coding: BitmapCoding, out: &mut Vec<u8>) -> Result<(), AllocError>
         ensures ok { OnOk result ((b : List ℕ) × PlainBitmaps coding (contains self.now) b × (out.new.items ≡ out.old.items ++ b)) }
+        ensures unchanged { OnErr result (out.new.items ≡ out.old.items) }
     {
         let mut maps = [0; 16];
         let used = self.write_raw(&mut maps);
@@ -199,6 +205,8 @@ impl Bitmap {
         ensures found { FoundMaps BitmapCoding.Raw bytes.now result }
         // The set that bytes at the front spell is got.
         ensures only { (two : Bool) (set : ℕ → Bool) (front rest : List ℕ) → set 65 ≡ false → Bitmaps BitmapCoding.Raw two set front → bytes.now ≡ front ++ rest → IsRead set (length front) result }
+        // It has neither number 1, whose bit tells of the second bitmap, nor 0, 65 or one above 128.
+        ensures numbers { IfRead result AreElements }
         // Which fault it is, and that bytes are missing.
         ensures exact { ReadsMaps result (maps_at BitmapCoding.Raw bytes.now) }
     {
@@ -212,6 +220,8 @@ impl Bitmap {
         ensures found { FoundMaps BitmapCoding.Hex bytes.now result }
         // The set that bytes at the front spell is got.
         ensures only { (two : Bool) (set : ℕ → Bool) (front rest : List ℕ) → set 65 ≡ false → Bitmaps BitmapCoding.Hex two set front → bytes.now ≡ front ++ rest → IsRead set (length front) result }
+        // It has neither number 1, whose bit tells of the second bitmap, nor 0, 65 or one above 128.
+        ensures numbers { IfRead result AreElements }
         // Which fault it is, and that bytes are missing.
         ensures exact { ReadsMaps result (maps_at BitmapCoding.Hex bytes.now) }
     {

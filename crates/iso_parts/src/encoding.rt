@@ -63,7 +63,7 @@ fn write_hex(bytes: &[u8], room: &mut [u8])
 pub(crate) fn append_hex(bytes: &[u8], out: &mut Vec<u8>) -> Result<(), AllocError>
     requires { length bytes.now ≤ 65535 }
     ensures ok { OnOk result (out.new.items ≡ out.old.items ++ plain Coding.HexText bytes.now) }
-    ensures err { OnErr result (Keeps out.old.items out.new.items) }
+    ensures err { OnErr result (out.new.items ≡ out.old.items) }
 {
     let before = out.len();
     out.resize(before + 2 * bytes.len(), 0)?;

@@ -1,7 +1,7 @@
-use Rattle.std.proofs.Common.{◌≡◌, ◌≤◌, ◌+◌, ◌*◌, ℕ, List, length, arith}
+use Rattle.std.proofs.Common.{◌≤◌, ◌+◌, ◌*◌, ℕ, List, length, arith}
 use Rattle.iso_parts.specs.declared.spec.FieldSpec.{FieldSpec}
 use Rattle.iso_parts.specs.Row.{Fits}
-use Rattle.iso_parts.specs.Part.{padded, plain_part}
+use Rattle.iso_parts.specs.Part.{plain_part}
 use Rattle.iso_parts.proofs.Parts.{part_again}
 use Rattle.iso_parts.proofs.Plain.{fits_from_refusal, plain_is_part, refusal_from_fits}
 use Rattle.iso_parts.proofs.Sizes.{padded_most, plain_part_most}

@@ -10,8 +10,8 @@ needed : (used : ℕ) (set : ℕ → Bool) → ((used ≡ 8) ⊎ ((used ≡ 16) 
 needed used set (inl eight) is = absurd (grind (arith, nat_tests))
 needed used set (inr both) is = both.1
 
-pub returns : goal.returns
-returns c =
+pub returns-clause-ok : goal.returns-clause-ok
+returns-clause-ok c =
     let set = contains c.args.self.now in
     let used = c.write_raw-used.result in
     let maps = take used c.write_raw-used.new.out in
@@ -26,4 +26,4 @@ returns c =
       bytes = refl;
       spelled = plain_maps c.args.coding (used == 16) set maps fits c.write_raw-used.ensures.bytes;
     } in
-    record { ok = on_ok_weaker c.append.result (λ is. (in_coding c.args.coding maps, plain, is ∙ ap (λ (l : List ℕ). c.args.out.now.items ++ in_coding c.args.coding l) front)) c.append.ensures.ok }
+    on_ok_weaker c.append.result (λ is. (in_coding c.args.coding maps, plain, is ∙ ap (λ (l : List ℕ). c.args.out.now.items ++ in_coding c.args.coding l) front)) c.append.ensures.ok

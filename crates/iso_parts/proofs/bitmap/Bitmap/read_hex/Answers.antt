@@ -1,6 +1,6 @@
 use Rattle.std.proofs.Common.{arith}
 use Rattle.iso_parts.specs.declared.bitmap.BitmapCoding.TheVariants.{Hex}
-use Rattle.iso_parts.proofs.BitmapLaws.{is_found, is_read}
+use Rattle.iso_parts.proofs.BitmapLaws.{is_found, is_read, read_numbers}
 use Rattle.iso_parts.proofs.bitmap.Bitmap.read_hex.Goals as goal
 
 pub returns-clause-found : goal.returns-clause-found
@@ -8,3 +8,6 @@ returns-clause-found c = is_found Hex c.args.bytes.now c.read.result (λ i. omeg
 
 pub returns-clause-only : goal.returns-clause-only
 returns-clause-only c = is_read Hex c.args.bytes.now c.read.result (λ i. omega (arith, c.type_inv.bytes i)) c.read.ensures
+
+pub returns-clause-numbers : goal.returns-clause-numbers
+returns-clause-numbers c = read_numbers c.read.result _ c.read.ensures
