@@ -3,6 +3,7 @@ pub mod Class
 pub mod Row
 pub mod Bits
 pub mod BitmapReading
+pub mod FaultNumbers
 pub mod Part
 pub mod Reading
 pub mod PartLaws

@@ -54,6 +54,20 @@ pub enum BitmapCause {
     ThirdBitmap,
 }
 
+impl BitmapCause {
+    ghost use Rattle.iso_parts.specs.FaultNumbers.{bitmap_cause_number};
+
+    /// The fault's number, as logs and monitors show it: from 1 to 2, in the order of the variants.
+    pub fn number(&self) -> u8
+        ensures { result ≡ bitmap_cause_number self.now }
+    {
+        match self {
+            BitmapCause::BadHex => 1,
+            BitmapCause::ThirdBitmap => 2,
+        }
+    }
+}
+
 /// The word with bit `k` set.
 fn with_bit(word: u64, k: u8) -> u64
     requires { k < 64 }

@@ -35,6 +35,26 @@ pub enum FieldFault {
     Memory,
 }
 
+impl FieldFault {
+    ghost use Rattle.iso_parts.specs.FaultNumbers.{field_fault_number};
+
+    /// The fault's number, as logs and monitors show it: from 1 to 8, in the order of the variants.
+    pub fn number(&self) -> u8
+        ensures { result ≡ field_fault_number self.now }
+    {
+        match self {
+            FieldFault::WrongLength => 1,
+            FieldFault::NotInClass => 2,
+            FieldFault::PadEnd => 3,
+            FieldFault::BadLengthDigits => 4,
+            FieldFault::LengthOver => 5,
+            FieldFault::BadFiller => 6,
+            FieldFault::BadHex => 7,
+            FieldFault::Memory => 8,
+        }
+    }
+}
+
 impl From<AllocError> for FieldFault {
     ghost from_gives = { λ _ e. e ≡ Memory };
 

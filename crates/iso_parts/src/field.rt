@@ -11,14 +11,29 @@ use crate::fault::FieldFault;
 use crate::padding::Pad;
 use crate::spec::FieldSpec;
 use std::alloc::{AllocError, Global};
+use std::fmt;
 
 /// What stands at the front of some bytes.
-#[derive(Debug, Drop)]
+#[derive(Drop)]
 pub enum Step {
     /// A value, and how many bytes its part takes.
     Got { value: Vec<u8>, used: usize },
     /// Less than a whole part.
     More,
+}
+
+/// Shows how many bytes a value has, and none of them: it may be a card's number, its track or a PIN.
+impl fmt::Debug for Step {
+    fn fmt<W: fmt::Write>(&self, f: &mut fmt::Formatter<W>) -> fmt::Result {
+        match self {
+            Step::Got { value, used } => f
+                .debug_struct("Got")
+                .field("value_len", &value.len())
+                .field("used", used)
+                .finish(),
+            Step::More => f.write_str("More"),
+        }
+    }
 }
 
 /// Appends the value and `n` pads.
@@ -123,11 +138,11 @@ pub fn encode_field(spec: &FieldSpec, value: &[u8], out: &mut Vec<u8>) -> Result
     if let Some(fault) = spec.refusal(value) {
         return Err(fault);
     }
-    let before = out.len();
+    let start = out.len();
     match append_part(spec, value, out) {
         Ok(()) => Ok(()),
         Err(_) => {
-            out.truncate(before);
+            out.truncate(start);
             Err(FieldFault::Memory)
         }
     }

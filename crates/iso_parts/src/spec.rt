@@ -39,6 +39,21 @@ pub enum SpecFault {
     PadNotAllowed,
 }
 
+impl SpecFault {
+    ghost use Rattle.iso_parts.specs.FaultNumbers.{spec_fault_number};
+
+    /// The fault's number, as logs and monitors show it: from 1 to 3, in the order of the variants.
+    pub fn number(&self) -> u8
+        ensures { result ≡ spec_fault_number self.now }
+    {
+        match self {
+            SpecFault::BadMax => 1,
+            SpecFault::CodingClass => 2,
+            SpecFault::PadNotAllowed => 3,
+        }
+    }
+}
+
 impl FieldSpec {
     fn may_be_padded(&self) -> bool
         ensures { result ≡ is_padded self.now.class self.now.length }
