@@ -2,6 +2,7 @@ use super::*;
 use std::test::*;
 
 mod bitmaps;
+mod faults;
 mod refusals;
 mod values;
 
@@ -70,23 +71,87 @@ fn rows_are_judged(rt: HostRuntime) -> Result<(), Fail> {
     Ok(())
 }
 
+/// What a type is: the numbers of its base and its response, and its class.
+#[derive(Drop)]
+struct TypeCase {
+    name: &'static str,
+    number: u16,
+    base: u16,
+    is_repeat: bool,
+    response: Option<u16>,
+    class: MtiClass,
+}
+
+fn types() -> [TypeCase; 5] {
+    [
+        TypeCase {
+            name: "a reversal's repeat",
+            number: 421,
+            base: 420,
+            is_repeat: true,
+            response: Some(430),
+            class: MtiClass::Reversal,
+        },
+        TypeCase {
+            name: "a financial request, with an odd origin",
+            number: 207,
+            base: 206,
+            is_repeat: true,
+            response: Some(216),
+            class: MtiClass::Financial,
+        },
+        TypeCase {
+            name: "a financial response",
+            number: 210,
+            base: 210,
+            is_repeat: false,
+            response: None,
+            class: MtiClass::Financial,
+        },
+        TypeCase {
+            name: "the echo test",
+            number: 800,
+            base: 800,
+            is_repeat: false,
+            response: Some(810),
+            class: MtiClass::NetworkManagement,
+        },
+        TypeCase {
+            name: "private use, with a digit without a meaning",
+            number: 9920,
+            base: 9920,
+            is_repeat: false,
+            response: Some(9930),
+            class: MtiClass::Reserved(9),
+        },
+    ]
+}
+
 #[test]
 fn message_types(rt: HostRuntime) -> Result<(), Fail> {
-    assert_eq!(rt; Mti::from_digits(10000), None);
-    let cases = [
-        (421, 420, true, Some(430), MtiClass::Reversal),
-        (207, 206, true, Some(216), MtiClass::Financial),
-        (210, 210, false, None, MtiClass::Financial),
-        (800, 800, false, Some(810), MtiClass::NetworkManagement),
-        (9920, 9920, false, Some(9930), MtiClass::Reserved(9)),
-    ];
-    for (number, base, is_repeat, response, class) in &cases {
-        let mti = Mti::from_digits(*number).ok_or("four digits")?;
-        assert_eq!(rt; mti.number(), *number);
-        assert_eq!(rt; mti.base().number(), *base);
-        assert_eq!(rt; mti.is_repeat(), *is_repeat);
-        assert_eq!(rt; mti.response().map(|m| m.number()), *response);
-        assert_eq!(rt; mti.class(), *class);
+    assert_eq!(rt; Mti::from_digits(10000), None, "five digits");
+    for case in &types() {
+        let name = case.name;
+        let mti = Mti::from_digits(case.number).ok_or(name)?;
+        assert_eq!(rt; mti.number(), case.number, "{name}");
+        assert_eq!(rt; mti.base().number(), case.base, "{name}");
+        assert_eq!(rt; mti.is_repeat(), case.is_repeat, "{name}");
+        assert_eq!(rt; mti.response().map(|m| m.number()), case.response, "{name}");
+        assert_eq!(rt; mti.class(), case.class, "{name}");
     }
     Ok(())
+}
+
+#[test]
+fn lengths_take_bytes(rt: HostRuntime) {
+    let cases = [
+        ("none", Length::Fixed, 0),
+        ("two digits", Length::LL(Digits::Ascii), 2),
+        ("two digits under BCD", Length::LL(Digits::Bcd), 1),
+        ("three digits", Length::LLL(Digits::Ascii), 3),
+        ("three digits under BCD", Length::LLL(Digits::Bcd), 2),
+    ];
+    for (name, length, size) in &cases {
+        assert_eq!(rt; length.prefix_size(), *size, "{name}");
+    }
 }

@@ -20,23 +20,32 @@ fn bitmaps_are_written_and_read(rt: HostRuntime) -> Result<(), Fail> {
             "the echo test",
             set_of(&[7, 11, 70]),
             b"\x82\x20\0\0\0\0\0\0\x04\0\0\0\0\0\0\0".as_slice(),
+            b"82200000000000000400000000000000".as_slice(),
             70,
         ),
-        ("no element", set_of(&[]), b"\0\0\0\0\0\0\0\0", 0),
+        (
+            "no element",
+            set_of(&[]),
+            b"\0\0\0\0\0\0\0\0",
+            b"0000000000000000",
+            0,
+        ),
         (
             "the ends of both",
             set_of(&[2, 64, 66, 128]),
             b"\xC0\0\0\0\0\0\0\x01\x40\0\0\0\0\0\0\x01",
+            b"C0000000000000014000000000000001",
             128,
         ),
         (
             "one bitmap",
             set_of(&[2, 3, 4, 7, 11, 32, 49]),
             b"\x72\x20\0\x01\0\0\x80\0",
+            b"7220000100008000",
             49,
         ),
     ];
-    for (name, bits, raw, highest) in &cases {
+    for (name, bits, raw, digits, highest) in &cases {
         let mut out = [0xEE; 16];
         let used = bits.write_raw(&mut out);
         assert_eq!(rt; &out[..used], *raw, "{name}");
@@ -45,48 +54,108 @@ fn bitmaps_are_written_and_read(rt: HostRuntime) -> Result<(), Fail> {
         let longer = [*raw, b"more"].concat(rt.alloc())?;
         let got = BitmapStep::Got { bits: *bits, used };
         assert_eq!(rt; Bitmap::read_raw(&longer), Ok(got), "{name}");
-        let mut digits = Vec::new(rt.alloc());
-        bits.append(BitmapCoding::Hex, &mut digits)?;
-        let expected = hex::encode_upper(rt.alloc(), *raw)?;
-        assert_eq!(rt; digits.as_slice(), expected.as_bytes(), "{name}");
+        let mut appended = Vec::from_slice(rt.alloc(), b"before")?;
+        bits.append(BitmapCoding::Raw, &mut appended)?;
+        let expected = [b"before", *raw].concat(rt.alloc())?;
+        assert_eq!(rt; appended.as_slice(), expected.as_slice(), "{name}");
+        let mut written = Vec::new(rt.alloc());
+        bits.append(BitmapCoding::Hex, &mut written)?;
+        assert_eq!(rt; written.as_slice(), *digits, "{name}");
         let got = BitmapStep::Got {
             bits: *bits,
             used: 2 * used,
         };
-        assert_eq!(rt; Bitmap::read_hex(&digits), Ok(got), "{name}");
+        assert_eq!(rt; Bitmap::read_hex(*digits), Ok(got), "{name}");
     }
     Ok(())
 }
 
 #[test]
-fn bitmaps_are_refused(rt: HostRuntime) -> Result<(), Fail> {
-    let more = Ok(BitmapStep::More);
+fn raw_bitmaps_are_refused(rt: HostRuntime) -> Result<(), Fail> {
+    let third = BitmapFault {
+        at: 8,
+        cause: BitmapCause::ThirdBitmap,
+    };
+    let cases = [
+        (
+            "seven bytes",
+            b"\0\0\0\0\0\0\0".as_slice(),
+            Ok(BitmapStep::More),
+        ),
+        (
+            "seven of a second bitmap",
+            b"\x80\0\0\0\0\0\0\0\x80\0\0\0\0\0\0",
+            Ok(BitmapStep::More),
+        ),
+        (
+            "a third bitmap",
+            b"\x80\0\0\0\0\0\0\0\x80\0\0\0\0\0\0\0",
+            Err(third),
+        ),
+    ];
+    for (name, raw, expected) in &cases {
+        assert_eq!(rt; Bitmap::read_raw(*raw), *expected, "{name}");
+    }
+    Ok(())
+}
+
+#[test]
+fn hexadecimal_bitmaps_are_refused(rt: HostRuntime) -> Result<(), Fail> {
     let fault = |at: usize, cause: BitmapCause| Err(BitmapFault { at, cause });
-    let third = [0x80, 0, 0, 0, 0, 0, 0, 0, 0x80, 0, 0, 0, 0, 0, 0, 0];
-    assert_eq!(rt; Bitmap::read_raw(&[0; 7]), more);
-    assert_eq!(rt; Bitmap::read_raw(&third[..15]), more);
-    assert_eq!(rt;
-        Bitmap::read_raw(&third),
-        fault(8, BitmapCause::ThirdBitmap)
-    );
-    assert_eq!(rt; Bitmap::read_hex(b"022a00000000000"), more);
-    assert_eq!(rt;
-        Bitmap::read_hex(b"022A00000000000G"),
-        fault(0, BitmapCause::BadHex)
-    );
-    assert_eq!(rt;
-        Bitmap::read_hex(b"8000000000000000x000000000000000"),
-        fault(16, BitmapCause::BadHex)
-    );
-    assert_eq!(rt;
-        Bitmap::read_hex(b"80000000000000008000000000000000"),
-        fault(16, BitmapCause::ThirdBitmap)
-    );
-    let got = BitmapStep::Got {
+    let lower = BitmapStep::Got {
         bits: set_of(&[7, 11, 13, 15]),
         used: 16,
     };
-    assert_eq!(rt; Bitmap::read_hex(b"022a000000000000"), Ok(got));
+    let cases = [
+        (
+            "digits in lower case",
+            b"022a000000000000".as_slice(),
+            Ok(lower),
+        ),
+        ("fifteen digits", b"022a00000000000", Ok(BitmapStep::More)),
+        (
+            "G is no digit",
+            b"022A00000000000G",
+            fault(0, BitmapCause::BadHex),
+        ),
+        (
+            "x in the second bitmap",
+            b"8000000000000000x000000000000000",
+            fault(16, BitmapCause::BadHex),
+        ),
+        (
+            "a third bitmap",
+            b"80000000000000008000000000000000",
+            fault(16, BitmapCause::ThirdBitmap),
+        ),
+    ];
+    for (name, digits, expected) in &cases {
+        assert_eq!(rt; Bitmap::read_hex(*digits), *expected, "{name}");
+    }
+    Ok(())
+}
+
+#[test]
+fn one_bitmap_is_a_word(rt: HostRuntime) -> Result<(), Fail> {
+    let cases = [
+        (
+            "raw",
+            BitmapCoding::Raw,
+            b"\x82\x20\0\0\0\0\0\x01".as_slice(),
+            Some(0x8220_0000_0000_0001),
+        ),
+        (
+            "digits",
+            BitmapCoding::Hex,
+            b"8220000000000001",
+            Some(0x8220_0000_0000_0001),
+        ),
+        ("no digits", BitmapCoding::Hex, b"82200000000000 1", None),
+    ];
+    for (name, coding, bytes, word) in &cases {
+        assert!(rt; bytes.len() == coding.size(), "{name}");
+        assert_eq!(rt; coding.word(*bytes), *word, "{name}");
+    }
     assert!(rt; set_of(&[7]).has(7) && !set_of(&[7]).has(58));
     Ok(())
 }

@@ -95,7 +95,19 @@ fn bytes_are_refused(rt: HostRuntime) -> Result<(), Fail> {
             b"20",
             FieldFault::LengthOver,
         ),
+        (
+            "a letter in a length that begins above the maximum",
+            ascii,
+            b"9x",
+            FieldFault::BadLengthDigits,
+        ),
         ("a filler of 1", bcd, b"\x03\x13\x01", FieldFault::BadFiller),
+        (
+            "a filler of 1 before a nibble above 9",
+            bcd,
+            b"\x03\x1A\x01",
+            FieldFault::BadFiller,
+        ),
         ("a nibble above 9", bcd, b"\x02\x0A", FieldFault::NotInClass),
     ];
     for (name, row, part, fault) in &cases {
@@ -111,13 +123,16 @@ fn bytes_are_refused(rt: HostRuntime) -> Result<(), Fail> {
 fn bytes_are_missing(rt: HostRuntime) -> Result<(), Fail> {
     let ascii = number(Coding::Ascii, Length::LL(Digits::Ascii), 19);
     assert!(rt; ascii.good().is_ok());
-    for part in [b"".as_slice(), b"1", b"03", b"0312"] {
-        let mut value = Vec::new(rt.alloc());
-        assert_eq!(rt;
-            append_value(&ascii, part, &mut value),
-            Ok(None),
-            "{part:?}"
-        );
+    let cases = [
+        ("no byte", b"".as_slice()),
+        ("half a length", b"1"),
+        ("a length alone", b"03"),
+        ("a body without its end", b"0312"),
+    ];
+    for (name, part) in &cases {
+        let mut value = Vec::from_slice(rt.alloc(), b"before")?;
+        assert_eq!(rt; append_value(&ascii, *part, &mut value), Ok(None), "{name}");
+        assert_eq!(rt; value.as_slice(), b"before".as_slice(), "{name}");
     }
     Ok(())
 }
