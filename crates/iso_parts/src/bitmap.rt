@@ -57,7 +57,7 @@ pub enum BitmapCause {
 impl BitmapCause {
     ghost use Rattle.iso_parts.specs.FaultNumbers.{bitmap_cause_number};
 
-    /// The fault's number, as logs and monitors show it: from 1 to 2, in the order of the variants.
+    /// The fault's number, as logs and monitors show it: 1 or 2, in the order of the variants.
     pub fn number(&self) -> u8
         ensures { result ≡ bitmap_cause_number self.now }
     {
