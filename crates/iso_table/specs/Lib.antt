@@ -4,3 +4,4 @@ pub mod Sizes
 pub mod Edition87
 pub mod Document
 pub mod HostReady
+pub mod FaultNumbers

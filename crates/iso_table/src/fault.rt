@@ -3,6 +3,7 @@
 ghost use Rattle.std.specs.Prelude.{◌≡◌};
 ghost use Rattle.iso_table.specs.declared.fault.TableFault.TheVariants.{Memory};
 ghost use Rattle.iso_table.specs.Accepted.{as_table_fault};
+ghost use Rattle.iso_table.specs.FaultNumbers.{table_fault_number, host_table_fault_number};
 
 use iso_parts::SpecFault;
 use std::alloc::{AllocError, AllocFailed};
@@ -91,6 +92,24 @@ impl<T: Drop> From<AllocFailed<T>> for NoMemory {
 }
 
 impl TableFault {
+    /// The fault's number, as logs and monitors show it: from 1 to 10, in the order of the variants.
+    pub fn number(&self) -> u8
+        ensures { result ≡ table_fault_number self.now }
+    {
+        match self {
+            TableFault::NotJson => 1,
+            TableFault::Shape => 2,
+            TableFault::BadVersion => 3,
+            TableFault::BadNumber(_) => 4,
+            TableFault::Twice(_) => 5,
+            TableFault::BadMax(_) => 6,
+            TableFault::CodingClass(_) => 7,
+            TableFault::PadNotAllowed(_) => 8,
+            TableFault::Profile => 9,
+            TableFault::Memory => 10,
+        }
+    }
+
     /// The fault of the row with this number.
     pub(crate) fn of_row(number: u16, fault: SpecFault) -> TableFault
         ensures { result ≡ as_table_fault number fault }
@@ -99,6 +118,19 @@ impl TableFault {
             SpecFault::BadMax => TableFault::BadMax(number),
             SpecFault::CodingClass => TableFault::CodingClass(number),
             SpecFault::PadNotAllowed => TableFault::PadNotAllowed(number),
+        }
+    }
+}
+
+impl HostTableFault {
+    /// The fault's number, as logs and monitors show it: from 1 to 3, in the order of the variants.
+    pub fn number(&self) -> u8
+        ensures { result ≡ host_table_fault_number self.now }
+    {
+        match self {
+            HostTableFault::NotVersion0 => 1,
+            HostTableFault::NoRow(_) => 2,
+            HostTableFault::RowShape(_) => 3,
         }
     }
 }

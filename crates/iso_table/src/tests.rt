@@ -5,6 +5,7 @@ use std::test::*;
 
 mod documents;
 mod drafts;
+mod faults;
 mod hosts;
 
 fn spec(class: CharClass, coding: Coding, length: Length, max: u16, pad: Pad) -> FieldSpec {
@@ -92,12 +93,5 @@ fn builds_bcd87(rt: HostRuntime) -> Result<(), Fail> {
     ] {
         assert_eq!(rt; table.row(element).copied(), row, "element {element}");
     }
-    Ok(())
-}
-
-#[test]
-fn tells_faults(rt: HostRuntime) -> Result<(), Fail> {
-    let fault = TableFault::Twice(41).to_string(rt.alloc())?;
-    assert_eq!(rt; fault.as_str(), "element 41 has two rows");
     Ok(())
 }
