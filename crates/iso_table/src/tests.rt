@@ -1,6 +1,7 @@
 use super::*;
 use iso_parts::{CharClass, Coding, Digits, FieldSpec, Length, Pad};
 use std::alloc::{AllocError, Global};
+use std::process::Abort;
 use std::test::*;
 
 mod documents;
@@ -30,14 +31,58 @@ fn bytes(coding: Coding, length: Length, max: u16) -> FieldSpec {
     spec(CharClass::B, coding, length, max, Pad::None)
 }
 
-fn terminal() -> FieldSpec {
-    spec(
-        CharClass::ANS,
-        Coding::Ascii,
-        Length::Fixed,
-        8,
-        Pad::Right(0x20),
-    )
+/// The row of a terminal: eight characters, filled up with blanks.
+const TERMINAL_ROW: FieldSpec = FieldSpec {
+    class: CharClass::ANS,
+    coding: Coding::Ascii,
+    length: Length::Fixed,
+    max: 8,
+    pad: Pad::Right(0x20),
+};
+
+/// What a table says: it has these rows and no others.
+#[derive(Clone, Copy)]
+struct Says<'a> {
+    version: u8,
+    mti: Digits,
+    bitmap: BitmapCoding,
+    rows: &'a [(u8, FieldSpec)],
+    max_bytes: u64,
+}
+
+/// A table with its type in ASCII digits and its bitmaps in hexadecimal ones.
+fn ascii_table(version: u8, rows: &[(u8, FieldSpec)], max_bytes: u64) -> Says<'_> {
+    Says {
+        version,
+        mti: Digits::Ascii,
+        bitmap: BitmapCoding::Hex,
+        rows,
+        max_bytes,
+    }
+}
+
+/// A table with its type in BCD and its bitmaps as they are.
+fn bcd_table(version: u8, rows: &[(u8, FieldSpec)], max_bytes: u64) -> Says<'_> {
+    Says {
+        version,
+        mti: Digits::Bcd,
+        bitmap: BitmapCoding::Raw,
+        rows,
+        max_bytes,
+    }
+}
+
+/// That a table says so.
+fn assert_says(rt: &impl Abort, name: &str, table: &Table, says: Says) {
+    assert_eq!(rt; table.version(), says.version, "{name}");
+    assert_eq!(rt; table.mti(), says.mti, "{name}");
+    assert_eq!(rt; table.bitmap(), says.bitmap, "{name}");
+    assert_eq!(rt; table.rows(), says.rows.len(), "{name}");
+    assert_eq!(rt; table.max_bytes(), says.max_bytes, "{name}");
+    for (element, row) in says.rows {
+        let found = table.row(*element).copied();
+        assert_eq!(rt; found, Some(*row), "{name}: element {element}");
+    }
 }
 
 #[test]
@@ -56,7 +101,7 @@ fn builds_ascii87(rt: HostRuntime) -> Result<(), Fail> {
         (3, Some(number(ascii, Length::Fixed, 6))),
         (13, Some(number(ascii, Length::Fixed, 4))),
         (18, Some(number(ascii, Length::Fixed, 4))),
-        (41, Some(terminal())),
+        (41, Some(TERMINAL_ROW)),
         (52, Some(bytes(Coding::HexText, Length::Fixed, 8))),
         (54, Some(text(lll, 120))),
         (55, Some(bytes(Coding::Raw, lll, 999))),

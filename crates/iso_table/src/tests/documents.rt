@@ -1,263 +1,203 @@
 use super::*;
+use crate::fault::TableFault::{
+    BadMax, BadNumber, BadVersion, CodingClass, NotJson, PadNotAllowed, Profile, Shape, Twice,
+};
 
 /// A table of one row, as `to_json` writes it.
 const TERMINAL: &str =
     r#"{"bitmap":"hex","mti":"ascii","profile":1,"rows":[{"class":"ANS","coding":"ascii","length":"fixed","max":8,"number":41,"pad":"right:20"}],"version":0}"#;
 
-/// A text, and why it is no table.
-#[derive(Drop)]
-struct Document {
-    name: &'static str,
-    text: &'static str,
-    fault: Option<TableFault>,
+/// Its rows.
+const ROWS: &str =
+    r#"[{"class":"ANS","coding":"ascii","length":"fixed","max":8,"number":41,"pad":"right:20"}]"#;
+
+/// Its row twice.
+const ROW_TWICE: &str =
+    r#"[{"class":"ANS","coding":"ascii","length":"fixed","max":8,"number":41,"pad":"right:20"},{"class":"ANS","coding":"ascii","length":"fixed","max":8,"number":41,"pad":"right:20"}]"#;
+
+/// The document of one row, with a new text in place of an old one, which stands there once.
+fn edited(rt: &impl Abort, alloc: Global, old: &str, new: &str) -> Result<String, AllocError> {
+    let parts = TERMINAL.split_once(old);
+    let (front, rest) = parts.expect(rt, "the document has the old text");
+    assert!(rt; !rest.contains(old), "the document has {old} twice");
+    format!(in alloc; "{front}{new}{rest}")
 }
 
-fn documents() -> [Document; 47] {
-    [
-        Document {
-            name: "one row",
-            text: TERMINAL,
-            fault: None,
-        },
-        Document {
-            name: "version 1",
-            text: r#"{"bitmap":"hex","mti":"ascii","profile":1,"rows":[{"class":"ANS","coding":"ascii","length":"fixed","max":8,"number":41,"pad":"right:20"}],"version":1}"#,
-            fault: None,
-        },
-        Document {
-            name: "no rows",
-            text: r#"{"bitmap":"hex","mti":"ascii","profile":1,"rows":[],"version":0}"#,
-            fault: None,
-        },
-        Document {
-            name: "members in another order",
-            text: r#"{"version":0,"rows":[],"profile":1,"mti":"bcd","bitmap":"raw"}"#,
-            fault: None,
-        },
-        Document {
-            name: "a prefix behind LL",
-            text: r#"{"bitmap":"hex","mti":"ascii","profile":1,"rows":[{"class":"N","coding":"bcd","length":"LL","max":19,"number":2,"pad":"none","prefix":"bcd"}],"version":0}"#,
-            fault: None,
-        },
-        Document {
-            name: "a pad in lower case",
-            text: r#"{"bitmap":"hex","mti":"ascii","profile":1,"rows":[{"class":"ANS","coding":"ascii","length":"fixed","max":8,"number":41,"pad":"left:2f"}],"version":0}"#,
-            fault: None,
-        },
-        Document {
-            name: "a pad in upper case",
-            text: r#"{"bitmap":"hex","mti":"ascii","profile":1,"rows":[{"class":"ANS","coding":"ascii","length":"fixed","max":8,"number":41,"pad":"left:2F"}],"version":0}"#,
-            fault: None,
-        },
-        Document {
-            name: "a member given twice",
-            text: r#"{"bitmap":"hex","mti":"ascii","profile":1,"rows":[{"class":"ANS","coding":"ascii","length":"fixed","max":8,"number":41,"pad":"right:20"}],"version":3,"version":0}"#,
-            fault: None,
-        },
-        Document {
-            name: "empty text",
-            text: r#""#,
-            fault: Some(TableFault::NotJson),
-        },
-        Document {
-            name: "an object cut short",
-            text: r#"{"#,
-            fault: Some(TableFault::NotJson),
-        },
-        Document {
-            name: "text behind the object",
-            text: r#"{"bitmap":"hex","mti":"ascii","profile":1,"rows":[{"class":"ANS","coding":"ascii","length":"fixed","max":8,"number":41,"pad":"right:20"}],"version":0}0"#,
-            fault: Some(TableFault::NotJson),
-        },
-        Document {
-            name: "an array",
-            text: r#"[]"#,
-            fault: Some(TableFault::Shape),
-        },
-        Document {
-            name: "no profile",
-            text: r#"{"bitmap":"hex","mti":"ascii","rows":[{"class":"ANS","coding":"ascii","length":"fixed","max":8,"number":41,"pad":"right:20"}],"version":0}"#,
-            fault: Some(TableFault::Shape),
-        },
-        Document {
-            name: "a profile below zero",
-            text: r#"{"bitmap":"hex","mti":"ascii","profile":-1,"rows":[{"class":"ANS","coding":"ascii","length":"fixed","max":8,"number":41,"pad":"right:20"}],"version":0}"#,
-            fault: Some(TableFault::Shape),
-        },
-        Document {
-            name: "a profile above 65535",
-            text: r#"{"bitmap":"hex","mti":"ascii","profile":65536,"rows":[{"class":"ANS","coding":"ascii","length":"fixed","max":8,"number":41,"pad":"right:20"}],"version":0}"#,
-            fault: Some(TableFault::Shape),
-        },
-        Document {
-            name: "profile 7",
-            text: r#"{"bitmap":"hex","mti":"ascii","profile":7,"rows":[{"class":"ANS","coding":"ascii","length":"fixed","max":8,"number":41,"pad":"right:20"}],"version":0}"#,
-            fault: Some(TableFault::Profile),
-        },
-        Document {
-            name: "profile 7 alone",
-            text: r#"{"profile":7}"#,
-            fault: Some(TableFault::Profile),
-        },
-        Document {
-            name: "profile 1 alone",
-            text: r#"{"profile":1}"#,
-            fault: Some(TableFault::Shape),
-        },
-        Document {
-            name: "an unknown member",
-            text: r#"{"bitmap":"hex","mti":"ascii","profile":1,"rows":[{"class":"ANS","coding":"ascii","length":"fixed","max":8,"number":41,"pad":"right:20"}],"version":0,"owner":"acquirer"}"#,
-            fault: Some(TableFault::Shape),
-        },
-        Document {
-            name: "version 256",
-            text: r#"{"bitmap":"hex","mti":"ascii","profile":1,"rows":[{"class":"ANS","coding":"ascii","length":"fixed","max":8,"number":41,"pad":"right:20"}],"version":256}"#,
-            fault: Some(TableFault::Shape),
-        },
-        Document {
-            name: "version 3",
-            text: r#"{"bitmap":"hex","mti":"ascii","profile":1,"rows":[{"class":"ANS","coding":"ascii","length":"fixed","max":8,"number":41,"pad":"right:20"}],"version":3}"#,
-            fault: Some(TableFault::BadVersion),
-        },
-        Document {
-            name: "another digits",
-            text: r#"{"bitmap":"hex","mti":"ASCII","profile":1,"rows":[{"class":"ANS","coding":"ascii","length":"fixed","max":8,"number":41,"pad":"right:20"}],"version":0}"#,
-            fault: Some(TableFault::Shape),
-        },
-        Document {
-            name: "another bitmap",
-            text: r#"{"bitmap":"bcd","mti":"ascii","profile":1,"rows":[{"class":"ANS","coding":"ascii","length":"fixed","max":8,"number":41,"pad":"right:20"}],"version":0}"#,
-            fault: Some(TableFault::Shape),
-        },
-        Document {
-            name: "rows that are no array",
-            text: r#"{"bitmap":"hex","mti":"ascii","profile":1,"rows":{},"version":0}"#,
-            fault: Some(TableFault::Shape),
-        },
-        Document {
-            name: "a row that is no object",
-            text: r#"{"bitmap":"hex","mti":"ascii","profile":1,"rows":[41],"version":0}"#,
-            fault: Some(TableFault::Shape),
-        },
-        Document {
-            name: "an unknown member of a row",
-            text: r#"{"bitmap":"hex","mti":"ascii","profile":1,"rows":[{"class":"ANS","coding":"ascii","length":"fixed","max":8,"name":"terminal","number":41,"pad":"right:20"}],"version":0}"#,
-            fault: Some(TableFault::Shape),
-        },
-        Document {
-            name: "a prefix behind fixed",
-            text: r#"{"bitmap":"hex","mti":"ascii","profile":1,"rows":[{"class":"ANS","coding":"ascii","length":"fixed","max":8,"number":41,"pad":"right:20","prefix":"ascii"}],"version":0}"#,
-            fault: Some(TableFault::Shape),
-        },
-        Document {
-            name: "no prefix behind LLL",
-            text: r#"{"bitmap":"hex","mti":"ascii","profile":1,"rows":[{"class":"ANS","coding":"ascii","length":"LLL","max":8,"number":41,"pad":"right:20"}],"version":0}"#,
-            fault: Some(TableFault::Shape),
-        },
-        Document {
-            name: "another class",
-            text: r#"{"bitmap":"hex","mti":"ascii","profile":1,"rows":[{"class":"ans","coding":"ascii","length":"fixed","max":8,"number":41,"pad":"right:20"}],"version":0}"#,
-            fault: Some(TableFault::Shape),
-        },
-        Document {
-            name: "another coding",
-            text: r#"{"bitmap":"hex","mti":"ascii","profile":1,"rows":[{"class":"ANS","coding":"text","length":"fixed","max":8,"number":41,"pad":"right:20"}],"version":0}"#,
-            fault: Some(TableFault::Shape),
-        },
-        Document {
-            name: "another length",
-            text: r#"{"bitmap":"hex","mti":"ascii","profile":1,"rows":[{"class":"ANS","coding":"ascii","length":"LLLL","max":8,"number":41,"pad":"right:20"}],"version":0}"#,
-            fault: Some(TableFault::Shape),
-        },
-        Document {
-            name: "a number written 41.0",
-            text: r#"{"bitmap":"hex","mti":"ascii","profile":1,"rows":[{"class":"ANS","coding":"ascii","length":"fixed","max":8,"number":41.0,"pad":"right:20"}],"version":0}"#,
-            fault: Some(TableFault::Shape),
-        },
-        Document {
-            name: "a number written 41e0",
-            text: r#"{"bitmap":"hex","mti":"ascii","profile":1,"rows":[{"class":"ANS","coding":"ascii","length":"fixed","max":8,"number":41e0,"pad":"right:20"}],"version":0}"#,
-            fault: Some(TableFault::Shape),
-        },
-        Document {
-            name: "a number of 20 digits",
-            text: r#"{"bitmap":"hex","mti":"ascii","profile":1,"rows":[{"class":"ANS","coding":"ascii","length":"fixed","max":8,"number":41000000000000000000,"pad":"right:20"}],"version":0}"#,
-            fault: Some(TableFault::Shape),
-        },
-        Document {
-            name: "a number in quotes",
-            text: r#"{"bitmap":"hex","mti":"ascii","profile":1,"rows":[{"class":"ANS","coding":"ascii","length":"fixed","max":8,"number":"41","pad":"right:20"}],"version":0}"#,
-            fault: Some(TableFault::Shape),
-        },
-        Document {
-            name: "number 65536",
-            text: r#"{"bitmap":"hex","mti":"ascii","profile":1,"rows":[{"class":"ANS","coding":"ascii","length":"fixed","max":8,"number":65536,"pad":"right:20"}],"version":0}"#,
-            fault: Some(TableFault::Shape),
-        },
-        Document {
-            name: "number 65535",
-            text: r#"{"bitmap":"hex","mti":"ascii","profile":1,"rows":[{"class":"ANS","coding":"ascii","length":"fixed","max":8,"number":65535,"pad":"right:20"}],"version":0}"#,
-            fault: Some(TableFault::BadNumber(65535)),
-        },
-        Document {
-            name: "number 65",
-            text: r#"{"bitmap":"hex","mti":"ascii","profile":1,"rows":[{"class":"ANS","coding":"ascii","length":"fixed","max":8,"number":65,"pad":"right:20"}],"version":0}"#,
-            fault: Some(TableFault::BadNumber(65)),
-        },
-        Document {
-            name: "a maximum above 65535",
-            text: r#"{"bitmap":"hex","mti":"ascii","profile":1,"rows":[{"class":"ANS","coding":"ascii","length":"fixed","max":65536,"number":41,"pad":"right:20"}],"version":0}"#,
-            fault: Some(TableFault::Shape),
-        },
-        Document {
-            name: "maximum 0",
-            text: r#"{"bitmap":"hex","mti":"ascii","profile":1,"rows":[{"class":"ANS","coding":"ascii","length":"fixed","max":0,"number":41,"pad":"right:20"}],"version":0}"#,
-            fault: Some(TableFault::BadMax(41)),
-        },
-        Document {
-            name: "a pad of one digit",
-            text: r#"{"bitmap":"hex","mti":"ascii","profile":1,"rows":[{"class":"ANS","coding":"ascii","length":"fixed","max":8,"number":41,"pad":"right:2"}],"version":0}"#,
-            fault: Some(TableFault::Shape),
-        },
-        Document {
-            name: "a pad of three digits",
-            text: r#"{"bitmap":"hex","mti":"ascii","profile":1,"rows":[{"class":"ANS","coding":"ascii","length":"fixed","max":8,"number":41,"pad":"right:200"}],"version":0}"#,
-            fault: Some(TableFault::Shape),
-        },
-        Document {
-            name: "a pad of other digits",
-            text: r#"{"bitmap":"hex","mti":"ascii","profile":1,"rows":[{"class":"ANS","coding":"ascii","length":"fixed","max":8,"number":41,"pad":"right:2g"}],"version":0}"#,
-            fault: Some(TableFault::Shape),
-        },
-        Document {
-            name: "a pad on neither side",
-            text: r#"{"bitmap":"hex","mti":"ascii","profile":1,"rows":[{"class":"ANS","coding":"ascii","length":"fixed","max":8,"number":41,"pad":"both:20"}],"version":0}"#,
-            fault: Some(TableFault::Shape),
-        },
-        Document {
-            name: "a pad that no text has",
-            text: r#"{"bitmap":"hex","mti":"ascii","profile":1,"rows":[{"class":"ANS","coding":"ascii","length":"fixed","max":8,"number":41,"pad":"right:7F"}],"version":0}"#,
-            fault: Some(TableFault::PadNotAllowed(41)),
-        },
-        Document {
-            name: "bytes in ASCII",
-            text: r#"{"bitmap":"hex","mti":"ascii","profile":1,"rows":[{"class":"B","coding":"ascii","length":"fixed","max":8,"number":41,"pad":"right:20"}],"version":0}"#,
-            fault: Some(TableFault::CodingClass(41)),
-        },
-        Document {
-            name: "a row twice",
-            text: r#"{"bitmap":"hex","mti":"ascii","profile":1,"rows":[{"class":"ANS","coding":"ascii","length":"fixed","max":8,"number":41,"pad":"right:20"},{"class":"ANS","coding":"ascii","length":"fixed","max":8,"number":41,"pad":"right:20"}],"version":0}"#,
-            fault: Some(TableFault::Twice(41)),
-        },
-    ]
+/// Edits of the document, and what the tables say: a name, an old text, and the new one in its place.
+#[test]
+fn reads_documents(rt: HostRuntime) -> Result<(), Fail> {
+    let terminal = [(41, TERMINAL_ROW)];
+    let padded = [(
+        41,
+        spec(
+            CharClass::ANS,
+            Coding::Ascii,
+            Length::Fixed,
+            8,
+            Pad::Left(0x2F),
+        ),
+    )];
+    let account = [(2, number(Coding::Bcd, Length::LL(Digits::Bcd), 19))];
+    let three = [
+        (
+            3,
+            spec(
+                CharClass::A,
+                Coding::Ascii,
+                Length::Fixed,
+                3,
+                Pad::Left(0x2A),
+            ),
+        ),
+        (
+            35,
+            spec(
+                CharClass::Z,
+                Coding::Bcd,
+                Length::LLL(Digits::Ascii),
+                37,
+                Pad::None,
+            ),
+        ),
+        (41, TERMINAL_ROW),
+    ];
+    for (name, old, new, says) in [
+        ("one row", TERMINAL, TERMINAL, ascii_table(0, &terminal, 44)),
+        ("version 1", ":0", ":1", ascii_table(1, &terminal, 44)),
+        ("no rows", ROWS, "[]", ascii_table(0, &[], 36)),
+        (
+            "members in another order",
+            TERMINAL,
+            r#"{"version":0,"rows":[],"profile":1,"mti":"bcd","bitmap":"raw"}"#,
+            bcd_table(0, &[], 18),
+        ),
+        (
+            "a prefix behind LL",
+            ROWS,
+            r#"[{"class":"N","coding":"bcd","length":"LL","max":19,"number":2,"pad":"none","prefix":"bcd"}]"#,
+            ascii_table(0, &account, 47),
+        ),
+        (
+            "members and rows in another order",
+            "],",
+            r#",{"number":35,"class":"Z","coding":"bcd","length":"LLL","prefix":"ascii","max":37,"pad":"none"},{"pad":"left:2a","max":3,"length":"fixed","coding":"ascii","class":"A","number":3}],"#,
+            ascii_table(0, &three, 69),
+        ),
+        (
+            "a pad in lower case",
+            "right:20",
+            "left:2f",
+            ascii_table(0, &padded, 44),
+        ),
+        (
+            "a pad in upper case",
+            "right:20",
+            "left:2F",
+            ascii_table(0, &padded, 44),
+        ),
+        (
+            "a member given twice",
+            ":0",
+            r#":3,"version":0"#,
+            ascii_table(0, &terminal, 44),
+        ),
+    ] {
+        let text = edited(&rt, rt.alloc(), old, new)?;
+        let table = Table::from_json(rt.alloc(), text.as_bytes())?;
+        assert_says(&rt, name, &table, says);
+    }
+    Ok(())
 }
+
+/// Edits of the document that are no tables: a name, an old text, the new one in its place, and the fault.
+/// `:1` stands at the profile alone, and `:0` at the version.
+const REFUSED: [(&str, &str, &str, TableFault); 43] = [
+    ("empty text", TERMINAL, "", NotJson),
+    ("an object cut short", TERMINAL, "{", NotJson),
+    ("text behind the object", ":0}", ":0}0", NotJson),
+    ("no JSON, and profile 7", ":1,", ":7", NotJson),
+    ("an array", TERMINAL, "[]", Shape),
+    ("no profile", r#""profile":1,"#, "", Shape),
+    ("a profile below zero", ":1", ":-1", Shape),
+    ("a profile above 65535", ":1", ":65536", Shape),
+    ("profile 7", ":1", ":7", Profile),
+    ("profile 7 alone", TERMINAL, r#"{"profile":7}"#, Profile),
+    ("profile 1 alone", TERMINAL, r#"{"profile":1}"#, Shape),
+    ("an unknown member", ":0", r#":0,"owner":"acquirer""#, Shape),
+    (
+        "an unknown member for a known one",
+        "version",
+        "edition",
+        Shape,
+    ),
+    ("version 256", ":0", ":256", Shape),
+    ("version 3", ":0", ":3", BadVersion),
+    (
+        "another kind of digits",
+        r#""mti":"ascii""#,
+        r#""mti":"ASCII""#,
+        Shape,
+    ),
+    ("another bitmap", r#""hex""#, r#""bcd""#, Shape),
+    ("rows that are no array", ROWS, "{}", Shape),
+    ("a row that is no object", ROWS, "[41]", Shape),
+    (
+        "an unknown member of a row",
+        "41",
+        r#"41,"name":"terminal""#,
+        Shape,
+    ),
+    (
+        "a prefix behind fixed",
+        "}]",
+        r#","prefix":"ascii"}]"#,
+        Shape,
+    ),
+    ("no prefix behind LLL", "fixed", "LLL", Shape),
+    ("another class", "ANS", "ans", Shape),
+    (
+        "another coding",
+        r#""coding":"ascii""#,
+        r#""coding":"text""#,
+        Shape,
+    ),
+    ("another length", "fixed", "LLLL", Shape),
+    ("a number written 41.0", "41", "41.0", Shape),
+    ("a number written 41e0", "41", "41e0", Shape),
+    ("a number of 20 digits", "41", "41000000000000000000", Shape),
+    ("a number in quotes", "41", r#""41""#, Shape),
+    ("number 65536", "41", "65536", Shape),
+    ("number 65535", "41", "65535", BadNumber(65535)),
+    ("number 65", "41", "65", BadNumber(65)),
+    ("a maximum above 65535", "8", "65536", Shape),
+    ("maximum 0", "8", "0", BadMax(41)),
+    ("a pad of one digit", "right:20", "right:2", Shape),
+    ("a pad of three digits", "right:20", "right:200", Shape),
+    ("a pad of other digits", "right:20", "right:2g", Shape),
+    ("a pad on neither side", "right:20", "both:20", Shape),
+    ("a pad that no text has", "20", "7F", PadNotAllowed(41)),
+    ("bytes in ASCII", "ANS", "B", CodingClass(41)),
+    ("a row twice", ROWS, ROW_TWICE, Twice(41)),
+    (
+        "version 3 and a row that is none",
+        r#"}],"version":0"#,
+        r#"},41],"version":3"#,
+        Shape,
+    ),
+    (
+        "version 3 and row 65",
+        r#"41,"pad":"right:20"}],"version":0"#,
+        r#"65,"pad":"right:20"}],"version":3"#,
+        BadVersion,
+    ),
+];
 
 #[test]
-fn judges_documents(rt: HostRuntime) -> Result<(), Fail> {
-    for case in documents() {
-        let name = case.name;
-        let table = Table::from_json(rt.alloc(), case.text.as_bytes());
-        assert_eq!(rt; table.err(), case.fault, "{name}");
+fn refuses_documents(rt: HostRuntime) -> Result<(), Fail> {
+    for (name, old, new, fault) in REFUSED {
+        let text = edited(&rt, rt.alloc(), old, new)?;
+        let table = Table::from_json(rt.alloc(), text.as_bytes());
+        assert_eq!(rt; table.err(), Some(fault), "{name}");
     }
     Ok(())
 }
@@ -280,15 +220,12 @@ fn reads_text_alone(rt: HostRuntime) -> Result<(), Fail> {
     let deep = nested(rt.alloc(), 127)?;
     let deeper = nested(rt.alloc(), 128)?;
     for (name, text, fault) in [
-        ("another encoding", latin.as_slice(), TableFault::NotJson),
-        ("127 arrays", deep.as_slice(), TableFault::Shape),
-        ("128 arrays", deeper.as_slice(), TableFault::NotJson),
+        ("another encoding", latin.as_slice(), NotJson),
+        ("127 arrays", deep.as_slice(), Shape),
+        ("128 arrays", deeper.as_slice(), NotJson),
     ] {
-        assert_eq!(rt;
-            Table::from_json(rt.alloc(), text).err(),
-            Some(fault),
-            "{name}"
-        );
+        let table = Table::from_json(rt.alloc(), text);
+        assert_eq!(rt; table.err(), Some(fault), "{name}");
     }
     Ok(())
 }
@@ -296,28 +233,7 @@ fn reads_text_alone(rt: HostRuntime) -> Result<(), Fail> {
 #[test]
 fn writes_what_it_read(rt: HostRuntime) -> Result<(), Fail> {
     let table = Table::from_json(rt.alloc(), TERMINAL.as_bytes())?;
-    assert_eq!(rt; table.row(41).copied(), Some(terminal()));
-    assert_eq!(rt; (table.rows(), table.max_bytes()), (1, 44));
     let text = table.to_json(rt.alloc())?;
     assert_eq!(rt; text.as_slice(), TERMINAL.as_bytes());
-    Ok(())
-}
-
-#[test]
-fn reads_what_it_wrote(rt: HostRuntime) -> Result<(), Fail> {
-    for table in [Table::ascii87(rt.alloc())?, Table::bcd87(rt.alloc())?] {
-        let text = table.to_json(rt.alloc())?;
-        let again = Table::from_json(rt.alloc(), text.as_slice())?;
-        assert_eq!(rt; again.max_bytes(), table.max_bytes());
-        for element in 0..=255 {
-            assert_eq!(rt;
-                again.row(element).copied(),
-                table.row(element).copied(),
-                "{element}"
-            );
-        }
-        let same = again.to_json(rt.alloc())?;
-        assert_eq!(rt; same.as_slice(), text.as_slice());
-    }
     Ok(())
 }

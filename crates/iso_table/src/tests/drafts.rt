@@ -1,226 +1,151 @@
 use super::*;
 
-/// A draft's version and rows, and what is wrong with it.
-#[derive(Drop)]
-struct Refusal {
-    name: &'static str,
-    version: u8,
-    rows: &'static [Row],
-    fault: Option<TableFault>,
-}
-
-const GOOD: FieldSpec = FieldSpec {
-    class: CharClass::N,
-    coding: Coding::Ascii,
-    length: Length::LL(Digits::Ascii),
-    max: 19,
-    pad: Pad::None,
-};
-
-const TOO_LONG: FieldSpec = FieldSpec {
-    class: CharClass::N,
-    coding: Coding::Ascii,
-    length: Length::LL(Digits::Ascii),
-    max: 100,
-    pad: Pad::None,
-};
-
-const BCD_TEXT: FieldSpec = FieldSpec {
-    class: CharClass::ANS,
-    coding: Coding::Bcd,
-    length: Length::Fixed,
-    max: 8,
-    pad: Pad::None,
-};
-
-const PADDED_LL: FieldSpec = FieldSpec {
-    class: CharClass::ANS,
-    coding: Coding::Ascii,
-    length: Length::LL(Digits::Ascii),
-    max: 8,
-    pad: Pad::Right(0x20),
-};
-
-fn refusals() -> [Refusal; 14] {
-    [
-        Refusal {
-            name: "one row",
-            version: 0,
-            rows: &[Row {
-                number: 41,
-                spec: GOOD,
-            }],
-            fault: None,
-        },
-        Refusal {
-            name: "no row, private use",
-            version: 9,
-            rows: &[],
-            fault: None,
-        },
-        Refusal {
-            name: "version 3",
-            version: 3,
-            rows: &[Row {
-                number: 65,
-                spec: GOOD,
-            }],
-            fault: Some(TableFault::BadVersion),
-        },
-        Refusal {
-            name: "number 0",
-            version: 0,
-            rows: &[Row {
-                number: 0,
-                spec: GOOD,
-            }],
-            fault: Some(TableFault::BadNumber(0)),
-        },
-        Refusal {
-            name: "number 1",
-            version: 0,
-            rows: &[Row {
-                number: 1,
-                spec: GOOD,
-            }],
-            fault: Some(TableFault::BadNumber(1)),
-        },
-        Refusal {
-            name: "number 65",
-            version: 0,
-            rows: &[Row {
-                number: 65,
-                spec: TOO_LONG,
-            }],
-            fault: Some(TableFault::BadNumber(65)),
-        },
-        Refusal {
-            name: "number 129",
-            version: 0,
-            rows: &[Row {
-                number: 129,
-                spec: GOOD,
-            }],
-            fault: Some(TableFault::BadNumber(129)),
-        },
-        Refusal {
-            name: "number 65535",
-            version: 0,
-            rows: &[Row {
-                number: 65535,
-                spec: GOOD,
-            }],
-            fault: Some(TableFault::BadNumber(65535)),
-        },
-        Refusal {
-            name: "row 2 twice",
-            version: 0,
-            rows: &[
-                Row {
-                    number: 2,
-                    spec: GOOD,
-                },
-                Row {
-                    number: 2,
-                    spec: TOO_LONG,
-                },
-            ],
-            fault: Some(TableFault::Twice(2)),
-        },
-        Refusal {
-            name: "LL with maximum 100",
-            version: 0,
-            rows: &[Row {
-                number: 2,
-                spec: TOO_LONG,
-            }],
-            fault: Some(TableFault::BadMax(2)),
-        },
-        Refusal {
-            name: "BCD text",
-            version: 0,
-            rows: &[Row {
-                number: 128,
-                spec: BCD_TEXT,
-            }],
-            fault: Some(TableFault::CodingClass(128)),
-        },
-        Refusal {
-            name: "padding on LL",
-            version: 0,
-            rows: &[Row {
-                number: 64,
-                spec: PADDED_LL,
-            }],
-            fault: Some(TableFault::PadNotAllowed(64)),
-        },
-        Refusal {
-            name: "the first row's fault",
-            version: 0,
-            rows: &[
-                Row {
-                    number: 3,
-                    spec: PADDED_LL,
-                },
-                Row {
-                    number: 1,
-                    spec: GOOD,
-                },
-            ],
-            fault: Some(TableFault::PadNotAllowed(3)),
-        },
-        Refusal {
-            name: "the second row's fault",
-            version: 2,
-            rows: &[
-                Row {
-                    number: 3,
-                    spec: GOOD,
-                },
-                Row {
-                    number: 66,
-                    spec: BCD_TEXT,
-                },
-            ],
-            fault: Some(TableFault::CodingClass(66)),
-        },
-    ]
-}
-
-fn draft(alloc: Global, version: u8, rows: &[Row]) -> Result<Draft, AllocError> {
+/// A draft that says so.
+fn draft(alloc: Global, says: Says) -> Result<Draft, AllocError> {
+    let rows = says.rows.iter().map(|&(number, spec)| Row {
+        number: u16::from(number),
+        spec,
+    });
     Ok(Draft {
-        version,
-        mti: Digits::Ascii,
-        bitmap: BitmapCoding::Hex,
-        rows: rows.to_vec(alloc)?,
+        version: says.version,
+        mti: says.mti,
+        bitmap: says.bitmap,
+        rows: Vec::from_iter(alloc, rows)?,
     })
 }
 
 #[test]
-fn judges_drafts(rt: HostRuntime) -> Result<(), Fail> {
-    for case in refusals() {
-        let draft = draft(rt.alloc(), case.version, case.rows)?;
-        let name = case.name;
-        assert_eq!(rt; Table::check(rt.alloc(), draft).err(), case.fault, "{name}");
+fn accepts_drafts(rt: HostRuntime) -> Result<(), Fail> {
+    let account = number(Coding::Ascii, Length::LL(Digits::Ascii), 19);
+    let track = spec(
+        CharClass::Z,
+        Coding::Bcd,
+        Length::LLL(Digits::Bcd),
+        999,
+        Pad::None,
+    );
+    let text = text(Length::Fixed, 999);
+    for (name, says) in [
+        ("one row", ascii_table(0, &[(41, account)], 57)),
+        ("no row, private use", ascii_table(9, &[], 36)),
+        (
+            "a terminal of 1993",
+            ascii_table(1, &[(41, TERMINAL_ROW)], 44),
+        ),
+        (
+            "the least and greatest numbers",
+            bcd_table(
+                2,
+                &[(128, track), (66, text), (2, account), (64, track)],
+                2042,
+            ),
+        ),
+    ] {
+        let table = Table::check(rt.alloc(), draft(rt.alloc(), says)?)?;
+        assert_says(&rt, name, &table, says);
+        for element in [0, 1, 65, 129, 255] {
+            assert_eq!(rt;
+                table.row(element).copied(),
+                None,
+                "{name}: element {element}"
+            );
+        }
     }
     Ok(())
 }
 
 #[test]
-fn tells_a_table(rt: HostRuntime) -> Result<(), Fail> {
-    let rows = [Row {
-        number: 41,
-        spec: terminal(),
-    }];
-    let draft = draft(rt.alloc(), 1, &rows)?;
-    let table = Table::check(rt.alloc(), draft)?;
-    assert_eq!(rt; table.version(), 1);
-    assert_eq!(rt; table.mti(), Digits::Ascii);
-    assert_eq!(rt; table.bitmap(), BitmapCoding::Hex);
-    assert_eq!(rt; table.rows(), 1);
-    assert_eq!(rt; table.max_bytes(), 44);
-    assert_eq!(rt; table.row(41).copied(), Some(terminal()));
-    assert_eq!(rt; table.row(0).copied(), None);
-    assert_eq!(rt; table.row(255).copied(), None);
+fn refuses_drafts(rt: HostRuntime) -> Result<(), Fail> {
+    let ll = Length::LL(Digits::Ascii);
+    let good = number(Coding::Ascii, ll, 19);
+    let too_long = number(Coding::Ascii, ll, 100);
+    let bcd_text = spec(CharClass::ANS, Coding::Bcd, Length::Fixed, 8, Pad::None);
+    let padded = spec(CharClass::ANS, Coding::Ascii, ll, 8, Pad::Right(0x20));
+    let padded_bcd_text = spec(CharClass::ANS, Coding::Bcd, ll, 8, Pad::Right(0x20));
+    let all_wrong = spec(CharClass::ANS, Coding::Bcd, ll, 0, Pad::Right(0x20));
+    for (name, version, rows, fault) in [
+        (
+            "version 3 and row 65",
+            3,
+            [(65, good)].as_slice(),
+            TableFault::BadVersion,
+        ),
+        ("number 0", 0, &[(0, good)], TableFault::BadNumber(0)),
+        ("number 1", 0, &[(1, good)], TableFault::BadNumber(1)),
+        (
+            "number 65 and too long",
+            0,
+            &[(65, too_long)],
+            TableFault::BadNumber(65),
+        ),
+        ("number 129", 0, &[(129, good)], TableFault::BadNumber(129)),
+        (
+            "number 65535",
+            0,
+            &[(65535, good)],
+            TableFault::BadNumber(65535),
+        ),
+        (
+            "row 2 twice, then too long",
+            0,
+            &[(2, good), (2, too_long)],
+            TableFault::Twice(2),
+        ),
+        (
+            "LL with maximum 100",
+            0,
+            &[(2, too_long)],
+            TableFault::BadMax(2),
+        ),
+        (
+            "BCD text",
+            0,
+            &[(128, bcd_text)],
+            TableFault::CodingClass(128),
+        ),
+        (
+            "padding on LL",
+            0,
+            &[(64, padded)],
+            TableFault::PadNotAllowed(64),
+        ),
+        (
+            "maximum, coding and padding",
+            0,
+            &[(7, all_wrong)],
+            TableFault::BadMax(7),
+        ),
+        (
+            "coding and padding",
+            0,
+            &[(7, padded_bcd_text)],
+            TableFault::CodingClass(7),
+        ),
+        (
+            "the first row's fault",
+            0,
+            &[(3, padded), (1, good)],
+            TableFault::PadNotAllowed(3),
+        ),
+        (
+            "the second row's fault",
+            2,
+            &[(3, good), (66, bcd_text)],
+            TableFault::CodingClass(66),
+        ),
+    ] {
+        let rows = rows.iter().map(|&(number, spec)| Row { number, spec });
+        let draft = Draft {
+            version,
+            mti: Digits::Ascii,
+            bitmap: BitmapCoding::Hex,
+            rows: Vec::from_iter(rt.alloc(), rows)?,
+        };
+        assert_eq!(rt;
+            Table::check(rt.alloc(), draft).err(),
+            Some(fault),
+            "{name}"
+        );
+    }
     Ok(())
 }

@@ -32,7 +32,7 @@ fn terminal_table(alloc: Global, version: u8) -> Result<Table, TableFault> {
     let mut rows = Vec::new(alloc);
     rows.push(Row {
         number: 41,
-        spec: terminal(),
+        spec: TERMINAL_ROW,
     })?;
     Table::check(
         alloc,
