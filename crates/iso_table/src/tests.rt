@@ -6,6 +6,7 @@ use std::test::*;
 
 mod documents;
 mod drafts;
+mod edition87;
 mod faults;
 mod hosts;
 
