@@ -19,6 +19,7 @@ pub record Contents : Type 0 where
   pub bitmap : BitmapCoding
   pub rows : List Row
 
+-- the contents of a draft
 abbrev pub contents : Draft → Contents
 contents d = record { version = d.version; mti = d.mti; bitmap = d.bitmap; rows = d.rows.items }
 
@@ -61,11 +62,13 @@ pub record Holds (t : Layout) (d : Contents) : Type 0 where
 
 -- ---- the first fault
 
+-- a row's fault as a fault of the table that has it as row n
 abbrev pub as_table_fault : ℕ → SpecFault → TableFault
 as_table_fault n specs.BadMax = BadMax n
 as_table_fault n specs.CodingClass = CodingClass n
 as_table_fault n specs.PadNotAllowed = PadNotAllowed n
 
+-- a row's fault, if any, as the table's
 abbrev pub at_row : ℕ → Option SpecFault → Option TableFault
 at_row n None = None
 at_row n (Some e) = Some (as_table_fault n e)
@@ -77,6 +80,7 @@ row_fault is_used r =
     else if is_used then Some (Twice r.number)
     else at_row r.number (spec_fault r.spec)
 
+-- the first of two faults
 abbrev pub or_else : Option TableFault → Option TableFault → Option TableFault
 or_else None other = other
 or_else (Some e) other = Some e

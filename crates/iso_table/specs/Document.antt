@@ -27,6 +27,7 @@ use Rattle.iso_table.specs.Accepted.{Contents, Holds, first_fault}
 
 -- ---- names
 
+-- the text that a class is written as
 abbrev pub class_name : CharClass → List ℕ
 class_name N = codes "N"
 class_name A = codes "A"
@@ -37,29 +38,36 @@ class_name ZD = codes "ZD"
 class_name XN = codes "XN"
 class_name B = codes "B"
 
+-- the class that is written so
 abbrev pub class_named : List ℕ → Option CharClass
 class_named t = find (λ c. bytes_eq t (class_name c)) (N ∷ A ∷ AN ∷ ANS ∷ Z ∷ ZD ∷ XN ∷ B ∷ [])
 
+-- the text that a coding is written as
 abbrev pub coding_name : Coding → List ℕ
 coding_name codings.Ascii = codes "ascii"
 coding_name codings.Bcd = codes "bcd"
 coding_name codings.Raw = codes "raw"
 coding_name codings.HexText = codes "hex"
 
+-- the coding that is written so
 abbrev pub coding_named : List ℕ → Option Coding
 coding_named t = find (λ c. bytes_eq t (coding_name c)) (codings.Ascii ∷ codings.Bcd ∷ codings.Raw ∷ codings.HexText ∷ [])
 
+-- the text that a kind of digits is written as
 abbrev pub digits_name : Digits → List ℕ
 digits_name digits.Ascii = codes "ascii"
 digits_name digits.Bcd = codes "bcd"
 
+-- the kind of digits that is written so
 abbrev pub digits_named : List ℕ → Option Digits
 digits_named t = find (λ d. bytes_eq t (digits_name d)) (digits.Ascii ∷ digits.Bcd ∷ [])
 
+-- the text that a coding of bitmaps is written as
 abbrev pub bitmap_name : BitmapCoding → List ℕ
 bitmap_name bitmaps.Raw = codes "raw"
 bitmap_name bitmaps.Hex = codes "hex"
 
+-- the coding of bitmaps that is written so
 abbrev pub bitmap_named : List ℕ → Option BitmapCoding
 bitmap_named t = find (λ b. bytes_eq t (bitmap_name b)) (bitmaps.Raw ∷ bitmaps.Hex ∷ [])
 
@@ -69,6 +77,7 @@ length_name lengths.Fixed = codes "fixed"
 length_name (lengths.LL d) = codes "LL"
 length_name (lengths.LLL d) = codes "LLL"
 
+-- the text that a padding is written as, its byte in upper-case digits
 abbrev pub pad_name : Pad → List ℕ
 pad_name pads.None = codes "none"
 pad_name (pads.Left p) = codes "left:" ++ encode_upper (p ∷ [])
@@ -80,6 +89,7 @@ only_byte [] = None
 only_byte (b ∷ []) = Some b
 only_byte (b ∷ c ∷ bs) = None
 
+-- the byte that was decoded, if it was one
 abbrev pub byte_by : Result (List ℕ) FromHexError → Option ℕ
 byte_by (Ok bytes) = only_byte bytes
 byte_by (Err e) = None
@@ -92,11 +102,13 @@ byte_of t = byte_by (decode_sized t 1)
 abbrev pub behind : List ℕ → List ℕ → Option (List ℕ)
 behind front t = if bytes_eq (take (length front) t) front then Some (drop (length front) t) else None
 
+-- the padding whose byte stands behind `left:` or `right:`
 abbrev pub pad_behind : Option (List ℕ) → Option (List ℕ) → Option Pad
 pad_behind (Some t) right = option_map pads.Left (byte_of t)
 pad_behind None (Some t) = option_map pads.Right (byte_of t)
 pad_behind None None = None
 
+-- the padding that is written so, its byte in digits of either case
 abbrev pub pad_named : List ℕ → Option Pad
 pad_named t = if bytes_eq t (codes "none") then Some pads.None else pad_behind (behind (codes "left:") t) (behind (codes "right:") t)
 
@@ -108,10 +120,12 @@ abbrev pub ◌>>=◌ : {X Y : Type 0} → Option X → (X → Option Y) → Opti
 None >>= f = None
 Some x >>= f = f x
 
+-- how many members there are
 abbrev pub member_count : Members → ℕ
 member_count no_members = 0
 member_count (member k d ms) = member_count ms + 1
 
+-- whether there are members, and so many
 abbrev pub counts_to : ℕ → Option Members → Bool
 counts_to n None = false
 counts_to n (Some ms) = member_count ms == n
@@ -124,9 +138,11 @@ has_size n d = counts_to n (as_object d)
 abbrev pub text_at : List ℕ → Data → Option (List ℕ)
 text_at key d = get key d >>= as_str
 
+-- the number, if it isn't above the greatest one
 abbrev pub up_to : ℕ → ℕ → Option ℕ
 up_to most n = if nat_le n most then Some n else None
 
+-- the whole number at a member
 abbrev pub number_at : List ℕ → Data → Option ℕ
 number_at key d = get key d >>= as_number >>= as_u64
 
@@ -134,6 +150,7 @@ number_at key d = get key d >>= as_number >>= as_u64
 abbrev pub whole_at : List ℕ → ℕ → Data → Option ℕ
 whole_at key most d = number_at key d >>= up_to most
 
+-- the kind of digits at a member
 abbrev pub digits_at : List ℕ → Data → Option Digits
 digits_at key d = text_at key d >>= digits_named
 
@@ -143,6 +160,7 @@ digits_at key d = text_at key d >>= digits_named
 abbrev pub prefix_in : Data → Option Digits
 prefix_in d = if has_size 7 d then digits_at (codes "prefix") d else None
 
+-- the length of this name, in an object of six members, or of seven with the digits of `LL` and `LLL`
 abbrev pub length_by : Data → List ℕ → Option Length
 length_by d t =
     if bytes_eq t (codes "fixed") then (if has_size 6 d then Some lengths.Fixed else None)
@@ -150,18 +168,23 @@ length_by d t =
     else if bytes_eq t (codes "LLL") then option_map lengths.LLL (prefix_in d)
     else None
 
+-- the length of a row
 abbrev pub length_in : Data → Option Length
 length_in d = text_at (codes "length") d >>= length_by d
 
+-- the class of a row
 abbrev pub class_in : Data → Option CharClass
 class_in d = text_at (codes "class") d >>= class_named
 
+-- the coding of a row
 abbrev pub coding_in : Data → Option Coding
 coding_in d = text_at (codes "coding") d >>= coding_named
 
+-- the padding of a row
 abbrev pub pad_in : Data → Option Pad
 pad_in d = text_at (codes "pad") d >>= pad_named
 
+-- how the field of a row is laid out
 abbrev pub spec_in : Data → Option FieldSpec
 spec_in d = do
   class ← class_in d
@@ -171,6 +194,7 @@ spec_in d = do
   pad ← pad_in d
   Some (record { class = class; coding = coding; length = length; max = max; pad = pad })
 
+-- a row
 abbrev pub row_in : Data → Option Row
 row_in d = do
   n ← whole_at (codes "number") 65535 d
@@ -182,15 +206,19 @@ abbrev pub rows_in : Items → Option (List Row)
 rows_in no_items = Some []
 rows_in (item d ds) = row_in d >>= (λ row. option_map (λ rows. row ∷ rows) (rows_in ds))
 
+-- how both bitmaps are written
 abbrev pub bitmap_in : Data → Option BitmapCoding
 bitmap_in d = text_at (codes "bitmap") d >>= bitmap_named
 
+-- the rows of an object
 abbrev pub list_in : Data → Option (List Row)
 list_in d = get (codes "rows") d >>= as_array >>= rows_in
 
+-- a draft of these parts, if the rows are some
 abbrev pub with_rows : ℕ → Digits → BitmapCoding → Option (List Row) → Option Contents
 with_rows version mti bitmap rows = option_map (λ rows. record { version = version; mti = mti; bitmap = bitmap; rows = rows }) rows
 
+-- the draft that the members say
 abbrev pub members_in : Data → Option Contents
 members_in d = do
   version ← whole_at (codes "version") 255 d
@@ -198,25 +226,30 @@ members_in d = do
   bitmap ← bitmap_in d
   with_rows version mti bitmap (list_in d)
 
+-- the draft of an object of the five members and no others
 abbrev pub contents_in : Data → Option Contents
 contents_in d = if has_size 5 d then members_in d else None
 
+-- the draft, or that the shape is another
 abbrev pub or_shape : Option Contents → Result Contents TableFault
 or_shape None = Err Shape
 or_shape (Some c) = Ok c
 
+-- the draft of profile 1: no profile is another shape, and another profile is told before anything else
 abbrev pub by_profile : Option ℕ → Data → Result Contents TableFault
 by_profile None d = Err Shape
 by_profile (Some p) d = if p == 1 then or_shape (contents_in d) else Err Profile
 
--- the draft that the data are
+-- the draft that the data are, or what is wrong before the draft is checked
 abbrev pub draft_in : Data → Result Contents TableFault
 draft_in d = by_profile (whole_at (codes "profile") 65535 d) d
 
+-- the draft, if there is no fault
 abbrev pub or_fault : Contents → Option TableFault → Result Contents TableFault
 or_fault c None = Ok c
 or_fault c (Some e) = Err e
 
+-- the draft, if it is accepted
 abbrev pub checked : Result Contents TableFault → Result Contents TableFault
 checked (Err e) = Err e
 checked (Ok c) = or_fault c (first_fault c)
@@ -249,6 +282,7 @@ prefix_named lengths.Fixed = None
 prefix_named (lengths.LL d) = Some d
 prefix_named (lengths.LLL d) = Some d
 
+-- the member of a length's digits, where there are some
 abbrev pub prefix_members : Option Digits → Members
 prefix_members None = no_members
 prefix_members (Some d) = member (codes "prefix") (string (digits_name d)) no_members
@@ -263,6 +297,7 @@ row_object n s pad prefix =
     (member (codes "number") (number (unsigned n))
     (member (codes "pad") (string pad) (prefix_members prefix)))))))
 
+-- the object of the row of element n
 abbrev pub row_data : ℕ → FieldSpec → Data
 row_data n s = row_object n s (pad_name s.pad) (prefix_named s.length)
 
@@ -272,6 +307,7 @@ rows_data n [] = no_items
 rows_data n (None ∷ rs) = rows_data (n + 1) rs
 rows_data n (Some s ∷ rs) = item (row_data n s) (rows_data (n + 1) rs)
 
+-- the object of a table
 abbrev pub document : Layout → Data
 document t =
     object (member (codes "bitmap") (string (bitmap_name t.bitmap))

@@ -18,9 +18,11 @@ use Rattle.iso_table.specs.declared.edition87.Kind.TheVariants.{Fixed, LL, LLL}
 use Rattle.iso_table.specs.declared.edition87.Group.{Group}
 use Rattle.iso_table.specs.Layout.{Layout, row_at}
 
+-- one line of the table below
 abbrev pub line : ℕ → ℕ → CharClass → Kind → ℕ → Pad → Group
 line first last class kind max pad = record { 0 = first; 1 = last; 2 = class; 3 = kind; 4 = max; 5 = pad }
 
+-- no padding
 abbrev pub none : Pad
 none = pads.None
 
@@ -87,6 +89,7 @@ lines =
     line 105 127 ANS LLL 999 none ∷
     line 128 128 B Fixed 8 none ∷ []
 
+-- whether the line is of element n
 abbrev pub has_number : ℕ → Group → Bool
 has_number n g = nat_le g.0 n && nat_le n g.1
 
@@ -104,6 +107,7 @@ coding_of digits.Bcd n c = codings.Ascii
 coding_of digits.Ascii n B = if n == 55 then codings.Raw else codings.HexText
 coding_of digits.Ascii n c = codings.Ascii
 
+-- the row of element n by its line
 abbrev pub spec_of : Digits → ℕ → Group → FieldSpec
 spec_of d n g = record { class = g.2; coding = coding_of d n g.2; length = length_of g.3 d; max = g.4; pad = g.5 }
 
@@ -111,6 +115,7 @@ spec_of d n g = record { class = g.2; coding = coding_of d n g.2; length = lengt
 abbrev pub row87 : Digits → ℕ → Option FieldSpec
 row87 d n = option_map (spec_of d n) (find (has_number n) lines)
 
+-- how the bitmaps are written: where digits are ASCII, in hexadecimal digits
 abbrev pub bitmap87 : Digits → BitmapCoding
 bitmap87 digits.Ascii = bitmaps.Hex
 bitmap87 digits.Bcd = bitmaps.Raw

@@ -16,10 +16,12 @@ use Rattle.iso_table.specs.Layout.{Layout, row_at}
 
 -- ---- the shape of a row
 
+-- digits alone
 abbrev pub is_n : CharClass → Bool
 is_n classes.N = true
 is_n c = false
 
+-- letters and digits can be written
 abbrev pub is_an : CharClass → Bool
 is_an classes.AN = true
 is_an classes.ANS = true
@@ -30,6 +32,7 @@ abbrev pub is_n_or_an : CharClass → Bool
 is_n_or_an classes.N = true
 is_n_or_an c = is_an c
 
+-- no length stands before the value
 abbrev pub is_fixed : Length → Bool
 is_fixed lengths.Fixed = true
 is_fixed l = false
@@ -40,10 +43,12 @@ is_counted (lengths.LL d) = true
 is_counted (lengths.LLL d) = true
 is_counted lengths.Fixed = false
 
+-- nothing fills a value up
 abbrev pub is_unpadded : Pad → Bool
 is_unpadded pads.None = true
 is_unpadded p = false
 
+-- whether the row has the shape
 abbrev pub is_shape : Shape → FieldSpec → Bool
 is_shape (Digits n) s = is_n s.class && is_fixed s.length && (s.max == n) && is_unpadded s.pad
 is_shape (DigitsUpTo n) s = is_n s.class && is_counted s.length && nat_le s.max n && is_unpadded s.pad
@@ -53,6 +58,7 @@ is_shape (AnyUpTo n) s = nat_le s.max n
 
 -- ---- the rows
 
+-- an element, whether it needs a row, and the row's shape
 abbrev pub host_row : ℕ → Bool → Shape → HostRow
 host_row number needed shape = record { 0 = number; 1 = needed; 2 = shape }
 
@@ -93,7 +99,7 @@ abbrev pub rows_fault : List HostRow → List (Option FieldSpec) → Option Host
 rows_fault [] rows = None
 rows_fault (h ∷ hs) rows = first_of (row_fault h (row_at rows h.0)) (rows_fault hs rows)
 
--- the version first, then the rows
+-- the first thing that is wrong: the version, then the rows
 abbrev pub host_fault : Layout → Option HostTableFault
 host_fault t = if t.version == 0 then rows_fault host_rows t.rows else Some NotVersion0
 
@@ -104,6 +110,7 @@ abbrev pub IsHostRow : HostRow → Option FieldSpec → Type 0
 IsHostRow h None = h.1 ≡ false
 IsHostRow h (Some s) = IsTrue (is_shape h.2 s)
 
+-- each of these elements has the row that a host needs
 abbrev pub AreHostRows : List HostRow → List (Option FieldSpec) → Type 0
 AreHostRows [] rows = Unit {0}
 AreHostRows (h ∷ hs) rows = IsHostRow h (row_at rows h.0) × AreHostRows hs rows

@@ -40,6 +40,7 @@ body_bytes codings.HexText n = 2 * n
 abbrev pub field_bytes : FieldSpec → ℕ
 field_bytes s = prefix_bytes s.length + body_bytes s.coding s.max
 
+-- the bytes of the longest field at a place, if it has a row
 abbrev pub place_bytes : Option FieldSpec → ℕ
 place_bytes None = 0
 place_bytes (Some s) = field_bytes s

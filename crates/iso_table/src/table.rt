@@ -75,9 +75,11 @@ impl Table {
         Table::check(alloc, draft)
     }
 
-    /// The table of a JSON text, or the first fault: no JSON, another shape, another profile, and
+    /// The table of a JSON text, or the first fault: no JSON; no object with a whole number as
+    /// `profile`; another profile than 1; a member that is missing, unknown or of another kind; and
     /// then as [`Table::check`]. A text that stands for a table, as what [`Table::to_json`] wrote,
-    /// gives that very table, unless memory ran out.
+    /// gives that very table, unless memory ran out. A refusal leaves nothing behind: the text is
+    /// only read.
     pub fn from_json(alloc: Global, text: &[u8]) -> Result<Table, TableFault>
         ensures ok { IfOk result (IsTableOf text.now) }
         ensures only { (t : Layout) → IsAccepted t → IsTableOf text.now t
@@ -89,7 +91,8 @@ impl Table {
     }
 
     /// The JSON text of the table, of profile 1: compact, with members in the order of their names,
-    /// rows in the order of their numbers and pads in upper-case digits.
+    /// rows in the order of their numbers and pads in upper-case digits. The table stays as it is,
+    /// also where memory ran out.
     pub fn to_json(&self, alloc: Global) -> Result<Vec<u8>, NoMemory>
         ensures text { IfOk result (λ text. text.items ≡ compact_text (document self.now)) }
         ensures read_back { IfOk result (λ text. IsTableOf text.items self.now) }
@@ -100,14 +103,16 @@ impl Table {
 
     /// The table of the 1987 edition in ASCII: version 0 and 126 rows, with type, lengths and numbers
     /// in ASCII digits, and bitmaps and the bytes of elements 52, 64, 96 and 128 in hexadecimal
-    /// digits. The rows are this project's own reading of the edition.
+    /// digits. The rows are this project's own reading of the edition. Where memory ran out, nothing
+    /// is left behind.
     pub fn ascii87(alloc: Global) -> Result<Table, NoMemory>
         ensures { IfOk result (IsEdition87 Digits.Ascii) }
     {
         Table::edition87(alloc, Digits::Ascii)
     }
 
-    /// The same table in BCD: type, lengths and numbers in BCD, bitmaps and bytes as they are.
+    /// The same table in BCD: type, lengths and numbers in BCD, bitmaps and bytes as they are. Where
+    /// memory ran out, nothing is left behind.
     pub fn bcd87(alloc: Global) -> Result<Table, NoMemory>
         ensures { IfOk result (IsEdition87 Digits.Bcd) }
     {
@@ -174,7 +179,7 @@ impl Table {
 
     /// Whether an issuer host can serve under the table: version 0, and for the elements of requests and responses
     /// rows that every response fits. Else the first thing that is wrong: the version, then by ascending element.
-    /// Takes no memory.
+    /// Takes no memory, and a refusal changes nothing: the table can be used as before.
     pub fn host_ready(&self) -> Result<(), HostTableFault>
         ensures ready { IsOk result ↔ IsHostReady self.now }
         ensures fault { IfErr result (λ e. host_fault self.now ≡ Some e) }
