@@ -73,6 +73,20 @@ fn bcd_table(version: u8, rows: &[(u8, FieldSpec)], max_bytes: u64) -> Says<'_> 
     }
 }
 
+/// A draft that says so.
+fn draft(alloc: Global, says: Says) -> Result<Draft, AllocError> {
+    let rows = says.rows.iter().map(|&(number, spec)| Row {
+        number: u16::from(number),
+        spec,
+    });
+    Ok(Draft {
+        version: says.version,
+        mti: says.mti,
+        bitmap: says.bitmap,
+        rows: Vec::from_iter(alloc, rows)?,
+    })
+}
+
 /// That a table says so.
 fn assert_says(rt: &impl Abort, name: &str, table: &Table, says: Says) {
     assert_eq!(rt; table.version(), says.version, "{name}");

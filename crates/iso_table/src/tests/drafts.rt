@@ -1,19 +1,5 @@
 use super::*;
 
-/// A draft that says so.
-fn draft(alloc: Global, says: Says) -> Result<Draft, AllocError> {
-    let rows = says.rows.iter().map(|&(number, spec)| Row {
-        number: u16::from(number),
-        spec,
-    });
-    Ok(Draft {
-        version: says.version,
-        mti: says.mti,
-        bitmap: says.bitmap,
-        rows: Vec::from_iter(alloc, rows)?,
-    })
-}
-
 #[test]
 fn accepts_drafts(rt: HostRuntime) -> Result<(), Fail> {
     let account = number(Coding::Ascii, Length::LL(Digits::Ascii), 19);
