@@ -1,6 +1,5 @@
 -- A fault other than a missing byte stays, whatever follows.
-use Rattle.std.proofs.Common.{◌≡◌, ◌≢◌, ℕ, ◌+◌, ◌≤◌, ◌<◌, Bool, true, false, cond, ltb, List, [], ◌∷◌, ◌++◌, length, take, drop, get_or, Option, Some, None, Result, Ok, Err, refl, sym, ap, subst, ◌∙◌, arith}
-use Rattle.std.specs.Prelude.{IfErr}
+use Rattle.std.proofs.Common.{◌≡◌, ℕ, ◌+◌, ◌≤◌, Bool, true, false, cond, ltb, List, [], ◌∷◌, ◌++◌, length, take, drop, Option, Some, None, Result, Ok, Err, refl, sym, ap, subst, ◌∙◌, arith}
 use Rattle.std.proofs.lemmas.Bool.{ltb-false, le-ltb, cond-false}
 use Rattle.std.proofs.lemmas.List.{length-append, length-drop, take-append-le, drop-append-le}
 use Rattle.iso_parts.specs.declared.bitmap.BitmapCoding.{BitmapCoding}
@@ -8,24 +7,19 @@ use Rattle.iso_parts.specs.declared.spec.FieldSpec.{FieldSpec}
 use Rattle.iso_parts.specs.Bits.{map_size}
 use Rattle.iso_parts.specs.BitmapReading.{word_in, top}
 use Rattle.iso_parts.specs.Reading.{Outcome, got, more, fault, part_at}
-use Rattle.iso_parts.proofs.BitmapLaws.{bytes_drop}
-use Rattle.iso_parts.proofs.Stable.{IsMore, part_stays}
+use Rattle.iso_parts.specs.MapLaws.{MapLaws}
+use Rattle.iso_parts.specs.PartLaws.{PartLaws, IsMore}
 use Rattle.iso_wire.specs.declared.fault.UnpackFault.{UnpackFault}
-use Rattle.iso_wire.specs.declared.fault.UnpackCause.TheVariants.{Short, Memory}
-use Rattle.iso_wire.specs.Contents.{Contents}
+use Rattle.iso_wire.specs.declared.fault.UnpackCause.TheVariants.{Short}
 use Rattle.iso_table.specs.Layout.{Layout, row_at, AreGood}
 use Rattle.iso_wire.specs.Numbers.{numbers_in, unknown}
-use Rattle.iso_wire.specs.Spelling.{AreBytes, BeginsWithNone}
-use Rattle.iso_wire.specs.Reading.{◌>>=◌, halt, mti_size, mti_of, of_version, type_at, word_by, word_at, known_by, primary_at, second_known, secondary_at, words_by, words_at, answer, value_by, value_at, elements_at, message_at, whole, Unpacks}
+use Rattle.iso_wire.specs.Spelling.{AreBytes}
+use Rattle.iso_wire.specs.Reading.{◌>>=◌, halt, mti_size, mti_of, of_version, type_at, word_by, word_at, known_by, primary_at, second_known, secondary_at, words_by, words_at, answer, value_by, value_at, elements_at, message_at, whole}
+use Rattle.iso_wire.specs.ReadingLaws.{IsShort, ReadingStays}
+use Rattle.iso_wire.proofs.Bytes.{bytes_drop}
 use Rattle.iso_wire.proofs.ElementLaws.{bind_ok, value_taken}
-use Rattle.iso_wire.proofs.Messages.{spelling_again, bytes_append}
 use Rattle.iso_wire.proofs.Orders.{Values}
 use Rattle.iso_wire.proofs.WordLaws.{short_or, words_taken}
-
--- the bytes end inside a piece
-abbrev pub IsShort : {A : Type 0} → Result A UnpackFault → Type 0
-IsShort (Ok x) = ⊥
-IsShort (Err e) = e.cause ≡ Short
 
 -- what is read of more bytes is the same, unless they end inside a piece
 abbrev Stays : {A : Type 0} → Result A UnpackFault → Result A UnpackFault → Type 0
@@ -88,57 +82,45 @@ answer_stays s n at len len' (got v used) o' h = λ long. ap (answer s n at len'
 answer_stays s n at len len' more o' h = λ long. absurd (long refl)
 answer_stays s n at len len' (fault e) o' h = λ long. ap (answer s n at len') (h (λ m. m))
 
-value_stays : (r : Option FieldSpec) (n at : ℕ) (b x : List ℕ) → Stays (value_by r n at b) (value_by r n at (b ++ x))
-value_stays None n at b x = λ long. refl
-value_stays (Some s) n at b x = answer_stays s n at (length b) (length (b ++ x)) (part_at s b) (part_at s (b ++ x)) (part_stays s b x)
-
 abbrev entries : Values × ℕ → Result (Values × ℕ) UnpackFault
 entries x = Ok x
-
-elements_stay : (rows : List (Option FieldSpec)) (ns : List ℕ) (at : ℕ) (b x : List ℕ) → AreGood rows → ((i : ℕ) → get_or b i 0 < 256) → Stays (elements_at rows ns at b) (elements_at rows ns at (b ++ x))
-elements_stay rows [] at b x good fits = λ long. refl
-elements_stay rows (n ∷ ns) at b x good fits =
-    let rest = λ (l : List ℕ). λ (first : List ℕ × ℕ). elements_at rows ns (at + first.1) (drop first.1 l) >>= λ others. entries ((n, first.0) ∷ others.0, others.1) in
-    stays_bind (value_at rows n at b) (value_at rows n at (b ++ x)) (rest b) (rest (b ++ x)) (value_stays (row_at rows n) n at b x) (λ first e.
-    let f = λ (others : Values × ℕ). entries ((n, first.0) ∷ others.0, others.1) in
-    let room = (value_taken rows n at b first.0 first.1 good fits e).room in
-    stays_bind (elements_at rows ns (at + first.1) (drop first.1 b)) (elements_at rows ns (at + first.1) (drop first.1 (b ++ x))) f f
-    (subst (λ (l : List ℕ). Stays (elements_at rows ns (at + first.1) (drop first.1 b)) (elements_at rows ns (at + first.1) l)) (sym (drop-append-le first.1 b x room)) (elements_stay rows ns (at + first.1) (drop first.1 b) x good (bytes_drop first.1 b fits)))
-    (λ others e long. refl))
 
 type_room : (t : Layout) (b : List ℕ) (n : ℕ) → type_at t b ≡ Ok n → mti_size t.mti ≤ length b
 type_room t b n e =
     let size = mti_size t.mti in
     ltb-false (length b) size (short_or (ltb (length b) size) 0 0 (of_version t.version (mti_of t.mti (take size b))) n e).0
 
-pub message_stays : (t : Layout) (b x : List ℕ) → AreGood t.rows → ((i : ℕ) → get_or b i 0 < 256) → Stays (message_at t b) (message_at t (b ++ x))
-unfolding message_at
-message_stays t b x good fits =
-    let size = mti_size t.mti in
-    let elements = λ (l : List ℕ). λ (mti : ℕ). λ (w : ℕ × ℕ × ℕ). elements_at t.rows (numbers_in w.0 w.1) (size + w.2) (drop (size + w.2) l) >>= λ read. whole (record { mti = mti; elements = read.0 }) read.1 in
-    let behind = λ (l : List ℕ). λ (mti : ℕ). words_at t size (drop size l) >>= elements l mti in
-    stays_bind (type_at t b) (type_at t (b ++ x)) (behind b) (behind (b ++ x)) (type_stays t b x) (λ mti e.
-    let room = type_room t b mti e in
-    stays_bind (words_at t size (drop size b)) (words_at t size (drop size (b ++ x))) (elements b mti) (elements (b ++ x) mti)
-    (subst (λ (l : List ℕ). Stays (words_at t size (drop size b)) (words_at t size l)) (sym (drop-append-le size b x room)) (words_stays t size (drop size b) x))
-    (λ w e.
-    let f = λ (read : Values × ℕ). whole (record { mti = mti; elements = read.0 }) read.1 in
-    let taken = words_taken t size (drop size b) w (bytes_drop size b fits) e in
-    let n = size + w.2 in
-    let inside : n ≤ length b = omega (arith, taken.room, length-drop size b) in
-    stays_bind (elements_at t.rows (numbers_in w.0 w.1) n (drop n b)) (elements_at t.rows (numbers_in w.0 w.1) n (drop n (b ++ x))) f f
-    (subst (λ (l : List ℕ). Stays (elements_at t.rows (numbers_in w.0 w.1) n (drop n b)) (elements_at t.rows (numbers_in w.0 w.1) n l)) (sym (drop-append-le n b x inside)) (elements_stay t.rows (numbers_in w.0 w.1) n (drop n b) x good (bytes_drop n b fits)))
-    (λ read e long. refl)))
+module _ (part_laws : PartLaws) (map_laws : MapLaws) where
+  value_stays : (r : Option FieldSpec) (n at : ℕ) (b x : List ℕ) → Stays (value_by r n at b) (value_by r n at (b ++ x))
+  value_stays None n at b x = λ long. refl
+  value_stays (Some s) n at b x = answer_stays s n at (length b) (length (b ++ x)) (part_at s b) (part_at s (b ++ x)) (part_laws.stays s b x)
 
--- ---- what a function that unpacks has refused
+  elements_stay : (rows : List (Option FieldSpec)) (ns : List ℕ) (at : ℕ) (b x : List ℕ) → AreGood rows → AreBytes b → Stays (elements_at rows ns at b) (elements_at rows ns at (b ++ x))
+  elements_stay rows [] at b x good fits = λ long. refl
+  elements_stay rows (n ∷ ns) at b x good fits =
+      let rest = λ (l : List ℕ). λ (first : List ℕ × ℕ). elements_at rows ns (at + first.1) (drop first.1 l) >>= λ others. entries ((n, first.0) ∷ others.0, others.1) in
+      stays_bind (value_at rows n at b) (value_at rows n at (b ++ x)) (rest b) (rest (b ++ x)) (value_stays (row_at rows n) n at b x) (λ first e.
+      let f = λ (others : Values × ℕ). entries ((n, first.0) ∷ others.0, others.1) in
+      let room = (value_taken part_laws rows n at b first.0 first.1 good fits e).room in
+      stays_bind (elements_at rows ns (at + first.1) (drop first.1 b)) (elements_at rows ns (at + first.1) (drop first.1 (b ++ x))) f f
+      (subst (λ (l : List ℕ). Stays (elements_at rows ns (at + first.1) (drop first.1 b)) (elements_at rows ns (at + first.1) l)) (sym (drop-append-le first.1 b x room)) (elements_stay rows ns (at + first.1) (drop first.1 b) x good (bytes_drop first.1 b fits)))
+      (λ others e long. refl))
 
--- where a whole piece is bad, no continuation begins with a spelling
-pub is_settled : (t : Layout) (b : List ℕ) (r : Result (Contents × ℕ) UnpackFault) → AreGood t.rows → ((i : ℕ) → get_or b i 0 < 256) → Unpacks r (message_at t b)
-    → IfErr r (λ e. e.cause ≢ Memory → e.cause ≢ Short → (more : List ℕ) → AreBytes more → BeginsWithNone t (b ++ more))
-is_settled t b (Ok x) good fits h = tt
-is_settled t b (Err e) good fits h = λ other long more others m front rest split spelled.
-    let read : message_at t b ≡ Err e = h other in
-    let stays : message_at t (b ++ more) ≡ Err e = message_stays t b more good fits (λ short. long (subst IsShort read short)) ∙ read in
-    let all : (i : ℕ) → get_or (front ++ rest) i 0 < 256 = subst (λ (l : List ℕ). (i : ℕ) → get_or l i 0 < 256) split (bytes_append b more fits others) in
-    let given = spelling_again t m front rest good all spelled in
-    absurd (let same : Err e ≡ whole m (length front) = sym stays ∙ ap (message_at t) split ∙ given in cc)
+  pub reading_stays : ReadingStays
+  unfolding message_at
+  reading_stays t b x good fits =
+      let size = mti_size t.mti in
+      let elements = λ (l : List ℕ). λ (mti : ℕ). λ (w : ℕ × ℕ × ℕ). elements_at t.rows (numbers_in w.0 w.1) (size + w.2) (drop (size + w.2) l) >>= λ read. whole (record { mti = mti; elements = read.0 }) read.1 in
+      let behind = λ (l : List ℕ). λ (mti : ℕ). words_at t size (drop size l) >>= elements l mti in
+      stays_bind (type_at t b) (type_at t (b ++ x)) (behind b) (behind (b ++ x)) (type_stays t b x) (λ mti e.
+      let room = type_room t b mti e in
+      stays_bind (words_at t size (drop size b)) (words_at t size (drop size (b ++ x))) (elements b mti) (elements (b ++ x) mti)
+      (subst (λ (l : List ℕ). Stays (words_at t size (drop size b)) (words_at t size l)) (sym (drop-append-le size b x room)) (words_stays t size (drop size b) x))
+      (λ w e.
+      let f = λ (read : Values × ℕ). whole (record { mti = mti; elements = read.0 }) read.1 in
+      let taken = words_taken map_laws t size (drop size b) w (bytes_drop size b fits) e in
+      let n = size + w.2 in
+      let inside : n ≤ length b = omega (arith, taken.room, length-drop size b) in
+      stays_bind (elements_at t.rows (numbers_in w.0 w.1) n (drop n b)) (elements_at t.rows (numbers_in w.0 w.1) n (drop n (b ++ x))) f f
+      (subst (λ (l : List ℕ). Stays (elements_at t.rows (numbers_in w.0 w.1) n (drop n b)) (elements_at t.rows (numbers_in w.0 w.1) n l)) (sym (drop-append-le n b x inside)) (elements_stay t.rows (numbers_in w.0 w.1) n (drop n b) x good (bytes_drop n b fits)))
+      (λ read e long. refl)))

@@ -1,3 +1,4 @@
+pub mod Bytes
 pub mod Orders
 pub mod Buffers
 pub mod Places
@@ -8,6 +9,7 @@ pub mod Types
 pub mod ElementLaws
 pub mod WordLaws
 pub mod Messages
+pub mod Unpacks
 pub mod WalkLaws
 pub mod Loop
 pub mod Appends

@@ -1,36 +1,31 @@
 -- What is read is a spelling of the message, and what is spelled is read.
-use Rattle.std.proofs.Common.{◌≡◌, ◌≢◌, ℕ, zero, suc, ◌+◌, ◌/◌, ◌≤◌, ◌<◌, Bool, true, false, cond, eqb, ltb, List, [], ◌∷◌, ◌++◌, length, take, drop, get_or, Option, Some, None, Result, Ok, Err, refl, sym, ap, subst, ◌∙◌, append_assoc, arith, inl, inr}
-use Rattle.std.specs.Prelude.{IfOk, IfErr}
+use Rattle.std.proofs.Common.{◌≡◌, ℕ, ◌+◌, ◌/◌, ◌≤◌, ◌<◌, Bool, true, false, cond, eqb, ltb, List, [], ◌∷◌, ◌++◌, length, take, drop, Option, Some, None, Ok, refl, sym, ap, subst, ◌∙◌, append_assoc, arith, inl, inr}
 use Rattle.std.proofs.lemmas.Bool.{cases_eq, eqb-true, ltb-false, le-ltb, cond-true, cond-false}
 use Rattle.std.proofs.lemmas.Bool.Decides.{nat_tests}
-use Rattle.std.proofs.lemmas.List.{take_at, drop_at, drop-drop, length-append, length-drop}
+use Rattle.std.proofs.lemmas.List.{take_at, drop_at, drop-drop, length-append, length-drop, length-take, take-append-drop}
+use Rattle.std.proofs.Math.Seq.{take-add}
 use Rattle.iso_parts.specs.Bits.{in_words, first_set, Bitmaps}
 use Rattle.iso_parts.specs.declared.bitmap.BitmapCoding.{BitmapCoding}
-use Rattle.iso_parts.proofs.BitmapLaws.{bytes_take, bytes_drop, bits_agree}
-use Rattle.iso_wire.specs.declared.fault.UnpackFault.{UnpackFault}
-use Rattle.iso_wire.specs.declared.fault.UnpackCause.TheVariants.{Short, WrongVersion, Memory}
+use Rattle.iso_parts.specs.MapLaws.{MapLaws}
+use Rattle.iso_parts.specs.PartLaws.{PartLaws}
+use Rattle.iso_wire.specs.declared.fault.UnpackCause.TheVariants.{Short, WrongVersion}
 use Rattle.iso_wire.specs.Contents.{Contents}
 use Rattle.iso_wire.specs.Elements.{has, IsAscending}
 use Rattle.iso_table.specs.Layout.{Layout, AreGood}
 use Rattle.iso_wire.specs.Numbers.{numbers_in, numbers_of}
-use Rattle.iso_wire.specs.Spelling.{mti_bytes, Spelling}
-use Rattle.iso_wire.specs.Reading.{◌>>=◌, halt, mti_size, mti_of, of_version, type_at, words_at, elements_at, message_at, whole, Unpacks}
+use Rattle.iso_wire.specs.Spelling.{mti_bytes, AreBytes, BeginsWith, Spelling}
+use Rattle.iso_wire.specs.Reading.{◌>>=◌, halt, mti_size, mti_of, of_version, type_at, words_at, elements_at, message_at, whole}
+use Rattle.iso_wire.specs.ReadingLaws.{ReadsSpellings}
+use Rattle.iso_wire.proofs.Bytes.{bytes_take, bytes_drop}
 use Rattle.iso_wire.proofs.Orders.{Values}
-use Rattle.iso_wire.proofs.ElementLaws.{elements_again, elements_taken, has_row, take_sum, bind_ok, ok_is}
+use Rattle.iso_wire.proofs.ElementLaws.{elements_again, elements_taken, has_row, bind_ok, ok_is}
 use Rattle.iso_wire.proofs.Sets.{numbers_from_set, made_from_set, has_after}
 use Rattle.iso_wire.proofs.Types.{length-mti_bytes, mti_again, mti_takes}
-use Rattle.iso_wire.proofs.WordLaws.{short_or, words_again, words_taken}
+use Rattle.iso_wire.proofs.WordLaws.{bits_agree, short_or, words_again, words_taken}
 
 no_65 : (low : ℕ) (es : Values) → IsAscending low es → has es 65 ≡ false
 no_65 low [] asc = refl
 no_65 low (e ∷ es) asc = has_after e es 65 asc.2 ∙ no_65 (e.0 + 1) es asc.3
-
--- ---- bytes
-
-pub bytes_append : (a b : List ℕ) → ((i : ℕ) → get_or a i 0 < 256) → ((i : ℕ) → get_or b i 0 < 256) → (i : ℕ) → get_or (a ++ b) i 0 < 256
-bytes_append [] b fits others i = others i
-bytes_append (x ∷ a) b fits others zero = fits 0
-bytes_append (x ∷ a) b fits others (suc i) = bytes_append a b (λ k. fits (suc k)) others i
 
 -- ---- what is spelled is read
 
@@ -52,27 +47,28 @@ joined : (t : Layout) (b : List ℕ) (mti first second used : ℕ) (es : Values)
 unfolding message_at
 joined t b mti first second used es end one two three = rw (one, two, three) refl
 
-pub spelling_again : (t : Layout) (m : Contents) (p rest : List ℕ) → AreGood t.rows → ((i : ℕ) → get_or (p ++ rest) i 0 < 256) → Spelling t m p → message_at t (p ++ rest) ≡ whole m (length p)
-spelling_again t m p rest good fits s =
-    let front : List ℕ = mti_bytes t.mti m.mti in
-    let size = mti_size t.mti in
-    let len : length front ≡ size = length-mti_bytes t.mti m.mti in
-    let b : List ℕ = p ++ rest in
-    let es : Values = m.elements in
-    let split : b ≡ front ++ (s.maps ++ (s.parts ++ rest)) = ap (λ (l : List ℕ). l ++ rest) s.bytes ∙ append_assoc front (s.maps ++ s.parts) rest ∙ ap (λ (l : List ℕ). front ++ l) (append_assoc s.maps s.parts rest) in
-    let after : drop size b ≡ s.maps ++ (s.parts ++ rest) = ap (drop size) split ∙ drop_at front (s.maps ++ (s.parts ++ rest)) size len in
-    let maps_bytes : (i : ℕ) → get_or s.maps i 0 < 256 = λ i. rw (sym (ap (take (length s.maps)) after ∙ take_at s.maps (s.parts ++ rest) (length s.maps) refl)) (bytes_take (length s.maps) (drop size b) (bytes_drop size b fits) i) in
-    let read = words_again t s.second (has es) size s.maps (s.parts ++ rest) maps_bytes (no_65 2 es s.ascending) (λ k. has_row t.rows es s.parts k s.elements) s.bitmaps in
-    let used = length s.maps in
-    let one : type_at t b ≡ Ok m.mti = ap (type_at t) split ∙ type_again t m.mti (s.maps ++ (s.parts ++ rest)) s.mti s.version in
-    let two : words_at t size (drop size b) ≡ Ok (read.first, read.second, used) = ap (words_at t size) after ∙ read.read in
-    let set = in_words read.first read.second in
-    let behind : drop (size + used) b ≡ s.parts ++ rest = sym (drop-drop used size b) ∙ ap (drop used) after ∙ drop_at s.maps (s.parts ++ rest) used refl in
-    let three : elements_at t.rows (numbers_in read.first read.second) (size + used) (drop (size + used) b) ≡ Ok (es, (size + used) + length s.parts) =
-    ap (λ (ns : List ℕ). elements_at t.rows ns (size + used) (drop (size + used) b)) (sym (numbers_from_set set es s.ascending read.agrees))
-    ∙ ap (elements_at t.rows (numbers_of es) (size + used)) behind ∙ elements_again t.rows (size + used) es s.parts rest good s.elements in
-    let end : (size + used) + length s.parts ≡ length p = sym (ap length s.bytes ∙ length-append front (s.maps ++ s.parts) ∙ omega (arith, length-append s.maps s.parts)) in
-    joined t b m.mti read.first read.second used es ((size + used) + length s.parts) one two three ∙ ap (whole m) end
+module _ (part_laws : PartLaws) (map_laws : MapLaws) where
+  pub spelling_again : (t : Layout) (m : Contents) (p rest : List ℕ) → AreGood t.rows → AreBytes (p ++ rest) → Spelling t m p → message_at t (p ++ rest) ≡ whole m (length p)
+  spelling_again t m p rest good fits s =
+      let front : List ℕ = mti_bytes t.mti m.mti in
+      let size = mti_size t.mti in
+      let len : length front ≡ size = length-mti_bytes t.mti m.mti in
+      let b : List ℕ = p ++ rest in
+      let es : Values = m.elements in
+      let split : b ≡ front ++ (s.maps ++ (s.parts ++ rest)) = ap (λ (l : List ℕ). l ++ rest) s.bytes ∙ append_assoc front (s.maps ++ s.parts) rest ∙ ap (λ (l : List ℕ). front ++ l) (append_assoc s.maps s.parts rest) in
+      let after : drop size b ≡ s.maps ++ (s.parts ++ rest) = ap (drop size) split ∙ drop_at front (s.maps ++ (s.parts ++ rest)) size len in
+      let maps_bytes : AreBytes s.maps = λ i. rw (sym (ap (take (length s.maps)) after ∙ take_at s.maps (s.parts ++ rest) (length s.maps) refl)) (bytes_take (length s.maps) (drop size b) (bytes_drop size b fits) i) in
+      let read = words_again map_laws t s.second (has es) size s.maps (s.parts ++ rest) maps_bytes (no_65 2 es s.ascending) (λ k. has_row t.rows es s.parts k s.elements) s.bitmaps in
+      let used = length s.maps in
+      let one : type_at t b ≡ Ok m.mti = ap (type_at t) split ∙ type_again t m.mti (s.maps ++ (s.parts ++ rest)) s.mti s.version in
+      let two : words_at t size (drop size b) ≡ Ok (read.first, read.second, used) = ap (words_at t size) after ∙ read.read in
+      let set = in_words read.first read.second in
+      let behind : drop (size + used) b ≡ s.parts ++ rest = sym (drop-drop used size b) ∙ ap (drop used) after ∙ drop_at s.maps (s.parts ++ rest) used refl in
+      let three : elements_at t.rows (numbers_in read.first read.second) (size + used) (drop (size + used) b) ≡ Ok (es, (size + used) + length s.parts) =
+      ap (λ (ns : List ℕ). elements_at t.rows ns (size + used) (drop (size + used) b)) (sym (numbers_from_set set es s.ascending read.agrees))
+      ∙ ap (elements_at t.rows (numbers_of es) (size + used)) behind ∙ elements_again part_laws t.rows (size + used) es s.parts rest good s.elements in
+      let end : (size + used) + length s.parts ≡ length p = sym (ap length s.bytes ∙ length-append front (s.maps ++ s.parts) ∙ omega (arith, length-append s.maps s.parts)) in
+      joined t b m.mti read.first read.second used es ((size + used) + length s.parts) one two three ∙ ap (whole m) end
 
 -- ---- what is read is spelled so
 
@@ -107,67 +103,51 @@ parted : (t : Layout) (b : List ℕ) (m : Contents) (n : ℕ) → message_at t b
 unfolding message_at
 parted t b m n e = e
 
-pub spelling_taken : (t : Layout) (b : List ℕ) (m : Contents) (n : ℕ) → AreGood t.rows → ((i : ℕ) → get_or b i 0 < 256) → message_at t b ≡ whole m n → (n ≤ length b) × Spelling t m (take n b)
-spelling_taken t b m n good fits e =
-    let size = mti_size t.mti in
-    let rest : List ℕ = drop size b in
-    let behind = λ (mti : ℕ). λ (words : ℕ × ℕ × ℕ). elements_at t.rows (numbers_in words.0 words.1) (size + words.2) (drop (size + words.2) b) >>= λ read. whole (record { mti = mti; elements = read.0 }) read.1 in
-    let one = bind_ok (type_at t b) (λ mti. words_at t size rest >>= behind mti) (m, n) (parted t b m n e) in
-    let mti : ℕ = one.0 in
-    let two = bind_ok (words_at t size rest) (behind mti) (m, n) one.2 in
-    let words : ℕ × ℕ × ℕ = two.0 in
-    let set = in_words words.0 words.1 in
-    let three = bind_ok (elements_at t.rows (numbers_in words.0 words.1) (size + words.2) (drop (size + words.2) b)) (λ read. whole (record { mti = mti; elements = read.0 }) read.1) (m, n) two.2 in
-    let es : Values = three.0.0 in
-    let made = ok_is (record { mti = mti; elements = es }, three.0.1) (m, n) three.2 in
-    let typed = short_or (ltb (length b) size) 0 0 (of_version t.version (mti_of t.mti (take size b))) mti one.1 in
-    let front_room : size ≤ length b = ltb-false (length b) size typed.0 in
-    let version = version_or t.version (mti_of t.mti (take size b)) mti typed.1 in
-    let type = mti_takes t.mti mti (take size b) (bytes_take size b fits) version.0 in
-    let mapped = words_taken t size rest words (bytes_drop size b fits) two.1 in
-    let place : drop (size + words.2) b ≡ drop words.2 rest = sym (drop-drop words.2 size b) in
-    let taken = elements_taken t.rows (numbers_in words.0 words.1) (size + words.2) (drop words.2 rest) es three.0.1 good (bytes_drop words.2 rest (bytes_drop size b fits)) (ap (elements_at t.rows (numbers_in words.0 words.1) (size + words.2)) (sym place) ∙ three.1) in
-    let ordered = made_from_set set es mapped.no_65 taken.numbers in
-    let inner : words.2 + taken.used ≤ length rest = omega (arith, mapped.room, taken.room, length-drop words.2 rest) in
-    let all : size + (words.2 + taken.used) ≤ length b = omega (arith, length-drop size b) in
-    let end : three.0.1 ≡ size + (words.2 + taken.used) = omega (arith, taken.offset) in
-    let split : take three.0.1 b ≡ mti_bytes t.mti mti ++ (take words.2 rest ++ take taken.used (drop words.2 rest)) =
-    ap (λ (k : ℕ). take k b) end ∙ take_sum size (words.2 + taken.used) b all ∙ ap (λ (l : List ℕ). l ++ take (words.2 + taken.used) rest) type.bytes ∙ ap (λ (l : List ℕ). mti_bytes t.mti mti ++ l) (take_sum words.2 taken.used rest inner) in
-    let spelled : Spelling t (record { mti = mti; elements = es }) (take three.0.1 b) = record {
-      mti = type.small;
-      version = version.1;
-      ascending = ordered.ascending;
-      second = mapped.two;
-      maps = take words.2 rest;
-      parts = take taken.used (drop words.2 rest);
-      bitmaps = maps_agree t.bitmap mapped.two set (has es) (take words.2 rest) ordered.agrees mapped.maps;
-      elements = taken.parts;
-      bytes = split;
-    } in
-    subst (λ (x : Contents × ℕ). (x.1 ≤ length b) × Spelling t x.0 (take x.1 b)) made (omega arith, spelled)
+module _ (part_laws : PartLaws) (map_laws : MapLaws) where
+  pub spelling_taken : (t : Layout) (b : List ℕ) (m : Contents) (n : ℕ) → AreGood t.rows → AreBytes b → message_at t b ≡ whole m n → BeginsWith t m n b
+  spelling_taken t b m n good fits e =
+      let size = mti_size t.mti in
+      let rest : List ℕ = drop size b in
+      let behind = λ (mti : ℕ). λ (words : ℕ × ℕ × ℕ). elements_at t.rows (numbers_in words.0 words.1) (size + words.2) (drop (size + words.2) b) >>= λ read. whole (record { mti = mti; elements = read.0 }) read.1 in
+      let one = bind_ok (type_at t b) (λ mti. words_at t size rest >>= behind mti) (m, n) (parted t b m n e) in
+      let mti : ℕ = one.0 in
+      let two = bind_ok (words_at t size rest) (behind mti) (m, n) one.2 in
+      let words : ℕ × ℕ × ℕ = two.0 in
+      let set = in_words words.0 words.1 in
+      let three = bind_ok (elements_at t.rows (numbers_in words.0 words.1) (size + words.2) (drop (size + words.2) b)) (λ read. whole (record { mti = mti; elements = read.0 }) read.1) (m, n) two.2 in
+      let es : Values = three.0.0 in
+      let made = ok_is (record { mti = mti; elements = es }, three.0.1) (m, n) three.2 in
+      let typed = short_or (ltb (length b) size) 0 0 (of_version t.version (mti_of t.mti (take size b))) mti one.1 in
+      let front_room : size ≤ length b = ltb-false (length b) size typed.0 in
+      let version = version_or t.version (mti_of t.mti (take size b)) mti typed.1 in
+      let type = mti_takes t.mti mti (take size b) (bytes_take size b fits) version.0 in
+      let mapped = words_taken map_laws t size rest words (bytes_drop size b fits) two.1 in
+      let place : drop (size + words.2) b ≡ drop words.2 rest = sym (drop-drop words.2 size b) in
+      let taken = elements_taken part_laws t.rows (numbers_in words.0 words.1) (size + words.2) (drop words.2 rest) es three.0.1 good (bytes_drop words.2 rest (bytes_drop size b fits)) (ap (elements_at t.rows (numbers_in words.0 words.1) (size + words.2)) (sym place) ∙ three.1) in
+      let ordered = made_from_set set es mapped.no_65 taken.numbers in
+      let inner : words.2 + taken.used ≤ length rest = omega (arith, mapped.room, taken.room, length-drop words.2 rest) in
+      let all : size + (words.2 + taken.used) ≤ length b = omega (arith, length-drop size b) in
+      let end : three.0.1 ≡ size + (words.2 + taken.used) = omega (arith, taken.offset) in
+      let split : take three.0.1 b ≡ mti_bytes t.mti mti ++ (take words.2 rest ++ take taken.used (drop words.2 rest)) =
+      ap (λ (k : ℕ). take k b) end ∙ take-add size (words.2 + taken.used) b ∙ ap (λ (l : List ℕ). l ++ take (words.2 + taken.used) rest) type.bytes ∙ ap (λ (l : List ℕ). mti_bytes t.mti mti ++ l) (take-add words.2 taken.used rest) in
+      let spelled : Spelling t (record { mti = mti; elements = es }) (take three.0.1 b) = record {
+        mti = type.small;
+        version = version.1;
+        ascending = ordered.ascending;
+        second = mapped.two;
+        maps = take words.2 rest;
+        parts = take taken.used (drop words.2 rest);
+        bitmaps = maps_agree t.bitmap mapped.two set (has es) (take words.2 rest) ordered.agrees mapped.maps;
+        elements = taken.parts;
+        bytes = split;
+      } in
+      subst (λ (x : Contents × ℕ). BeginsWith t x.0 x.1 b) made (omega arith, spelled)
 
--- ---- what a function that unpacks has found
-
-pub is_found : (t : Layout) (b : List ℕ) (r : Result (Contents × ℕ) UnpackFault) → AreGood t.rows → ((i : ℕ) → get_or b i 0 < 256) → Unpacks r (message_at t b) → IfOk r (λ x. (x.1 ≤ length b) × Spelling t x.0 (take x.1 b))
-is_found t b (Ok x) good fits h = spelling_taken t b x.0 x.1 good fits h
-is_found t b (Err e) good fits h = tt
-
--- the message that bytes begin with is given
-pub is_given : (t : Layout) (b : List ℕ) (r : Result (Contents × ℕ) UnpackFault) → AreGood t.rows → ((i : ℕ) → get_or b i 0 < 256) → Unpacks r (message_at t b) → (m : Contents) (front rest : List ℕ) → Spelling t m front → b ≡ front ++ rest → Unpacks r (whole m (length front))
-is_given t b r good fits h m front rest spelled split =
-    let front_fits = subst (λ (l : List ℕ). (i : ℕ) → get_or l i 0 < 256) split fits in
-    subst (Unpacks r) (ap (message_at t) split ∙ spelling_again t m front rest good front_fits spelled) h
-
--- a fault comes only where the bytes begin with no spelling
-pub is_refused : (t : Layout) (b : List ℕ) (r : Result (Contents × ℕ) UnpackFault) → AreGood t.rows → ((i : ℕ) → get_or b i 0 < 256) → Unpacks r (message_at t b) → IfErr r (λ e. e.cause ≢ Memory → (m : Contents) (front rest : List ℕ) → b ≡ front ++ rest → Spelling t m front → ⊥)
-is_refused t b (Ok x) good fits h = tt
-is_refused t b (Err e) good fits h = λ other m front rest split spelled. let same = is_given t b (Err e) good fits h m front rest spelled split other in absurd cc
-
--- no spelling begins with another, and no bytes spell two messages
-pub one_spelling : (t : Layout) (m other : Contents) (a b x y : List ℕ) → AreGood t.rows → ((i : ℕ) → get_or (a ++ x) i 0 < 256) → Spelling t m a → Spelling t other b → a ++ x ≡ b ++ y → (m ≡ other) × (a ≡ b)
-one_spelling t m other a b x y good fits first second same =
-    let one = spelling_again t m a x good fits first in
-    let two = spelling_again t other b y good (subst (λ (l : List ℕ). (i : ℕ) → get_or l i 0 < 256) same fits) second in
-    let pair = ok_is (m, length a) (other, length b) (sym one ∙ ap (message_at t) same ∙ two) in
-    let size : length a ≡ length b = ap (λ (p : Contents × ℕ). p.1) pair in
-    (ap (λ (p : Contents × ℕ). p.0) pair, sym (take_at a x (length a) refl) ∙ ap (take (length a)) same ∙ take_at b y (length a) (sym size))
+  pub reads_spellings : ReadsSpellings
+  reads_spellings t m n b good bytes = (
+    spelling_taken t b m n good bytes,
+    (λ begins.
+        let split = take-append-drop n b in
+        let size : length (take n b) ≡ n = omega (arith, begins.0, length-take n b) in
+        ap (message_at t) (sym split) ∙ spelling_again part_laws map_laws t m (take n b) (drop n b) good (subst AreBytes (sym split) bytes) begins.1 ∙ ap (whole m) size),
+  )

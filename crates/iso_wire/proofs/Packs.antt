@@ -17,8 +17,11 @@ use Rattle.iso_wire.specs.Entries.{elements_of}
 use Rattle.iso_table.specs.Layout.{Layout, row_at, AreGood}
 use Rattle.iso_wire.specs.Reading.{message_at, whole}
 use Rattle.iso_wire.specs.Refusal.{refused_field, refused_by, or_else, refused, message_refusal}
-use Rattle.iso_wire.specs.Spelling.{mti_bytes, PartAs, Parts, plain_of, Spelling, PlainSpelling}
-use Rattle.iso_wire.proofs.Messages.{bytes_append, maps_agree, spelling_again}
+use Rattle.iso_wire.specs.Spelling.{AreBytes, mti_bytes, PartAs, Parts, plain_of, Spelling, PlainSpelling}
+use Rattle.iso_wire.specs.ReadingLaws.{ReadsSpellings}
+use Rattle.iso_wire.proofs.Bytes.{bytes_append}
+use Rattle.iso_wire.proofs.Messages.{maps_agree}
+use Rattle.iso_wire.proofs.Unpacks.{spelled_is_read}
 use Rattle.iso_wire.proofs.Orders.{Values}
 
 -- ---- faults
@@ -95,14 +98,15 @@ plain_spelling_lem t m set maps out small version ascending agrees plain parts i
 
 -- ---- what is written is read again
 
-pub read_again : (t : Layout) (m : Contents) (out rest : List ℕ) → AreGood t.rows → ((i : ℕ) → get_or out i 0 < 256) → ((i : ℕ) → get_or rest i 0 < 256) → PlainSpelling t m out → message_at t (out ++ rest) ≡ whole m (length out)
-read_again t m out rest good fits others plain = spelling_again t m out rest good (bytes_append out rest fits others) plain.spelling
+module _ (reads : ReadsSpellings) where
+  pub read_again : (t : Layout) (m : Contents) (out rest : List ℕ) → AreGood t.rows → AreBytes out → AreBytes rest → PlainSpelling t m out → message_at t (out ++ rest) ≡ whole m (length out)
+  read_again t m out rest good fits others plain = spelled_is_read reads t m out rest good (bytes_append out rest fits others) plain.spelling
 
--- the same of what a function gives
-pub is_read_again : {T : Type 0} (items : T → List ℕ) (t : Layout) (m : Contents) (r : Result T PackFault) → AreGood t.rows → IfOk r (λ out. (i : ℕ) → get_or (items out) i 0 < 256) → IfOk r (λ out. PlainSpelling t m (items out))
-    → IfOk r (λ out. (rest : List ℕ) → ((i : ℕ) → get_or rest i 0 < 256) → message_at t (items out ++ rest) ≡ whole m (length (items out)))
-is_read_again items t m (Ok out) good fits plain = λ rest others. read_again t m (items out) rest good fits others plain
-is_read_again items t m (Err e) good fits plain = tt
+  -- the same of what a function gives
+  pub is_read_again : {T : Type 0} (items : T → List ℕ) (t : Layout) (m : Contents) (r : Result T PackFault) → AreGood t.rows → IfOk r (λ out. AreBytes (items out)) → IfOk r (λ out. PlainSpelling t m (items out))
+      → IfOk r (λ out. (rest : List ℕ) → AreBytes rest → message_at t (items out ++ rest) ≡ whole m (length (items out)))
+  is_read_again items t m (Ok out) good fits plain = λ rest others. read_again t m (items out) rest good fits others plain
+  is_read_again items t m (Err e) good fits plain = tt
 
 -- three pieces, one after another
 pub three_pieces : (none one two all a b c : List ℕ) → none ≡ [] → one ≡ none ++ a → two ≡ one ++ b → all ≡ two ++ c → all ≡ a ++ (b ++ c)

@@ -1,14 +1,13 @@
 -- Each message that a table doesn't refuse has a plain spelling, and only one.
-use Rattle.std.proofs.Common.{◌≡◌, ℕ, ◌/◌, ◌<◌, Bool, true, false, cond, eqb, List, [], ◌∷◌, ◌++◌, drop, get_or, Option, Some, None, refl, sym, ap, subst, ◌∙◌}
+use Rattle.std.proofs.Common.{◌≡◌, ℕ, ◌/◌, Bool, true, false, cond, eqb, List, [], ◌∷◌, ◌++◌, drop, Option, Some, None, refl, sym, ap, subst, ◌∙◌}
 use Rattle.std.specs.List.{flat_map}
 use Rattle.std.proofs.lemmas.Bool.{eqb-true}
 use Rattle.iso_parts.specs.declared.fault.FieldFault.{FieldFault}
 use Rattle.iso_parts.specs.declared.spec.FieldSpec.{FieldSpec}
 use Rattle.iso_parts.specs.Part.{Part}
 use Rattle.iso_parts.specs.Row.{refusal}
-use Rattle.iso_parts.proofs.BitmapLaws.{bytes_take, bytes_drop}
-use Rattle.iso_parts.proofs.Plain.{plain_is_part, fits_from_refusal}
-use Rattle.iso_parts.proofs.SetBitmaps.{has_plain_maps, plain_maps_once}
+use Rattle.iso_parts.specs.MapLaws.{MapLaws}
+use Rattle.iso_parts.specs.PartLaws.{PartLaws}
 use Rattle.iso_table.specs.Layout.{row_at, AreGood}
 use Rattle.iso_wire.specs.declared.elements.Entry.{Entry}
 use Rattle.iso_wire.specs.declared.fault.PackFault.{PackFault}
@@ -18,11 +17,12 @@ use Rattle.iso_wire.specs.Entries.{elements_of}
 use Rattle.iso_wire.specs.OneSpelling.{AreOfBytes, HasPlain, PlainOnce}
 use Rattle.iso_wire.specs.Refusal.{refused_field, refused_by, or_else, refused}
 use Rattle.iso_wire.specs.Spelling.{mti_bytes, plain_by, plain_of, PartAs, Parts, AreBytes}
+use Rattle.iso_wire.proofs.Bytes.{bytes_take, bytes_drop}
 use Rattle.iso_wire.proofs.Orders.{Values}
 use Rattle.iso_wire.proofs.Packs.{plain_spelling_lem}
 
 -- values out of a buffer of bytes
-pub bytes-elements_of : (index : List Entry) (b : List ℕ) → ((i : ℕ) → get_or b i 0 < 256) → AreOfBytes (elements_of index b)
+pub bytes-elements_of : (index : List Entry) (b : List ℕ) → AreBytes b → AreOfBytes (elements_of index b)
 bytes-elements_of [] b fits = tt
 bytes-elements_of (e ∷ es) b fits = (bytes_take e.len b fits, bytes-elements_of es (drop e.len b) (bytes_drop e.len b fits))
 
@@ -42,37 +42,39 @@ version_taken false n version o is h = absurd cc
 
 -- ---- it has a plain spelling
 
-row_plain : (rows : List (Option FieldSpec)) (n : ℕ) (v : List ℕ) (r : Option FieldSpec) → AreGood rows → AreBytes v → row_at rows n ≡ r → refused_by r n v ≡ None → PartAs rows n v (plain_by (row_at rows n) v)
-row_plain rows n v None good bytes is h = absurd cc
-row_plain rows n v (Some s) good bytes is h =
-    let part = plain_is_part s v (good n s is) (fits_from_refusal s v (field_taken n (refusal s v) h)) bytes in
-    (s, is, subst (λ (r : Option FieldSpec). Part s v (plain_by r v)) (sym is) part)
+module _ (part_laws : PartLaws) (map_laws : MapLaws) where
+  row_plain : (rows : List (Option FieldSpec)) (n : ℕ) (v : List ℕ) (r : Option FieldSpec) → AreGood rows → AreBytes v → row_at rows n ≡ r → refused_by r n v ≡ None → PartAs rows n v (plain_by (row_at rows n) v)
+  row_plain rows n v None good bytes is h = absurd cc
+  row_plain rows n v (Some s) good bytes is h =
+      let part = part_laws.plain s v (good n s is) ((part_laws.fits s v).1 (field_taken n (refusal s v) h)) bytes in
+      (s, is, subst (λ (r : Option FieldSpec). Part s v (plain_by r v)) (sym is) part)
 
-parts_plain : (rows : List (Option FieldSpec)) (es : Values) → AreGood rows → AreOfBytes es → refused rows es ≡ None → Parts rows es (flat_map (plain_of rows) es)
-parts_plain rows [] good bytes h = refl
-parts_plain rows (e ∷ es) good bytes h =
-    let taken = both_taken (refused_by (row_at rows e.0) e.0 e.1) (refused rows es) h in (
-      plain_of rows e,
-      flat_map (plain_of rows) es,
-      row_plain rows e.0 e.1 (row_at rows e.0) good bytes.0 refl taken.0,
-      parts_plain rows es good bytes.1 taken.1,
-      refl,
-    )
+  parts_plain : (rows : List (Option FieldSpec)) (es : Values) → AreGood rows → AreOfBytes es → refused rows es ≡ None → Parts rows es (flat_map (plain_of rows) es)
+  parts_plain rows [] good bytes h = refl
+  parts_plain rows (e ∷ es) good bytes h =
+      let taken = both_taken (refused_by (row_at rows e.0) e.0 e.1) (refused rows es) h in (
+        plain_of rows e,
+        flat_map (plain_of rows) es,
+        row_plain rows e.0 e.1 (row_at rows e.0) good bytes.0 refl taken.0,
+        parts_plain rows es good bytes.1 taken.1,
+        refl,
+      )
 
-pub has_plain : HasPlain
-has_plain t m good well h =
-    let parts : List ℕ = flat_map (plain_of t.rows) m.elements in
-    let taken = version_taken (eqb (m.mti / 1000) t.version) (m.mti / 1000) t.version (refused t.rows m.elements) refl h in
-    let maps = has_plain_maps t.bitmap (has m.elements) in
-    let out : List ℕ = mti_bytes t.mti m.mti ++ (maps.0 ++ parts) in
-    (out, plain_spelling_lem t m (has m.elements) maps.0 out well.mti taken.0 well.ascending (λ k. refl) maps.1 (parts_plain t.rows m.elements good well.bytes taken.1) refl)
+  pub has_plain : HasPlain
+  has_plain t m good well h =
+      let parts : List ℕ = flat_map (plain_of t.rows) m.elements in
+      let taken = version_taken (eqb (m.mti / 1000) t.version) (m.mti / 1000) t.version (refused t.rows m.elements) refl h in
+      let maps = map_laws.some t.bitmap (has m.elements) in
+      let out : List ℕ = mti_bytes t.mti m.mti ++ (maps.0 ++ parts) in
+      (out, plain_spelling_lem t m (has m.elements) maps.0 out well.mti taken.0 well.ascending (λ k. refl) maps.1 (parts_plain t.rows m.elements good well.bytes taken.1) refl)
 
 -- ---- and only one
 
-pub plain_once : PlainOnce
-plain_once t m a b one other =
-    let type : List ℕ = mti_bytes t.mti m.mti in
-    one.spelling.bytes
-    ∙ ap (λ (l : List ℕ). type ++ (l ++ one.spelling.parts)) (plain_maps_once t.bitmap (has m.elements) one.spelling.maps other.spelling.maps one.bitmaps other.bitmaps)
-    ∙ ap (λ (l : List ℕ). type ++ (other.spelling.maps ++ l)) (one.parts ∙ sym other.parts)
-    ∙ sym other.spelling.bytes
+module _ (map_laws : MapLaws) where
+  pub plain_once : PlainOnce
+  plain_once t m a b one other =
+      let type : List ℕ = mti_bytes t.mti m.mti in
+      one.spelling.bytes
+      ∙ ap (λ (l : List ℕ). type ++ (l ++ one.spelling.parts)) (map_laws.once t.bitmap (has m.elements) one.spelling.maps other.spelling.maps one.bitmaps other.bitmaps)
+      ∙ ap (λ (l : List ℕ). type ++ (other.spelling.maps ++ l)) (one.parts ∙ sym other.parts)
+      ∙ sym other.spelling.bytes

@@ -10,3 +10,4 @@ pub mod OneSpelling
 pub mod Faults
 pub mod Reading
 pub mod Frame
+pub mod ReadingLaws

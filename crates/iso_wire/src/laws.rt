@@ -3,6 +3,7 @@
 ghost use Rattle.iso_wire.specs.Entries.{elements_of};
 ghost use Rattle.iso_wire.specs.Frame.{BadIsNoFrame, FirstOfSplit, SplitsBehind, SplitsOnce, SplitsSomehow};
 ghost use Rattle.iso_wire.specs.OneSpelling.{AreOfBytes, HasPlain, PlainOnce, WellFormed};
+ghost use Rattle.iso_wire.specs.ReadingLaws.{ReadingStays, ReadsSpellings};
 
 use crate::elements::Entry;
 use crate::message::Message;
@@ -21,13 +22,26 @@ pub fn well_formed(message: &Message)
     of_bytes(&elements.index, &elements.values);
 }
 
+/// Reading gives a message and a length exactly where the first bytes, so many of them, are a spelling of the message.
+pub fn reads_spellings()
+    ensures exact { ReadsSpellings }
+    // A message that is read, and a fault but for missing bytes, stay whatever bytes follow.
+    ensures stays { ReadingStays }
+{
+    iso_parts::laws::parts();
+    iso_parts::laws::bitmaps();
+}
+
 /// A well-formed message that the table doesn't refuse has one plain spelling, which `pack` writes.
 pub fn spelled_once()
     // It has one.
     ensures some { HasPlain }
     // No message has two.
     ensures once { PlainOnce }
-{}
+{
+    iso_parts::laws::parts();
+    iso_parts::laws::bitmaps();
+}
 
 /// A stream of bytes is frames and a rest in one way.
 pub fn splits_once()

@@ -20,7 +20,7 @@ pub use decimal::{digits_of, write_decimal};
 pub use fault::{PackFault, SetFault, UnpackCause, UnpackFault};
 pub use framing::{FrameFault, Framed, append_frame, frame, unframe};
 pub use header::Header;
-pub use laws::{spelled_once, splits_once, well_formed};
+pub use laws::{reads_spellings, spelled_once, splits_once, well_formed};
 pub use message::Message;
 pub use packing::pack;
 pub use unpacking::unpack;

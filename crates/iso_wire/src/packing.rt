@@ -11,6 +11,7 @@ ghost use Rattle.iso_wire.specs.Spelling.{mti_bytes, PartAs, Parts, plain_of, Sp
 
 use crate::elements::{Elements, Entry};
 use crate::fault::PackFault;
+use crate::laws::reads_spellings;
 use crate::message::Message;
 use iso_parts::{Digits, FieldFault, encode_field};
 use iso_table::Table;
@@ -151,5 +152,6 @@ pub fn pack(alloc: Global, table: &Table, message: &Message) -> Result<Vec<u8>, 
     // Whatever bytes follow it, what is written reads as the message, and no byte more.
     ensures again { IfOk result (λ out. (rest : List ℕ) → AreBytes rest → message_at table.now (out.items ++ rest) ≡ whole message.now (length out.items)) }
 {
+    reads_spellings();
     plain_spelling(alloc, table, message)
 }

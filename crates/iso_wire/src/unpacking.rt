@@ -13,6 +13,7 @@ ghost use Rattle.iso_wire.specs.Walk.{left};
 use crate::bitmaps::words_of;
 use crate::elements::Elements;
 use crate::fault::{UnpackCause, UnpackFault};
+use crate::laws::reads_spellings;
 use crate::message::Message;
 use crate::numbers::Numbers;
 use iso_parts::{Digits, FieldFault, FieldSpec, Mti, append_value};
@@ -210,5 +211,6 @@ pub fn unpack(alloc: Global, table: &Table, bytes: &[u8]) -> Result<(Message, us
     // No spelling begins with another, and no bytes spell two messages.
     ensures one { IsUnambiguous table.now }
 {
+    reads_spellings();
     message_of(alloc, table, bytes)
 }

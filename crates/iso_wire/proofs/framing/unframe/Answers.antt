@@ -1,6 +1,7 @@
-use Rattle.std.proofs.Common.{◌≡◌, ℕ, ◌<◌, ◌++◌, take, get_or, sym, ap, ◌∙◌, arith}
+use Rattle.std.proofs.Common.{◌≡◌, ◌++◌, take, sym, ap, ◌∙◌, arith}
 use Rattle.std.proofs.lemmas.List.{take-append-drop}
-use Rattle.iso_parts.proofs.BitmapLaws.{bytes_take}
+use Rattle.iso_wire.specs.Spelling.{AreBytes}
+use Rattle.iso_wire.proofs.Bytes.{bytes_take}
 use Rattle.iso_wire.proofs.FrameHeaders.{header_takes, frame_begins}
 use Rattle.iso_wire.proofs.framing.unframe.Goals as goal
 
@@ -12,7 +13,7 @@ returns-clause-front c =
     let size = c.size-size.result in
     let parts : input ≡ front ++ rest =
     sym (ap (λ l. l ++ rest) c.split_at.ensures.front ∙ ap (λ l. take size input ++ l) c.split_at.ensures.back ∙ take-append-drop size input) in
-    let bytes : (i : ℕ) → get_or front i 0 < 256 =
+    let bytes : AreBytes front =
     rw c.split_at.ensures.front (bytes_take size input (λ i. omega (arith, c.type_inv.input i))) in
     let header = header_takes c.args.header c.in-Some.length front bytes (sym c.length_of.ensures ∙ c.in-Some.is) in
     rw c.size-size.ensures (frame_begins c.args.header c.in-Some.length input front rest parts header c.if-rest-length.false)

@@ -1,19 +1,18 @@
 use Rattle.std.proofs.Common.{arith}
-use Rattle.iso_wire.proofs.Endings.{is_settled}
-use Rattle.iso_wire.proofs.Messages.{is_found, is_given, is_refused, one_spelling}
+use Rattle.iso_wire.proofs.Unpacks.{is_found, is_given, is_refused, is_settled, one_spelling}
 use Rattle.iso_wire.proofs.unpacking.unpack.Goals as goal
 
 pub returns-clause-found : goal.returns-clause-found
-returns-clause-found c = is_found c.args.table.now c.args.bytes.now c.message_of.result c.message_of.ensures.good (λ i. omega (arith, c.type_inv.bytes i)) c.message_of.ensures.exact
+returns-clause-found c = is_found c.reads_spellings.ensures.exact c.args.table.now c.args.bytes.now c.message_of.result c.message_of.ensures.good (λ i. omega (arith, c.type_inv.bytes i)) c.message_of.ensures.exact
 
 pub returns-clause-only : goal.returns-clause-only
-returns-clause-only c = is_given c.args.table.now c.args.bytes.now c.message_of.result c.message_of.ensures.good (λ i. omega (arith, c.type_inv.bytes i)) c.message_of.ensures.exact
+returns-clause-only c = is_given c.reads_spellings.ensures.exact c.args.table.now c.args.bytes.now c.message_of.result c.message_of.ensures.good (λ i. omega (arith, c.type_inv.bytes i)) c.message_of.ensures.exact
 
 pub returns-clause-refused : goal.returns-clause-refused
-returns-clause-refused c = is_refused c.args.table.now c.args.bytes.now c.message_of.result c.message_of.ensures.good (λ i. omega (arith, c.type_inv.bytes i)) c.message_of.ensures.exact
+returns-clause-refused c = is_refused c.reads_spellings.ensures.exact c.args.table.now c.args.bytes.now c.message_of.result c.message_of.ensures.good (λ i. omega (arith, c.type_inv.bytes i)) c.message_of.ensures.exact
 
 pub returns-clause-one : goal.returns-clause-one
-returns-clause-one c = λ m other a b x y fits first second same. one_spelling c.args.table.now m other a b x y c.message_of.ensures.good fits first second same
+returns-clause-one c = λ m other a b x y bytes first second same. one_spelling c.reads_spellings.ensures.exact c.args.table.now m other a b x y c.message_of.ensures.good bytes first second same
 
 pub returns-clause-settled : goal.returns-clause-settled
-returns-clause-settled c = is_settled c.args.table.now c.args.bytes.now c.message_of.result c.message_of.ensures.good (λ i. omega (arith, c.type_inv.bytes i)) c.message_of.ensures.exact
+returns-clause-settled c = is_settled c.reads_spellings.ensures.exact c.reads_spellings.ensures.stays c.args.table.now c.args.bytes.now c.message_of.result c.message_of.ensures.good (λ i. omega (arith, c.type_inv.bytes i)) c.message_of.ensures.exact
