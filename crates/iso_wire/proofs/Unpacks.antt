@@ -6,11 +6,17 @@ use Rattle.iso_table.specs.Layout.{Layout, AreGood}
 use Rattle.iso_wire.specs.declared.fault.UnpackFault.{UnpackFault}
 use Rattle.iso_wire.specs.declared.fault.UnpackCause.TheVariants.{Short, Memory}
 use Rattle.iso_wire.specs.Contents.{Contents}
+use Rattle.iso_wire.specs.Faults.{out_of_memory}
 use Rattle.iso_wire.specs.Reading.{message_at, whole, Unpacks}
 use Rattle.iso_wire.specs.ReadingLaws.{ReadsSpellings, IsShort, ReadingStays}
 use Rattle.iso_wire.specs.Spelling.{AreBytes, BeginsWith, BeginsWithNone, Spelling}
 use Rattle.iso_wire.proofs.Bytes.{bytes_append}
 use Rattle.iso_wire.proofs.ElementLaws.{ok_is}
+
+-- where memory ran out, no place is told
+pub tells_no_place : (r read : Result (Contents × ℕ) UnpackFault) → Unpacks r read → IfErr r (λ e. e.cause ≡ Memory → e ≡ out_of_memory)
+tells_no_place (Ok x) read h = tt
+tells_no_place (Err e) read h = h.0
 
 module _ (reads : ReadsSpellings) where
   -- what is spelled is read, whatever bytes follow
@@ -32,14 +38,14 @@ module _ (reads : ReadsSpellings) where
   -- a fault comes only where the bytes begin with no spelling
   pub is_refused : (t : Layout) (b : List ℕ) (r : Result (Contents × ℕ) UnpackFault) → AreGood t.rows → AreBytes b → Unpacks r (message_at t b) → IfErr r (λ e. e.cause ≢ Memory → BeginsWithNone t b)
   is_refused t b (Ok x) good bytes h = tt
-  is_refused t b (Err e) good bytes h = λ other m front rest split spelled. let same = is_given t b (Err e) good bytes h m front rest spelled split other in absurd cc
+  is_refused t b (Err e) good bytes h = λ other m front rest split spelled. let same = (is_given t b (Err e) good bytes h m front rest spelled split).1 other in absurd cc
 
   -- where a whole piece is bad, no continuation begins with a spelling
   pub is_settled : ReadingStays → (t : Layout) (b : List ℕ) (r : Result (Contents × ℕ) UnpackFault) → AreGood t.rows → AreBytes b → Unpacks r (message_at t b)
       → IfErr r (λ e. e.cause ≢ Memory → e.cause ≢ Short → (more : List ℕ) → AreBytes more → BeginsWithNone t (b ++ more))
   is_settled stays t b (Ok x) good bytes h = tt
   is_settled stays t b (Err e) good bytes h = λ other long more others m front rest split spelled.
-      let read : message_at t b ≡ Err e = h other in
+      let read : message_at t b ≡ Err e = h.1 other in
       let again : message_at t (b ++ more) ≡ Err e = stays t b more good bytes (λ short. long (subst IsShort read short)) ∙ read in
       let given = spelled_is_read t m front rest good (subst AreBytes split (bytes_append b more bytes others)) spelled in
       absurd (let same : Err e ≡ whole m (length front) = sym again ∙ ap (message_at t) split ∙ given in cc)

@@ -17,6 +17,7 @@ use Rattle.iso_wire.specs.declared.fault.UnpackFault.{UnpackFault}
 use Rattle.iso_wire.specs.declared.fault.UnpackCause.{UnpackCause}
 use Rattle.iso_wire.specs.declared.fault.UnpackCause.TheVariants.{Short, BadMti, WrongVersion, BadHex, ThirdBitmap, UnknownElement, Field, Memory}
 use Rattle.iso_wire.specs.Contents.{Contents}
+use Rattle.iso_wire.specs.Faults.{out_of_memory}
 use Rattle.iso_table.specs.Layout.{Layout, row_at}
 use Rattle.iso_wire.specs.Numbers.{numbers_in, unknown}
 
@@ -146,20 +147,24 @@ message_at t b = do
 
 -- ---- what functions answer
 
+-- the fault is what reading gives; where memory ran out, it tells nothing else
+abbrev pub IsFaultOf : {Y : Type 0} → UnpackFault → Result Y UnpackFault → Type 0
+IsFaultOf e read = (e.cause ≡ Memory → e ≡ out_of_memory) × (e.cause ≢ Memory → read ≡ Err e)
+
 -- what a function answers, seen by view, is what reading gives, unless memory ran out
 abbrev pub Gives : {X Y : Type 0} → (X → Y) → Result X UnpackFault → Result Y UnpackFault → Type 0
 Gives view (Ok x) read = read ≡ Ok (view x)
-Gives view (Err e) read = e.cause ≢ Memory → read ≡ Err e
+Gives view (Err e) read = IsFaultOf e read
 
 -- a function appended the value that reading gives, and says how many bytes its part takes
 abbrev pub AppendsPart : List ℕ → List ℕ → Result ℕ UnpackFault → Result (List ℕ × ℕ) UnpackFault → Type 0
 AppendsPart old new (Ok used) read = (value : List ℕ) × (read ≡ Ok (value, used)) × (new ≡ old ++ value)
-AppendsPart old new (Err e) read = e.cause ≢ Memory → read ≡ Err e
+AppendsPart old new (Err e) read = IsFaultOf e read
 
 -- a function appended the value that reading gives as element n, and says how many bytes its part takes
 abbrev pub AppendsElement : List (ℕ × List ℕ) → List (ℕ × List ℕ) → ℕ → Result ℕ UnpackFault → Result (List ℕ × ℕ) UnpackFault → Type 0
 AppendsElement old new n (Ok used) read = (value : List ℕ) × (read ≡ Ok (value, used)) × (new ≡ old ++ (n, value) ∷ [])
-AppendsElement old new n (Err e) read = e.cause ≢ Memory → read ≡ Err e
+AppendsElement old new n (Err e) read = IsFaultOf e read
 
 -- what unpacking answers is what reading gives, unless memory ran out
 abbrev pub Unpacks : Result (Contents × ℕ) UnpackFault → Result (Contents × ℕ) UnpackFault → Type 0

@@ -1,6 +1,7 @@
 //! Reading the bitmaps of a message: which elements follow.
 
-ghost use Rattle.std.specs.Prelude.{◌≡◌, ◌≤◌, ◌<◌, ◌^◌, length, IfOk};
+ghost use Rattle.std.specs.Prelude.{◌≡◌, ◌≢◌, ◌≤◌, ◌<◌, ◌^◌, length, IfOk, IfErr};
+ghost use Rattle.iso_wire.specs.declared.fault.UnpackCause.TheVariants.{Memory};
 ghost use Rattle.iso_wire.specs.Reading.{word_at, known_by, primary_at, secondary_at, words_at};
 
 use crate::fault::{UnpackCause, UnpackFault};
@@ -13,7 +14,8 @@ const TOP: u64 = 0x8000_0000_0000_0000;
 
 /// The word of the bitmap that the bytes begin with.
 fn word_of(coding: BitmapCoding, element: u8, at: usize, bytes: &[u8]) -> Result<u64, UnpackFault>
-    ensures { result ≡ word_at coding element at bytes.now }
+    ensures exact { result ≡ word_at coding element at bytes.now }
+    ensures no_memory { IfErr result (λ e. e.cause ≢ Memory) }
 {
     let size = coding.size();
     if bytes.len() < size {
@@ -28,7 +30,8 @@ fn word_of(coding: BitmapCoding, element: u8, at: usize, bytes: &[u8]) -> Result
 
 /// The word, unless a number has no row.
 fn known_word(element: u8, at: usize, word: u64, unknown: Option<u8>) -> Result<u64, UnpackFault>
-    ensures { result ≡ known_by element at word unknown }
+    ensures exact { result ≡ known_by element at word unknown }
+    ensures no_memory { IfErr result (λ e. e.cause ≢ Memory) }
 {
     match unknown {
         None => Ok(word),
@@ -38,7 +41,8 @@ fn known_word(element: u8, at: usize, word: u64, unknown: Option<u8>) -> Result<
 
 /// The word of the primary bitmap.
 fn primary_of(table: &Table, at: usize, bytes: &[u8]) -> Result<u64, UnpackFault>
-    ensures { result ≡ primary_at table.now at bytes.now }
+    ensures exact { result ≡ primary_at table.now at bytes.now }
+    ensures no_memory { IfErr result (λ e. e.cause ≢ Memory) }
 {
     let word = word_of(table.bitmap(), 0, at, bytes)?;
     known_word(0, at, word, Numbers::of(word, 0).unknown_under(table))
@@ -47,6 +51,7 @@ fn primary_of(table: &Table, at: usize, bytes: &[u8]) -> Result<u64, UnpackFault
 /// The word of the secondary bitmap.
 fn secondary_of(table: &Table, at: usize, bytes: &[u8]) -> Result<u64, UnpackFault>
     ensures exact { result ≡ secondary_at table.now at bytes.now }
+    ensures no_memory { IfErr result (λ e. e.cause ≢ Memory) }
     ensures low { IfOk result (λ word. word < 2 ^ 63) }
 {
     let word = word_of(table.bitmap(), 1, at, bytes)?;
@@ -61,6 +66,7 @@ fn secondary_of(table: &Table, at: usize, bytes: &[u8]) -> Result<u64, UnpackFau
 pub fn words_of(table: &Table, at: usize, bytes: &[u8]) -> Result<(u64, u64, usize), UnpackFault>
     requires { at ≤ 4 }
     ensures exact { result ≡ words_at table.now at bytes.now }
+    ensures no_memory { IfErr result (λ e. e.cause ≢ Memory) }
     ensures used { IfOk result (λ x. x.2 ≤ length bytes.now) }
     ensures low { IfOk result (λ x. x.1 < 2 ^ 63) }
 {

@@ -5,6 +5,7 @@ ghost use Rattle.iso_parts.specs.Mti.{number};
 ghost use Rattle.iso_wire.specs.declared.fault.UnpackCause.TheVariants.{Short, Memory};
 ghost use Rattle.iso_wire.specs.Contents.{Contents};
 ghost use Rattle.iso_wire.specs.Entries.{views, IsWhole};
+ghost use Rattle.iso_wire.specs.Faults.{out_of_memory};
 ghost use Rattle.iso_table.specs.Layout.{AreGood};
 ghost use Rattle.iso_wire.specs.Reading.{Gives, AppendsPart, AppendsElement, place_of, value_at, elements_at, four_digits, mti_size, mti_of, type_at, message_at, Unpacks, whole};
 ghost use Rattle.iso_wire.specs.Spelling.{Spelling, AreBytes, BeginsWith, BeginsWithNone, IsUnambiguous};
@@ -202,8 +203,10 @@ pub fn unpack(alloc: Global, table: &Table, bytes: &[u8]) -> Result<(Message, us
     ensures found { IfOk result (λ x. BeginsWith table.now x.0 x.1 bytes.now) }
     // What the first bytes spell is read, unless memory runs out.
     ensures only { (m : Contents) (front rest : List ℕ) → Spelling table.now m front → bytes.now ≡ front ++ rest → Unpacks result (whole m (length front)) }
-    // Which fault it is, and where, unless memory ran out.
+    // Which fault it is, and where, unless memory ran out,
     ensures exact { Unpacks result (message_at table.now bytes.now) }
+    // and then it tells no place.
+    ensures memory { IfErr result (λ e. e.cause ≡ Memory → e ≡ out_of_memory) }
     // A fault comes only where the bytes begin with no spelling,
     ensures refused { IfErr result (λ e. e.cause ≢ Memory → BeginsWithNone table.now bytes.now) }
     // and where a whole piece is bad, no continuation begins with one either.

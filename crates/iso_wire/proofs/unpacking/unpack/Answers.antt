@@ -1,5 +1,5 @@
 use Rattle.std.proofs.Common.{arith}
-use Rattle.iso_wire.proofs.Unpacks.{is_found, is_given, is_refused, is_settled, one_spelling}
+use Rattle.iso_wire.proofs.Unpacks.{is_found, is_given, is_refused, is_settled, one_spelling, tells_no_place}
 use Rattle.iso_wire.proofs.unpacking.unpack.Goals as goal
 
 pub returns-clause-found : goal.returns-clause-found
@@ -16,3 +16,6 @@ returns-clause-one c = λ m other a b x y bytes first second same. one_spelling 
 
 pub returns-clause-settled : goal.returns-clause-settled
 returns-clause-settled c = is_settled c.reads_spellings.ensures.exact c.reads_spellings.ensures.stays c.args.table.now c.args.bytes.now c.message_of.result c.message_of.ensures.good (λ i. omega (arith, c.type_inv.bytes i)) c.message_of.ensures.exact
+
+pub returns-clause-memory : goal.returns-clause-memory
+returns-clause-memory c = tells_no_place c.message_of.result _ c.message_of.ensures.exact
