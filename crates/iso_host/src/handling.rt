@@ -15,10 +15,8 @@ use iso_issuer::{Issuer, Refused};
 use iso_order::laws::{responses_are_short, responses_are_well_formed, responses_fit};
 use iso_order::{Answer, NoMemory, Order, Verdict, order_of, respond};
 use iso_table::Table;
-use iso_wire::{
-    FrameFault, Header, Message, PackFault, UnpackCause, frame, pack, spelled_once, unpack,
-    well_formed,
-};
+use iso_wire::laws::{spelled_once, well_formed};
+use iso_wire::{FrameFault, Header, Message, PackFault, UnpackCause, frame, pack, unpack};
 use std::alloc::Global;
 
 /// What came of a body.

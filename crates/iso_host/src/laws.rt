@@ -2,7 +2,7 @@
 
 ghost use Rattle.iso_host.specs.Output.{OutputOnce};
 
-use iso_wire::spelled_once;
+use iso_wire::laws::spelled_once;
 
 /// Bodies have one output at most: which bytes are to be written for them is no matter of choice.
 pub fn one_output()

@@ -1,4 +1,4 @@
-//! Laws over the definitions. Their functions do nothing.
+//! What holds of every message and every stream: functions that do nothing, and whose contracts are laws.
 
 ghost use Rattle.iso_wire.specs.Entries.{elements_of};
 ghost use Rattle.iso_wire.specs.Frame.{BadIsNoFrame, FirstOfSplit, SplitsBehind, SplitsOnce, SplitsSomehow};

@@ -71,7 +71,7 @@ impl Message {
     }
 
     /// The message of that type with those elements.
-    pub fn from_elements(mti: Mti, elements: Elements) -> Message
+    pub(crate) fn from_elements(mti: Mti, elements: Elements) -> Message
         requires whole { IsWhole elements }
         requires ascending { IsAscending 2 (views elements) }
         ensures { result ≡ record { mti = number mti; elements = views elements } }

@@ -4,7 +4,7 @@ use super::*;
 use crate::FrameFault::{BadDigits, TooLong};
 use crate::Framed::{Got, More};
 use crate::Header::{Ascii4, Bcd2, Binary2};
-use crate::{FrameFault, Framed, Header, append_frame, frame, splits_once, unframe};
+use crate::{FrameFault, Framed, Header, append_frame, frame, unframe};
 
 #[test]
 fn bodies_are_framed(rt: HostRuntime) -> Result<(), Fail> {
@@ -137,7 +137,6 @@ fn frames_are_appended(rt: HostRuntime) -> Result<(), Fail> {
 
 #[test]
 fn headers_tell_lengths(rt: HostRuntime) -> Result<(), Fail> {
-    splits_once();
     let cases: [(Header, &[u8], Option<usize>); 5] = [
         (Binary2, b"\x27\x10", Some(10_000)),
         (Ascii4, b"0055", Some(55)),
