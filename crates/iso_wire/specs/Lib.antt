@@ -11,3 +11,4 @@ pub mod Faults
 pub mod Reading
 pub mod Frame
 pub mod ReadingLaws
+pub mod FaultNumbers

@@ -85,6 +85,58 @@ pub struct UnpackFault {
     pub cause: UnpackCause,
 }
 
+impl SetFault {
+    ghost use Rattle.iso_wire.specs.FaultNumbers.{set_fault_number};
+
+    /// The fault's number, as logs and monitors show it: from 1 to 2, in the order of the variants.
+    pub fn number(&self) -> u8
+        ensures { result ≡ set_fault_number self.now }
+    {
+        match self {
+            SetFault::BadNumber(_) => 1,
+            SetFault::Memory => 2,
+        }
+    }
+}
+
+impl PackFault {
+    ghost use Rattle.iso_wire.specs.FaultNumbers.{pack_fault_number};
+
+    /// The fault's number, as logs and monitors show it: from 1 to 6, in the order of the variants.
+    pub fn number(&self) -> u8
+        ensures { result ≡ pack_fault_number self.now }
+    {
+        match self {
+            PackFault::WrongVersion => 1,
+            PackFault::NoRow(_) => 2,
+            PackFault::WrongLength(_) => 3,
+            PackFault::NotInClass(_) => 4,
+            PackFault::PadEnd(_) => 5,
+            PackFault::Memory => 6,
+        }
+    }
+}
+
+impl UnpackCause {
+    ghost use Rattle.iso_wire.specs.FaultNumbers.{unpack_cause_number};
+
+    /// The fault's number, as logs and monitors show it: from 1 to 8, in the order of the variants.
+    pub fn number(&self) -> u8
+        ensures { result ≡ unpack_cause_number self.now }
+    {
+        match self {
+            UnpackCause::Short => 1,
+            UnpackCause::BadMti => 2,
+            UnpackCause::WrongVersion => 3,
+            UnpackCause::BadHex => 4,
+            UnpackCause::ThirdBitmap => 5,
+            UnpackCause::UnknownElement(_) => 6,
+            UnpackCause::Field(_) => 7,
+            UnpackCause::Memory => 8,
+        }
+    }
+}
+
 impl From<AllocError> for SetFault {
     ghost from_gives = { λ _ e. e ≡ set.Memory };
 

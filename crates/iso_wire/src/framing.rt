@@ -23,6 +23,21 @@ pub enum FrameFault {
     Memory,
 }
 
+impl FrameFault {
+    ghost use Rattle.iso_wire.specs.FaultNumbers.{frame_fault_number};
+
+    /// The fault's number, as logs and monitors show it: from 1 to 3, in the order of the variants.
+    pub fn number(&self) -> u8
+        ensures { result ≡ frame_fault_number self.now }
+    {
+        match self {
+            FrameFault::TooLong => 1,
+            FrameFault::BadDigits => 2,
+            FrameFault::Memory => 3,
+        }
+    }
+}
+
 impl From<AllocError> for FrameFault {
     ghost from_gives = { λ _ e. e ≡ faults.Memory };
 
