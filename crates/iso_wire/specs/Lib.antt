@@ -12,3 +12,4 @@ pub mod Reading
 pub mod Frame
 pub mod ReadingLaws
 pub mod FaultNumbers
+pub mod Masking

@@ -27,7 +27,7 @@ pub struct Place {
 }
 
 /// Elements in ascending order: the bytes of their values, and who has how many of them.
-#[derive(Debug, Drop)]
+#[derive(Drop)]
 pub struct Elements {
     pub values: Vec<u8>,
     pub index: Vec<Entry>,

@@ -6,6 +6,7 @@ ghost use Rattle.iso_wire.specs.Frame.{largest, header_size, frame_of, Frames, f
 
 use crate::header::Header;
 use std::alloc::{AllocError, Global};
+use std::fmt;
 use thiserror::Error;
 
 /// Why bytes are not put into a frame, or not taken out of one.
@@ -46,13 +47,25 @@ impl From<AllocError> for FrameFault {
     }
 }
 
-/// What stands at the front of some bytes.
-#[derive(Clone, Copy, Debug, PartialEq, Eq)]
+/// What stands at the front of some bytes. Its `Debug` counts the bytes of a body and shows none.
+#[derive(Clone, Copy, PartialEq, Eq)]
 pub enum Framed<'a> {
     /// A whole frame, of `used` bytes with its header.
     Got { body: &'a [u8], used: usize },
     /// The bytes end inside the frame.
     More,
+}
+
+impl fmt::Debug for Framed<'_> {
+    fn fmt<W: fmt::Write>(&self, f: &mut fmt::Formatter<W>) -> fmt::Result {
+        match self {
+            Framed::Got { body, used } => {
+                let count = body.len();
+                write!(f, "Got {{ body: {count} bytes, used: {used} }}")
+            }
+            Framed::More => write!(f, "More"),
+        }
+    }
 }
 
 /// Appends a frame: the header of the body, and the body. On a fault nothing is changed.

@@ -10,12 +10,14 @@ ghost use Rattle.iso_wire.specs.Elements.{value_in, has, is_number, IsBelow, put
 use crate::decimal::write_decimal;
 use crate::elements::{Elements, numbers_of};
 use crate::fault::SetFault;
+use crate::masking::masked;
 use iso_parts::{Bitmap, Mti};
 use std::alloc::{AllocError, Global};
+use std::fmt;
 use std::marker::Model;
 
-/// A message: its type, and its elements by their numbers.
-#[derive(Debug, Drop)]
+/// A message: its type, and its elements by their numbers. Its `Debug` shows what a bystander may read.
+#[derive(Drop)]
 pub struct Message {
     mti: Mti,
     elements: Elements,
@@ -34,6 +36,20 @@ impl Model for Message {
     ghost view = { λ m. record { mti = number m.mti; elements = views m.elements } };
 
     ghost invariant = { λ m. IsWhole m.elements × IsAscending 2 (views m.elements) };
+}
+
+impl fmt::Debug for Message {
+    fn fmt<W: fmt::Write>(&self, f: &mut fmt::Formatter<W>) -> fmt::Result {
+        let number = self.mti().number();
+        write!(f, "Message {{ mti: {number:04}")?;
+        for n in 2..=128 {
+            if let Some(value) = self.get(n) {
+                let shown = masked(n, value);
+                write!(f, ", {n}: {shown}")?;
+            }
+        }
+        write!(f, " }}")
+    }
 }
 
 /// Whether an element may have the number: 2 to 128, but for 65.
