@@ -1,11 +1,12 @@
 use super::*;
-use crate::elements::Entry;
-use iso_parts::{BitmapCoding, CharClass, Coding, Digits, FieldSpec, Length, Pad};
+use iso_parts::{BitmapCoding, CharClass, Coding, Digits, FieldSpec, Length, Mti, Pad};
 use iso_table::{Draft, Row, Table, TableFault};
-use std::alloc::{AllocError, Global};
+use std::alloc::Global;
 use std::test::*;
 
+mod faults;
 mod frames;
+mod masks;
 mod messages;
 mod refusals;
 
@@ -174,26 +175,36 @@ fn packed_cases() -> [Case; 2] {
     ]
 }
 
-/// The values one after another.
-fn joined(alloc: Global, elements: &[(u8, &[u8])]) -> Result<Vec<u8>, AllocError> {
-    let mut values = Vec::new(alloc);
-    for (_, value) in elements {
-        values.extend_from_slice(value)?;
+/// The value that the elements give a number, if they have it.
+fn value_in<'a>(elements: &[(u8, &'a [u8])], n: u8) -> Option<&'a [u8]> {
+    for (number, value) in elements {
+        if *number == n {
+            return Some(value);
+        }
     }
-    Ok(values)
+    None
 }
 
-/// Whether the index has the numbers and the lengths of the elements.
-fn is_index(index: &[Entry], elements: &[(u8, &[u8])]) -> bool {
-    if index.len() != elements.len() {
-        return false;
-    }
-    for (entry, (number, value)) in index.iter().zip(elements) {
-        if entry.number != *number || entry.len != value.len() {
+/// Whether the message has these elements and no other.
+fn has_only(message: &Message, elements: &[(u8, &[u8])]) -> bool {
+    let numbers = message.elements();
+    for n in 0..=255 {
+        let value = value_in(elements, n);
+        if message.get(n) != value || numbers.has(n) != value.is_some() {
             return false;
         }
     }
     true
+}
+
+/// A message of that type with the elements, set in that order.
+fn message(alloc: Global, mti: u16, elements: &[(u8, &[u8])]) -> Result<Message, Fail> {
+    let mti = Mti::from_digits(mti).ok_or("not four digits")?;
+    let mut message = Message::new(alloc, mti);
+    for (n, value) in elements {
+        message.set(*n, value)?;
+    }
+    Ok(message)
 }
 
 /// What was read of a case, and what is written of that.
@@ -206,10 +217,7 @@ struct Reread {
 
 fn read_and_write(alloc: Global, table: &Table, case: &Case) -> Result<Reread, Fail> {
     let (message, used) = unpack(alloc, table, case.bytes)?;
-    let parts = message.parts();
-    let values = joined(alloc, case.elements)?;
-    let has_elements = is_index(&parts.index, case.elements)
-        && parts.values.as_slice() == values.as_slice();
+    let has_elements = has_only(&message, case.elements);
     let plain = pack(alloc, table, &message)?;
     Ok(Reread {
         used,

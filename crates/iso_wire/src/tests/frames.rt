@@ -137,15 +137,15 @@ fn frames_are_appended(rt: HostRuntime) -> Result<(), Fail> {
 
 #[test]
 fn headers_tell_lengths(rt: HostRuntime) -> Result<(), Fail> {
-    let cases: [(Header, &[u8], Option<usize>); 5] = [
-        (Binary2, b"\x27\x10", Some(10_000)),
-        (Ascii4, b"0055", Some(55)),
-        (Bcd2, b"\x00\x55", Some(55)),
-        (Bcd2, b"\x00\x5A", None),
-        (Ascii4, b"055", None),
+    let cases: [(&str, Header, &[u8], Option<usize>); 5] = [
+        ("two bytes", Binary2, b"\x27\x10", Some(10_000)),
+        ("four digits", Ascii4, b"0055", Some(55)),
+        ("two bytes of digits", Bcd2, b"\x00\x55", Some(55)),
+        ("a nibble that is no digit", Bcd2, b"\x00\x5A", None),
+        ("three digits", Ascii4, b"055", None),
     ];
-    for (header, bytes, want) in cases {
-        assert_eq!(rt; header.length_of(bytes), want, "{header:?}");
+    for (name, header, bytes, want) in cases {
+        assert_eq!(rt; header.length_of(bytes), want, "{name}");
     }
     assert_eq!(rt; Binary2.limit(), 65_535);
     Ok(())

@@ -1,20 +1,6 @@
 //! Values from outside, and that the calls succeed.
 
-use crate::elements::Elements;
-use crate::{Message, SetFault, digits_of};
-use iso_parts::Mti;
-use std::alloc::Global;
-use std::test::Fail;
-
-/// A message of that type with the elements, set in that order.
-fn message(alloc: Global, mti: u16, elements: &[(u8, &[u8])]) -> Result<Message, Fail> {
-    let mti = Mti::from_digits(mti).ok_or("not four digits")?;
-    let mut message = Message::new(alloc, mti);
-    for (n, value) in elements {
-        message.set(*n, value)?;
-    }
-    Ok(message)
-}
+use super::*;
 
 #[test]
 fn values(rt: HostRuntime) -> Result<(), Fail> {
@@ -80,14 +66,18 @@ fn unset(rt: HostRuntime) -> Result<(), Fail> {
 
 #[test]
 fn bad_numbers(rt: HostRuntime) -> Result<(), Fail> {
-    for n in [0, 1, 65, 129, 255] {
+    let cases = [
+        ("the message type", 0),
+        ("the bit that tells of a secondary bitmap", 1),
+        ("the bit that tells of a third bitmap", 65),
+        ("one above the last", 129),
+        ("the greatest byte", 255),
+    ];
+    for (name, n) in cases {
         let mut made = message(rt.alloc(), 100, &[])?;
-        assert_eq!(rt; made.set(n, b"1"), Err(SetFault::BadNumber(n)), "{n}");
-        assert_eq!(rt;
-            made.set_number(n, 1, 1),
-            Err(SetFault::BadNumber(n)),
-            "{n}"
-        );
+        let fault = Err(SetFault::BadNumber(n));
+        assert_eq!(rt; made.set(n, b"1"), fault, "{name}");
+        assert_eq!(rt; made.set_number(n, 1, 1), fault, "{name}");
     }
     Ok(())
 }
@@ -109,15 +99,16 @@ fn numbers(rt: HostRuntime) -> Result<(), Fail> {
 
 #[test]
 fn digits(rt: HostRuntime) {
-    for (v, want) in [
-        (0, 1),
-        (9, 1),
-        (10, 2),
-        (999_999, 6),
-        (1_000_000, 7),
-        (u64::MAX, 20),
-    ] {
-        assert_eq!(rt; digits_of(v), want, "{v}");
+    let cases = [
+        ("none but a zero", 0, 1),
+        ("the last of one digit", 9, 1),
+        ("the first of two", 10, 2),
+        ("the last of six", 999_999, 6),
+        ("the first of seven", 1_000_000, 7),
+        ("the greatest number", u64::MAX, 20),
+    ];
+    for (name, v, want) in cases {
+        assert_eq!(rt; digits_of(v), want, "{name}");
     }
 }
 
@@ -146,23 +137,21 @@ fn equality(rt: HostRuntime) -> Result<(), Fail> {
 
 #[test]
 fn sets(rt: HostRuntime) -> Result<(), Fail> {
-    let made = message(
-        rt.alloc(),
-        800,
-        &[(70, b"301"), (7, b"0102030405"), (128, b"x")],
-    )?;
+    let elements: [(u8, &[u8]); 3] = [(70, b"301"), (7, b"0102030405"), (128, b"x")];
+    let made = message(rt.alloc(), 800, &elements)?;
     assert_eq!(rt; made.mti().number(), 800);
     let bits = made.elements();
-    for (n, want) in [
-        (1, false),
-        (2, false),
-        (7, true),
-        (65, false),
-        (70, true),
-        (127, false),
-        (128, true),
-    ] {
-        assert_eq!(rt; bits.has(n), want, "{n}");
+    let cases = [
+        ("no number of an element", 1, false),
+        ("the lowest, which was not set", 2, false),
+        ("one of the primary bitmap", 7, true),
+        ("the first bit of the secondary bitmap", 65, false),
+        ("one of the secondary bitmap", 70, true),
+        ("one before the last", 127, false),
+        ("the last", 128, true),
+    ];
+    for (name, n, want) in cases {
+        assert_eq!(rt; bits.has(n), want, "{name}");
     }
     Ok(())
 }
@@ -170,17 +159,10 @@ fn sets(rt: HostRuntime) -> Result<(), Fail> {
 #[test]
 fn built_in_order(rt: HostRuntime) -> Result<(), Fail> {
     let mti = Mti::from_digits(100).ok_or("not four digits")?;
-    let mut elements = Elements::with_room(rt.alloc(), 2, 5)?;
-    elements.append(3, b"abc")?;
-    let from = elements.values.len();
-    elements.values.extend_from_slice(b"de")?;
-    elements.close(4, from)?;
-    let made = Message::from_elements(mti, elements);
     let want = message(rt.alloc(), 100, &[(3, b"abc"), (4, b"de")])?;
+    let mut made = Message::with_room(rt.alloc(), mti, 2, 5)?;
+    made.append(3, b"abc")?;
+    made.append(4, b"de")?;
     assert!(rt; made.equals(&want));
-    let mut appended = Message::new(rt.alloc(), mti);
-    appended.append(3, b"abc")?;
-    appended.append(4, b"de")?;
-    assert!(rt; appended.equals(&want));
     Ok(())
 }

@@ -94,10 +94,10 @@ fn bytes_are_refused(rt: HostRuntime) -> Result<(), Fail> {
 fn fillers_are_judged(rt: HostRuntime) -> Result<(), Fail> {
     let table = packed(rt.alloc())?;
     let cases = [
-        (b"\x13\x01".as_slice(), FieldFault::BadFiller),
-        (b"\x03\x0A", FieldFault::NotInClass),
+        ("a filler 1", b"\x13\x01".as_slice(), FieldFault::BadFiller),
+        ("a nibble A", b"\x03\x0A", FieldFault::NotInClass),
     ];
-    for (last, fault) in &cases {
+    for (name, last, fault) in &cases {
         let head = b"\x08\x00\x82\x20\0\0\0\0\0\0\x04\0\0\0\0\0\0\0\x01\x02\x03\x04\x05\0\0\x01";
         let bytes = [head.as_slice(), last].concat(rt.alloc())?;
         let fault = UnpackFault {
@@ -105,7 +105,11 @@ fn fillers_are_judged(rt: HostRuntime) -> Result<(), Fail> {
             element: 70,
             cause: Field(*fault),
         };
-        assert_eq!(rt; unpack(rt.alloc(), &table, &bytes).err(), Some(fault));
+        assert_eq!(rt;
+            unpack(rt.alloc(), &table, &bytes).err(),
+            Some(fault),
+            "{name}"
+        );
     }
     Ok(())
 }
@@ -192,12 +196,14 @@ fn messages_are_refused(rt: HostRuntime) -> Result<(), Fail> {
     )?;
     assert_eq!(rt;
         pack(rt.alloc(), &few, &message).err(),
-        Some(PackFault::PadEnd(41))
+        Some(PackFault::PadEnd(41)),
+        "the later element has no row"
     );
     let none = table(rt.alloc(), 0, Digits::Ascii, BitmapCoding::Hex, &[])?;
     assert_eq!(rt;
         pack(rt.alloc(), &none, &message).err(),
-        Some(PackFault::NoRow(41))
+        Some(PackFault::NoRow(41)),
+        "no row at all"
     );
     Ok(())
 }

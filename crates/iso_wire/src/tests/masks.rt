@@ -1,0 +1,99 @@
+//! What is printed of values.
+
+use super::*;
+use crate::{Framed, masked};
+
+#[test]
+fn values_are_masked(rt: HostRuntime) -> Result<(), Fail> {
+    let cases: [(&str, u8, &[u8], &str); 13] = [
+        (
+            "an account number",
+            2,
+            b"4111111111111111",
+            "411111******1111",
+        ),
+        ("one of 13 digits", 2, b"4111111111111", "411111***1111"),
+        ("one of 12 digits", 2, b"411111111111", "************"),
+        ("no account number", 2, b"", ""),
+        ("an extended account number", 34, b"12-3", "****"),
+        ("track 2", 35, b"4111=2512", "*********"),
+        ("track 3", 36, b"014111", "******"),
+        ("track 1", 45, b"B4111^A", "*******"),
+        (
+            "PIN data",
+            52,
+            b"\x01\x23\x45\x67\x89\xAB\xCD\xEF",
+            "********",
+        ),
+        ("chip data", 55, b"\x9F\x02", "**"),
+        ("an amount", 4, b"000000001000", "000000001000"),
+        ("a terminal", 41, b"TERM 1", "TERM 1"),
+        ("a MAC", 64, b"\x00A\xFE\n", "\\x00A\\xFE\\x0A"),
+    ];
+    for (name, n, value, want) in cases {
+        let shown = masked(n, value);
+        let text = format!(in rt.alloc(); "{shown}")?;
+        assert_eq!(rt; text.as_str(), want, "{name}");
+        let text = format!(in rt.alloc(); "{shown:?}")?;
+        assert_eq!(rt; text.as_str(), want, "{name}, for debugging");
+    }
+    Ok(())
+}
+
+#[test]
+fn messages_are_printed_masked(rt: HostRuntime) -> Result<(), Fail> {
+    let cases: [(&str, u16, &[(u8, &[u8])], &str); 4] = [
+        ("no element", 800, &[], "Message { mti: 0800 }"),
+        (
+            "an account number and an amount",
+            200,
+            &[(2, b"4111111111111111"), (4, b"000000001000")],
+            "Message { mti: 0200, 2: 411111******1111, 4: 000000001000 }",
+        ),
+        (
+            "tracks, PIN data and chip data",
+            200,
+            &[
+                (34, b"34"),
+                (35, b"4111=2512"),
+                (36, b"36"),
+                (45, b"B4111"),
+                (52, b"\x01\x23\x45\x67"),
+                (55, b"\x9F\x02\x06"),
+            ],
+            "Message { mti: 0200, 34: **, 35: *********, 36: **, 45: *****, 52: ****, 55: *** }",
+        ),
+        (
+            "the last element",
+            9999,
+            &[(128, b"\xFF")],
+            "Message { mti: 9999, 128: \\xFF }",
+        ),
+    ];
+    for (name, mti, elements, want) in cases {
+        let message = message(rt.alloc(), mti, elements)?;
+        let text = format!(in rt.alloc(); "{message:?}")?;
+        assert_eq!(rt; text.as_str(), want, "{name}");
+    }
+    Ok(())
+}
+
+#[test]
+fn frames_are_counted(rt: HostRuntime) -> Result<(), Fail> {
+    let cases = [
+        ("no whole frame", Framed::More, "More"),
+        (
+            "a payment",
+            Framed::Got {
+                body: PAYMENT,
+                used: 84,
+            },
+            "Got { body: 82 bytes, used: 84 }",
+        ),
+    ];
+    for (name, framed, want) in cases {
+        let text = format!(in rt.alloc(); "{framed:?}")?;
+        assert_eq!(rt; text.as_str(), want, "{name}");
+    }
+    Ok(())
+}
