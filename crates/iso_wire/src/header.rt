@@ -34,7 +34,7 @@ fn number_of(a: u8, b: u8, c: u8, d: u8) -> Option<usize>
 
 impl Header {
     /// How many bytes the header takes.
-    pub fn size(self) -> usize
+    pub(crate) fn size(self) -> usize
         ensures { result ≡ header_size self }
     {
         match self {
@@ -54,7 +54,7 @@ impl Header {
     }
 
     /// The body's length that a whole header tells, and `None` where the bytes aren't one of digits. Takes no memory.
-    pub fn length_of(self, header: &[u8]) -> Option<usize>
+    pub(crate) fn length_of(self, header: &[u8]) -> Option<usize>
         ensures { result ≡ length_in self header.now }
     {
         match (self, header) {

@@ -10,7 +10,7 @@ const TOP: u64 = 0x8000_0000_0000_0000;
 
 /// Numbers in ascending order: those of a primary bitmap's word, and then those of a secondary one's.
 #[derive(Clone, Copy, Debug)]
-pub struct Numbers {
+pub(crate) struct Numbers {
     first: u64,
     second: u64,
     ghost low: { first < 2 ^ 63 },
@@ -30,7 +30,7 @@ impl Numbers {
     ghost use Rattle.iso_wire.specs.Walk.{left, Takes};
 
     /// The numbers from 2 on.
-    pub fn of(first: u64, second: u64) -> Numbers
+    pub(crate) fn of(first: u64, second: u64) -> Numbers
         ensures { left result ≡ numbers_in first second }
     {
         if first < TOP {
@@ -43,7 +43,7 @@ impl Numbers {
     }
 
     /// The next number, if one is left.
-    pub fn next(&mut self) -> Option<u8>
+    pub(crate) fn next(&mut self) -> Option<u8>
         ensures { Takes (left self.old) (left self.new) result }
     {
         if self.first != 0 {
@@ -60,14 +60,14 @@ impl Numbers {
     }
 
     /// How many are left.
-    pub fn count(&self) -> usize
+    pub(crate) fn count(&self) -> usize
         ensures { result ≡ count_ones self.now.first + count_ones self.now.second }
     {
         self.first.count_ones() as usize + self.second.count_ones() as usize
     }
 
     /// The first number that has no row.
-    pub fn unknown_under(self, table: &Table) -> Option<u8>
+    pub(crate) fn unknown_under(self, table: &Table) -> Option<u8>
         ensures { result ≡ unknown table.now.rows (left self) }
     {
         let mut rest = self;
