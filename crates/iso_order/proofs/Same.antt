@@ -10,6 +10,7 @@ use Rattle.iso_order.specs.declared.act.Act.{Act}
 use Rattle.iso_order.specs.declared.act.Act.TheVariants.{Debit, Credit, Inquiry, Undo}
 use Rattle.iso_order.specs.Order.{Instruction, same_pan, same_money, same_act, same_order}
 use Rattle.iso_order.specs.Key.{same_key}
+use Rattle.iso_order.specs.Comparisons.{Comparisons}
 
 -- keys that compare alike are one
 pub same_key_is : (a b : TxKey) → same_key a b ≡ true → a ≡ b
@@ -78,3 +79,17 @@ same_order_told a b false h =
       | true ↦ λ e. h.1 (same_order_is a b e)
       | false ↦ λ e. refl
     ] refl
+
+-- ---- what compares alike is one
+
+one_by : {X : Type 0} (same : X → X → Bool) → ((a b : X) → same a b ≡ true → a ≡ b) → ((a : X) → same a a ≡ true) → (a b : X) → (same a b ≡ true) ↔ (a ≡ b)
+one_by same one self a b = (one a b, λ is. subst (λ c. same a c ≡ true) is (self a))
+
+pub comparisons_lem : Comparisons
+comparisons_lem = record {
+  keys = one_by same_key same_key_is same_key_self;
+  pans = one_by same_pan same_pan_is same_pan_self;
+  moneys = one_by same_money same_money_is same_money_self;
+  acts = one_by same_act same_act_is same_act_self;
+  orders = one_by same_order same_order_is same_order_self;
+}

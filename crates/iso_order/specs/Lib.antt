@@ -1,4 +1,5 @@
 pub mod AccountNumber
+pub mod Comparisons
 pub mod Fields
 pub mod Fitting
 pub mod Key

@@ -1,6 +1,13 @@
-//! What holds of every response: functions that do nothing, and whose contracts are laws.
+//! What holds of every order and every response: functions that do nothing, and whose contracts are laws. A proof of a
+//! crate above cites them.
 
+ghost use Rattle.iso_order.specs.Comparisons.{Comparisons};
 ghost use Rattle.iso_order.specs.Fitting.{ResponsesAreShort, ResponsesAreWellFormed, ResponsesFit};
+
+/// Keys, account numbers, acts and orders that compare alike are one.
+pub fn comparisons()
+    ensures { Comparisons }
+{}
 
 /// The response to a well-formed request or advice is well formed.
 pub fn responses_are_well_formed()
