@@ -7,7 +7,7 @@ use Rattle.std.proofs.lemmas.Bool.Decides.{nat_tests}
 use Rattle.std.proofs.lemmas.List.Folds.{list_all-append}
 use Rattle.iso_parts.specs.declared.spec.FieldSpec.{FieldSpec}
 use Rattle.iso_parts.specs.Class.{is_digit}
-use Rattle.iso_parts.proofs.Plain.{refusal_from_fits}
+use Rattle.iso_parts.specs.PartLaws.{PartLaws}
 use Rattle.iso_table.specs.declared.host.Shape.TheVariants.{Text, Amounts}
 use Rattle.iso_table.specs.HostReady.{host_row, IsHostReady}
 use Rattle.iso_table.specs.Layout.{Layout, row_at}
@@ -43,19 +43,19 @@ version_kept mti h =
 
 -- ---- an echo
 
-part_taken : (rows : List (Option FieldSpec)) (n : ℕ) (v b : List ℕ) → PartAs rows n v b → IsTaken rows n v
-part_taken rows n v b part = ap (λ (r : Option FieldSpec). refused_by r n v) part.1 ∙ ap (refused_field n) (refusal_from_fits part.0 v part.2.1.0)
+part_taken : PartLaws → (rows : List (Option FieldSpec)) (n : ℕ) (v b : List ℕ) → PartAs rows n v b → IsTaken rows n v
+part_taken laws rows n v b part = ap (λ (r : Option FieldSpec). refused_by r n v) part.1 ∙ ap (refused_field n) ((laws.fits part.0 v).0 part.2.1.0)
 
 pub value_by : (t : Bool) (v : List ℕ) (o : Option (List ℕ)) (P : List ℕ → Type 0) → (t ≡ true → P v) → IfSome o P → IfSome (if t then Some v else o) P
 value_by true v o P here rest = here refl
 value_by false v o P here rest = rest
 
 -- what is read under a table isn't refused by it
-pub value_taken : (rows : List (Option FieldSpec)) (es : Values) (b : List ℕ) → Parts rows es b → (n : ℕ) → IfSome (value_in es n) (IsTaken rows n)
-value_taken rows [] b parts n = tt
-value_taken rows (e ∷ es) b parts n =
-    let here : (e.0 == n) ≡ true → IsTaken rows n e.1 = λ is. subst (λ (k : ℕ). IsTaken rows k e.1) (eqb-true e.0 n is) (part_taken rows e.0 e.1 parts.0 parts.2) in
-    value_by (e.0 == n) e.1 (value_in es n) (IsTaken rows n) here (value_taken rows es parts.1 parts.3 n)
+pub value_taken : PartLaws → (rows : List (Option FieldSpec)) (es : Values) (b : List ℕ) → Parts rows es b → (n : ℕ) → IfSome (value_in es n) (IsTaken rows n)
+value_taken laws rows [] b parts n = tt
+value_taken laws rows (e ∷ es) b parts n =
+    let here : (e.0 == n) ≡ true → IsTaken rows n e.1 = λ is. subst (λ (k : ℕ). IsTaken rows k e.1) (eqb-true e.0 n is) (part_taken laws rows e.0 e.1 parts.0 parts.2) in
+    value_by (e.0 == n) e.1 (value_in es n) (IsTaken rows n) here (value_taken laws rows es parts.1 parts.3 n)
 
 -- ---- the response code, the approval and the balance
 
@@ -63,15 +63,15 @@ pub approval_by : (t : Bool) (v : List ℕ) (P : List ℕ → Type 0) → P v �
 approval_by true v P here = here
 approval_by false v P here = tt
 
-approval_taken : (t : Layout) (m : Contents) (a : Outcome) → IsHostReady t → IfSome (approval m a) (IsTaken t.rows 38)
-approval_taken t m a ready =
+approval_taken : PartLaws → (t : Layout) (m : Contents) (a : Outcome) → IsHostReady t → IfSome (approval m a) (IsTaken t.rows 38)
+approval_taken laws t m a ready =
     approval_by (is_approved m a) (decimal 6 a.seq) (IsTaken t.rows 38)
-    (row_taken (host_row 38 true (Text 6)) (row_at t.rows 38) (decimal 6 a.seq) refl ready.rows.1.1.1.1.1.1.1.1.1.1.0
+    (row_taken laws (host_row 38 true (Text 6)) (row_at t.rows 38) (decimal 6 a.seq) refl ready.rows.1.1.1.1.1.1.1.1.1.1.0
     (λ s shape. digits_fit s 6 (decimal 6 a.seq) shape (length-decimal 6 a.seq) (list_all-decimal 6 a.seq)))
 
-code_taken : (t : Layout) (a : Outcome) → IsHostReady t → IsTaken t.rows 39 (decimal 2 a.code)
-code_taken t a ready =
-    row_taken (host_row 39 true (Text 2)) (row_at t.rows 39) (decimal 2 a.code) refl ready.rows.1.1.1.1.1.1.1.1.1.1.1.0
+code_taken : PartLaws → (t : Layout) (a : Outcome) → IsHostReady t → IsTaken t.rows 39 (decimal 2 a.code)
+code_taken laws t a ready =
+    row_taken laws (host_row 39 true (Text 2)) (row_at t.rows 39) (decimal 2 a.code) refl ready.rows.1.1.1.1.1.1.1.1.1.1.1.0
     (λ s shape. digits_fit s 2 (decimal 2 a.code) shape (length-decimal 2 a.code) (list_all-decimal 2 a.code))
 
 sign_by : (t : Bool) → is_letter_or_digit (if t then 68 else 67) ≡ true
@@ -101,10 +101,10 @@ shown_codes m z shown =
     let asked = (and_parts (nat_le (unsigned_abs z) 999999999999) (asks_balance (verdict m)) shown).1 in
     (and_parts (length (text m 49) == 3) (list_all is_letter_or_digit (text m 49)) (asks_balance-currency m asked)).1
 
-balance_taken : (t : Layout) (m : Contents) (a : Outcome) → IsHostReady t → is_showable m a.shown ≡ true → IfSome (balance m a) (IsTaken t.rows 54)
-balance_taken t m a ready shown =
+balance_taken : PartLaws → (t : Layout) (m : Contents) (a : Outcome) → IsHostReady t → is_showable m a.shown ≡ true → IfSome (balance m a) (IsTaken t.rows 54)
+balance_taken laws t m a ready shown =
     balance_by m a.shown (IsTaken t.rows 54) shown
-    (λ z some. row_taken (host_row 54 true Amounts) (row_at t.rows 54) (additional (text m 49) z) refl ready.rows.1.1.1.1.1.1.1.1.1.1.1.1.1.1.1.0
+    (λ z some. row_taken laws (host_row 54 true Amounts) (row_at t.rows 54) (additional (text m 49) z) refl ready.rows.1.1.1.1.1.1.1.1.1.1.1.1.1.1.1.0
     (λ s shape. amount_fits s (additional (text m 49) z) shape (length-additional (text m 49) z (shown-currency m (Some z) z refl some)) (additional-codes (text m 49) z (shown_codes m z some))))
 
 -- ---- each element
@@ -118,14 +118,14 @@ element_by false false false true x y z v P a b c d = d
 element_by false false false false x y z v P a b c d = tt
 
 -- an element of a response isn't refused
-pub element_taken : (t : Layout) (m : Contents) (a : Outcome) → IsServed t m a → (n : ℕ) → IfSome (element m a n) (IsTaken t.rows n)
-element_taken t m a s n =
+pub element_taken : PartLaws → (t : Layout) (m : Contents) (a : Outcome) → IsServed t m a → (n : ℕ) → IfSome (element m a n) (IsTaken t.rows n)
+element_taken laws t m a s n =
     let at = λ (k : ℕ) (v : Option (List ℕ)) (here : IfSome v (IsTaken t.rows k)) (is : (n == k) ≡ true). subst (λ (j : ℕ). IfSome v (IsTaken t.rows j)) (sym (eqb-true n k is)) here in
     element_by (n == 38) (n == 39) (n == 54) (is_echoed n) (approval m a) (Some (decimal 2 a.code)) (balance m a) (value_in m.elements n) (IsTaken t.rows n)
-    (at 38 (approval m a) (approval_taken t m a s.ready))
-    (at 39 (Some (decimal 2 a.code)) (code_taken t a s.ready))
-    (at 54 (balance m a) (balance_taken t m a s.ready s.shown))
-    (value_taken t.rows m.elements s.read.parts s.read.elements n)
+    (at 38 (approval m a) (approval_taken laws t m a s.ready))
+    (at 39 (Some (decimal 2 a.code)) (code_taken laws t a s.ready))
+    (at 54 (balance m a) (balance_taken laws t m a s.ready s.shown))
+    (value_taken laws t.rows m.elements s.read.parts s.read.elements n)
 
 -- ---- the response
 
@@ -137,9 +137,9 @@ refused-at : (rows : List (Option FieldSpec)) (value : ℕ → Option (List ℕ)
 refused-at rows value [] each = refl
 refused-at rows value (n ∷ ns) each = refused-entry rows n (value n) (elements_at value ns) (each n) (refused-at rows value ns each)
 
-pub responses_fit_lem : ResponsesFit
-responses_fit_lem t m a s answered =
+pub responses_fit_lem : PartLaws → ResponsesFit
+responses_fit_lem laws t m a s answered =
     let value = element m a in
     let numbers : List ℕ = 2 ∷ 3 ∷ 4 ∷ 7 ∷ 11 ∷ 12 ∷ 13 ∷ 32 ∷ 33 ∷ 37 ∷ 38 ∷ 39 ∷ 41 ∷ 42 ∷ 49 ∷ 54 ∷ 70 ∷ 90 ∷ [] in
     let same : (response_mti m.mti / 1000 == t.version) ≡ true = eq-eqb (response_mti m.mti / 1000) t.version (version_kept m.mti answered ∙ s.read.version) in
-    ap (message_refusal t) (response-listed m a) ∙ rw same (refused-at t.rows value numbers (element_taken t m a s))
+    ap (message_refusal t) (response-listed m a) ∙ rw same (refused-at t.rows value numbers (element_taken laws t m a s))

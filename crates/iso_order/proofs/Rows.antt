@@ -13,8 +13,8 @@ use Rattle.iso_parts.specs.declared.padding.Pad.{Pad}
 use Rattle.iso_parts.specs.declared.padding.Pad.TheVariants as pads
 use Rattle.iso_parts.specs.declared.spec.FieldSpec.{FieldSpec}
 use Rattle.iso_parts.specs.Class.{is_digit, is_member, is_in_class}
+use Rattle.iso_parts.specs.PartLaws.{PartLaws}
 use Rattle.iso_parts.specs.Row.{is_exact, has_pad_end, Fits}
-use Rattle.iso_parts.proofs.Plain.{refusal_from_fits}
 use Rattle.iso_table.specs.declared.host.HostRow.{HostRow}
 use Rattle.iso_table.specs.declared.host.Shape.TheVariants.{Text, Amounts}
 use Rattle.iso_table.specs.HostReady.{is_an, is_n_or_an, is_fixed, is_counted, is_unpadded, is_shape, IsHostRow}
@@ -89,7 +89,7 @@ unpadded_end pads.None v is = refl
 unpadded_end (pads.Left p) v is = absurd cc
 unpadded_end (pads.Right p) v is = absurd cc
 
-length_by : (t : Bool) (n max : ℕ) → n ≡ max → (if t then n == max else nat_le n max) ≡ true
+pub length_by : (t : Bool) (n max : ℕ) → n ≡ max → (if t then n == max else nat_le n max) ≡ true
 length_by true n max same = grind (arith, nat_tests)
 length_by false n max same = grind (arith, nat_tests)
 
@@ -126,6 +126,6 @@ amount_fits s v shape size codes =
     }
 
 -- a needed row refuses no value that fits each row of its shape
-pub row_taken : (h : HostRow) (r : Option FieldSpec) (v : List ℕ) → h.1 ≡ true → IsHostRow h r → ((s : FieldSpec) → is_shape h.2 s ≡ true → Fits s v) → refused_by r h.0 v ≡ None
-row_taken h None v needed row fits = absurd (let both : true ≡ false = sym needed ∙ row in cc)
-row_taken h (Some s) v needed row fits = ap (refused_field h.0) (refusal_from_fits s v (fits s row))
+pub row_taken : PartLaws → (h : HostRow) (r : Option FieldSpec) (v : List ℕ) → h.1 ≡ true → IsHostRow h r → ((s : FieldSpec) → is_shape h.2 s ≡ true → Fits s v) → refused_by r h.0 v ≡ None
+row_taken laws h None v needed row fits = absurd (let both : true ≡ false = sym needed ∙ row in cc)
+row_taken laws h (Some s) v needed row fits = ap (refused_field h.0) ((laws.fits s v).0 (fits s row))

@@ -10,10 +10,10 @@ use Rattle.iso_parts.specs.declared.padding.Pad.TheVariants as pads
 use Rattle.iso_parts.specs.declared.prefix.Digits.{Digits}
 use Rattle.iso_parts.specs.declared.prefix.Digits.TheVariants as digits
 use Rattle.iso_parts.specs.declared.spec.FieldSpec.{FieldSpec}
-use Rattle.iso_parts.specs.Part.{with_pads, padded}
-use Rattle.iso_parts.specs.Row.{refusal, Fits}
-use Rattle.iso_parts.proofs.Plain.{fits_from_refusal}
-use Rattle.iso_parts.proofs.Sizes.{plain_maps_most, plain_part_most, padded_most}
+use Rattle.iso_parts.specs.MapLaws.{MapLaws}
+use Rattle.iso_parts.specs.Part.{with_pads, padded, prefix, plain, plain_part}
+use Rattle.iso_parts.specs.PartLaws.{PartLaws}
+use Rattle.iso_parts.specs.Row.{is_exact, refusal, Fits}
 use Rattle.iso_table.specs.declared.host.HostRow.{HostRow}
 use Rattle.iso_table.specs.declared.host.Shape.{Shape}
 use Rattle.iso_table.specs.declared.host.Shape.TheVariants as shapes
@@ -28,17 +28,27 @@ use Rattle.iso_order.specs.Outcome.{Outcome}
 use Rattle.iso_order.specs.Response.{element, entry, elements_at, response, is_showable}
 use Rattle.iso_order.proofs.Ascending.{response-listed}
 use Rattle.iso_order.proofs.Fits.{IsTaken, Values, balance_by, length-additional, element_taken}
+use Rattle.iso_order.proofs.Rows.{length_by}
 use Rattle.iso_order.proofs.Shown.{shown-currency}
 
 -- ---- rows
 
-padded_short : (s : FieldSpec) (v : List ℕ) → Fits s v → s.max ≤ 99 → length (padded s v) ≤ 99
-padded_short s v fits few = omega (arith, padded_most s v fits)
+part_short : PartLaws → (s : FieldSpec) (v : List ℕ) → Fits s v → s.max ≤ 99 → length (plain_part s v) ≤ 202
+part_short laws s v fits few = omega (arith, laws.short s v fits)
 
 unpadded : (p : Pad) (n : ℕ) (v : List ℕ) → is_unpadded p ≡ true → with_pads p n v ≡ v
 unpadded pads.None n v is = refl
 unpadded (pads.Left p) n v is = absurd cc
 unpadded (pads.Right p) n v is = absurd cc
+
+-- an unpadded value is written alike under every maximum: under one that is its own length it is short
+unpadded_short : PartLaws → (s : FieldSpec) (v : List ℕ) → is_unpadded s.pad ≡ true → Fits s v → length v ≤ 99 → length (plain_part s v) ≤ 202
+unpadded_short laws s v is fits few =
+    let narrow : FieldSpec = record s { max = length v } in
+    let fits_narrow : Fits narrow v = record { length = length_by (is_exact s.length s.pad) (length v) (length v) refl; class = fits.class; pad = fits.pad } in
+    let same : padded narrow v ≡ padded s v = unpadded s.pad (length v - length v) v is ∙ sym (unpadded s.pad (s.max - length v) v is) in
+    let alike : length (plain_part narrow v) ≡ length (plain_part s v) = ap (λ (w : List ℕ). length (prefix s.length (length v) ++ plain s.coding w)) same in
+    omega (arith, laws.short narrow v fits_narrow)
 
 -- values have at most 99 characters; those of amounts stand at element 54 alone
 abbrev is_narrow_by : Shape → ℕ → Bool
@@ -57,50 +67,47 @@ same_few max n same few = grind (arith, nat_tests)
 most_few : (max n : ℕ) → nat_le max n ≡ true → nat_le n 99 ≡ true → max ≤ 99
 most_few max n most few = grind (arith, nat_tests)
 
-shape_short : (h : Shape) (number : ℕ) (s : FieldSpec) (v : List ℕ) → is_narrow_by h number ≡ true → is_shape h s ≡ true → Fits s v → ((number == 54) ≡ true → length v ≡ 20) → length (padded s v) ≤ 99
-shape_short (shapes.Digits n) number s v few shape fits amount =
+shape_short : PartLaws → (h : Shape) (number : ℕ) (s : FieldSpec) (v : List ℕ) → is_narrow_by h number ≡ true → is_shape h s ≡ true → Fits s v → ((number == 54) ≡ true → length v ≡ 20) → length (plain_part s v) ≤ 202
+shape_short laws (shapes.Digits n) number s v few shape fits amount =
     let p = and_parts (is_n s.class && is_fixed s.length && (s.max == n)) (is_unpadded s.pad) shape in
-    padded_short s v fits (same_few s.max n (and_parts (is_n s.class && is_fixed s.length) (s.max == n) p.0).1 few)
-shape_short (shapes.DigitsUpTo n) number s v few shape fits amount =
+    part_short laws s v fits (same_few s.max n (and_parts (is_n s.class && is_fixed s.length) (s.max == n) p.0).1 few)
+shape_short laws (shapes.DigitsUpTo n) number s v few shape fits amount =
     let p = and_parts (is_n s.class && is_counted s.length && nat_le s.max n) (is_unpadded s.pad) shape in
-    padded_short s v fits (most_few s.max n (and_parts (is_n s.class && is_counted s.length) (nat_le s.max n) p.0).1 few)
-shape_short (shapes.Text n) number s v few shape fits amount =
+    part_short laws s v fits (most_few s.max n (and_parts (is_n s.class && is_counted s.length) (nat_le s.max n) p.0).1 few)
+shape_short laws (shapes.Text n) number s v few shape fits amount =
     let p = and_parts (is_n_or_an s.class && is_fixed s.length && (s.max == n)) (is_unpadded s.pad) shape in
-    padded_short s v fits (same_few s.max n (and_parts (is_n_or_an s.class && is_fixed s.length) (s.max == n) p.0).1 few)
-shape_short shapes.Amounts number s v is shape fits amount =
+    part_short laws s v fits (same_few s.max n (and_parts (is_n_or_an s.class && is_fixed s.length) (s.max == n) p.0).1 few)
+shape_short laws shapes.Amounts number s v is shape fits amount =
     let p = and_parts (is_an s.class && is_counted s.length && nat_le 20 s.max) (is_unpadded s.pad) shape in
     let twenty = amount is in
-    let same = ap length (unpadded s.pad (s.max - length v) v p.1) in
-    omega arith
-shape_short (shapes.AnyUpTo n) number s v few shape fits amount = padded_short s v fits (most_few s.max n shape few)
+    unpadded_short laws s v p.1 fits (omega arith)
+shape_short laws (shapes.AnyUpTo n) number s v few shape fits amount = part_short laws s v fits (most_few s.max n shape few)
 
 accepted_by : (n : ℕ) (e : Option FieldFault) → refused_field n e ≡ None → e ≡ None
 accepted_by n None h = refl
 accepted_by n (Some e) h = absurd cc
 
-value_short : (h : HostRow) (r : Option FieldSpec) (v : List ℕ) → is_narrow h ≡ true → IsHostRow h r → refused_by r h.0 v ≡ None → ((h.0 == 54) ≡ true → length v ≡ 20) → length (plain_by r v) ≤ 202
-value_short h None v narrow row taken amount = omega arith
-value_short h (Some s) v narrow row taken amount =
-    let fits = fits_from_refusal s v (accepted_by h.0 (refusal s v) taken) in
-    let few = shape_short h.2 h.0 s v narrow row fits amount in
-    omega (arith, plain_part_most s v)
+value_short : PartLaws → (h : HostRow) (r : Option FieldSpec) (v : List ℕ) → is_narrow h ≡ true → IsHostRow h r → refused_by r h.0 v ≡ None → ((h.0 == 54) ≡ true → length v ≡ 20) → length (plain_by r v) ≤ 202
+value_short laws h None v narrow row taken amount = omega arith
+value_short laws h (Some s) v narrow row taken amount =
+    shape_short laws h.2 h.0 s v narrow row ((laws.fits s v).1 (accepted_by h.0 (refusal s v) taken)) amount
 
 -- ---- the elements
 
-entry_short : (rows : List (Option FieldSpec)) (h : HostRow) (o : Option (List ℕ)) (es : Values) (most : ℕ) → is_narrow h ≡ true → IsHostRow h (row_at rows h.0) → IfSome o (IsTaken rows h.0) → ((h.0 == 54) ≡ true → IfSome o (λ v. length v ≡ 20))
+entry_short : PartLaws → (rows : List (Option FieldSpec)) (h : HostRow) (o : Option (List ℕ)) (es : Values) (most : ℕ) → is_narrow h ≡ true → IsHostRow h (row_at rows h.0) → IfSome o (IsTaken rows h.0) → ((h.0 == 54) ≡ true → IfSome o (λ v. length v ≡ 20))
     → length (flat_map (plain_of rows) es) ≤ most → length (flat_map (plain_of rows) (entry h.0 o ++ es)) ≤ 202 + most
-entry_short rows h (Some v) es most narrow row taken amount rest =
-    let here = value_short h (row_at rows h.0) v narrow row taken amount in
+entry_short laws rows h (Some v) es most narrow row taken amount rest =
+    let here = value_short laws h (row_at rows h.0) v narrow row taken amount in
     omega (arith, length-append (plain_of rows (h.0, v)) (flat_map (plain_of rows) es))
-entry_short rows h None es most narrow row taken amount rest = omega arith
+entry_short laws rows h None es most narrow row taken amount rest = omega arith
 
-elements_short : (rows : List (Option FieldSpec)) (value : ℕ → Option (List ℕ)) (hs : List HostRow) → list_all is_narrow hs ≡ true → AreHostRows hs rows → ((n : ℕ) → IfSome (value n) (IsTaken rows n)) → ((n : ℕ) → (n == 54) ≡ true → IfSome (value n) (λ v. length v ≡ 20))
+elements_short : PartLaws → (rows : List (Option FieldSpec)) (value : ℕ → Option (List ℕ)) (hs : List HostRow) → list_all is_narrow hs ≡ true → AreHostRows hs rows → ((n : ℕ) → IfSome (value n) (IsTaken rows n)) → ((n : ℕ) → (n == 54) ≡ true → IfSome (value n) (λ v. length v ≡ 20))
     → length (flat_map (plain_of rows) (elements_at value (map (λ (h : HostRow). h.0) hs))) ≤ 202 * length hs
-elements_short rows value [] narrow good taken amount = omega arith
-elements_short rows value (h ∷ hs) narrow good taken amount =
+elements_short laws rows value [] narrow good taken amount = omega arith
+elements_short laws rows value (h ∷ hs) narrow good taken amount =
     let both = and_parts (is_narrow h) (list_all is_narrow hs) narrow in
-    let rest = elements_short rows value hs both.1 good.1 taken amount in
-    let whole = entry_short rows h (value h.0) (elements_at value (map (λ (k : HostRow). k.0) hs)) (202 * length hs) both.0 good.0 (taken h.0) (amount h.0) rest in
+    let rest = elements_short laws rows value hs both.1 good.1 taken amount in
+    let whole = entry_short laws rows h (value h.0) (elements_at value (map (λ (k : HostRow). k.0) hs)) (202 * length hs) both.0 good.0 (taken h.0) (amount h.0) rest in
     omega arith
 
 -- what is shown has twenty characters
@@ -117,17 +124,17 @@ type_short digits.Bcd n = omega arith
 
 -- ---- the whole response
 
-pub responses_short_lem : ResponsesAreShort
-responses_short_lem t m a out s plain =
+pub responses_short_lem : PartLaws → MapLaws → ResponsesAreShort
+responses_short_lem laws map_laws t m a out s plain =
     let value = element m a in
     let listed : (response m a).elements ≡ elements_at value (map (λ (h : HostRow). h.0) host_rows) = ap (λ (made : Contents). made.elements) (response-listed m a) in
     let maps = plain.spelling.maps in
     let parts = plain.spelling.parts in
     let bytes = ap length plain.spelling.bytes in
     let kind = type_short t.mti (response m a).mti in
-    let bitmaps = plain_maps_most t.bitmap _ maps plain.bitmaps in
+    let bitmaps = map_laws.short t.bitmap _ maps plain.bitmaps in
     let written : length parts ≡ length (flat_map (plain_of t.rows) (elements_at value (map (λ (h : HostRow). h.0) host_rows))) = ap length (plain.parts ∙ ap (flat_map (plain_of t.rows)) listed) in
-    let elements = elements_short t.rows value host_rows refl s.ready.rows (element_taken t m a s) (amount_twenty m a s.shown) in
+    let elements = elements_short laws t.rows value host_rows refl s.ready.rows (element_taken laws t m a s) (amount_twenty m a s.shown) in
     let front = length-append (mti_bytes t.mti (response m a).mti) (maps ++ parts) in
     let behind = length-append maps parts in
     omega arith

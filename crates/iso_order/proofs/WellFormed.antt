@@ -1,5 +1,5 @@
 -- The response to a well-formed message is well formed.
-use Rattle.std.proofs.Common.{◌≡◌, ℕ, zero, suc, ◌+◌, ◌/◌, ◌%◌, ◌<◌, ◌≤◌, Bool, true, false, List, [], ◌∷◌, ◌++◌, Option, Some, None, refl, sym, subst, arith}
+use Rattle.std.proofs.Common.{◌≡◌, ◌≢◌, ℕ, zero, suc, ◌+◌, ◌/◌, ◌%◌, ◌<◌, ◌≤◌, Bool, true, false, List, [], ◌∷◌, ◌++◌, Option, Some, None, refl, sym, subst, arith}
 use Rattle.std.specs.Prelude.{ℤ, pos, int_lt, unsigned_abs, unwrap_or, ◌==◌, ◌||◌, if◌then◌else◌, IfSome, option_map}
 use Rattle.std.proofs.lemmas.Bool.{and_parts}
 use Rattle.std.proofs.lemmas.Bool.Decides.{nat_tests}
@@ -8,8 +8,6 @@ use Rattle.iso_wire.specs.Decimal.{decimal}
 use Rattle.iso_wire.specs.Elements.{value_in, is_number, IsAscending}
 use Rattle.iso_wire.specs.OneSpelling.{AreOfBytes, WellFormed}
 use Rattle.iso_wire.specs.Spelling.{AreBytes}
-use Rattle.iso_wire.proofs.Messages.{bytes_append}
-use Rattle.iso_wire.proofs.Orders.{IsAscending-one, IsAscending-from}
 use Rattle.iso_order.specs.Fields.{asks, text}
 use Rattle.iso_order.specs.Fitting.{ResponsesAreWellFormed}
 use Rattle.iso_order.specs.Outcome.{Outcome}
@@ -26,9 +24,14 @@ bytes-more : (b : ℕ) (v : List ℕ) → b < 256 → AreBytes v → AreBytes (b
 bytes-more b v lt rest zero = lt
 bytes-more b v lt rest (suc i) = rest i
 
+bytes-append : (v w : List ℕ) → AreBytes v → AreBytes w → AreBytes (v ++ w)
+bytes-append [] w bytes more i = more i
+bytes-append (b ∷ v) w bytes more zero = bytes 0
+bytes-append (b ∷ v) w bytes more (suc i) = bytes-append v w (λ k. bytes (suc k)) more i
+
 bytes-decimal : (n v : ℕ) → AreBytes (decimal n v)
 bytes-decimal zero v = bytes-none
-bytes-decimal (suc n) v = bytes_append (decimal n (v / 10)) ((48 + v % 10) ∷ []) (bytes-decimal n (v / 10)) (bytes-more (48 + v % 10) [] (omega arith) bytes-none)
+bytes-decimal (suc n) v = bytes-append (decimal n (v / 10)) ((48 + v % 10) ∷ []) (bytes-decimal n (v / 10)) (bytes-more (48 + v % 10) [] (omega arith) bytes-none)
 
 sign_by : (t : Bool) → (if t then 68 else 67) < 256
 sign_by true = omega arith
@@ -39,7 +42,7 @@ bytes-additional currency z bytes =
     let amount = decimal 12 (unsigned_abs z) in
     let signed = bytes-more (sign z) amount (sign_by (int_lt z (pos 0))) (bytes-decimal 12 (unsigned_abs z)) in
     let rest : List ℕ = currency ++ sign z ∷ amount in
-    let whole = bytes_append currency (sign z ∷ amount) bytes signed in
+    let whole = bytes-append currency (sign z ∷ amount) bytes signed in
     bytes-more 48 (48 ∷ 48 ∷ 50 ∷ rest) (omega arith)
     (bytes-more 48 (48 ∷ 50 ∷ rest) (omega arith) (bytes-more 48 (50 ∷ rest) (omega arith) (bytes-more 50 rest (omega arith) whole)))
 
@@ -73,9 +76,17 @@ bytes-at value (n ∷ ns) each = bytes-entry n (value n) (elements_at value ns) 
 
 -- ---- their order
 
+-- a number that an element may have is at most 128, and not 65
+in-range : (n : ℕ) → is_number n ≡ true → (n ≤ 128) × (n ≢ 65)
+in-range n number = (grind (arith, nat_tests), (λ is. grind (arith, nat_tests)))
+
+ascending-from : (low high : ℕ) (es : Values) → low ≤ high → IsAscending high es → IsAscending low es
+ascending-from low high [] le rest = tt
+ascending-from low high (e ∷ es) le rest = (omega arith, rest.1, rest.2, rest.3)
+
 ascending-entry : (low n : ℕ) (v : Option (List ℕ)) (es : Values) → low ≤ n → is_number n ≡ true → IsAscending (n + 1) es → IsAscending low (entry n v ++ es)
-ascending-entry low n (Some v) es le number rest = let one = IsAscending-one n v number in (le, one.1, one.2, rest)
-ascending-entry low n None es le number rest = IsAscending-from low (n + 1) es (omega arith) rest
+ascending-entry low n (Some v) es le number rest = let range = in-range n number in (le, range.0, range.1, rest)
+ascending-entry low n None es le number rest = ascending-from low (n + 1) es (omega arith) rest
 
 ascending-at : (value : ℕ → Option (List ℕ)) (low : ℕ) (ns : List ℕ) → ascend low ns ≡ true → IsAscending low (elements_at value ns)
 ascending-at value low [] h = tt

@@ -4,6 +4,8 @@
 ghost use Rattle.iso_order.specs.Comparisons.{Comparisons};
 ghost use Rattle.iso_order.specs.Fitting.{ResponsesAreShort, ResponsesAreWellFormed, ResponsesFit};
 
+use iso_parts::laws::{bitmaps, parts};
+
 /// Keys, account numbers, acts and orders that compare alike are one.
 pub fn comparisons()
     ensures { Comparisons }
@@ -18,9 +20,14 @@ pub fn responses_are_well_formed()
 /// `pack` refuses none.
 pub fn responses_fit()
     ensures { ResponsesFit }
-{}
+{
+    parts();
+}
 
 /// Such a response, as `pack` writes it, has at most 9,999 bytes: each header can tell its length.
 pub fn responses_are_short()
     ensures { ResponsesAreShort }
-{}
+{
+    parts();
+    bitmaps();
+}
