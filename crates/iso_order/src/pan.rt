@@ -1,13 +1,15 @@
 //! Account numbers.
 
-ghost use Rattle.std.specs.Prelude.{◌≡◌, true};
-ghost use Rattle.iso_order.specs.Pan.{pan_of};
+ghost use Rattle.std.specs.Prelude.{◌≡◌, true, Some};
+ghost use Rattle.iso_order.specs.Pan.{hidden, masked, pan_of};
 
 use crate::text::number_of;
+use iso_wire::write_decimal;
 use std::marker::Model;
+use std::{fmt, str};
 
 /// An account number: 1 to 19 digits (element 2). `01` and `1` are two account numbers.
-#[derive(Clone, Copy, Debug, PartialEq, Eq, PartialOrd, Ord, Hash)]
+#[derive(Clone, Copy, PartialEq, Eq, PartialOrd, Ord, Hash)]
 pub struct Pan {
     digits: u64,
     len: u8,
@@ -54,5 +56,31 @@ impl Pan {
         ensures valid { is_pan self.now ≡ true }
     {
         self.len
+    }
+}
+
+/// Hides digits of an account number: of 13 or more all but the first six and the last four, of fewer all.
+fn hide(digits: &mut [u8])
+    ensures { digits.new ≡ hidden digits.old }
+{
+    let len = digits.len();
+    if len < 13 {
+        digits.fill(b'*');
+    } else {
+        digits[6..len - 4].fill(b'*');
+    }
+}
+
+/// Shows no account number in clear: of 13 or more digits the first six and the last four, and `*` for each other
+/// digit. Takes no memory.
+impl fmt::Debug for Pan {
+    ghost debug_output = { λ p. Some (masked p) };
+
+    fn fmt<W: fmt::Write>(&self, f: &mut fmt::Formatter<W>) -> fmt::Result {
+        let mut text = [0; 19];
+        let digits = &mut text[..self.len() as usize];
+        write_decimal(digits, self.digits());
+        hide(digits);
+        f.write_str(str::from_utf8(digits).map_err(|_| fmt::Error)?)
     }
 }
