@@ -1,9 +1,11 @@
 //! Values from outside, and that the calls succeed.
 
+mod logs;
+mod orders;
 mod responses;
 mod verdicts;
 
-use crate::Pan;
+use crate::{Money, Pan, TxKey};
 use iso_parts::Mti;
 use iso_wire::Message;
 use std::alloc::Global;
@@ -21,8 +23,34 @@ fn message(alloc: Global, mti: u16, elements: &[(u8, &[u8])]) -> Result<Message,
     Ok(message)
 }
 
-/// A payment of that type, with one element changed or left out.
-fn payment(alloc: Global, mti: u16, n: u8, value: Option<&[u8]>) -> Result<Message, Fail> {
+/// How a message differs from the usual one of its kind.
+#[derive(Clone, Copy)]
+enum Change {
+    Nothing,
+    Set(u8, &'static [u8]),
+    Without(u8),
+}
+
+/// The message of that type with the elements, but for the change.
+fn changed(
+    alloc: Global,
+    mti: u16,
+    elements: &[(u8, &[u8])],
+    change: Change,
+) -> Result<Message, Fail> {
+    let mut made = message(alloc, mti, elements)?;
+    match change {
+        Change::Nothing => {}
+        Change::Set(n, value) => made.set(n, value)?,
+        Change::Without(n) => {
+            made.unset(n);
+        }
+    }
+    Ok(made)
+}
+
+/// A payment of that type, but for the change.
+fn payment(alloc: Global, mti: u16, change: Change) -> Result<Message, Fail> {
     let elements: [(u8, &[u8]); 7] = [
         (2, ACCOUNT),
         (3, b"000000"),
@@ -32,19 +60,26 @@ fn payment(alloc: Global, mti: u16, n: u8, value: Option<&[u8]>) -> Result<Messa
         (32, b"12345"),
         (49, b"840"),
     ];
-    let mut made = message(alloc, mti, &elements)?;
-    change(&mut made, n, value)?;
-    Ok(made)
+    changed(alloc, mti, &elements, change)
 }
 
-fn change(message: &mut Message, n: u8, value: Option<&[u8]>) -> Result<(), Fail> {
-    match value {
-        Some(value) => message.set(n, value)?,
-        None => {
-            message.unset(n);
-        }
+/// The key of the payment of that type.
+fn key(base: u16) -> TxKey {
+    TxKey {
+        base,
+        stan: 7,
+        sent: 102_030_405,
+        acquirer: 12_345,
     }
-    Ok(())
+}
+
+fn money(digits: &[u8], amount: u64, currency: [u8; 3]) -> Result<Money, Fail> {
+    let pan = Pan::from_digits(digits).ok_or("no account number")?;
+    Ok(Money {
+        pan,
+        amount,
+        currency,
+    })
 }
 
 #[test]

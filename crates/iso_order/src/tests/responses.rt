@@ -1,6 +1,6 @@
 //! The responses that messages get.
 
-use super::{message, payment};
+use super::{Change, message, payment};
 use crate::{Act, Answer, Verdict, order_of, respond};
 use iso_wire::Message;
 use std::alloc::Global;
@@ -165,7 +165,7 @@ fn balances(rt: HostRuntime) -> Result<(), Fail> {
         ("twelve digits", -999_999_999_999, b"0002840D999999999999"),
     ];
     for (name, balance, text) in cases {
-        let inquiry = payment(rt.alloc(), 200, 3, Some(b"310000"))?;
+        let inquiry = payment(rt.alloc(), 200, Change::Set(3, b"310000"))?;
         let made = shown(rt.alloc(), &inquiry, balance)?;
         assert_eq!(rt; made.get(54), Some(text), "{name}");
         assert_eq!(rt; made.get(39), Some(b"00".as_slice()), "{name}");
