@@ -168,7 +168,7 @@ fn add_all(
 
 /// The response to a message, which asks for one: what the message has of the elements that are given back, the
 /// response code (element 39), where a payment is granted its approval number (38), and the balance that is
-/// shown (54).
+/// shown (54). Refuses only for want of memory: the message and the answer are lent to be read, and stay.
 pub fn respond(alloc: Global, message: &Message, answer: &Answer) -> Result<Message, NoMemory>
     // A request or an advice.
     requires asks { asks (function message.now) ≡ true }
