@@ -1,12 +1,12 @@
-pub mod Ascending
-pub mod Digits
-pub mod Fits
-pub mod Numbers
-pub mod Rows
-pub mod Same
-pub mod Shown
-pub mod Sizes
-pub mod Table
-pub mod Valid
-pub mod WellFormed
+mod Ascending
 mod Codes
+mod Digits
+mod Fits
+mod Numbers
+mod Rows
+mod Same
+mod Shown
+mod Sizes
+mod Table
+mod Valid
+mod WellFormed
