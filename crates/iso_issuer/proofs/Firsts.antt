@@ -10,7 +10,7 @@ use Rattle.iso_issuer.specs.Journal.{firsts, is_entered, HasDistinctKeys}
 use Rattle.iso_issuer.proofs.Keys.{same_key_is, same_key_self, same_key_sym}
 
 -- neither side of an `||` that is false
-neither : (p q : Bool) → p || q ≡ false → (p ≡ false) × (q ≡ false)
+pub neither : (p q : Bool) → p || q ≡ false → (p ≡ false) × (q ≡ false)
 neither true q h = cc
 neither false q h = (refl, h)
 

@@ -4,6 +4,8 @@ pub mod Index
 pub mod Changes
 pub mod Summed
 pub mod Firsts
+mod Kept
+mod Shown
 pub mod Entries
 pub mod Sums
 pub mod Room

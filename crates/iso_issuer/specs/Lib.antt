@@ -7,3 +7,5 @@ pub mod Decision
 pub mod Books
 pub mod Index
 pub mod Document
+pub mod Shown
+pub mod Laws

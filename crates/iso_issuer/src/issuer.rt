@@ -1,12 +1,13 @@
 //! The issuer.
 
-ghost use Rattle.std.specs.Prelude.{◌≡◌, ◌≤◌, ◌<◌, ◌↔◌, ◌++◌, ◌∷◌, [], IsTrue, false, length, IfOk, OnOk, OnErr, IfErr, IsOk, option_map};
+ghost use Rattle.std.specs.Prelude.{◌≡◌, ◌≢◌, ◌≤◌, ◌<◌, ◌↔◌, ◌++◌, ◌∷◌, [], IsTrue, true, false, length, take, IfOk, OnOk, OnErr, IfErr, IsOk, option_map};
 ghost use Rattle.iso_issuer.specs.declared.fault.Refused.TheVariants.{Memory};
 ghost use Rattle.iso_issuer.specs.Account.{account_of};
 ghost use Rattle.iso_issuer.specs.Journal.{firsts, is_entered, HasDistinctKeys};
 ghost use Rattle.iso_issuer.specs.Balance.{ledger, available};
 ghost use Rattle.iso_issuer.specs.Decision.{new_answer, reply};
 ghost use Rattle.iso_issuer.specs.Books.{journal, IsFullFor, IsRoomFor, IsRun, answered_of};
+ghost use Rattle.iso_issuer.specs.Shown.{is_shown_for};
 
 use crate::accounts::Accounts;
 use crate::balances::Balances;
@@ -85,6 +86,12 @@ impl Issuer {
 
         ensures answer { IfOk result (λ answer. answer ≡ reply self.old.accounts (journal self.old) order) }
         ensures entered { OnOk result (self.new ≡ record self.old { orders = firsts (self.old.orders ++ order ∷ []) }) }
+
+        // An inquiry alone shows a balance, of at most twelve digits.
+        ensures shown { IfOk result (λ answer. is_shown_for order.act answer.shown ≡ true) }
+
+        // Memory aside, the journal has the first order of each key, up to its limit.
+        ensures kept { result ≢ Err Refused.Memory → self.new ≡ record self.old { orders = take self.old.limit (firsts (self.old.orders ++ order ∷ [])) } }
 
         // A new key at the limit is refused as such, and nothing else is.
         ensures full { (result ≡ Err Refused.Full) ↔ IsFullFor self.old order.key }

@@ -10,6 +10,7 @@ mod document;
 mod fault;
 mod issuer;
 mod journal;
+pub mod laws;
 mod posting;
 
 pub use accounts::Accounts;

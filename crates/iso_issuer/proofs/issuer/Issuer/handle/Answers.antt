@@ -1,11 +1,16 @@
 use Rattle.std.proofs.Common.{◌≡◌, ap, sym, ◌∙◌, arith, ◌++◌, [], ◌∷◌}
-use Rattle.std.specs.Prelude.{is_some, Some, None, map}
+use Rattle.std.specs.Prelude.{is_some, Some, None, map, List}
 use Rattle.std.proofs.lemmas.Grind.{common_steps}
 use Rattle.std.proofs.lemmas.List.{length-map}
+use Rattle.iso_order.specs.Outcome.{Outcome}
 use Rattle.iso_issuer.specs.declared.journal.Entry.{Entry}
+use Rattle.iso_issuer.specs.Decision.{reply, reply_by, journal_of}
+use Rattle.iso_issuer.specs.Shown.{is_shown_for}
 use Rattle.iso_issuer.specs.Journal.{firsts, entry_at}
 use Rattle.iso_issuer.specs.Balances.{accounts_of}
 use Rattle.iso_issuer.proofs.Firsts.{firsts-known, firsts-new, firsts-distinct}
+use Rattle.iso_issuer.proofs.Kept.{kept-known, kept-new, kept-full, granted}
+use Rattle.iso_issuer.proofs.Shown.{reply-shown}
 use Rattle.iso_issuer.proofs.Entries.{entered-found, never}
 use Rattle.iso_issuer.proofs.issuer.Issuer.handle.Goals as goal
 
@@ -57,3 +62,41 @@ returns-else-len-self-clause-memory c = λ memory.
       below = omega (arith, length-map c.self.inside.journal (λ (e : Entry). e.order));
       new = entered-found c.self.inside.journal c.args.order.key ∙ ap is_some found;
     }
+
+pub returns-in-Some-clause-shown : goal.returns-in-Some-clause-shown
+returns-in-Some-clause-shown c =
+    let es = c.self.inside.journal in
+    let accounts = accounts_of c.self.inside.balances in
+    let orders = map (λ (e : Entry). e.order) es in
+    let found : entry_at es c.args.order.key ≡ Some c.in-Some.entry = cc in
+    let answer : c.repeated.result ≡ reply accounts (journal_of accounts orders) c.args.order =
+    c.repeated.ensures ∙ sym (ap (reply_by accounts es c.args.order) found) ∙ ap (λ (j : List Entry). reply accounts j c.args.order) c.self.invariant.0.decided in
+    ap (λ (a : Outcome). is_shown_for c.args.order.act a.shown) answer ∙ reply-shown accounts orders c.args.order
+
+pub returns-in-Some-clause-kept : goal.returns-in-Some-clause-kept
+returns-in-Some-clause-kept c = λ other.
+    let found : entry_at c.self.inside.journal c.args.order.key ≡ Some c.in-Some.entry = cc in
+    let orders = map (λ (e : Entry). e.order) c.self.inside.journal in
+    let same = kept-known c.self.inside.limit orders c.args.order c.self.invariant.0.distinct (omega (arith, c.self.invariant.0.few, length-map c.self.inside.journal (λ (e : Entry). e.order)))
+    (entered-found c.self.inside.journal c.args.order.key ∙ ap is_some found) in
+    rw (← c.self.view_is) (ap (λ xs. record { accounts = accounts_of c.self.inside.balances; limit = c.self.inside.limit; orders = xs }) (sym same))
+
+pub returns-then-len-self-clause-kept : goal.returns-then-len-self-clause-kept
+returns-then-len-self-clause-kept c = λ other.
+    let found : entry_at c.self.inside.journal c.args.order.key ≡ None = cc in
+    let orders = map (λ (e : Entry). e.order) c.self.inside.journal in
+    let same = kept-full c.self.inside.limit orders c.args.order c.self.invariant.0.distinct
+    (omega (arith, c.self.invariant.0.few, length-map c.self.inside.journal (λ (e : Entry). e.order), c.if-len-self.true, c.len.ensures))
+    (entered-found c.self.inside.journal c.args.order.key ∙ ap is_some found) in
+    rw (← c.self.view_is) (ap (λ xs. record { accounts = accounts_of c.self.inside.balances; limit = c.self.inside.limit; orders = xs }) (sym same))
+
+pub returns-else-len-self-clause-kept : goal.returns-else-len-self-clause-kept
+returns-else-len-self-clause-kept c = λ other.
+    let found : entry_at c.self.inside.journal c.args.order.key ≡ None = cc in
+    let orders = map (λ (e : Entry). e.order) c.self.inside.journal in
+    let same = kept-new c.self.inside.limit orders c.args.order c.self.invariant.0.distinct
+    (omega (arith, length-map c.self.inside.journal (λ (e : Entry). e.order)))
+    (entered-found c.self.inside.journal c.args.order.key ∙ ap is_some found) in
+    rw (← c.self.view_is)
+    (rw (← c.self.view_is) at (granted c.enter.result other c.enter.ensures.memory c.enter.ensures.entered)
+    ∙ ap (λ xs. record { accounts = accounts_of c.self.inside.balances; limit = c.self.inside.limit; orders = xs }) (sym same))
