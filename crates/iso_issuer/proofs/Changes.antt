@@ -4,14 +4,13 @@ use Rattle.std.proofs.Math.ListN.{set}
 use Rattle.std.specs.Prelude.{map, Some, None}
 use Rattle.std.specs.List.{position_from}
 use Rattle.iso_order.specs.Order.{same_pan}
-use Rattle.iso_order.proofs.Same.{same_pan_is}
 use Rattle.iso_issuer.specs.declared.account.Account.{Account}
 use Rattle.iso_issuer.specs.declared.balances.Balance.{Balance}
 use Rattle.iso_issuer.specs.declared.change.Change.{Change}
 use Rattle.iso_issuer.specs.Account.{account_of, HasDistinctNumbers}
 use Rattle.iso_issuer.specs.Balances.{accounts_of, added, posted}
 use Rattle.iso_issuer.specs.Index.{row_of}
-use Rattle.iso_issuer.proofs.Keys.{same_pan_sym}
+use Rattle.iso_issuer.proofs.Keys.{same_pan_is, same_pan_sym}
 use Rattle.iso_issuer.proofs.Places.{place-map}
 
 posted_if : (c : Change) (b : Balance) (t : Bool) → same_pan c.pan b.account.pan ≡ t → posted c b ≡ cond t (added c b) b

@@ -8,7 +8,6 @@ use Rattle.iso_order.specs.declared.key.TxKey.{TxKey}
 use Rattle.iso_order.specs.AccountNumber.{AccountNumber}
 use Rattle.iso_order.specs.Key.{same_key}
 use Rattle.iso_order.specs.Order.{same_pan}
-use Rattle.iso_order.proofs.Same.{same_key_is, same_pan_is}
 use Rattle.iso_issuer.specs.declared.account.Account.{Account}
 use Rattle.iso_issuer.specs.declared.balances.Balance.{Balance}
 use Rattle.iso_issuer.specs.declared.journal.Entry.{Entry}
@@ -16,6 +15,7 @@ use Rattle.iso_issuer.specs.Account.{account_of}
 use Rattle.iso_issuer.specs.Journal.{entry_at, is_reversed, names}
 use Rattle.iso_issuer.specs.Balances.{accounts_of, balance_at}
 use Rattle.iso_issuer.specs.Index.{key_cmp, place_of, pan_cmp, row_of}
+use Rattle.iso_issuer.proofs.Keys.{same_key_is, same_pan_is}
 use Rattle.iso_issuer.proofs.Places.{place-push, place-back, found-map}
 
 -- keys tie in their order where they are the same

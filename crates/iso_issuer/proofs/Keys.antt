@@ -15,5 +15,8 @@ same_key_self a = grind (arith, common_steps)
 pub same_key_sym : (a b : TxKey) → same_key a b ≡ same_key b a
 same_key_sym a b = grind (arith, common_steps)
 
+pub same_pan_is : (a b : AccountNumber) → same_pan a b ≡ true → a ≡ b
+same_pan_is a b h = grind (arith, common_steps)
+
 pub same_pan_sym : (a b : AccountNumber) → same_pan a b ≡ same_pan b a
 same_pan_sym a b = grind (arith, common_steps)
