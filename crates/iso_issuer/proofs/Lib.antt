@@ -5,6 +5,7 @@ pub mod Changes
 pub mod Summed
 pub mod Firsts
 mod Kept
+mod GoesOn
 mod Shown
 pub mod Entries
 pub mod Sums
