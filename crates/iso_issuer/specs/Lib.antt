@@ -9,3 +9,4 @@ pub mod Index
 pub mod Document
 pub mod Shown
 pub mod Laws
+pub mod FaultNumbers

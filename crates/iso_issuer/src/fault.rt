@@ -3,6 +3,7 @@
 ghost use Rattle.std.specs.Prelude.{◌≡◌};
 ghost use Rattle.iso_issuer.specs.declared.fault.AccountsFault.TheVariants as accounts;
 ghost use Rattle.iso_issuer.specs.declared.fault.Refused.TheVariants as refused;
+ghost use Rattle.iso_issuer.specs.FaultNumbers.{accounts_fault_number, refused_number};
 
 use std::alloc::{AllocError, AllocFailed};
 use thiserror::Error;
@@ -36,6 +37,34 @@ pub enum Refused {
     /// There was no memory for an order with a new key.
     #[error("memory ran out")]
     Memory,
+}
+
+impl AccountsFault {
+    /// The fault's number, as logs and monitors show it: 1 `NotJson`, 2 `Shape`, 3 `Twice`,
+    /// 4 `OutOfRange`, 5 `Memory`.
+    pub fn number(&self) -> u8
+        ensures { result ≡ accounts_fault_number self.now }
+    {
+        match self {
+            AccountsFault::NotJson => 1,
+            AccountsFault::Shape => 2,
+            AccountsFault::Twice(_) => 3,
+            AccountsFault::OutOfRange(_) => 4,
+            AccountsFault::Memory => 5,
+        }
+    }
+}
+
+impl Refused {
+    /// The fault's number, as logs and monitors show it: 1 `Full`, 2 `Memory`.
+    pub fn number(&self) -> u8
+        ensures { result ≡ refused_number self.now }
+    {
+        match self {
+            Refused::Full => 1,
+            Refused::Memory => 2,
+        }
+    }
 }
 
 impl From<AllocError> for AccountsFault {

@@ -5,6 +5,7 @@ use std::test::*;
 
 mod days;
 mod documents;
+mod faults;
 mod generated;
 mod scanning;
 mod wire;
@@ -101,15 +102,5 @@ fn runs(rt: HostRuntime) -> Result<(), Fail> {
     assert_eq!(rt; answers.as_slice(), expected.as_slice());
     assert_eq!(rt; issuer.len(), 1);
     assert_eq!(rt; issuer.ledger(account()?), Some(4000));
-    Ok(())
-}
-
-#[test]
-fn faults_are_told(rt: HostRuntime) -> Result<(), Fail> {
-    let fault = AccountsFault::Twice(1).to_string(rt.alloc())?;
-    assert_eq!(rt;
-        fault.as_str(),
-        "account 1 has the number of an earlier one"
-    );
     Ok(())
 }
