@@ -98,7 +98,12 @@ fn runs(rt: HostRuntime) -> Result<(), Fail> {
         seq: 1,
         shown: None,
     };
-    let expected = [Ok(answer), Ok(answer), Err(Refused::Full)];
+    // Where memory runs out (`rt try --test --fail-alloc N`), the next delivery is the first that is entered.
+    let first = match answers.as_slice() {
+        [Err(Refused::Memory), ..] => Err(Refused::Memory),
+        _ => Ok(answer),
+    };
+    let expected = [first, Ok(answer), Err(Refused::Full)];
     assert_eq!(rt; answers.as_slice(), expected.as_slice());
     assert_eq!(rt; issuer.len(), 1);
     assert_eq!(rt; issuer.ledger(account()?), Some(4000));

@@ -196,13 +196,16 @@ fn reversals_without_memory(rt: HostRuntime) -> Result<(), Fail> {
     let purchase = debit(200, 7, 1000)?;
     let reversal = undo(8, 200, 7)?;
     let mut issuer = issuer(rt.alloc(), 5000, 999_999)?;
-    // Where memory runs out (`rt try --test --fail-alloc N`), the reversal leaves no mark.
-    let (code, ledger) = match issuer.handle(reversal) {
-        Err(Refused::Memory) => (0, 4000),
-        answer => (21 + answer?.code, 5000),
+    // Where memory runs out (`rt try --test --fail-alloc N`), the reversal leaves no entry and no mark.
+    let (entries, code, ledger) = match issuer.handle(reversal) {
+        Err(Refused::Memory) => (0, 0, 4000),
+        answer => (1, 21 + answer?.code, 5000),
     };
+    assert_eq!(rt; issuer.len(), entries);
     assert_eq!(rt; issuer.handle(purchase)?.code, code);
     assert_eq!(rt; issuer.ledger(account()?), Some(ledger));
+    assert_eq!(rt; issuer.handle(reversal)?.code, 0);
+    assert_eq!(rt; (issuer.len(), issuer.ledger(account()?)), (2, Some(5000)));
     Ok(())
 }
 

@@ -16,6 +16,14 @@ fn accounts_are_read(rt: HostRuntime) -> Result<(), Fail> {
     Ok(())
 }
 
+/// What is wrong with a document; where memory runs out, the test ends.
+fn fault_in(alloc: Global, text: &[u8]) -> Result<Option<AccountsFault>, Fail> {
+    match Accounts::from_json(alloc, text) {
+        Err(AccountsFault::Memory) => Err("memory ran out")?,
+        judged => Ok(judged.err()),
+    }
+}
+
 #[test]
 fn documents_are_refused(rt: HostRuntime) -> Result<(), Fail> {
     for (name, text, fault) in [
@@ -32,8 +40,7 @@ fn documents_are_refused(rt: HostRuntime) -> Result<(), Fail> {
         ("an object", b"{\"accounts\":{}}", AccountsFault::Shape),
         ("a number", b"{\"accounts\":[1]}", AccountsFault::Shape),
     ] {
-        let fault_of = Accounts::from_json(rt.alloc(), text).err();
-        assert_eq!(rt; fault_of, Some(fault), "{name}");
+        assert_eq!(rt; fault_in(rt.alloc(), text)?, Some(fault), "{name}");
     }
     Ok(())
 }
@@ -41,7 +48,7 @@ fn documents_are_refused(rt: HostRuntime) -> Result<(), Fail> {
 /// What is wrong with a document of these accounts.
 fn fault_of(alloc: Global, accounts: &str) -> Result<Option<AccountsFault>, Fail> {
     let text = format!(in alloc; "{{\"accounts\":[{accounts}]}}")?;
-    Ok(Accounts::from_json(alloc, text.as_bytes()).err())
+    fault_in(alloc, text.as_bytes())
 }
 
 #[test]
