@@ -22,7 +22,7 @@ use Rattle.iso_host.specs.Counts.{Counts}
 use Rattle.iso_host.specs.Entering.{books_after, entered}
 use Rattle.iso_host.specs.Output.{IsAnswer, IsOutput}
 use Rattle.iso_host.specs.Served.{Served, Outcome, Cut, Cause, Reports, ReportsOneMore, one_more}
-use Rattle.iso_host.specs.Serving.{AnswersPart, AnswersWhole, SpendsOnWrite, Spends, FillsFrom, SpendsOnRead, Ends}
+use Rattle.iso_host.specs.Serving.{AnswersPart, AnswersWhole, SpendsOnWrite, Spends, TakesTurns, FillsFrom, SpendsOnRead, Ends}
 use Rattle.iso_host.specs.Writing.{WritesSome}
 use Rattle.iso_host.specs.declared.fault.Report.{Report}
 use Rattle.iso_host.specs.declared.fault.ServeFault.{ServeFault}
@@ -207,9 +207,9 @@ going_more t h unread left held written after old mid new before report items bo
   reports = reports_more t before report going.bodies body going.reports reports;
 }
 
-pub running_write : (reader_old r writer_old w w' : Counts) (turns left left' : ℕ) → Running reader_old r writer_old w turns left → Spends w w' left left' → Running reader_old r writer_old w' turns left'
-running_write reader_old r writer_old w w' turns left left' running spends = record {
-  calls = omega (arith, running.calls, spends.calls);
+pub running_write : (reader_old r writer_old w w' : Counts) (turns left left' : ℕ) → Running reader_old r writer_old w turns left → TakesTurns w w' left left' → Spends w w' left left' → Running reader_old r writer_old w' turns left'
+running_write reader_old r writer_old w w' turns left left' running takes spends = record {
+  calls = omega (arith, running.calls, takes);
   moved = omega (arith, running.moved, spends.moved);
   reader = running.reader;
   writer = spends.failures ∙ running.writer;

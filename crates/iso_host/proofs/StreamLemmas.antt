@@ -1,11 +1,12 @@
 -- What two calls of a stream do together.
-use Rattle.std.proofs.Common.{◌≡◌, ℕ, ◌+◌, ◌-◌, ◌<◌, List, length, take, drop, sym, subst, arith, ap, ◌∙◌, length-drop}
+use Rattle.std.proofs.Common.{◌≡◌, ℕ, ◌+◌, ◌-◌, ◌<◌, List, length, take, drop, sym, subst, arith, ap, ◌∙◌, inl, inr, length-drop}
 use Rattle.std.proofs.Math.Seq.{take-add, take-length}
 use Rattle.std.proofs.KnownBytes.{Appends-trans}
 use Rattle.std.specs.declared.option.Option.{Option}
 use Rattle.std.specs.Io.KnownBytes.{Appends}
 use Rattle.iso_host.specs.Counts.{Counts}
-use Rattle.iso_host.specs.Serving.{Spends}
+use Rattle.iso_host.specs.Served.{IsFlushed}
+use Rattle.iso_host.specs.Serving.{Spends, TakesTurns}
 use Rattle.iso_host.specs.Writing.{Moves}
 
 -- `&bs[at..]`, as a proof sees it
@@ -25,11 +26,23 @@ moves_more old mid new count n s k e =
     let failures : new.failures ≡ mid.failures = ap (λ (c : Counts). c.failures) e in
     record { calls = omega (arith, s.calls); moved = omega (arith, s.moved); failures = failures ∙ s.failures }
 
--- one more call, which moved a byte and took a turn
+-- one more call took a turn
+pub turns_more : (old mid new : Counts) (before left n : ℕ) → Spends old mid before left → TakesTurns old mid before left → 0 < left
+    → new ≡ record mid { calls = mid.calls + 1; moved = mid.moved + n; unflushed = mid.unflushed + n } → TakesTurns old new before (left - 1)
+turns_more old mid new before left n spends s h e =
+    let calls : new.calls ≡ mid.calls + 1 = ap (λ (c : Counts). c.calls) e in
+    omega (arith, s)
+
+-- and moved a byte
 pub spends_more : (old mid new : Counts) (before left n : ℕ) → Spends old mid before left → 0 < left → 0 < n
     → new ≡ record mid { calls = mid.calls + 1; moved = mid.moved + n; unflushed = mid.unflushed + n } → Spends old new before (left - 1)
 spends_more old mid new before left n s h k e =
     let calls : new.calls ≡ mid.calls + 1 = ap (λ (c : Counts). c.calls) e in
     let moved : new.moved ≡ mid.moved + n = ap (λ (c : Counts). c.moved) e in
     let failures : new.failures ≡ mid.failures = ap (λ (c : Counts). c.failures) e in
-    record { fewer = omega (arith, s.fewer); calls = omega arith; moved = omega arith; failures = failures ∙ s.failures }
+    record { fewer = omega (arith, s.fewer); moved = omega (arith, s.moved); failures = failures ∙ s.failures }
+
+-- flushed at one call and at the next
+pub flushed_more : (old mid new : Counts) → IsFlushed old mid → IsFlushed mid new → IsFlushed old new
+flushed_more old mid new first (inl none) = inl none
+flushed_more old mid new first (inr same) = subst (IsFlushed old) (sym same) first

@@ -1,5 +1,5 @@
 -- What a call of `serve` leaves.
-use Rattle.std.specs.Prelude.{◌≡◌, ◌≢◌, ℕ, ◌+◌, ◌-◌, ◌<◌, ◌≤◌, Bool, true, false, List, [], ◌++◌, length, take, Result, Ok, Err, if◌then◌else◌}
+use Rattle.std.specs.Prelude.{◌≡◌, ◌≢◌, ◌⊎◌, ℕ, ◌+◌, ◌-◌, ◌<◌, ◌≤◌, Bool, true, false, List, [], ◌++◌, length, take, Result, Ok, Err, if◌then◌else◌}
 use Rattle.std.specs.declared.option.Option.{Option}
 use Rattle.std.specs.Io.KnownBytes.{Appends, Consumes, IsAtEnd}
 use Rattle.std.specs.Io.Iter.{u64_saturate}
@@ -90,15 +90,25 @@ module _ (t : Layout) (h : Header) (unread left held written : Option (List ℕ)
 
 -- ---- flushing
 
--- no more bytes wait for a flush than before, wherever all answers were written
+-- no byte waits for a flush, or the writer wasn't called
+abbrev pub IsFlushed : Counts → Counts → Type 0
+IsFlushed old new = (new.unflushed ≡ 0) ⊎ (new ≡ old)
+
+-- wherever all answers were written, they were flushed
 abbrev pub Flushes : Counts → Counts → Result Report ServeFault → Type 0
-Flushes old new (Ok report) = new.unflushed ≤ old.unflushed
-Flushes old new (Err Read) = new.unflushed ≤ old.unflushed
-Flushes old new (Err BadHeader) = new.unflushed ≤ old.unflushed
-Flushes old new (Err CutFrame) = new.unflushed ≤ old.unflushed
+Flushes old new (Ok report) = IsFlushed old new
+Flushes old new (Err Read) = IsFlushed old new
+Flushes old new (Err BadHeader) = IsFlushed old new
+Flushes old new (Err CutFrame) = IsFlushed old new
 Flushes old new (Err Write) = Unit {0}
 Flushes old new (Err Memory) = Unit {0}
 Flushes old new (Err TooManyTurns) = Unit {0}
+
+-- ---- the turns
+
+-- the reads and writes together are at most so many
+abbrev pub WithinTurns : Counts → Counts → Counts → Counts → ℕ → Type 0
+WithinTurns reader_old reader_new writer_old writer_new turns = reader_new.calls + writer_new.calls ≤ reader_old.calls + writer_old.calls + turns
 
 -- ---- the cause of each end
 

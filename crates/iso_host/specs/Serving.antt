@@ -15,10 +15,13 @@ use Rattle.iso_host.specs.declared.fault.ServeFault.TheVariants.{Read, Write, Ba
 
 -- ---- writing
 
--- calls that took these turns, each of which moved a byte, and none of which failed
+-- each read or write took one of the turns
+abbrev pub TakesTurns : Counts → Counts → ℕ → ℕ → Type 0
+TakesTurns old new before left = new.calls + left ≡ old.calls + before
+
+-- each call moved a byte, and none failed
 pub record Spends (old new : Counts) (before left : ℕ) : Type 0 where
   pub fewer : left ≤ before
-  pub calls : new.calls + left ≡ old.calls + before
   pub moved : new.calls + old.moved ≤ old.calls + new.moved
   pub failures : new.failures ≡ old.failures
 

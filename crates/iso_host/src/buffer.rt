@@ -1,6 +1,6 @@
 //! The bytes that were read and not yet looked at.
 ghost use Rattle.std.specs.Prelude.{◌≡◌, ◌≤◌, drop, vec_len};
-ghost use Rattle.iso_host.specs.Serving.{FillsFrom, SpendsOnRead};
+ghost use Rattle.iso_host.specs.Serving.{FillsFrom, SpendsOnRead, TakesTurns};
 
 use crate::fault::ServeFault;
 use crate::streams::Inlet;
@@ -23,6 +23,7 @@ pub fn read_more<R: Inlet>(
     left: &mut u64,
 ) -> Result<usize, ServeFault>
     ensures bytes { FillsFrom (R.remaining reader.old) (R.remaining reader.new) buffer.old.items buffer.new.items result }
+    ensures turns { TakesTurns (R.counts reader.old) (R.counts reader.new) left.old left.new }
     ensures spent { SpendsOnRead (R.counts reader.old) (R.counts reader.new) left.old left.new result }
 {
     if *left == 0 {

@@ -1,9 +1,9 @@
 //! The engine: frames from a reader, and the frames of their responses to a writer.
-ghost use Rattle.std.specs.Prelude.{◌≡◌, ◌≤◌, OnOk};
+ghost use Rattle.std.specs.Prelude.{◌≡◌, OnOk};
 ghost use Rattle.iso_table.specs.HostReady.{IsHostReady};
 ghost use Rattle.iso_host.specs.Asking.{asked_of};
-ghost use Rattle.iso_host.specs.Served.{Outcome, Cause, Flushes, ReportsOneMore};
-ghost use Rattle.iso_host.specs.Serving.{AnswersInto, SpendsOnWrite, Ends};
+ghost use Rattle.iso_host.specs.Served.{Outcome, Cause, Flushes, IsFlushed, ReportsOneMore, WithinTurns};
+ghost use Rattle.iso_host.specs.Serving.{AnswersInto, SpendsOnWrite, TakesTurns, Ends};
 ghost use Rattle.iso_host.specs.Writing.{WritesFront};
 
 use crate::buffer::{drop_front, read_more};
@@ -26,6 +26,7 @@ const NO_FRAMES: Report = Report {
 /// Writes the bytes whole, and flushes. Each write takes one of the turns that are left.
 fn write_whole<W: Outlet>(writer: &mut W, bytes: &[u8], left: &mut u64) -> Result<(), ServeFault>
     ensures written { WritesFront (W.contents writer.old) (W.contents writer.new) bytes.now result }
+    ensures turns { TakesTurns (W.counts writer.old) (W.counts writer.new) left.old left.new }
     ensures spent { SpendsOnWrite (W.counts writer.old) (W.counts writer.new) left.old left.new result }
     ensures flushed { OnOk result ((W.counts writer.new).unflushed ≡ 0) }
 {
@@ -59,8 +60,9 @@ fn answer_body<W: Outlet>(
 ) -> Result<(), ServeFault>
     requires { IsHostReady table.now }
     ensures answered { AnswersInto table.now header issuer.old issuer.new body.now (W.contents writer.old) (W.contents writer.new) result }
+    ensures turns { TakesTurns (W.counts writer.old) (W.counts writer.new) left.old left.new }
     ensures spent { SpendsOnWrite (W.counts writer.old) (W.counts writer.new) left.old left.new result }
-    ensures flushed { OnOk result ((W.counts writer.new).unflushed ≤ (W.counts writer.old).unflushed) }
+    ensures flushed { OnOk result (IsFlushed (W.counts writer.old) (W.counts writer.new)) }
     ensures report { OnOk result (ReportsOneMore report.old report.new (asked_of table.now body.now)) }
 {
     let Ok(handled) = handle_body(alloc, table, header, issuer, body) else {
@@ -122,6 +124,9 @@ pub fn serve<R: Inlet, W: Outlet>(
         (W.contents writer.old) (W.contents writer.new) issuer.old issuer.new result }
     // Each answer is flushed.
     ensures flushed { Flushes (W.counts writer.old) (W.counts writer.new) result }
+    // However it ends, the reads and writes together are at most `turns`.
+    ensures turns { WithinTurns (R.counts reader.old) (R.counts reader.new)
+        (W.counts writer.old) (W.counts writer.new) turns }
     // Each end has its cause in the counts of the two streams.
     ensures cause { Cause (R.counts reader.old) (R.counts reader.new)
         (W.counts writer.old) (W.counts writer.new) turns result }

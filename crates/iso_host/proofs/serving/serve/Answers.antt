@@ -1,5 +1,6 @@
-use Rattle.std.proofs.Common.{List, subst, [], refl, arith, ℕ, length-drop}
+use Rattle.std.proofs.Common.{List, subst, [], refl, arith, ℕ, inr, length-drop}
 use Rattle.iso_host.proofs.ServeLemmas.{served_none, begins_at, begins_within, needs_at, going_more, going_read, running_write, running_read, stop_at, stop_reading, ends_whole}
+use Rattle.iso_host.proofs.StreamLemmas.{flushed_more}
 use Rattle.iso_host.specs.Serving.{Ends}
 use Rattle.iso_host.proofs.serving.serve.Goals as goal
 
@@ -12,7 +13,7 @@ frames-init g c = record {
     reports = record { frames = refl; answered = refl; silent = refl; unreadable = refl };
   };
   running = record { calls = omega arith; moved = omega arith; reader = refl; writer = refl };
-  flushed = omega arith;
+  flushed = inr refl;
 }
 
 pub returns-in-Err-answered-clause-outcome : goal.returns-in-Err-answered-clause-outcome
@@ -39,8 +40,8 @@ frames-preserved-in-Ok-Got g c =
     record {
       in_range = omega (arith, within.1, length-drop c.frames.at c.frames.buffer.items, c.frames.buffer.ok.0);
       going = going_more _ _ _ _ _ _ _ _ _ _ _ _ _ _ _ _ c.frames.invariant.going begins e.answered e.report;
-      running = running_write _ _ _ _ _ _ _ _ c.frames.invariant.running e.spent;
-      flushed = omega (arith, e.flushed, c.frames.invariant.flushed);
+      running = running_write _ _ _ _ _ _ _ _ c.frames.invariant.running e.turns e.spent;
+      flushed = flushed_more _ _ _ c.frames.invariant.flushed e.flushed;
     }
 
 pub returns-in-Err-read_more-clause-outcome : goal.returns-in-Err-read_more-clause-outcome

@@ -1,5 +1,6 @@
 use Rattle.std.proofs.Common.{◌+◌, ◌*◌, ◌-◌, ◌≤◌, vec_len, drop}
 use Rattle.iso_host.proofs.Running.{Going, Running}
+use Rattle.iso_host.specs.Served.{IsFlushed}
 use Rattle.iso_host.proofs.serving.serve.Given as goal
 
 abbrev pub invariant-frames : goal.invariant-frames
@@ -9,7 +10,7 @@ invariant-frames g l = record {
       (g.W.Outlet.contents l.writer) l.initial.issuer l.issuer l.report (drop l.at l.buffer.items);
   running : Running (g.R.Inlet.counts l.initial.reader) (g.R.Inlet.counts l.reader) (g.W.Outlet.counts l.initial.writer)
       (g.W.Outlet.counts l.writer) l.turns l.left;
-  flushed : (g.W.Outlet.counts l.writer).unflushed ≤ (g.W.Outlet.counts l.initial.writer).unflushed;
+  flushed : IsFlushed (g.W.Outlet.counts l.initial.writer) (g.W.Outlet.counts l.writer);
 }
 
 abbrev pub decreases-frames : goal.decreases-frames

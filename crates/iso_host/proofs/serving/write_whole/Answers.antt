@@ -1,5 +1,5 @@
 use Rattle.std.proofs.Common.{◌≡◌, ◌<◌, length, drop, take, ◌-◌, arith, length-drop, ap, ◌∙◌}
-use Rattle.iso_host.proofs.StreamLemmas.{rest_from, appends_more, spends_more}
+use Rattle.iso_host.proofs.StreamLemmas.{rest_from, appends_more, spends_more, turns_more}
 use Rattle.iso_host.proofs.serving.write_whole.Goals as goal
 
 pub loop-at-preserved : goal.loop-at-preserved
@@ -12,5 +12,6 @@ loop-at-preserved g c =
     record {
       in_range = omega (arith, c.in-Ok.ensures.bound, size);
       written = appends_more _ _ _ _ _ _ c.loop-at.invariant.written c.in-Ok.ensures.bytes;
+      turns = turns_more _ _ _ _ _ _ c.loop-at.invariant.spent c.loop-at.invariant.turns turn c.in-Ok.ensures.counts;
       spent = spends_more _ _ _ _ _ _ c.loop-at.invariant.spent turn some c.in-Ok.ensures.counts;
     }
