@@ -2,6 +2,7 @@ pub mod Asking
 pub mod Counted
 pub mod Counts
 pub mod Entering
+pub mod FaultNumbers
 pub mod Handled
 pub mod Output
 pub mod Served

@@ -1,4 +1,7 @@
 //! Why serving ends, and what came of it.
+ghost use Rattle.std.specs.Prelude.{◌≡◌};
+ghost use Rattle.iso_host.specs.FaultNumbers.{serve_fault_number};
+
 use thiserror::Error;
 
 /// Why serving ends before the end of the input.
@@ -22,6 +25,22 @@ pub enum ServeFault {
     /// More reads and writes were needed than the caller allows.
     #[error("too many reads and writes")]
     TooManyTurns,
+}
+
+impl ServeFault {
+    /// The fault's number, as logs and monitors show it: from 1 for a failed reader to 6 for too many reads and writes.
+    pub fn number(&self) -> u8
+        ensures { result ≡ serve_fault_number self.now }
+    {
+        match self {
+            ServeFault::Read => 1,
+            ServeFault::Write => 2,
+            ServeFault::BadHeader => 3,
+            ServeFault::CutFrame => 4,
+            ServeFault::Memory => 5,
+            ServeFault::TooManyTurns => 6,
+        }
+    }
 }
 
 /// How many frames came, by kind. The counts stop at the greatest number.
