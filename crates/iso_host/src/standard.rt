@@ -1,15 +1,65 @@
 //! A std reader or writer as an inlet or an outlet.
 ghost use Rattle.std.specs.Prelude.{◌≡◌};
+ghost use Rattle.std.specs.Io.{ReadsAtMost, WritesAtMost};
+ghost use Rattle.std.specs.Io.KnownBytes.{Keeps, ReadConsumes, WriteAppends};
 ghost use Rattle.iso_host.specs.Counts.{none_yet};
 ghost use Rattle.iso_host.specs.Standard.{counts_of, stream_of};
 
 use crate::counting::{Call, Tally};
 use crate::streams::{Failed, Inlet, Outlet};
-use std::io::{Read, Write};
+use std::io::{ErrorKind, Read, Write};
+
+/// The most times that a call is made which the system interrupts each time.
+const MOST_TRIES: u32 = 1_000;
+
+/// One read, made again where the system interrupted it.
+fn read_uninterrupted<S: Read>(stream: &mut S, buffer: &mut [u8]) -> Result<usize, Failed>
+    ensures bound { ReadsAtMost result buffer.new }
+    ensures bytes { ReadConsumes (S.remaining stream.old) (S.remaining stream.new) result buffer.new }
+{
+    for _ in 0..MOST_TRIES {
+        match stream.read(buffer) {
+            Ok(count) => return Ok(count),
+            Err(error) if error.kind() == ErrorKind::Interrupted => {}
+            Err(_) => return Err(Failed),
+        }
+    }
+    Err(Failed)
+}
+
+/// One write, made again where the system interrupted it.
+fn write_uninterrupted<S: Write>(stream: &mut S, bytes: &[u8]) -> Result<usize, Failed>
+    ensures bound { WritesAtMost result bytes.now }
+    ensures bytes { WriteAppends (S.contents stream.old) (S.contents stream.new) result bytes.now }
+{
+    for _ in 0..MOST_TRIES {
+        match stream.write(bytes) {
+            Ok(count) => return Ok(count),
+            Err(error) if error.kind() == ErrorKind::Interrupted => {}
+            Err(_) => return Err(Failed),
+        }
+    }
+    Err(Failed)
+}
+
+/// One flush, made again where the system interrupted it.
+fn flush_uninterrupted<S: Write>(stream: &mut S) -> Result<(), Failed>
+    ensures { Keeps (S.contents stream.old) (S.contents stream.new) }
+{
+    for _ in 0..MOST_TRIES {
+        match stream.flush() {
+            Ok(()) => return Ok(()),
+            Err(error) if error.kind() == ErrorKind::Interrupted => {}
+            Err(_) => return Err(Failed),
+        }
+    }
+    Err(Failed)
+}
 
 /// A std reader or writer, with the counts of its calls.
 ///
-/// A call that std answers with an error is `Failed`, and so is a write that takes none of at least one byte.
+/// A call that the system interrupts is made again, up to 1,000 times, and counts once. Any other call that std answers
+/// with an error is `Failed`, and so is a write that takes none of at least one byte.
 #[derive(Drop)]
 pub struct Std<S> {
     stream: S,
@@ -35,7 +85,7 @@ impl<S: Read> Inlet for Std<S> {
     ghost counts = { counts_of };
 
     fn read(&mut self, buffer: &mut [u8]) -> Result<usize, Failed> {
-        match self.stream.read(buffer) {
+        match read_uninterrupted(&mut self.stream, buffer) {
             Ok(count) => {
                 self.tally = self.tally.then(&Call::Read(count));
                 Ok(count)
@@ -54,7 +104,7 @@ impl<S: Write> Outlet for Std<S> {
     ghost counts = { counts_of };
 
     fn write(&mut self, bytes: &[u8]) -> Result<usize, Failed> {
-        match self.stream.write(bytes) {
+        match write_uninterrupted(&mut self.stream, bytes) {
             Ok(count) if count > 0 || bytes.is_empty() => {
                 self.tally = self.tally.then(&Call::Wrote(count));
                 Ok(count)
@@ -67,7 +117,7 @@ impl<S: Write> Outlet for Std<S> {
     }
 
     fn flush(&mut self) -> Result<(), Failed> {
-        match self.stream.flush() {
+        match flush_uninterrupted(&mut self.stream) {
             Ok(()) => {
                 self.tally = self.tally.then(&Call::Flushed);
                 Ok(())

@@ -1,7 +1,11 @@
 //! Streams in memory, whole and failing.
+mod frames;
+mod interruptions;
 mod serving;
+mod turns;
 
 use crate::fakes::{FewBytes, FewTaken};
+use crate::fault::ServeFault;
 use crate::standard::Std;
 use crate::streams::{Failed, Inlet, Outlet};
 use crate::writing::write_all;
@@ -112,4 +116,18 @@ fn flushes_after_no_bytes(rt: HostRuntime) {
     let mut writer = Std::new(&mut few);
     assert_eq!(rt; write_all(&mut writer, b""), Ok(()));
     assert_eq!(rt; few.flushes, 1);
+}
+
+#[test]
+fn each_fault_has_its_number(rt: HostRuntime) {
+    for (name, fault, wanted) in [
+        ("a failed reader", ServeFault::Read, 1),
+        ("a failed writer", ServeFault::Write, 2),
+        ("a header that isn't of digits", ServeFault::BadHeader, 3),
+        ("a cut frame", ServeFault::CutFrame, 4),
+        ("no memory", ServeFault::Memory, 5),
+        ("too many turns", ServeFault::TooManyTurns, 6),
+    ] {
+        assert_eq!(rt; fault.number(), wanted, "{name}");
+    }
 }

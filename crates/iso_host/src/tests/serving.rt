@@ -1,80 +1,12 @@
 //! Streams of frames whose bytes are known from outside.
 
+use super::frames::{
+    ACCOUNTS, ECHO, ECHOED, GRANTED, PURCHASE, REPEAT, issuer, joined, ledger, served,
+};
 use crate::fakes::{FewBytes, FewTaken};
 use crate::fault::{Report, ServeFault};
-use crate::laws::one_output;
-use crate::serving::serve;
-use crate::standard::Std;
 use iso_issuer::{Accounts, Issuer};
-use iso_order::Pan;
-use iso_table::Table;
-use iso_wire::Header;
-use std::alloc::Global;
 use std::test::Fail;
-
-/// A purchase of 10.00, and the same sent again.
-const PURCHASE: &[u8] =
-    b"02007220000100008000164111111111111111000000000000001000010203040500000705123458\
-40";
-
-const REPEAT: &[u8] =
-    b"02017220000100008000164111111111111111000000000000001000010203040500000705123458\
-40";
-
-/// The response to both.
-const GRANTED: &[u8] =
-    b"0210722000010600800016411111111111111100000000000000100001020304050000070512345000001\
-00840";
-
-/// An echo test, and its response.
-const ECHO: &[u8] = b"0800822000000000000004000000000000000102030405000001301";
-
-const ECHOED: &[u8] = b"081082200000020000000400000000000000010203040500000100301";
-
-const ACCOUNTS: &[u8] =
-    b"{\"accounts\":[{\"currency\":\"840\",\"opening\":5000,\"pan\":\"4111111111111111\"}]}";
-
-fn joined(alloc: Global, pieces: &[&[u8]]) -> Result<Vec<u8>, Fail> {
-    let mut bytes = Vec::new(alloc);
-    for piece in pieces {
-        bytes.extend_from_slice(piece)?;
-    }
-    Ok(bytes)
-}
-
-/// An issuer of one account, whose journal takes five orders.
-fn issuer(alloc: Global) -> Result<Issuer, Fail> {
-    Ok(Issuer::new(Accounts::from_json(alloc, ACCOUNTS)?, 5))
-}
-
-/// How serving the reader ends, frames behind four digits.
-fn served(
-    alloc: Global,
-    issuer: &mut Issuer,
-    reader: FewBytes,
-    writer: &mut FewTaken,
-    turns: u64,
-) -> Result<Result<Report, ServeFault>, Fail> {
-    let table = Table::ascii87(alloc)?;
-    table.host_ready()?;
-    let mut input = Std::new(reader);
-    let mut output = Std::new(writer);
-    let ended = serve(
-        alloc,
-        &table,
-        Header::Ascii4,
-        issuer,
-        &mut input,
-        &mut output,
-        turns,
-    );
-    Ok(ended)
-}
-
-fn ledger(issuer: &Issuer) -> Result<Option<i64>, Fail> {
-    let pan = Pan::from_digits(b"4111111111111111").ok_or("1 to 19 digits")?;
-    Ok(issuer.ledger(pan))
-}
 
 #[test]
 fn serves_in_pieces_of_any_size(rt: HostRuntime) -> Result<(), Fail> {
@@ -234,7 +166,6 @@ fn a_failing_flush_is_a_failing_write(rt: HostRuntime) -> Result<(), Fail> {
 
 #[test]
 fn nothing_to_serve(rt: HostRuntime) -> Result<(), Fail> {
-    one_output();
     let alloc = rt.alloc();
     let mut issuer = issuer(alloc)?;
     let reader = FewBytes {

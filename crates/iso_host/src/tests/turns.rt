@@ -1,0 +1,59 @@
+//! Each frame is answered before the next is read, and reads and writes are counted.
+
+use super::frames::{ECHO, ECHOED, issuer, joined, served};
+use crate::fakes::{FewBytes, FewTaken};
+use crate::fault::{Report, ServeFault};
+use std::test::Fail;
+
+#[test]
+fn answers_a_frame_before_it_reads_the_next(rt: HostRuntime) -> Result<(), Fail> {
+    let alloc = rt.alloc();
+    let input = joined(alloc, &[b"0055", ECHO, b"0055", ECHO])?;
+    let one = joined(alloc, &[b"0057", ECHOED])?;
+    let two = joined(alloc, &[b"0057", ECHOED, b"0057", ECHOED])?;
+    let none: &[u8] = b"";
+    let both = Report {
+        frames: 2,
+        answered: 2,
+        silent: 0,
+        unreadable: 0,
+    };
+    for (name, turns, wanted, written, flushes) in [
+        ("a read", 1, Err(ServeFault::TooManyTurns), none, 0),
+        (
+            "a read and a write",
+            2,
+            Err(ServeFault::TooManyTurns),
+            one.as_slice(),
+            1,
+        ),
+        (
+            "two reads and a write",
+            3,
+            Err(ServeFault::TooManyTurns),
+            one.as_slice(),
+            1,
+        ),
+        (
+            "two reads and two writes",
+            4,
+            Err(ServeFault::TooManyTurns),
+            two.as_slice(),
+            2,
+        ),
+        ("and the read at the end", 5, Ok(both), two.as_slice(), 2),
+    ] {
+        let mut issuer = issuer(alloc)?;
+        let reader = FewBytes {
+            bytes: &input,
+            piece: 59,
+            calls: 9,
+        };
+        let mut writer = FewTaken::new(alloc, 5000, 9, false);
+        let ended = served(alloc, &mut issuer, reader, &mut writer, turns)?;
+        assert_eq!(rt; ended, wanted, "{name}");
+        assert_eq!(rt; writer.taken.as_slice(), written, "{name}");
+        assert_eq!(rt; writer.flushes, flushes, "{name}");
+    }
+    Ok(())
+}
