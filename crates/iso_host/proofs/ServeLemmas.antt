@@ -12,14 +12,14 @@ use Rattle.iso_wire.specs.declared.header.Header.TheVariants.{Binary2, Ascii4, B
 use Rattle.iso_wire.specs.Frame.{frame_of, frames_of, NoFrame, Begins, NeedsMore, is_bad_header}
 use Rattle.iso_order.specs.declared.verdict.Verdict.{Verdict}
 use Rattle.iso_issuer.specs.Books.{Books}
-use Rattle.iso_issuer.specs.Journal.{HasDistinctKeys}
+use Rattle.iso_issuer.specs.Laws.{FirstsGoOn}
 use Rattle.iso_host.proofs.JournalLemmas.{books_more, books_none}
 use Rattle.iso_host.proofs.OutputLemmas.{frames_more, AllFit_more, output_none, output_more, output_front, front_more}
 use Rattle.iso_host.proofs.Running.{Going, Running}
 use Rattle.iso_host.proofs.StreamLemmas.{rest_from}
 use Rattle.iso_host.specs.Asking.{asked_of, count_asked, is_answered, is_silent, is_unreadable}
 use Rattle.iso_host.specs.Counts.{Counts}
-use Rattle.iso_host.specs.Entering.{books_after, entered}
+use Rattle.iso_host.specs.Entering.{books_after, entered, with_orders}
 use Rattle.iso_host.specs.Output.{IsAnswer, IsOutput}
 use Rattle.iso_host.specs.Served.{Served, Outcome, Cut, Cause, Reports, ReportsOneMore, one_more}
 use Rattle.iso_host.specs.Serving.{AnswersPart, AnswersWhole, SpendsOnWrite, Spends, TakesTurns, FillsFrom, SpendsOnRead, Ends}
@@ -30,20 +30,20 @@ use Rattle.iso_host.specs.declared.fault.ServeFault.TheVariants.{Read, Write, Ba
 
 module _ (t : Layout) (h : Header) (unread left held : Option (List ℕ)) (old : Books) where
   -- nothing is handled yet
-  pub served_none : (left ≡ unread) → length old.orders ≤ old.limit → HasDistinctKeys old.orders → (bytes : List ℕ) → bytes ≡ [] → Served t h unread left held held old old [] bytes
-  served_none same few distinct bytes none = record {
+  pub served_none : (left ≡ unread) → with_orders old [] ≡ old → (bytes : List ℕ) → bytes ≡ [] → Served t h unread left held held old old [] bytes
+  served_none same kept bytes none = record {
     read = subst (λ o. Consumes unread o bytes) (sym same) (subst (Consumes unread unread) (sym none) (Consumes-nil unread));
     fit = tt;
-    books = sym (books_none t old few distinct);
+    books = sym (books_none t old kept);
     bytes = [];
     output = output_none t h old;
     answers = Appends-nil held;
   }
 
-  module _ (written : Option (List ℕ)) (mid : Books) (bodies : List (List ℕ)) (bytes : List ℕ) (served : Served t h unread left held written old mid bodies bytes) where
+  module _ (go_on : FirstsGoOn) (written : Option (List ℕ)) (mid : Books) (bodies : List (List ℕ)) (bytes : List ℕ) (served : Served t h unread left held written old mid bodies bytes) where
     -- the journal goes on by the body's order
     entered_more : (new : Books) (body : List ℕ) → new ≡ entered t mid body → new ≡ books_after t old (bodies ++ body ∷ [])
-    entered_more new body enters = enters ∙ ap (λ (b : Books). entered t b body) served.books ∙ sym (books_more t old bodies body)
+    entered_more new body enters = enters ∙ ap (λ (b : Books). entered t b body) served.books ∙ sym (books_more go_on t old bodies body)
 
     -- the frame is the next one
     read_more : (body : List ℕ) (used : ℕ) → Begins h bytes body used → Consumes unread left (frames_of h (bodies ++ body ∷ []) ++ drop used bytes)
@@ -196,14 +196,14 @@ begins_within h bytes body used begins =
 -- ---- the loop
 
 -- the loop goes on behind the frame
-pub going_more : (t : Layout) (h : Header) (unread left held written after : Option (List ℕ)) (old mid new : Books) (before report : Report) (items body : List ℕ) (at used : ℕ)
+pub going_more : FirstsGoOn → (t : Layout) (h : Header) (unread left held written after : Option (List ℕ)) (old mid new : Books) (before report : Report) (items body : List ℕ) (at used : ℕ)
     → Going t h unread left held written old mid before (drop at items) → Begins h (drop at items) body used → AnswersWhole t h mid new body written after
     → ReportsOneMore before report (asked_of t body)
     → Going t h unread left held after old new report (drop (at + used) items)
-going_more t h unread left held written after old mid new before report items body at used going begins whole reports = record {
+going_more go_on t h unread left held written after old mid new before report items body at used going begins whole reports = record {
   bodies = going.bodies ++ body ∷ [];
   served = subst (Served t h unread left held after old new (going.bodies ++ body ∷ [])) (drop-drop used at items)
-      (served_more t h unread left held old written mid going.bodies (drop at items) going.served after new body used begins whole);
+      (served_more t h unread left held old go_on written mid going.bodies (drop at items) going.served after new body used begins whole);
   reports = reports_more t before report going.bodies body going.reports reports;
 }
 

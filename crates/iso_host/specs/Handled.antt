@@ -1,9 +1,7 @@
 -- What handling one body gives and leaves.
-use Rattle.std.specs.Prelude.{◌≡◌, ◌⊎◌, ℕ, ℤ, unsigned_abs, nat_le, Bool, true, ◌&&◌, List, [], IsTrue, Option, Some, None}
+use Rattle.std.specs.Prelude.{◌≡◌, ◌⊎◌, ℕ, List, [], IsTrue}
 use Rattle.iso_table.specs.Layout.{Layout}
 use Rattle.iso_wire.specs.declared.header.Header.{Header}
-use Rattle.iso_order.specs.declared.act.Act.{Act}
-use Rattle.iso_order.specs.Response.{is_inquiry_order}
 use Rattle.iso_issuer.specs.Books.{Books}
 use Rattle.iso_host.specs.declared.handling.Handled.{Handled}
 use Rattle.iso_host.specs.declared.handling.Handled.TheVariants.{Unreadable, Silent, Answered}
@@ -20,8 +18,3 @@ Handles t h books body (Answered bytes) = IsTrue (is_answered (asked_of t body))
 -- the books are as they were, or the body's order was entered, and the body has an answer
 abbrev pub EntersOrKeeps : Layout → Header → Books → Books → List ℕ → Type 0
 EntersOrKeeps t h old new body = (new ≡ old) ⊎ ((new ≡ entered t old body) × ((bytes : List ℕ) × IsAnswer t h old body bytes))
-
--- a balance of at most twelve digits is shown for an inquiry, and none for another act
-abbrev pub is_shown_for : Act → Option ℤ → Bool
-is_shown_for act None = true
-is_shown_for act (Some z) = nat_le (unsigned_abs z) 999999999999 && is_inquiry_order act

@@ -21,7 +21,7 @@ use Rattle.iso_host.specs.Entering.{books_after, is_full}
 -- the issuer's answer to an order, 96 where its journal is full
 abbrev pub outcome_for : Books → Instruction → Outcome
 outcome_for books o =
-    if is_full books.limit books.orders o.key then record { code = 96; seq = 0; shown = None }
+    if is_full books o.key then record { code = 96; seq = 0; shown = None }
     else reply books.accounts (journal books) o
 
 -- the answer to a verdict, where it is answered

@@ -1,16 +1,18 @@
 //! One body: what it asks, and the frame of its response.
-ghost use Rattle.std.specs.Prelude.{◌≡◌, ℕ, ◌≤◌, List, length, true, IfOk, OnOk, OnErr, IfSome, None, Some};
+ghost use Rattle.std.specs.Prelude.{◌≡◌, ℕ, ◌≤◌, List, [], ◌∷◌, length, true, IfOk, OnOk, OnErr, IfSome, None, Some};
 ghost use Rattle.iso_table.specs.HostReady.{IsHostReady};
 ghost use Rattle.iso_wire.specs.Refusal.{message_refusal};
 ghost use Rattle.iso_wire.specs.Spelling.{PlainSpelling, Spelling};
 ghost use Rattle.iso_order.specs.Fields.{function, asks};
 ghost use Rattle.iso_order.specs.Response.{response, is_showable};
 ghost use Rattle.iso_order.specs.Verdict.{verdict};
+ghost use Rattle.iso_issuer.specs.Shown.{is_shown_for};
 ghost use Rattle.iso_host.specs.Asking.{message_in, orders_in};
-ghost use Rattle.iso_host.specs.Entering.{entered, with_order, with_orders};
-ghost use Rattle.iso_host.specs.Handled.{Handles, EntersOrKeeps, is_shown_for};
+ghost use Rattle.iso_host.specs.Entering.{entered, with_orders};
+ghost use Rattle.iso_host.specs.Handled.{Handles, EntersOrKeeps};
 ghost use Rattle.iso_host.specs.Output.{outcome_for, outcome_of, IsFramed};
 
+use iso_issuer::laws::firsts_stay;
 use iso_issuer::{Issuer, Refused};
 use iso_order::laws::{responses_are_short, responses_are_well_formed, responses_fit};
 use iso_order::{Answer, NoMemory, Order, Verdict, order_of, respond};
@@ -55,7 +57,7 @@ fn whole_message(alloc: Global, table: &Table, body: &[u8]) -> Result<Option<Mes
 fn answer_order(issuer: &mut Issuer, order: Order) -> Result<Answer, NoMemory>
     ensures answer { IfOk result (λ answer. answer ≡ outcome_for issuer.old order) }
     ensures shown { IfOk result (λ answer. is_shown_for order.act answer.shown ≡ true) }
-    ensures entered { OnOk result (issuer.new ≡ record issuer.old { orders = with_order issuer.old.limit issuer.old.orders order }) }
+    ensures entered { OnOk result (issuer.new ≡ with_orders issuer.old (order ∷ [])) }
     ensures unchanged { OnErr result (issuer.new ≡ issuer.old) }
 {
     let _entries = issuer.len();
@@ -70,14 +72,23 @@ fn answer_order(issuer: &mut Issuer, order: Order) -> Result<Answer, NoMemory>
     }
 }
 
+/// Where no order comes, the books stay as they are.
+pub fn enters_nothing(issuer: &Issuer)
+    ensures { with_orders issuer.now [] ≡ issuer.now }
+{
+    firsts_stay();
+    let _entries = issuer.len();
+}
+
 /// The answer to a message, if it gets one. An order is entered before it is answered.
 fn answer_to(issuer: &mut Issuer, message: &Message) -> Result<Option<Answer>, NoMemory>
     ensures answer { IfOk result (λ answer. answer ≡ outcome_of issuer.old (verdict message.now)) }
     ensures asks { IfOk result (λ answer. IfSome answer (λ a. asks (function message.now) ≡ true)) }
     ensures shown { IfOk result (λ answer. IfSome answer (λ a. is_showable message.now a.shown ≡ true)) }
-    ensures entered { OnOk result (issuer.new ≡ record issuer.old { orders = with_orders issuer.old.limit issuer.old.orders (orders_in (Some (verdict message.now))) }) }
+    ensures entered { OnOk result (issuer.new ≡ with_orders issuer.old (orders_in (Some (verdict message.now)))) }
     ensures unchanged { OnErr result (issuer.new ≡ issuer.old) }
 {
+    enters_nothing(issuer);
     match order_of(message) {
         Verdict::Silent => Ok(None),
         Verdict::Reply(code) => Ok(Some(Answer {
@@ -166,6 +177,7 @@ pub fn handle_body(
     ensures entered { OnOk result (issuer.new ≡ entered table.now issuer.old body.now) }
     ensures memory { OnErr result (EntersOrKeeps table.now header issuer.old issuer.new body.now) }
 {
+    enters_nothing(issuer);
     let Some(message) = whole_message(alloc, table, body)? else {
         return Ok(Handled::Unreadable);
     };

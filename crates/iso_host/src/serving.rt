@@ -8,9 +8,10 @@ ghost use Rattle.iso_host.specs.Writing.{WritesFront};
 
 use crate::buffer::{drop_front, read_more};
 use crate::fault::{Report, ServeFault};
-use crate::handling::{Handled, handle_body};
+use crate::handling::{Handled, enters_nothing, handle_body};
 use crate::streams::{Inlet, Outlet};
 use iso_issuer::Issuer;
+use iso_issuer::laws::firsts_go_on;
 use iso_table::Table;
 use iso_wire::{Framed, Header, unframe};
 use std::alloc::Global;
@@ -131,7 +132,8 @@ pub fn serve<R: Inlet, W: Outlet>(
     ensures cause { Cause (R.counts reader.old) (R.counts reader.new)
         (W.counts writer.old) (W.counts writer.new) turns result }
 {
-    let _entries = issuer.len();
+    firsts_go_on();
+    enters_nothing(issuer);
     let mut left = turns;
     let mut report = NO_FRAMES;
     let mut buffer = Vec::new(alloc);

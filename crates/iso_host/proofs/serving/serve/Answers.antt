@@ -9,7 +9,7 @@ frames-init g c = record {
   in_range = omega arith;
   going = record {
     bodies = [];
-    served = served_none _ _ _ _ _ _ refl c.len-entries.ensures.few c.len-entries.ensures.distinct _ c.new-buffer.ensures.items;
+    served = served_none _ _ _ _ _ _ refl c.enters_nothing.ensures _ c.new-buffer.ensures.items;
     reports = record { frames = refl; answered = refl; silent = refl; unreadable = refl };
   };
   running = record { calls = omega arith; moved = omega arith; reader = refl; writer = refl };
@@ -21,7 +21,7 @@ returns-in-Err-answered-clause-outcome g c =
     let got = rw c.in-Ok-Got.field-0-is at c.in-Ok-Got.ensures.front in
     let begins = begins_at _ _ _ _ _ _ c.deref.ensures.value got in
     let e = c.in-Err-answered.ensures in
-    stop_at _ _ _ _ _ _ _ _ _ _ c.frames.invariant.going.served (Unit {0}) _ _ _ _ _ _ _ _ c.in-Err-answered.fault begins e.answered e.spent
+    stop_at _ _ _ _ _ _ c.firsts_go_on.ensures _ _ _ _ c.frames.invariant.going.served (Unit {0}) _ _ _ _ _ _ _ _ c.in-Err-answered.fault begins e.answered e.spent
 
 pub frames-smaller-in-Ok-Got : goal.frames-smaller-in-Ok-Got
 frames-smaller-in-Ok-Got g c =
@@ -39,7 +39,7 @@ frames-preserved-in-Ok-Got g c =
     let e = c.in_default.ensures in
     record {
       in_range = omega (arith, within.1, length-drop c.frames.at c.frames.buffer.items, c.frames.buffer.ok.0);
-      going = going_more _ _ _ _ _ _ _ _ _ _ _ _ _ _ _ _ c.frames.invariant.going begins e.answered e.report;
+      going = going_more c.firsts_go_on.ensures _ _ _ _ _ _ _ _ _ _ _ _ _ _ _ _ c.frames.invariant.going begins e.answered e.report;
       running = running_write _ _ _ _ _ _ _ _ c.frames.invariant.running e.turns e.spent;
       flushed = flushed_more _ _ _ c.frames.invariant.flushed e.flushed;
     }
@@ -49,7 +49,7 @@ returns-in-Err-read_more-clause-outcome g c =
     let got = rw c.in-Ok-More.field-0-is at c.in-Ok-More.ensures.front in
     let needs = needs_at _ _ _ _ c.deref.ensures.value got in
     let e = c.in-Err-read_more.ensures in
-    stop_reading _ _ _ _ _ _ _ _ _ _ c.frames.invariant.going.served _ _ _ _ _ _ _ c.in-Err-read_more.fault needs.no_frame e.bytes e.spent
+    stop_reading _ _ _ _ _ _ c.firsts_go_on.ensures _ _ _ _ c.frames.invariant.going.served _ _ _ _ _ _ _ c.in-Err-read_more.fault needs.no_frame e.bytes e.spent
 
 pub returns-in-Ok-eq0-clause-outcome : goal.returns-in-Ok-eq0-clause-outcome
 returns-in-Ok-eq0-clause-outcome g c =
