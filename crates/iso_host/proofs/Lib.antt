@@ -1,3 +1,4 @@
+mod BodyLemmas
 mod JournalLemmas
 mod OutputLemmas
 mod Running

@@ -1,9 +1,10 @@
 -- What the body of a frame asks.
-use Rattle.std.specs.Prelude.{ℕ, ◌==◌, Bool, true, false, List, [], ◌∷◌, ◌++◌, length, Option, Some, None, option_map, Result, Ok, Err, count_by, if◌then◌else◌}
-use Rattle.iso_table.specs.Layout.{Layout}
+use Rattle.std.specs.Prelude.{◌≡◌, ◌↔◌, ℕ, ◌==◌, Bool, true, false, List, [], ◌∷◌, ◌++◌, length, Option, Some, None, option_map, Result, Ok, Err, count_by, if◌then◌else◌}
+use Rattle.iso_table.specs.Layout.{Layout, AreGood}
 use Rattle.iso_wire.specs.declared.fault.UnpackFault.{UnpackFault}
 use Rattle.iso_wire.specs.Contents.{Contents}
 use Rattle.iso_wire.specs.Reading.{message_at}
+use Rattle.iso_wire.specs.Spelling.{AreBytes, Spelling}
 use Rattle.iso_order.specs.declared.verdict.Verdict.{Verdict}
 use Rattle.iso_order.specs.declared.verdict.Verdict.TheVariants.{Order, Reply, Silent}
 use Rattle.iso_order.specs.Order.{Instruction}
@@ -55,3 +56,9 @@ is_answered None = false
 -- how many of these bodies are of this kind
 abbrev pub count_asked : Layout → (Option Verdict → Bool) → List (List ℕ) → ℕ
 count_asked t kind bodies = count_by (λ body. kind (asked_of t body)) bodies
+
+-- ---- the grammar
+
+-- a body is read as a message exactly where the whole body spells the message
+abbrev pub BodiesAreSpellings : Type 0
+BodiesAreSpellings = (t : Layout) (m : Contents) (body : List ℕ) → AreGood t.rows → AreBytes body → (message_in t body ≡ Some m) ↔ Spelling t m body

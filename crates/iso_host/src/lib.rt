@@ -7,7 +7,7 @@
 //! - `Std`: a std reader as an inlet, a std writer as an outlet.
 //! - `Tally` and `Call`: the counts that an inlet or outlet of your own keeps. They cost nothing at run time.
 //! - `write_all`: whole bytes to an outlet, and a flush.
-//! - `laws`: bodies have one output.
+//! - `laws`: what a body asks is what it spells, and bodies have one output.
 #![tactic(auto)]
 
 mod buffer;
