@@ -1,10 +1,10 @@
 //! The engine of an issuer host: frames from a reader, and the frames of their responses to a writer.
 //!
 //! - `serve`: reads frames to the end of the input, hands each order to an issuer, and writes each response before the
-//!   next frame is looked at. `ServeFault` says why it ends before, `Report` what came.
+//!   next frame is looked at. `ServeFault` says why it ends before, also by a number, and `Report` what came.
 //! - `Inlet` and `Outlet`: a reader and a writer of bytes. Contracts see the bytes that are left or
 //!   held, where they are known, and exact counts of the calls, the bytes moved and the failures.
-//! - `Std`: a std reader as an inlet, a std writer as an outlet.
+//! - `Std`: a std reader as an inlet, a std writer as an outlet. A call that the system interrupts is made again.
 //! - `Tally` and `Call`: the counts that an inlet or outlet of your own keeps. They cost nothing at run time.
 //! - `write_all`: whole bytes to an outlet, and a flush.
 //! - `laws`: what a body asks is what it spells, and bodies have one output.
