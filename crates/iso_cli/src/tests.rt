@@ -1,5 +1,6 @@
 //! What the command answers, case by case.
 mod act;
+mod given;
 mod run;
 mod source;
 mod stop;

@@ -1,0 +1,82 @@
+//! The words that the program is given.
+
+ghost use Rattle.std.specs.Prelude.{◌≡◌, ◌≤◌, ◌⊎◌, IfOk, IfErr, map, string_bytes};
+ghost use Rattle.iso_cli.specs.declared.stop.Stop.TheVariants.{Words, Memory};
+
+use crate::act::act;
+use crate::source::Source;
+use crate::stop::{Stop, tell};
+use iso_host::{Inlet, Outlet};
+use std::alloc::{AllocError, Global};
+use std::env;
+use std::env::{Env, FillError};
+use std::io::ErrorKind;
+
+/// What a program is given, but its own name. The name is the first argument, and is never looked at.
+#[derive(Drop)]
+struct BehindName<'a, R> {
+    given: &'a R,
+}
+
+impl<'a, R: Env> Env for BehindName<'a, R> {
+    fn arg(&self, i: usize, buf: &mut [u8]) -> Result<usize, FillError> {
+        match i.checked_add(1) {
+            Some(behind) => self.given.arg(behind, buf),
+            None => Err(FillError::NotPresent),
+        }
+    }
+
+    fn var(&self, name: &str, buf: &mut [u8]) -> Result<usize, FillError> {
+        self.given.var(name, buf)
+    }
+
+    fn var_at(&self, i: usize, buf: &mut [u8]) -> Result<usize, FillError> {
+        self.given.var_at(i, buf)
+    }
+}
+
+/// The words behind the program's name. A word that isn't UTF-8 is none of a command line.
+fn given_words<R: Env>(alloc: Global, given: &R) -> Result<Vec<String>, Stop>
+    ensures { IfErr result (λ stop. (stop ≡ Words) ⊎ (stop ≡ Memory)) }
+{
+    match env::args(&(BehindName { given }, alloc)) {
+        Ok(words) => {
+            let words: Result<Vec<String>, AllocError> = words.collect(alloc);
+            words.map_err(|_| Stop::Memory)
+        }
+        Err(error) if error.kind() == ErrorKind::OutOfMemory => Err(Stop::Memory),
+        Err(_) => Err(Stop::Words),
+    }
+}
+
+/// The words as texts.
+fn texts<'a>(alloc: Global, words: &'a [String]) -> Result<Vec<&'a str>, AllocError>
+    ensures { IfOk result (λ texts. map (λ text. text.now) texts.items ≡ map string_bytes words.now) }
+{
+    let mut texts = Vec::new(alloc);
+    for word in words {
+        texts.push(word.as_str())?;
+    }
+    Ok(texts)
+}
+
+/// Does what the words ask that the program is given, and gives the status. The program's name isn't judged.
+pub fn act_as_given<R: Env, S: Source, I: Inlet, O: Outlet, F: Outlet>(
+    alloc: Global,
+    given: &R,
+    source: &S,
+    input: &mut I,
+    output: &mut O,
+    faults: &mut F,
+) -> u8
+    ensures status { result ≤ 3 }
+{
+    let words = match given_words(alloc, given) {
+        Ok(words) => words,
+        Err(stop) => return tell(alloc, faults, stop),
+    };
+    match texts(alloc, &words) {
+        Ok(words) => act(alloc, &words, source, input, output, faults),
+        Err(_) => tell(alloc, faults, Stop::Memory),
+    }
+}

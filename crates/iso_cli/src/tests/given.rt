@@ -1,0 +1,142 @@
+//! The program's own arguments.
+ghost use Rattle.std.specs.Prelude.{None};
+
+use crate::given::act_as_given;
+use crate::source::{Source, SourceFault};
+use iso_host::Std;
+use std::alloc::Global;
+use std::env::{Env, FillError};
+
+/// A program's arguments, and an environment without variables.
+#[derive(Drop)]
+struct Arguments {
+    all: &'static [&'static [u8]],
+}
+
+impl Env for Arguments {
+    fn arg(&self, i: usize, buf: &mut [u8]) -> Result<usize, FillError> {
+        let Some(argument) = self.all.get(i) else {
+            return Err(FillError::NotPresent);
+        };
+        if argument.len() > buf.len() {
+            return Err(FillError::TooLong);
+        }
+        buf[..argument.len()].copy_from_slice(argument);
+        Ok(argument.len())
+    }
+
+    fn var(&self, _name: &str, _buf: &mut [u8]) -> Result<usize, FillError> {
+        Err(FillError::NotPresent)
+    }
+
+    fn var_at(&self, _i: usize, _buf: &mut [u8]) -> Result<usize, FillError> {
+        Err(FillError::NotPresent)
+    }
+}
+
+/// No file at any path.
+#[derive(Drop)]
+struct NoFiles;
+
+impl Source for NoFiles {
+    ghost file = { λ s path. None };
+
+    fn read(&self, _alloc: Global, _path: &str) -> Result<Vec<u8>, SourceFault> {
+        Err(SourceFault::File)
+    }
+}
+
+/// Arguments, the program's name first, and what they give over an empty input.
+#[derive(Drop)]
+struct Case {
+    name: &'static str,
+    arguments: &'static [&'static [u8]],
+    status: u8,
+    output: &'static [u8],
+    faults: &'static [u8],
+}
+
+const GOOD: &[u8] = b"OK version=0 rows=126 max=36470\n";
+
+#[test]
+fn the_words_are_those_behind_the_name(rt: HostRuntime) {
+    for case in [
+        Case {
+            name: "a table that is good",
+            arguments: &[b"iso_cli", b"check", b"ascii87"],
+            status: 0,
+            output: GOOD,
+            faults: b"",
+        },
+        Case {
+            name: "a name that isn't UTF-8",
+            arguments: &[b"/opt/\xFF\xFE/iso_cli", b"check", b"ascii87"],
+            status: 0,
+            output: GOOD,
+            faults: b"",
+        },
+        Case {
+            name: "an empty name",
+            arguments: &[b"", b"check", b"ascii87"],
+            status: 0,
+            output: GOOD,
+            faults: b"",
+        },
+        Case {
+            name: "a name that isn't UTF-8, and no word",
+            arguments: &[b"\xC3"],
+            status: 1,
+            output: b"",
+            faults: b"refused: unpack Short element 0 at 0\n",
+        },
+        Case {
+            name: "not even a name",
+            arguments: &[],
+            status: 1,
+            output: b"",
+            faults: b"refused: unpack Short element 0 at 0\n",
+        },
+        Case {
+            name: "a path that isn't UTF-8",
+            arguments: &[b"iso_cli", b"check", b"\xFF.json"],
+            status: 2,
+            output: b"",
+            faults: b"command line refused\n",
+        },
+        Case {
+            name: "a first word that isn't UTF-8",
+            arguments: &[b"iso_cli", b"chec\xE2\x80"],
+            status: 2,
+            output: b"",
+            faults: b"command line refused\n",
+        },
+        Case {
+            name: "a path in other letters",
+            arguments: &[b"iso_cli", b"check", b"\xD1\x82.json"],
+            status: 3,
+            output: b"",
+            faults: b"failed: File\n",
+        },
+    ] {
+        let name = case.name;
+        let given = Arguments {
+            all: case.arguments,
+        };
+        let mut input = Std::new(b"".as_slice());
+        let mut written = Vec::new(rt.alloc());
+        let mut output = Std::new(&mut written);
+        let mut told = Vec::new(rt.alloc());
+        let mut faults = Std::new(&mut told);
+        let status = act_as_given(
+            rt.alloc(),
+            &given,
+            &NoFiles,
+            &mut input,
+            &mut output,
+            &mut faults,
+        );
+        assert_eq!(rt; status, case.status, "{name}");
+        assert_eq!(rt; written.as_slice(), case.output, "{name}");
+        assert_eq!(rt; told.as_slice(), case.faults, "{name}");
+    }
+}
