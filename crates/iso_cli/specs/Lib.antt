@@ -1,5 +1,6 @@
 pub mod Asks
 pub mod CommandLine
+pub mod FaultNumbers
 pub mod Files
 pub mod Inputs
 pub mod Stops
