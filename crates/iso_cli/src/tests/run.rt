@@ -10,7 +10,9 @@ use std::test::Fail;
 
 mod ends;
 mod frames;
+mod inquiries;
 mod orders;
+mod reads;
 mod words;
 
 /// Documents at the paths `table.json` and `accounts.json`.
@@ -118,6 +120,14 @@ fn joined(alloc: Global, pieces: &[&[u8]]) -> Result<Vec<u8>, Fail> {
 }
 
 fn runs(rt: &(impl Abort + AllocGlobal), cases: &[Case]) -> Result<(), Fail> {
+    runs_over(rt, &DOCUMENTS, cases)
+}
+
+fn runs_over(
+    rt: &(impl Abort + AllocGlobal),
+    documents: &Documents,
+    cases: &[Case],
+) -> Result<(), Fail> {
     let alloc = rt.alloc();
     for case in cases {
         let name = case.name;
@@ -132,7 +142,7 @@ fn runs(rt: &(impl Abort + AllocGlobal), cases: &[Case]) -> Result<(), Fail> {
         let status = act(
             alloc,
             &words,
-            &DOCUMENTS,
+            documents,
             &mut input,
             &mut output,
             &mut faults,

@@ -1,0 +1,63 @@
+//! What is available, as an inquiry shows it: twelve digits at most.
+
+use super::*;
+
+/// The response where 999,999,999,999 is available, where so much is missing, and where there is one more of either.
+const SHOWN_MOST: &[u8] =
+    b"0210622000010600840016411111111111111131000001020306000000090512345000001008400200002840C999999999999";
+
+const SHOWN_LEAST: &[u8] =
+    b"0210622000010600840016411111111111111131000001020306000000090512345000001008400200002840D999999999999";
+
+const NOT_SHOWN: &[u8] =
+    b"021062200001020080001641111111111111113100000102030600000009051234596840";
+
+/// Accounts of one, and what an inquiry into it gives.
+#[derive(Drop)]
+struct Shows {
+    name: &'static str,
+    accounts: &'static [u8],
+    output: &'static [&'static [u8]],
+}
+
+#[test]
+fn an_inquiry_shows_twelve_digits(rt: HostRuntime) -> Result<(), Fail> {
+    let cases = [
+        Shows {
+            name: "twelve digits",
+            accounts: b"{\"accounts\":[{\"currency\":\"840\",\"opening\":999999999999,\"pan\":\"4111111111111111\"}]}",
+            output: &[b"0101", SHOWN_MOST, b"0101", SHOWN_MOST],
+        },
+        Shows {
+            name: "thirteen digits",
+            accounts: b"{\"accounts\":[{\"currency\":\"840\",\"opening\":1000000000000,\"pan\":\"4111111111111111\"}]}",
+            output: &[b"0072", NOT_SHOWN, b"0072", NOT_SHOWN],
+        },
+        Shows {
+            name: "twelve digits below zero",
+            accounts: b"{\"accounts\":[{\"currency\":\"840\",\"opening\":-999999999999,\"pan\":\"4111111111111111\"}]}",
+            output: &[b"0101", SHOWN_LEAST, b"0101", SHOWN_LEAST],
+        },
+        Shows {
+            name: "thirteen digits below zero",
+            accounts: b"{\"accounts\":[{\"currency\":\"840\",\"opening\":-1000000000000,\"pan\":\"4111111111111111\"}]}",
+            output: &[b"0072", NOT_SHOWN, b"0072", NOT_SHOWN],
+        },
+    ];
+    for case in &cases {
+        let documents = Documents {
+            accounts: case.accounts,
+            ..DOCUMENTS
+        };
+        let asked_twice = Case {
+            name: case.name,
+            header: "ascii4",
+            input: &[b"0070", INQUIRY, b"0070", INQUIRY_REPEAT],
+            status: 0,
+            output: case.output,
+            faults: b"frames=2 answered=2 silent=0 unreadable=0\n",
+        };
+        runs_over(&rt, &documents, &[asked_twice])?;
+    }
+    Ok(())
+}
