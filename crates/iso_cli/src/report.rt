@@ -1,6 +1,6 @@
 //! The line that tells what came of the frames.
 
-ghost use Rattle.std.specs.Prelude.{◌≤◌};
+ghost use Rattle.std.specs.Prelude.{◌≡◌, ◌⊎◌};
 
 use crate::stop::{Stop, tell, tell_line};
 use iso_host::{Outlet, Report};
@@ -21,7 +21,7 @@ fn report_line(alloc: Global, report: Report) -> Result<String, AllocError> {
 
 /// Writes the line, and gives the status: 0, or 3 where there is no memory for it or the fault stream fails.
 pub fn tell_report<F: Outlet>(alloc: Global, faults: &mut F, report: Report) -> u8
-    ensures { result ≤ 3 }
+    ensures { (result ≡ 0) ⊎ (result ≡ 3) }
 {
     match report_line(alloc, report) {
         Ok(line) => tell_line(faults, &line, 0),
