@@ -1,8 +1,8 @@
 //! The speed of the issuer.
 
-use crate::orders::{accounts, purchase, reversal};
+use crate::orders::{ACCOUNTS, AMOUNT, accounts, pan, purchase, reversal};
 use crate::speed::Speed;
-use anyhow::{Result, ensure};
+use anyhow::{Context, Result, ensure};
 use iso_issuer::Issuer;
 use iso_order::Order;
 use std::alloc::Global;
@@ -60,12 +60,27 @@ fn purchases(alloc: Global, from: u32, count: u32) -> Result<Vec<Order>> {
     Ok(orders)
 }
 
-/// The next reversals, of purchases that are spread over those from `from` to `to` and weren't reversed.
+/// The `i`th purchase that filling doesn't reverse: it reverses only those whose number 9 divides.
+fn kept(i: u32) -> u32 {
+    i.saturating_add(i / (TENTH - 2)).saturating_add(1)
+}
+
+/// How many of so many purchases filling doesn't reverse.
+fn kept_among(purchases: u32) -> u32 {
+    purchases - purchases.div_ceil(TENTH - 1)
+}
+
+/// The next reversals, each of another purchase that stands. They are spread over those from `from` to `to`.
 fn reversals(alloc: Global, next: u32, from: u32, to: u32, count: u32) -> Result<Vec<Order>> {
+    let (first, behind) = (kept_among(from), kept_among(to));
+    let stand = behind.saturating_sub(first);
+    ensure!(
+        stand >= count,
+        "too few purchases came since the size before"
+    );
     let mut orders = Vec::new(alloc);
     for i in 0..count {
-        let place = spread(from, to, count, i);
-        let original = place - place % (TENTH - 1) + 1;
+        let original = kept(spread(first, behind, count, i));
         orders.push(reversal(next.saturating_add(i), original)?)?;
     }
     Ok(orders)
@@ -116,7 +131,17 @@ impl Load {
         handed(rt, &mut self.issuer, &orders)
     }
 
-    /// Hands over so many reversals, of purchases behind the first `from`.
+    /// What all accounts have together.
+    fn held(&self) -> Result<i64> {
+        let mut held: i64 = 0;
+        for n in 0..ACCOUNTS {
+            let ledger = self.issuer.ledger(pan(n)?).context("an account")?;
+            held = held.saturating_add(ledger);
+        }
+        Ok(held)
+    }
+
+    /// Hands over so many reversals, of purchases behind the first `from`. Each has to give its amount back.
     fn hand_reversals(
         &mut self,
         rt: &impl Clock,
@@ -126,7 +151,12 @@ impl Load {
     ) -> Result<Speed> {
         let orders = reversals(alloc, self.reversals, from, self.purchases, count)?;
         self.reversals = self.reversals.saturating_add(count);
-        handed(rt, &mut self.issuer, &orders)
+        let before = self.held()?;
+        let speed = handed(rt, &mut self.issuer, &orders)?;
+        let given_back = self.held()?.saturating_sub(before);
+        let wanted = i64::from(count) * i64::from(AMOUNT);
+        ensure!(given_back == wanted, "a reversed purchase didn't stand");
+        Ok(speed)
     }
 }
 

@@ -7,7 +7,10 @@ use iso_wire::write_decimal;
 use std::alloc::Global;
 
 /// How many accounts there are.
-const ACCOUNTS: u32 = 1000;
+pub const ACCOUNTS: u32 = 1000;
+
+/// What each purchase takes.
+pub const AMOUNT: u32 = 1000;
 
 /// The number of the first account.
 const FIRST: u64 = 4_000_000_000_000_000;
@@ -32,13 +35,18 @@ pub fn accounts(alloc: Global) -> Result<Accounts> {
     Ok(Accounts::from_json(alloc, text.as_bytes())?)
 }
 
-/// An amount on the account of the `n`th order.
-fn money(n: u32) -> Result<Money> {
+/// The number of the account of the `n`th order.
+pub fn pan(n: u32) -> Result<Pan> {
     let mut digits = [0; 16];
     write_decimal(&mut digits, FIRST + u64::from(n % ACCOUNTS));
+    Pan::from_digits(&digits).context("16 digits")
+}
+
+/// An amount on the account of the `n`th order.
+fn money(n: u32) -> Result<Money> {
     Ok(Money {
-        pan: Pan::from_digits(&digits).context("16 digits")?,
-        amount: 1000,
+        pan: pan(n)?,
+        amount: u64::from(AMOUNT),
         currency: *b"840",
     })
 }
