@@ -1,6 +1,6 @@
 #!/bin/sh
 # How fast the command serves streams of frames, beside cat on the same bytes. Needs the command to be built.
-# ORDERS is how many orders the stream over 1,000 accounts has: 900,000 where it isn't set, 999,999 at most.
+# ORDERS is how many orders each stream of purchases has: 900,000 where it isn't set, 999,999 at most.
 set -eu
 cd "$(dirname "$0")/.."
 
@@ -109,7 +109,7 @@ measure echo "$folder/one.json" "$folder/stream"
 same 2000000 0057081082200000020000000400000000000000010203040500000100301 > "$folder/stream"
 measure silent "$folder/one.json" "$folder/stream"
 
-purchases 2000 1 4111111111111111 > "$folder/stream"
+purchases "$orders" 1 4111111111111111 > "$folder/stream"
 measure "one account" "$folder/one.json" "$folder/stream"
 
 purchases "$orders" 1000 400000000000 > "$folder/stream"
