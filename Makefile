@@ -1,24 +1,43 @@
-# make run    the echo test of examples/echo.txt through the command, which is built first where it isn't yet
-# make day    the frames of examples/day.txt through an issuer host, and each answer
-# make test   the whole gate: every proof, test, must-fail edit and program, from nothing
-# make check  the quick one: what changed since the last check
-# make bench  how fast the streams, the codec and the issuer are; ORDERS=2000 SIZES="100 1000" for fewer orders
+# make run     the echo test of examples/echo.txt, by the built command or else by the quick run
+# make test    every test and every stored run, without proofs; the last line is 'N passed, N failed'
+# make build   proves the command and what it stands on, and builds it: crates/iso_cli/out/iso_cli
+# make day     the frames of examples/day.txt through an issuer host, and each answer; builds the command
+# make check   proves what changed since the last check
+# make prove   the whole gate: every proof, must-fail edit, test and program, from nothing
+# make memory  the tests of a crate with each of its first allocations refused in turn: CRATE=iso_issuer FIRST=1 LAST=12
+# make bench   how fast the streams, the codec and the issuer are: ORDERS=2000 SIZES="100 1000" for fewer orders
+
+ifeq ($(shell command -v rt 2> /dev/null),)
+$(error the Rattle toolchain is missing: no program rt on the PATH)
+endif
 
 COMMAND := crates/iso_cli/out/iso_cli
 BENCH := crates/iso_bench/out/iso_bench
 ANSWERS := crates/iso_cli/out/answers.txt
 SOURCES := $(shell find crates -name out -prune -o -type f \( -name '*.rt' -o -name '*.antt' \) -print) crates.txt
+CRATE := iso_issuer
+FIRST := 1
+LAST := 12
 ORDERS := 900000
 SIZES := 10000 100000 900000
 
-.PHONY: run day test check bench
+.PHONY: run test build day check prove memory bench
 
-run: $(COMMAND)
-	@$(COMMAND) < examples/echo.txt
+run:
+	@if $(MAKE) --silent --no-print-directory --question $(COMMAND); then \
+	    $(COMMAND) < examples/echo.txt; \
+	else \
+	    scripts/echo.sh; \
+	fi
+
+test:
+	@scripts/test.sh
+
+build: $(COMMAND)
 
 day: $(COMMAND)
 	@$(COMMAND) run ascii87 examples/accounts.json ascii4 < examples/day.txt > $(ANSWERS)
-	@examples/show-answers.sh $(COMMAND) $(ANSWERS)
+	@examples/show-answers.sh $(COMMAND) ascii87 ascii4 $(ANSWERS)
 
 $(COMMAND): $(SOURCES)
 	cd crates/iso_cli && rt run < ../../examples/echo.txt > /dev/null
@@ -28,11 +47,14 @@ $(BENCH): $(SOURCES)
 	cd crates/iso_bench && rt run > /dev/null
 	@touch $@
 
-test:
-	rt ci
-
 check:
 	rt all check
+
+prove:
+	rt ci
+
+memory:
+	@scripts/memory.sh $(CRATE) $(FIRST) $(LAST)
 
 bench: $(COMMAND) $(BENCH)
 	@ORDERS=$(ORDERS) bench/streams.sh

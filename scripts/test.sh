@@ -1,0 +1,19 @@
+#!/bin/sh
+# Runs every test and every stored run, two crates side by side, without proving anything. The last line is
+# 'N passed, N failed'.
+set -u
+cd "$(dirname "$0")/.."
+
+folder=$(mktemp -d)
+trap 'rm -rf "$folder"' EXIT
+trap 'exit 1' HUP INT TERM
+
+# a script and a crate in each line: the crates that have tests, and the programs that have a stored run
+jobs() {
+    grep -rl --include='*.rt' '^ *#\[test\]' crates/*/src | cut -d/ -f2 | sort -u | sed 's|^|scripts/try-tests.sh |'
+    ls crates/*/stdout | cut -d/ -f2 | sed 's|^|scripts/try-runs.sh |'
+}
+
+jobs | xargs -P 2 -n 2 sh | tee "$folder/told"
+awk '/^iso_.* passed, .* failed$/ { passed += $2; failed += $(NF - 1) }
+    END { print passed + 0 " passed, " failed + 0 " failed"; exit failed > 0 || passed == 0 }' "$folder/told"

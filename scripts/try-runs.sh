@@ -1,0 +1,44 @@
+#!/bin/sh
+# Runs a program on its stored input, and the command on the examples too, without proving it. Prints each run that
+# failed, and a line of counts: try-runs.sh CRATE
+set -u
+cd "$(dirname "$0")/../crates/$1" || exit 1
+
+examples=../../examples
+folder=$(mktemp -d)
+trap 'rm -rf "$folder"' EXIT
+trap 'exit 1' HUP INT TERM
+cases=$folder/cases
+mkdir "$cases"
+
+# INPUT OUTPUT NAME WORD ..: a run on the words, and what it must write
+run() {
+    cp "$1" "$cases/$3"
+    cp "$2" "$cases/$3.stdout"
+    [ $# -eq 3 ] || (
+        name=$3
+        shift 3
+        printf '%s\n' "$@" > "$cases/$name.args"
+    )
+}
+
+run stdin stdout stored
+if [ "$1" = iso_cli ]; then
+    run "$examples/echo.txt" "$examples/expected/echo" echo
+    run "$examples/payment.txt" "$examples/expected/show" show show ascii87
+    run "$examples/echo.txt" "$examples/expected/convert" convert convert ascii87 bcd87
+    run /dev/null "$examples/expected/check" check check terminals.json
+    run "$examples/day.txt" "$examples/expected/day" day run ascii87 accounts.json ascii4
+fi
+
+rt try --cases "$cases" --data "accounts.json=$examples/accounts.json" --data terminals.json=../../tables/terminals.json \
+    > "$folder/told" 2> "$folder/faults"
+
+wanted=$(find "$cases" -name '*.stdout' | wc -l)
+passed=$(cat "$folder/told" "$folder/faults" | grep -c '^case=.* run=ended status=0 .* output=expected')
+failed=$((wanted - passed))
+if [ "$failed" -gt 0 ]; then
+    cat "$folder/told" "$folder/faults" | grep -v '^case=.* run=ended status=0 .* output=expected' \
+        | sed "s/^case=/FAILED $1: the run /"
+fi
+echo "$1: $passed runs passed, $failed failed"
