@@ -14,6 +14,20 @@ jobs() {
     ls crates/*/stdout | cut -d/ -f2 | sed 's|^|scripts/try-runs.sh |'
 }
 
-jobs | xargs -P 2 -n 2 sh | tee "$folder/told"
-awk '/^iso_.* passed, .* failed$/ { passed += $2; failed += $(NF - 1) }
+# the README's example is a test, word for word
+example() {
+    sed -n '/^```rust$/,/^```$/p' README.md | sed '1d;$d' > "$folder/example"
+    if cmp -s "$folder/example" crates/iso_host/src/tests/example.rt; then
+        echo "README.md: 1 example passed, 0 failed"
+    else
+        echo "FAILED README.md: its example isn't crates/iso_host/src/tests/example.rt"
+        echo "README.md: 0 examples passed, 1 failed"
+    fi
+}
+
+{
+    example
+    jobs | xargs -P 2 -n 2 sh
+} | tee "$folder/told"
+awk '/^[^ ]*: [0-9]* .*passed, [0-9]* failed$/ { passed += $2; failed += $(NF - 1) }
     END { print passed + 0 " passed, " failed + 0 " failed"; exit failed > 0 || passed == 0 }' "$folder/told"
