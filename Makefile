@@ -4,7 +4,7 @@
 # make day     the frames of examples/day.txt through an issuer host, and each answer; builds the command
 # make check   proves what changed since the last check
 # make prove   the whole gate: every proof, must-fail edit, test and program, from nothing
-# make memory  the tests of a crate with each of its first allocations refused in turn: CRATE=iso_issuer FIRST=12 LAST=23
+# make memory  the tests of a crate with each of its first allocations refused in turn: CRATE=iso_issuer FIRST=15 LAST=22
 # make bench   how fast the streams, the codec and the issuer are: ORDERS=2000 SIZES="100 1000" for fewer orders
 
 ifeq ($(shell command -v rt 2> /dev/null),)
@@ -16,8 +16,8 @@ BENCH := crates/iso_bench/out/iso_bench
 ANSWERS := crates/iso_cli/out/answers.txt
 SOURCES := $(shell find crates -name out -prune -o -type f \( -name '*.rt' -o -name '*.antt' \) -print) crates.txt
 CRATE := iso_issuer
-FIRST := 12
-LAST := 23
+FIRST := 15
+LAST := 22
 ORDERS := 900000
 SIZES := 10000 100000 900000
 
