@@ -2,7 +2,7 @@
 # Runs every test and every stored run, two crates side by side, without proving anything. The last line is
 # 'N passed, N failed'.
 set -u
-cd "$(dirname "$0")/.."
+cd "$(dirname "$0")/.." || exit 1
 
 folder=$(mktemp -d)
 trap 'rm -rf "$folder"' EXIT
