@@ -1,4 +1,5 @@
 //! Streams in memory, whole and failing.
+mod example;
 mod frames;
 mod interruptions;
 mod serving;
