@@ -1,9 +1,10 @@
 -- The places of keys and of accounts, and one more.
 use Rattle.std.proofs.Common.{◌≡◌, ℕ, Bool, true, false, cond, refl, arith, ap, sym, ◌∙◌, subst, List, [], ◌∷◌, ◌++◌, length}
-use Rattle.std.specs.Prelude.{Some, None, option_map, ◌||◌}
+use Rattle.std.specs.Prelude.{Option, Some, None, option_map}
+use Rattle.std.specs.Option.{option_or}
 use Rattle.std.specs.Ordering.{is_eq}
 use Rattle.std.proofs.lemmas.Grind.{common_steps}
-use Rattle.std.proofs.lemmas.List.Folds.{list_any-append}
+use Rattle.std.proofs.lemmas.List.Folds.{find-append}
 use Rattle.iso_order.specs.declared.key.TxKey.{TxKey}
 use Rattle.iso_order.specs.AccountNumber.{AccountNumber}
 use Rattle.iso_order.specs.Key.{same_key}
@@ -12,18 +13,19 @@ use Rattle.iso_issuer.specs.declared.account.Account.{Account}
 use Rattle.iso_issuer.specs.declared.balances.Balance.{Balance}
 use Rattle.iso_issuer.specs.declared.journal.Entry.{Entry}
 use Rattle.iso_issuer.specs.Account.{account_of}
-use Rattle.iso_issuer.specs.Journal.{entry_at, is_reversed, names}
+use Rattle.iso_issuer.specs.Effect.{is_key}
+use Rattle.iso_issuer.specs.Journal.{entry_at, undone, left_by, left_at, reversal_of}
 use Rattle.iso_issuer.specs.Balances.{accounts_of, balance_at}
 use Rattle.iso_issuer.specs.Index.{key_cmp, place_of, pan_cmp, row_of}
 use Rattle.iso_issuer.proofs.Keys.{same_key_is, same_pan_is}
 use Rattle.iso_issuer.proofs.Places.{place-push, place-back, found-map}
 
 -- keys tie in their order where they are the same
-key_tied : (k q : TxKey) → is_eq (key_cmp k q) ≡ same_key k q
+pub key_tied : (k q : TxKey) → is_eq (key_cmp k q) ≡ same_key k q
 key_tied k q = grind (arith, common_steps)
 
 -- account numbers tie in their order where they are the same
-pan_tied : (p q : AccountNumber) → is_eq (pan_cmp p q) ≡ same_pan p q
+pub pan_tied : (p q : AccountNumber) → is_eq (pan_cmp p q) ≡ same_pan p q
 pan_tied p q = grind (arith, common_steps)
 
 not_entered : (entries : List Entry) (k q : TxKey) → entry_at entries k ≡ None → same_key k q ≡ true → entry_at entries q ≡ None
@@ -42,13 +44,30 @@ pub place_of-back : (entries : List Entry) (k q : TxKey) (v : ℕ) → entry_at 
 place_of-back entries k q v new =
     place-back (λ x. same_key x.order.key q) entries (is_eq (key_cmp k q)) v (λ h. not_entered entries k q new (sym (key_tied k q) ∙ h))
 
-or_off : (b : Bool) → b || false ≡ b
-or_off true = refl
-or_off false = refl
+-- the first reversal of a key, after one entry more
+pub reversal-push : (es : List Entry) (e : Entry) (k : TxKey) →
+    reversal_of (es ++ e ∷ []) k ≡ option_or (reversal_of es k) (cond (is_key (undone e.order.act) k) (Some e) None)
+reversal-push es e k = find-append (λ (r : Entry). is_key (undone r.order.act) k) es (e ∷ [])
 
--- the keys that reversals name, after one entry more
-pub reversed-push : (es : List Entry) (e : Entry) (k : TxKey) → is_reversed (es ++ e ∷ []) k ≡ is_reversed es k || names e.order.act k
-reversed-push es e k = list_any-append (λ r. names r.order.act k) es (e ∷ []) ∙ ap (λ b. is_reversed es k || b) (or_off (names e.order.act k))
+-- what the first reversal of a key leaves, after one entry more
+pub left-push : (es : List Entry) (e : Entry) (k : TxKey) →
+    left_at (es ++ e ∷ []) k ≡ option_or (left_at es k) (cond (is_key (undone e.order.act) k) (Some (left_by e.order.act)) None)
+left-push es e k = ap (option_map (λ (r : Entry). left_by r.order.act)) (reversal-push es e k) ∙ either (reversal_of es k) (is_key (undone e.order.act) k)
+  where
+    either : (o : Option Entry) (b : Bool) → option_map (λ (r : Entry). left_by r.order.act) (option_or o (cond b (Some e) None))
+        ≡ option_or (option_map (λ (r : Entry). left_by r.order.act) o) (cond b (Some (left_by e.order.act)) None)
+    either None true = refl
+    either None false = refl
+    either (Some x) b = refl
+
+-- an entry that names another key leaves it
+pub left-kept : (es : List Entry) (e : Entry) (k : TxKey) → is_key (undone e.order.act) k ≡ false → left_at (es ++ e ∷ []) k ≡ left_at es k
+left-kept es e k other =
+    left-push es e k ∙ ap (λ b. option_or (left_at es k) (cond b (Some (left_by e.order.act)) None)) other ∙ or_none (left_at es k)
+  where
+    or_none : (o : Option ℕ) → option_or o None ≡ o
+    or_none None = refl
+    or_none (Some x) = refl
 
 -- the rows, after an account more of a new number
 pub row_of-push : (accounts : List Account) (a : Account) (q : AccountNumber) → account_of accounts a.pan ≡ None →

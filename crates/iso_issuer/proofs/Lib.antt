@@ -2,13 +2,17 @@ pub mod Keys
 pub mod Places
 pub mod Index
 pub mod Changes
-pub mod Summed
 pub mod Firsts
 mod Kept
 mod GoesOn
 mod Shown
 pub mod Entries
+pub mod Classes
+pub mod Touched
+pub mod Completions
+pub mod Counts
 pub mod Sums
+pub mod Summed
 pub mod Room
 pub mod Runs
 mod Members

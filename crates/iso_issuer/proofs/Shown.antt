@@ -4,7 +4,7 @@ use Rattle.std.specs.Prelude.{◌&&◌, nat_le, ℤ, pos, negsuc, unsigned_abs, 
 use Rattle.std.proofs.lemmas.Bool.Decides.{nat_tests}
 use Rattle.iso_order.specs.declared.key.TxKey.{TxKey}
 use Rattle.iso_order.specs.declared.act.Act.{Act}
-use Rattle.iso_order.specs.declared.act.Act.TheVariants.{Debit, Credit, Inquiry, Undo}
+use Rattle.iso_order.specs.declared.act.Act.TheVariants.{Debit, Credit, Inquiry, Undo, Complete}
 use Rattle.iso_order.specs.declared.act.Money.{Money}
 use Rattle.iso_order.specs.Key.{same_key}
 use Rattle.iso_order.specs.Order.{Instruction, same_act, same_order, same_currency}
@@ -50,7 +50,8 @@ new_by : (accounts : List Account) (before : List Entry) (key : TxKey) (act : Ac
 new_by accounts before key (Inquiry money) = inquiry_by before key money (account_of accounts money.pan)
 new_by accounts before key (Debit money) = nothing (Debit money) (eqb (code_of accounts before (record { key = key; act = Debit money })) 0)
 new_by accounts before key (Credit money) = nothing (Credit money) (eqb (code_of accounts before (record { key = key; act = Credit money })) 0)
-new_by accounts before key (Undo original) = nothing (Undo original) (eqb (code_of accounts before (record { key = key; act = Undo original })) 0)
+new_by accounts before key (Undo original left) = nothing (Undo original left) (eqb (code_of accounts before (record { key = key; act = Undo original left })) 0)
+new_by accounts before key (Complete money hold) = nothing (Complete money hold) (eqb (code_of accounts before (record { key = key; act = Complete money hold })) 0)
 
 new_shown : (accounts : List Account) (before : List Entry) (o : Instruction) → is_shown_for o.act (new_answer accounts before o).shown ≡ true
 new_shown accounts before o = new_by accounts before o.key o.act
@@ -75,7 +76,8 @@ inquiry_same : (a b : Act) → same_act a b ≡ true → is_inquiry_order a ≡ 
 inquiry_same (Debit a) (Debit b) h = refl
 inquiry_same (Credit a) (Credit b) h = refl
 inquiry_same (Inquiry a) (Inquiry b) h = refl
-inquiry_same (Undo a) (Undo b) h = refl
+inquiry_same (Undo a l) (Undo b n) h = refl
+inquiry_same (Complete a k) (Complete b l) h = refl
 inquiry_same a b h = cc
 
 -- what one act shows another act of the kind shows

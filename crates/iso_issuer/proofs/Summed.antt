@@ -1,6 +1,6 @@
 -- Balances that are sums over the journal.
-use Rattle.std.proofs.Common.{◌≡◌, Bool, true, false, cond, arith, refl, ap, sym, ◌∙◌, List, [], ◌∷◌, ◌++◌, length, length-append}
-use Rattle.std.specs.Prelude.{map, Option, Some, None, option_map, ℤ, pos, ◌+ℤ◌}
+use Rattle.std.proofs.Common.{◌≡◌, ℕ, Bool, true, false, cond, arith, refl, ap, sym, ◌∙◌, List, [], ◌∷◌, ◌++◌}
+use Rattle.std.specs.Prelude.{map, Option, Some, None, option_map, ◌&&◌, ℤ, pos, ◌+ℤ◌, ◌-ℤ◌}
 use Rattle.std.proofs.lemmas.Int.{ints}
 use Rattle.iso_order.specs.AccountNumber.{AccountNumber}
 use Rattle.iso_order.specs.Order.{same_pan}
@@ -8,13 +8,18 @@ use Rattle.iso_issuer.specs.declared.account.Account.{Account}
 use Rattle.iso_issuer.specs.declared.balances.Balance.{Balance}
 use Rattle.iso_issuer.specs.declared.journal.Entry.{Entry}
 use Rattle.iso_issuer.specs.Account.{account_of}
-use Rattle.iso_issuer.specs.Balance.{ledger, available}
-use Rattle.iso_issuer.specs.Balances.{accounts_of, balance_at, opened, posted, on_ledger, on_available}
+use Rattle.iso_issuer.specs.declared.effect.Effect.{Effect}
+use Rattle.iso_issuer.specs.declared.effect.Side.{Side}
+use Rattle.iso_issuer.specs.declared.effect.Side.TheVariants.{Given, Taken, Held}
+use Rattle.iso_issuer.specs.Effect.{effect_of, same_side}
+use Rattle.iso_issuer.specs.Journal.{weight, weight_at, effect_at, reversed_by, released_by, HasDistinctKeys}
+use Rattle.iso_issuer.specs.Balance.{ledger, available, ledger_share, available_share}
+use Rattle.iso_issuer.specs.Balances.{accounts_of, added, balance_at, opened, posted, moved, ledger_grown, available_grown, on_ledger, on_available}
 use Rattle.iso_issuer.specs.Index.{balance_on, AreSums, IsSummed}
 use Rattle.iso_issuer.specs.declared.change.Change.{Change}
 use Rattle.iso_issuer.proofs.Places.{found-map}
-use Rattle.iso_issuer.proofs.Changes.{accounts-posted}
-use Rattle.iso_issuer.proofs.Room.{near-opened, near-posted, near-more}
+use Rattle.iso_issuer.proofs.Room.{near-opened}
+use Rattle.iso_issuer.proofs.Sums.{AreApart, ledger-entered, available-entered}
 
 -- the balance of a number is that of its account
 pub balance-of : (entries : List Entry) (balances : List Balance) (pan : AccountNumber) → AreSums entries balances →
@@ -65,54 +70,105 @@ summed-first accounts balances of is = record {
   near = rw is (near-opened accounts);
 }
 
-changed_is : (t : Bool) (c : Change) (a : Account) (l v l' v' : ℤ) → l' ≡ l +ℤ cond t c.ledger (pos 0) → v' ≡ v +ℤ cond t c.available (pos 0) →
-    ◌≡◌ {A = Balance} (cond t (record { account = a; ledger = l +ℤ c.ledger; available = v +ℤ c.available }) (record { account = a; ledger = l; available = v }))
-    (record { account = a; ledger = l'; available = v' })
-changed_is true c a l v l' v' on free = cc
-changed_is false c a l v l' v' on free =
-    let same : l' ≡ l = omega (arith, ints, on) in
-    let left : v' ≡ v = omega (arith, ints, free) in
+rebuilt : (a : Account) (l v l' v' : ℤ) → l' ≡ l → v' ≡ v →
+    ◌≡◌ {A = Balance} (record { account = a; ledger = l; available = v }) (record { account = a; ledger = l'; available = v' })
+rebuilt a l v l' v' on free = cc
+
+moved_is : (t : Bool) (c : Change) (b : Balance) (dl dv : ℤ) → cond t c.ledger (pos 0) ≡ dl → cond t c.available (pos 0) ≡ dv →
+    cond t (added c b) b ≡ record { account = b.account; ledger = b.ledger +ℤ dl; available = b.available +ℤ dv }
+moved_is true c b dl dv on free = cc
+moved_is false c b dl dv on free =
+    let same : b.ledger +ℤ dl ≡ b.ledger = omega (arith, ints, on) in
+    let left : b.available +ℤ dv ≡ b.available = omega (arith, ints, free) in
+    rebuilt b.account _ _ _ _ same left
+
+-- what a change of weight adds, on each account
+pub grown-ledger : (f : Effect) (pan : AccountNumber) (before after : ℕ) →
+    cond (same_pan f.pan pan) (ledger_grown f.side (pos after -ℤ pos before)) (pos 0) ≡ ledger_share pan (Some f) after -ℤ ledger_share pan (Some f) before
+grown-ledger f pan before after = by_test f.side (same_pan f.pan pan)
+  where
+    by_test : (s : Side) (t : Bool) → cond t (ledger_grown s (pos after -ℤ pos before)) (pos 0)
+        ≡ pos (cond (same_side s Given && t) after 0) -ℤ pos (cond (same_side s Taken && t) after 0)
+        -ℤ (pos (cond (same_side s Given && t) before 0) -ℤ pos (cond (same_side s Taken && t) before 0))
+    by_test Given true = omega (arith, ints)
+    by_test Given false = omega (arith, ints)
+    by_test Taken true = omega (arith, ints)
+    by_test Taken false = omega (arith, ints)
+    by_test Held true = omega (arith, ints)
+    by_test Held false = omega (arith, ints)
+
+pub grown-available : (f : Effect) (pan : AccountNumber) (before after : ℕ) →
+    cond (same_pan f.pan pan) (available_grown f.side (pos after -ℤ pos before)) (pos 0) ≡ available_share pan (Some f) after -ℤ available_share pan (Some f) before
+grown-available f pan before after = by_test f.side (same_pan f.pan pan)
+  where
+    by_test : (s : Side) (t : Bool) → cond t (available_grown s (pos after -ℤ pos before)) (pos 0)
+        ≡ pos (cond (same_side s Given && t) after 0) -ℤ pos (cond (same_side s Taken && t) after 0) -ℤ pos (cond (same_side s Held && t) after 0)
+        -ℤ (pos (cond (same_side s Given && t) before 0) -ℤ pos (cond (same_side s Taken && t) before 0) -ℤ pos (cond (same_side s Held && t) before 0))
+    by_test Given true = omega (arith, ints)
+    by_test Given false = omega (arith, ints)
+    by_test Taken true = omega (arith, ints)
+    by_test Taken false = omega (arith, ints)
+    by_test Held true = omega (arith, ints)
+    by_test Held false = omega (arith, ints)
+
+-- the change of an entry's weight, posted
+pub posted-moved : (c : Change) (f : Option Effect) (before after : ℕ) →
+    ((pan : AccountNumber) → on_ledger (Some c) pan ≡ ledger_share pan f after -ℤ ledger_share pan f before) →
+    ((pan : AccountNumber) → on_available (Some c) pan ≡ available_share pan f after -ℤ available_share pan f before) →
+    (balances : List Balance) → map (posted c) balances ≡ map (moved f before after) balances
+posted-moved c f before after on free [] = refl
+posted-moved c f before after on free (b ∷ later) =
+    let head : posted c b ≡ moved f before after b =
+    moved_is (same_pan c.pan b.account.pan) c b _ _ (on b.account.pan) (free b.account.pan) in
+    let tail = posted-moved c f before after on free later in
     cc
 
-posted_are : (es : List Entry) (e : Entry) (c : Change) → ((a : Account) → ledger (es ++ e ∷ []) a ≡ ledger es a +ℤ on_ledger (Some c) a.pan)
-    → ((a : Account) → available (es ++ e ∷ []) a ≡ available es a +ℤ on_available (Some c) a.pan)
-    → (accounts : List Account) → map (posted c) (map (balance_on es) accounts) ≡ map (balance_on (es ++ e ∷ [])) accounts
-posted_are es e c on free [] = refl
-posted_are es e c on free (a ∷ later) =
-    let head : posted c (balance_on es a) ≡ balance_on (es ++ e ∷ []) a =
-    changed_is (same_pan c.pan a.pan) c a (ledger es a) (available es a) (ledger (es ++ e ∷ []) a) (available (es ++ e ∷ []) a) (on a) (free a) in
-    let tail = posted_are es e c on free later in
-    cc
-
-kept_are : (es : List Entry) (e : Entry) → ((a : Account) → ledger (es ++ e ∷ []) a ≡ ledger es a +ℤ pos 0) → ((a : Account) → available (es ++ e ∷ []) a ≡ available es a +ℤ pos 0)
-    → (accounts : List Account) → map (balance_on es) accounts ≡ map (balance_on (es ++ e ∷ [])) accounts
-kept_are es e on free [] = refl
-kept_are es e on free (a ∷ later) =
-    let same : ledger (es ++ e ∷ []) a ≡ ledger es a = on a ∙ zero_more (ledger es a) in
-    let left : available (es ++ e ∷ []) a ≡ available es a = free a ∙ zero_more (available es a) in
-    let tail = kept_are es e on free later in
-    cc
+-- nothing to post
+pub kept-moved : (f : Option Effect) (before after : ℕ) →
+    ((pan : AccountNumber) → pos 0 ≡ ledger_share pan f after -ℤ ledger_share pan f before) →
+    ((pan : AccountNumber) → pos 0 ≡ available_share pan f after -ℤ available_share pan f before) →
+    (balances : List Balance) → balances ≡ map (moved f before after) balances
+kept-moved f before after on free [] = refl
+kept-moved f before after on free (b ∷ later) =
+    let same : b.ledger +ℤ (ledger_share b.account.pan f after -ℤ ledger_share b.account.pan f before) ≡ b.ledger =
+    ap (λ z. b.ledger +ℤ z) (sym (on b.account.pan)) ∙ zero_more b.ledger in
+    let left : b.available +ℤ (available_share b.account.pan f after -ℤ available_share b.account.pan f before) ≡ b.available =
+    ap (λ z. b.available +ℤ z) (sym (free b.account.pan)) ∙ zero_more b.available in
+    ap (λ x. x ∷ later) (rebuilt b.account _ _ _ _ same left) ∙ ap (λ bs. moved f before after b ∷ bs) (kept-moved f before after on free later)
   where
     zero_more : (z : ℤ) → z +ℤ pos 0 ≡ z
     zero_more z = omega (arith, ints)
 
--- the balances after an entry that changes one of them
-pub summed-posted : (es : List Entry) (e : Entry) (balances : List Balance) (c : Change) → IsSummed es balances
-    → ((a : Account) → ledger (es ++ e ∷ []) a ≡ ledger es a +ℤ on_ledger (Some c) a.pan)
-    → ((a : Account) → available (es ++ e ∷ []) a ≡ available es a +ℤ on_available (Some c) a.pan)
-    → IsSummed (es ++ e ∷ []) (map (posted c) balances)
-summed-posted es e balances c summed on free = record {
-  sums =
-      ap (map (posted c)) summed.sums ∙ posted_are es e c on free (accounts_of balances)
-      ∙ ap (map (balance_on (es ++ e ∷ []))) (sym (accounts-posted c balances));
-  near = rw length-append (near-posted (length es) c balances summed.near);
-}
+-- the balances, after an entry, the one that it reverses, and the hold that it ends or gives back
+abbrev pub settled : List Entry → Entry → Balance → Balance
+settled es e b =
+    moved (effect_at (released_by es e.order)) (weight_at es (released_by es e.order)) (weight_at (es ++ e ∷ []) (released_by es e.order))
+    (moved (effect_at (reversed_by es e.order)) (weight_at es (reversed_by es e.order)) (weight_at (es ++ e ∷ []) (reversed_by es e.order))
+    (moved (effect_of e.order) 0 (weight (es ++ e ∷ []) e) b))
 
--- the balances after an entry that changes none
-pub summed-kept : (es : List Entry) (e : Entry) (balances : List Balance) → IsSummed es balances
-    → ((a : Account) → ledger (es ++ e ∷ []) a ≡ ledger es a +ℤ pos 0) → ((a : Account) → available (es ++ e ∷ []) a ≡ available es a +ℤ pos 0)
-    → IsSummed (es ++ e ∷ []) balances
-summed-kept es e balances summed on free = record {
-  sums = summed.sums ∙ kept_are es e on free (accounts_of balances);
-  near = near-more (length es) (length (es ++ e ∷ [])) balances (omega (arith, length-append es (e ∷ []))) summed.near;
-}
+settled_are : (es : List Entry) (e : Entry) → HasDistinctKeys (map (λ e. e.order) es) → AreApart es e.order → (accounts : List Account) →
+    map (settled es e) (map (balance_on es) accounts) ≡ map (balance_on (es ++ e ∷ [])) accounts
+settled_are es e distinct apart [] = refl
+settled_are es e distinct apart (a ∷ later) =
+    let head : settled es e (balance_on es a) ≡ balance_on (es ++ e ∷ []) a =
+    rebuilt a _ _ _ _ (ledger-entered es e a distinct apart) (available-entered es e a distinct apart) in
+    ap (λ b. b ∷ map (settled es e) (map (balance_on es) later)) head ∙ ap (λ bs. balance_on (es ++ e ∷ []) a ∷ bs) (settled_are es e distinct apart later)
+
+-- what weights change leaves the accounts
+pub accounts-settled : (es : List Entry) (e : Entry) (balances : List Balance) → accounts_of (map (settled es e) balances) ≡ accounts_of balances
+accounts-settled es e [] = refl
+accounts-settled es e (b ∷ later) = ap (λ xs. b.account ∷ xs) (accounts-settled es e later)
+
+pub settled-thrice : (es : List Entry) (e : Entry) (balances : List Balance) →
+    map (moved (effect_at (released_by es e.order)) (weight_at es (released_by es e.order)) (weight_at (es ++ e ∷ []) (released_by es e.order)))
+    (map (moved (effect_at (reversed_by es e.order)) (weight_at es (reversed_by es e.order)) (weight_at (es ++ e ∷ []) (reversed_by es e.order)))
+    (map (moved (effect_of e.order) 0 (weight (es ++ e ∷ []) e)) balances)) ≡ map (settled es e) balances
+settled-thrice es e [] = refl
+settled-thrice es e (b ∷ later) = ap (λ bs. settled es e b ∷ bs) (settled-thrice es e later)
+
+-- the balances stay sums
+pub sums-settled : (es : List Entry) (e : Entry) (balances : List Balance) → HasDistinctKeys (map (λ e. e.order) es) → AreApart es e.order → AreSums es balances →
+    AreSums (es ++ e ∷ []) (map (settled es e) balances)
+sums-settled es e balances distinct apart sums =
+    ap (map (settled es e)) sums ∙ settled_are es e distinct apart (accounts_of balances)
+    ∙ ap (map (balance_on (es ++ e ∷ []))) (sym (accounts-settled es e balances))

@@ -1,185 +1,103 @@
 -- The sums over a journal, after one entry more.
-use Rattle.std.proofs.Common.{◌≡◌, ℕ, Bool, true, false, not, refl, arith, ap, sym, ◌∙◌, subst, List, [], ◌∷◌, ◌++◌, ◌+◌, cond}
-use Rattle.std.specs.Prelude.{◌&&◌, ◌||◌, ◌==◌, Option, Some, None, map, sum_by, ℤ, pos, ◌+ℤ◌, ◌-ℤ◌, if◌then◌else◌}
+use Rattle.std.proofs.Common.{◌≡◌, ℕ, Bool, true, false, not, refl, arith, ap, sym, ◌∙◌, List, [], ◌∷◌, ◌++◌, ◌+◌, cond}
+use Rattle.std.specs.Prelude.{◌&&◌, Option, Some, None, map, ℤ, pos, ◌+ℤ◌, ◌-ℤ◌}
 use Rattle.std.proofs.lemmas.Int.{ints}
-use Rattle.std.proofs.lemmas.List.Sums.{sum_by-append, sum_by-cons}
 use Rattle.iso_order.specs.declared.key.TxKey.{TxKey}
-use Rattle.iso_order.specs.declared.act.Act.{Act}
-use Rattle.iso_order.specs.declared.act.Act.TheVariants.{Undo}
-use Rattle.iso_order.specs.Key.{same_key}
+use Rattle.iso_order.specs.AccountNumber.{AccountNumber}
 use Rattle.iso_order.specs.Order.{Instruction}
 use Rattle.iso_issuer.specs.declared.account.Account.{Account}
+use Rattle.iso_issuer.specs.declared.effect.Effect.{Effect}
+use Rattle.iso_issuer.specs.declared.effect.Side.{Side}
+use Rattle.iso_issuer.specs.declared.effect.Side.TheVariants.{Given, Taken, Held}
 use Rattle.iso_issuer.specs.declared.journal.Entry.{Entry}
-use Rattle.iso_issuer.specs.Journal.{entry_at, is_reversed, is_debit_or_credit, names, stands, HasDistinctKeys}
-use Rattle.iso_issuer.specs.Balance.{total, ledger, available, credit_to, debit_of, hold_on}
-use Rattle.iso_issuer.specs.Balances.{counted}
-use Rattle.iso_issuer.proofs.Keys.{same_key_is, same_key_sym}
-use Rattle.iso_issuer.proofs.Entries.{entered-found}
-use Rattle.iso_issuer.proofs.Documents.{is_none-of}
-use Rattle.iso_issuer.proofs.Index.{reversed-push}
+use Rattle.iso_issuer.specs.Effect.{effect_of, amount_of, is_on, is_key, same_side}
+use Rattle.iso_issuer.specs.Journal.{left_at, smaller, undone, counts_with, is_ended, weight, weight_at, effect_at, reversed_by, released_by, ended_key, HasDistinctKeys}
+use Rattle.iso_issuer.specs.Balance.{share, total, ledger, available, ledger_share, available_share}
+use Rattle.iso_issuer.proofs.Index.{left-kept}
+use Rattle.iso_issuer.proofs.Touched.{at, sum-entered-two}
+use Rattle.iso_issuer.proofs.Completions.{completed-kept}
 
-sum-same : {X : Type 0} (f g : X → ℕ) (xs : List X) → ((x : X) → f x ≡ g x) → sum_by f xs ≡ sum_by g xs
-sum-same f g [] h = refl
-sum-same f g (x ∷ xs) h = omega (arith, h x, sum-same f g xs h, sum_by-cons f x xs, sum_by-cons g x xs)
+-- ---- weights, after one entry more
 
-and_off : (b : Bool) → b && not true ≡ false
-and_off true = refl
-and_off false = refl
+-- a hold that an order doesn't touch is ended as before
+ended-kept : (es : List Entry) (e : Entry) (key : TxKey) (f : Option Effect) → HasDistinctKeys (map (λ e. e.order) es) →
+    is_key (ended_key es e.order) key ≡ false → is_ended (es ++ e ∷ []) key f ≡ is_ended es key f
+ended-kept es e key None distinct other = refl
+ended-kept es e key (Some f) distinct other = ap (λ b. same_side f.side Held && b) (completed-kept es e key f.pan distinct other)
 
-and_on : (b : Bool) → b && not false ≡ b
-and_on true = refl
-and_on false = refl
+-- an entry that an order doesn't touch keeps its weight
+pub weight-kept : (es : List Entry) (e x : Entry) → HasDistinctKeys (map (λ e. e.order) es) →
+    is_key (undone e.order.act) x.order.key ≡ false → is_key (ended_key es e.order) x.order.key ≡ false → weight (es ++ e ∷ []) x ≡ weight es x
+weight-kept es e x distinct other apart =
+    ap (λ o. cond (counts_with o x && not (is_ended (es ++ e ∷ []) x.order.key (effect_of x.order))) (smaller (amount_of (effect_of x.order)) o) 0)
+    (left-kept es e x.order.key other)
+    ∙ ap (λ b. cond (counts_with (left_at es x.order.key) x && not b) (smaller (amount_of (effect_of x.order)) (left_at es x.order.key)) 0)
+    (ended-kept es e x.order.key (effect_of x.order) distinct apart)
 
-or_off : (b : Bool) → b || false ≡ b
-or_off true = refl
-or_off false = refl
+-- the keys that an order touches are two
+abbrev pub AreApart : List Entry → Instruction → Type 0
+AreApart es o = (q : TxKey) → is_key (ended_key es o) q ≡ true → is_key (undone o.act) q ≡ false
 
-none_added : (n : ℕ) → 0 + n ≡ n
-none_added n = omega arith
-
--- what an entry that is found counts for
-abbrev pub found_amount : (Entry → Bool) → (Instruction → ℕ) → Option Entry → ℕ
-found_amount counts amount None = 0
-found_amount counts amount (Some e) = cond (counts e) (amount e.order) 0
-
--- the sum without what the entry under a key counts for
-sum-without : (counts : Entry → Bool) (amount : Instruction → ℕ) (k : TxKey) (es : List Entry) → HasDistinctKeys (map (λ e. e.order) es) →
-    sum_by (λ e. cond (counts e && not (same_key k e.order.key)) (amount e.order) 0) es + found_amount counts amount (entry_at es k)
-    ≡ sum_by (λ e. cond (counts e) (amount e.order) 0) es
-sum-without counts amount k [] distinct = refl
-sum-without counts amount k (e ∷ es) distinct = by_test (same_key e.order.key k) refl (sum-without counts amount k es distinct.1)
+-- the law: a sum grows by the weight of the new entry, and by the weight after less the weight before of the one that it reverses
+-- and of the hold that it ends or gives back
+pub total-entered : (side : Side) (pan : AccountNumber) (es : List Entry) (e : Entry) → HasDistinctKeys (map (λ e. e.order) es) → AreApart es e.order →
+    total side pan (es ++ e ∷ [])
+    + share side pan (effect_at (reversed_by es e.order)) (weight_at es (reversed_by es e.order))
+    + share side pan (effect_at (released_by es e.order)) (weight_at es (released_by es e.order))
+    ≡ total side pan es + share side pan (effect_of e.order) (weight (es ++ e ∷ []) e)
+    + share side pan (effect_at (reversed_by es e.order)) (weight_at (es ++ e ∷ []) (reversed_by es e.order))
+    + share side pan (effect_at (released_by es e.order)) (weight_at (es ++ e ∷ []) (released_by es e.order))
+total-entered side pan es e distinct apart =
+    let both = sum-entered-two (λ x. share side pan (effect_of x.order) (weight es x)) (λ x. share side pan (effect_of x.order) (weight (es ++ e ∷ []) x))
+    (undone e.order.act) (ended_key es e.order) es e distinct apart
+    (λ x other away. ap (share side pan (effect_of x.order)) (sym (weight-kept es e x distinct other away))) in
+    let r = each es (reversed_by es e.order) in
+    let s = each (es ++ e ∷ []) (reversed_by es e.order) in
+    let l = each es (released_by es e.order) in
+    let m = each (es ++ e ∷ []) (released_by es e.order) in
+    omega (arith, both, r, s, l, m)
   where
-    f : Entry → ℕ
-    f x = cond (counts x && not (same_key k x.order.key)) (amount x.order) 0
+    each : (j : List Entry) (o : Option Entry) → share side pan (effect_at o) (weight_at j o) ≡ at (λ x. share side pan (effect_of x.order) (weight j x)) o
+    each j None = refl
+    each j (Some x) = refl
 
-    g : Entry → ℕ
-    g x = cond (counts x) (amount x.order) 0
-
-    by_test : (b : Bool) → same_key e.order.key k ≡ b → sum_by f es + found_amount counts amount (entry_at es k) ≡ sum_by g es →
-        sum_by f (e ∷ es) + found_amount counts amount (cond b (Some e) (entry_at es k)) ≡ sum_by g (e ∷ es)
-    by_test true h rest =
-        let apart : entry_at es e.order.key ≡ None = is_none-of (entry_at es e.order.key) (sym (entered-found es e.order.key) ∙ distinct.0) in
-        let none : entry_at es k ≡ None = ap (entry_at es) (sym (same_key_is e.order.key k h)) ∙ apart in
-        let tail : sum_by f es + found_amount counts amount None ≡ sum_by g es = subst (λ o. sum_by f es + found_amount counts amount o ≡ sum_by g es) none rest in
-        let head : f e ≡ 0 = ap (λ b. cond (counts e && not b) (amount e.order) 0) (same_key_sym k e.order.key ∙ h) ∙ ap (λ b. cond b (amount e.order) 0) (and_off (counts e)) in
-        omega (arith, tail, head, sum_by-cons f e es, sum_by-cons g e es)
-    by_test false h rest =
-        let head : f e ≡ g e = ap (λ b. cond (counts e && not b) (amount e.order) 0) (same_key_sym k e.order.key ∙ h) ∙ ap (λ b. cond b (amount e.order) 0) (and_on (counts e)) in
-        omega (arith, rest, head, sum_by-cons f e es, sum_by-cons g e es)
-
--- an entry that is no reversal adds what it counts for itself
-total-push : (es : List Entry) (e : Entry) (amount : Instruction → ℕ) → ((k : TxKey) → names e.order.act k ≡ false) →
-    total amount (es ++ e ∷ []) ≡ total amount es + counted es amount (Some e)
-total-push es e amount none =
-    let same : (k : TxKey) → is_reversed (es ++ e ∷ []) k ≡ is_reversed es k = λ k. reversed-push es e k ∙ ap (λ b. is_reversed es k || b) (none k) ∙ or_off (is_reversed es k) in
-    sum-same (λ (x : Entry). cond (stands (es ++ e ∷ []) x) (amount x.order) 0) (λ (x : Entry). cond (stands es x) (amount x.order) 0) (es ++ e ∷ [])
-    (λ x. ap (λ b. cond (is_debit_or_credit x.order.act && (x.answer.code == 0) && not b) (amount x.order) 0) (same x.order.key))
-    ∙ sum_by-append (λ (x : Entry). cond (stands es x) (amount x.order) 0) es (e ∷ [])
-    ∙ ap (λ n. total amount es + n) (none_added (cond (stands es e) (amount e.order) 0))
-
--- a reversal takes back what the entry that it names counts for, if there is one and it stands
-total-undo : (es : List Entry) (e : Entry) (k : TxKey) (amount : Instruction → ℕ) → HasDistinctKeys (map (λ e. e.order) es) → e.order.act ≡ Undo k → amount e.order ≡ 0 →
-    total amount (es ++ e ∷ []) + counted es amount (entry_at es k) ≡ total amount es
-total-undo es e k amount distinct act nothing =
-    let split : total amount (es ++ e ∷ []) ≡ sum_by (λ (x : Entry). cond (stands (es ++ e ∷ []) x) (amount x.order) 0) es + cond (stands (es ++ e ∷ []) e) (amount e.order) 0
-    = sum_by-append (λ (x : Entry). cond (stands (es ++ e ∷ []) x) (amount x.order) 0) es (e ∷ [])
-    ∙ ap (λ n. sum_by (λ (x : Entry). cond (stands (es ++ e ∷ []) x) (amount x.order) 0) es + n) (none_added (cond (stands (es ++ e ∷ []) e) (amount e.order) 0)) in
-    let last : cond (stands (es ++ e ∷ []) e) (amount e.order) 0 ≡ 0 = ap (λ n. cond (stands (es ++ e ∷ []) e) n 0) nothing ∙ none_if (stands (es ++ e ∷ []) e) in
-    let rest : sum_by (λ (x : Entry). cond (stands (es ++ e ∷ []) x) (amount x.order) 0) es ≡ sum_by (λ (x : Entry). cond (stands es x && not (same_key k x.order.key)) (amount x.order) 0) es
-    = sum-same (λ (x : Entry). cond (stands (es ++ e ∷ []) x) (amount x.order) 0) (λ (x : Entry). cond (stands es x && not (same_key k x.order.key)) (amount x.order) 0) es
-    (λ x. ap (λ b. cond (is_debit_or_credit x.order.act && (x.answer.code == 0) && not b) (amount x.order) 0)
-    (reversed-push es e x.order.key ∙ ap (λ (a : Act). is_reversed es x.order.key || names a x.order.key) act)
-    ∙ ap (λ b. cond b (amount x.order) 0) (regroup (is_debit_or_credit x.order.act && (x.answer.code == 0)) (is_reversed es x.order.key) (same_key k x.order.key))) in
-    let found : found_amount (stands es) amount (entry_at es k) ≡ counted es amount (entry_at es k) = same_amount (entry_at es k) in
-    omega (arith, split, last, rest, found, sum-without (stands es) amount k es distinct)
+nothing : (side : Side) (pan : AccountNumber) (f : Option Effect) → share side pan f 0 ≡ 0
+nothing side pan f = none_if (is_on side pan f)
   where
     none_if : (b : Bool) → ◌≡◌ {A = ℕ} (cond b 0 0) 0
     none_if true = refl
     none_if false = refl
 
-    regroup : (a b c : Bool) → a && not (b || c) ≡ (a && not b) && not c
-    regroup true true c = refl
-    regroup true false c = refl
-    regroup false b c = refl
+-- ---- the law for balances: after an entry, the balance before and the weight after less the weight before of each entry that is touched
 
-    same_amount : (o : Option Entry) → found_amount (stands es) amount o ≡ counted es amount o
-    same_amount None = refl
-    same_amount (Some x) = refl
-
--- ---- the balances, after an entry that is no reversal
-
-pub ledger-entered : (es : List Entry) (e : Entry) (a : Account) (z : ℤ) → ((k : TxKey) → names e.order.act k ≡ false) →
-    z ≡ pos (counted es (credit_to a.pan) (Some e)) -ℤ pos (counted es (debit_of a.pan) (Some e)) →
-    ledger (es ++ e ∷ []) a ≡ ledger es a +ℤ z
-ledger-entered es e a z none is =
-    rw (total-push es e (credit_to a.pan) none, total-push es e (debit_of a.pan) none, is)
-    (regroup a.opening (total (credit_to a.pan) es) (total (debit_of a.pan) es) (counted es (credit_to a.pan) (Some e)) (counted es (debit_of a.pan) (Some e)))
+pub ledger-entered : (es : List Entry) (e : Entry) (a : Account) → HasDistinctKeys (map (λ e. e.order) es) → AreApart es e.order →
+    ledger (es ++ e ∷ []) a ≡ ledger es a
+    +ℤ (ledger_share a.pan (effect_of e.order) (weight (es ++ e ∷ []) e) -ℤ ledger_share a.pan (effect_of e.order) 0)
+    +ℤ (ledger_share a.pan (effect_at (reversed_by es e.order)) (weight_at (es ++ e ∷ []) (reversed_by es e.order))
+    -ℤ ledger_share a.pan (effect_at (reversed_by es e.order)) (weight_at es (reversed_by es e.order)))
+    +ℤ (ledger_share a.pan (effect_at (released_by es e.order)) (weight_at (es ++ e ∷ []) (released_by es e.order))
+    -ℤ ledger_share a.pan (effect_at (released_by es e.order)) (weight_at es (released_by es e.order)))
+ledger-entered es e a distinct apart =
+    regroup a.opening _ _ _ _ _ _ _ _ _ _ _ _ _ _ _ _
+    (total-entered Given a.pan es e distinct apart) (total-entered Taken a.pan es e distinct apart)
+    (nothing Given a.pan (effect_of e.order)) (nothing Taken a.pan (effect_of e.order))
   where
-    regroup : (z : ℤ) (c d p q : ℕ) → z +ℤ pos (c + p) -ℤ pos (d + q) ≡ z +ℤ pos c -ℤ pos d +ℤ (pos p -ℤ pos q)
-    regroup z c d p q = omega (arith, ints)
+    regroup : (z : ℤ) (c' d' c d ce de c0 d0 cb db ca da cx dx cy dy : ℕ) → c' + cb + cx ≡ c + ce + ca + cy → d' + db + dx ≡ d + de + da + dy → c0 ≡ 0 → d0 ≡ 0 →
+        z +ℤ pos c' -ℤ pos d' ≡ z +ℤ pos c -ℤ pos d +ℤ (pos ce -ℤ pos de -ℤ (pos c0 -ℤ pos d0)) +ℤ (pos ca -ℤ pos da -ℤ (pos cb -ℤ pos db)) +ℤ (pos cy -ℤ pos dy -ℤ (pos cx -ℤ pos dx))
+    regroup z c' d' c d ce de c0 d0 cb db ca da cx dx cy dy p q r s = omega (arith, ints)
 
-pub available-entered : (es : List Entry) (e : Entry) (a : Account) (z : ℤ) → ((k : TxKey) → names e.order.act k ≡ false) →
-    z ≡ pos (counted es (credit_to a.pan) (Some e)) -ℤ pos (counted es (debit_of a.pan) (Some e)) -ℤ pos (counted es (hold_on a.pan) (Some e)) →
-    available (es ++ e ∷ []) a ≡ available es a +ℤ z
-available-entered es e a z none is =
-    rw (total-push es e (credit_to a.pan) none, total-push es e (debit_of a.pan) none, total-push es e (hold_on a.pan) none, is)
-    (regroup a.opening (total (credit_to a.pan) es) (total (debit_of a.pan) es) (total (hold_on a.pan) es)
-    (counted es (credit_to a.pan) (Some e)) (counted es (debit_of a.pan) (Some e)) (counted es (hold_on a.pan) (Some e)))
+pub available-entered : (es : List Entry) (e : Entry) (a : Account) → HasDistinctKeys (map (λ e. e.order) es) → AreApart es e.order →
+    available (es ++ e ∷ []) a ≡ available es a
+    +ℤ (available_share a.pan (effect_of e.order) (weight (es ++ e ∷ []) e) -ℤ available_share a.pan (effect_of e.order) 0)
+    +ℤ (available_share a.pan (effect_at (reversed_by es e.order)) (weight_at (es ++ e ∷ []) (reversed_by es e.order))
+    -ℤ available_share a.pan (effect_at (reversed_by es e.order)) (weight_at es (reversed_by es e.order)))
+    +ℤ (available_share a.pan (effect_at (released_by es e.order)) (weight_at (es ++ e ∷ []) (released_by es e.order))
+    -ℤ available_share a.pan (effect_at (released_by es e.order)) (weight_at es (released_by es e.order)))
+available-entered es e a distinct apart =
+    regroup (ledger (es ++ e ∷ []) a) (ledger es a) _ _ _ _ _ _ _ _ _ _ _ _ _ _
+    (ledger-entered es e a distinct apart) (total-entered Held a.pan es e distinct apart)
+    (nothing Held a.pan (effect_of e.order))
   where
-    regroup : (z : ℤ) (c d h p q r : ℕ) → z +ℤ pos (c + p) -ℤ pos (d + q) -ℤ pos (h + r) ≡ z +ℤ pos c -ℤ pos d -ℤ pos h +ℤ (pos p -ℤ pos q -ℤ pos r)
-    regroup z c d h p q r = omega (arith, ints)
-
--- ---- the balances, after a reversal
-
-no_credit : (p : _) (e : Entry) (k : TxKey) → e.order.act ≡ Undo k → credit_to p e.order ≡ 0
-no_credit p e k act = rw act refl
-
-no_debit : (p : _) (e : Entry) (k : TxKey) → e.order.act ≡ Undo k → debit_of p e.order ≡ 0
-no_debit p e k act = rw act (none_if _)
-  where
-    none_if : (b : Bool) → ◌≡◌ {A = ℕ} (cond b 0 0) 0
-    none_if true = refl
-    none_if false = refl
-
-no_hold : (p : _) (e : Entry) (k : TxKey) → e.order.act ≡ Undo k → hold_on p e.order ≡ 0
-no_hold p e k act = rw act (none_if _)
-  where
-    none_if : (b : Bool) → ◌≡◌ {A = ℕ} (cond b 0 0) 0
-    none_if true = refl
-    none_if false = refl
-
-pub ledger-undone : (es : List Entry) (e : Entry) (k : TxKey) (a : Account) (z : ℤ) → HasDistinctKeys (map (λ e. e.order) es) → e.order.act ≡ Undo k →
-    z ≡ pos (counted es (debit_of a.pan) (entry_at es k)) -ℤ pos (counted es (credit_to a.pan) (entry_at es k)) →
-    ledger (es ++ e ∷ []) a ≡ ledger es a +ℤ z
-ledger-undone es e k a z distinct act is =
-    rw is
-    (regroup a.opening (total (credit_to a.pan) es) (total (debit_of a.pan) es) (total (credit_to a.pan) (es ++ e ∷ [])) (total (debit_of a.pan) (es ++ e ∷ []))
-    (counted es (credit_to a.pan) (entry_at es k)) (counted es (debit_of a.pan) (entry_at es k))
-    (total-undo es e k (credit_to a.pan) distinct act (no_credit a.pan e k act)) (total-undo es e k (debit_of a.pan) distinct act (no_debit a.pan e k act)))
-  where
-    regroup : (z : ℤ) (c d c' d' x y : ℕ) → c' + x ≡ c → d' + y ≡ d → z +ℤ pos c' -ℤ pos d' ≡ z +ℤ pos c -ℤ pos d +ℤ (pos y -ℤ pos x)
-    regroup z c d c' d' x y h k = omega (arith, ints)
-
-pub available-undone : (es : List Entry) (e : Entry) (k : TxKey) (a : Account) (z : ℤ) → HasDistinctKeys (map (λ e. e.order) es) → e.order.act ≡ Undo k →
-    z ≡ pos (counted es (debit_of a.pan) (entry_at es k)) -ℤ pos (counted es (credit_to a.pan) (entry_at es k)) +ℤ pos (counted es (hold_on a.pan) (entry_at es k)) →
-    available (es ++ e ∷ []) a ≡ available es a +ℤ z
-available-undone es e k a z distinct act is =
-    rw is
-    (regroup a.opening (total (credit_to a.pan) es) (total (debit_of a.pan) es) (total (hold_on a.pan) es)
-    (total (credit_to a.pan) (es ++ e ∷ [])) (total (debit_of a.pan) (es ++ e ∷ [])) (total (hold_on a.pan) (es ++ e ∷ []))
-    (counted es (credit_to a.pan) (entry_at es k)) (counted es (debit_of a.pan) (entry_at es k)) (counted es (hold_on a.pan) (entry_at es k))
-    (total-undo es e k (credit_to a.pan) distinct act (no_credit a.pan e k act)) (total-undo es e k (debit_of a.pan) distinct act (no_debit a.pan e k act))
-    (total-undo es e k (hold_on a.pan) distinct act (no_hold a.pan e k act)))
-  where
-    regroup : (z : ℤ) (c d h c' d' h' x y w : ℕ) → c' + x ≡ c → d' + y ≡ d → h' + w ≡ h →
-        z +ℤ pos c' -ℤ pos d' -ℤ pos h' ≡ z +ℤ pos c -ℤ pos d -ℤ pos h +ℤ (pos y -ℤ pos x +ℤ pos w)
-    regroup z c d h c' d' h' x y w p q r = omega (arith, ints)
-
--- what is taken back is added again, with the other sign
-pub taken-back : (t : Bool) (z : ℤ) (p q : ℕ) → (if t then z else pos 0) ≡ pos p -ℤ pos q → (if t then pos 0 -ℤ z else pos 0) ≡ pos q -ℤ pos p
-taken-back true z p q h = omega (arith, ints, h)
-taken-back false z p q h = omega (arith, ints, h)
-
-pub held-back : (t : Bool) (z : ℤ) (p q r : ℕ) → (if t then z else pos 0) ≡ pos p -ℤ pos q -ℤ pos r → (if t then pos 0 -ℤ z else pos 0) ≡ pos q -ℤ pos p +ℤ pos r
-held-back true z p q r h = omega (arith, ints, h)
-held-back false z p q r h = omega (arith, ints, h)
+    regroup : (z' z le l0 la lb ly lx : ℤ) (h' h he h0 hb ha hx hy : ℕ) → z' ≡ z +ℤ (le -ℤ l0) +ℤ (la -ℤ lb) +ℤ (ly -ℤ lx) → h' + hb + hx ≡ h + he + ha + hy → h0 ≡ 0 →
+        z' -ℤ pos h' ≡ z -ℤ pos h +ℤ (le -ℤ pos he -ℤ (l0 -ℤ pos h0)) +ℤ (la -ℤ pos ha -ℤ (lb -ℤ pos hb)) +ℤ (ly -ℤ pos hy -ℤ (lx -ℤ pos hx))
+    regroup z' z le l0 la lb ly lx h' h he h0 hb ha hx hy p q r = omega (arith, ints)

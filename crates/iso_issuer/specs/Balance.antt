@@ -1,48 +1,34 @@
 -- What is on an account: sums over the whole journal.
-use Rattle.std.specs.Prelude.{ℕ, ℤ, pos, ◌+ℤ◌, ◌-ℤ◌, ◌==◌, List, sum_by, if◌then◌else◌}
-use Rattle.iso_order.specs.declared.act.Act.{Act}
-use Rattle.iso_order.specs.declared.act.Act.TheVariants.{Debit, Credit, Inquiry, Undo}
+use Rattle.std.specs.Prelude.{ℕ, ℤ, pos, ◌+ℤ◌, ◌-ℤ◌, List, sum_by, Option, if◌then◌else◌}
 use Rattle.iso_order.specs.AccountNumber.{AccountNumber}
-use Rattle.iso_order.specs.Key.{class_of}
-use Rattle.iso_order.specs.Order.{Instruction, same_pan}
 use Rattle.iso_issuer.specs.declared.account.Account.{Account}
+use Rattle.iso_issuer.specs.declared.effect.Effect.{Effect}
+use Rattle.iso_issuer.specs.declared.effect.Side.{Side}
+use Rattle.iso_issuer.specs.declared.effect.Side.TheVariants.{Given, Taken, Held}
 use Rattle.iso_issuer.specs.declared.journal.Entry.{Entry}
-use Rattle.iso_issuer.specs.Journal.{stands}
+use Rattle.iso_issuer.specs.Effect.{effect_of, is_on}
+use Rattle.iso_issuer.specs.Journal.{weight}
 
--- the amount of a credit to the account, else 0
-abbrev pub credited : AccountNumber → Act → ℕ
-credited pan (Credit m) = if same_pan m.pan pan then m.amount else 0
-credited pan (Debit m) = 0
-credited pan (Inquiry m) = 0
-credited pan (Undo k) = 0
+-- what a weight counts on the account, this way
+abbrev pub share : Side → AccountNumber → Option Effect → ℕ → ℕ
+share side pan f n = if is_on side pan f then n else 0
 
--- the amount of a debit of the account, else 0
-abbrev pub debited : AccountNumber → Act → ℕ
-debited pan (Debit m) = if same_pan m.pan pan then m.amount else 0
-debited pan (Credit m) = 0
-debited pan (Inquiry m) = 0
-debited pan (Undo k) = 0
+-- the weights of the entries on the account, this way, added up
+abbrev pub total : Side → AccountNumber → List Entry → ℕ
+total side pan journal = sum_by (λ e. share side pan (effect_of e.order) (weight journal e)) journal
 
--- what an order adds to an account
-abbrev pub credit_to : AccountNumber → Instruction → ℕ
-credit_to pan o = credited pan o.act
-
--- what an order takes from an account: a debit of class 2
-abbrev pub debit_of : AccountNumber → Instruction → ℕ
-debit_of pan o = if class_of o.key == 2 then debited pan o.act else 0
-
--- what an order holds of an account: a debit of class 1
-abbrev pub hold_on : AccountNumber → Instruction → ℕ
-hold_on pan o = if class_of o.key == 1 then debited pan o.act else 0
-
--- the amounts of the entries that stand, added up
-abbrev pub total : (Instruction → ℕ) → List Entry → ℕ
-total amount journal = sum_by (λ e. if stands journal e then amount e.order else 0) journal
-
--- the opening amount, plus the credits and less the debits that stand
+-- the opening amount, plus what is given and less what is taken
 abbrev pub ledger : List Entry → Account → ℤ
-ledger journal a = a.opening +ℤ pos (total (credit_to a.pan) journal) -ℤ pos (total (debit_of a.pan) journal)
+ledger journal a = a.opening +ℤ pos (total Given a.pan journal) -ℤ pos (total Taken a.pan journal)
 
--- the ledger, less the holds that stand
+-- the ledger, less what is held
 abbrev pub available : List Entry → Account → ℤ
-available journal a = ledger journal a -ℤ pos (total (hold_on a.pan) journal)
+available journal a = ledger journal a -ℤ pos (total Held a.pan journal)
+
+-- ---- what a weight does to a balance
+
+abbrev pub ledger_share : AccountNumber → Option Effect → ℕ → ℤ
+ledger_share pan f n = pos (share Given pan f n) -ℤ pos (share Taken pan f n)
+
+abbrev pub available_share : AccountNumber → Option Effect → ℕ → ℤ
+available_share pan f n = ledger_share pan f n -ℤ pos (share Held pan f n)

@@ -1,12 +1,14 @@
 -- Balances of accounts, and changes of them.
-use Rattle.std.specs.Prelude.{ℕ, ℤ, pos, ◌+ℤ◌, ◌≤ℤ◌, ◌+◌, ◌*◌, List, Option, None, Some, find, map, if◌then◌else◌}
+use Rattle.std.specs.Prelude.{ℕ, ℤ, pos, ◌+ℤ◌, ◌-ℤ◌, ◌≤ℤ◌, ◌+◌, ◌*◌, List, Option, None, Some, find, map, if◌then◌else◌}
 use Rattle.iso_order.specs.AccountNumber.{AccountNumber}
-use Rattle.iso_order.specs.Order.{Instruction, same_pan}
+use Rattle.iso_order.specs.Order.{same_pan}
 use Rattle.iso_issuer.specs.declared.account.Account.{Account}
 use Rattle.iso_issuer.specs.declared.balances.Balance.{Balance}
 use Rattle.iso_issuer.specs.declared.change.Change.{Change}
-use Rattle.iso_issuer.specs.declared.journal.Entry.{Entry}
-use Rattle.iso_issuer.specs.Journal.{stands}
+use Rattle.iso_issuer.specs.declared.effect.Effect.{Effect}
+use Rattle.iso_issuer.specs.declared.effect.Side.{Side}
+use Rattle.iso_issuer.specs.declared.effect.Side.TheVariants.{Given, Taken, Held}
+use Rattle.iso_issuer.specs.Balance.{ledger_share, available_share}
 
 -- the accounts of the balances, in their order
 abbrev pub accounts_of : List Balance → List Account
@@ -38,10 +40,26 @@ abbrev pub on_available : Option Change → AccountNumber → ℤ
 on_available None pan = pos 0
 on_available (Some c) pan = if same_pan c.pan pan then c.available else pos 0
 
--- the amount of an entry that is there and stands, else 0
-abbrev pub counted : List Entry → (Instruction → ℕ) → Option Entry → ℕ
-counted entries amount None = 0
-counted entries amount (Some e) = if stands entries e then amount e.order else 0
+-- what a weight that grows by an amount adds to the ledger
+abbrev pub ledger_grown : Side → ℤ → ℤ
+ledger_grown Given z = z
+ledger_grown Taken z = pos 0 -ℤ z
+ledger_grown Held z = pos 0
+
+-- what it adds to what is available
+abbrev pub available_grown : Side → ℤ → ℤ
+available_grown Given z = z
+available_grown Taken z = pos 0 -ℤ z
+available_grown Held z = pos 0 -ℤ z
+
+-- a balance after the weight of an entry went from one to another
+abbrev pub moved : Option Effect → ℕ → ℕ → Balance → Balance
+moved f before after b =
+    record {
+      account = b.account;
+      ledger = b.ledger +ℤ (ledger_share b.account.pan f after -ℤ ledger_share b.account.pan f before);
+      available = b.available +ℤ (available_share b.account.pan f after -ℤ available_share b.account.pan f before);
+    }
 
 -- within 9,000,000,000,000,000 and an amount for each of n entries, either way
 pub record IsNear (n : ℕ) (b : Balance) : Type 0 where

@@ -2,15 +2,17 @@
 use Rattle.std.specs.Prelude.{ℕ, Bool, List, [], ◌∷◌, ◌++◌, ◌==◌, ◌&&◌, ◌||◌, ◌+◌, length, Option, Some, None, option_map, if◌then◌else◌, ℤ, pos, negsuc, int_lt}
 use Rattle.iso_order.specs.declared.key.TxKey.{TxKey}
 use Rattle.iso_order.specs.declared.act.Act.{Act}
-use Rattle.iso_order.specs.declared.act.Act.TheVariants.{Debit, Credit, Inquiry, Undo}
+use Rattle.iso_order.specs.declared.act.Act.TheVariants.{Debit, Credit, Inquiry, Undo, Complete}
 use Rattle.iso_order.specs.declared.act.Money.{Money}
 use Rattle.iso_order.specs.Outcome.{Outcome}
 use Rattle.iso_order.specs.Key.{function_of}
 use Rattle.iso_order.specs.Order.{Instruction, same_order, same_currency}
 use Rattle.iso_issuer.specs.declared.account.Account.{Account}
 use Rattle.iso_issuer.specs.declared.journal.Entry.{Entry}
+use Rattle.iso_issuer.specs.declared.effect.Effect.{Effect}
 use Rattle.iso_issuer.specs.Account.{account_of}
-use Rattle.iso_issuer.specs.Journal.{is_reversed, entry_at}
+use Rattle.iso_issuer.specs.Effect.{effect_of, takes}
+use Rattle.iso_issuer.specs.Journal.{is_reversed, left_at, smaller, entry_at}
 use Rattle.iso_issuer.specs.Balance.{available}
 
 -- ---- the code of a new order, on the entries before it
@@ -19,27 +21,26 @@ use Rattle.iso_issuer.specs.Balance.{available}
 abbrev pub is_wide : ℤ → Bool
 is_wide z = int_lt (pos 999999999999) z || int_lt z (negsuc 999999999998)
 
--- on its account: a debit that is a request has 51 over the available amount, an inquiry 96 that can't be shown
-abbrev pub amount_code : List Entry → TxKey → Act → Account → ℕ
-amount_code before key (Debit m) a = if (function_of key == 0) && int_lt (available before a) (pos m.amount) then 51 else 0
-amount_code before key (Inquiry m) a = if is_wide (available before a) then 96 else 0
-amount_code before key (Credit m) a = 0
-amount_code before key (Undo k) a = 0
+-- on its account: an inquiry has 96 where it can't be shown, a debit that is a request 51 where what is left of it is over the available amount
+abbrev pub amount_code : List Entry → TxKey → Option Effect → Account → ℕ
+amount_code before key None a = if is_wide (available before a) then 96 else 0
+amount_code before key (Some f) a = if takes f.side && (function_of key == 0) && int_lt (available before a) (pos (smaller f.amount (left_at before key))) then 51 else 0
 
 -- 14 without an account, 12 in another currency
 abbrev pub account_code : List Entry → Instruction → Money → Option Account → ℕ
 account_code before o m None = 14
 account_code before o m (Some a) =
-    if same_currency a.currency m.currency then amount_code before o.key o.act a else 12
+    if same_currency a.currency m.currency then amount_code before o.key (effect_of o) a else 12
 
 -- the money that an order is about; a reversal is about none
 abbrev pub money_of : Act → Option Money
 money_of (Debit m) = Some m
 money_of (Credit m) = Some m
 money_of (Inquiry m) = Some m
-money_of (Undo k) = None
+money_of (Undo original left) = None
+money_of (Complete m hold) = Some m
 
--- 0 for a reversal, 21 for what an entry reverses
+-- 0 for a reversal, 21 for what is wholly reversed already
 abbrev pub money_code : List Account → List Entry → Instruction → Option Money → ℕ
 money_code accounts before o None = 0
 money_code accounts before o (Some m) =
@@ -56,7 +57,8 @@ abbrev pub shown_by : List Account → List Entry → Act → Option ℤ
 shown_by accounts before (Inquiry m) = option_map (available before) (account_of accounts m.pan)
 shown_by accounts before (Debit m) = None
 shown_by accounts before (Credit m) = None
-shown_by accounts before (Undo k) = None
+shown_by accounts before (Undo original left) = None
+shown_by accounts before (Complete m hold) = None
 
 -- its code, its place from 1 on, and what it shows where the code is 0
 abbrev pub new_answer : List Account → List Entry → Instruction → Outcome

@@ -1,12 +1,10 @@
 -- The index that the issuer answers from: places, marks and sums, and how they stand for the journal.
-use Rattle.std.specs.Prelude.{◌≡◌, ℕ, List, length, Option, All, map}
+use Rattle.std.specs.Prelude.{◌≡◌, ℕ, ◌*◌, Bool, ◌&&◌, ◌==◌, if◌then◌else◌, List, length, sum_by, Option, None, Some, All, map}
 use Rattle.std.specs.List.{position_from}
 use Rattle.std.specs.Ordering.{nat_cmp, ordering_then}
 use Rattle.std.specs.declared.cmp.Ordering.{Ordering}
 use Rattle.std.specs.BTreeMap as tree
-use Rattle.std.specs.BTreeSet as sorted
 use Rattle.std.specs.BTreeMap.{BTreeMap}
-use Rattle.std.specs.BTreeSet.{BTreeSet}
 use Rattle.iso_order.specs.declared.key.TxKey.{TxKey}
 use Rattle.iso_order.specs.AccountNumber.{AccountNumber}
 use Rattle.iso_order.specs.Key.{same_key}
@@ -14,7 +12,12 @@ use Rattle.iso_order.specs.Order.{same_pan}
 use Rattle.iso_issuer.specs.declared.account.Account.{Account}
 use Rattle.iso_issuer.specs.declared.balances.Balance.{Balance}
 use Rattle.iso_issuer.specs.declared.journal.Entry.{Entry}
-use Rattle.iso_issuer.specs.Journal.{is_reversed}
+use Rattle.iso_issuer.specs.Journal.{left_at, entry_at, is_counted, counts_with}
+use Rattle.iso_issuer.specs.Effect.{effect_of, ends}
+use Rattle.iso_issuer.specs.declared.effect.Effect.{Effect}
+use Rattle.iso_issuer.specs.declared.effect.Hold.{Hold}
+use Rattle.iso_order.specs.declared.act.Act.{Act}
+use Rattle.iso_order.specs.declared.act.Act.TheVariants.{Debit, Credit, Inquiry, Undo, Complete}
 use Rattle.iso_issuer.specs.Balance.{ledger, available}
 use Rattle.iso_issuer.specs.Balances.{accounts_of, IsNear}
 
@@ -32,15 +35,73 @@ place_of entries key = position_from (λ e. same_key e.order.key key) 0 entries
 abbrev pub ArePlaces : BTreeMap TxKey ℕ → List Entry → Type 0
 ArePlaces places entries = (key : TxKey) → tree.get key_cmp places key ≡ place_of entries key
 
--- the set has each key that an entered reversal names, and no other
-abbrev pub AreReversed : BTreeSet TxKey → List Entry → Type 0
-AreReversed reversed entries = (key : TxKey) → sorted.contains key_cmp reversed key ≡ is_reversed entries key
+-- the map has what the first reversal of each key leaves, and no other key
+abbrev pub AreLefts : BTreeMap TxKey ℕ → List Entry → Type 0
+AreLefts lefts entries = (key : TxKey) → tree.get key_cmp lefts key ≡ left_at entries key
 
--- ---- accounts
+-- ---- completions
 
 -- the order of account numbers
 abbrev pub pan_cmp : AccountNumber → AccountNumber → Ordering
 pan_cmp a b = ordering_then (nat_cmp a.digits b.digits) (nat_cmp a.len b.len)
+
+-- the order of holds: their key, then their account
+abbrev pub hold_cmp : Hold → Hold → Ordering
+hold_cmp a b = ordering_then (key_cmp a.key b.key) (pan_cmp a.pan b.pan)
+
+abbrev pub bit : Bool → ℕ
+bit b = if b then 1 else 0
+
+-- how many entries that count complete the hold of this key on this account
+abbrev pub completions : List Entry → TxKey → AccountNumber → ℕ
+completions entries key pan = sum_by (λ c. bit (is_counted entries c && ends key pan (effect_of c.order))) entries
+
+abbrev pub or_zero : Option ℕ → ℕ
+or_zero None = 0
+or_zero (Some n) = n
+
+abbrev pub count_at : BTreeMap Hold ℕ → TxKey → AccountNumber → ℕ
+count_at counts key pan = or_zero (tree.get hold_cmp counts (record { key = key; pan = pan }))
+
+-- the map has that number for each hold, or nothing for 0
+abbrev pub AreCounts : BTreeMap Hold ℕ → List Entry → Type 0
+AreCounts counts entries = (key : TxKey) → (pan : AccountNumber) → count_at counts key pan ≡ completions entries key pan
+
+-- the hold that an effect ends, on its account
+abbrev pub hold_on : AccountNumber → Option TxKey → Option Hold
+hold_on pan None = None
+hold_on pan (Some key) = Some (record { key = key; pan = pan })
+
+abbrev pub hold_by : Option Effect → Option Hold
+hold_by None = None
+hold_by (Some f) = hold_on f.pan f.ends
+
+-- 1 for the hold of this key on this account
+abbrev pub mark_at : Option Hold → TxKey → AccountNumber → ℕ
+mark_at None key pan = 0
+mark_at (Some h) key pan = bit (same_key h.key key && same_pan h.pan pan)
+
+-- the hold that an entry completes
+abbrev pub added_by : List Entry → Entry → Option Hold
+added_by entries e = if is_counted entries e then hold_by (effect_of e.order) else None
+
+-- the hold that an entry no longer completes, after a reversal that leaves so much
+abbrev pub dropped_of : Option ℕ → ℕ → Entry → Option Hold
+dropped_of (Some n) left r = None
+dropped_of None left r = if counts_with None r && (left == 0) then hold_by (effect_of r.order) else None
+
+abbrev pub dropped_at : List Entry → TxKey → ℕ → Option Entry → Option Hold
+dropped_at entries key left None = None
+dropped_at entries key left (Some r) = dropped_of (left_at entries key) left r
+
+abbrev pub dropped_by : List Entry → Act → Option Hold
+dropped_by entries (Undo original left) = dropped_at entries original left (entry_at entries original)
+dropped_by entries (Debit m) = None
+dropped_by entries (Credit m) = None
+dropped_by entries (Inquiry m) = None
+dropped_by entries (Complete m hold) = None
+
+-- ---- accounts
 
 -- the place of the account of this number, where there is one
 abbrev pub row_of : List Account → AccountNumber → Option ℕ
@@ -63,4 +124,4 @@ AreSums entries balances = balances ≡ map (balance_on entries) (accounts_of ba
 -- the balances are sums over the journal, and far from the ends of an i64
 pub record IsSummed (entries : List Entry) (balances : List Balance) : Type 0 where
   pub sums : AreSums entries balances
-  pub near : All (IsNear (length entries)) balances
+  pub near : All (IsNear (3 * length entries)) balances

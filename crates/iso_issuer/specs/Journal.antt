@@ -1,12 +1,17 @@
--- The journal: which orders are entered, and which entries stand.
-use Rattle.std.specs.Prelude.{◌≡◌, Bool, true, false, not, List, [], ◌∷◌, ◌==◌, ◌&&◌, find, filter, Option}
+-- The journal: which orders are entered, which entries stand, and for how much.
+use Rattle.std.specs.Prelude.{◌≡◌, ℕ, Bool, false, not, is_some, List, [], ◌∷◌, ◌==◌, ◌&&◌, find, filter, Option, Some, None, option_map, min, option_and_then, if◌then◌else◌}
 use Rattle.std.specs.List.{list_any}
+use Rattle.std.specs.Option.{option_or}
 use Rattle.iso_order.specs.declared.key.TxKey.{TxKey}
 use Rattle.iso_order.specs.declared.act.Act.{Act}
-use Rattle.iso_order.specs.declared.act.Act.TheVariants.{Debit, Credit, Inquiry, Undo}
+use Rattle.iso_order.specs.declared.act.Act.TheVariants.{Debit, Credit, Inquiry, Undo, Complete}
+use Rattle.iso_order.specs.AccountNumber.{AccountNumber}
 use Rattle.iso_order.specs.Key.{same_key}
 use Rattle.iso_order.specs.Order.{Instruction}
 use Rattle.iso_issuer.specs.declared.journal.Entry.{Entry}
+use Rattle.iso_issuer.specs.declared.effect.Effect.{Effect}
+use Rattle.iso_issuer.specs.declared.effect.Side.TheVariants.{Held}
+use Rattle.iso_issuer.specs.Effect.{effect_of, amount_of, is_key, ended_by, ends, same_side}
 
 -- ---- orders
 
@@ -30,26 +35,88 @@ HasDistinctKeys (o ∷ os) = (is_entered os o.key ≡ false) × HasDistinctKeys 
 abbrev pub entry_at : List Entry → TxKey → Option Entry
 entry_at journal key = find (λ e. same_key e.order.key key) journal
 
--- a reversal of this key
-abbrev pub names : Act → TxKey → Bool
-names (Undo original) key = same_key original key
-names (Debit m) key = false
-names (Credit m) key = false
-names (Inquiry m) key = false
+-- the key that a reversal names
+abbrev pub undone : Act → Option TxKey
+undone (Undo original left) = Some original
+undone (Debit m) = None
+undone (Credit m) = None
+undone (Inquiry m) = None
+undone (Complete m hold) = None
 
--- some entry is a reversal of this key
+-- what a reversal leaves
+abbrev pub left_by : Act → ℕ
+left_by (Undo original left) = left
+left_by (Debit m) = 0
+left_by (Credit m) = 0
+left_by (Inquiry m) = 0
+left_by (Complete m hold) = 0
+
+-- the first entry that reverses this key, where there is one
+abbrev pub reversal_of : List Entry → TxKey → Option Entry
+reversal_of journal key = find (λ r. is_key (undone r.order.act) key) journal
+
+-- what the first reversal of this key leaves, where there is one; later ones change nothing (our own rule)
+abbrev pub left_at : List Entry → TxKey → Option ℕ
+left_at journal key = option_map (λ r. left_by r.order.act) (reversal_of journal key)
+
+abbrev pub is_nothing : Option ℕ → Bool
+is_nothing None = false
+is_nothing (Some left) = left == 0
+
+-- the first reversal of this key leaves nothing
 abbrev pub is_reversed : List Entry → TxKey → Bool
-is_reversed journal key = list_any (λ r. names r.order.act key) journal
+is_reversed journal key = is_nothing (left_at journal key)
 
--- a debit or a credit
-abbrev pub is_debit_or_credit : Act → Bool
-is_debit_or_credit (Debit m) = true
-is_debit_or_credit (Credit m) = true
-is_debit_or_credit (Inquiry m) = false
-is_debit_or_credit (Undo k) = false
+-- the smaller of an amount and what is left of it
+abbrev pub smaller : ℕ → Option ℕ → ℕ
+smaller amount None = amount
+smaller amount (Some left) = min amount left
 
--- a debit or credit that was granted, and that no entry of the whole journal reverses, earlier or later (our own rule)
+-- a debit, a credit or a completion that was granted, of which something is left
+abbrev pub counts_with : Option ℕ → Entry → Bool
+counts_with left e = is_some (effect_of e.order) && (e.answer.code == 0) && not (is_nothing left)
+
+-- one that was granted, and that isn't wholly reversed in the whole journal, earlier or later (our own rule)
+abbrev pub is_counted : List Entry → Entry → Bool
+is_counted journal e = counts_with (left_at journal e.order.key) e
+
+-- some entry that counts completes the hold of this key on this account
+abbrev pub is_completed : List Entry → TxKey → AccountNumber → Bool
+is_completed journal key pan = list_any (λ c. is_counted journal c && ends key pan (effect_of c.order)) journal
+
+-- a hold that is completed, earlier or later
+abbrev pub is_ended : List Entry → TxKey → Option Effect → Bool
+is_ended journal key None = false
+is_ended journal key (Some f) = same_side f.side Held && is_completed journal key f.pan
+
+-- an entry that counts, and that isn't a hold that is ended (our own rule)
 abbrev pub stands : List Entry → Entry → Bool
-stands journal e =
-    is_debit_or_credit e.order.act && (e.answer.code == 0)
-    && not (is_reversed journal e.order.key)
+stands journal e = is_counted journal e && not (is_ended journal e.order.key (effect_of e.order))
+
+-- what is left of the amount of an entry that stands, else 0
+abbrev pub weight : List Entry → Entry → ℕ
+weight journal e = if stands journal e then smaller (amount_of (effect_of e.order)) (left_at journal e.order.key) else 0
+
+-- ---- what an order may change
+
+-- the effect of an entry, where there is one
+abbrev pub effect_at : Option Entry → Option Effect
+effect_at None = None
+effect_at (Some e) = effect_of e.order
+
+-- its weight
+abbrev pub weight_at : List Entry → Option Entry → ℕ
+weight_at journal None = 0
+weight_at journal (Some e) = weight journal e
+
+-- the entry that an order reverses, where there is one
+abbrev pub reversed_by : List Entry → Instruction → Option Entry
+reversed_by journal o = option_and_then (entry_at journal) (undone o.act)
+
+-- the key of the hold that an order ends, or that it gives back by reversing what ended it
+abbrev pub ended_key : List Entry → Instruction → Option TxKey
+ended_key journal o = option_or (ended_by (effect_of o)) (ended_by (effect_at (reversed_by journal o)))
+
+-- the hold itself, where it is there
+abbrev pub released_by : List Entry → Instruction → Option Entry
+released_by journal o = option_and_then (entry_at journal) (ended_key journal o)

@@ -1,5 +1,6 @@
 pub mod Range
 pub mod Account
+pub mod Effect
 pub mod Journal
 pub mod Balance
 pub mod Balances

@@ -57,7 +57,7 @@ fn opened(account: Account) -> Balance
 
 /// A balance with a change added.
 fn changed(balance: Balance, change: Change) -> Balance
-    requires { IsNear 999999 balance }
+    requires { IsNear 2999999 balance }
     ensures { result ≡ added change balance }
 {
     Balance {
@@ -100,7 +100,7 @@ impl Balances {
 
     /// Adds a change to the balance of its account, where there is such an account.
     pub fn post(&mut self, change: Change)
-        requires { All (IsNear 999999) self.old }
+        requires { All (IsNear 2999999) self.old }
         ensures { self.new ≡ map (posted change) self.old }
     {
         if let Some(place) = self.places.get(&change.pan) {

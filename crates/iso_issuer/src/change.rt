@@ -1,6 +1,5 @@
 //! Changes of balances.
 
-ghost use Rattle.std.specs.Prelude.{◌≡◌, pos, ◌-ℤ◌};
 ghost use Rattle.iso_issuer.specs.Range.{IsAmount};
 
 use iso_order::Pan;
@@ -15,19 +14,4 @@ pub struct Change {
     pub available: i64,
     pub ghost ledger_small: { IsAmount ledger },
     pub ghost available_small: { IsAmount available },
-}
-
-impl Change {
-    /// What takes the change back.
-    pub fn back(self) -> Change
-        ensures pan { result.pan ≡ self.pan }
-        ensures ledger { result.ledger ≡ pos 0 -ℤ self.ledger }
-        ensures available { result.available ≡ pos 0 -ℤ self.available }
-    {
-        Change {
-            pan: self.pan,
-            ledger: -self.ledger,
-            available: -self.available,
-        }
-    }
 }

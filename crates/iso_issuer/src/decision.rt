@@ -4,11 +4,14 @@ ghost use Rattle.std.specs.Prelude.{◌≡◌, ◌<◌, ◌≤◌, List, Option,
 ghost use Rattle.iso_issuer.specs.declared.account.Account.{Account};
 ghost use Rattle.iso_issuer.specs.declared.journal.Entry.{Entry};
 ghost use Rattle.iso_issuer.specs.Balances.{accounts_of};
+ghost use Rattle.iso_issuer.specs.Effect.{effect_of};
+ghost use Rattle.iso_issuer.specs.Journal.{left_at};
 ghost use Rattle.iso_issuer.specs.Index.{AreSums, balance_on};
 ghost use Rattle.iso_issuer.specs.Decision.{is_wide, amount_code, account_code, money_of, code_of, shown_by, new_answer, repeated};
 
 use crate::balances::{Balance, Balances};
-use crate::journal::{Entry, Journal};
+use crate::effect::effect_of;
+use crate::journal::{Entry, Journal, is_nothing, smaller};
 use iso_order::{Act, Answer, Money, Order};
 
 /// Whether an amount has more than twelve digits.
@@ -19,33 +22,36 @@ fn is_wide(amount: i64) -> bool
 }
 
 /// The code on an account that is there and has the currency.
-fn amount_code(order: Order, balance: Balance) -> u8
-    ensures value { (entries : List Entry) → (a : Account) → balance ≡ balance_on entries a → result ≡ amount_code entries order.key order.act a }
+fn amount_code(order: Order, balance: Balance, left: Option<u64>) -> u8
+    ensures value { (entries : List Entry) → (a : Account) → balance ≡ balance_on entries a → left ≡ left_at entries order.key
+        → result ≡ amount_code entries order.key (effect_of order) a }
     ensures small { result ≤ 99 }
 {
-    match order.act() {
-        Act::Debit(money) => {
-            if order.key().function() == 0 && balance.available < money.amount as i64 {
+    match effect_of(order) {
+        None => { if is_wide(balance.available) { 96 } else { 0 } }
+        Some(effect) => {
+            if effect.side.takes()
+                && order.key().function() == 0
+                && balance.available < smaller(effect.amount, left) as i64
+            {
                 51
             } else {
                 0
             }
         }
-        Act::Inquiry(_) => { if is_wide(balance.available) { 96 } else { 0 } }
-        Act::Credit(_) | Act::Undo(_) => 0,
     }
 }
 
-fn account_code(order: Order, money: Money, balance: Option<Balance>) -> u8
+fn account_code(order: Order, money: Money, balance: Option<Balance>, left: Option<u64>) -> u8
     ensures value { (entries : List Entry) → (account : Option Account) → balance ≡ option_map (balance_on entries) account
-        → result ≡ account_code entries order money account }
+        → left ≡ left_at entries order.key → result ≡ account_code entries order money account }
     ensures small { result ≤ 99 }
 {
     match balance {
         None => 14,
         Some(balance) => {
             if balance.account.currency == money.currency {
-                amount_code(order, balance)
+                amount_code(order, balance, left)
             } else {
                 12
             }
@@ -59,7 +65,8 @@ fn money_of(order: Order) -> Option<Money>
 {
     match order.act() {
         Act::Debit(money) | Act::Credit(money) | Act::Inquiry(money) => Some(money),
-        Act::Undo(_) => None,
+        Act::Complete { money, .. } => Some(money),
+        Act::Undo { .. } => None,
     }
 }
 
@@ -72,10 +79,11 @@ fn code_of(journal: &Journal, balances: &Balances, order: Order) -> u8
     match money_of(order) {
         None => 0,
         Some(money) => {
-            if journal.is_reversed(order.key()) {
+            let left = journal.left_at(order.key());
+            if is_nothing(left) {
                 21
             } else {
-                account_code(order, money, balances.get(money.pan))
+                account_code(order, money, balances.get(money.pan), left)
             }
         }
     }
@@ -87,7 +95,7 @@ fn shown_by(balances: &Balances, order: Order) -> Option<i64>
 {
     match order.act() {
         Act::Inquiry(money) => Some(balances.get(money.pan)?.available),
-        Act::Debit(_) | Act::Credit(_) | Act::Undo(_) => None,
+        Act::Debit(_) | Act::Credit(_) | Act::Undo { .. } | Act::Complete { .. } => None,
     }
 }
 

@@ -13,8 +13,8 @@ use crate::accounts::Accounts;
 use crate::balances::Balances;
 use crate::decision::{new_answer, repeated};
 use crate::fault::Refused;
-use crate::journal::Journal;
-use crate::posting::change_by;
+use crate::journal::{Entry, Journal};
+use crate::posting::settle;
 use iso_order::{Answer, NoMemory, Order, Pan};
 use std::alloc::Global;
 use std::marker::Model;
@@ -69,11 +69,21 @@ impl Issuer {
         ensures unchanged { OnErr result (self.new ≡ self.old) }
     {
         let answer = new_answer(&self.journal, &self.balances, order);
-        let change = change_by(&self.journal, order, answer);
+        let reversed = self.journal.reversed_by(order);
+        let released = self.journal.released_by(order);
+        let before = self.journal.weight_at(&reversed);
+        let held = self.journal.weight_at(&released);
         self.journal.enter(order, answer)?;
-        if let Some(change) = change {
-            self.balances.post(change);
-        }
+        let entry = Entry { order, answer };
+        settle(
+            &self.journal,
+            &mut self.balances,
+            entry,
+            reversed,
+            before,
+            released,
+            held,
+        );
         Ok(answer)
     }
 

@@ -7,6 +7,7 @@ mod balances;
 mod change;
 mod decision;
 mod document;
+mod effect;
 mod fault;
 mod issuer;
 mod journal;

@@ -1,101 +1,96 @@
-//! What an entry changes on an account.
+//! What an entry changes on the accounts: for each entry that it touches, the weight after it less the weight before.
 
-ghost use Rattle.std.specs.Prelude.{◌≡◌, ◌<◌, ◌++◌, ◌∷◌, [], pos, ◌+ℤ◌, ◌-ℤ◌, Some, map};
+ghost use Rattle.std.specs.Prelude.{◌≡◌, ◌≤◌, ◌+◌, ℕ, ◌-ℤ◌, All, map};
 ghost use Rattle.iso_order.specs.AccountNumber.{AccountNumber};
-ghost use Rattle.iso_order.specs.declared.act.Act.TheVariants.{Debit};
-ghost use Rattle.iso_issuer.specs.declared.account.Account.{Account};
-ghost use Rattle.iso_issuer.specs.declared.journal.Entry.{Entry};
-ghost use Rattle.iso_issuer.specs.Journal.{entry_at, HasDistinctKeys};
-ghost use Rattle.iso_issuer.specs.Balance.{credit_to, debit_of, hold_on, ledger, available};
-ghost use Rattle.iso_issuer.specs.Balances.{counted, on_ledger, on_available};
+ghost use Rattle.iso_issuer.specs.Effect.{effect_of};
+ghost use Rattle.iso_issuer.specs.Journal.{effect_at, weight, weight_at};
+ghost use Rattle.iso_issuer.specs.Range.{IsAmount};
+ghost use Rattle.iso_issuer.specs.Balance.{ledger_share, available_share};
+ghost use Rattle.iso_issuer.specs.Balances.{ledger_grown, available_grown, moved, on_ledger, on_available, IsNear};
 
+use crate::balances::Balances;
 use crate::change::Change;
+use crate::effect::{Effect, Side, effect_of};
 use crate::journal::{Entry, Journal};
-use iso_order::{Act, Answer, Money, Order, TxKey};
 
-/// What a debit takes: from the ledger in class 2, only from what is available in class 1.
-fn taken_by(order: Order, money: Money) -> Option<Change>
-    requires { money.amount < 1000000000000 }
-    ensures ledger { (pan : AccountNumber) → on_ledger result pan ≡ pos 0 -ℤ pos (debit_of pan (record { key = order.key; act = Debit money })) }
-    ensures available { (pan : AccountNumber) → on_available result pan
-        ≡ pos 0 -ℤ pos (debit_of pan (record { key = order.key; act = Debit money })) -ℤ pos (hold_on pan (record { key = order.key; act = Debit money })) }
+/// What an effect does to its account when its weight grows by an amount, or shrinks by one.
+fn grown_by(effect: Effect, grown: i64) -> Change
+    requires { IsAmount grown }
+    ensures pan { result.pan ≡ effect.pan }
+    ensures ledger { result.ledger ≡ ledger_grown effect.side grown }
+    ensures available { result.available ≡ available_grown effect.side grown }
 {
-    let amount = money.amount as i64;
-    match order.key().class() {
-        1 => Some(Change {
-            pan: money.pan,
+    match effect.side {
+        Side::Given => Change {
+            pan: effect.pan,
+            ledger: grown,
+            available: grown,
+        },
+        Side::Taken => Change {
+            pan: effect.pan,
+            ledger: -grown,
+            available: -grown,
+        },
+        Side::Held => Change {
+            pan: effect.pan,
             ledger: 0,
-            available: -amount,
-        }),
-        2 => Some(Change {
-            pan: money.pan,
-            ledger: -amount,
-            available: -amount,
-        }),
-        _ => None,
+            available: -grown,
+        },
     }
 }
 
-/// What an order moves where it stands.
-fn moved_by(order: Order) -> Option<Change>
-    ensures ledger { (pan : AccountNumber) → on_ledger result pan ≡ pos (credit_to pan order) -ℤ pos (debit_of pan order) }
-    ensures available { (pan : AccountNumber) → on_available result pan
-        ≡ pos (credit_to pan order) -ℤ pos (debit_of pan order) -ℤ pos (hold_on pan order) }
-{
-    match order.act() {
-        Act::Debit(money) => taken_by(order, money),
-        Act::Credit(money) => {
-            let amount = money.amount as i64;
-            Some(Change {
-                pan: money.pan,
-                ledger: amount,
-                available: amount,
-            })
-        }
-        Act::Inquiry(_) | Act::Undo(_) => None,
-    }
-}
-
-/// What an entry counts for, as long as it stands.
-fn counted_of(journal: &Journal, entry: Entry) -> Option<Change>
+/// What it does to the account of an entry that its weight goes from one amount to another.
+fn change_of(entry: Entry, before: u64, after: u64) -> Option<Change>
+    requires before { before ≤ 999999999999 }
+    requires after { after ≤ 999999999999 }
     ensures ledger { (pan : AccountNumber) → on_ledger result pan
-        ≡ pos (counted journal.now (credit_to pan) (Some entry)) -ℤ pos (counted journal.now (debit_of pan) (Some entry)) }
+        ≡ ledger_share pan (effect_of entry.order) after -ℤ ledger_share pan (effect_of entry.order) before }
     ensures available { (pan : AccountNumber) → on_available result pan
-        ≡ pos (counted journal.now (credit_to pan) (Some entry)) -ℤ pos (counted journal.now (debit_of pan) (Some entry)) -ℤ pos (counted journal.now (hold_on pan) (Some entry)) }
+        ≡ available_share pan (effect_of entry.order) after -ℤ available_share pan (effect_of entry.order) before }
 {
-    let order = entry.order;
-    if journal.stands(entry) {
-        moved_by(order)
-    } else {
-        None
+    let effect = effect_of(entry.order)?;
+    Some(grown_by(effect, after as i64 - before as i64))
+}
+
+/// Posts what the weight of an entry changed, where there is an entry.
+fn post(balances: &mut Balances, touched: Option<Entry>, before: u64, after: u64)
+    requires near { All (IsNear 2999999) balances.old }
+    requires before { before ≤ 999999999999 }
+    requires after { after ≤ 999999999999 }
+    ensures moved { balances.new ≡ map (moved (effect_at touched) before after) balances.old }
+    ensures near { (n : ℕ) → All (IsNear n) balances.old → All (IsNear (n + 1)) balances.new }
+{
+    let Some(entry) = touched else {
+        return;
+    };
+    if let Some(change) = change_of(entry, before, after) {
+        balances.post(change);
     }
 }
 
-/// What a reversal of a key takes back: what its entry counts for, where it has one that stands.
-fn taken_back(journal: &Journal, original: TxKey) -> Option<Change>
-    ensures ledger { (pan : AccountNumber) → on_ledger result pan
-        ≡ pos (counted journal.now (debit_of pan) (entry_at journal.now original)) -ℤ pos (counted journal.now (credit_to pan) (entry_at journal.now original)) }
-    ensures available { (pan : AccountNumber) → on_available result pan
-        ≡ pos (counted journal.now (debit_of pan) (entry_at journal.now original)) -ℤ pos (counted journal.now (credit_to pan) (entry_at journal.now original))
-        +ℤ pos (counted journal.now (hold_on pan) (entry_at journal.now original)) }
+/// Brings the balances up to date with an entry that was added, with the entry that it reverses, which
+/// had a weight before, and with the hold that it ends or gives back, which held an amount before.
+pub fn settle(
+    journal: &Journal,
+    balances: &mut Balances,
+    entry: Entry,
+    reversed: Option<Entry>,
+    before: u64,
+    released: Option<Entry>,
+    held: u64,
+)
+    requires near { All (IsNear 2999997) balances.old }
+    requires before { before ≤ 999999999999 }
+    requires held { held ≤ 999999999999 }
+    ensures moved { balances.new ≡ map (moved (effect_at released) held (weight_at journal.now released))
+        (map (moved (effect_at reversed) before (weight_at journal.now reversed))
+        (map (moved (effect_of entry.order) 0 (weight journal.now entry)) balances.old)) }
+    ensures near { (n : ℕ) → All (IsNear n) balances.old → All (IsNear (n + 3)) balances.new }
 {
-    let undone = journal.get(original)?;
-    let change = counted_of(journal, undone)?;
-    Some(change.back())
-}
-
-/// What entering an order with its answer changes: what it counts for, or what it takes back.
-pub fn change_by(journal: &Journal, order: Order, answer: Answer) -> Option<Change>
-    requires distinct { HasDistinctKeys (map (λ e. e.order) journal.now) }
-    ensures ledger { let entry : Entry = record { order = order; answer = answer } in
-        (a : Account) → ledger (journal.now ++ entry ∷ []) a ≡ ledger journal.now a +ℤ on_ledger result a.pan }
-    ensures available { let entry : Entry = record { order = order; answer = answer } in
-        (a : Account) → available (journal.now ++ entry ∷ []) a ≡ available journal.now a +ℤ on_available result a.pan }
-{
-    match order.act() {
-        Act::Undo(original) => taken_back(journal, original),
-        Act::Debit(_) | Act::Credit(_) | Act::Inquiry(_) => {
-            counted_of(journal, Entry { order, answer })
-        }
-    }
+    let own = journal.weight(&entry);
+    let after = journal.weight_at(&reversed);
+    post(balances, Some(entry), 0, own);
+    let kept = journal.weight_at(&released);
+    post(balances, reversed, before, after);
+    post(balances, released, held, kept);
 }

@@ -1,12 +1,15 @@
 use super::*;
 use iso_order::{Act, Answer, Money, Order, Pan, TxKey};
 use std::alloc::Global;
+use std::process::Abort;
 use std::test::*;
 
 mod days;
 mod documents;
 mod faults;
 mod generated;
+mod holds;
+mod replacements;
 mod scanning;
 mod wire;
 
@@ -42,6 +45,28 @@ fn order(base: u16, stan: u32, act: Act) -> Result<Order, Fail> {
 
 fn debit(base: u16, stan: u32, amount: u64) -> Result<Order, Fail> {
     order(base, stan, Act::Debit(money(amount)?))
+}
+
+fn undo(stan: u32, base: u16, original: u32, left: u64) -> Result<Order, Fail> {
+    order(
+        420,
+        stan,
+        Act::Undo {
+            original: key(base, original),
+            left,
+        },
+    )
+}
+
+/// Handles each order, and compares its code, the ledger and what is available.
+fn play(rt: &impl Abort, issuer: &mut Issuer, rows: &[(Order, u8, i64, i64)]) -> Result<(), Fail> {
+    for (order, code, ledger, available) in rows {
+        let answer = issuer.handle(*order)?;
+        assert_eq!(rt; answer.code, *code, "{order:?}");
+        assert_eq!(rt; issuer.ledger(account()?), Some(*ledger), "{order:?}");
+        assert_eq!(rt; issuer.available(account()?), Some(*available), "{order:?}");
+    }
+    Ok(())
 }
 
 /// An issuer of the account alone.

@@ -2,7 +2,7 @@
 use Rattle.std.proofs.Common.{◌≤◌, Bool, true, false, List, [], ◌∷◌, ◌++◌, arith, if◌then◌else◌}
 use Rattle.iso_wire.specs.Contents.{Contents}
 use Rattle.iso_order.specs.declared.verdict.Verdict.{Verdict}
-use Rattle.iso_order.specs.Verdict.{first_of, answered_lines, network_lines, key_lines, reversal_lines, account_lines, act_lines, amount_lines, credited, verdict, IfReply}
+use Rattle.iso_order.specs.Verdict.{first_of, answered_lines, network_lines, key_lines, reversal_lines, completion_lines, account_lines, act_lines, amount_lines, credited, verdict, IfReply}
 
 abbrev IsSmall : Verdict → Type 0
 IsSmall v = IfReply v (λ code. code ≤ 99)
@@ -33,14 +33,16 @@ verdict_small m =
     let a1 : AreSmall (answered_lines m) = (tt, (two, tt)) in
     let a2 : AreSmall (network_lines m) = (shape, (good, tt)) in
     let a3 : AreSmall (key_lines m) = (two, (shape, tt)) in
-    let a4 : AreSmall (reversal_lines m) = (two, (shape, (two, (two, (tt, tt))))) in
-    let a5 : AreSmall (account_lines m) = (two, (shape, tt)) in
-    let a6 : AreSmall (act_lines m) = (two, (two, (tt, tt))) in
-    let a7 : AreSmall (amount_lines m) = (shape, (amount, (tt, tt))) in
+    let a4 : AreSmall (reversal_lines m) = (shape, (shape, (two, (two, (tt, tt))))) in
+    let a5 : AreSmall (completion_lines m) = (shape, (two, (two, tt))) in
+    let a6 : AreSmall (account_lines m) = (shape, tt) in
+    let a7 : AreSmall (act_lines m) = (two, (two, (tt, tt))) in
+    let a8 : AreSmall (amount_lines m) = (shape, (amount, (tt, tt))) in
     let b2 : AreSmall (answered_lines m ++ network_lines m) = AreSmall-append (answered_lines m) (network_lines m) a1 a2 in
     let b3 : AreSmall (answered_lines m ++ network_lines m ++ key_lines m) = AreSmall-append (answered_lines m ++ network_lines m) (key_lines m) b2 a3 in
     let b4 : AreSmall (answered_lines m ++ network_lines m ++ key_lines m ++ reversal_lines m) = AreSmall-append (answered_lines m ++ network_lines m ++ key_lines m) (reversal_lines m) b3 a4 in
-    let b5 : AreSmall (answered_lines m ++ network_lines m ++ key_lines m ++ reversal_lines m ++ account_lines m) = AreSmall-append (answered_lines m ++ network_lines m ++ key_lines m ++ reversal_lines m) (account_lines m) b4 a5 in
-    let b6 : AreSmall (answered_lines m ++ network_lines m ++ key_lines m ++ reversal_lines m ++ account_lines m ++ act_lines m) = AreSmall-append (answered_lines m ++ network_lines m ++ key_lines m ++ reversal_lines m ++ account_lines m) (act_lines m) b5 a6 in
-    let b7 : AreSmall (answered_lines m ++ network_lines m ++ key_lines m ++ reversal_lines m ++ account_lines m ++ act_lines m ++ amount_lines m) = AreSmall-append (answered_lines m ++ network_lines m ++ key_lines m ++ reversal_lines m ++ account_lines m ++ act_lines m) (amount_lines m) b6 a7 in
-    first_small (answered_lines m ++ network_lines m ++ key_lines m ++ reversal_lines m ++ account_lines m ++ act_lines m ++ amount_lines m) (credited m) b7 tt
+    let b5 : AreSmall (answered_lines m ++ network_lines m ++ key_lines m ++ reversal_lines m ++ completion_lines m) = AreSmall-append (answered_lines m ++ network_lines m ++ key_lines m ++ reversal_lines m) (completion_lines m) b4 a5 in
+    let b6 : AreSmall (answered_lines m ++ network_lines m ++ key_lines m ++ reversal_lines m ++ completion_lines m ++ account_lines m) = AreSmall-append (answered_lines m ++ network_lines m ++ key_lines m ++ reversal_lines m ++ completion_lines m) (account_lines m) b5 a6 in
+    let b7 : AreSmall (answered_lines m ++ network_lines m ++ key_lines m ++ reversal_lines m ++ completion_lines m ++ account_lines m ++ act_lines m) = AreSmall-append (answered_lines m ++ network_lines m ++ key_lines m ++ reversal_lines m ++ completion_lines m ++ account_lines m) (act_lines m) b6 a7 in
+    let b8 : AreSmall (answered_lines m ++ network_lines m ++ key_lines m ++ reversal_lines m ++ completion_lines m ++ account_lines m ++ act_lines m ++ amount_lines m) = AreSmall-append (answered_lines m ++ network_lines m ++ key_lines m ++ reversal_lines m ++ completion_lines m ++ account_lines m ++ act_lines m) (amount_lines m) b7 a8 in
+    first_small (answered_lines m ++ network_lines m ++ key_lines m ++ reversal_lines m ++ completion_lines m ++ account_lines m ++ act_lines m ++ amount_lines m) (credited m) b8 tt

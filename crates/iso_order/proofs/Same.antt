@@ -1,4 +1,4 @@
-use Rattle.std.proofs.Common.{◌≡◌, ℕ, Bool, true, false, refl, arith, ap, sym, subst, List, [], ◌∷◌}
+use Rattle.std.proofs.Common.{◌≡◌, ℕ, Bool, true, false, refl, arith, ap, sym, ◌∙◌, subst, List, [], ◌∷◌}
 use Rattle.std.specs.Prelude.{IsTrue, ◌↔◌, ◌&&◌, ◌==◌}
 use Rattle.std.specs.Str.{bytes_eq}
 use Rattle.std.specs.Cmp.Lexicographic.{same_text}
@@ -7,7 +7,7 @@ use Rattle.iso_order.specs.declared.key.TxKey.{TxKey}
 use Rattle.iso_order.specs.AccountNumber.{AccountNumber}
 use Rattle.iso_order.specs.declared.act.Money.{Money}
 use Rattle.iso_order.specs.declared.act.Act.{Act}
-use Rattle.iso_order.specs.declared.act.Act.TheVariants.{Debit, Credit, Inquiry, Undo}
+use Rattle.iso_order.specs.declared.act.Act.TheVariants.{Debit, Credit, Inquiry, Undo, Complete}
 use Rattle.iso_order.specs.Order.{Instruction, same_pan, same_money, same_act, same_order}
 use Rattle.iso_order.specs.Key.{same_key}
 use Rattle.iso_order.specs.Comparisons.{Comparisons}
@@ -56,14 +56,24 @@ pub same_act_is : (a b : Act) → same_act a b ≡ true → a ≡ b
 same_act_is (Debit a) (Debit b) h = ap Debit (same_money_is a b h)
 same_act_is (Credit a) (Credit b) h = ap Credit (same_money_is a b h)
 same_act_is (Inquiry a) (Inquiry b) h = ap Inquiry (same_money_is a b h)
-same_act_is (Undo a) (Undo b) h = ap Undo (same_key_is a b h)
+same_act_is (Undo a l) (Undo b n) h =
+    let parts = both (same_key a b) (l == n) h in
+    let keys : a ≡ b = same_key_is a b parts.0 in
+    let amounts : l ≡ n = grind (arith, common_steps, parts.1) in
+    cc
+same_act_is (Complete a h) (Complete b k) e =
+    let parts = both (same_money a b) (same_key h k) e in
+    let moneys : a ≡ b = same_money_is a b parts.0 in
+    let keys : h ≡ k = same_key_is h k parts.1 in
+    cc
 same_act_is _ _ h = cc
 
 pub same_act_self : (a : Act) → same_act a a ≡ true
 same_act_self (Debit m) = same_money_self m
 same_act_self (Credit m) = same_money_self m
 same_act_self (Inquiry m) = same_money_self m
-same_act_self (Undo k) = same_key_self k
+same_act_self (Undo k left) = grind (arith, common_steps, same_key_self k)
+same_act_self (Complete m hold) = grind (arith, same_money_self m, same_key_self hold)
 
 pub same_order_is : (a b : Instruction) → same_order a b ≡ true → a ≡ b
 same_order_is a b h = grind (arith, common_steps, same_key_is a.key b.key, same_act_is a.act b.act)
@@ -71,14 +81,9 @@ same_order_is a b h = grind (arith, common_steps, same_key_is a.key b.key, same_
 pub same_order_self : (a : Instruction) → same_order a a ≡ true
 same_order_self a = grind (arith, same_key_self a.key, same_act_self a.act)
 
--- the test that tells whether two orders are one is same_order
-pub same_order_told : (a b : Instruction) (r : Bool) → (IsTrue r ↔ (a ≡ b)) → r ≡ same_order a b
-same_order_told a b true h = sym (subst (λ c. same_order a c ≡ true) (h.0 refl) (same_order_self a))
-same_order_told a b false h =
-    elim (same_order a b) as (λ s. same_order a b ≡ s → false ≡ s) [
-      | true ↦ λ e. h.1 (same_order_is a b e)
-      | false ↦ λ e. refl
-    ] refl
+-- two orders are one where same_order says so
+pub same_order_iff : (a b : Instruction) (r : Bool) → r ≡ same_order a b → IsTrue r ↔ (a ≡ b)
+same_order_iff a b r h = (λ t. same_order_is a b (sym h ∙ t), λ e. h ∙ sym (subst (λ c. true ≡ same_order a c) e (sym (same_order_self a))))
 
 -- ---- what compares alike is one
 

@@ -4,14 +4,13 @@ use Rattle.std.specs.Prelude.{ℤ, Option, Some, not, if◌then◌else◌, ◌==
 use Rattle.std.specs.List.{list_all}
 use Rattle.std.proofs.lemmas.Bool.{and_parts, eqb-true}
 use Rattle.iso_wire.specs.Contents.{Contents}
-use Rattle.iso_wire.specs.Elements.{has}
 use Rattle.iso_order.specs.declared.verdict.Verdict.{Verdict}
 use Rattle.iso_order.specs.declared.verdict.Verdict.TheVariants.{Reply}
-use Rattle.iso_order.specs.Fields.{class, function, text}
+use Rattle.iso_order.specs.Fields.{text}
 use Rattle.iso_order.specs.Order.{is_currency, is_letter_or_digit}
 use Rattle.iso_order.specs.Response.{asks_balance, is_showable}
 use Rattle.iso_order.specs.Text.{are_digits}
-use Rattle.iso_order.specs.Verdict.{first_of, answered_lines, network_lines, key_lines, reversal_lines, act_lines, amount_lines, credited, verdict}
+use Rattle.iso_order.specs.Verdict.{first_of, answered_lines, network_lines, key_lines, reversal_lines, completion_lines, act_lines, amount_lines, credited, verdict}
 
 abbrev Lines : Type 0
 Lines = List (Bool × Verdict)
@@ -39,10 +38,9 @@ behind_lines (l ∷ lines) rest last none h =
 pub asks_balance-currency : (m : Contents) → asks_balance (verdict m) ≡ true → is_currency (text m 49) ≡ true
 unfolding verdict
 asks_balance-currency m h =
-    let completion : Bool × Verdict = (class m == 2 && function m == 2 && has m.elements 90, Reply 12) in
     let digits = are_digits 1 19 (text m 2) && are_digits 6 6 (text m 3) in
     let fields : Bool × Verdict = (not (digits && is_currency (text m 49)), Reply 30) in
-    let front = answered_lines m ++ network_lines m ++ key_lines m ++ reversal_lines m ++ completion ∷ [] in
+    let front = answered_lines m ++ network_lines m ++ key_lines m ++ reversal_lines m ++ completion_lines m in
     let behind = behind_lines front (fields ∷ (act_lines m ++ amount_lines m)) (credited m) refl h in
     let refused = (refused_by (not (digits && is_currency (text m 49))) (Reply 30) (first_of (act_lines m ++ amount_lines m) (credited m)) behind refl).0 in
     (and_parts digits (is_currency (text m 49)) (not_false (digits && is_currency (text m 49)) refused)).1

@@ -1,15 +1,16 @@
 -- What a valid order keeps.
-use Rattle.std.proofs.Common.{◌≡◌, ◌≢◌, ℕ, ◌/◌, ◌%◌, ◌<◌, ◌≤◌, Bool, true, refl, arith, eq-eqb, le-leb, ◌^◌, ◌&&◌}
+use Rattle.std.proofs.Common.{◌≡◌, ◌≢◌, ℕ, ◌/◌, ◌%◌, ◌<◌, ◌≤◌, Bool, true, refl, arith, eq-eqb, le-leb, ◌&&◌}
 use Rattle.std.proofs.lemmas.Bool.{and_parts, eqb-true, leb-true}
 use Rattle.std.proofs.lemmas.Bool.Decides.{nat_tests}
 use Rattle.iso_order.specs.declared.key.TxKey.{TxKey}
 use Rattle.iso_order.specs.declared.act.Act.{Act}
-use Rattle.iso_order.specs.declared.act.Act.TheVariants.{Debit, Credit, Inquiry, Undo}
+use Rattle.iso_order.specs.declared.act.Act.TheVariants.{Debit, Credit, Inquiry, Undo, Complete}
 use Rattle.iso_order.specs.declared.act.Money.{Money}
-use Rattle.std.specs.Prelude.{IsTrue, ◌==◌, ◌||◌, nat_le}
-use Rattle.iso_order.specs.Fields.{asks, base_of, is_original}
+use Rattle.std.specs.Prelude.{IsTrue, IfSome, is_some, Option, Some, None, ◌==◌, ◌||◌, nat_le}
+use Rattle.iso_order.specs.Fields.{asks, base_of, is_hold, is_original}
 use Rattle.iso_order.specs.Key.{class_of, function_of, is_valid_key}
-use Rattle.iso_order.specs.Order.{Instruction, is_account, is_moved, is_payment, is_valid_act, is_valid, amount_of}
+use Rattle.iso_order.specs.Verdict.{debited_by}
+use Rattle.iso_order.specs.Order.{Instruction, is_account, is_moved, is_payment, is_hold_for, is_valid_act, is_valid, amount_of}
 
 moved-bound : (m : Money) → is_moved m ≡ true → m.amount < 1000000000000
 moved-bound m h = let most = (and_parts (is_account m && nat_le 1 m.amount) (nat_le m.amount 999999999999) h).1 in grind (arith, nat_tests)
@@ -19,7 +20,12 @@ pub amount-bound : (key : TxKey) (act : Act) → is_valid_act key act ≡ true �
 amount-bound key (Debit m) h = moved-bound m (and_parts (is_payment key) (is_moved m) h).1
 amount-bound key (Credit m) h = moved-bound m (and_parts (class_of key == 2) (is_moved m) h).1
 amount-bound key (Inquiry m) h = let zero_amount = (and_parts (is_payment key && function_of key == 0) (m.amount == 0) (and_parts (is_payment key && function_of key == 0 && m.amount == 0) (is_account m) h).0).1 in grind (arith, nat_tests)
-amount-bound key (Undo k) h = omega arith
+amount-bound key (Undo k left) h =
+    let most = (and_parts (class_of key == 4 && is_valid_key k && is_payment k && k.acquirer == key.acquirer) (nat_le left 999999999999) h).1 in
+    grind (arith, nat_tests)
+amount-bound key (Complete m hold) h =
+    let money = and_parts (class_of key == 2 && function_of key == 2 && is_moved m) (is_hold_for key hold) h in
+    moved-bound m (and_parts (class_of key == 2 && function_of key == 2) (is_moved m) money.0).1
 
 -- the amount of an order has at most twelve digits
 pub valid-bound : (o : Instruction) → IsTrue (is_valid o) → amount_of o.act < 1000000000000
@@ -69,20 +75,42 @@ original_parts mti h =
 pub both_true : (p q : Bool) → p ≡ true → q ≡ true → (p && q) ≡ true
 both_true p q h k = rw h k
 
-module _ (key : TxKey) (mti stan sent : ℕ) (valid : is_valid_key key ≡ true) (original : is_original mti ≡ true) (stan_fits : stan < 10 ^ 6) (sent_fits : sent < 10 ^ 10) where
-  pub undo-valid : class_of key ≡ 4 → IsTrue (is_valid (record { key = key; act = Undo (record { base = base_of mti; stan = stan; sent = sent; acquirer = key.acquirer }) }))
+hold_parts : (mti : ℕ) → is_hold mti ≡ true → (mti / 1000 ≡ 0) × ((mti / 100 % 10 == 1) ≡ true) × (asks (mti / 10 % 10) ≡ true) × (mti % 10 ≤ 5)
+hold_parts mti h =
+    let origin = and_parts (mti / 1000 == 0 && mti / 100 % 10 == 1 && asks (mti / 10 % 10)) (nat_le (mti % 10) 5) h in
+    let function = and_parts (mti / 1000 == 0 && mti / 100 % 10 == 1) (asks (mti / 10 % 10)) origin.0 in
+    let class = and_parts (mti / 1000 == 0) (mti / 100 % 10 == 1) function.0 in
+    (eqb-true (mti / 1000) 0 class.0, class.1, function.1, leb-true (mti % 10) 5 origin.1)
+
+-- a key that a message names under its own acquirer
+module _ (key named : TxKey) (mti : ℕ) (valid : is_valid_key key ≡ true) (base : named.base ≡ base_of mti) (acquirer : named.acquirer ≡ key.acquirer) (stan : named.stan ≤ 999999) (sent : named.sent ≤ 9999999999) where
+  named-valid : Base mti (base_of mti) → asks (mti / 10 % 10) ≡ true → is_valid_key named ≡ true
+  named-valid kept asking =
+      key-valid named (rw base kept.below) (rw (base, kept.function) asking) (rw base kept.origin) stan sent (rw acquirer (key-acquirer key valid))
+
+  own : (named.acquirer == key.acquirer) ≡ true
+  own = eq-eqb named.acquirer key.acquirer acquirer
+
+  pub undo-valid : (left : ℕ) → is_original mti ≡ true → left ≤ 999999999999 → class_of key ≡ 4 → IsTrue (is_valid (record { key = key; act = Undo named left }))
   unfolding is_valid
-  undo-valid class =
+  undo-valid left original small class =
       let parts = original_parts mti original in
-      let base = base-keeps mti parts.0 parts.3 in
-      let o : TxKey = record { base = base_of mti; stan = stan; sent = sent; acquirer = key.acquirer } in
-      let named : is_valid_key o ≡ true = key-valid o base.below (rw base.function parts.2) base.origin (omega arith) (omega arith) (key-acquirer key valid) in
-      let payment : is_payment o ≡ true = rw base.class parts.1 in
+      let kept = base-keeps mti parts.0 parts.3 in
+      let good = named-valid kept parts.2 in
+      let payment : is_payment named ≡ true = rw (base, kept.class) parts.1 in
       let four : (class_of key == 4) ≡ true = eq-eqb (class_of key) 4 class in
-      let own : (o.acquirer == key.acquirer) ≡ true = eq-eqb key.acquirer key.acquirer refl in
       both_true (is_valid_key key) _ valid
-      (both_true (class_of key == 4 && is_valid_key o && is_payment o) (o.acquirer == key.acquirer)
-      (both_true (class_of key == 4 && is_valid_key o) (is_payment o) (both_true (class_of key == 4) (is_valid_key o) four named) payment) own)
+      (both_true (class_of key == 4 && is_valid_key named && is_payment named && named.acquirer == key.acquirer) (nat_le left 999999999999)
+      (both_true (class_of key == 4 && is_valid_key named && is_payment named) (named.acquirer == key.acquirer)
+      (both_true (class_of key == 4 && is_valid_key named) (is_payment named) (both_true (class_of key == 4) (is_valid_key named) four good) payment) own) (le-leb left 999999999999 small))
+
+  pub hold-valid : is_hold mti ≡ true → is_hold_for key named ≡ true
+  hold-valid hold =
+      let parts = hold_parts mti hold in
+      let kept = base-keeps mti parts.0 parts.3 in
+      let good = named-valid kept parts.2 in
+      let authorization : (class_of named == 1) ≡ true = rw (base, kept.class) parts.1 in
+      both_true (is_valid_key named && class_of named == 1) (named.acquirer == key.acquirer) (both_true (is_valid_key named) (class_of named == 1) good authorization) own
 
 module _ (key : TxKey) (m : Money) (valid : is_valid_key key ≡ true) (account : is_account m ≡ true) where
   moved : 1 ≤ m.amount → m.amount ≤ 999999999999 → is_moved m ≡ true
@@ -99,6 +127,19 @@ module _ (key : TxKey) (m : Money) (valid : is_valid_key key ≡ true) (account 
   unfolding is_valid
   credit-valid two least most =
       both_true (is_valid_key key) _ valid (both_true (class_of key == 2) (is_moved m) (eq-eqb (class_of key) 2 two) (moved least most))
+
+  pub completion-valid : (hold : TxKey) → class_of key ≡ 2 → function_of key ≡ 2 → is_hold_for key hold ≡ true → 1 ≤ m.amount → m.amount ≤ 999999999999 → IsTrue (is_valid (record { key = key; act = Complete m hold }))
+  unfolding is_valid
+  completion-valid hold two advice named least most =
+      both_true (is_valid_key key) _ valid
+      (both_true (class_of key == 2 && function_of key == 2 && is_moved m) (is_hold_for key hold)
+      (both_true (class_of key == 2 && function_of key == 2) (is_moved m)
+      (both_true (class_of key == 2) (function_of key == 2) (eq-eqb (class_of key) 2 two) (eq-eqb (function_of key) 2 advice)) (moved least most)) named)
+
+  -- a debit, or the completion of a hold of its own
+  pub debited-valid : (hold : Option TxKey) → is_payment key ≡ true → (is_some hold ≡ true → (class_of key ≡ 2) × (function_of key ≡ 2)) → IfSome hold (λ h. is_hold_for key h ≡ true) → 1 ≤ m.amount → m.amount ≤ 999999999999 → IsTrue (is_valid (record { key = key; act = debited_by m hold }))
+  debited-valid None payment advice named least most = debit-valid payment least most
+  debited-valid (Some hold) payment advice named least most = let two = advice refl in completion-valid hold two.0 two.1 named least most
 
   pub inquiry-valid : is_payment key ≡ true → function_of key ≢ 2 → m.amount ≡ 0 → IsTrue (is_valid (record { key = key; act = Inquiry m }))
   unfolding is_valid

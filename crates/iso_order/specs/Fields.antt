@@ -1,7 +1,7 @@
 -- What is read in a message.
-use Rattle.std.specs.Prelude.{ℕ, Bool, ◌-◌, ◌/◌, ◌%◌, ◌==◌, ◌&&◌, ◌||◌, nat_le, unwrap_or, List, [], length, take, drop}
+use Rattle.std.specs.Prelude.{ℕ, Bool, ◌-◌, ◌/◌, ◌%◌, ◌==◌, ◌&&◌, ◌||◌, nat_le, not, if◌then◌else◌, unwrap_or, Option, Some, None, List, [], length, take, drop}
 use Rattle.iso_wire.specs.Contents.{Contents}
-use Rattle.iso_wire.specs.Elements.{value_in}
+use Rattle.iso_wire.specs.Elements.{has, value_in}
 use Rattle.iso_order.specs.declared.act.Money.{Money}
 use Rattle.iso_order.specs.declared.key.TxKey.{TxKey}
 use Rattle.iso_order.specs.Text.{are_digits, number}
@@ -76,6 +76,30 @@ is_own m = original_acquirer m == 0 || original_acquirer m == number (text m 32)
 -- its key, under the message's own acquirer
 abbrev pub original_of : Contents → TxKey
 original_of m = record { base = base_of (original_mti m); stan = original_stan m; sent = original_sent m; acquirer = number (text m 32) }
+
+-- ---- the hold that an advice of class 2 completes (element 90)
+
+-- an advice of class 2 that names another transaction
+abbrev pub completes : Contents → Bool
+completes m = class m == 2 && function m == 2 && has m.elements 90
+
+-- a request or an advice of class 1, or a repeat of one
+abbrev pub is_hold : ℕ → Bool
+is_hold mti = mti / 1000 == 0 && mti / 100 % 10 == 1 && asks (mti / 10 % 10) && nat_le (mti % 10) 5
+
+-- the key of that hold, where one is named
+abbrev pub hold_of : Contents → Option TxKey
+hold_of m = if completes m then Some (original_of m) else None
+
+-- ---- what a reversal leaves (element 95, replacement amounts)
+
+-- nothing, or 42 bytes of which the first twelve are digits
+abbrev pub is_replacement : Contents → Bool
+is_replacement m = not (has m.elements 95) || (length (text m 95) == 42 && are_digits 12 12 (take 12 (text m 95)))
+
+-- the number of those twelve digits, 0 without them
+abbrev pub left_of : Contents → ℕ
+left_of m = if has m.elements 95 then number (take 12 (text m 95)) else 0
 
 -- ---- what is asked of an account (element 3, processing code)
 

@@ -4,6 +4,7 @@ pub mod Fields
 pub mod Fitting
 pub mod Key
 pub mod Order
+pub mod Original
 pub mod Outcome
 pub mod Pan
 pub mod Response

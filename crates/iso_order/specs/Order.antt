@@ -4,7 +4,7 @@ use Rattle.std.specs.List.{list_all}
 use Rattle.std.specs.Str.{bytes_eq}
 use Rattle.iso_order.specs.declared.key.TxKey.{TxKey}
 use Rattle.iso_order.specs.declared.act.Act.{Act}
-use Rattle.iso_order.specs.declared.act.Act.TheVariants.{Debit, Credit, Inquiry, Undo}
+use Rattle.iso_order.specs.declared.act.Act.TheVariants.{Debit, Credit, Inquiry, Undo, Complete}
 use Rattle.iso_order.specs.declared.act.Money.{Money}
 use Rattle.iso_order.specs.AccountNumber.{AccountNumber, is_pan}
 use Rattle.iso_order.specs.Key.{class_of, function_of, is_valid_key, same_key}
@@ -35,12 +35,20 @@ is_moved m = is_account m && nat_le 1 m.amount && nat_le m.amount 999999999999
 abbrev pub is_payment : TxKey → Bool
 is_payment k = class_of k == 1 || class_of k == 2
 
+-- a hold that a message with the key can complete: of class 1, and of its own acquirer
+abbrev pub is_hold_for : TxKey → TxKey → Bool
+is_hold_for key hold = is_valid_key hold && class_of hold == 1 && hold.acquirer == key.acquirer
+
 -- what a message with the key can ask
 abbrev pub is_valid_act : TxKey → Act → Bool
 is_valid_act key (Debit m) = is_payment key && is_moved m
 is_valid_act key (Credit m) = class_of key == 2 && is_moved m
 is_valid_act key (Inquiry m) = is_payment key && function_of key == 0 && m.amount == 0 && is_account m
-is_valid_act key (Undo original) = class_of key == 4 && is_valid_key original && is_payment original && original.acquirer == key.acquirer
+is_valid_act key (Undo original left) =
+    class_of key == 4 && is_valid_key original && is_payment original && original.acquirer == key.acquirer
+    && nat_le left 999999999999
+is_valid_act key (Complete m hold) =
+    class_of key == 2 && function_of key == 2 && is_moved m && is_hold_for key hold
 
 -- an order that a message can carry
 unfoldable pub is_valid : Instruction → Bool
@@ -61,7 +69,8 @@ abbrev pub same_act : Act → Act → Bool
 same_act (Debit a) (Debit b) = same_money a b
 same_act (Credit a) (Credit b) = same_money a b
 same_act (Inquiry a) (Inquiry b) = same_money a b
-same_act (Undo a) (Undo b) = same_key a b
+same_act (Undo a l) (Undo b n) = same_key a b && l == n
+same_act (Complete a h) (Complete b k) = same_money a b && same_key h k
 same_act _ _ = false
 
 -- the same is asked under the same key
@@ -70,9 +79,10 @@ same_order a b = same_key a.key b.key && same_act a.act b.act
 
 -- ---- amounts
 
--- the amount that an order moves or holds, 0 where it does neither
+-- the amount that an order names
 abbrev pub amount_of : Act → ℕ
 amount_of (Debit m) = m.amount
 amount_of (Credit m) = m.amount
 amount_of (Inquiry m) = m.amount
-amount_of (Undo k) = 0
+amount_of (Undo k left) = left
+amount_of (Complete m hold) = m.amount

@@ -4,7 +4,7 @@ use Rattle.iso_wire.specs.Contents.{Contents}
 use Rattle.iso_wire.specs.Decimal.{decimal}
 use Rattle.iso_wire.specs.Elements.{value_in, is_number}
 use Rattle.iso_order.specs.declared.act.Act.{Act}
-use Rattle.iso_order.specs.declared.act.Act.TheVariants.{Debit, Credit, Inquiry, Undo}
+use Rattle.iso_order.specs.declared.act.Act.TheVariants.{Debit, Credit, Inquiry, Undo, Complete}
 use Rattle.iso_order.specs.declared.verdict.Verdict.{Verdict}
 use Rattle.iso_order.specs.declared.verdict.Verdict.TheVariants.{Order, Reply, Silent}
 use Rattle.iso_order.specs.Fields.{class, text, base_of}
@@ -74,7 +74,8 @@ abbrev pub is_inquiry_order : Act → Bool
 is_inquiry_order (Inquiry m) = true
 is_inquiry_order (Debit m) = false
 is_inquiry_order (Credit m) = false
-is_inquiry_order (Undo k) = false
+is_inquiry_order (Undo k left) = false
+is_inquiry_order (Complete m hold) = false
 
 -- the message asks for what is available
 abbrev pub asks_balance : Verdict → Bool

@@ -1,12 +1,13 @@
 -- The verdict on a message: a table of cases, of which the first that holds decides.
-use Rattle.std.specs.Prelude.{ℕ, Bool, not, ◌==◌, ◌&&◌, ◌||◌, nat_lt, if◌then◌else◌, List, [], ◌∷◌, ◌++◌}
+use Rattle.std.specs.Prelude.{ℕ, Bool, not, ◌==◌, ◌&&◌, ◌||◌, nat_lt, if◌then◌else◌, List, [], ◌∷◌, ◌++◌, Option, Some, None}
 use Rattle.iso_wire.specs.Contents.{Contents}
-use Rattle.iso_wire.specs.Elements.{has}
 use Rattle.iso_order.specs.declared.act.Act.{Act}
-use Rattle.iso_order.specs.declared.act.Act.TheVariants.{Debit, Credit, Inquiry, Undo}
+use Rattle.iso_order.specs.declared.act.Act.TheVariants.{Debit, Credit, Inquiry, Undo, Complete}
+use Rattle.iso_order.specs.declared.act.Money.{Money}
+use Rattle.iso_order.specs.declared.key.TxKey.{TxKey}
 use Rattle.iso_order.specs.declared.verdict.Verdict.{Verdict}
 use Rattle.iso_order.specs.declared.verdict.Verdict.TheVariants.{Order, Reply, Silent}
-use Rattle.iso_order.specs.Fields.{version, class, function, origin, asks, text, has_key, key_of, money_of, original_mti, is_original, is_own, original_of, kind, is_debit, is_credit, is_inquiry}
+use Rattle.iso_order.specs.Fields.{version, class, function, origin, asks, text, has_key, key_of, money_of, original_mti, is_original, is_own, original_of, completes, is_hold, hold_of, is_replacement, left_of, kind, is_debit, is_credit, is_inquiry}
 use Rattle.iso_order.specs.Order.{Instruction, is_currency}
 use Rattle.iso_order.specs.Text.{are_digits, number}
 
@@ -42,37 +43,52 @@ key_lines m =
     ∷ (not (has_key m), Reply 30)
     ∷ []
 
--- class 4: a reversal of the transaction that element 90 names; replacement amounts (element 95) aren't served
-abbrev pub reversal_lines : Contents → List (Bool × Verdict)
-reversal_lines m =
-    (class m == 4 && has m.elements 95, Reply 12)
-    ∷ (class m == 4 && not (are_digits 42 42 (text m 90)), Reply 30)
+-- class 4: a reversal of the transaction that element 90 names
+abbrev pub original_lines : Contents → List (Bool × Verdict)
+original_lines m =
+    (class m == 4 && not (are_digits 42 42 (text m 90)), Reply 30)
     ∷ (class m == 4 && not (is_original (original_mti m)), Reply 12)
     ∷ (class m == 4 && not (is_own m), Reply 12)
-    ∷ (class m == 4, asked m (Undo (original_of m)))
+    ∷ (class m == 4, asked m (Undo (original_of m) (left_of m)))
+    ∷ []
+
+-- class 4: what the reversal leaves (element 95, replacement amounts)
+abbrev pub reversal_lines : Contents → List (Bool × Verdict)
+reversal_lines m = (class m == 4 && not (is_replacement m), Reply 30) ∷ original_lines m
+
+-- class 2, an advice that names a transaction: a completion of its own acquirer's hold (element 90)
+abbrev pub completion_lines : Contents → List (Bool × Verdict)
+completion_lines m =
+    (completes m && not (are_digits 42 42 (text m 90)), Reply 30)
+    ∷ (completes m && not (is_hold (original_mti m)), Reply 12)
+    ∷ (completes m && not (is_own m), Reply 12)
     ∷ []
 
 -- classes 1 and 2: the account, the processing code and the currency (elements 2, 3, 49)
 abbrev pub account_lines : Contents → List (Bool × Verdict)
 account_lines m =
-    (class m == 2 && function m == 2 && has m.elements 90, Reply 12)
-    ∷ (not (are_digits 1 19 (text m 2) && are_digits 6 6 (text m 3) && is_currency (text m 49)), Reply 30)
+    (not (are_digits 1 19 (text m 2) && are_digits 6 6 (text m 3) && is_currency (text m 49)), Reply 30)
     ∷ []
 
 -- classes 1 and 2: which acts are served (element 3)
 abbrev pub act_lines : Contents → List (Bool × Verdict)
 act_lines m =
     (not (is_debit (kind m) || is_credit (kind m) || is_inquiry (kind m)), Reply 12)
-    ∷ ((is_credit (kind m) && class m == 1) || (is_inquiry (kind m) && function m == 2), Reply 12)
+    ∷ ((is_credit (kind m) && (class m == 1 || completes m)) || (is_inquiry (kind m) && function m == 2), Reply 12)
     ∷ (is_inquiry (kind m), asked m (Inquiry (money_of m 0)))
     ∷ []
+
+-- a debit, or the completion of a hold
+abbrev pub debited_by : Money → Option TxKey → Act
+debited_by money None = Debit money
+debited_by money (Some hold) = Complete money hold
 
 -- classes 1 and 2: the amount (element 4)
 abbrev pub amount_lines : Contents → List (Bool × Verdict)
 amount_lines m =
     (not (are_digits 12 12 (text m 4)), Reply 30)
     ∷ (number (text m 4) == 0, Reply 13)
-    ∷ (is_debit (kind m), asked m (Debit (money_of m (number (text m 4)))))
+    ∷ (is_debit (kind m), asked m (debited_by (money_of m (number (text m 4))) (hold_of m)))
     ∷ []
 
 -- the last line: a credit
@@ -82,7 +98,7 @@ credited m = asked m (Credit (money_of m (number (text m 4))))
 -- the whole table
 unfoldable pub verdict : Contents → Verdict
 verdict m =
-    first_of (answered_lines m ++ network_lines m ++ key_lines m ++ reversal_lines m ++ account_lines m ++ act_lines m ++ amount_lines m) (credited m)
+    first_of (answered_lines m ++ network_lines m ++ key_lines m ++ reversal_lines m ++ completion_lines m ++ account_lines m ++ act_lines m ++ amount_lines m) (credited m)
 
 -- ---- what an order of a verdict keeps
 

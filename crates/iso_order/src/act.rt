@@ -2,7 +2,7 @@
 
 ghost use Rattle.std.specs.Prelude.{◌≡◌, Some, None, if◌then◌else◌};
 ghost use Rattle.std.specs.List.{list_all};
-ghost use Rattle.iso_order.specs.Order.{is_letter_or_digit, is_currency, is_account, is_moved, is_valid_act};
+ghost use Rattle.iso_order.specs.Order.{is_letter_or_digit, is_currency, is_account, is_moved, is_hold_for, is_valid_act, same_money, same_act};
 
 use crate::key::TxKey;
 use crate::pan::Pan;
@@ -27,8 +27,17 @@ pub enum Act {
     Credit(Money),
     /// Tell what is available.
     Inquiry(Money),
-    /// Take back the transaction of that key, whenever it comes.
-    Undo(TxKey),
+    /// Take back what the transaction of that key moved or held, all but what is left, whenever it comes.
+    Undo {
+        original: TxKey,
+        /// What is left of it, in minor units: 0 takes back the whole.
+        left: u64,
+    },
+    /// Take the amount from the account, and end the hold of that key on it.
+    Complete {
+        money: Money,
+        hold: TxKey,
+    },
 }
 
 fn is_letter_or_digit(byte: u8) -> bool
@@ -60,6 +69,13 @@ pub(crate) fn currency_of(text: &[u8]) -> Option<[u8; 3]>
     }
 }
 
+/// Whether a message with the key can complete the hold: it is of class 1, and of the same acquirer.
+fn is_hold_for(key: &TxKey, hold: &TxKey) -> bool
+    ensures { result ≡ is_hold_for key.now hold.now }
+{
+    hold.is_valid() && hold.class() == 1 && hold.acquirer == key.acquirer
+}
+
 impl Money {
     /// Whether it names an account and a currency.
     fn is_account(&self) -> bool
@@ -67,6 +83,13 @@ impl Money {
     {
         let _digits = self.pan.len();
         is_currency(&self.currency)
+    }
+
+    /// Whether two are one.
+    fn is_same(&self, other: &Money) -> bool
+        ensures { result ≡ same_money self.now other.now }
+    {
+        self.pan == other.pan && self.amount == other.amount && self.currency == other.currency
     }
 
     /// Whether it is an amount that can be moved: 1 to 999,999,999,999.
@@ -78,6 +101,56 @@ impl Money {
 }
 
 impl Act {
+    /// Whether two orders ask the same.
+    pub(crate) fn is_same(&self, other: &Act) -> bool
+        ensures { result ≡ same_act self.now other.now }
+    {
+        match self {
+            Act::Debit(a) => {
+                if let Act::Debit(b) = other {
+                    a.is_same(b)
+                } else {
+                    false
+                }
+            }
+            Act::Credit(a) => {
+                if let Act::Credit(b) = other {
+                    a.is_same(b)
+                } else {
+                    false
+                }
+            }
+            Act::Inquiry(a) => {
+                if let Act::Inquiry(b) = other {
+                    a.is_same(b)
+                } else {
+                    false
+                }
+            }
+            Act::Undo {
+                original: a,
+                left: l,
+            } => {
+                if let Act::Undo {
+                    original: b,
+                    left: n,
+                } = other
+                {
+                    a.is_same(b) && *l == *n
+                } else {
+                    false
+                }
+            }
+            Act::Complete { money: a, hold: h } => {
+                if let Act::Complete { money: b, hold: k } = other {
+                    a.is_same(b) && h.is_same(k)
+                } else {
+                    false
+                }
+            }
+        }
+    }
+
     /// Whether a message with that key can ask it.
     pub(crate) fn is_valid(&self, key: &TxKey) -> bool
         ensures { result ≡ is_valid_act key.now self.now }
@@ -91,11 +164,18 @@ impl Act {
                     && money.amount == 0
                     && money.is_account()
             }
-            Act::Undo(original) => {
+            Act::Undo { original, left } => {
                 key.class() == 4
                     && original.is_valid()
                     && matches!(original.class(), 1 | 2)
                     && original.acquirer == key.acquirer
+                    && *left <= 999_999_999_999
+            }
+            Act::Complete { money, hold } => {
+                key.class() == 2
+                    && key.function() == 2
+                    && money.is_moved()
+                    && is_hold_for(key, hold)
             }
         }
     }

@@ -1,7 +1,7 @@
 //! What names a transaction.
 
 ghost use Rattle.std.specs.Prelude.{◌≡◌};
-ghost use Rattle.iso_order.specs.Key.{class_of, function_of, is_valid_key};
+ghost use Rattle.iso_order.specs.Key.{class_of, function_of, is_valid_key, same_key};
 
 /// Names a transaction. Each delivery of it has the same key, whatever the repeat digit of its message type.
 #[derive(Clone, Copy, Debug, PartialEq, Eq, PartialOrd, Ord, Hash)]
@@ -29,6 +29,16 @@ impl TxKey {
         ensures { result ≡ function_of self.now }
     {
         self.base / 10 % 10
+    }
+
+    /// Whether two keys are one.
+    pub(crate) fn is_same(&self, other: &TxKey) -> bool
+        ensures { result ≡ same_key self.now other.now }
+    {
+        self.base == other.base
+            && self.stan == other.stan
+            && self.sent == other.sent
+            && self.acquirer == other.acquirer
     }
 
     /// Whether a message of version 0 that asks for an answer can have the key. Takes no memory.

@@ -7,6 +7,7 @@ mod fields;
 mod key;
 pub mod laws;
 mod order;
+mod original;
 mod pan;
 mod response;
 #[cfg(test)]

@@ -69,9 +69,9 @@ impl Order {
     }
 
     fn equals(&self, other: &Order) -> bool
-        ensures { IsTrue result ↔ (self.now ≡ other.now) }
+        ensures { result ≡ same_order self.now other.now }
     {
-        self == other
+        self.key.is_same(&other.key) && self.act.is_same(&other.act)
     }
 
     /// Whether two orders ask the same under the same key. Takes no memory.

@@ -1,5 +1,6 @@
 //! Values from outside, and that the calls succeed.
 
+mod completions;
 mod logs;
 mod orders;
 mod responses;

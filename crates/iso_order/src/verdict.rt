@@ -1,17 +1,18 @@
 //! What a message asks of an issuer.
 
-ghost use Rattle.std.specs.Prelude.{◌≡◌, ◌==◌, ◌&&◌, ◌≤◌, ◌++◌, ◌⊎◌, List, Bool, true, false, Some, None, IsTrue, if◌then◌else◌};
+ghost use Rattle.std.specs.Prelude.{◌≡◌, ◌==◌, ◌&&◌, ◌≤◌, is_some, ◌++◌, ◌⊎◌, List, Bool, true, false, Some, None, IfSome, IsTrue, if◌then◌else◌};
 ghost use Rattle.iso_wire.specs.Elements.{has};
-ghost use Rattle.iso_order.specs.Fields.{version, class, function, origin, asks, key_of, is_original, kind, is_debit, is_credit, is_inquiry, money_of, part};
+ghost use Rattle.iso_order.specs.Fields.{version, class, function, origin, asks, key_of, is_original, kind, is_debit, is_credit, is_inquiry, money_of, part, is_replacement, left_of, completes, hold_of};
 ghost use Rattle.iso_order.specs.Key.{class_of, function_of, is_valid_key};
-ghost use Rattle.iso_order.specs.Order.{is_valid, is_account, is_currency, is_payment};
+ghost use Rattle.iso_order.specs.Order.{is_valid, is_hold_for, is_account, is_currency, is_payment};
 ghost use Rattle.iso_order.specs.Text.{are_digits};
-ghost use Rattle.iso_order.specs.Verdict.{first_of, network_lines, key_lines, reversal_lines, account_lines, act_lines, amount_lines, credited, verdict, IfReply, IfOrder, IfAnswered};
+ghost use Rattle.iso_order.specs.Verdict.{first_of, network_lines, key_lines, original_lines, reversal_lines, completion_lines, account_lines, act_lines, amount_lines, debited_by, credited, verdict, IfReply, IfOrder, IfAnswered};
 
 use crate::act::{Act, Money, currency_of};
-use crate::fields::{base_of, has, key_of, text, type_of};
+use crate::fields::{has, key_of, text, type_of};
 use crate::key::TxKey;
 use crate::order::Order;
+use crate::original::{completed, is_original, original_of};
 use crate::pan::Pan;
 use crate::text::{are_digits, number_of, part};
 use iso_wire::Message;
@@ -39,17 +40,48 @@ fn network(message: &Message) -> Verdict
     }
 }
 
-/// Whether the number is the type of a message that can be reversed.
-fn is_original(mti: u16) -> bool
-    ensures { result ≡ is_original mti }
+/// What a reversal leaves: nothing, or the first of the replacement amounts.
+fn replacement(message: &Message) -> Option<u64>
+    ensures value { result ≡ (if is_replacement message.now then Some (left_of message.now) else None) }
+    ensures small { IfSome result (λ left. left ≤ 999999999999) }
 {
-    mti / 1000 == 0
-        && matches!(mti / 100 % 10, 1 | 2)
-        && matches!(mti / 10 % 10, 0 | 2)
-        && mti % 10 <= 5
+    if !has(message, 95) {
+        return Some(0);
+    }
+    let amounts = text(message, 95);
+    if amounts.len() != 42 {
+        return None;
+    }
+    number_of(&amounts[..12], 12, 12)
 }
 
-/// Class 4: a reversal of the transaction that element 90 names.
+/// Class 4: a reversal of the transaction that element 90 names, which leaves so much.
+fn leaving(message: &Message, key: &TxKey, left: u64) -> Verdict
+    requires left { left ≡ left_of message.now }
+    requires small { left ≤ 999999999999 }
+    requires class { class message.now ≡ 4 }
+    requires key { key.now ≡ key_of message.now }
+    requires valid { is_valid_key key.now ≡ true }
+    requires key_class { class_of key.now ≡ 4 }
+    ensures verdict { (lines : List (Bool × Verdict)) (last : Verdict)
+        → result ≡ first_of (original_lines message.now ++ lines) last }
+    ensures valid { IfOrder result (λ o. IsTrue (is_valid o)) }
+    ensures key { IfOrder result (λ o. o.key ≡ key_of message.now) }
+{
+    let Some(named) = original_of(message, key) else {
+        return Verdict::Reply(30);
+    };
+    if !is_original(named.mti) {
+        return Verdict::Reply(12);
+    }
+    if !named.is_own {
+        return Verdict::Reply(12);
+    }
+    let original = named.key;
+    Verdict::Order(Order::valid(*key, Act::Undo { original, left }))
+}
+
+/// Class 4: a reversal, and what it leaves.
 fn reversal(message: &Message, key: &TxKey) -> Verdict
     requires class { class message.now ≡ 4 }
     requires key { key.now ≡ key_of message.now }
@@ -60,28 +92,10 @@ fn reversal(message: &Message, key: &TxKey) -> Verdict
     ensures valid { IfOrder result (λ o. IsTrue (is_valid o)) }
     ensures key { IfOrder result (λ o. o.key ≡ key_of message.now) }
 {
-    if has(message, 95) {
-        return Verdict::Reply(12);
+    match replacement(message) {
+        Some(left) => leaving(message, key, left),
+        None => Verdict::Reply(30),
     }
-    let data = text(message, 90);
-    if !are_digits(data, 42, 42) {
-        return Verdict::Reply(30);
-    }
-    let mti = part(data, 0, 4) as u16;
-    if !is_original(mti) {
-        return Verdict::Reply(12);
-    }
-    let acquirer = part(data, 20, 11);
-    if acquirer != 0 && acquirer != key.acquirer {
-        return Verdict::Reply(12);
-    }
-    let original = TxKey {
-        base: base_of(mti),
-        stan: part(data, 4, 6) as u32,
-        sent: part(data, 10, 10),
-        acquirer: key.acquirer,
-    };
-    Verdict::Order(Order::valid(*key, Act::Undo(original)))
 }
 
 /// The first two digits of the processing code, where it has six.
@@ -116,11 +130,24 @@ fn is_inquiry(code: u64) -> bool
     code == 31
 }
 
-/// A debit or a credit of the amount in element 4.
-fn moved(message: &Message, key: &TxKey, code: u64, money: Money) -> Verdict
+/// A debit, or the completion of a hold.
+fn debited(money: Money, hold: Option<TxKey>) -> Act
+    ensures { result ≡ debited_by money hold }
+{
+    match hold {
+        Some(hold) => Act::Complete { money, hold },
+        None => Act::Debit(money),
+    }
+}
+
+/// A debit, a completion or a credit of the amount in element 4.
+fn moved(message: &Message, key: &TxKey, hold: Option<TxKey>, code: u64, money: Money) -> Verdict
     requires key { key.now ≡ key_of message.now }
     requires code { code ≡ kind message.now }
     requires money { money ≡ money_of message.now 0 }
+    requires hold { hold ≡ hold_of message.now }
+    requires own { IfSome hold (λ h. is_hold_for key.now h ≡ true) }
+    requires advice { is_some hold ≡ true → (class_of key.now ≡ 2) × (function_of key.now ≡ 2) }
     requires valid { is_valid_key key.now ≡ true }
     requires class { is_payment key.now ≡ true }
     requires credit { is_debit code ≡ false → class_of key.now ≡ 2 }
@@ -141,16 +168,19 @@ fn moved(message: &Message, key: &TxKey, code: u64, money: Money) -> Verdict
         currency,
     };
     if is_debit(code) {
-        return Verdict::Order(Order::valid(*key, Act::Debit(moved)));
+        return Verdict::Order(Order::valid(*key, debited(moved, hold)));
     }
     Verdict::Order(Order::valid(*key, Act::Credit(moved)))
 }
 
 /// What the processing code asks of the account.
-fn asked(message: &Message, key: &TxKey, code: u64, money: Money) -> Verdict
+fn asked(message: &Message, key: &TxKey, hold: Option<TxKey>, code: u64, money: Money) -> Verdict
     requires key { key.now ≡ key_of message.now }
     requires code { code ≡ kind message.now }
     requires money { money ≡ money_of message.now 0 }
+    requires hold { hold ≡ hold_of message.now }
+    requires own { IfSome hold (λ h. is_hold_for key.now h ≡ true) }
+    requires advice { is_some hold ≡ true → (class_of key.now ≡ 2) × (function_of key.now ≡ 2) }
     requires valid { is_valid_key key.now ≡ true }
     requires payment { is_payment key.now ≡ true }
     requires class { class_of key.now ≡ class message.now }
@@ -164,7 +194,7 @@ fn asked(message: &Message, key: &TxKey, code: u64, money: Money) -> Verdict
     if !is_debit(code) && !is_credit(code) && !is_inquiry(code) {
         return Verdict::Reply(12);
     }
-    if is_credit(code) && key.class() == 1 {
+    if is_credit(code) && (key.class() == 1 || hold.is_some()) {
         return Verdict::Reply(12);
     }
     if is_inquiry(code) {
@@ -173,16 +203,7 @@ fn asked(message: &Message, key: &TxKey, code: u64, money: Money) -> Verdict
         }
         return Verdict::Order(Order::valid(*key, Act::Inquiry(money)));
     }
-    moved(message, key, code, money)
-}
-
-/// Whether it is an advice of class 2 that names another transaction.
-fn is_completion(message: &Message, key: &TxKey) -> bool
-    requires class { class_of key.now ≡ class message.now }
-    requires function { function_of key.now ≡ function message.now }
-    ensures { result ≡ (class message.now == 2 && function message.now == 2 && has message.now.elements 90) }
-{
-    key.class() == 2 && key.function() == 2 && has(message, 90)
+    moved(message, key, hold, code, money)
 }
 
 /// The account and the currency that are there, with no amount.
@@ -199,9 +220,11 @@ fn account(pan: Pan, currency: [u8; 3]) -> Money
     }
 }
 
-/// Classes 1 and 2: what is asked of which account.
-fn payment(message: &Message, key: &TxKey) -> Verdict
+/// Classes 1 and 2: what is asked of which account, and the hold that it completes.
+fn account_asked(message: &Message, key: &TxKey, hold: Option<TxKey>) -> Verdict
     requires key { key.now ≡ key_of message.now }
+    requires hold { hold ≡ hold_of message.now }
+    requires own { IfSome hold (λ h. is_hold_for key.now h ≡ true) }
     requires valid { is_valid_key key.now ≡ true }
     requires payment { is_payment key.now ≡ true }
     requires class { class_of key.now ≡ class message.now }
@@ -211,9 +234,6 @@ fn payment(message: &Message, key: &TxKey) -> Verdict
     ensures valid { IfOrder result (λ o. IsTrue (is_valid o)) }
     ensures key { IfOrder result (λ o. o.key ≡ key_of message.now) }
 {
-    if is_completion(message, key) {
-        return Verdict::Reply(12);
-    }
     let Some(pan) = Pan::from_digits(text(message, 2)) else {
         return Verdict::Reply(30);
     };
@@ -224,7 +244,25 @@ fn payment(message: &Message, key: &TxKey) -> Verdict
         return Verdict::Reply(30);
     };
     let money = account(pan, currency);
-    asked(message, key, code, money)
+    asked(message, key, hold, code, money)
+}
+
+/// Classes 1 and 2: a payment, an inquiry, or an advice that completes a hold.
+fn payment(message: &Message, key: &TxKey) -> Verdict
+    requires key { key.now ≡ key_of message.now }
+    requires valid { is_valid_key key.now ≡ true }
+    requires payment { is_payment key.now ≡ true }
+    requires class { class_of key.now ≡ class message.now }
+    requires function { function_of key.now ≡ function message.now }
+    ensures verdict { result ≡ first_of (completion_lines message.now ++ account_lines message.now
+        ++ act_lines message.now ++ amount_lines message.now) (credited message.now) }
+    ensures valid { IfOrder result (λ o. IsTrue (is_valid o)) }
+    ensures key { IfOrder result (λ o. o.key ≡ key_of message.now) }
+{
+    match completed(message, key) {
+        Ok(hold) => account_asked(message, key, hold),
+        Err(code) => Verdict::Reply(code),
+    }
 }
 
 /// Classes 1, 2 and 4: what is asked under the message's key.
@@ -235,7 +273,7 @@ fn keyed(message: &Message, digit: u8) -> Verdict
     requires class { digit ≡ class message.now }
     requires served { (digit ≡ 1) ⊎ (digit ≡ 2) ⊎ (digit ≡ 4) }
     ensures verdict { result ≡ first_of (key_lines message.now ++ reversal_lines message.now
-        ++ account_lines message.now ++ act_lines message.now ++ amount_lines message.now) (credited message.now) }
+        ++ completion_lines message.now ++ account_lines message.now ++ act_lines message.now ++ amount_lines message.now) (credited message.now) }
     ensures valid { IfOrder result (λ o. IsTrue (is_valid o)) }
     ensures key { IfOrder result (λ o. o.key ≡ key_of message.now) }
 {

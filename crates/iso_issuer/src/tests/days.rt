@@ -28,7 +28,14 @@ fn inquiry(stan: u32) -> Result<Order, Fail> {
 }
 
 fn undo(stan: u32, base: u16, original: u32) -> Result<Order, Fail> {
-    order(420, stan, Act::Undo(key(base, original)))
+    order(
+        420,
+        stan,
+        Act::Undo {
+            original: key(base, original),
+            left: 0,
+        },
+    )
 }
 
 /// Hands the orders of a day, one after the other, to an issuer that never was asked before.
@@ -253,7 +260,14 @@ fn reversals_of_other_keys(rt: HostRuntime) -> Result<(), Fail> {
         sent: 102_030_406,
         ..key(200, 1)
     };
-    let later = order(420, 2, Act::Undo(time))?;
+    let later = order(
+        420,
+        2,
+        Act::Undo {
+            original: time,
+            left: 0,
+        },
+    )?;
     let day = [
         ("a purchase", purchase, granted(1), (20, 20)),
         ("another time", later, granted(2), (20, 20)),

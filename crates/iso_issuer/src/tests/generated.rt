@@ -41,6 +41,14 @@ impl Draws {
         (self.next() % 60) as u32
     }
 
+    /// What a reversal leaves: often nothing.
+    fn left(&mut self) -> u64 {
+        match self.next() % 2 {
+            0 => 0,
+            _ => self.next() % 2000,
+        }
+    }
+
     /// Money of one of four accounts, of which one is unknown, and seldom of another currency.
     fn money(&mut self) -> Result<Money, Fail> {
         let number = match self.next() % 8 {
@@ -69,10 +77,18 @@ impl Draws {
             0..=3 => Act::Debit(money),
             4 | 5 => Act::Credit(money),
             6 => Act::Inquiry(Money { amount: 0, ..money }),
-            _ => Act::Undo(key(base, stan)),
+            7 => Act::Complete {
+                money,
+                hold: key(100, self.stan()),
+            },
+            _ => Act::Undo {
+                original: key(base, stan),
+                left: self.left(),
+            },
         };
         Ok(match act {
-            Act::Undo(_) => Order::new(key(420, self.stan()), act),
+            Act::Complete { .. } => Order::new(key(220, stan), act),
+            Act::Undo { .. } => Order::new(key(420, self.stan()), act),
             _ => Order::new(key(base, stan), act),
         })
     }

@@ -1,4 +1,6 @@
 //! The issuer's rules as a plain program: each call looks through the whole journal.
+ghost use Rattle.std.specs.Prelude.{◌≤◌};
+
 use super::*;
 
 /// A code, a place in the journal, and what is shown.
@@ -44,14 +46,41 @@ impl Scanning {
         self.accounts.iter().copied().find(|a| a.pan == pan)
     }
 
-    fn is_reversed(&self, key: TxKey) -> bool {
-        self.journal
-            .iter()
-            .any(|kept| kept.order.act() == Act::Undo(key))
+    /// What the first reversal of a key leaves.
+    fn left(&self, key: TxKey) -> Option<u64> {
+        for kept in &self.journal {
+            if let Act::Undo { original, left } = kept.order.act() {
+                if original == key {
+                    return Some(left);
+                }
+            }
+        }
+        None
     }
 
-    fn stands(&self, kept: Kept) -> bool {
-        kept.told.0 == 0 && !self.is_reversed(kept.order.key())
+    /// The smaller of an amount and what is left under the key.
+    fn amount(&self, key: TxKey, amount: u64) -> u64
+        ensures { result ≤ amount }
+    {
+        match self.left(key) {
+            Some(left) if left < amount => left,
+            _ => amount,
+        }
+    }
+
+    fn is_granted(&self, kept: Kept) -> bool {
+        kept.told.0 == 0 && self.left(kept.order.key()) != Some(0)
+    }
+
+    fn is_completed(&self, key: TxKey, pan: Pan) -> bool {
+        for kept in &self.journal {
+            if let Act::Complete { money, hold } = kept.order.act() {
+                if self.is_granted(*kept) && hold == key && money.pan == pan {
+                    return true;
+                }
+            }
+        }
+        false
     }
 
     /// The ledger of an account, and what is available.
@@ -59,16 +88,20 @@ impl Scanning {
         let mut ledger = self.account(pan)?.opening;
         let mut held = 0i64;
         for kept in &self.journal {
-            if self.stands(*kept) {
+            let key = kept.order.key();
+            if self.is_granted(*kept) {
                 match kept.order.act() {
                     Act::Credit(money) if money.pan == pan => {
-                        ledger = ledger.wrapping_add(money.amount as i64);
+                        ledger = ledger.wrapping_add(self.amount(key, money.amount) as i64);
                     }
-                    Act::Debit(money) if money.pan == pan && kept.order.key().class() == 2 => {
-                        ledger = ledger.wrapping_sub(money.amount as i64);
+                    Act::Complete { money, .. } if money.pan == pan => {
+                        ledger = ledger.wrapping_sub(self.amount(key, money.amount) as i64);
                     }
-                    Act::Debit(money) if money.pan == pan => {
-                        held = held.wrapping_add(money.amount as i64);
+                    Act::Debit(money) if money.pan == pan && key.class() == 2 => {
+                        ledger = ledger.wrapping_sub(self.amount(key, money.amount) as i64);
+                    }
+                    Act::Debit(money) if money.pan == pan && !self.is_completed(key, pan) => {
+                        held = held.wrapping_add(self.amount(key, money.amount) as i64);
                     }
                     _ => {}
                 }
@@ -80,9 +113,10 @@ impl Scanning {
     fn code(&self, order: Order) -> u8 {
         let money = match order.act() {
             Act::Debit(money) | Act::Credit(money) | Act::Inquiry(money) => money,
-            Act::Undo(_) => return 0,
+            Act::Complete { money, .. } => money,
+            Act::Undo { .. } => return 0,
         };
-        if self.is_reversed(order.key()) {
+        if self.left(order.key()) == Some(0) {
             return 21;
         }
         let Some(account) = self.account(money.pan) else {
@@ -93,7 +127,9 @@ impl Scanning {
         }
         let (_, available) = self.balances(money.pan).unwrap_or((0, 0));
         match order.act() {
-            Act::Debit(_) if order.key().function() == 0 && available < money.amount as i64 => 51,
+            Act::Debit(_)
+                if order.key().function() == 0
+                    && available < self.amount(order.key(), money.amount) as i64 => { 51 }
             Act::Inquiry(_) if available.unsigned_abs() > 999_999_999_999 => 96,
             _ => 0,
         }

@@ -3,7 +3,6 @@ use super::*;
 use iso_order::{Verdict, order_of, respond};
 use iso_table::Table;
 use iso_wire::{pack, unpack};
-use std::process::Abort;
 
 const PAYMENT: &[u8] =
     b"0200722000010000800016411111111111111100000000000000100001020304050000070512345840";
@@ -73,26 +72,40 @@ const LATE_INQUIRY: &[u8] =
 const LATE_BALANCE: &[u8] =
     b"0210622000010600840016411111111111111131000001020306000000110512345000005008400200002840D000000000050";
 
-/// The bytes of a request, those of its response, and the ledger then.
+/// The bytes of a request, those of its response, and what is on the account then.
 #[derive(Drop)]
-struct Exchange {
+pub struct Exchange {
     name: &'static str,
     request: &'static [u8],
     response: &'static [u8],
     ledger: i64,
+    available: i64,
 }
 
-const fn step(
+/// An exchange after which nothing is held.
+pub const fn step(
     name: &'static str,
     request: &'static [u8],
     response: &'static [u8],
     ledger: i64,
+) -> Exchange {
+    held(name, request, response, ledger, ledger)
+}
+
+/// An exchange after which less is available than the ledger.
+pub const fn held(
+    name: &'static str,
+    request: &'static [u8],
+    response: &'static [u8],
+    ledger: i64,
+    available: i64,
 ) -> Exchange {
     Exchange {
         name,
         request,
         response,
         ledger,
+        available,
     }
 }
 
@@ -121,7 +134,12 @@ fn response_to(
     Ok(pack(alloc, table, &response)?)
 }
 
-fn exchanges(rt: &impl Abort, alloc: Global, opening: i64, day: &[Exchange]) -> Result<(), Fail> {
+pub fn exchanges(
+    rt: &impl Abort,
+    alloc: Global,
+    opening: i64,
+    day: &[Exchange],
+) -> Result<(), Fail> {
     let table = Table::ascii87(alloc)?;
     let mut issuer = issuer(alloc, opening, 999_999)?;
     for step in day {
@@ -129,6 +147,11 @@ fn exchanges(rt: &impl Abort, alloc: Global, opening: i64, day: &[Exchange]) -> 
         let response = response_to(alloc, &table, &mut issuer, step.request)?;
         assert_eq!(rt; response.as_slice(), step.response, "{name}");
         assert_eq!(rt; issuer.ledger(account()?), Some(step.ledger), "{name}");
+        assert_eq!(rt;
+            issuer.available(account()?),
+            Some(step.available),
+            "{name}"
+        );
     }
     Ok(())
 }
@@ -172,8 +195,8 @@ fn a_reversal_before_its_payment(rt: HostRuntime) -> Result<(), Fail> {
 #[test]
 fn a_hold_and_an_advice(rt: HostRuntime) -> Result<(), Fail> {
     let day = [
-        step("a hold", HOLD, HELD, 100),
-        step("a debit over what is available", DEBIT, TOO_MUCH, 100),
+        held("a hold", HOLD, HELD, 100, 30),
+        held("a debit over what is available", DEBIT, TOO_MUCH, 100, 30),
         step("the hold's reversal", HOLD_REVERSAL, HOLD_REVERSED, 100),
         step("an advice", ADVICE, ADVISED, -50),
         step("an inquiry", LATE_INQUIRY, LATE_BALANCE, -50),

@@ -67,8 +67,11 @@ fn acts(rt: HostRuntime) -> Result<(), Fail> {
         ),
         (
             "a reversal",
-            Act::Undo(key(200)),
-            "Undo(TxKey { base: 200, stan: 7, sent: 102030405, acquirer: 12345 })",
+            Act::Undo {
+                original: key(200),
+                left: 400,
+            },
+            "Undo { original: TxKey { base: 200, stan: 7, sent: 102030405, acquirer: 12345 }, left: 400 }",
         ),
     ];
     for (name, act, want) in cases {

@@ -66,9 +66,14 @@ fn same_orders(rt: HostRuntime) -> Result<(), Fail> {
     Ok(())
 }
 
+fn undo(original: TxKey) -> Act {
+    Act::Undo { original, left: 0 }
+}
+
 #[test]
 fn refused_orders(rt: HostRuntime) -> Result<(), Fail> {
     let asked = money(ACCOUNT, 0, *b"840")?;
+    let moved = money(ACCOUNT, 1000, *b"840")?;
     let other = TxKey {
         acquirer: 54_321,
         ..key(200)
@@ -91,13 +96,49 @@ fn refused_orders(rt: HostRuntime) -> Result<(), Fail> {
             key(100),
             Act::Credit(money(ACCOUNT, 1000, *b"840")?),
         ),
-        ("a reversal in a payment", key(200), Act::Undo(key(200))),
+        ("a reversal in a payment", key(200), undo(key(200))),
+        ("a reversal for another acquirer", key(420), undo(other)),
+        ("a reversal of a reversal", key(420), undo(key(400))),
         (
-            "a reversal for another acquirer",
+            "a reversal that leaves thirteen digits",
             key(420),
-            Act::Undo(other),
+            Act::Undo {
+                original: key(200),
+                left: 1_000_000_000_000,
+            },
         ),
-        ("a reversal of a reversal", key(420), Act::Undo(key(400))),
+        (
+            "a completion by a request",
+            key(200),
+            Act::Complete {
+                money: moved,
+                hold: key(100),
+            },
+        ),
+        (
+            "a completion of a purchase",
+            key(220),
+            Act::Complete {
+                money: moved,
+                hold: key(200),
+            },
+        ),
+        (
+            "a completion for another acquirer",
+            key(220),
+            Act::Complete {
+                money: moved,
+                hold: TxKey { base: 100, ..other },
+            },
+        ),
+        (
+            "a completion of nothing",
+            key(220),
+            Act::Complete {
+                money: asked,
+                hold: key(100),
+            },
+        ),
         ("under the key of a repeat", key(201), Act::Inquiry(asked)),
     ];
     for (name, key, act) in cases {

@@ -28,13 +28,19 @@ fn debit(base: u16) -> Result<Verdict, Fail> {
 
 /// The reversal of the payment of that type.
 fn undo(base: u16) -> Result<Verdict, Fail> {
+    undo_leaving(base, 0)
+}
+
+/// The reversal of the payment of that type, which leaves so much.
+fn undo_leaving(base: u16, left: u64) -> Result<Verdict, Fail> {
     let own = TxKey {
         base: 420,
         stan: 8,
         sent: 102_030_500,
         acquirer: 12_345,
     };
-    order(own, Act::Undo(key(base)))
+    let original = key(base);
+    order(own, Act::Undo { original, left })
 }
 
 #[test]
@@ -120,10 +126,10 @@ fn refused_payments(rt: HostRuntime) -> Result<(), Fail> {
             Verdict::Reply(30),
         ),
         (
-            "an advice that names another",
+            "an advice that names nothing",
             220,
             Set(90, b""),
-            Verdict::Reply(12),
+            Verdict::Reply(30),
         ),
         (
             "without an account number",
@@ -197,7 +203,7 @@ fn refused_payments(rt: HostRuntime) -> Result<(), Fail> {
 
 #[test]
 fn reversals(rt: HostRuntime) -> Result<(), Fail> {
-    let cases: [(&str, u16, Change, Verdict); 15] = [
+    let cases: [(&str, u16, Change, Verdict); 17] = [
         ("as it stands", 420, Nothing, undo(200)?),
         ("a repeat", 421, Nothing, undo(200)?),
         (
@@ -249,10 +255,22 @@ fn reversals(rt: HostRuntime) -> Result<(), Fail> {
             Verdict::Reply(12),
         ),
         (
-            "a replacement amount",
+            "no bytes of replacement amounts",
             420,
             Set(95, b""),
-            Verdict::Reply(12),
+            Verdict::Reply(30),
+        ),
+        (
+            "a letter in the replacement amount",
+            420,
+            Set(95, b"00000000040A000000000000D00000000D00000000"),
+            Verdict::Reply(30),
+        ),
+        (
+            "a replacement amount",
+            420,
+            Set(95, b"000000000400000000000000D00000000D00000000"),
+            undo_leaving(200, 400)?,
         ),
         (
             "an original of 41 digits",

@@ -24,7 +24,7 @@ changed-requires c =
     let at : row_of (accounts_of rows) c.args.change.pan ≡ Some c.in-Some.place.now = sym (c.self.invariant.0 c.args.change.pan) ∙ sym c.in-Some.ensures.value in
     let below : c.in-Some.place.now < length rows =
     omega (arith, place-below (λ (a : Account). same_pan a.pan c.args.change.pan) 0 (accounts_of rows) c.in-Some.place.now at, length-map rows (λ (b : Balance). b.account)) in
-    let near : All (IsNear 999999) rows = rw c.self.view_is c.requires in
+    let near : All (IsNear 2999999) rows = rw c.self.view_is c.requires in
     rw c.index.ensures (near c.in-Some.place.now c.index.result.now below)
 
 pub index_mut-requires : goal.index_mut-requires

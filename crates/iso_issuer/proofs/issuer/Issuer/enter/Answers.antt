@@ -1,53 +1,47 @@
-use Rattle.std.proofs.Common.{◌≡◌, ap, sym, ◌∙◌, arith, length, ◌<◌, ◌++◌, [], ◌∷◌}
-use Rattle.std.specs.Prelude.{None, List, map}
+use Rattle.std.proofs.Common.{◌≡◌, ap, sym, ◌∙◌, arith, length, ◌<◌, ◌*◌, ◌+◌, ◌++◌, [], ◌∷◌, length-append}
+use Rattle.std.specs.Prelude.{None, List, map, All}
 use Rattle.std.proofs.lemmas.List.{map-append, length-map}
 use Rattle.iso_order.specs.Order.{Instruction}
 use Rattle.iso_issuer.specs.declared.account.Account.{Account}
 use Rattle.iso_issuer.specs.declared.journal.Entry.{Entry}
 use Rattle.iso_issuer.specs.Journal.{entry_at}
 use Rattle.iso_issuer.specs.Decision.{new_answer}
-use Rattle.iso_issuer.specs.Balances.{accounts_of}
+use Rattle.iso_issuer.specs.Balances.{accounts_of, IsNear}
 use Rattle.iso_issuer.specs.Books.{Books}
 use Rattle.iso_issuer.proofs.Entries.{entered-found, kept-push}
 use Rattle.iso_issuer.proofs.Documents.{is_none-of}
-use Rattle.iso_issuer.proofs.Changes.{accounts-posted}
-use Rattle.iso_issuer.proofs.Summed.{summed-posted, summed-kept}
+use Rattle.iso_issuer.proofs.Room.{near-more}
+use Rattle.iso_issuer.proofs.Summed.{settled, settled-thrice, accounts-settled, sums-settled}
 use Rattle.iso_issuer.proofs.issuer.Issuer.enter.Goals as goal
-use Rattle.iso_issuer.proofs.issuer.Issuer.enter.Goals.{in-Some, in_default}
 
-pub enter-requires : goal.enter-requires
-enter-requires c =
+pub enter-requires-clause-new : goal.enter-requires-clause-new
+enter-requires-clause-new c =
     let es = c.self.inside.journal in
     let told = rw (← c.self.view_is) at c.requires.new in
-    record { new = is_none-of (entry_at es c.args.order.key) (sym (entered-found es c.args.order.key) ∙ told) }
+    is_none-of (entry_at es c.args.order.key) (sym (entered-found es c.args.order.key) ∙ told)
 
-pub invariant_of-self-in-Some : goal.invariant_of-self-in-Some
-invariant_of-self-in-Some c =
-    let es = c.self.inside.journal in
-    let balances = c.self.inside.balances in
-    let entry : Entry = record { order = c.args.order; answer = c.new_answer-answer.result } in
-    let answer : c.new_answer-answer.result ≡ new_answer (accounts_of balances) es c.args.order = c.new_answer-answer.ensures in
-    let told = rw (← c.self.view_is) at c.requires.new in
-    let new : entry_at es c.args.order.key ≡ None = is_none-of (entry_at es c.args.order.key) (sym (entered-found es c.args.order.key) ∙ told) in
-    let room = rw (← c.self.view_is) at c.requires.below in
-    let below : length es < c.self.inside.limit = omega (arith, room, length-map es (λ (e : Entry). e.order)) in
-    let summed = summed-posted es entry balances c.in-Some.change c.self.invariant.1 c.in-Some.ensures.ledger c.in-Some.ensures.available in
-    rw (c.post.ensures, accounts-posted c.in-Some.change balances, c.in_ok-enter.ensures.ok)
-    (rw answer (kept-push (accounts_of balances) c.self.inside.limit es c.args.order c.self.invariant.0 below new), summed)
-
-pub invariant_of-self-in_default : goal.invariant_of-self-in_default
-invariant_of-self-in_default c =
+pub invariant_of-self-2 : goal.invariant_of-self-2
+invariant_of-self-2 c =
     let es = c.self.inside.journal in
     let balances = c.self.inside.balances in
-    let entry : Entry = record { order = c.args.order; answer = c.new_answer-answer.result } in
-    let answer : c.new_answer-answer.result ≡ new_answer (accounts_of balances) es c.args.order = c.new_answer-answer.ensures in
+    let o = c.args.order in
+    let entry : Entry = record { order = o; answer = c.new_answer-answer.result } in
+    let answer : c.new_answer-answer.result ≡ new_answer (accounts_of balances) es o = c.new_answer-answer.ensures in
     let told = rw (← c.self.view_is) at c.requires.new in
-    let new : entry_at es c.args.order.key ≡ None = is_none-of (entry_at es c.args.order.key) (sym (entered-found es c.args.order.key) ∙ told) in
+    let new : entry_at es o.key ≡ None = is_none-of (entry_at es o.key) (sym (entered-found es o.key) ∙ told) in
     let room = rw (← c.self.view_is) at c.requires.below in
     let below : length es < c.self.inside.limit = omega (arith, room, length-map es (λ (e : Entry). e.order)) in
-    let summed = summed-kept es entry balances c.self.invariant.1 c.in_default.ensures.ledger c.in_default.ensures.available in
-    rw c.in_ok-enter.ensures.ok
-    (rw answer (kept-push (accounts_of balances) c.self.inside.limit es c.args.order c.self.invariant.0 below new), summed)
+    let kept = c.self.invariant.0 in
+    let after : c.enter.new.self ≡ es ++ entry ∷ [] = c.in_ok-enter.ensures.ok in
+    let is : c.settle.new.balances ≡ map (settled es entry) balances =
+    (rw (after, c.weight_at-before.ensures.value, c.reversed_by-reversed.ensures, c.weight_at-held.ensures.value, c.released_by-released.ensures.value) at c.settle.ensures.moved) ∙ settled-thrice es entry balances in
+    let near : All (IsNear (3 * length (es ++ entry ∷ []))) c.settle.new.balances =
+    near-more (3 * length es + 3) (3 * length (es ++ entry ∷ [])) c.settle.new.balances (omega (arith, length-append es (entry ∷ []))) (c.settle.ensures.near (3 * length es) c.self.invariant.1.near) in
+    let same : accounts_of c.settle.new.balances ≡ accounts_of balances = ap accounts_of is ∙ accounts-settled es entry balances in
+    rw (after, same) (
+      rw answer (kept-push (accounts_of balances) c.self.inside.limit es o kept below new),
+      record { sums = rw is (sums-settled es entry balances kept.distinct c.released_by-released.ensures.apart c.self.invariant.1.sums); near = near },
+    )
 
 pub returns-clause-entered : goal.returns-clause-entered
 returns-clause-entered c =
@@ -55,13 +49,11 @@ returns-clause-entered c =
     let balances = c.self.inside.balances in
     let entry : Entry = record { order = c.args.order; answer = c.new_answer-answer.result } in
     let books : List Account → List Instruction → Books = λ accounts orders. record { accounts = accounts; limit = c.self.inside.limit; orders = orders } in
+    let after : c.enter.new.self ≡ es ++ entry ∷ [] = c.in_ok-enter.ensures.ok in
     let orders : map (λ (e : Entry). e.order) c.enter.new.self ≡ map (λ (e : Entry). e.order) es ++ c.args.order ∷ [] =
-    ap (map (λ (e : Entry). e.order)) c.in_ok-enter.ensures.ok ∙ map-append (λ (e : Entry). e.order) es (entry ∷ []) in
+    ap (map (λ (e : Entry). e.order)) after ∙ map-append (λ (e : Entry). e.order) es (entry ∷ []) in
+    let is : c.settle.new.balances ≡ map (settled es entry) balances =
+    (rw (after, c.weight_at-before.ensures.value, c.reversed_by-reversed.ensures, c.weight_at-held.ensures.value, c.released_by-released.ensures.value) at c.settle.ensures.moved) ∙ settled-thrice es entry balances in
+    let same : accounts_of c.settle.new.balances ≡ accounts_of balances = ap accounts_of is ∙ accounts-settled es entry balances in
     rw (← c.self.view_is)
-    (elim c.match-change.branch [
-      | in-Some w ↦
-          w.self-is
-          ∙ ap (λ accounts. books accounts (map (λ (e : Entry). e.order) c.enter.new.self)) (ap accounts_of w.post.ensures ∙ accounts-posted w.in-Some.change balances)
-          ∙ ap (books (accounts_of balances)) orders
-      | in_default w ↦ w.self-is ∙ ap (books (accounts_of balances)) orders
-    ])
+    (ap (λ accounts. books accounts (map (λ (e : Entry). e.order) c.enter.new.self)) same ∙ ap (books (accounts_of balances)) orders)

@@ -1,0 +1,7 @@
+use Rattle.std.proofs.Common.{ap, ◌+◌}
+use Rattle.iso_issuer.proofs.Counts.{count-more}
+use Rattle.iso_issuer.proofs.journal.complete.Goals as goal
+
+pub returns-clause-ok : goal.returns-clause-ok
+returns-clause-ok c =
+    count-more c.args.counts.now c.insert.new.self c.args.hold (c.count_at-count.result + 1) c.in_ok-insert.ensures.updates.0 (ap (λ n. n + 1) c.count_at-count.ensures)

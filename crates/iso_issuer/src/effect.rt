@@ -1,0 +1,130 @@
+//! What an order does to its account.
+
+ghost use Rattle.std.specs.Prelude.{◌≡◌, ◌≤◌, true, None, IfSome};
+ghost use Rattle.iso_order.specs.declared.key.TxKey.{TxKey};
+ghost use Rattle.iso_order.specs.Key.{class_of};
+ghost use Rattle.iso_issuer.specs.Journal.{undone};
+ghost use Rattle.iso_issuer.specs.Index.{hold_by};
+ghost use Rattle.iso_issuer.specs.Effect.{amount_of, effect_of, ended_by, is_key, side_of, takes};
+
+use iso_order::{Act, Order, Pan, TxKey};
+
+/// Which way an amount counts.
+#[derive(Clone, Copy, Debug, PartialEq, Eq)]
+pub enum Side {
+    /// It is given to the account.
+    Given,
+    /// It is taken from the account.
+    Taken,
+    /// It is held: taken only from what is available.
+    Held,
+}
+
+/// What an order does to its account, as long as it stands.
+#[derive(Clone, Copy, Debug)]
+pub struct Effect {
+    pub pan: Pan,
+    pub side: Side,
+    /// In minor units.
+    pub amount: u64,
+    /// The hold that it ends on the account.
+    pub ends: Option<TxKey>,
+}
+
+/// A hold, by its key and its account.
+#[derive(Clone, Copy, Debug, PartialEq, Eq, PartialOrd, Ord)]
+pub struct Hold {
+    pub key: TxKey,
+    pub pan: Pan,
+}
+
+/// The hold that an effect ends.
+pub fn hold_by(effect: Option<Effect>) -> Option<Hold>
+    ensures { result ≡ hold_by effect }
+{
+    match effect {
+        Some(effect) => match effect.ends {
+            Some(key) => Some(Hold {
+                key,
+                pan: effect.pan,
+            }),
+            None => None,
+        },
+        None => None,
+    }
+}
+
+/// Which way a debit counts.
+fn side_of(key: TxKey) -> Side
+    ensures { result ≡ side_of key }
+{
+    if key.class() == 1 {
+        Side::Held
+    } else {
+        Side::Taken
+    }
+}
+
+impl Side {
+    /// Whether the amount is taken from what is available.
+    pub fn takes(self) -> bool
+        ensures { result ≡ takes self }
+    {
+        match self {
+            Side::Given => false,
+            Side::Taken | Side::Held => true,
+        }
+    }
+}
+
+/// The key of the hold that an effect ends.
+pub fn ended_by(effect: Option<Effect>) -> Option<TxKey>
+    ensures { result ≡ ended_by effect }
+{
+    match effect {
+        Some(effect) => effect.ends,
+        None => None,
+    }
+}
+
+/// The amount of an effect.
+pub fn amount_of(effect: Option<Effect>) -> u64
+    ensures value { result ≡ amount_of effect }
+    ensures small { IfSome effect (λ f. result ≤ f.amount) }
+{
+    match effect {
+        Some(effect) => effect.amount,
+        None => 0,
+    }
+}
+
+/// What an order does to its account, where it does anything.
+pub fn effect_of(order: Order) -> Option<Effect>
+    ensures value { result ≡ effect_of order }
+    ensures small { IfSome result (λ f. f.amount ≤ 999999999999) }
+    ensures own { IfSome result (λ f. undone order.act ≡ None) }
+    // What ends a hold is of class 2, and a hold of class 1.
+    ensures ends { (q : TxKey) → is_key (ended_by result) q ≡ true → (class_of q ≡ 1) × (class_of order.key ≡ 2) }
+{
+    match order.act() {
+        Act::Debit(money) => Some(Effect {
+            pan: money.pan,
+            side: side_of(order.key()),
+            amount: money.amount,
+            ends: None,
+        }),
+        Act::Credit(money) => Some(Effect {
+            pan: money.pan,
+            side: Side::Given,
+            amount: money.amount,
+            ends: None,
+        }),
+        Act::Complete { money, hold } => Some(Effect {
+            pan: money.pan,
+            side: Side::Taken,
+            amount: money.amount,
+            ends: Some(hold),
+        }),
+        Act::Inquiry(_) | Act::Undo { .. } => None,
+    }
+}

@@ -1,0 +1,84 @@
+//! Partial reversals: of an original all but the replacement amount is taken back, once.
+use super::wire::{exchanges, step};
+use super::*;
+
+const PAYMENT: &[u8] =
+    b"0200722000010000800016411111111111111100000000000000100001020304050000070512345840";
+
+const GRANTED: &[u8] =
+    b"021072200001060080001641111111111111110000000000000010000102030405000007051234500000100840";
+
+const GRANTED_SECOND: &[u8] =
+    b"021072200001060080001641111111111111110000000000000010000102030405000007051234500000200840";
+
+const LEAVES_400: &[u8] =
+    b"04208220000100000000000000420000000001020305000000080512345020000000701020304050000001234500000000000000000000400000000000000D00000000D00000000";
+
+const LEAVES_2000: &[u8] =
+    b"04208220000100000000000000420000000001020305000000080512345020000000701020304050000001234500000000000000000002000000000000000D00000000D00000000";
+
+const LEAVES_NOTHING: &[u8] =
+    b"04208220000100000000000000420000000001020305000000080512345020000000701020304050000001234500000000000000000000000000000000000D00000000D00000000";
+
+const REVERSED: &[u8] =
+    b"0430822000010200000000000040000000000102030500000008051234500020000000701020304050000001234500000000000";
+
+const NEXT_REVERSAL: &[u8] =
+    b"04208220000100000000000000400000000001020305000000090512345020000000701020304050000001234500000000000";
+
+const NEXT_REVERSED: &[u8] =
+    b"0430822000010200000000000040000000000102030500000009051234500020000000701020304050000001234500000000000";
+
+#[test]
+fn partial_reversals(rt: HostRuntime) -> Result<(), Fail> {
+    let mut first = issuer(rt.alloc(), 5000, 100)?;
+    let late = [
+        (debit(200, 7, 1000)?, 0, 4000, 4000),
+        (undo(8, 200, 7, 400)?, 0, 4600, 4600),
+        (undo(9, 200, 7, 0)?, 0, 4600, 4600),
+    ];
+    play(&rt, &mut first, &late)?;
+    let mut second = issuer(rt.alloc(), 5000, 100)?;
+    let early = [
+        (undo(8, 200, 7, 400)?, 0, 5000, 5000),
+        (debit(200, 7, 1000)?, 0, 4600, 4600),
+    ];
+    play(&rt, &mut second, &early)?;
+    let mut third = issuer(rt.alloc(), 300, 100)?;
+    let short = [
+        (undo(8, 200, 7, 400)?, 0, 300, 300),
+        (debit(200, 7, 1000)?, 51, 300, 300),
+    ];
+    play(&rt, &mut third, &short)?;
+    let mut fourth = issuer(rt.alloc(), 500, 100)?;
+    let enough = [
+        (undo(8, 200, 7, 400)?, 0, 500, 500),
+        (debit(200, 7, 1000)?, 0, 100, 100),
+    ];
+    play(&rt, &mut fourth, &enough)
+}
+
+#[test]
+fn partial_reversals_by_bytes(rt: HostRuntime) -> Result<(), Fail> {
+    let late = [
+        step("a payment", PAYMENT, GRANTED, 4000),
+        step("its partial reversal", LEAVES_400, REVERSED, 4600),
+        step("a later one", NEXT_REVERSAL, NEXT_REVERSED, 4600),
+    ];
+    exchanges(&rt, rt.alloc(), 5000, &late)?;
+    let early = [
+        step("the partial reversal", LEAVES_400, REVERSED, 5000),
+        step("its payment", PAYMENT, GRANTED_SECOND, 4600),
+    ];
+    exchanges(&rt, rt.alloc(), 5000, &early)?;
+    let above = [
+        step("a payment", PAYMENT, GRANTED, 4000),
+        step("a replacement above it", LEAVES_2000, REVERSED, 4000),
+    ];
+    exchanges(&rt, rt.alloc(), 5000, &above)?;
+    let none = [
+        step("a payment", PAYMENT, GRANTED, 4000),
+        step("a replacement of nothing", LEAVES_NOTHING, REVERSED, 5000),
+    ];
+    exchanges(&rt, rt.alloc(), 5000, &none)
+}
