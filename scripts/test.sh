@@ -25,8 +25,25 @@ example() {
     fi
 }
 
+# tables/ has the built-in tables as the tests of iso_table have them, byte for byte
+tables() {
+    same=0
+    for table in ascii87 bcd87; do
+        name=$(echo "$table" | tr a-z A-Z)
+        sed -n "/^const $name/,/\"#;\$/p" crates/iso_table/src/tests/edition87.rt | sed 's/.*r#"//; s/"#;$//' \
+            | tr -d '\n' > "$folder/table"
+        if [ -s "$folder/table" ] && cmp -s "$folder/table" "tables/$table.json"; then
+            same=$((same + 1))
+        else
+            echo "FAILED tables/$table.json: it isn't what to_json writes"
+        fi
+    done
+    echo "tables: $same documents passed, $((2 - same)) failed"
+}
+
 {
     example
+    tables
     jobs | xargs -P 2 -n 2 sh
 } | tee "$folder/told"
 awk '/^[^ ]*: [0-9]* .*passed, [0-9]* failed$/ { passed += $2; failed += $(NF - 1) }

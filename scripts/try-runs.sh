@@ -29,6 +29,7 @@ if [ "$1" = iso_cli ]; then
     run "$examples/echo.txt" "$examples/expected/convert" convert convert ascii87 bcd87
     run /dev/null "$examples/expected/check" check check terminals.json
     run "$examples/day.txt" "$examples/expected/day" day run ascii87 accounts.json ascii4
+    run "$examples/hotel.txt" "$examples/expected/hotel" hotel run ascii87 accounts.json ascii4
 fi
 
 rt try --cases "$cases" --data "accounts.json=$examples/accounts.json" --data terminals.json=../../tables/terminals.json \

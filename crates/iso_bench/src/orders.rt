@@ -75,5 +75,12 @@ pub fn purchase(n: u32) -> Result<Order> {
 
 /// The `n`th reversal, of that purchase.
 pub fn reversal(n: u32, purchase: u32) -> Result<Order> {
-    Order::new(key(420, n), Act::Undo { original: key(200, purchase), left: 0 }).context("a reversal")
+    Order::new(
+        key(420, n),
+        Act::Undo {
+            original: key(200, purchase),
+            left: 0,
+        },
+    )
+    .context("a reversal")
 }
