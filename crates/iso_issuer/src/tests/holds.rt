@@ -47,6 +47,10 @@ const HOLD_REVERSAL: &[u8] =
 const HOLD_REVERSED: &[u8] =
     b"0430822000010200000000000040000000000102030900000022051234500010000001001020304050000001234500000000000";
 
+const TWO_ACCOUNTS: &[u8] =
+    b"{\"accounts\":[{\"currency\":\"840\",\"opening\":5000,\"pan\":\"4111111111111111\"},
+    {\"currency\":\"840\",\"opening\":5000,\"pan\":\"4000000000000002\"}]}";
+
 fn complete(stan: u32, hold: u32, amount: u64) -> Result<Order, Fail> {
     order(
         220,
@@ -98,22 +102,22 @@ fn partly_reversed_completions(rt: HostRuntime) -> Result<(), Fail> {
 
 #[test]
 fn completions_of_another_account(rt: HostRuntime) -> Result<(), Fail> {
-    let mut issuer = issuer(rt.alloc(), 5000, 100)?;
-    let other = Money {
-        pan: pan(b"4000000000000002")?,
-        ..money(700)?
+    let mut issuer = Issuer::new(Accounts::from_json(rt.alloc(), TWO_ACCOUNTS)?, 100);
+    let other = pan(b"4000000000000002")?;
+    let money = Money {
+        pan: other,
+        amount: 700,
+        currency: *b"840",
     };
     let hold = key(100, 10);
+    let completion = order(220, 11, Act::Complete { money, hold })?;
     let rows = [
         (debit(100, 10, 1000)?, 0, 5000, 4000),
-        (
-            order(220, 11, Act::Complete { money: other, hold })?,
-            14,
-            5000,
-            4000,
-        ),
+        (completion, 0, 5000, 4000),
     ];
-    play(&rt, &mut issuer, &rows)
+    play(&rt, &mut issuer, &rows)?;
+    assert_eq!(rt; issuer.ledger(other), Some(4300));
+    Ok(())
 }
 
 #[test]

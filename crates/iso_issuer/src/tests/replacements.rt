@@ -30,32 +30,31 @@ const NEXT_REVERSED: &[u8] =
     b"0430822000010200000000000040000000000102030500000009051234500020000000701020304050000001234500000000000";
 
 #[test]
-fn partial_reversals(rt: HostRuntime) -> Result<(), Fail> {
-    let mut first = issuer(rt.alloc(), 5000, 100)?;
-    let late = [
+fn partial_reversal_of_a_payment(rt: HostRuntime) -> Result<(), Fail> {
+    let mut issuer = issuer(rt.alloc(), 5000, 100)?;
+    let rows = [
         (debit(200, 7, 1000)?, 0, 4000, 4000),
         (undo(8, 200, 7, 400)?, 0, 4600, 4600),
         (undo(9, 200, 7, 0)?, 0, 4600, 4600),
     ];
-    play(&rt, &mut first, &late)?;
-    let mut second = issuer(rt.alloc(), 5000, 100)?;
-    let early = [
-        (undo(8, 200, 7, 400)?, 0, 5000, 5000),
-        (debit(200, 7, 1000)?, 0, 4600, 4600),
+    play(&rt, &mut issuer, &rows)
+}
+
+/// A partial reversal that leaves 400, and then its payment of 1000, which has this code.
+fn early(rt: &impl Abort, alloc: Global, opening: i64, code: u8, left: i64) -> Result<(), Fail> {
+    let mut issuer = issuer(alloc, opening, 100)?;
+    let rows = [
+        (undo(8, 200, 7, 400)?, 0, opening, opening),
+        (debit(200, 7, 1000)?, code, left, left),
     ];
-    play(&rt, &mut second, &early)?;
-    let mut third = issuer(rt.alloc(), 300, 100)?;
-    let short = [
-        (undo(8, 200, 7, 400)?, 0, 300, 300),
-        (debit(200, 7, 1000)?, 51, 300, 300),
-    ];
-    play(&rt, &mut third, &short)?;
-    let mut fourth = issuer(rt.alloc(), 500, 100)?;
-    let enough = [
-        (undo(8, 200, 7, 400)?, 0, 500, 500),
-        (debit(200, 7, 1000)?, 0, 100, 100),
-    ];
-    play(&rt, &mut fourth, &enough)
+    play(rt, &mut issuer, &rows)
+}
+
+#[test]
+fn early_partial_reversals(rt: HostRuntime) -> Result<(), Fail> {
+    early(&rt, rt.alloc(), 5000, 0, 4600)?;
+    early(&rt, rt.alloc(), 500, 0, 100)?;
+    early(&rt, rt.alloc(), 300, 51, 300)
 }
 
 #[test]
