@@ -21,6 +21,10 @@ abbrev pub ConvertsOver : (List ℕ → Option (List ℕ)) → List ℕ → List
 ConvertsOver file from to input old new =
     IfSome input (λ all. (f : Layout) × (t : Layout) × (b : List ℕ) × IsNamed file from f × IsNamed file to t × Converts f t all b × Appends old new b)
 
+-- where the words ask to convert, that was appended
+abbrev pub ConvertsAsked : List (List ℕ) → (List ℕ → Option (List ℕ)) → Option (List ℕ) → Option (List ℕ) → Option (List ℕ) → Type 0
+ConvertsAsked words file input old new = (from to : List ℕ) → words ≡ codes "convert" ∷ from ∷ to ∷ [] → ConvertsOver file from to input old new
+
 -- ---- the echo
 
 -- the answer to a verdict: the plain spelling of the response where the message itself decides, else `none`

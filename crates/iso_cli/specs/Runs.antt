@@ -1,5 +1,5 @@
 -- What the host on a stream writes.
-use Rattle.std.specs.Prelude.{ℕ, List, [], Option, IfSome}
+use Rattle.std.specs.Prelude.{◌≡◌, ℕ, List, [], ◌∷◌, Option, IfSome, codes}
 use Rattle.std.specs.Io.KnownBytes.{Appends}
 use Rattle.iso_table.specs.Layout.{Layout}
 use Rattle.iso_table.specs.HostReady.{IsHostReady}
@@ -9,6 +9,7 @@ use Rattle.iso_issuer.specs.declared.account.Account.{Account}
 use Rattle.iso_issuer.specs.Books.{Books}
 use Rattle.iso_issuer.specs.Document.{ListsAccounts}
 use Rattle.iso_host.specs.Output.{IsOutput}
+use Rattle.iso_cli.specs.Asks.{header_name}
 use Rattle.iso_cli.specs.Tables.{IsNamed}
 
 -- these accounts, with an empty journal
@@ -27,3 +28,8 @@ abbrev pub RunsOver : (List ℕ → Option (List ℕ)) → List ℕ → List ℕ
 RunsOver file table accounts h input old new =
     IfSome input (λ all. (t : Layout) × (listed : List Account) × (b : List ℕ) × IsNamed file table t
     × IfSome (file accounts) (λ text. ListsAccounts text listed) × Runs t listed h all b × Appends old new b)
+
+-- where the words ask to run, that was appended
+abbrev pub RunsAsked : List (List ℕ) → (List ℕ → Option (List ℕ)) → Option (List ℕ) → Option (List ℕ) → Option (List ℕ) → Type 0
+RunsAsked words file input old new =
+    (table accounts : List ℕ) (header : Header) → words ≡ codes "run" ∷ table ∷ accounts ∷ header_name header ∷ [] → RunsOver file table accounts header input old new

@@ -1,10 +1,8 @@
 //! What the command does.
 
-ghost use Rattle.std.specs.Prelude.{◌≡◌, ◌≤◌, ℕ, List, [], ◌∷◌, map, codes, OnOk};
-ghost use Rattle.iso_wire.specs.declared.header.Header.{Header};
-ghost use Rattle.iso_cli.specs.Acts.{ConvertsOver, EchoesOver};
-ghost use Rattle.iso_cli.specs.Asks.{header_name};
-ghost use Rattle.iso_cli.specs.Runs.{RunsOver};
+ghost use Rattle.std.specs.Prelude.{◌≡◌, ◌≤◌, [], map, OnOk};
+ghost use Rattle.iso_cli.specs.Acts.{ConvertsAsked, EchoesOver};
+ghost use Rattle.iso_cli.specs.Runs.{RunsAsked};
 
 use crate::check::check;
 use crate::convert::convert;
@@ -27,8 +25,10 @@ fn perform<S: Source, I: Inlet, O: Outlet>(
     output: &mut O,
 ) -> Result<Option<Report>, Stop>
     ensures echo { words.now ≡ [] → OnOk result (EchoesOver (I.remaining input.old) (O.contents output.old) (O.contents output.new)) }
-    ensures convert { (from to : List ℕ) → map (λ w. w.now) words.now ≡ codes "convert" ∷ from ∷ to ∷ [] → OnOk result (ConvertsOver (S.file source.now) from to (I.remaining input.old) (O.contents output.old) (O.contents output.new)) }
-    ensures run { (table accounts : List ℕ) (header : Header) → map (λ w. w.now) words.now ≡ codes "run" ∷ table ∷ accounts ∷ header_name header ∷ [] → OnOk result (RunsOver (S.file source.now) table accounts header (I.remaining input.old) (O.contents output.old) (O.contents output.new)) }
+    ensures convert { OnOk result (ConvertsAsked (map (λ w. w.now) words.now) (S.file source.now)
+        (I.remaining input.old) (O.contents output.old) (O.contents output.new)) }
+    ensures run { OnOk result (RunsAsked (map (λ w. w.now) words.now) (S.file source.now)
+        (I.remaining input.old) (O.contents output.old) (O.contents output.new)) }
 {
     match parse(alloc, words)? {
         Job::Echo => echo(alloc, input, output)?,
@@ -57,9 +57,11 @@ pub fn act<S: Source, I: Inlet, O: Outlet, F: Outlet>(
     // Without words: the last line is the response that the message decides, or `none`.
     ensures echo { words.now ≡ [] → result ≡ 0 → EchoesOver (I.remaining input.old) (O.contents output.old) (O.contents output.new) }
     // `convert`: the plain spelling under the second table of what the input spells under the first.
-    ensures convert { (from to : List ℕ) → map (λ w. w.now) words.now ≡ codes "convert" ∷ from ∷ to ∷ [] → result ≡ 0 → ConvertsOver (S.file source.now) from to (I.remaining input.old) (O.contents output.old) (O.contents output.new) }
+    ensures convert { result ≡ 0 → ConvertsAsked (map (λ w. w.now) words.now) (S.file source.now)
+        (I.remaining input.old) (O.contents output.old) (O.contents output.new) }
     // `run`: the output for the bodies of the whole input, for the accounts of the document, with an empty journal.
-    ensures run { (table accounts : List ℕ) (header : Header) → map (λ w. w.now) words.now ≡ codes "run" ∷ table ∷ accounts ∷ header_name header ∷ [] → result ≡ 0 → RunsOver (S.file source.now) table accounts header (I.remaining input.old) (O.contents output.old) (O.contents output.new) }
+    ensures run { result ≡ 0 → RunsAsked (map (λ w. w.now) words.now) (S.file source.now)
+        (I.remaining input.old) (O.contents output.old) (O.contents output.new) }
     ensures status { result ≤ 3 }
 {
     match perform(alloc, words, source, input, output) {
