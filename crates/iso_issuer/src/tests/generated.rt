@@ -180,7 +180,7 @@ fn compare(
 fn generated_runs(rt: HostRuntime) -> Result<(), Fail> {
     let mut draws = Draws(1);
     let mut codes = BTreeSet::new(rt.alloc());
-    for _ in 0..3 {
+    for _ in 0..12 {
         compare(&rt, rt.alloc(), &mut draws, &mut codes)?;
     }
     for code in [0, 12, 14, 21, 51, 94, FULL] {
