@@ -35,7 +35,8 @@ impl Source for OneFile {
 }
 
 const TERMINALS: &[u8] =
-    b"{\"bitmap\":\"hex\",\"mti\":\"ascii\",\"profile\":1,\"rows\":[{\"class\":\"ANS\",\"coding\":\"ascii\",\"length\":\"fixed\",\"max\":8,\"number\":41,\"pad\":\"right:20\"}],\"version\":0}";
+    b"{\"bitmap\":\"hex\",\"mti\":\"ascii\",\"profile\":1,\"rows\":[{\"class\":\"ANS\",\"coding\":\"ascii\",\
+      \"length\":\"fixed\",\"max\":8,\"number\":41,\"pad\":\"right:20\"}],\"version\":0}";
 
 const ECHO_TEST: &[u8] = b"0800822000000000000004000000000000000102030405000001301";
 

@@ -71,32 +71,46 @@ fn a_table_is_refused(rt: HostRuntime) -> Result<(), Fail> {
     let documents = [
         (
             "LL of 100",
-            b"{\"bitmap\":\"hex\",\"mti\":\"ascii\",\"profile\":1,\"rows\":[{\"class\":\"N\",\"coding\":\"ascii\",\"length\":\"LL\",\"prefix\":\"ascii\",\"max\":100,\"number\":2,\"pad\":\"none\"}],\"version\":0}".as_slice(),
+            b"{\"bitmap\":\"hex\",\"mti\":\"ascii\",\"profile\":1,\"rows\":[{\"class\":\"N\",\"coding\":\"ascii\",\
+              \"length\":\"LL\",\"prefix\":\"ascii\",\"max\":100,\"number\":2,\"pad\":\"none\"}],\"version\":0}"
+                .as_slice(),
             b"refused: table BadMax element 2\n".as_slice(),
         ),
         (
             "BCD letters",
-            b"{\"bitmap\":\"hex\",\"mti\":\"ascii\",\"profile\":1,\"rows\":[{\"class\":\"ANS\",\"coding\":\"bcd\",\"length\":\"LL\",\"prefix\":\"ascii\",\"max\":19,\"number\":2,\"pad\":\"none\"}],\"version\":0}".as_slice(),
+            b"{\"bitmap\":\"hex\",\"mti\":\"ascii\",\"profile\":1,\"rows\":[{\"class\":\"ANS\",\"coding\":\"bcd\",\
+              \"length\":\"LL\",\"prefix\":\"ascii\",\"max\":19,\"number\":2,\"pad\":\"none\"}],\"version\":0}"
+                .as_slice(),
             b"refused: table CodingClass element 2\n".as_slice(),
         ),
         (
             "element 65",
-            b"{\"bitmap\":\"hex\",\"mti\":\"ascii\",\"profile\":1,\"rows\":[{\"class\":\"N\",\"coding\":\"ascii\",\"length\":\"LL\",\"prefix\":\"ascii\",\"max\":19,\"number\":65,\"pad\":\"none\"}],\"version\":0}".as_slice(),
+            b"{\"bitmap\":\"hex\",\"mti\":\"ascii\",\"profile\":1,\"rows\":[{\"class\":\"N\",\"coding\":\"ascii\",\
+              \"length\":\"LL\",\"prefix\":\"ascii\",\"max\":19,\"number\":65,\"pad\":\"none\"}],\"version\":0}"
+                .as_slice(),
             b"refused: table BadNumber element 65\n".as_slice(),
         ),
         (
             "a number twice",
-            b"{\"bitmap\":\"hex\",\"mti\":\"ascii\",\"profile\":1,\"rows\":[{\"class\":\"N\",\"coding\":\"ascii\",\"length\":\"LL\",\"prefix\":\"ascii\",\"max\":19,\"number\":2,\"pad\":\"none\"},{\"class\":\"N\",\"coding\":\"ascii\",\"length\":\"LL\",\"prefix\":\"ascii\",\"max\":19,\"number\":2,\"pad\":\"none\"}],\"version\":0}".as_slice(),
+            b"{\"bitmap\":\"hex\",\"mti\":\"ascii\",\"profile\":1,\"rows\":[{\"class\":\"N\",\"coding\":\"ascii\",\
+              \"length\":\"LL\",\"prefix\":\"ascii\",\"max\":19,\"number\":2,\"pad\":\"none\"},{\"class\":\"N\",\
+              \"coding\":\"ascii\",\"length\":\"LL\",\"prefix\":\"ascii\",\"max\":19,\"number\":2,\"pad\":\"none\"}],\
+              \"version\":0}"
+                .as_slice(),
             b"refused: table Twice element 2\n".as_slice(),
         ),
         (
             "version 3",
-            b"{\"bitmap\":\"hex\",\"mti\":\"ascii\",\"profile\":1,\"rows\":[{\"class\":\"N\",\"coding\":\"ascii\",\"length\":\"LL\",\"prefix\":\"ascii\",\"max\":19,\"number\":2,\"pad\":\"none\"}],\"version\":3}".as_slice(),
+            b"{\"bitmap\":\"hex\",\"mti\":\"ascii\",\"profile\":1,\"rows\":[{\"class\":\"N\",\"coding\":\"ascii\",\
+              \"length\":\"LL\",\"prefix\":\"ascii\",\"max\":19,\"number\":2,\"pad\":\"none\"}],\"version\":3}"
+                .as_slice(),
             b"refused: table BadVersion\n".as_slice(),
         ),
         (
             "a pad on LL",
-            b"{\"bitmap\":\"hex\",\"mti\":\"ascii\",\"profile\":1,\"rows\":[{\"class\":\"N\",\"coding\":\"ascii\",\"length\":\"LL\",\"prefix\":\"ascii\",\"max\":19,\"number\":2,\"pad\":\"left:30\"}],\"version\":0}".as_slice(),
+            b"{\"bitmap\":\"hex\",\"mti\":\"ascii\",\"profile\":1,\"rows\":[{\"class\":\"N\",\"coding\":\"ascii\",\
+              \"length\":\"LL\",\"prefix\":\"ascii\",\"max\":19,\"number\":2,\"pad\":\"left:30\"}],\"version\":0}"
+                .as_slice(),
             b"refused: table PadNotAllowed element 2\n".as_slice(),
         ),
         (
@@ -106,22 +120,32 @@ fn a_table_is_refused(rt: HostRuntime) -> Result<(), Fail> {
         ),
         (
             "profile 7",
-            b"{\"bitmap\":\"hex\",\"mti\":\"ascii\",\"profile\":7,\"rows\":[{\"class\":\"N\",\"coding\":\"ascii\",\"length\":\"LL\",\"prefix\":\"ascii\",\"max\":19,\"number\":2,\"pad\":\"none\"}],\"version\":0}".as_slice(),
+            b"{\"bitmap\":\"hex\",\"mti\":\"ascii\",\"profile\":7,\"rows\":[{\"class\":\"N\",\"coding\":\"ascii\",\
+              \"length\":\"LL\",\"prefix\":\"ascii\",\"max\":19,\"number\":2,\"pad\":\"none\"}],\"version\":0}"
+                .as_slice(),
             b"refused: table Profile\n".as_slice(),
         ),
         (
             "an unknown member",
-            b"{\"bitmap\":\"hex\",\"mti\":\"ascii\",\"profile\":1,\"rows\":[{\"class\":\"N\",\"coding\":\"ascii\",\"length\":\"LL\",\"prefix\":\"ascii\",\"max\":19,\"number\":2,\"pad\":\"none\",\"note\":1}],\"version\":0}".as_slice(),
+            b"{\"bitmap\":\"hex\",\"mti\":\"ascii\",\"profile\":1,\"rows\":[{\"class\":\"N\",\"coding\":\"ascii\",\
+              \"length\":\"LL\",\"prefix\":\"ascii\",\"max\":19,\"number\":2,\"pad\":\"none\",\"note\":1}],\
+              \"version\":0}"
+                .as_slice(),
             b"refused: table Shape\n".as_slice(),
         ),
         (
             "a number with a point",
-            b"{\"bitmap\":\"hex\",\"mti\":\"ascii\",\"profile\":1,\"rows\":[{\"class\":\"N\",\"coding\":\"ascii\",\"length\":\"LL\",\"prefix\":\"ascii\",\"max\":19.0,\"number\":2,\"pad\":\"none\"}],\"version\":0}".as_slice(),
+            b"{\"bitmap\":\"hex\",\"mti\":\"ascii\",\"profile\":1,\"rows\":[{\"class\":\"N\",\"coding\":\"ascii\",\
+              \"length\":\"LL\",\"prefix\":\"ascii\",\"max\":19.0,\"number\":2,\"pad\":\"none\"}],\"version\":0}"
+                .as_slice(),
             b"refused: table Shape\n".as_slice(),
         ),
         (
             "a number of 20 digits",
-            b"{\"bitmap\":\"hex\",\"mti\":\"ascii\",\"profile\":1,\"rows\":[{\"class\":\"N\",\"coding\":\"ascii\",\"length\":\"LL\",\"prefix\":\"ascii\",\"max\":12345678901234567890,\"number\":2,\"pad\":\"none\"}],\"version\":0}".as_slice(),
+            b"{\"bitmap\":\"hex\",\"mti\":\"ascii\",\"profile\":1,\"rows\":[{\"class\":\"N\",\"coding\":\"ascii\",\
+              \"length\":\"LL\",\"prefix\":\"ascii\",\"max\":12345678901234567890,\"number\":2,\"pad\":\"none\"}],\
+              \"version\":0}"
+                .as_slice(),
             b"refused: table Shape\n".as_slice(),
         ),
         (

@@ -11,7 +11,8 @@ fn a_message_is_shown(rt: HostRuntime) -> Result<(), Fail> {
             words: &["show", "ascii87"],
             input: PAYMENT,
             status: 0,
-            output: b"MTI=0200 1987 Financial Request Acquirer\nDE002=411111******1111\nDE003=000000\nDE004=000000001000\nDE007=0102030405\nDE011=000007\nDE032=12345\nDE049=840\nUSED=82/82\n",
+            output: b"MTI=0200 1987 Financial Request Acquirer\nDE002=411111******1111\nDE003=000000\nDE004=000000001\
+              000\nDE007=0102030405\nDE011=000007\nDE032=12345\nDE049=840\nUSED=82/82\n",
             faults: b"",
         },
         Case {
@@ -19,7 +20,8 @@ fn a_message_is_shown(rt: HostRuntime) -> Result<(), Fail> {
             words: &["show", "ascii87", "--clear"],
             input: PAYMENT,
             status: 0,
-            output: b"MTI=0200 1987 Financial Request Acquirer\nDE002=4111111111111111\nDE003=000000\nDE004=000000001000\nDE007=0102030405\nDE011=000007\nDE032=12345\nDE049=840\nUSED=82/82\n",
+            output: b"MTI=0200 1987 Financial Request Acquirer\nDE002=4111111111111111\nDE003=000000\nDE004=000000001\
+              000\nDE007=0102030405\nDE011=000007\nDE032=12345\nDE049=840\nUSED=82/82\n",
             faults: b"",
         },
         Case {
@@ -59,7 +61,8 @@ fn a_message_is_shown(rt: HostRuntime) -> Result<(), Fail> {
             words: &["show", "ascii87"],
             input: b"0210200000100A100001000000D00000150AB 456-78901Z9000123456789ABCDEF",
             status: 0,
-            output: b"MTI=0210 1987 Financial Response Acquirer\nDE003=000000\nDE028=D00000150\nDE037=AB 456-78901\nDE039=Z9\nDE044=\nDE064=0123456789ABCDEF\nUSED=67/67\n",
+            output: b"MTI=0210 1987 Financial Response Acquirer\nDE003=000000\nDE028=D00000150\nDE037=AB 456-78901\nD\
+              E039=Z9\nDE044=\nDE064=0123456789ABCDEF\nUSED=67/67\n",
             faults: b"",
         },
         Case {
@@ -83,7 +86,8 @@ fn a_message_is_shown(rt: HostRuntime) -> Result<(), Fail> {
             words: &["show", "ascii87"],
             input: b"0800022a000000000000010203040500000101020103XYZ",
             status: 0,
-            output: b"MTI=0800 1987 NetworkManagement Request Acquirer\nDE007=0102030405\nDE011=000001\nDE013=0102\nDE015=0103\nUSED=44/47\n",
+            output: b"MTI=0800 1987 NetworkManagement Request Acquirer\nDE007=0102030405\nDE011=000001\nDE013=0102\nD\
+              E015=0103\nUSED=44/47\n",
             faults: b"",
         },
         Case {

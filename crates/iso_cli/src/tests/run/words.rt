@@ -16,7 +16,8 @@ struct Refused {
 #[test]
 fn words_and_documents_are_refused_in_order(rt: HostRuntime) -> Result<(), Fail> {
     let twice: &[u8] =
-        b"{\"accounts\":[{\"currency\":\"840\",\"opening\":5000,\"pan\":\"4111111111111111\"},{\"currency\":\"978\",\"opening\":0,\"pan\":\"4111111111111111\"}]}";
+        b"{\"accounts\":[{\"currency\":\"840\",\"opening\":5000,\"pan\":\"4111111111111111\"},{\"currency\":\"978\",\
+          \"opening\":0,\"pan\":\"4111111111111111\"}]}";
     let most: &[u8] =
         b"{\"accounts\":[{\"currency\":\"840\",\"opening\":9000000000000001,\"pan\":\"1\"}]}";
     let cases = [
