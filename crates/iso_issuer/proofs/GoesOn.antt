@@ -1,5 +1,5 @@
 -- A journal that goes on.
-use Rattle.std.proofs.Common.{◌≡◌, ◌<◌, ◌≤◌, ℕ, ◌+◌, ◌-◌, Bool, true, false, refl, arith, ap, sym, ◌∙◌, List, [], ◌∷◌, ◌++◌, length, take, cond, append_assoc, append-nil, length-append}
+use Rattle.std.proofs.Common.{◌≡◌, ◌<◌, ◌≤◌, ℕ, ◌+◌, ◌-◌, Bool, true, false, refl, arith, ap, sym, ◌∙◌, subst, List, [], ◌∷◌, ◌++◌, length, take, map, cond, append_assoc, append-nil, length-append}
 use Rattle.std.specs.Prelude.{Option, Some, None, is_some, find, filter}
 use Rattle.std.proofs.Math.Seq.{take-append_seam, take-append-add}
 use Rattle.std.proofs.lemmas.List.{length-map}
@@ -12,15 +12,15 @@ use Rattle.iso_issuer.specs.declared.account.Account.{Account}
 use Rattle.iso_issuer.specs.declared.journal.Entry.{Entry}
 use Rattle.iso_issuer.specs.Journal.{firsts, is_entered, entry_at, HasDistinctKeys}
 use Rattle.iso_issuer.specs.Decision.{entered, new_entry, journal_of, repeated, reply, reply_by}
-use Rattle.iso_issuer.specs.Books.{Books, journal, IsFullFor}
+use Rattle.iso_issuer.specs.Books.{Books, journal, entering, IsFullFor}
 use Rattle.iso_issuer.specs.Laws.{books_after}
 use Rattle.iso_issuer.proofs.Keys.{same_key_self}
-use Rattle.iso_issuer.proofs.Firsts.{is_other, firsts-distinct, distinct-push}
+use Rattle.iso_issuer.proofs.Firsts.{is_other, firsts-new, firsts-known, firsts-distinct, distinct-push}
 use Rattle.iso_issuer.proofs.Entries.{entered-push, orders-entered, entered-found}
 
 -- ---- the entries that there are
 
-find-more : {X : Type 0} (t : X → Bool) (xs ys : List X) (x : X) → find t xs ≡ Some x → find t (xs ++ ys) ≡ Some x
+pub find-more : {X : Type 0} (t : X → Bool) (xs ys : List X) (x : X) → find t xs ≡ Some x → find t (xs ++ ys) ≡ Some x
 find-more t [] ys x h = cc
 find-more t (y ∷ xs) ys x h = by_test (t y) h (find-more t xs ys x)
   where
@@ -47,7 +47,7 @@ entered-begins accounts es (o ∷ os) =
     let rest = entered-begins accounts (es ++ new_entry accounts es o ∷ []) os in
     (new_entry accounts es o ∷ rest.0, rest.1 ∙ append_assoc es (new_entry accounts es o ∷ []) rest.0)
 
-journal-begins : (accounts : List Account) (orders more : List Instruction) → (later : List Entry) × (journal_of accounts (orders ++ more) ≡ journal_of accounts orders ++ later)
+pub journal-begins : (accounts : List Account) (orders more : List Instruction) → (later : List Entry) × (journal_of accounts (orders ++ more) ≡ journal_of accounts orders ++ later)
 journal-begins accounts orders more =
     let rest = entered-begins accounts (journal_of accounts orders) more in
     (rest.0, entered-append accounts [] orders more ∙ rest.1)
@@ -143,3 +143,36 @@ pub entries-answer : SameSelf → (b : Books) (o : Instruction) (answer : Outcom
 entries-answer self b o answer since distinct few found =
     let e : Entry = record { order = o; answer = answer } in
     reply-after b o since e distinct few found ∙ again e o refl self
+
+-- ---- one order more
+
+pub orders-of : (accounts : List Account) (orders : List Instruction) → map (λ e. e.order) (journal_of accounts orders) ≡ orders
+orders-of accounts orders = orders-entered accounts [] orders
+
+pub entered-has : (accounts : List Account) (orders : List Instruction) (key : TxKey) → is_entered orders key ≡ is_some (entry_at (journal_of accounts orders) key)
+entered-has accounts orders key =
+    ap (λ (l : List Instruction). is_entered l key) (sym (orders-of accounts orders)) ∙ entered-found (journal_of accounts orders) key
+
+pub journals-grow : (accounts : List Account) (orders : List Instruction) (o : Instruction) →
+    journal_of accounts (orders ++ o ∷ []) ≡ journal_of accounts orders ++ new_entry accounts (journal_of accounts orders) o ∷ []
+journals-grow accounts orders o = entered-push accounts [] orders o
+
+-- the orders after one more, whose key is there or is new
+known : (orders : List Instruction) (o : Instruction) → HasDistinctKeys orders → is_entered orders o.key ≡ true → firsts (orders ++ o ∷ []) ≡ orders
+known orders o distinct there = firsts-known orders o there ∙ firsts-distinct orders distinct
+
+new : (orders : List Instruction) (o : Instruction) → HasDistinctKeys orders → is_entered orders o.key ≡ false → firsts (orders ++ o ∷ []) ≡ orders ++ o ∷ []
+new orders o distinct none = firsts-new orders o none ∙ ap (λ (l : List Instruction). l ++ o ∷ []) (firsts-distinct orders distinct)
+
+pub entering-known : (b : Books) (o : Instruction) → HasDistinctKeys b.orders → is_entered b.orders o.key ≡ true → entering b o ≡ b
+entering-known b o distinct there = ap (λ (l : List Instruction). record b { orders = l }) (known b.orders o distinct there)
+
+pub entering-new : (b : Books) (o : Instruction) → HasDistinctKeys b.orders → is_entered b.orders o.key ≡ false → entering b o ≡ record b { orders = b.orders ++ o ∷ [] }
+entering-new b o distinct none = ap (λ (l : List Instruction). record b { orders = l }) (new b.orders o distinct none)
+
+pub entering-distinct : (b : Books) (o : Instruction) → HasDistinctKeys b.orders → HasDistinctKeys (entering b o).orders
+entering-distinct b o distinct = by_test (is_entered b.orders o.key) refl
+  where
+    by_test : (t : Bool) → is_entered b.orders o.key ≡ t → HasDistinctKeys (firsts (b.orders ++ o ∷ []))
+    by_test true there = subst HasDistinctKeys (sym (known b.orders o distinct there)) distinct
+    by_test false none = subst HasDistinctKeys (sym (new b.orders o distinct none)) (distinct-push b.orders o distinct none)
