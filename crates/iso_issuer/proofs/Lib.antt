@@ -5,6 +5,7 @@ pub mod Changes
 pub mod Firsts
 mod Kept
 mod GoesOn
+mod Standing
 mod Shown
 pub mod Entries
 pub mod Classes
