@@ -41,7 +41,7 @@ entered-append accounts es [] ps = refl
 entered-append accounts es (o ∷ os) ps = entered-append accounts (es ++ new_entry accounts es o ∷ []) os ps
 
 -- entering orders leaves the entries that there are in front
-entered-begins : (accounts : List Account) (es : List Entry) (os : List Instruction) → (more : List Entry) × (entered accounts es os ≡ es ++ more)
+pub entered-begins : (accounts : List Account) (es : List Entry) (os : List Instruction) → (more : List Entry) × (entered accounts es os ≡ es ++ more)
 entered-begins accounts es [] = ([], sym (append-nil es))
 entered-begins accounts es (o ∷ os) =
     let rest = entered-begins accounts (es ++ new_entry accounts es o ∷ []) os in

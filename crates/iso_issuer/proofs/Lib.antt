@@ -6,6 +6,7 @@ pub mod Firsts
 mod Kept
 mod GoesOn
 mod Standing
+mod AnyOrder
 mod Shown
 pub mod Entries
 pub mod Classes

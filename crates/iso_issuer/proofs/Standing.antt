@@ -1,20 +1,17 @@
 -- Which entries stand, and which never stand again.
 use Rattle.std.proofs.Common.{◌≡◌, ◌≢◌, ℕ, Bool, true, false, not, refl, arith, ap, sym, ◌∙◌, subst, List, [], ◌∷◌, ◌++◌, cond}
-use Rattle.std.specs.Prelude.{◌&&◌, ◌==◌, Option, Some, None, is_some, option_map, find}
-use Rattle.std.specs.List.{AllByRecursion}
+use Rattle.std.specs.Prelude.{◌&&◌, ◌==◌, Option, Some, None, is_some, option_map}
 use Rattle.std.proofs.lemmas.Grind.{common_steps}
 use Rattle.iso_order.specs.declared.key.TxKey.{TxKey}
 use Rattle.iso_order.specs.declared.act.Act.{Act}
 use Rattle.iso_order.specs.declared.act.Act.TheVariants.{Debit, Credit, Inquiry, Undo, Complete}
-use Rattle.iso_order.specs.AccountNumber.{AccountNumber}
 use Rattle.iso_order.specs.Key.{class_of, same_key}
 use Rattle.iso_order.specs.Order.{Instruction}
 use Rattle.iso_issuer.specs.declared.account.Account.{Account}
-use Rattle.iso_issuer.specs.declared.effect.Side.{Side}
-use Rattle.iso_issuer.specs.declared.effect.Side.TheVariants.{Given, Taken, Held}
+use Rattle.iso_issuer.specs.declared.effect.Side.TheVariants.{Taken, Held}
 use Rattle.iso_issuer.specs.declared.journal.Entry.{Entry}
 use Rattle.iso_issuer.specs.Effect.{effect_of, effect_by, amount_of, is_key, same_side}
-use Rattle.iso_issuer.specs.Journal.{entry_at, undone, left_by, left_at, reversal_of, is_nothing, is_reversed, smaller, counts_with, is_counted, is_completed, is_ended, stands, weight, HasDistinctKeys}
+use Rattle.iso_issuer.specs.Journal.{entry_at, undone, left_by, left_at, reversal_of, is_nothing, is_reversed, smaller, is_counted, is_completed, is_ended, stands, weight}
 use Rattle.iso_issuer.specs.Decision.{journal_of}
 use Rattle.iso_issuer.specs.Laws.{NoneReverses, AllReverseWholly, NeverStands}
 use Rattle.iso_issuer.proofs.Keys.{same_key_is}
@@ -116,7 +113,7 @@ wholly-reversed (e ∷ es) key at r all found names =
 
 -- ---- what never stands again
 
-nothing-stays : (j more : List Entry) (key : TxKey) → is_reversed j key ≡ true → is_reversed (j ++ more) key ≡ true
+pub nothing-stays : (j more : List Entry) (key : TxKey) → is_reversed j key ≡ true → is_reversed (j ++ more) key ≡ true
 nothing-stays j more key h = by_left (left_at j key) refl h
   where
     by_left : (o : Option ℕ) → left_at j key ≡ o → is_nothing o ≡ true → is_reversed (j ++ more) key ≡ true
