@@ -14,8 +14,9 @@ use Rattle.iso_issuer.specs.Journal.{firsts, is_entered, entry_at, HasDistinctKe
 use Rattle.iso_issuer.specs.Decision.{entered, new_entry, journal_of, repeated, reply, reply_by}
 use Rattle.iso_issuer.specs.Books.{Books, journal, entering, IsFullFor}
 use Rattle.iso_issuer.specs.Laws.{books_after}
-use Rattle.iso_issuer.proofs.Keys.{same_key_self}
+use Rattle.iso_issuer.proofs.Keys.{same_key_is, same_key_self}
 use Rattle.iso_issuer.proofs.Firsts.{is_other, firsts-new, firsts-known, firsts-distinct, distinct-push}
+use Rattle.iso_issuer.proofs.Touched.{found-key}
 use Rattle.iso_issuer.proofs.Entries.{entered-push, orders-entered, entered-found}
 
 -- ---- the entries that there are
@@ -176,3 +177,15 @@ entering-distinct b o distinct = by_test (is_entered b.orders o.key) refl
     by_test : (t : Bool) → is_entered b.orders o.key ≡ t → HasDistinctKeys (firsts (b.orders ++ o ∷ []))
     by_test true there = subst HasDistinctKeys (sym (known b.orders o distinct there)) distinct
     by_test false none = subst HasDistinctKeys (sym (new b.orders o distinct none)) (distinct-push b.orders o distinct none)
+
+-- ---- what is found under a key
+
+-- it has the key
+pub key-found : (j : List Entry) (key : TxKey) (e : Entry) → entry_at j key ≡ Some e → e.order.key ≡ key
+key-found j key e h = sym (same_key_is key e.order.key (found-key j key e h))
+
+pub found-stays : (j more : List Entry) (key : TxKey) (e : Entry) → entry_at j key ≡ Some e → entry_at (j ++ more) key ≡ Some e
+found-stays j more key e h = find-more (λ (x : Entry). same_key x.order.key key) j more e h
+
+pub new-found : (j : List Entry) (e : Entry) → entry_at j e.order.key ≡ None → entry_at (j ++ e ∷ []) e.order.key ≡ Some e
+new-found j e none = find-last (λ (x : Entry). same_key x.order.key e.order.key) j e none (same_key_self e.order.key)

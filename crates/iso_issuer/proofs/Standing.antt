@@ -14,9 +14,7 @@ use Rattle.iso_issuer.specs.Effect.{effect_of, effect_by, amount_of, is_key, sam
 use Rattle.iso_issuer.specs.Journal.{entry_at, undone, left_by, left_at, reversal_of, is_nothing, is_reversed, smaller, is_counted, is_completed, is_ended, stands, weight}
 use Rattle.iso_issuer.specs.Decision.{journal_of}
 use Rattle.iso_issuer.specs.Laws.{NoneReverses, AllReverseWholly, NeverStands}
-use Rattle.iso_issuer.proofs.Keys.{same_key_is}
-use Rattle.iso_issuer.proofs.Touched.{found-key}
-use Rattle.iso_issuer.proofs.GoesOn.{find-more, journal-begins, answers-kept}
+use Rattle.iso_issuer.proofs.GoesOn.{find-more, journal-begins, answers-kept, key-found}
 
 -- ---- which entries stand
 
@@ -132,10 +130,6 @@ falls-on false q r s h stays = refl
 falls-on true false r s h stays = refl
 falls-on true true true s h stays = ap not (stays refl)
 falls-on true true false s h stays = cc
-
--- what is found under a key has it
-key-found : (j : List Entry) (key : TxKey) (e : Entry) → entry_at j key ≡ Some e → e.order.key ≡ key
-key-found j key e h = sym (same_key_is key e.order.key (found-key j key e h))
 
 pub falls-for-good : (accounts : List Account) (orders : List Instruction) (key : TxKey) (e : Entry) →
     class_of key ≡ 2 → entry_at (journal_of accounts orders) key ≡ Some e → stands (journal_of accounts orders) e ≡ false → NeverStands accounts orders key

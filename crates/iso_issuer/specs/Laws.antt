@@ -75,6 +75,18 @@ JournalsGrow =
     (accounts : List Account) (orders : List Instruction) (o : Instruction) →
     journal_of accounts (orders ++ o ∷ []) ≡ journal_of accounts orders ++ new_entry accounts (journal_of accounts orders) o ∷ []
 
+-- what is found under a key has it
+abbrev pub FoundHasKey : Type 0
+FoundHasKey = (journal : List Entry) (key : TxKey) (e : Entry) → entry_at journal key ≡ Some e → e.order.key ≡ key
+
+-- it is found too where entries follow
+abbrev pub FoundStays : Type 0
+FoundStays = (journal more : List Entry) (key : TxKey) (e : Entry) → entry_at journal key ≡ Some e → entry_at (journal ++ more) key ≡ Some e
+
+-- an entry of a new key is found once it is there
+abbrev pub NewIsFound : Type 0
+NewIsFound = (journal : List Entry) (e : Entry) → entry_at journal e.order.key ≡ None → entry_at (journal ++ e ∷ []) e.order.key ≡ Some e
+
 -- an order whose key is there changes no books
 abbrev pub KnownChangesNothing : Type 0
 KnownChangesNothing = (b : Books) (o : Instruction) → HasDistinctKeys b.orders → is_entered b.orders o.key ≡ true → entering b o ≡ b
@@ -122,6 +134,10 @@ FallenWeighsNothing = (journal : List Entry) (e : Entry) → stands journal e �
 -- what the first reversal of a key leaves goes on to be left
 abbrev pub ReversalsStay : Type 0
 ReversalsStay = (journal more : List Entry) (key : TxKey) (left : ℕ) → left_at journal key ≡ Some left → left_at (journal ++ more) key ≡ Some left
+
+-- so what is wholly reversed stays so
+abbrev pub ReversedStays : Type 0
+ReversedStays = (journal more : List Entry) (key : TxKey) → is_reversed journal key ≡ true → is_reversed (journal ++ more) key ≡ true
 
 -- no entry reverses the key
 abbrev pub NoneReverses : List Entry → TxKey → Type 0

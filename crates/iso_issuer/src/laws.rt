@@ -1,9 +1,10 @@
 //! What holds of every journal: functions that do nothing, and whose contracts are laws.
 
 ghost use Rattle.iso_issuer.specs.Laws.{FirstsGoOn, FirstsStay, JournalsGoOn, AnswersAreKept, RepeatsAreAnswered, EntriesAnswer};
-ghost use Rattle.iso_issuer.specs.Laws.{EntriesAreOfOrders, EnteredHasEntry, JournalsGrow, KnownChangesNothing, NewComesLast, KeysStayDistinct};
+ghost use Rattle.iso_issuer.specs.Laws.{EntriesAreOfOrders, EnteredHasEntry, JournalsGrow, FoundHasKey, FoundStays, NewIsFound};
+ghost use Rattle.iso_issuer.specs.Laws.{KnownChangesNothing, NewComesLast, KeysStayDistinct};
 ghost use Rattle.iso_issuer.specs.Laws.{GrantedStands, GrantedWeighsAll, DeclinedFalls, ReversedFalls, FallenWeighsNothing};
-ghost use Rattle.iso_issuer.specs.Laws.{ReversalsStay, NoneIsNone, NoneStaysNone, WhollyIsReversed};
+ghost use Rattle.iso_issuer.specs.Laws.{ReversalsStay, ReversedStays, NoneIsNone, NoneStaysNone, WhollyIsReversed};
 ghost use Rattle.iso_issuer.specs.Laws.{StandsNoMore, ReversedNeverStands, LateNeverStands, LedgersAgree, AvailableAgree};
 
 use iso_order::laws::comparisons;
@@ -42,6 +43,13 @@ pub fn journals_grow()
     ensures grown { JournalsGrow }
 {}
 
+/// An entry is found under its key, also where entries follow.
+pub fn entries_are_found()
+    ensures key { FoundHasKey }
+    ensures stays { FoundStays }
+    ensures new { NewIsFound }
+{}
+
 /// An order whose key is in the books changes nothing, and another one comes last.
 pub fn keys_stay_distinct()
     ensures known { KnownChangesNothing }
@@ -63,6 +71,7 @@ pub fn granted_stands()
 /// none, and where each one that reverses it leaves nothing, it is wholly reversed.
 pub fn reversals_stay()
     ensures left { ReversalsStay }
+    ensures reversed { ReversedStays }
     ensures none { NoneIsNone }
     ensures still_none { NoneStaysNone }
     ensures wholly { WhollyIsReversed }
