@@ -9,6 +9,7 @@ mod documents;
 mod faults;
 mod generated;
 mod holds;
+mod laws;
 mod replacements;
 mod scanning;
 mod wire;

@@ -19,7 +19,7 @@ const fn shows(seq: u32, amount: i64) -> Expected {
     (0, seq, Some(amount))
 }
 
-fn credit(stan: u32, amount: u64) -> Result<Order, Fail> {
+pub fn credit(stan: u32, amount: u64) -> Result<Order, Fail> {
     order(200, stan, Act::Credit(money(amount)?))
 }
 

@@ -51,7 +51,7 @@ const TWO_ACCOUNTS: &[u8] =
     b"{\"accounts\":[{\"currency\":\"840\",\"opening\":5000,\"pan\":\"4111111111111111\"},
     {\"currency\":\"840\",\"opening\":5000,\"pan\":\"4000000000000002\"}]}";
 
-fn complete(stan: u32, hold: u32, amount: u64) -> Result<Order, Fail> {
+pub fn complete(stan: u32, hold: u32, amount: u64) -> Result<Order, Fail> {
     order(
         220,
         stan,
