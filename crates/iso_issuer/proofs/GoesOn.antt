@@ -189,3 +189,21 @@ found-stays j more key e h = find-more (λ (x : Entry). same_key x.order.key key
 
 pub new-found : (j : List Entry) (e : Entry) → entry_at j e.order.key ≡ None → entry_at (j ++ e ∷ []) e.order.key ≡ Some e
 new-found j e none = find-last (λ (x : Entry). same_key x.order.key e.order.key) j e none (same_key_self e.order.key)
+
+-- the reply to an order that is new, or that was entered as it is
+pub replies-kept : SameSelf → (b : Books) (o : Instruction) → HasDistinctKeys b.orders → ((e : Entry) → entry_at (journal b) o.key ≡ Some e → e.order ≡ o) →
+    entry_at (journal (entering b o)) o.key ≡ Some (record { order = o; answer = reply b.accounts (journal b) o })
+replies-kept self b o distinct as_it_is = by_entry (entry_at (journal b) o.key) refl
+  where
+    at : List Instruction → Option Entry
+    at orders = entry_at (journal_of b.accounts orders) o.key
+
+    by_entry : (entry : Option Entry) → entry_at (journal b) o.key ≡ entry → at (firsts (b.orders ++ o ∷ [])) ≡ Some (record { order = o; answer = reply_by b.accounts (journal b) o entry })
+    by_entry None none =
+        ap at (new b.orders o distinct (unknown b.accounts b.orders o.key none)) ∙ found-new b.accounts b.orders o none
+    by_entry (Some e) found =
+        let there : is_entered b.orders o.key ≡ true = entered-has b.accounts b.orders o.key ∙ ap is_some found in
+        let same = as_it_is e found in
+        let whole : e ≡ record { order = o; answer = e.answer } = ap (λ (x : Instruction). record e { order = x }) same in
+        ap at (known b.orders o distinct there) ∙ found ∙ ap Some whole
+        ∙ ap (λ (a : Outcome). Some (record { order = o; answer = a })) (sym (again e o same self))

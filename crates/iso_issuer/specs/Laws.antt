@@ -101,6 +101,12 @@ NewComesLast =
 abbrev pub KeysStayDistinct : Type 0
 KeysStayDistinct = (b : Books) (o : Instruction) → HasDistinctKeys b.orders → HasDistinctKeys (entering b o).orders
 
+-- the key of an order that is new, or that was entered as it is, has an entry with the reply to the order
+abbrev pub RepliesAreKept : Type 0
+RepliesAreKept =
+    (b : Books) (o : Instruction) → HasDistinctKeys b.orders → ((e : Entry) → entry_at (journal b) o.key ≡ Some e → e.order ≡ o) →
+    entry_at (journal (entering b o)) o.key ≡ Some (record { order = o; answer = reply b.accounts (journal b) o })
+
 -- ---- which entries stand
 
 -- an entry of class 2 that is granted, and that no entry reverses, stands

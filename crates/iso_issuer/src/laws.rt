@@ -2,7 +2,7 @@
 
 ghost use Rattle.iso_issuer.specs.Laws.{FirstsGoOn, FirstsStay, JournalsGoOn, AnswersAreKept, RepeatsAreAnswered, EntriesAnswer};
 ghost use Rattle.iso_issuer.specs.Laws.{EntriesAreOfOrders, EnteredHasEntry, JournalsGrow, FoundHasKey, FoundStays, NewIsFound};
-ghost use Rattle.iso_issuer.specs.Laws.{KnownChangesNothing, NewComesLast, KeysStayDistinct};
+ghost use Rattle.iso_issuer.specs.Laws.{KnownChangesNothing, NewComesLast, KeysStayDistinct, RepliesAreKept};
 ghost use Rattle.iso_issuer.specs.Laws.{GrantedStands, GrantedWeighsAll, DeclinedFalls, ReversedFalls, FallenWeighsNothing};
 ghost use Rattle.iso_issuer.specs.Laws.{ReversalsStay, ReversedStays, NoneIsNone, NoneStaysNone, WhollyIsReversed};
 ghost use Rattle.iso_issuer.specs.Laws.{StandsNoMore, ReversedNeverStands, LateNeverStands, LedgersAgree, AvailableAgree};
@@ -56,6 +56,13 @@ pub fn keys_stay_distinct()
     ensures new { NewComesLast }
     ensures distinct { KeysStayDistinct }
 {}
+
+/// The reply to an order is kept as the answer of its entry, unless another order was entered under its key.
+pub fn replies_are_kept()
+    ensures { RepliesAreKept }
+{
+    comparisons();
+}
 
 /// An entry of class 2 that was granted and that nothing reverses stands, for its whole amount. One that wasn't
 /// granted or that is wholly reversed doesn't stand, and what doesn't stand counts for nothing.

@@ -109,6 +109,7 @@ fn known_keys_enter_once(rt: HostRuntime) -> Result<(), Fail> {
 fn a_repeat_gets_the_first_answer(rt: HostRuntime) -> Result<(), Fail> {
     answers_are_kept();
     repeats_are_answered();
+    replies_are_kept();
     let mut issuer = issuer(rt.alloc(), 5000, 100)?;
     let first = issuer.handle(debit(200, 1, 700)?)?;
     assert_eq!(rt; (first.code, first.seq), (0, 1));
