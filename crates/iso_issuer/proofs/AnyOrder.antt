@@ -278,12 +278,12 @@ module _ (accounts : List Account) (xs ys : List Instruction) (are : AreReordere
 
   total-same : (side : Side) (pan : AccountNumber) → total side pan (journal_of accounts ys) ≡ total side pan (journal_of accounts xs)
   total-same side pan =
-      total-of accounts ys are.long_too side pan
+      total-of accounts ys are.enough_too side pan
       ∙ sum_by-IsPermutation (λ (o : Instruction). share side pan (effect_of o) (weight_in accounts ys o)) xs ys are.same
       ∙ sum-all (λ (o : Instruction). share side pan (effect_of o) (weight_in accounts ys o)) (λ (o : Instruction). share side pan (effect_of o) (weight_in accounts xs o)) xs
       (every (λ (o : Instruction). share side pan (effect_of o) (weight_in accounts ys o) ≡ share side pan (effect_of o) (weight_in accounts xs o)) xs
       (λ o. ap (share side pan (effect_of o)) (weight-same o)))
-      ∙ sym (total-of accounts xs are.long side pan)
+      ∙ sym (total-of accounts xs are.enough side pan)
 
 pub ledgers-agree : (accounts : List Account) (xs ys : List Instruction) (a : Account) → AreReordered accounts xs ys →
     ledger (journal_of accounts ys) a ≡ ledger (journal_of accounts xs) a

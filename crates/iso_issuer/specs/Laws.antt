@@ -141,7 +141,7 @@ FallenWeighsNothing = (journal : List Entry) (e : Entry) → stands journal e �
 abbrev pub ReversalsStay : Type 0
 ReversalsStay = (journal more : List Entry) (key : TxKey) (left : ℕ) → left_at journal key ≡ Some left → left_at (journal ++ more) key ≡ Some left
 
--- so what is wholly reversed stays so
+-- so a key whose first reversal leaves nothing stays reversed
 abbrev pub ReversedStays : Type 0
 ReversedStays = (journal more : List Entry) (key : TxKey) → is_reversed journal key ≡ true → is_reversed (journal ++ more) key ≡ true
 
@@ -196,7 +196,7 @@ LateNeverStands =
 
 -- ---- any order
 
--- no order is declined for want of the available amount
+-- no order is declined with 51, for want of the available amount
 abbrev pub NoneShort : List Account → List Instruction → Type 0
 NoneShort accounts orders = AllByRecursion (λ e. e.answer.code ≢ 51) (journal_of accounts orders)
 
@@ -204,12 +204,12 @@ NoneShort accounts orders = AllByRecursion (λ e. e.answer.code ≢ 51) (journal
 abbrev pub IsReversedOnce : List Instruction → Type 0
 IsReversedOnce orders = (key : TxKey) → count_by (λ o. is_key (undone o.act) key) orders ≤ 1
 
--- two lists of the same orders, none short, no key reversed twice
+-- two lists of the same orders, in neither of which one is declined with 51, and no two of which reverse one key
 pub record AreReordered (accounts : List Account) (xs ys : List Instruction) : Type 0 where
   pub same : IsPermutation xs ys
   pub once : IsReversedOnce xs
-  pub long : NoneShort accounts xs
-  pub long_too : NoneShort accounts ys
+  pub enough : NoneShort accounts xs
+  pub enough_too : NoneShort accounts ys
 
 -- they leave every account the same ledger
 abbrev pub LedgersAgree : Type 0
