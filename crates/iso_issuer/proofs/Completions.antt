@@ -14,7 +14,7 @@ use Rattle.iso_issuer.specs.declared.journal.Entry.{Entry}
 use Rattle.iso_issuer.specs.Effect.{effect_of, effect_by, is_key, ended_by, ends}
 use Rattle.iso_issuer.specs.Journal.{entry_at, undone, effect_at, reversed_by, ended_key, counts_with, is_counted, is_completed, HasDistinctKeys}
 use Rattle.iso_issuer.specs.Index.{bit, completions}
-use Rattle.iso_issuer.proofs.Index.{left-kept}
+use Rattle.iso_issuer.proofs.ByKey.{left-kept}
 use Rattle.iso_issuer.proofs.Touched.{at, sum-entered}
 
 none_more : (n : ℕ) → 0 + n ≡ n

@@ -1,11 +1,13 @@
 -- The counts of completions, after one of them changed.
-use Rattle.std.proofs.Common.{◌≡◌, ℕ, Bool, true, false, cond, refl, arith, ap, sym, ◌∙◌, ◌+◌, ◌-◌, ◌<◌, ◌++◌, ◌∷◌, [], List, length, not, map, ◌⊎◌, inl, inr}
-use Rattle.std.specs.Prelude.{◌&&◌, ◌==◌, Option, Some, None, IfSome, is_some, option_and_then}
+use Rattle.std.proofs.Common.{◌≡◌, ℕ, Bool, true, false, cond, refl, arith, ap, sym, ◌∙◌, ◌+◌, ◌-◌, ◌<◌, ◌≤◌, ◌++◌, ◌∷◌, [], List, length, not, map, ◌⊎◌, inl, inr}
+use Rattle.std.specs.Prelude.{◌&&◌, ◌==◌, Option, Some, None, IfSome, is_some, option_and_then, sum_by}
 use Rattle.std.specs.Option.{option_or}
 use Rattle.std.specs.Ordering.{is_eq, ordering_then}
 use Rattle.std.specs.declared.cmp.Ordering.{Ordering}
 use Rattle.std.specs.declared.cmp.Ordering.TheVariants.{Less, Equal, Greater}
 use Rattle.std.proofs.lemmas.Bool.{and_parts}
+use Rattle.std.proofs.lemmas.Grind.{common_steps}
+use Rattle.std.proofs.lemmas.List.Sums.{sum_by-cons}
 use Rattle.std.specs.BTreeMap as tree
 use Rattle.std.specs.BTreeMap.{BTreeMap}
 use Rattle.iso_order.specs.declared.key.TxKey.{TxKey}
@@ -21,7 +23,7 @@ use Rattle.iso_issuer.specs.declared.effect.Effect.{Effect}
 use Rattle.iso_issuer.specs.declared.journal.Entry.{Entry}
 use Rattle.iso_issuer.specs.Effect.{effect_of, effect_by, is_key, ends}
 use Rattle.iso_issuer.specs.Journal.{entry_at, undone, left_by, left_at, reversed_by, counts_with, is_counted, HasDistinctKeys}
-use Rattle.iso_issuer.proofs.Index.{key_tied, pan_tied, left-push}
+use Rattle.iso_issuer.proofs.ByKey.{key_tied, pan_tied, left-push}
 use Rattle.iso_issuer.proofs.Touched.{at, found-key}
 use Rattle.iso_issuer.proofs.Completions.{counted-kept, completions-entered, passed-most}
 
@@ -181,3 +183,25 @@ pub few-counted : (es : List Entry) (o : Option Hold) (counts : BTreeMap Hold �
 few-counted es None counts are few = tt
 few-counted es (Some h) counts are few =
     omega (arith, are h.key h.pan, passed-most (λ (c : Entry). is_counted es c && ends h.key h.pan (effect_of c.order)) es)
+
+-- what is found under a key is part of a sum
+at-most : (f : Entry → ℕ) (k : Option TxKey) (es : List Entry) → at f (option_and_then (entry_at es) k) ≤ sum_by f es
+at-most f None es = omega arith
+at-most f (Some k) [] = omega arith
+at-most f (Some k) (e ∷ es) = by_test (same_key e.order.key k) (at-most f (Some k) es)
+  where
+    by_test : (b : Bool) → at f (entry_at es k) ≤ sum_by f es → at f (cond b (Some e) (entry_at es k)) ≤ sum_by f (e ∷ es)
+    by_test true rest = omega (arith, sum_by-cons f e es)
+    by_test false rest = omega (arith, rest, sum_by-cons f e es)
+
+-- the hold that an entry no longer completes is counted
+pub counted-dropped : (es : List Entry) (e : Entry) (o : Option Hold) (counts : BTreeMap Hold ℕ) → AreCounts counts es → o ≡ dropped_by es e.order.act →
+    IfSome o (λ h. 1 ≤ count_at counts h.key h.pan)
+counted-dropped es e None counts are is = tt
+counted-dropped es e (Some h) counts are is =
+    let m = marks es e h.key h.pan in
+    let own : mark_at (dropped_by es e.order.act) h.key h.pan ≡ 1 = ap (λ o. mark_at o h.key h.pan) (sym is) ∙ ap bit (same_hold h) in
+    omega (arith, own, m.dropped, are h.key h.pan, at-most (λ (c : Entry). bit (is_counted es c && ends h.key h.pan (effect_of c.order))) (undone e.order.act) es)
+  where
+    same_hold : (h : Hold) → (same_key h.key h.key && same_pan h.pan h.pan) ≡ true
+    same_hold h = grind (arith, common_steps)

@@ -1,6 +1,6 @@
 pub mod Keys
 pub mod Places
-pub mod Index
+pub mod ByKey
 pub mod Changes
 pub mod Firsts
 mod Kept
@@ -13,6 +13,7 @@ pub mod Classes
 pub mod Touched
 pub mod Completions
 pub mod Counts
+pub mod Stored
 pub mod Sums
 pub mod Summed
 pub mod Room

@@ -76,7 +76,7 @@ last_from t i (x ∷ xs) y none h = by_test (t x) none (λ rest. last_from t (i 
     by_test false n rest = rest n ∙ ap Some (omega arith)
 
 -- where none passes, there is no place
-none_from : {X : Type 0} (t : X → Bool) (i : ℕ) (xs : List X) → find t xs ≡ None → position_from t i xs ≡ None
+pub none_from : {X : Type 0} (t : X → Bool) (i : ℕ) (xs : List X) → find t xs ≡ None → position_from t i xs ≡ None
 none_from t i [] none = refl
 none_from t i (x ∷ xs) none = by_test (t x) none (none_from t (i + 1) xs)
   where
@@ -92,9 +92,3 @@ place-push t xs y new = by_test (t y) refl new
     by_test : (b : Bool) → t y ≡ b → (b ≡ true → find t xs ≡ None) → position_from t 0 (xs ++ y ∷ []) ≡ cond b (Some (length xs)) (position_from t 0 xs)
     by_test true h none = last_from t 0 xs y (none refl) h ∙ ap Some (omega arith)
     by_test false h none = other_from t 0 xs y h
-
--- what is added at a new place and taken away again leaves the places as they were
-pub place-back : {X : Type 0} (t : X → Bool) (xs : List X) (b : Bool) (v : ℕ) → (b ≡ true → find t xs ≡ None) →
-    cond b None (cond b (Some v) (position_from t 0 xs)) ≡ position_from t 0 xs
-place-back t xs true v new = sym (none_from t 0 xs (new refl))
-place-back t xs false v new = refl

@@ -13,7 +13,7 @@ use Rattle.iso_issuer.specs.declared.journal.Entry.{Entry}
 use Rattle.iso_issuer.specs.Effect.{effect_of, amount_of, is_on, is_key, same_side}
 use Rattle.iso_issuer.specs.Journal.{left_at, smaller, undone, counts_with, is_ended, weight, weight_at, effect_at, reversed_by, released_by, ended_key, HasDistinctKeys}
 use Rattle.iso_issuer.specs.Balance.{share, total, ledger, available, ledger_share, available_share}
-use Rattle.iso_issuer.proofs.Index.{left-kept}
+use Rattle.iso_issuer.proofs.ByKey.{left-kept}
 use Rattle.iso_issuer.proofs.Touched.{at, sum-entered-two}
 use Rattle.iso_issuer.proofs.Completions.{completed-kept}
 

@@ -1,5 +1,5 @@
 -- The index that the issuer answers from: places, marks and sums, and how they stand for the journal.
-use Rattle.std.specs.Prelude.{◌≡◌, ℕ, ◌*◌, Bool, ◌&&◌, ◌==◌, if◌then◌else◌, List, length, sum_by, Option, None, Some, All, map}
+use Rattle.std.specs.Prelude.{◌≡◌, ◌≤◌, ℕ, ℤ, ◌+◌, ◌*◌, Bool, ◌&&◌, ◌==◌, if◌then◌else◌, List, [], ◌∷◌, length, sum_by, Option, None, Some, All, map}
 use Rattle.std.specs.List.{position_from}
 use Rattle.std.specs.Ordering.{nat_cmp, ordering_then}
 use Rattle.std.specs.declared.cmp.Ordering.{Ordering}
@@ -11,6 +11,8 @@ use Rattle.iso_order.specs.Key.{same_key}
 use Rattle.iso_order.specs.Order.{same_pan}
 use Rattle.iso_issuer.specs.declared.account.Account.{Account}
 use Rattle.iso_issuer.specs.declared.balances.Balance.{Balance}
+use Rattle.iso_order.specs.Order.{Instruction}
+use Rattle.iso_issuer.specs.declared.index.Index.{Index}
 use Rattle.iso_issuer.specs.declared.journal.Entry.{Entry}
 use Rattle.iso_issuer.specs.Journal.{left_at, entry_at, is_counted, counts_with}
 use Rattle.iso_issuer.specs.Effect.{effect_of, ends}
@@ -100,6 +102,37 @@ dropped_by entries (Debit m) = None
 dropped_by entries (Credit m) = None
 dropped_by entries (Inquiry m) = None
 dropped_by entries (Complete m hold) = None
+
+-- ---- the index
+
+-- the index of these entries
+pub record IsIndexOf (index : Index) (entries : List Entry) : Type 0 where
+  pub places : ArePlaces index.places entries
+  pub lefts : AreLefts index.lefts entries
+  pub counts : AreCounts index.counts entries
+
+-- two indexes find the same
+pub record AnswersAlike (a b : Index) : Type 0 where
+  pub places : (key : TxKey) → tree.get key_cmp a.places key ≡ tree.get key_cmp b.places key
+  pub lefts : (key : TxKey) → tree.get key_cmp a.lefts key ≡ tree.get key_cmp b.lefts key
+  pub counts : (key : TxKey) (pan : AccountNumber) → count_at a.counts key pan ≡ count_at b.counts key pan
+
+-- ---- the entries as they are kept
+
+-- each order with its code, its place from 1 on, and the balance that is kept for its place from 0 on
+abbrev pub entries_from : ℕ → List Instruction → List ℕ → BTreeMap ℕ ℤ → List Entry
+entries_from place [] codes shown = []
+entries_from place (o ∷ os) [] shown = []
+entries_from place (o ∷ os) (c ∷ cs) shown =
+    record { order = o; answer = record { code = c; seq = place + 1; shown = tree.get nat_cmp shown place } } ∷ entries_from (place + 1) os cs shown
+
+-- a code of two digits for each order, few of them, no balance past them, and their index
+pub record AreStored (orders : List Instruction) (codes : List ℕ) (shown : BTreeMap ℕ ℤ) (index : Index) : Type 0 where
+  pub coded : length codes ≡ length orders
+  pub two_digits : All (λ c. c ≤ 99) codes
+  pub few : length orders ≤ 999999
+  pub ended : (place : ℕ) → length orders ≤ place → tree.get nat_cmp shown place ≡ None
+  pub indexed : IsIndexOf index (entries_from 0 orders codes shown)
 
 -- ---- accounts
 

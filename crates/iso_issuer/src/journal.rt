@@ -1,14 +1,14 @@
 //! The journal: the orders that were entered, each with the answer that it was given.
 
-ghost use Rattle.iso_order.specs.AccountNumber.{AccountNumber};
 ghost use Rattle.iso_issuer.specs.Effect.{is_key};
-ghost use Rattle.std.specs.Prelude.{◌≡◌, ◌≤◌, ◌<◌, ◌+◌, ◌-◌, true, false, map, IfSome, ◌++◌, ◌∷◌, [], Some, None, if◌then◌else◌, OnOk, OnErr, length};
+ghost use Rattle.std.specs.Prelude.{◌≡◌, ◌≤◌, ◌<◌, ◌+◌, ◌==◌, ℕ, true, false, map, ◌++◌, ◌∷◌, [], None, if◌then◌else◌, OnOk, OnErr, length};
 ghost use Rattle.std.specs.BTreeMap as tree;
-ghost use Rattle.std.specs.Option.{option_or};
-ghost use Rattle.iso_issuer.specs.Index.{key_cmp, count_at, mark_at, added_by, dropped_of, dropped_by};
-ghost use Rattle.iso_issuer.specs.Journal.{entry_at, undone, left_by, left_at, is_nothing, smaller, counts_with, is_counted, is_completed, is_ended, weight, weight_at, reversed_by, ended_key, released_by, HasDistinctKeys};
+ghost use Rattle.std.specs.Ordering.{nat_cmp};
+ghost use Rattle.iso_issuer.specs.Index.{added_by, dropped_of, dropped_by};
+ghost use Rattle.iso_issuer.specs.Journal.{entry_at, undone, left_at, is_nothing, smaller, counts_with, is_counted, is_completed, is_ended, weight, weight_at, reversed_by, ended_key, released_by, HasDistinctKeys};
 
 use crate::effect::{Effect, Hold, Side, amount_of, effect_of, ended_by, hold_by};
+use crate::index::Index;
 use iso_order::{Act, Answer, Order, Pan, TxKey};
 use std::alloc::{AllocError, Global};
 use std::collections::BTreeMap;
@@ -21,14 +21,14 @@ pub struct Entry {
     pub answer: Answer,
 }
 
-/// The entries in order, no two of one key, and an index beside them: the place of each key, and
-/// what the first reversal of each key leaves, and how many entries complete each hold.
+/// The entries in order, no two of one key, and an index beside them. Of an answer the code is kept,
+/// and, by its place, the balance that it shows: few answers show one. Its number is its place from 1 on.
 #[derive(Drop)]
 pub struct Journal {
-    entries: Vec<Entry>,
-    places: BTreeMap<TxKey, usize>,
-    lefts: BTreeMap<TxKey, u64>,
-    counts: BTreeMap<Hold, u64>,
+    orders: Vec<Order>,
+    codes: Vec<u8>,
+    shown: BTreeMap<u32, i64>,
+    index: Index,
 }
 
 impl Model for Journal {
@@ -37,11 +37,11 @@ impl Model for Journal {
 
     ghost Value = { List Entry };
 
-    ghost use Rattle.iso_issuer.specs.Index.{ArePlaces, AreLefts, AreCounts};
+    ghost use Rattle.iso_issuer.specs.Index.{entries_from, AreStored};
 
-    ghost view = { λ j. j.entries.items };
+    ghost view = { λ j. entries_from 0 j.orders.items j.codes.items j.shown };
 
-    ghost invariant = { λ j. ArePlaces j.places j.entries.items × AreLefts j.lefts j.entries.items × AreCounts j.counts j.entries.items };
+    ghost invariant = { λ j. AreStored j.orders.items j.codes.items j.shown j.index };
 }
 
 /// The key that a reversal names.
@@ -98,77 +98,14 @@ fn dropped_of(before: Option<u64>, left: u64, reversed: &Entry) -> Option<Hold>
     }
 }
 
-/// How many entries complete a hold.
-fn count_at(counts: &BTreeMap<Hold, u64>, hold: &Hold) -> u64
-    ensures { result ≡ count_at counts.now hold.now.key hold.now.pan }
+/// Keeps the balance that the answer at a place shows, where it shows one.
+fn show(shown: &mut BTreeMap<u32, i64>, place: u32, balance: Option<i64>) -> Result<(), AllocError>
+    requires { tree.get nat_cmp shown.old place ≡ None }
+    ensures ok { OnOk result ((at : ℕ) → tree.get nat_cmp shown.new at ≡ (if at == place then balance else tree.get nat_cmp shown.old at)) }
+    ensures unchanged { OnErr result ((at : ℕ) → tree.get nat_cmp shown.new at ≡ tree.get nat_cmp shown.old at) }
 {
-    match counts.get(hold) {
-        Some(count) => *count,
-        None => 0,
-    }
-}
-
-/// One entry more completes the hold.
-fn complete(counts: &mut BTreeMap<Hold, u64>, hold: Hold) -> Result<(), AllocError>
-    requires { count_at counts.old hold.key hold.pan < 1000000 }
-    ensures ok { OnOk result ((key : TxKey) → (pan : AccountNumber) → count_at counts.new key pan ≡ count_at counts.old key pan + mark_at (Some hold) key pan) }
-    ensures unchanged { OnErr result ((key : TxKey) → (pan : AccountNumber) → count_at counts.new key pan ≡ count_at counts.old key pan) }
-{
-    let count = count_at(counts, &hold);
-    counts.insert(hold, count + 1)?;
-    Ok(())
-}
-
-/// One entry fewer completes the hold.
-fn release(counts: &mut BTreeMap<Hold, u64>, hold: Hold)
-    ensures { (key : TxKey) → (pan : AccountNumber) → count_at counts.new key pan ≡ count_at counts.old key pan - mark_at (Some hold) key pan }
-{
-    if let Some(count) = counts.get_mut(&hold) {
-        *count = count.saturating_sub(1);
-    }
-}
-
-/// Keeps what an entry changes in the index: what its reversal leaves, and the hold that one more or
-/// one fewer entry completes. Where there is no memory for it, nothing changes.
-fn keep(
-    lefts: &mut BTreeMap<TxKey, u64>,
-    counts: &mut BTreeMap<Hold, u64>,
-    order: Order,
-    added: Option<Hold>,
-    dropped: Option<Hold>,
-) -> Result<(), AllocError>
-    requires apart { IfSome added (λ h. (undone order.act ≡ None) × (dropped ≡ None)) }
-    requires few { IfSome added (λ h. count_at counts.old h.key h.pan < 1000000) }
-    ensures lefts { OnOk result ((key : TxKey) → tree.get key_cmp lefts.new key
-        ≡ option_or (tree.get key_cmp lefts.old key) (if is_key (undone order.act) key then Some (left_by order.act) else None)) }
-    ensures counts { OnOk result ((key : TxKey) → (pan : AccountNumber) → count_at counts.new key pan
-        ≡ count_at counts.old key pan - mark_at dropped key pan + mark_at added key pan) }
-    ensures lefts_kept { OnErr result ((key : TxKey) → tree.get key_cmp lefts.new key ≡ tree.get key_cmp lefts.old key) }
-    ensures counts_kept { OnErr result ((key : TxKey) → (pan : AccountNumber) → count_at counts.new key pan ≡ count_at counts.old key pan) }
-{
-    if let Some(hold) = added {
-        return complete(counts, hold);
-    }
-    keep_left(lefts, order)?;
-    if let Some(hold) = dropped {
-        release(counts, hold);
-    }
-    Ok(())
-}
-
-/// Keeps what a reversal leaves of the key that it names, where it is the first to name it.
-fn keep_left(lefts: &mut BTreeMap<TxKey, u64>, order: Order) -> Result<(), AllocError>
-    ensures ok { OnOk result ((key : TxKey) → tree.get key_cmp lefts.new key
-        ≡ option_or (tree.get key_cmp lefts.old key) (if is_key (undone order.act) key then Some (left_by order.act) else None)) }
-    ensures unchanged { OnErr result ((key : TxKey) → tree.get key_cmp lefts.new key ≡ tree.get key_cmp lefts.old key) }
-{
-    match order.act() {
-        Act::Undo { original, left } => {
-            if lefts.get(&original).is_none() {
-                lefts.insert(original, left)?;
-            }
-        }
-        Act::Debit(_) | Act::Credit(_) | Act::Inquiry(_) | Act::Complete { .. } => {}
+    if let Some(balance) = balance {
+        shown.insert(place, balance)?;
     }
     Ok(())
 }
@@ -179,10 +116,10 @@ impl Journal {
         ensures { result ≡ [] }
     {
         Journal {
-            entries: Vec::new(alloc),
-            places: BTreeMap::new(alloc),
-            lefts: BTreeMap::new(alloc),
-            counts: BTreeMap::new(alloc),
+            orders: Vec::new(alloc),
+            codes: Vec::new(alloc),
+            shown: BTreeMap::new(alloc),
+            index: Index::new(alloc),
         }
     }
 
@@ -190,22 +127,29 @@ impl Journal {
     pub fn len(&self) -> usize
         ensures { result ≡ length self.now }
     {
-        self.entries.len()
+        self.orders.len()
     }
 
     /// The entry of a key, where there is one.
     pub fn get(&self, key: TxKey) -> Option<Entry>
         ensures { result ≡ entry_at self.now key }
     {
-        let place = *self.places.get(&key)?;
-        Some(self.entries[place])
+        let place = self.index.place(key)?;
+        Some(Entry {
+            order: self.orders[place as usize],
+            answer: Answer {
+                code: self.codes[place as usize],
+                seq: place + 1,
+                shown: self.shown.get(&place).copied(),
+            },
+        })
     }
 
     /// What the first reversal of this key leaves, where there is one.
     pub fn left_at(&self, key: TxKey) -> Option<u64>
         ensures { result ≡ left_at self.now key }
     {
-        Some(*self.lefts.get(&key)?)
+        self.index.left(key)
     }
 
     /// Whether an entry counts: granted, and not wholly reversed.
@@ -219,7 +163,7 @@ impl Journal {
     fn is_completed(&self, key: TxKey, pan: Pan) -> bool
         ensures { result ≡ is_completed self.now key pan }
     {
-        count_at(&self.counts, &Hold { key, pan }) != 0
+        self.index.count(&Hold { key, pan }) != 0
     }
 
     /// Whether it is a hold that is completed.
@@ -331,22 +275,25 @@ impl Journal {
         requires new { entry_at self.old order.key ≡ None }
         requires distinct { HasDistinctKeys (map (λ e. e.order) self.old) }
         requires few { length self.old < 999999 }
+        requires seq { answer.seq ≡ length self.old + 1 }
         ensures ok { OnOk result (self.new ≡ self.old ++ record { order = order; answer = answer } ∷ []) }
         ensures unchanged { OnErr result (self.new ≡ self.old) }
     {
         let entry = Entry { order, answer };
         let added = self.added_by(&entry);
         let dropped = self.dropped_by(order);
-        self.entries.reserve(1)?;
-        let key = order.key();
-        self.places.insert(key, self.entries.len())?;
-        match keep(&mut self.lefts, &mut self.counts, order, added, dropped) {
+        self.orders.reserve(1)?;
+        self.codes.reserve(1)?;
+        let place = self.orders.len() as u32;
+        show(&mut self.shown, place, answer.shown)?;
+        match self.index.add(place, order, added, dropped) {
             Ok(()) => {
-                let _ = self.entries.push(entry);
+                let _ = self.orders.push(order);
+                let _ = self.codes.push(answer.code);
                 Ok(())
             }
             Err(fault) => {
-                self.places.remove(&key);
+                self.shown.remove(&place);
                 Err(fault)
             }
         }

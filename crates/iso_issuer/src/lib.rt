@@ -9,6 +9,7 @@ mod decision;
 mod document;
 mod effect;
 mod fault;
+mod index;
 mod issuer;
 mod journal;
 pub mod laws;

@@ -5,7 +5,7 @@ use Rattle.std.proofs.lemmas.Grind.{common_steps}
 use Rattle.iso_issuer.specs.declared.balances.Balance.{Balance}
 use Rattle.iso_issuer.specs.Account.{account_of}
 use Rattle.iso_issuer.specs.Balances.{accounts_of, opened, balance_at}
-use Rattle.iso_issuer.proofs.Index.{row_of-push, account-at}
+use Rattle.iso_issuer.proofs.ByKey.{row_of-push, account-at}
 use Rattle.iso_issuer.proofs.Documents.{numbers-push}
 use Rattle.iso_issuer.proofs.balances.Balances.open.Goals as goal
 

@@ -3,6 +3,8 @@ use Rattle.std.proofs.Common.{◌≡◌, ℕ, Bool, true, false, cond, refl, ari
 use Rattle.std.specs.Prelude.{Option, Some, None, option_map}
 use Rattle.std.specs.Option.{option_or}
 use Rattle.std.specs.Ordering.{is_eq}
+use Rattle.std.specs.BTreeMap as tree
+use Rattle.std.specs.BTreeMap.{BTreeMap}
 use Rattle.std.proofs.lemmas.Grind.{common_steps}
 use Rattle.std.proofs.lemmas.List.Folds.{find-append}
 use Rattle.iso_order.specs.declared.key.TxKey.{TxKey}
@@ -18,7 +20,7 @@ use Rattle.iso_issuer.specs.Journal.{entry_at, undone, left_by, left_at, reversa
 use Rattle.iso_issuer.specs.Balances.{accounts_of, balance_at}
 use Rattle.iso_issuer.specs.Index.{key_cmp, place_of, pan_cmp, row_of}
 use Rattle.iso_issuer.proofs.Keys.{same_key_is, same_pan_is}
-use Rattle.iso_issuer.proofs.Places.{place-push, place-back, found-map}
+use Rattle.iso_issuer.proofs.Places.{place-push, none_from, found-map}
 
 -- keys tie in their order where they are the same
 pub key_tied : (k q : TxKey) → is_eq (key_cmp k q) ≡ same_key k q
@@ -33,16 +35,21 @@ not_entered entries k q new h = subst (λ k. entry_at entries k ≡ None) (same_
 
 -- the places, after one entry more under a new key
 pub place_of-push : (entries : List Entry) (e : Entry) (q : TxKey) → entry_at entries e.order.key ≡ None →
-    place_of (entries ++ e ∷ []) q ≡ cond (is_eq (key_cmp e.order.key q)) (Some (length entries)) (place_of entries q)
-place_of-push entries e q new =
-    place-push (λ x. same_key x.order.key q) entries e (not_entered entries e.order.key q new)
-    ∙ ap (λ b. cond b (Some (length entries)) (place_of entries q)) (sym (key_tied e.order.key q))
+    place_of (entries ++ e ∷ []) q ≡ cond (same_key e.order.key q) (Some (length entries)) (place_of entries q)
+place_of-push entries e q new = place-push (λ x. same_key x.order.key q) entries e (not_entered entries e.order.key q new)
 
 -- what is added under a new key and taken away again leaves the places as they were
-pub place_of-back : (entries : List Entry) (k q : TxKey) (v : ℕ) → entry_at entries k ≡ None →
-    cond (is_eq (key_cmp k q)) None (cond (is_eq (key_cmp k q)) (Some v) (place_of entries q)) ≡ place_of entries q
-place_of-back entries k q v new =
-    place-back (λ x. same_key x.order.key q) entries (is_eq (key_cmp k q)) v (λ h. not_entered entries k q new (sym (key_tied k q) ∙ h))
+pub place-back : (places : BTreeMap TxKey ℕ) (k q : TxKey) (v : ℕ) → tree.get key_cmp places k ≡ None →
+    cond (is_eq (key_cmp k q)) None (cond (is_eq (key_cmp k q)) (Some v) (tree.get key_cmp places q)) ≡ tree.get key_cmp places q
+place-back places k q v new = by_test (is_eq (key_cmp k q)) refl
+  where
+    by_test : (b : Bool) → is_eq (key_cmp k q) ≡ b → cond b None (cond b (Some v) (tree.get key_cmp places q)) ≡ tree.get key_cmp places q
+    by_test true h = sym (ap (tree.get key_cmp places) (sym (same_key_is k q (sym (key_tied k q) ∙ h))) ∙ new)
+    by_test false h = refl
+
+-- a key of no entry has no place
+pub place_of-none : (entries : List Entry) (k : TxKey) → entry_at entries k ≡ None → place_of entries k ≡ None
+place_of-none entries k none = none_from (λ x. same_key x.order.key k) 0 entries none
 
 -- the first reversal of a key, after one entry more
 pub reversal-push : (es : List Entry) (e : Entry) (k : TxKey) →

@@ -1,6 +1,6 @@
 use Rattle.std.proofs.Common.{ap, ◌+◌}
 use Rattle.iso_issuer.proofs.Counts.{count-more}
-use Rattle.iso_issuer.proofs.journal.complete.Goals as goal
+use Rattle.iso_issuer.proofs.index.complete.Goals as goal
 
 pub returns-clause-ok : goal.returns-clause-ok
 returns-clause-ok c =

@@ -1,0 +1,168 @@
+//! The index of the journal: what is found of a key and of a hold without looking through the entries.
+
+ghost use Rattle.iso_order.specs.AccountNumber.{AccountNumber};
+ghost use Rattle.iso_issuer.specs.Effect.{is_key};
+ghost use Rattle.std.specs.Prelude.{◌≡◌, ◌≤◌, ◌<◌, ◌+◌, ◌-◌, IfSome, Some, None, [], if◌then◌else◌, OnOk, OnErr};
+ghost use Rattle.std.specs.BTreeMap as tree;
+ghost use Rattle.std.specs.Option.{option_or};
+ghost use Rattle.iso_order.specs.Key.{same_key};
+ghost use Rattle.iso_issuer.specs.Index.{key_cmp, count_at, mark_at, IsIndexOf, AnswersAlike};
+ghost use Rattle.iso_issuer.specs.Journal.{undone, left_by};
+
+use crate::effect::Hold;
+use iso_order::{Act, Order, TxKey};
+use std::alloc::{AllocError, Global};
+use std::collections::BTreeMap;
+
+/// The place of each key in the journal, what the first reversal of each key leaves, and how many
+/// entries that count complete each hold.
+#[derive(Drop)]
+pub struct Index {
+    places: BTreeMap<TxKey, u32>,
+    lefts: BTreeMap<TxKey, u64>,
+    counts: BTreeMap<Hold, u64>,
+}
+
+/// How many entries complete a hold.
+fn count_at(counts: &BTreeMap<Hold, u64>, hold: &Hold) -> u64
+    ensures { result ≡ count_at counts.now hold.now.key hold.now.pan }
+{
+    match counts.get(hold) {
+        Some(count) => *count,
+        None => 0,
+    }
+}
+
+/// One entry more completes the hold.
+fn complete(counts: &mut BTreeMap<Hold, u64>, hold: Hold) -> Result<(), AllocError>
+    requires { count_at counts.old hold.key hold.pan < 1000000 }
+    ensures ok { OnOk result ((key : TxKey) → (pan : AccountNumber) → count_at counts.new key pan ≡ count_at counts.old key pan + mark_at (Some hold) key pan) }
+    ensures unchanged { OnErr result ((key : TxKey) → (pan : AccountNumber) → count_at counts.new key pan ≡ count_at counts.old key pan) }
+{
+    let count = count_at(counts, &hold);
+    counts.insert(hold, count + 1)?;
+    Ok(())
+}
+
+/// One entry fewer completes the hold.
+fn release(counts: &mut BTreeMap<Hold, u64>, hold: Hold)
+    requires { 1 ≤ count_at counts.old hold.key hold.pan }
+    ensures { (key : TxKey) → (pan : AccountNumber) → count_at counts.new key pan ≡ count_at counts.old key pan - mark_at (Some hold) key pan }
+{
+    if let Some(count) = counts.get_mut(&hold) {
+        *count -= 1;
+    }
+}
+
+/// Keeps what a reversal leaves of the key that it names, where it is the first to name it.
+fn keep_left(lefts: &mut BTreeMap<TxKey, u64>, order: Order) -> Result<(), AllocError>
+    ensures ok { OnOk result ((key : TxKey) → tree.get key_cmp lefts.new key
+        ≡ option_or (tree.get key_cmp lefts.old key) (if is_key (undone order.act) key then Some (left_by order.act) else None)) }
+    ensures unchanged { OnErr result ((key : TxKey) → tree.get key_cmp lefts.new key ≡ tree.get key_cmp lefts.old key) }
+{
+    match order.act() {
+        Act::Undo { original, left } => {
+            if lefts.get(&original).is_none() {
+                lefts.insert(original, left)?;
+            }
+        }
+        Act::Debit(_) | Act::Credit(_) | Act::Inquiry(_) | Act::Complete { .. } => {}
+    }
+    Ok(())
+}
+
+/// Keeps what a reversal leaves, and the hold that one more or one fewer entry completes. Where there
+/// is no memory for it, nothing changes.
+fn keep(
+    lefts: &mut BTreeMap<TxKey, u64>,
+    counts: &mut BTreeMap<Hold, u64>,
+    order: Order,
+    added: Option<Hold>,
+    dropped: Option<Hold>,
+) -> Result<(), AllocError>
+    requires apart { IfSome added (λ h. (undone order.act ≡ None) × (dropped ≡ None)) }
+    requires few { IfSome added (λ h. count_at counts.old h.key h.pan < 1000000) }
+    requires counted { IfSome dropped (λ h. 1 ≤ count_at counts.old h.key h.pan) }
+    ensures lefts { OnOk result ((key : TxKey) → tree.get key_cmp lefts.new key
+        ≡ option_or (tree.get key_cmp lefts.old key) (if is_key (undone order.act) key then Some (left_by order.act) else None)) }
+    ensures counts { OnOk result ((key : TxKey) → (pan : AccountNumber) → count_at counts.new key pan
+        ≡ count_at counts.old key pan - mark_at dropped key pan + mark_at added key pan) }
+    ensures lefts_kept { OnErr result ((key : TxKey) → tree.get key_cmp lefts.new key ≡ tree.get key_cmp lefts.old key) }
+    ensures counts_kept { OnErr result ((key : TxKey) → (pan : AccountNumber) → count_at counts.new key pan ≡ count_at counts.old key pan) }
+{
+    if let Some(hold) = added {
+        return complete(counts, hold);
+    }
+    keep_left(lefts, order)?;
+    if let Some(hold) = dropped {
+        release(counts, hold);
+    }
+    Ok(())
+}
+
+impl Index {
+    /// The index of no entry. Takes no memory.
+    pub fn new(alloc: Global) -> Index
+        ensures { IsIndexOf result [] }
+    {
+        Index {
+            places: BTreeMap::new(alloc),
+            lefts: BTreeMap::new(alloc),
+            counts: BTreeMap::new(alloc),
+        }
+    }
+
+    /// The place of a key.
+    pub fn place(&self, key: TxKey) -> Option<u32>
+        ensures { result ≡ tree.get key_cmp self.now.places key }
+    {
+        Some(*self.places.get(&key)?)
+    }
+
+    /// What the first reversal of a key leaves.
+    pub fn left(&self, key: TxKey) -> Option<u64>
+        ensures { result ≡ tree.get key_cmp self.now.lefts key }
+    {
+        Some(*self.lefts.get(&key)?)
+    }
+
+    /// How many entries complete a hold.
+    pub fn count(&self, hold: &Hold) -> u64
+        ensures { result ≡ count_at self.now.counts hold.now.key hold.now.pan }
+    {
+        count_at(&self.counts, hold)
+    }
+
+    /// Adds what an order of a new key changes: its place, what it leaves of the key that it names, and
+    /// the hold that one more or one fewer entry completes. All of it, or nothing where there is no
+    /// memory for it.
+    pub fn add(
+        &mut self,
+        place: u32,
+        order: Order,
+        added: Option<Hold>,
+        dropped: Option<Hold>,
+    ) -> Result<(), AllocError>
+        requires new { tree.get key_cmp self.old.places order.key ≡ None }
+        requires apart { IfSome added (λ h. (undone order.act ≡ None) × (dropped ≡ None)) }
+        requires few { IfSome added (λ h. count_at self.old.counts h.key h.pan < 1000000) }
+        requires counted { IfSome dropped (λ h. 1 ≤ count_at self.old.counts h.key h.pan) }
+        ensures places { OnOk result ((key : TxKey) → tree.get key_cmp self.new.places key
+            ≡ (if same_key order.key key then Some place else tree.get key_cmp self.old.places key)) }
+        ensures lefts { OnOk result ((key : TxKey) → tree.get key_cmp self.new.lefts key
+            ≡ option_or (tree.get key_cmp self.old.lefts key) (if is_key (undone order.act) key then Some (left_by order.act) else None)) }
+        ensures counts { OnOk result ((key : TxKey) → (pan : AccountNumber) → count_at self.new.counts key pan
+            ≡ count_at self.old.counts key pan - mark_at dropped key pan + mark_at added key pan) }
+        ensures unchanged { OnErr result (AnswersAlike self.new self.old) }
+    {
+        let key = order.key();
+        self.places.insert(key, place)?;
+        match keep(&mut self.lefts, &mut self.counts, order, added, dropped) {
+            Ok(()) => Ok(()),
+            Err(fault) => {
+                self.places.remove(&key);
+                Err(fault)
+            }
+        }
+    }
+}
