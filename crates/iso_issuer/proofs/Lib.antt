@@ -14,6 +14,7 @@ pub mod Touched
 pub mod Completions
 pub mod Counts
 pub mod Stored
+pub mod Seen
 pub mod Sums
 pub mod Summed
 pub mod Room

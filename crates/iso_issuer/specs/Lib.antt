@@ -7,6 +7,7 @@ pub mod Balances
 pub mod Decision
 pub mod Books
 pub mod Index
+pub mod Found
 pub mod Document
 pub mod Shown
 pub mod Laws

@@ -1,11 +1,11 @@
 //! How an order is answered, on the entries before it.
 
-ghost use Rattle.std.specs.Prelude.{◌≡◌, ◌<◌, ◌≤◌, List, Option, length, option_map};
+ghost use Rattle.std.specs.Prelude.{◌≡◌, ◌<◌, ◌≤◌, List, Option, None, length, option_map};
 ghost use Rattle.iso_issuer.specs.declared.account.Account.{Account};
 ghost use Rattle.iso_issuer.specs.declared.journal.Entry.{Entry};
 ghost use Rattle.iso_issuer.specs.Balances.{accounts_of};
 ghost use Rattle.iso_issuer.specs.Effect.{effect_of};
-ghost use Rattle.iso_issuer.specs.Journal.{left_at};
+ghost use Rattle.iso_issuer.specs.Journal.{left_at, undone};
 ghost use Rattle.iso_issuer.specs.Index.{AreSums, balance_on};
 ghost use Rattle.iso_issuer.specs.Decision.{is_wide, amount_code, account_code, money_of, code_of, shown_by, new_answer, repeated};
 
@@ -70,16 +70,15 @@ fn money_of(order: Order) -> Option<Money>
     }
 }
 
-/// The code of a new order.
-fn code_of(journal: &Journal, balances: &Balances, order: Order) -> u8
-    requires { AreSums journal.now balances.now }
-    ensures value { result ≡ code_of (accounts_of balances.now) journal.now order }
+/// The code of a new order, of whose key the first reversal leaves so much.
+fn code_of(balances: &Balances, order: Order, left: Option<u64>) -> u8
+    ensures value { (entries : List Entry) → AreSums entries balances.now → (undone order.act ≡ None → left ≡ left_at entries order.key)
+        → result ≡ code_of (accounts_of balances.now) entries order }
     ensures small { result ≤ 99 }
 {
     match money_of(order) {
         None => 0,
         Some(money) => {
-            let left = journal.left_at(order.key());
             if is_nothing(left) {
                 21
             } else {
@@ -99,13 +98,14 @@ fn shown_by(balances: &Balances, order: Order) -> Option<i64>
     }
 }
 
-/// The answer to a new order.
-pub fn new_answer(journal: &Journal, balances: &Balances, order: Order) -> Answer
+/// The answer to a new order, of whose key the first reversal leaves so much.
+pub fn new_answer(journal: &Journal, balances: &Balances, order: Order, left: Option<u64>) -> Answer
     requires few { length journal.now < 999999 }
     requires sums { AreSums journal.now balances.now }
+    requires left { undone order.act ≡ None → left ≡ left_at journal.now order.key }
     ensures { result ≡ new_answer (accounts_of balances.now) journal.now order }
 {
-    let code = code_of(journal, balances, order);
+    let code = code_of(balances, order, left);
     Answer {
         code,
         seq: journal.len() as u32 + 1,

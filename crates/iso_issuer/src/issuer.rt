@@ -68,22 +68,11 @@ impl Issuer {
         ensures memory { IfErr result (λ e. e ≡ Memory) }
         ensures unchanged { OnErr result (self.new ≡ self.old) }
     {
-        let answer = new_answer(&self.journal, &self.balances, order);
-        let reversed = self.journal.reversed_by(order);
-        let released = self.journal.released_by(order);
-        let before = self.journal.weight_at(&reversed);
-        let held = self.journal.weight_at(&released);
-        self.journal.enter(order, answer)?;
+        let found = self.journal.find(order);
+        let answer = new_answer(&self.journal, &self.balances, order, found.left);
+        self.journal.enter(order, answer, &found)?;
         let entry = Entry { order, answer };
-        settle(
-            &self.journal,
-            &mut self.balances,
-            entry,
-            reversed,
-            before,
-            released,
-            held,
-        );
+        settle(&self.journal, &mut self.balances, entry, &found);
         Ok(answer)
     }
 

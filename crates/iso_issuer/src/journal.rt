@@ -1,13 +1,16 @@
 //! The journal: the orders that were entered, each with the answer that it was given.
 
-ghost use Rattle.iso_issuer.specs.Effect.{is_key};
-ghost use Rattle.std.specs.Prelude.{◌≡◌, ◌≤◌, ◌<◌, ◌+◌, ◌==◌, ℕ, true, false, map, ◌++◌, ◌∷◌, [], None, if◌then◌else◌, OnOk, OnErr, length};
+ghost use Rattle.iso_issuer.specs.Effect.{is_key, effect_of};
+ghost use Rattle.iso_issuer.specs.Found.{touched_at, weight_in, IsFoundFor};
+ghost use Rattle.iso_issuer.specs.declared.journal.Entry.{Entry};
+ghost use Rattle.std.specs.Prelude.{◌≡◌, ◌≤◌, ◌<◌, ◌+◌, ◌==◌, ℕ, List, is_some, true, false, map, ◌++◌, ◌∷◌, [], None, if◌then◌else◌, OnOk, OnErr, length};
 ghost use Rattle.std.specs.BTreeMap as tree;
 ghost use Rattle.std.specs.Ordering.{nat_cmp};
 ghost use Rattle.iso_issuer.specs.Index.{added_by, dropped_of, dropped_by};
-ghost use Rattle.iso_issuer.specs.Journal.{entry_at, undone, left_at, is_nothing, smaller, counts_with, is_counted, is_completed, is_ended, weight, weight_at, reversed_by, ended_key, released_by, HasDistinctKeys};
+ghost use Rattle.iso_issuer.specs.Journal.{entry_at, undone, left_at, is_nothing, smaller, counts_with, is_completed, is_ended, weight, reversed_by, ended_key, released_by, HasDistinctKeys};
 
 use crate::effect::{Effect, Hold, Side, amount_of, effect_of, ended_by, hold_by};
+use crate::found::{Found, Touched};
 use crate::index::Index;
 use iso_order::{Act, Answer, Order, Pan, TxKey};
 use std::alloc::{AllocError, Global};
@@ -98,6 +101,35 @@ fn dropped_of(before: Option<u64>, left: u64, reversed: &Entry) -> Option<Hold>
     }
 }
 
+/// The hold that an entry completes of which so much is left.
+fn added_by(left: Option<u64>, entry: &Entry) -> Option<Hold>
+    ensures { (es : List Entry) → (undone entry.now.order.act ≡ None → left ≡ left_at es entry.now.order.key) → result ≡ added_by es entry.now }
+{
+    match hold_by(effect_of(entry.order)) {
+        Some(hold) => {
+            if counts_with(left, entry) {
+                Some(hold)
+            } else {
+                None
+            }
+        }
+        None => None,
+    }
+}
+
+/// The hold that an order lets the entry that it reverses no longer complete.
+fn dropped_by(order: Order, reversed: &Option<Touched>) -> Option<Hold>
+    ensures { (es : List Entry) → reversed.now ≡ touched_at es (reversed_by es order) → result ≡ dropped_by es order.act }
+{
+    match order.act() {
+        Act::Undo { left, .. } => match reversed {
+            Some(reversed) => dropped_of(reversed.left, left, &reversed.entry),
+            None => None,
+        },
+        Act::Debit(_) | Act::Credit(_) | Act::Inquiry(_) | Act::Complete { .. } => None,
+    }
+}
+
 /// Keeps the balance that the answer at a place shows, where it shows one.
 fn show(shown: &mut BTreeMap<u32, i64>, place: u32, balance: Option<i64>) -> Result<(), AllocError>
     requires { tree.get nat_cmp shown.old place ≡ None }
@@ -152,13 +184,6 @@ impl Journal {
         self.index.left(key)
     }
 
-    /// Whether an entry counts: granted, and not wholly reversed.
-    fn is_counted(&self, entry: &Entry) -> bool
-        ensures { result ≡ is_counted self.now entry.now }
-    {
-        counts_with(self.left_at(entry.order.key()), entry)
-    }
-
     /// Whether some entry that counts completes the hold of this key on this account.
     fn is_completed(&self, key: TxKey, pan: Pan) -> bool
         ensures { result ≡ is_completed self.now key pan }
@@ -179,34 +204,42 @@ impl Journal {
         }
     }
 
-    /// What is left of the amount of an entry that stands, else 0.
-    pub fn weight(&self, entry: &Entry) -> u64
+    /// What is left of the amount of an entry that stands, else 0. What the first reversal of it leaves
+    /// is handed in.
+    pub fn weight(&self, entry: &Entry, left: Option<u64>) -> u64
+        requires { is_some (effect_of entry.now.order) ≡ true → left ≡ left_at self.now entry.now.order.key }
         ensures value { result ≡ weight self.now entry.now }
         ensures small { result ≤ 999999999999 }
     {
-        let key = entry.order.key();
-        let left = self.left_at(key);
         let effect = effect_of(entry.order);
-        if counts_with(left, entry) && !self.is_ended(key, &effect) {
+        if counts_with(left, entry) && !self.is_ended(entry.order.key(), &effect) {
             smaller(amount_of(effect), left)
         } else {
             0
         }
     }
 
-    /// The weight of an entry, where there is one.
-    pub fn weight_at(&self, entry: &Option<Entry>) -> u64
-        ensures value { result ≡ weight_at self.now entry.now }
-        ensures small { result ≤ 999999999999 }
+    /// An entry with what the first reversal of it leaves, and its weight.
+    fn touched(&self, entry: Option<Entry>) -> Option<Touched>
+        ensures value { result ≡ touched_at self.now entry }
+        ensures small { weight_in result ≤ 999999999999 }
     {
         match entry {
-            Some(entry) => self.weight(entry),
-            None => 0,
+            Some(entry) => {
+                let left = self.left_at(entry.order.key());
+                let weight = self.weight(&entry, left);
+                Some(Touched {
+                    entry,
+                    left,
+                    weight,
+                })
+            }
+            None => None,
         }
     }
 
     /// The entry that an order reverses, where there is one.
-    pub fn reversed_by(&self, order: Order) -> Option<Entry>
+    fn reversed_by(&self, order: Order) -> Option<Entry>
         ensures { result ≡ reversed_by self.now order }
     {
         match undone(order) {
@@ -216,13 +249,14 @@ impl Journal {
     }
 
     /// The key of the hold that an order ends, or that it gives back by reversing what ended it.
-    fn ended_key(&self, order: Order) -> Option<TxKey>
+    fn ended_key(&self, order: Order, reversed: &Option<Entry>) -> Option<TxKey>
+        requires { reversed.now ≡ reversed_by self.now order }
         ensures value { result ≡ ended_key self.now order }
         ensures apart { (q : TxKey) → is_key result q ≡ true → is_key (undone order.act) q ≡ false }
     {
         match ended_by(effect_of(order)) {
             Some(hold) => Some(hold),
-            None => match self.reversed_by(order) {
+            None => match reversed {
                 Some(reversed) => ended_by(effect_of(reversed.order)),
                 None => None,
             },
@@ -230,48 +264,47 @@ impl Journal {
     }
 
     /// That hold, where it is there.
-    pub fn released_by(&self, order: Order) -> Option<Entry>
+    fn released_by(&self, order: Order, reversed: &Option<Entry>) -> Option<Entry>
+        requires { reversed.now ≡ reversed_by self.now order }
         ensures value { result ≡ released_by self.now order }
         ensures apart { (q : TxKey) → is_key (ended_key self.now order) q ≡ true → is_key (undone order.act) q ≡ false }
     {
-        match self.ended_key(order) {
+        match self.ended_key(order, reversed) {
             Some(hold) => self.get(hold),
             None => None,
         }
     }
 
-    /// The hold that an entry completes.
-    fn added_by(&self, entry: &Entry) -> Option<Hold>
-        ensures { result ≡ added_by self.now entry.now }
+    /// What the first reversal of the key of an order leaves, unless the order is a reversal.
+    fn own_left(&self, order: Order) -> Option<u64>
+        ensures { undone order.act ≡ None → result ≡ left_at self.now order.key }
     {
-        match hold_by(effect_of(entry.order)) {
-            Some(hold) => {
-                if self.is_counted(entry) {
-                    Some(hold)
-                } else {
-                    None
-                }
-            }
-            None => None,
+        match undone(order) {
+            Some(_) => None,
+            None => self.left_at(order.key()),
         }
     }
 
-    /// The hold that an order lets an entry no longer complete.
-    fn dropped_by(&self, order: Order) -> Option<Hold>
-        ensures { result ≡ dropped_by self.now order.act }
+    /// What an order finds.
+    pub fn find(&self, order: Order) -> Found
+        ensures found { IsFoundFor self.now order result }
+        ensures reversed { weight_in result.reversed ≤ 999999999999 }
+        ensures released { weight_in result.released ≤ 999999999999 }
+        ensures apart { (q : TxKey) → is_key (ended_key self.now order) q ≡ true → is_key (undone order.act) q ≡ false }
     {
-        match order.act() {
-            Act::Undo { original, left } => match self.get(original) {
-                Some(reversed) => dropped_of(self.left_at(original), left, &reversed),
-                None => None,
-            },
-            Act::Debit(_) | Act::Credit(_) | Act::Inquiry(_) | Act::Complete { .. } => None,
+        let reversed = self.reversed_by(order);
+        let released = self.released_by(order, &reversed);
+        Found {
+            left: self.own_left(order),
+            reversed: self.touched(reversed),
+            released: self.touched(released),
         }
     }
 
     /// Enters an order of a new key with its answer. Where there is no memory for it, whatever the call
     /// added is taken away again.
-    pub fn enter(&mut self, order: Order, answer: Answer) -> Result<(), AllocError>
+    pub fn enter(&mut self, order: Order, answer: Answer, found: &Found) -> Result<(), AllocError>
+        requires found { IsFoundFor self.old order found.now }
         requires new { entry_at self.old order.key ≡ None }
         requires distinct { HasDistinctKeys (map (λ e. e.order) self.old) }
         requires few { length self.old < 999999 }
@@ -280,8 +313,8 @@ impl Journal {
         ensures unchanged { OnErr result (self.new ≡ self.old) }
     {
         let entry = Entry { order, answer };
-        let added = self.added_by(&entry);
-        let dropped = self.dropped_by(order);
+        let added = added_by(found.left, &entry);
+        let dropped = dropped_by(order, &found.reversed);
         self.orders.reserve(1)?;
         self.codes.reserve(1)?;
         let place = self.orders.len() as u32;

@@ -9,6 +9,7 @@ mod decision;
 mod document;
 mod effect;
 mod fault;
+mod found;
 mod index;
 mod issuer;
 mod journal;

@@ -1,9 +1,12 @@
 //! What an entry changes on the accounts: for each entry that it touches, the weight after it less the weight before.
 
-ghost use Rattle.std.specs.Prelude.{◌≡◌, ◌≤◌, ◌+◌, ℕ, ◌-ℤ◌, All, map};
+ghost use Rattle.std.specs.Prelude.{◌≡◌, ◌≤◌, ◌+◌, ℕ, ◌-ℤ◌, All, map, Some};
+ghost use Rattle.std.specs.Option.{option_or};
 ghost use Rattle.iso_order.specs.AccountNumber.{AccountNumber};
 ghost use Rattle.iso_issuer.specs.Effect.{effect_of};
-ghost use Rattle.iso_issuer.specs.Journal.{effect_at, weight, weight_at};
+ghost use Rattle.iso_issuer.specs.declared.found.Touched.{Touched};
+ghost use Rattle.iso_issuer.specs.Journal.{effect_at, left_at, weight, weight_at};
+ghost use Rattle.iso_issuer.specs.Found.{entry_in, weight_in, leaves, WasFoundFor};
 ghost use Rattle.iso_issuer.specs.Range.{IsAmount};
 ghost use Rattle.iso_issuer.specs.Balance.{ledger_share, available_share};
 ghost use Rattle.iso_issuer.specs.Balances.{ledger_grown, available_grown, moved, on_ledger, on_available, IsNear};
@@ -11,7 +14,9 @@ ghost use Rattle.iso_issuer.specs.Balances.{ledger_grown, available_grown, moved
 use crate::balances::Balances;
 use crate::change::Change;
 use crate::effect::{Effect, Side, effect_of};
+use crate::found::{Found, Touched};
 use crate::journal::{Entry, Journal};
+use iso_order::{Act, Order};
 
 /// What an effect does to its account when its weight grows by an amount, or shrinks by one.
 fn grown_by(effect: Effect, grown: i64) -> Change
@@ -52,45 +57,63 @@ fn change_of(entry: Entry, before: u64, after: u64) -> Option<Change>
     Some(grown_by(effect, after as i64 - before as i64))
 }
 
-/// Posts what the weight of an entry changed, where there is an entry.
-fn post(balances: &mut Balances, touched: Option<Entry>, before: u64, after: u64)
+/// Posts what the weight of an entry changed.
+fn post(balances: &mut Balances, entry: Entry, before: u64, after: u64)
     requires near { All (IsNear 2999999) balances.old }
     requires before { before ≤ 999999999999 }
     requires after { after ≤ 999999999999 }
-    ensures moved { balances.new ≡ map (moved (effect_at touched) before after) balances.old }
+    ensures moved { balances.new ≡ map (moved (effect_of entry.order) before after) balances.old }
     ensures near { (n : ℕ) → All (IsNear n) balances.old → All (IsNear (n + 1)) balances.new }
 {
-    let Some(entry) = touched else {
-        return;
-    };
     if let Some(change) = change_of(entry, before, after) {
         balances.post(change);
     }
 }
 
-/// Brings the balances up to date with an entry that was added, with the entry that it reverses, which
-/// had a weight before, and with the hold that it ends or gives back, which held an amount before.
-pub fn settle(
+/// Posts what the weight of an entry changed that was touched, where there is one, and of which so
+/// much is left from now on, unless an earlier reversal left something of it.
+fn post_touched(
     journal: &Journal,
     balances: &mut Balances,
-    entry: Entry,
-    reversed: Option<Entry>,
-    before: u64,
-    released: Option<Entry>,
-    held: u64,
+    touched: &Option<Touched>,
+    leaves: Option<u64>,
 )
+    requires near { All (IsNear 2999999) balances.old }
+    requires before { weight_in touched.now ≤ 999999999999 }
+    requires left { (t : Touched) → touched.now ≡ Some t → option_or t.left leaves ≡ left_at journal.now t.entry.order.key }
+    ensures moved { balances.new ≡ map (moved (effect_at (entry_in touched.now)) (weight_in touched.now) (weight_at journal.now (entry_in touched.now))) balances.old }
+    ensures near { (n : ℕ) → All (IsNear n) balances.old → All (IsNear (n + 1)) balances.new }
+{
+    if let Some(touched) = touched {
+        let after = journal.weight(&touched.entry, touched.left.or(leaves));
+        post(balances, touched.entry, touched.weight, after);
+    }
+}
+
+/// What an order leaves of the entry that it reverses.
+fn leaves(order: Order) -> Option<u64>
+    ensures { result ≡ leaves order.act }
+{
+    match order.act() {
+        Act::Undo { left, .. } => Some(left),
+        Act::Debit(_) | Act::Credit(_) | Act::Inquiry(_) | Act::Complete { .. } => None,
+    }
+}
+
+/// Brings the balances up to date with an entry that was added, with the entry that it reverses, and
+/// with the hold that it ends or gives back, as both were found before.
+pub fn settle(journal: &Journal, balances: &mut Balances, entry: Entry, found: &Found)
     requires near { All (IsNear 2999997) balances.old }
-    requires before { before ≤ 999999999999 }
-    requires held { held ≤ 999999999999 }
-    ensures moved { balances.new ≡ map (moved (effect_at released) held (weight_at journal.now released))
-        (map (moved (effect_at reversed) before (weight_at journal.now reversed))
+    requires found { WasFoundFor journal.now entry.order found.now }
+    requires reversed { weight_in found.now.reversed ≤ 999999999999 }
+    requires released { weight_in found.now.released ≤ 999999999999 }
+    ensures moved { balances.new ≡ map (moved (effect_at (entry_in found.now.released)) (weight_in found.now.released) (weight_at journal.now (entry_in found.now.released)))
+        (map (moved (effect_at (entry_in found.now.reversed)) (weight_in found.now.reversed) (weight_at journal.now (entry_in found.now.reversed)))
         (map (moved (effect_of entry.order) 0 (weight journal.now entry)) balances.old)) }
     ensures near { (n : ℕ) → All (IsNear n) balances.old → All (IsNear (n + 3)) balances.new }
 {
-    let own = journal.weight(&entry);
-    let after = journal.weight_at(&reversed);
-    post(balances, Some(entry), 0, own);
-    let kept = journal.weight_at(&released);
-    post(balances, reversed, before, after);
-    post(balances, released, held, kept);
+    let own = journal.weight(&entry, found.left);
+    post(balances, entry, 0, own);
+    post_touched(journal, balances, &found.reversed, leaves(entry.order));
+    post_touched(journal, balances, &found.released, None);
 }

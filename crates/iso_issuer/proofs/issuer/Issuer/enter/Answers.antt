@@ -4,13 +4,14 @@ use Rattle.std.proofs.lemmas.List.{map-append, length-map}
 use Rattle.iso_order.specs.Order.{Instruction}
 use Rattle.iso_issuer.specs.declared.account.Account.{Account}
 use Rattle.iso_issuer.specs.declared.journal.Entry.{Entry}
-use Rattle.iso_issuer.specs.Journal.{entry_at}
+use Rattle.iso_issuer.specs.Journal.{entry_at, reversed_by, released_by}
 use Rattle.iso_issuer.specs.Decision.{new_answer}
 use Rattle.iso_issuer.specs.Balances.{accounts_of, IsNear}
 use Rattle.iso_issuer.specs.Books.{Books}
 use Rattle.iso_issuer.proofs.Entries.{entered-found, kept-push}
 use Rattle.iso_issuer.proofs.Documents.{is_none-of}
 use Rattle.iso_issuer.proofs.Room.{near-more}
+use Rattle.iso_issuer.proofs.Seen.{entry-touched, weight-touched, found-entered}
 use Rattle.iso_issuer.proofs.Summed.{settled, settled-thrice, accounts-settled, sums-settled}
 use Rattle.iso_issuer.proofs.issuer.Issuer.enter.Goals as goal
 
@@ -19,6 +20,12 @@ enter-requires-clause-new c =
     let es = c.self.inside.journal in
     let told = rw (← c.self.view_is) at c.requires.new in
     is_none-of (entry_at es c.args.order.key) (sym (entered-found es c.args.order.key) ∙ told)
+
+pub settle-requires-clause-found : goal.settle-requires-clause-found
+settle-requires-clause-found c =
+    let es = c.self.inside.journal in
+    let entry : Entry = record { order = c.args.order; answer = c.new_answer-answer.result } in
+    rw (c.in_ok-enter.ensures.ok) (found-entered es entry c.find-found.result c.find-found.ensures.found c.find-found.ensures.apart)
 
 pub invariant_of-self-2 : goal.invariant_of-self-2
 invariant_of-self-2 c =
@@ -34,18 +41,19 @@ invariant_of-self-2 c =
     let kept = c.self.invariant.0 in
     let after : c.enter.new.self ≡ es ++ entry ∷ [] = c.in_ok-enter.ensures.ok in
     let is : c.settle.new.balances ≡ map (settled es entry) balances =
-    (rw (after, c.weight_at-before.ensures.value, c.reversed_by-reversed.ensures, c.weight_at-held.ensures.value, c.released_by-released.ensures.value) at c.settle.ensures.moved) ∙ settled-thrice es entry balances in
+    (rw (after, c.find-found.ensures.found.reversed, c.find-found.ensures.found.released, entry-touched es (reversed_by es o), entry-touched es (released_by es o), weight-touched es (reversed_by es o), weight-touched es (released_by es o)) at c.settle.ensures.moved) ∙ settled-thrice es entry balances in
     let near : All (IsNear (3 * length (es ++ entry ∷ []))) c.settle.new.balances =
     near-more (3 * length es + 3) (3 * length (es ++ entry ∷ [])) c.settle.new.balances (omega (arith, length-append es (entry ∷ []))) (c.settle.ensures.near (3 * length es) c.self.invariant.1.near) in
     let same : accounts_of c.settle.new.balances ≡ accounts_of balances = ap accounts_of is ∙ accounts-settled es entry balances in
     rw (after, same) (
       rw answer (kept-push (accounts_of balances) c.self.inside.limit es o kept below new),
-      record { sums = rw is (sums-settled es entry balances kept.distinct c.released_by-released.ensures.apart c.self.invariant.1.sums); near = near },
+      record { sums = rw is (sums-settled es entry balances kept.distinct c.find-found.ensures.apart c.self.invariant.1.sums); near = near },
     )
 
 pub returns-clause-entered : goal.returns-clause-entered
 returns-clause-entered c =
     let es = c.self.inside.journal in
+    let o = c.args.order in
     let balances = c.self.inside.balances in
     let entry : Entry = record { order = c.args.order; answer = c.new_answer-answer.result } in
     let books : List Account → List Instruction → Books = λ accounts orders. record { accounts = accounts; limit = c.self.inside.limit; orders = orders } in
@@ -53,7 +61,7 @@ returns-clause-entered c =
     let orders : map (λ (e : Entry). e.order) c.enter.new.self ≡ map (λ (e : Entry). e.order) es ++ c.args.order ∷ [] =
     ap (map (λ (e : Entry). e.order)) after ∙ map-append (λ (e : Entry). e.order) es (entry ∷ []) in
     let is : c.settle.new.balances ≡ map (settled es entry) balances =
-    (rw (after, c.weight_at-before.ensures.value, c.reversed_by-reversed.ensures, c.weight_at-held.ensures.value, c.released_by-released.ensures.value) at c.settle.ensures.moved) ∙ settled-thrice es entry balances in
+    (rw (after, c.find-found.ensures.found.reversed, c.find-found.ensures.found.released, entry-touched es (reversed_by es o), entry-touched es (released_by es o), weight-touched es (reversed_by es o), weight-touched es (released_by es o)) at c.settle.ensures.moved) ∙ settled-thrice es entry balances in
     let same : accounts_of c.settle.new.balances ≡ accounts_of balances = ap accounts_of is ∙ accounts-settled es entry balances in
     rw (← c.self.view_is)
     (ap (λ accounts. books accounts (map (λ (e : Entry). e.order) c.enter.new.self)) same ∙ ap (books (accounts_of balances)) orders)

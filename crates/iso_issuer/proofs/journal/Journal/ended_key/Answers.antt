@@ -1,11 +1,11 @@
-use Rattle.std.proofs.Common.{sym}
+use Rattle.std.proofs.Common.{sym, ◌∙◌}
 use Rattle.iso_issuer.specs.Journal.{undone}
 use Rattle.iso_issuer.proofs.Touched.{apart-found}
 use Rattle.iso_issuer.proofs.journal.Journal.ended_key.Goals as goal
 
-pub returns-in-Some-reversed_by-clause-apart : goal.returns-in-Some-reversed_by-clause-apart
-returns-in-Some-reversed_by-clause-apart c = λ q h.
-    let r = c.in-Some-reversed_by.reversed in
-    let e = c.effect_of-in-Some-reversed_by.ensures in
-    let classes = e.ends q (rw (← c.ended_by-in-Some-reversed_by.ensures) h) in
-    apart-found c.args.self.now (undone c.args.order.act) r q (sym c.in-Some-reversed_by.ensures) classes.0 classes.1
+pub returns-in-Some-reversed-clause-apart : goal.returns-in-Some-reversed-clause-apart
+returns-in-Some-reversed-clause-apart c = λ q h.
+    let r = c.in-Some-reversed.reversed in
+    let e = c.effect_of-in-Some-reversed.ensures in
+    let classes = e.ends q (rw (← c.ended_by-in-Some-reversed.ensures) h) in
+    apart-found c.args.self.now (undone c.args.order.act) r q (sym c.requires ∙ c.in-Some-reversed.is) classes.0 classes.1

@@ -34,7 +34,7 @@ add-requires-clause-counted c =
     let i = c.self.inside in
     let es = entries_from 0 i.orders.items i.codes.items i.shown in
     let entry : Entry = record { order = c.args.order; answer = c.args.answer } in
-    counted-dropped es entry c.dropped_by-dropped.result i.index.counts c.self.invariant.indexed.counts (rw c.self.view_is c.dropped_by-dropped.ensures)
+    counted-dropped es entry c.dropped_by-dropped.result i.index.counts c.self.invariant.indexed.counts (c.dropped_by-dropped.ensures es (rw c.self.view_is c.requires.found.reversed))
 
 pub returns-in_err-show-clause-unchanged : goal.returns-in_err-show-clause-unchanged
 returns-in_err-show-clause-unchanged c =
@@ -68,8 +68,8 @@ invariant_of-self-in-Ok c =
     (count ∙ sym (length-entries 0 os cs i.shown c.self.invariant.coded)) c.in-Ok.ensures.places c.in-Ok.ensures.lefts
     (λ q pan.
     c.in-Ok.ensures.counts q pan
-    ∙ ap (λ h. count_at i.index.counts q pan - mark_at h q pan + mark_at c.added_by-added.result q pan) (rw c.self.view_is c.dropped_by-dropped.ensures)
-    ∙ ap (λ h. count_at i.index.counts q pan - mark_at (dropped_by es c.args.order.act) q pan + mark_at h q pan) (rw c.self.view_is c.added_by-added.ensures)) in
+    ∙ ap (λ h. count_at i.index.counts q pan - mark_at h q pan + mark_at c.added_by-added.result q pan) (c.dropped_by-dropped.ensures es (rw c.self.view_is c.requires.found.reversed))
+    ∙ ap (λ h. count_at i.index.counts q pan - mark_at (dropped_by es c.args.order.act) q pan + mark_at h q pan) (c.added_by-added.ensures es (rw c.self.view_is c.requires.found.own))) in
     let entries : length es ≡ length os = length-entries 0 os cs i.shown c.self.invariant.coded in
     let few : length es < 999999 = rw c.self.view_is c.requires.few in
     let below : length os < 999999 = omega (arith, few, entries) in

@@ -1,0 +1,96 @@
+-- What an order found, once it is entered.
+use Rattle.std.proofs.Common.{◌≡◌, ℕ, Bool, true, false, cond, not, refl, ap, sym, ◌∙◌, subst, List, [], ◌∷◌, ◌++◌}
+use Rattle.std.specs.Prelude.{Option, Some, None, is_some, option_and_then, ◌&&◌}
+use Rattle.std.specs.Option.{option_or}
+use Rattle.iso_order.specs.declared.key.TxKey.{TxKey}
+use Rattle.iso_order.specs.declared.act.Act.{Act}
+use Rattle.iso_order.specs.declared.act.Act.TheVariants.{Debit, Credit, Inquiry, Undo, Complete}
+use Rattle.iso_order.specs.declared.act.Money.{Money}
+use Rattle.iso_order.specs.Order.{Instruction}
+use Rattle.iso_issuer.specs.declared.journal.Entry.{Entry}
+use Rattle.iso_issuer.specs.declared.found.Touched.{Touched}
+use Rattle.iso_issuer.specs.declared.found.Found.{Found}
+use Rattle.iso_issuer.specs.Effect.{effect_of, effect_by, is_key}
+use Rattle.iso_issuer.specs.Journal.{entry_at, undone, left_by, left_at, weight, weight_at, reversed_by, released_by, ended_key}
+use Rattle.iso_issuer.specs.Index.{dropped_of, dropped_at, dropped_by}
+use Rattle.iso_issuer.specs.Decision.{money_of}
+use Rattle.iso_issuer.specs.Found.{touched_at, entry_in, weight_in, leaves, IsFoundFor, WasFoundFor}
+use Rattle.iso_issuer.proofs.ByKey.{left-push, left-kept}
+use Rattle.iso_issuer.proofs.Keys.{same_key_is}
+use Rattle.iso_issuer.proofs.Sums.{AreApart}
+use Rattle.iso_issuer.proofs.Touched.{found-key}
+
+-- ---- which acts are no reversal
+
+-- what is about money
+pub money-kept : (act : Act) (m : Money) → Some m ≡ money_of act → undone act ≡ None
+money-kept (Debit m) n h = refl
+money-kept (Credit m) n h = refl
+money-kept (Inquiry m) n h = refl
+money-kept (Undo original left) n h = cc
+money-kept (Complete m hold) n h = refl
+
+-- what has an effect
+pub effect-kept : (k : TxKey) (act : Act) → is_some (effect_by k act) ≡ true → undone act ≡ None
+effect-kept k (Debit m) h = refl
+effect-kept k (Credit m) h = refl
+effect-kept k (Inquiry m) h = refl
+effect-kept k (Undo original left) h = cc
+effect-kept k (Complete m hold) h = refl
+
+-- ---- what was found
+
+-- the entry that is touched, and its weight
+pub entry-touched : (es : List Entry) (o : Option Entry) → entry_in (touched_at es o) ≡ o
+entry-touched es None = refl
+entry-touched es (Some e) = refl
+
+pub weight-touched : (es : List Entry) (o : Option Entry) → weight_in (touched_at es o) ≡ weight_at es o
+weight-touched es None = refl
+weight-touched es (Some e) = refl
+
+abbrev touch : List Entry → Entry → Touched
+touch es e = record { entry = e; left = left_at es e.order.key; weight = weight es e }
+
+-- where something is touched, it is an entry
+touched-of : (P : Touched → Type 0) (es : List Entry) (o : Option Entry) (t : Touched) → touched_at es o ≡ Some t → ((e : Entry) → o ≡ Some e → P (touch es e)) → P t
+touched-of P es None t h make = cc
+touched-of P es (Some e) t h make =
+    let same : touch es e ≡ t = cc in
+    subst P same (make e refl)
+
+found-under : (es : List Entry) (k : Option TxKey) (e : Entry) → option_and_then (entry_at es) k ≡ Some e → is_key k e.order.key ≡ true
+found-under es None e h = cc
+found-under es (Some k) e h = found-key es k e h
+
+-- the hold that the entry no longer completes
+pub dropped-touched : (es : List Entry) (o : Instruction) (original : TxKey) (left : ℕ) (t : Touched) → o.act ≡ Undo original left → Some t ≡ touched_at es (reversed_by es o) →
+    dropped_of t.left left t.entry ≡ dropped_by es o.act
+dropped-touched es o original left t act found =
+    touched-of (λ t. dropped_of t.left left t.entry ≡ dropped_at es original left (entry_at es original)) es (entry_at es original) t
+    (ap (λ a. touched_at es (option_and_then (entry_at es) (undone a))) (sym act) ∙ sym found)
+    (λ e h. ap (λ k. dropped_of (left_at es k) left e) (sym (same_key_is original e.order.key (found-key es original e h))) ∙ ap (dropped_at es original left) (sym h))
+    ∙ ap (dropped_by es) (sym act)
+
+-- a reversal leaves what it leaves of the entry that it names, unless an earlier one did
+left-leaves : (es : List Entry) (e : Entry) (k : TxKey) → is_key (undone e.order.act) k ≡ true → option_or (left_at es k) (leaves e.order.act) ≡ left_at (es ++ e ∷ []) k
+left-leaves es e k named = by_act e.order.act named ∙ sym (left-push es e k)
+  where
+    by_act : (a : Act) → is_key (undone a) k ≡ true → option_or (left_at es k) (leaves a) ≡ option_or (left_at es k) (cond (is_key (undone a) k) (Some (left_by a)) None)
+    by_act (Debit m) h = cc
+    by_act (Credit m) h = cc
+    by_act (Inquiry m) h = cc
+    by_act (Undo original left) h = ap (λ b. option_or (left_at es k) (cond b (Some left) None)) (sym h)
+    by_act (Complete m hold) h = cc
+
+-- what was found of an order is so once it is entered
+pub found-entered : (es : List Entry) (e : Entry) (found : Found) → IsFoundFor es e.order found → AreApart es e.order → WasFoundFor (es ++ e ∷ []) e.order found
+found-entered es e found is apart = record {
+  own = λ none. is.own none ∙ sym (left-kept es e e.order.key (ap (λ k. is_key k e.order.key) none));
+  reversed = λ t h.
+      touched-of (λ t. option_or t.left (leaves e.order.act) ≡ left_at (es ++ e ∷ []) t.entry.order.key) es (reversed_by es e.order) t (sym is.reversed ∙ h)
+      (λ r there. left-leaves es e r.order.key (found-under es (undone e.order.act) r there));
+  released = λ t h.
+      touched-of (λ t. t.left ≡ left_at (es ++ e ∷ []) t.entry.order.key) es (released_by es e.order) t (sym is.released ∙ h)
+      (λ r there. sym (left-kept es e r.order.key (apart r.order.key (found-under es (ended_key es e.order) r there))));
+}

@@ -1,0 +1,44 @@
+-- What an order finds in the journal, before it is entered.
+use Rattle.std.specs.Prelude.{◌≡◌, ℕ, List, Option, Some, None, option_map}
+use Rattle.std.specs.Option.{option_or}
+use Rattle.iso_order.specs.declared.act.Act.{Act}
+use Rattle.iso_order.specs.declared.act.Act.TheVariants.{Debit, Credit, Inquiry, Undo, Complete}
+use Rattle.iso_order.specs.Order.{Instruction}
+use Rattle.iso_issuer.specs.declared.journal.Entry.{Entry}
+use Rattle.iso_issuer.specs.declared.found.Touched.{Touched}
+use Rattle.iso_issuer.specs.declared.found.Found.{Found}
+use Rattle.iso_issuer.specs.Journal.{undone, left_at, weight, reversed_by, released_by}
+
+-- an entry, what the first reversal of it leaves, and its weight
+abbrev pub touched_at : List Entry → Option Entry → Option Touched
+touched_at journal None = None
+touched_at journal (Some e) = Some (record { entry = e; left = left_at journal e.order.key; weight = weight journal e })
+
+-- what the first reversal of its key leaves, the entry that it reverses, and the hold that it ends or gives back
+pub record IsFoundFor (journal : List Entry) (o : Instruction) (found : Found) : Type 0 where
+  pub own : undone o.act ≡ None → found.left ≡ left_at journal o.key
+  pub reversed : found.reversed ≡ touched_at journal (reversed_by journal o)
+  pub released : found.released ≡ touched_at journal (released_by journal o)
+
+-- the entry that is touched
+abbrev pub entry_in : Option Touched → Option Entry
+entry_in t = option_map (λ t. t.entry) t
+
+-- its weight before
+abbrev pub weight_in : Option Touched → ℕ
+weight_in None = 0
+weight_in (Some t) = t.weight
+
+-- what an act leaves of the entry that it reverses
+abbrev pub leaves : Act → Option ℕ
+leaves (Undo original left) = Some left
+leaves (Debit m) = None
+leaves (Credit m) = None
+leaves (Inquiry m) = None
+leaves (Complete m hold) = None
+
+-- what was found, once the order is entered: of what it reverses it leaves so much, unless an earlier one did
+pub record WasFoundFor (journal : List Entry) (o : Instruction) (found : Found) : Type 0 where
+  pub own : undone o.act ≡ None → found.left ≡ left_at journal o.key
+  pub reversed : (t : Touched) → found.reversed ≡ Some t → option_or t.left (leaves o.act) ≡ left_at journal t.entry.order.key
+  pub released : (t : Touched) → found.released ≡ Some t → t.left ≡ left_at journal t.entry.order.key
