@@ -1,6 +1,6 @@
 -- What an order found, once it is entered.
 use Rattle.std.proofs.Common.{◌≡◌, ℕ, Bool, true, false, cond, not, refl, ap, sym, ◌∙◌, subst, List, [], ◌∷◌, ◌++◌}
-use Rattle.std.specs.Prelude.{Option, Some, None, is_some, option_and_then, ◌&&◌}
+use Rattle.std.specs.Prelude.{Option, Some, None, is_some, option_and_then, option_map, ◌&&◌}
 use Rattle.std.specs.Option.{option_or}
 use Rattle.iso_order.specs.declared.key.TxKey.{TxKey}
 use Rattle.iso_order.specs.declared.act.Act.{Act}
@@ -8,6 +8,8 @@ use Rattle.iso_order.specs.declared.act.Act.TheVariants.{Debit, Credit, Inquiry,
 use Rattle.iso_order.specs.declared.act.Money.{Money}
 use Rattle.iso_order.specs.Order.{Instruction}
 use Rattle.iso_issuer.specs.declared.journal.Entry.{Entry}
+use Rattle.iso_order.specs.AccountNumber.{AccountNumber}
+use Rattle.iso_issuer.specs.declared.effect.Effect.{Effect}
 use Rattle.iso_issuer.specs.declared.found.Touched.{Touched}
 use Rattle.iso_issuer.specs.declared.found.Found.{Found}
 use Rattle.iso_issuer.specs.Effect.{effect_of, effect_by, is_key}
@@ -37,6 +39,22 @@ effect-kept k (Credit m) h = refl
 effect-kept k (Inquiry m) h = refl
 effect-kept k (Undo original left) h = cc
 effect-kept k (Complete m hold) h = refl
+
+-- the money of an order that has an effect, on the same account
+pub effect-money : (k : TxKey) (act : Act) (f : Effect) → effect_by k act ≡ Some f → (m : Money) × (Some m ≡ money_of act) × (m.pan ≡ f.pan)
+effect-money k (Debit m) f h = (m, refl, cc)
+effect-money k (Credit m) f h = (m, refl, cc)
+effect-money k (Inquiry m) f h = cc
+effect-money k (Undo original left) f h = cc
+effect-money k (Complete m hold) f h = (m, refl, cc)
+
+-- the place of the account of an effect
+pub place-told : (x : Option Effect) (pan : AccountNumber) (place : Option ℕ) (rows : AccountNumber → Option ℕ) → Some pan ≡ option_map (λ f. f.pan) x →
+    ((f : Effect) → x ≡ Some f → place ≡ rows f.pan) → place ≡ rows pan
+place-told None pan place rows same told = cc
+place-told (Some f) pan place rows same told =
+    let is : f.pan ≡ pan = cc in
+    told f refl ∙ ap rows is
 
 -- ---- what was found
 

@@ -7,6 +7,12 @@ use Rattle.iso_order.specs.Order.{Instruction}
 use Rattle.iso_issuer.specs.declared.journal.Entry.{Entry}
 use Rattle.iso_issuer.specs.declared.found.Touched.{Touched}
 use Rattle.iso_issuer.specs.declared.found.Found.{Found}
+use Rattle.iso_order.specs.declared.act.Money.{Money}
+use Rattle.iso_issuer.specs.declared.balances.Balance.{Balance}
+use Rattle.iso_issuer.specs.declared.balances.Row.{Row}
+use Rattle.iso_issuer.specs.Balances.{accounts_of, balance_at}
+use Rattle.iso_issuer.specs.Index.{row_of}
+use Rattle.iso_issuer.specs.Decision.{money_of}
 use Rattle.iso_issuer.specs.Journal.{undone, left_at, weight, reversed_by, released_by}
 
 -- an entry, what the first reversal of it leaves, and its weight
@@ -42,3 +48,8 @@ pub record WasFoundFor (journal : List Entry) (o : Instruction) (found : Found) 
   pub own : undone o.act ≡ None → found.left ≡ left_at journal o.key
   pub reversed : (t : Touched) → found.reversed ≡ Some t → option_or t.left (leaves o.act) ≡ left_at journal t.entry.order.key
   pub released : (t : Touched) → found.released ≡ Some t → t.left ≡ left_at journal t.entry.order.key
+
+-- the balance of the account that an order is about, and its place
+pub record IsRowFor (balances : List Balance) (o : Instruction) (row : Option Row) : Type 0 where
+  pub place : (m : Money) → Some m ≡ money_of o.act → option_map (λ r. r.place) row ≡ row_of (accounts_of balances) m.pan
+  pub balance : (m : Money) → Some m ≡ money_of o.act → option_map (λ r. r.balance) row ≡ balance_at balances m.pan

@@ -1,7 +1,8 @@
 //! What is on each account.
 
-ghost use Rattle.std.specs.Prelude.{◌≡◌, ◌++◌, ◌∷◌, [], None, OnOk, OnErr, All, map};
-ghost use Rattle.iso_issuer.specs.Balances.{added, balance_at, opened, posted, IsNear};
+ghost use Rattle.std.specs.Prelude.{◌≡◌, ◌++◌, ◌∷◌, [], None, OnOk, OnErr, All, map, option_map};
+ghost use Rattle.iso_issuer.specs.Index.{row_of};
+ghost use Rattle.iso_issuer.specs.Balances.{accounts_of, added, balance_at, opened, posted, IsNear};
 
 use crate::account::Account;
 use crate::change::Change;
@@ -18,6 +19,13 @@ pub struct Balance {
     pub ledger: i64,
     /// In minor units: the ledger less what is held.
     pub available: i64,
+}
+
+/// A balance, and its place among the balances.
+#[derive(Clone, Copy, Debug)]
+pub struct Row {
+    pub place: usize,
+    pub balance: Balance,
 }
 
 /// The balances of accounts, no two of one number, in the order in which they were opened. Each is
@@ -90,21 +98,39 @@ impl Balances {
         Ok(())
     }
 
+    /// The place of a number, where it has an account.
+    pub fn place(&self, pan: Pan) -> Option<usize>
+        ensures { result ≡ row_of (accounts_of self.now) pan }
+    {
+        Some(*self.places.get(&pan)?)
+    }
+
+    /// The balance of a number and its place, where it has an account.
+    pub fn find(&self, pan: Pan) -> Option<Row>
+        ensures place { option_map (λ r. r.place) result ≡ row_of (accounts_of self.now) pan }
+        ensures balance { option_map (λ r. r.balance) result ≡ balance_at self.now pan }
+    {
+        let place = *self.places.get(&pan)?;
+        Some(Row {
+            place,
+            balance: self.rows[place],
+        })
+    }
+
     /// The balance of a number, where it has an account.
     pub fn get(&self, pan: Pan) -> Option<Balance>
         ensures { result ≡ balance_at self.now pan }
     {
-        let place = *self.places.get(&pan)?;
-        Some(self.rows[place])
+        Some(self.find(pan)?.balance)
     }
 
-    /// Adds a change to the balance of its account, where there is such an account.
-    pub fn post(&mut self, change: Change)
-        requires { All (IsNear 2999999) self.old }
+    /// Adds a change to the balance of its account, where there is such an account, at its place.
+    pub fn post(&mut self, change: Change, place: Option<usize>)
+        requires near { All (IsNear 2999999) self.old }
+        requires place { place ≡ row_of (accounts_of self.old) change.pan }
         ensures { self.new ≡ map (posted change) self.old }
     {
-        if let Some(place) = self.places.get(&change.pan) {
-            let place = *place;
+        if let Some(place) = place {
             self.rows[place] = changed(self.rows[place], change);
         }
     }

@@ -2,14 +2,16 @@
 
 ghost use Rattle.std.specs.Prelude.{◌≡◌, ◌<◌, ◌≤◌, List, Option, None, length, option_map};
 ghost use Rattle.iso_issuer.specs.declared.account.Account.{Account};
+ghost use Rattle.iso_issuer.specs.declared.balances.Balance.{Balance};
 ghost use Rattle.iso_issuer.specs.declared.journal.Entry.{Entry};
+ghost use Rattle.iso_issuer.specs.Found.{IsRowFor};
 ghost use Rattle.iso_issuer.specs.Balances.{accounts_of};
 ghost use Rattle.iso_issuer.specs.Effect.{effect_of};
 ghost use Rattle.iso_issuer.specs.Journal.{left_at, undone};
 ghost use Rattle.iso_issuer.specs.Index.{AreSums, balance_on};
 ghost use Rattle.iso_issuer.specs.Decision.{is_wide, amount_code, account_code, money_of, code_of, shown_by, new_answer, repeated};
 
-use crate::balances::{Balance, Balances};
+use crate::balances::{Balance, Balances, Row};
 use crate::effect::effect_of;
 use crate::journal::{Entry, Journal, is_nothing, smaller};
 use iso_order::{Act, Answer, Money, Order};
@@ -70,10 +72,40 @@ fn money_of(order: Order) -> Option<Money>
     }
 }
 
+/// What is on the account that an order is about, and the place of that account.
+pub fn row_for(balances: &Balances, order: Order) -> Option<Row>
+    ensures { IsRowFor balances.now order result }
+{
+    match money_of(order) {
+        Some(money) => balances.find(money.pan),
+        None => None,
+    }
+}
+
+/// The balance of a row.
+fn balance_in(row: &Option<Row>) -> Option<Balance>
+    ensures { result ≡ option_map (λ r. r.balance) row.now }
+{
+    match row {
+        Some(row) => Some(row.balance),
+        None => None,
+    }
+}
+
+/// The place of a row.
+pub fn place_in(row: &Option<Row>) -> Option<usize>
+    ensures { result ≡ option_map (λ r. r.place) row.now }
+{
+    match row {
+        Some(row) => Some(row.place),
+        None => None,
+    }
+}
+
 /// The code of a new order, of whose key the first reversal leaves so much.
-fn code_of(balances: &Balances, order: Order, left: Option<u64>) -> u8
-    ensures value { (entries : List Entry) → AreSums entries balances.now → (undone order.act ≡ None → left ≡ left_at entries order.key)
-        → result ≡ code_of (accounts_of balances.now) entries order }
+fn code_of(row: &Option<Row>, order: Order, left: Option<u64>) -> u8
+    ensures value { (entries : List Entry) → (balances : List Balance) → AreSums entries balances → IsRowFor balances order row.now
+        → (undone order.act ≡ None → left ≡ left_at entries order.key) → result ≡ code_of (accounts_of balances) entries order }
     ensures small { result ≤ 99 }
 {
     match money_of(order) {
@@ -82,35 +114,36 @@ fn code_of(balances: &Balances, order: Order, left: Option<u64>) -> u8
             if is_nothing(left) {
                 21
             } else {
-                account_code(order, money, balances.get(money.pan), left)
+                account_code(order, money, balance_in(row), left)
             }
         }
     }
 }
 
 /// What an order of code 0 shows.
-fn shown_by(balances: &Balances, order: Order) -> Option<i64>
-    ensures { (entries : List Entry) → AreSums entries balances.now → result ≡ shown_by (accounts_of balances.now) entries order.act }
+fn shown_by(row: &Option<Row>, order: Order) -> Option<i64>
+    ensures { (entries : List Entry) → (balances : List Balance) → AreSums entries balances → IsRowFor balances order row.now
+        → result ≡ shown_by (accounts_of balances) entries order.act }
 {
     match order.act() {
-        Act::Inquiry(money) => Some(balances.get(money.pan)?.available),
+        Act::Inquiry(_) => Some(balance_in(row)?.available),
         Act::Debit(_) | Act::Credit(_) | Act::Undo { .. } | Act::Complete { .. } => None,
     }
 }
 
 /// The answer to a new order, of whose key the first reversal leaves so much.
-pub fn new_answer(journal: &Journal, balances: &Balances, order: Order, left: Option<u64>) -> Answer
+pub fn new_answer(journal: &Journal, row: &Option<Row>, order: Order, left: Option<u64>) -> Answer
     requires few { length journal.now < 999999 }
-    requires sums { AreSums journal.now balances.now }
     requires left { undone order.act ≡ None → left ≡ left_at journal.now order.key }
-    ensures { result ≡ new_answer (accounts_of balances.now) journal.now order }
+    ensures { (balances : List Balance) → AreSums journal.now balances → IsRowFor balances order row.now
+        → result ≡ new_answer (accounts_of balances) journal.now order }
 {
-    let code = code_of(balances, order, left);
+    let code = code_of(row, order, left);
     Answer {
         code,
         seq: journal.len() as u32 + 1,
         shown: if code == 0 {
-            shown_by(balances, order)
+            shown_by(row, order)
         } else {
             None
         },

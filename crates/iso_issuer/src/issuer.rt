@@ -11,7 +11,7 @@ ghost use Rattle.iso_issuer.specs.Shown.{is_shown_for};
 
 use crate::accounts::Accounts;
 use crate::balances::Balances;
-use crate::decision::{new_answer, repeated};
+use crate::decision::{new_answer, place_in, repeated, row_for};
 use crate::fault::Refused;
 use crate::journal::{Entry, Journal};
 use crate::posting::settle;
@@ -69,10 +69,17 @@ impl Issuer {
         ensures unchanged { OnErr result (self.new ≡ self.old) }
     {
         let found = self.journal.find(order);
-        let answer = new_answer(&self.journal, &self.balances, order, found.left);
+        let row = row_for(&self.balances, order);
+        let answer = new_answer(&self.journal, &row, order, found.left);
         self.journal.enter(order, answer, &found)?;
         let entry = Entry { order, answer };
-        settle(&self.journal, &mut self.balances, entry, &found);
+        settle(
+            &self.journal,
+            &mut self.balances,
+            entry,
+            place_in(&row),
+            &found,
+        );
         Ok(answer)
     }
 

@@ -1,6 +1,6 @@
 //! What an entry changes on the accounts: for each entry that it touches, the weight after it less the weight before.
 
-ghost use Rattle.std.specs.Prelude.{◌≡◌, ◌≤◌, ◌+◌, ℕ, ◌-ℤ◌, All, map, Some};
+ghost use Rattle.std.specs.Prelude.{◌≡◌, ◌≤◌, ◌+◌, ℕ, ◌-ℤ◌, All, map, Some, option_map};
 ghost use Rattle.std.specs.Option.{option_or};
 ghost use Rattle.iso_order.specs.AccountNumber.{AccountNumber};
 ghost use Rattle.iso_issuer.specs.Effect.{effect_of};
@@ -9,7 +9,9 @@ ghost use Rattle.iso_issuer.specs.Journal.{effect_at, left_at, weight, weight_at
 ghost use Rattle.iso_issuer.specs.Found.{entry_in, weight_in, leaves, WasFoundFor};
 ghost use Rattle.iso_issuer.specs.Range.{IsAmount};
 ghost use Rattle.iso_issuer.specs.Balance.{ledger_share, available_share};
-ghost use Rattle.iso_issuer.specs.Balances.{ledger_grown, available_grown, moved, on_ledger, on_available, IsNear};
+ghost use Rattle.iso_issuer.specs.declared.effect.Effect.{Effect};
+ghost use Rattle.iso_issuer.specs.Index.{row_of};
+ghost use Rattle.iso_issuer.specs.Balances.{accounts_of, ledger_grown, available_grown, moved, on_ledger, on_available, IsNear};
 
 use crate::balances::Balances;
 use crate::change::Change;
@@ -48,6 +50,7 @@ fn grown_by(effect: Effect, grown: i64) -> Change
 fn change_of(entry: Entry, before: u64, after: u64) -> Option<Change>
     requires before { before ≤ 999999999999 }
     requires after { after ≤ 999999999999 }
+    ensures pan { option_map (λ c. c.pan) result ≡ option_map (λ f. f.pan) (effect_of entry.order) }
     ensures ledger { (pan : AccountNumber) → on_ledger result pan
         ≡ ledger_share pan (effect_of entry.order) after -ℤ ledger_share pan (effect_of entry.order) before }
     ensures available { (pan : AccountNumber) → on_available result pan
@@ -57,16 +60,27 @@ fn change_of(entry: Entry, before: u64, after: u64) -> Option<Change>
     Some(grown_by(effect, after as i64 - before as i64))
 }
 
-/// Posts what the weight of an entry changed.
-fn post(balances: &mut Balances, entry: Entry, before: u64, after: u64)
+/// Posts what the weight of an entry changed, where the place of its account is known.
+fn post_at(balances: &mut Balances, entry: Entry, before: u64, after: u64, place: Option<usize>)
     requires near { All (IsNear 2999999) balances.old }
     requires before { before ≤ 999999999999 }
     requires after { after ≤ 999999999999 }
+    requires place { (f : Effect) → effect_of entry.order ≡ Some f → place ≡ row_of (accounts_of balances.old) f.pan }
     ensures moved { balances.new ≡ map (moved (effect_of entry.order) before after) balances.old }
     ensures near { (n : ℕ) → All (IsNear n) balances.old → All (IsNear (n + 1)) balances.new }
 {
     if let Some(change) = change_of(entry, before, after) {
-        balances.post(change);
+        balances.post(change, place);
+    }
+}
+
+/// The place of the account of an entry, where there is one.
+fn place_for(balances: &Balances, entry: Entry) -> Option<usize>
+    ensures { (f : Effect) → effect_of entry.order ≡ Some f → result ≡ row_of (accounts_of balances.now) f.pan }
+{
+    match effect_of(entry.order) {
+        Some(effect) => balances.place(effect.pan),
+        None => None,
     }
 }
 
@@ -86,7 +100,8 @@ fn post_touched(
 {
     if let Some(touched) = touched {
         let after = journal.weight(&touched.entry, touched.left.or(leaves));
-        post(balances, touched.entry, touched.weight, after);
+        let place = place_for(balances, touched.entry);
+        post_at(balances, touched.entry, touched.weight, after, place);
     }
 }
 
@@ -100,9 +115,16 @@ fn leaves(order: Order) -> Option<u64>
     }
 }
 
-/// Brings the balances up to date with an entry that was added, with the entry that it reverses, and
-/// with the hold that it ends or gives back, as both were found before.
-pub fn settle(journal: &Journal, balances: &mut Balances, entry: Entry, found: &Found)
+/// Brings the balances up to date with an entry that was added, whose account has this place, with the
+/// entry that it reverses, and with the hold that it ends or gives back, as both were found before.
+pub fn settle(
+    journal: &Journal,
+    balances: &mut Balances,
+    entry: Entry,
+    place: Option<usize>,
+    found: &Found,
+)
+    requires place { (f : Effect) → effect_of entry.order ≡ Some f → place ≡ row_of (accounts_of balances.old) f.pan }
     requires near { All (IsNear 2999997) balances.old }
     requires found { WasFoundFor journal.now entry.order found.now }
     requires reversed { weight_in found.now.reversed ≤ 999999999999 }
@@ -113,7 +135,7 @@ pub fn settle(journal: &Journal, balances: &mut Balances, entry: Entry, found: &
     ensures near { (n : ℕ) → All (IsNear n) balances.old → All (IsNear (n + 3)) balances.new }
 {
     let own = journal.weight(&entry, found.left);
-    post(balances, entry, 0, own);
+    post_at(balances, entry, 0, own, place);
     post_touched(journal, balances, &found.reversed, leaves(entry.order));
     post_touched(journal, balances, &found.released, None);
 }

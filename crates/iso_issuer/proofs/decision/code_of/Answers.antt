@@ -10,11 +10,11 @@ use Rattle.iso_issuer.proofs.Summed.{balance-of}
 use Rattle.iso_issuer.proofs.decision.code_of.Goals as goal
 
 pub returns-else-is_nothing-clause-value : goal.returns-else-is_nothing-clause-value
-returns-else-is_nothing-clause-value c = λ entries sums own.
-    let accounts = accounts_of c.args.balances.now in
+returns-else-is_nothing-clause-value c = λ entries balances sums row own.
+    let accounts = accounts_of balances in
     let money = c.in-Some.money in
     let left : c.args.left ≡ left_at entries c.args.order.key = own (money-kept c.args.order.act money c.in-Some.ensures) in
-    let found : c.get.result ≡ option_map (balance_on entries) (account_of accounts money.pan) = c.get.ensures ∙ balance-of entries c.args.balances.now money.pan sums in
+    let found : c.balance_in.result ≡ option_map (balance_on entries) (account_of accounts money.pan) = c.balance_in.ensures ∙ row.balance money c.in-Some.ensures ∙ balance-of entries balances money.pan sums in
     let code : c.account_code.result ≡ account_code entries c.args.order money (account_of accounts money.pan) = c.account_code.ensures.value entries (account_of accounts money.pan) found left in
     let fresh : is_reversed entries c.args.order.key ≡ false = ap is_nothing (sym left) ∙ sym c.is_nothing.ensures ∙ c.if-is_nothing.false in
     code

@@ -15,44 +15,50 @@ use Rattle.iso_issuer.proofs.balances.Balances.post.Goals as goal
 pub index-requires : goal.index-requires
 index-requires c =
     let rows = c.self.inside.rows.items in
-    let at : row_of (accounts_of rows) c.args.change.pan ≡ Some c.in-Some.place.now = sym (c.self.invariant.0 c.args.change.pan) ∙ sym c.in-Some.ensures.value in
-    omega (arith, place-below (λ (a : Account). same_pan a.pan c.args.change.pan) 0 (accounts_of rows) c.in-Some.place.now at, length-map rows (λ (b : Balance). b.account))
+    let told : c.args.place ≡ row_of (accounts_of rows) c.args.change.pan = rw c.self.view_is c.requires.place in
+    let at : row_of (accounts_of rows) c.args.change.pan ≡ Some c.in-Some.place = sym told ∙ c.in-Some.is in
+    omega (arith, place-below (λ (a : Account). same_pan a.pan c.args.change.pan) 0 (accounts_of rows) c.in-Some.place at, length-map rows (λ (b : Balance). b.account))
 
 pub changed-requires : goal.changed-requires
 changed-requires c =
     let rows = c.self.inside.rows.items in
-    let at : row_of (accounts_of rows) c.args.change.pan ≡ Some c.in-Some.place.now = sym (c.self.invariant.0 c.args.change.pan) ∙ sym c.in-Some.ensures.value in
-    let below : c.in-Some.place.now < length rows =
-    omega (arith, place-below (λ (a : Account). same_pan a.pan c.args.change.pan) 0 (accounts_of rows) c.in-Some.place.now at, length-map rows (λ (b : Balance). b.account)) in
-    let near : All (IsNear 2999999) rows = rw c.self.view_is c.requires in
-    rw c.index.ensures (near c.in-Some.place.now c.index.result.now below)
+    let told : c.args.place ≡ row_of (accounts_of rows) c.args.change.pan = rw c.self.view_is c.requires.place in
+    let at : row_of (accounts_of rows) c.args.change.pan ≡ Some c.in-Some.place = sym told ∙ c.in-Some.is in
+    let below : c.in-Some.place < length rows =
+    omega (arith, place-below (λ (a : Account). same_pan a.pan c.args.change.pan) 0 (accounts_of rows) c.in-Some.place at, length-map rows (λ (b : Balance). b.account)) in
+    let near : All (IsNear 2999999) rows = rw c.self.view_is c.requires.near in
+    rw c.index.ensures (near c.in-Some.place c.index.result.now below)
 
 pub index_mut-requires : goal.index_mut-requires
 index_mut-requires c =
     let rows = c.self.inside.rows.items in
-    let at : row_of (accounts_of rows) c.args.change.pan ≡ Some c.in-Some.place.now = sym (c.self.invariant.0 c.args.change.pan) ∙ sym c.in-Some.ensures.value in
-    omega (arith, place-below (λ (a : Account). same_pan a.pan c.args.change.pan) 0 (accounts_of rows) c.in-Some.place.now at, length-map rows (λ (b : Balance). b.account))
+    let told : c.args.place ≡ row_of (accounts_of rows) c.args.change.pan = rw c.self.view_is c.requires.place in
+    let at : row_of (accounts_of rows) c.args.change.pan ≡ Some c.in-Some.place = sym told ∙ c.in-Some.is in
+    omega (arith, place-below (λ (a : Account). same_pan a.pan c.args.change.pan) 0 (accounts_of rows) c.in-Some.place at, length-map rows (λ (b : Balance). b.account))
 
 pub invariant_of-self : goal.invariant_of-self
 invariant_of-self c =
     let rows = c.self.inside.rows.items in
-    let at : row_of (accounts_of rows) c.args.change.pan ≡ Some c.in-Some.place.now = sym (c.self.invariant.0 c.args.change.pan) ∙ sym c.in-Some.ensures.value in
-    let value : c.changed.result ≡ added c.args.change (get_or rows c.in-Some.place.now c.index.result.now) = c.changed.ensures ∙ ap (added c.args.change) c.index.ensures in
-    let written : set rows c.in-Some.place.now c.changed.result ≡ map (posted c.args.change) rows =
-    ap (set rows c.in-Some.place.now) value ∙ posted-at c.args.change rows c.index.result.now c.in-Some.place.now c.self.invariant.1 at in
+    let told : c.args.place ≡ row_of (accounts_of rows) c.args.change.pan = rw c.self.view_is c.requires.place in
+    let at : row_of (accounts_of rows) c.args.change.pan ≡ Some c.in-Some.place = sym told ∙ c.in-Some.is in
+    let value : c.changed.result ≡ added c.args.change (get_or rows c.in-Some.place c.index.result.now) = c.changed.ensures ∙ ap (added c.args.change) c.index.ensures in
+    let written : set rows c.in-Some.place c.changed.result ≡ map (posted c.args.change) rows =
+    ap (set rows c.in-Some.place) value ∙ posted-at c.args.change rows c.index.result.now c.in-Some.place c.self.invariant.1 at in
     rw (written, accounts-posted c.args.change rows) c.self.invariant
 
 pub returns-in-Some : goal.returns-in-Some
 returns-in-Some c =
     let rows = c.self.inside.rows.items in
-    let at : row_of (accounts_of rows) c.args.change.pan ≡ Some c.in-Some.place.now = sym (c.self.invariant.0 c.args.change.pan) ∙ sym c.in-Some.ensures.value in
-    let value : c.changed.result ≡ added c.args.change (get_or rows c.in-Some.place.now c.index.result.now) = c.changed.ensures ∙ ap (added c.args.change) c.index.ensures in
+    let told : c.args.place ≡ row_of (accounts_of rows) c.args.change.pan = rw c.self.view_is c.requires.place in
+    let at : row_of (accounts_of rows) c.args.change.pan ≡ Some c.in-Some.place = sym told ∙ c.in-Some.is in
+    let value : c.changed.result ≡ added c.args.change (get_or rows c.in-Some.place c.index.result.now) = c.changed.ensures ∙ ap (added c.args.change) c.index.ensures in
     rw (← c.self.view_is)
-    (ap (set rows c.in-Some.place.now) value ∙ posted-at c.args.change rows c.index.result.now c.in-Some.place.now c.self.invariant.1 at)
+    (ap (set rows c.in-Some.place) value ∙ posted-at c.args.change rows c.index.result.now c.in-Some.place c.self.invariant.1 at)
 
 pub returns-in_default : goal.returns-in_default
 returns-in_default c =
     let rows = c.self.inside.rows.items in
-    let at : row_of (accounts_of rows) c.args.change.pan ≡ None = sym (c.self.invariant.0 c.args.change.pan) ∙ sym c.in_default.ensures.value in
+    let told : c.args.place ≡ row_of (accounts_of rows) c.args.change.pan = rw c.self.view_is c.requires.place in
+    let at : row_of (accounts_of rows) c.args.change.pan ≡ None = sym told ∙ c.in_default.is in
     let none : account_of (accounts_of rows) c.args.change.pan ≡ None = found-none (λ (a : Account). same_pan a.pan c.args.change.pan) 0 (accounts_of rows) at in
     rw (← c.self.view_is) (sym (posted-none c.args.change rows none))

@@ -7,11 +7,12 @@ use Rattle.iso_issuer.specs.declared.journal.Entry.{Entry}
 use Rattle.iso_issuer.specs.Journal.{entry_at, reversed_by, released_by}
 use Rattle.iso_issuer.specs.Decision.{new_answer}
 use Rattle.iso_issuer.specs.Balances.{accounts_of, IsNear}
+use Rattle.iso_issuer.specs.Index.{row_of}
 use Rattle.iso_issuer.specs.Books.{Books}
 use Rattle.iso_issuer.proofs.Entries.{entered-found, kept-push}
 use Rattle.iso_issuer.proofs.Documents.{is_none-of}
 use Rattle.iso_issuer.proofs.Room.{near-more}
-use Rattle.iso_issuer.proofs.Seen.{entry-touched, weight-touched, found-entered}
+use Rattle.iso_issuer.proofs.Seen.{entry-touched, weight-touched, found-entered, effect-money}
 use Rattle.iso_issuer.proofs.Summed.{settled, settled-thrice, accounts-settled, sums-settled}
 use Rattle.iso_issuer.proofs.issuer.Issuer.enter.Goals as goal
 
@@ -20,6 +21,11 @@ enter-requires-clause-new c =
     let es = c.self.inside.journal in
     let told = rw (← c.self.view_is) at c.requires.new in
     is_none-of (entry_at es c.args.order.key) (sym (entered-found es c.args.order.key) ∙ told)
+
+pub settle-requires-clause-place : goal.settle-requires-clause-place
+settle-requires-clause-place c = λ f told.
+    let e = effect-money c.args.order.key c.args.order.act f told in
+    c.place_in.ensures ∙ c.row_for-row.ensures.place e.0 e.1 ∙ ap (row_of (accounts_of c.self.inside.balances)) e.2
 
 pub settle-requires-clause-found : goal.settle-requires-clause-found
 settle-requires-clause-found c =
@@ -33,7 +39,7 @@ invariant_of-self-2 c =
     let balances = c.self.inside.balances in
     let o = c.args.order in
     let entry : Entry = record { order = o; answer = c.new_answer-answer.result } in
-    let answer : c.new_answer-answer.result ≡ new_answer (accounts_of balances) es o = c.new_answer-answer.ensures in
+    let answer : c.new_answer-answer.result ≡ new_answer (accounts_of balances) es o = c.new_answer-answer.ensures balances c.self.invariant.1.sums c.row_for-row.ensures in
     let told = rw (← c.self.view_is) at c.requires.new in
     let new : entry_at es o.key ≡ None = is_none-of (entry_at es o.key) (sym (entered-found es o.key) ∙ told) in
     let room = rw (← c.self.view_is) at c.requires.below in

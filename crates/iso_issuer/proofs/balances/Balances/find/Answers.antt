@@ -1,21 +1,22 @@
 use Rattle.std.proofs.Common.{◌≡◌, ap, sym, ◌∙◌, arith}
-use Rattle.std.specs.Prelude.{Some, None}
+use Rattle.std.specs.Prelude.{Some, None, option_map}
 use Rattle.std.specs.List.{position_from}
 use Rattle.iso_order.specs.Order.{same_pan}
 use Rattle.iso_issuer.specs.declared.account.Account.{Account}
 use Rattle.iso_issuer.specs.declared.balances.Balance.{Balance}
+use Rattle.iso_issuer.specs.declared.balances.Row.{Row}
 use Rattle.iso_issuer.specs.Balances.{balance_at}
 use Rattle.iso_issuer.proofs.Places.{place-below, place-map, found-at, found-none}
-use Rattle.iso_issuer.proofs.balances.Balances.get.Goals as goal
+use Rattle.iso_issuer.proofs.balances.Balances.find.Goals as goal
 
-pub returns-in_err-place : goal.returns-in_err-place
-returns-in_err-place c =
+pub returns-in_err-place-clause-balance : goal.returns-in_err-place-clause-balance
+returns-in_err-place-clause-balance c =
     let rows = c.self.inside.rows.items in
     let here = λ (b : Balance). same_pan b.account.pan c.args.pan in
     let at : position_from here 0 rows ≡ None =
     sym (place-map (λ (a : Account). same_pan a.pan c.args.pan) (λ (b : Balance). b.account) 0 rows) ∙ sym (c.self.invariant.0 c.args.pan) ∙ sym c.in_err-place.ensures.value in
     let none : balance_at rows c.args.pan ≡ None = found-none here 0 rows at in
-    c.from_residual.ensures ∙ sym (rw (← c.self.view_is) none)
+    ap (option_map (λ (r : Row). r.balance)) c.from_residual.ensures ∙ sym (rw (← c.self.view_is) none)
 
 pub index-requires : goal.index-requires
 index-requires c =
@@ -25,8 +26,8 @@ index-requires c =
     sym (place-map (λ (a : Account). same_pan a.pan c.args.pan) (λ (b : Balance). b.account) 0 rows) ∙ sym (c.self.invariant.0 c.args.pan) ∙ sym c.in_ok-place.ensures.value in
     omega (arith, place-below here 0 rows c.in_ok-place.field-0.now at)
 
-pub returns : goal.returns
-returns c =
+pub returns-clause-balance : goal.returns-clause-balance
+returns-clause-balance c =
     let rows = c.self.inside.rows.items in
     let here = λ (b : Balance). same_pan b.account.pan c.args.pan in
     let at : position_from here 0 rows ≡ Some c.in_ok-place.field-0.now =
