@@ -10,6 +10,7 @@ mod faults;
 mod generated;
 mod holds;
 mod laws;
+mod reordered;
 mod replacements;
 mod scanning;
 mod wire;

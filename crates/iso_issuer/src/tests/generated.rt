@@ -16,15 +16,23 @@ const FULL: u8 = 255;
 
 /// Draws numbers, always the same ones.
 #[derive(Drop)]
-struct Draws(u64);
+pub struct Draws {
+    state: u64,
+    /// How many trace numbers there are.
+    stans: u64,
+}
 
 impl Draws {
-    fn next(&mut self) -> u64 {
-        self.0 = self
-            .0
+    pub fn new(state: u64, stans: u64) -> Draws {
+        Draws { state, stans }
+    }
+
+    pub fn next(&mut self) -> u64 {
+        self.state = self
+            .state
             .wrapping_mul(6_364_136_223_846_793_005)
             .wrapping_add(1_442_695_040_888_963_407);
-        self.0 >> 33
+        self.state >> 33
     }
 
     /// The type of a payment.
@@ -38,7 +46,7 @@ impl Draws {
 
     /// One of few trace numbers, so that keys come again and reversals find them.
     fn stan(&mut self) -> u32 {
-        (self.next() % 60) as u32
+        (self.next() % self.stans.max(1)) as u32
     }
 
     /// What a reversal leaves: often nothing.
@@ -69,7 +77,7 @@ impl Draws {
     }
 
     /// An order that a message can carry, or none.
-    fn order(&mut self) -> Result<Option<Order>, Fail> {
+    pub fn order(&mut self) -> Result<Option<Order>, Fail> {
         let kind = self.next() % 10;
         let (base, stan) = (self.base(), self.stan());
         let money = self.money()?;
@@ -178,7 +186,7 @@ fn compare(
 
 #[test]
 fn generated_runs(rt: HostRuntime) -> Result<(), Fail> {
-    let mut draws = Draws(1);
+    let mut draws = Draws::new(1, 60);
     let mut codes = BTreeSet::new(rt.alloc());
     for _ in 0..12 {
         compare(&rt, rt.alloc(), &mut draws, &mut codes)?;
