@@ -7,44 +7,45 @@ use Rattle.std.proofs.lemmas.List.{append-nil}
 use Rattle.std.proofs.Math.Seq.{take-suc}
 use Rattle.iso_wire.specs.Contents.{Contents}
 use Rattle.iso_wire.specs.Elements.{IsBelow, value_in}
+use Rattle.iso_order.specs.Listing.{entry, elements_at, elements_from, ascend}
 use Rattle.iso_order.specs.Outcome.{Outcome}
-use Rattle.iso_order.specs.Response.{entry, elements_at, elements_from, element, ascend, is_responded, response, response_mti}
+use Rattle.iso_order.specs.Response.{element, response, response_mti}
 
 abbrev Values : Type 0
 Values = List (ℕ × List ℕ)
 
-pub ascend_parts : (low n : ℕ) (ns : List ℕ) → ascend low (n ∷ ns) ≡ true → (low ≤ n) × (is_responded n ≡ true) × (ascend (n + 1) ns ≡ true)
-ascend_parts low n ns h =
-    let rest = and_parts (nat_le low n && is_responded n) (ascend (n + 1) ns) h in
-    let first = and_parts (nat_le low n) (is_responded n) rest.0 in
+pub ascend_parts : (test : ℕ → Bool) (low n : ℕ) (ns : List ℕ) → ascend test low (n ∷ ns) ≡ true → (low ≤ n) × (test n ≡ true) × (ascend test (n + 1) ns ≡ true)
+ascend_parts test low n ns h =
+    let rest = and_parts (nat_le low n && test n) (ascend test (n + 1) ns) h in
+    let first = and_parts (nat_le low n) (test n) rest.0 in
     (leb-true low n first.0, first.1, rest.1)
 
-ascend-least : (low : ℕ) (ns : List ℕ) (i : ℕ) → ascend low ns ≡ true → i < length ns → low ≤ get_or ns i 0
-ascend-least low [] i h lt = absurd (omega arith)
-ascend-least low (n ∷ ns) zero h lt = (ascend_parts low n ns h).0
-ascend-least low (n ∷ ns) (suc i) h lt =
-    let parts = ascend_parts low n ns h in
-    let rest = ascend-least (n + 1) ns i parts.2 (omega arith) in
+ascend-least : (test : ℕ → Bool) (low : ℕ) (ns : List ℕ) (i : ℕ) → ascend test low ns ≡ true → i < length ns → low ≤ get_or ns i 0
+ascend-least test low [] i h lt = absurd (omega arith)
+ascend-least test low (n ∷ ns) zero h lt = (ascend_parts test low n ns h).0
+ascend-least test low (n ∷ ns) (suc i) h lt =
+    let parts = ascend_parts test low n ns h in
+    let rest = ascend-least test (n + 1) ns i parts.2 (omega arith) in
     omega (arith, parts.0)
 
--- each of the numbers is one that a response can have
-pub ascend-responded : (low : ℕ) (ns : List ℕ) (i : ℕ) → ascend low ns ≡ true → i < length ns → is_responded (get_or ns i 0) ≡ true
-ascend-responded low [] i h lt = absurd (omega arith)
-ascend-responded low (n ∷ ns) zero h lt = (ascend_parts low n ns h).1
-ascend-responded low (n ∷ ns) (suc i) h lt = ascend-responded (n + 1) ns i (ascend_parts low n ns h).2 (omega arith)
+-- each of the numbers passes the test
+pub ascend-each : (test : ℕ → Bool) (low : ℕ) (ns : List ℕ) (i : ℕ) → ascend test low ns ≡ true → i < length ns → test (get_or ns i 0) ≡ true
+ascend-each test low [] i h lt = absurd (omega arith)
+ascend-each test low (n ∷ ns) zero h lt = (ascend_parts test low n ns h).1
+ascend-each test low (n ∷ ns) (suc i) h lt = ascend-each test (n + 1) ns i (ascend_parts test low n ns h).2 (omega arith)
 
 IsBelow-entry : (k n : ℕ) (v : Option (List ℕ)) (es : Values) → n < k → IsBelow k es → IsBelow k (entry n v ++ es)
 IsBelow-entry k n (Some v) es lt below = (lt, below)
 IsBelow-entry k n None es lt below = below
 
 -- the elements of the numbers in front are below the next number
-pub IsBelow-front : (value : ℕ → Option (List ℕ)) (low : ℕ) (ns : List ℕ) (i : ℕ) → ascend low ns ≡ true → i < length ns → IsBelow (get_or ns i 0) (elements_at value (take i ns))
-IsBelow-front value low [] i h lt = absurd (omega arith)
-IsBelow-front value low (n ∷ ns) zero h lt = tt
-IsBelow-front value low (n ∷ ns) (suc i) h lt =
-    let parts = ascend_parts low n ns h in
-    let next = ascend-least (n + 1) ns i parts.2 (omega arith) in
-    IsBelow-entry (get_or ns i 0) n (value n) (elements_at value (take i ns)) (omega (arith, next)) (IsBelow-front value (n + 1) ns i parts.2 (omega arith))
+pub IsBelow-front : (test : ℕ → Bool) (value : ℕ → Option (List ℕ)) (low : ℕ) (ns : List ℕ) (i : ℕ) → ascend test low ns ≡ true → i < length ns → IsBelow (get_or ns i 0) (elements_at value (take i ns))
+IsBelow-front test value low [] i h lt = absurd (omega arith)
+IsBelow-front test value low (n ∷ ns) zero h lt = tt
+IsBelow-front test value low (n ∷ ns) (suc i) h lt =
+    let parts = ascend_parts test low n ns h in
+    let next = ascend-least test (n + 1) ns i parts.2 (omega arith) in
+    IsBelow-entry (get_or ns i 0) n (value n) (elements_at value (take i ns)) (omega (arith, next)) (IsBelow-front test value (n + 1) ns i parts.2 (omega arith))
 
 elements_at-push : (value : ℕ → Option (List ℕ)) (ns : List ℕ) (n : ℕ) → elements_at value (ns ++ n ∷ []) ≡ elements_at value ns ++ entry n (value n)
 elements_at-push value [] n = append-nil (entry n (value n))
@@ -81,7 +82,7 @@ from_by value n count k false is low high rest =
     let next : n + 1 ≤ k = grind (arith, nat_tests) in
     value_in-entry n k (value n) (elements_from value (n + 1) count) is ∙ rest next
 
-value_in-from : (value : ℕ → Option (List ℕ)) (n count k : ℕ) → n ≤ k → k < n + count → value_in (elements_from value n count) k ≡ value k
+pub value_in-from : (value : ℕ → Option (List ℕ)) (n count k : ℕ) → n ≤ k → k < n + count → value_in (elements_from value n count) k ≡ value k
 value_in-from value n zero k low high = absurd (omega arith)
 value_in-from value n (suc count) k low high =
     from_by value n count k (n == k) refl low high (λ next. value_in-from value (n + 1) count k next (omega arith))

@@ -18,9 +18,10 @@ use Rattle.iso_wire.specs.Refusal.{refused_field, refused_by, refused, message_r
 use Rattle.iso_wire.specs.Spelling.{PartAs, Parts}
 use Rattle.iso_order.specs.Fields.{text, asks}
 use Rattle.iso_order.specs.Fitting.{IsServed, ResponsesFit}
+use Rattle.iso_order.specs.Listing.{entry, elements_at}
 use Rattle.iso_order.specs.Order.{is_letter_or_digit}
 use Rattle.iso_order.specs.Outcome.{Outcome}
-use Rattle.iso_order.specs.Response.{response_mti, is_echoed, is_approved, approval, sign, additional, balance, element, entry, elements_at, asks_balance, is_showable}
+use Rattle.iso_order.specs.Response.{response_mti, is_echoed, is_approved, approval, sign, additional, balance, element, asks_balance, is_showable}
 use Rattle.iso_order.specs.Verdict.{verdict}
 use Rattle.iso_order.proofs.Ascending.{response-listed}
 use Rattle.iso_order.proofs.Rows.{list_all-decimal, length-decimal, list_all-more, digit_code, digits_fit, amount_fits, row_taken}
@@ -133,7 +134,7 @@ refused-entry : (rows : List (Option FieldSpec)) (n : ℕ) (v : Option (List ℕ
 refused-entry rows n (Some v) es here rest = rw here rest
 refused-entry rows n None es here rest = rest
 
-refused-at : (rows : List (Option FieldSpec)) (value : ℕ → Option (List ℕ)) (ns : List ℕ) → ((n : ℕ) → IfSome (value n) (IsTaken rows n)) → refused rows (elements_at value ns) ≡ None
+pub refused-at : (rows : List (Option FieldSpec)) (value : ℕ → Option (List ℕ)) (ns : List ℕ) → ((n : ℕ) → IfSome (value n) (IsTaken rows n)) → refused rows (elements_at value ns) ≡ None
 refused-at rows value [] each = refl
 refused-at rows value (n ∷ ns) each = refused-entry rows n (value n) (elements_at value ns) (each n) (refused-at rows value ns each)
 

@@ -1,12 +1,16 @@
 mod Ascending
 mod Codes
+mod Decimals
 mod Digits
 mod Fits
 mod Numbers
+mod RequestFits
+mod RequestVerdicts
 mod Rows
 mod Same
 mod Shown
 mod Sizes
 mod Table
+mod Telling
 mod Valid
 mod WellFormed

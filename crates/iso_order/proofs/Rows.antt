@@ -60,7 +60,7 @@ code_ans b h = grind (arith, nat_tests)
 pub digit_code : (b : ℕ) → is_digit b ≡ true → is_letter_or_digit b ≡ true
 digit_code b h = grind (arith, nat_tests)
 
-digits_in : (c : CharClass) (v : List ℕ) → is_n_or_an c ≡ true → list_all is_digit v ≡ true → is_in_class c v ≡ true
+pub digits_in : (c : CharClass) (v : List ℕ) → is_n_or_an c ≡ true → list_all is_digit v ≡ true → is_in_class c v ≡ true
 digits_in c [] is all = refl
 digits_in classes.N (b ∷ v) is all = all
 digits_in classes.AN (b ∷ v) is all = list_all-more is_digit (is_member classes.AN) digit_an (b ∷ v) all
@@ -71,7 +71,7 @@ digits_in classes.ZD (b ∷ v) is all = absurd cc
 digits_in classes.XN (b ∷ v) is all = absurd cc
 digits_in classes.B (b ∷ v) is all = absurd cc
 
-codes_in : (c : CharClass) (v : List ℕ) → is_an c ≡ true → list_all is_letter_or_digit v ≡ true → is_in_class c v ≡ true
+pub codes_in : (c : CharClass) (v : List ℕ) → is_an c ≡ true → list_all is_letter_or_digit v ≡ true → is_in_class c v ≡ true
 codes_in c [] is all = refl
 codes_in classes.AN (b ∷ v) is all = list_all-more is_letter_or_digit (is_member classes.AN) code_an (b ∷ v) all
 codes_in classes.ANS (b ∷ v) is all = list_all-more is_letter_or_digit (is_member classes.ANS) code_ans (b ∷ v) all

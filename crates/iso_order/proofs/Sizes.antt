@@ -24,8 +24,9 @@ use Rattle.iso_wire.specs.Refusal.{refused_field, refused_by}
 use Rattle.iso_wire.specs.Spelling.{mti_bytes, plain_by, plain_of}
 use Rattle.iso_order.specs.Fields.{text}
 use Rattle.iso_order.specs.Fitting.{ResponsesAreShort}
+use Rattle.iso_order.specs.Listing.{entry, elements_at}
 use Rattle.iso_order.specs.Outcome.{Outcome}
-use Rattle.iso_order.specs.Response.{element, entry, elements_at, response, is_showable}
+use Rattle.iso_order.specs.Response.{element, response, is_showable}
 use Rattle.iso_order.proofs.Ascending.{response-listed}
 use Rattle.iso_order.proofs.Fits.{IsTaken, Values, balance_by, length-additional, element_taken}
 use Rattle.iso_order.proofs.Rows.{length_by}

@@ -10,26 +10,27 @@ use Rattle.iso_wire.specs.OneSpelling.{AreOfBytes, WellFormed}
 use Rattle.iso_wire.specs.Spelling.{AreBytes}
 use Rattle.iso_order.specs.Fields.{asks, text}
 use Rattle.iso_order.specs.Fitting.{ResponsesAreWellFormed}
+use Rattle.iso_order.specs.Listing.{entry, elements_at, ascend}
 use Rattle.iso_order.specs.Outcome.{Outcome}
-use Rattle.iso_order.specs.Response.{response_mti, is_echoed, is_approved, approval, sign, additional, balance, element, entry, elements_at, ascend}
+use Rattle.iso_order.specs.Response.{response_mti, is_echoed, is_approved, approval, sign, additional, balance, element, is_responded}
 use Rattle.iso_order.proofs.Ascending.{ascend_parts, response-listed}
 use Rattle.iso_order.proofs.Fits.{Values, value_by, approval_by, element_by}
 
 -- ---- its values
 
-bytes-none : AreBytes []
+pub bytes-none : AreBytes []
 bytes-none i = omega arith
 
-bytes-more : (b : ℕ) (v : List ℕ) → b < 256 → AreBytes v → AreBytes (b ∷ v)
+pub bytes-more : (b : ℕ) (v : List ℕ) → b < 256 → AreBytes v → AreBytes (b ∷ v)
 bytes-more b v lt rest zero = lt
 bytes-more b v lt rest (suc i) = rest i
 
-bytes-append : (v w : List ℕ) → AreBytes v → AreBytes w → AreBytes (v ++ w)
+pub bytes-append : (v w : List ℕ) → AreBytes v → AreBytes w → AreBytes (v ++ w)
 bytes-append [] w bytes more i = more i
 bytes-append (b ∷ v) w bytes more zero = bytes 0
 bytes-append (b ∷ v) w bytes more (suc i) = bytes-append v w (λ k. bytes (suc k)) more i
 
-bytes-decimal : (n v : ℕ) → AreBytes (decimal n v)
+pub bytes-decimal : (n v : ℕ) → AreBytes (decimal n v)
 bytes-decimal zero v = bytes-none
 bytes-decimal (suc n) v = bytes-append (decimal n (v / 10)) ((48 + v % 10) ∷ []) (bytes-decimal n (v / 10)) (bytes-more (48 + v % 10) [] (omega arith) bytes-none)
 
@@ -70,7 +71,7 @@ bytes-entry : (n : ℕ) (v : Option (List ℕ)) (es : Values) → IfSome v AreBy
 bytes-entry n (Some v) es here rest = (here, rest)
 bytes-entry n None es here rest = rest
 
-bytes-at : (value : ℕ → Option (List ℕ)) (ns : List ℕ) → ((n : ℕ) → IfSome (value n) AreBytes) → AreOfBytes (elements_at value ns)
+pub bytes-at : (value : ℕ → Option (List ℕ)) (ns : List ℕ) → ((n : ℕ) → IfSome (value n) AreBytes) → AreOfBytes (elements_at value ns)
 bytes-at value [] each = tt
 bytes-at value (n ∷ ns) each = bytes-entry n (value n) (elements_at value ns) (each n) (bytes-at value ns each)
 
@@ -88,12 +89,15 @@ ascending-entry : (low n : ℕ) (v : Option (List ℕ)) (es : Values) → low �
 ascending-entry low n (Some v) es le number rest = let range = in-range n number in (le, range.0, range.1, rest)
 ascending-entry low n None es le number rest = ascending-from low (n + 1) es (omega arith) rest
 
-ascending-at : (value : ℕ → Option (List ℕ)) (low : ℕ) (ns : List ℕ) → ascend low ns ≡ true → IsAscending low (elements_at value ns)
-ascending-at value low [] h = tt
-ascending-at value low (n ∷ ns) h =
-    let parts = ascend_parts low n ns h in
-    let number = (and_parts (is_number n) (n == 38 || n == 39 || n == 54 || is_echoed n) parts.1).0 in
-    ascending-entry low n (value n) (elements_at value ns) parts.0 number (ascending-at value (n + 1) ns parts.2)
+pub ascending-at : (test : ℕ → Bool) (value : ℕ → Option (List ℕ)) → ((n : ℕ) → test n ≡ true → is_number n ≡ true) → (low : ℕ) (ns : List ℕ) → ascend test low ns ≡ true → IsAscending low (elements_at value ns)
+ascending-at test value number low [] h = tt
+ascending-at test value number low (n ∷ ns) h =
+    let parts = ascend_parts test low n ns h in
+    ascending-entry low n (value n) (elements_at value ns) parts.0 (number n parts.1) (ascending-at test value number (n + 1) ns parts.2)
+
+-- a number that an element of a response can have
+responded-number : (n : ℕ) → is_responded n ≡ true → is_number n ≡ true
+responded-number n h = (and_parts (is_number n) (n == 38 || n == 39 || n == 54 || is_echoed n) h).0
 
 -- ---- its type
 
@@ -112,6 +116,6 @@ responses_well_formed_lem m a well answered =
     subst WellFormed (sym (response-listed m a))
     (record {
       mti = type_small m.mti well.mti answered;
-      ascending = ascending-at value 2 numbers refl;
+      ascending = ascending-at is_responded value responded-number 2 numbers refl;
       bytes = bytes-at value numbers (λ n. bytes-element m a n well.bytes);
     })

@@ -3,10 +3,13 @@ pub mod Comparisons
 pub mod Fields
 pub mod Fitting
 pub mod Key
+pub mod Listing
 pub mod Order
 pub mod Original
 pub mod Outcome
 pub mod Pan
+pub mod Request
 pub mod Response
 pub mod Text
+pub mod Told
 pub mod Verdict

@@ -1,5 +1,5 @@
 -- The response to a message.
-use Rattle.std.specs.Prelude.{ℕ, zero, suc, ℤ, pos, int_lt, unsigned_abs, ◌+◌, Bool, true, false, ◌==◌, ◌&&◌, ◌||◌, nat_le, nat_lt, if◌then◌else◌, List, [], ◌∷◌, ◌++◌, Option, Some, None, option_map}
+use Rattle.std.specs.Prelude.{ℕ, ℤ, pos, int_lt, unsigned_abs, ◌+◌, Bool, true, false, ◌==◌, ◌&&◌, ◌||◌, nat_le, nat_lt, if◌then◌else◌, List, ◌∷◌, ◌++◌, Option, Some, None, option_map}
 use Rattle.iso_wire.specs.Contents.{Contents}
 use Rattle.iso_wire.specs.Decimal.{decimal}
 use Rattle.iso_wire.specs.Elements.{value_in, is_number}
@@ -8,6 +8,7 @@ use Rattle.iso_order.specs.declared.act.Act.TheVariants.{Debit, Credit, Inquiry,
 use Rattle.iso_order.specs.declared.verdict.Verdict.{Verdict}
 use Rattle.iso_order.specs.declared.verdict.Verdict.TheVariants.{Order, Reply, Silent}
 use Rattle.iso_order.specs.Fields.{class, text, base_of}
+use Rattle.iso_order.specs.Listing.{elements_from}
 use Rattle.iso_order.specs.Outcome.{Outcome}
 use Rattle.iso_order.specs.Verdict.{verdict}
 
@@ -53,16 +54,6 @@ element m a n =
 
 -- ---- all elements
 
--- an element where it has a value
-abbrev pub entry : ℕ → Option (List ℕ) → List (ℕ × List ℕ)
-entry n (Some v) = (n, v) ∷ []
-entry n None = []
-
--- the elements that have a value, of `count` numbers from n on
-abbrev pub elements_from : (ℕ → Option (List ℕ)) → ℕ → ℕ → List (ℕ × List ℕ)
-elements_from value n zero = []
-elements_from value n (suc count) = entry n (value n) ++ elements_from value (n + 1) count
-
 -- the response: of all numbers from 2 to 128, the elements that have a value
 unfoldable pub response : Contents → Outcome → Contents
 response m a = record { mti = response_mti m.mti; elements = elements_from (element m a) 2 127 }
@@ -88,18 +79,8 @@ abbrev pub is_showable : Contents → Option ℤ → Bool
 is_showable m None = true
 is_showable m (Some z) = nat_le (unsigned_abs z) 999999999999 && asks_balance (verdict m)
 
--- ---- a list of numbers
-
--- the elements of those numbers that have a value
-abbrev pub elements_at : (ℕ → Option (List ℕ)) → List ℕ → List (ℕ × List ℕ)
-elements_at value [] = []
-elements_at value (n ∷ ns) = entry n (value n) ++ elements_at value ns
+-- ---- which elements it has
 
 -- a number that an element of a response can have
 abbrev pub is_responded : ℕ → Bool
 is_responded n = is_number n && (n == 38 || n == 39 || n == 54 || is_echoed n)
-
--- such numbers, ascending
-abbrev pub ascend : ℕ → List ℕ → Bool
-ascend low [] = true
-ascend low (n ∷ ns) = nat_le low n && is_responded n && ascend (n + 1) ns

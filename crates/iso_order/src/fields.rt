@@ -44,6 +44,24 @@ pub(crate) fn base_of(mti: u16) -> u16
     mti - mti % 2
 }
 
+/// The key under that type of message, where the elements are there.
+pub(crate) fn key_under(message: &Message, base: u16) -> Option<TxKey>
+    ensures value { result ≡ (if has_key message.now then Some (record (key_of message.now) { base = base }) else None) }
+    ensures stan { IfSome result (λ k. k.stan ≤ 999999) }
+    ensures sent { IfSome result (λ k. k.sent ≤ 9999999999) }
+    ensures acquirer { IfSome result (λ k. k.acquirer ≤ 99999999999) }
+{
+    let sent = number_of(text(message, 7), 10, 10)?;
+    let stan = number_of(text(message, 11), 6, 6)?;
+    let acquirer = number_of(text(message, 32), 1, 11)?;
+    Some(TxKey {
+        base,
+        stan: stan as u32,
+        sent,
+        acquirer,
+    })
+}
+
 /// The key of a message, where it has the elements.
 pub(crate) fn key_of(message: &Message) -> Option<TxKey>
     requires version { version message.now ≡ 0 }
@@ -54,13 +72,5 @@ pub(crate) fn key_of(message: &Message) -> Option<TxKey>
     ensures class { IfSome result (λ k. class_of k ≡ class message.now) }
     ensures function { IfSome result (λ k. function_of k ≡ function message.now) }
 {
-    let sent = number_of(text(message, 7), 10, 10)?;
-    let stan = number_of(text(message, 11), 6, 6)?;
-    let acquirer = number_of(text(message, 32), 1, 11)?;
-    Some(TxKey {
-        base: base_of(message.mti().number()),
-        stan: stan as u32,
-        sent,
-        acquirer,
-    })
+    key_under(message, base_of(message.mti().number()))
 }

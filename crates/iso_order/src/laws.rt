@@ -3,6 +3,8 @@
 
 ghost use Rattle.iso_order.specs.Comparisons.{Comparisons};
 ghost use Rattle.iso_order.specs.Fitting.{ResponsesAreShort, ResponsesAreWellFormed, ResponsesFit};
+ghost use Rattle.iso_order.specs.Request.{RequestsAreWellFormed, RequestsAsk, RequestsFit};
+ghost use Rattle.iso_order.specs.Told.{ResponsesTell};
 
 use iso_parts::laws::{bitmaps, parts};
 
@@ -31,3 +33,25 @@ pub fn responses_are_short()
     parts();
     bitmaps();
 }
+
+/// The request for an order asks for that very order.
+pub fn requests_ask()
+    ensures { RequestsAsk }
+{}
+
+/// Both built-in tables can write each request.
+pub fn requests_fit()
+    ensures { RequestsFit }
+{
+    parts();
+}
+
+/// Each request is well formed.
+pub fn requests_are_well_formed()
+    ensures { RequestsAreWellFormed }
+{}
+
+/// The response to an order tells the order's key and the code of the answer.
+pub fn responses_tell()
+    ensures { ResponsesTell }
+{}

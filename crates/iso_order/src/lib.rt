@@ -3,6 +3,7 @@
 
 mod act;
 mod answer;
+mod asking;
 mod fields;
 mod key;
 pub mod laws;
@@ -13,13 +14,16 @@ mod response;
 #[cfg(test)]
 mod tests;
 mod text;
+mod told;
 mod verdict;
 
 pub use act::{Act, Money};
 pub use answer::Answer;
+pub use asking::request;
 pub use iso_table::NoMemory;
 pub use key::TxKey;
 pub use order::Order;
 pub use pan::Pan;
 pub use response::respond;
+pub use told::{Told, answer_of};
 pub use verdict::{Verdict, order_of};

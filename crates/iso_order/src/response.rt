@@ -5,7 +5,8 @@ ghost use Rattle.iso_parts.specs.Mti.{number};
 ghost use Rattle.iso_wire.specs.Decimal.{decimal};
 ghost use Rattle.iso_wire.specs.Elements.{value_in, is_number, IsBelow};
 ghost use Rattle.iso_order.specs.Fields.{class, function, asks, text};
-ghost use Rattle.iso_order.specs.Response.{response, response_mti, is_approved, sign, approval, additional, balance, element, entry, elements_at, ascend, is_responded, is_showable};
+ghost use Rattle.iso_order.specs.Listing.{entry, elements_at, ascend};
+ghost use Rattle.iso_order.specs.Response.{response, response_mti, is_approved, sign, approval, additional, balance, element, is_responded, is_showable};
 
 use crate::answer::Answer;
 use crate::fields::{text, type_of};
@@ -153,7 +154,7 @@ fn add_all(
     numbers: &[u8],
     response: &mut Message,
 ) -> Result<(), AllocError>
-    requires numbers { ascend 2 numbers.now ≡ true }
+    requires numbers { ascend is_responded 2 numbers.now ≡ true }
     requires empty { response.old.elements ≡ [] }
     requires shown { is_showable message.now answer.now.shown ≡ true }
     ensures { OnOk result (response.new ≡ record response.old {

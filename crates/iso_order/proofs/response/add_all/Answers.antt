@@ -1,15 +1,16 @@
 use Rattle.std.proofs.Common.{ℕ, List, ◌++◌, get_or, sym, ap, ◌∙◌}
 use Rattle.iso_wire.specs.Contents.{Contents}
-use Rattle.iso_order.specs.Response.{entry, element}
-use Rattle.iso_order.proofs.Ascending.{ascend-responded, IsBelow-front, elements_at-more}
+use Rattle.iso_order.specs.Listing.{entry}
+use Rattle.iso_order.specs.Response.{element, is_responded}
+use Rattle.iso_order.proofs.Ascending.{ascend-each, IsBelow-front, elements_at-more}
 use Rattle.iso_order.proofs.response.add_all.Goals as goal
 
 pub add-requires-clause-number : goal.add-requires-clause-number
-add-requires-clause-number c = ascend-responded 2 c.args.numbers.now c.loop-n.n-index c.requires.numbers c.loop-n-test.true
+add-requires-clause-number c = ascend-each is_responded 2 c.args.numbers.now c.loop-n.n-index c.requires.numbers c.loop-n-test.true
 
 pub add-requires-clause-behind : goal.add-requires-clause-behind
 add-requires-clause-behind c =
-    rw c.loop-n.invariant (IsBelow-front (element c.args.message.now c.args.answer.now) 2 c.args.numbers.now c.loop-n.n-index c.requires.numbers c.loop-n-test.true)
+    rw c.loop-n.invariant (IsBelow-front is_responded (element c.args.message.now c.args.answer.now) 2 c.args.numbers.now c.loop-n.n-index c.requires.numbers c.loop-n-test.true)
 
 pub loop-n-preserved : goal.loop-n-preserved
 loop-n-preserved c =

@@ -1,5 +1,6 @@
 use Rattle.std.proofs.Common.{◌≡◌, take}
-use Rattle.iso_order.specs.Response.{element, elements_at}
+use Rattle.iso_order.specs.Listing.{elements_at}
+use Rattle.iso_order.specs.Response.{element}
 use Rattle.iso_order.proofs.response.add_all.Given as goal
 
 abbrev pub invariant-loop-n : goal.invariant-loop-n

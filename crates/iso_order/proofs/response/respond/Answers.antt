@@ -1,6 +1,7 @@
 use Rattle.std.proofs.Common.{ℕ, List, [], ◌∷◌, sym, ap, ◌∙◌}
 use Rattle.iso_wire.specs.Contents.{Contents}
-use Rattle.iso_order.specs.Response.{element, elements_at}
+use Rattle.iso_order.specs.Listing.{elements_at}
+use Rattle.iso_order.specs.Response.{element}
 use Rattle.iso_order.proofs.Ascending.{response-listed, response-each}
 use Rattle.iso_order.proofs.response.respond.Goals as goal
 

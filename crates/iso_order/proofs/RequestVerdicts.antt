@@ -1,0 +1,398 @@
+-- What a request asks is the order.
+use Rattle.std.proofs.Common.{◌≡◌, ℕ, ◌+◌, ◌-◌, ◌*◌, ◌/◌, ◌%◌, ◌^◌, ◌<◌, ◌≤◌, Bool, true, false, ◌&&◌, List, [], ◌∷◌, ◌++◌, length, take, drop, Option, Some, None, refl, sym, ap, subst, ◌∙◌, arith, eq-eqb, le-leb}
+use Rattle.std.specs.Prelude.{IsTrue, ◌==◌, ◌||◌, nat_le, nat_lt, not, is_some, option_map, unwrap_or, if◌then◌else◌}
+use Rattle.std.specs.List.{list_all}
+use Rattle.std.proofs.lemmas.Bool.{and_parts, and_from, eqb-true, leb-true}
+use Rattle.std.proofs.lemmas.Bool.Decides.{nat_tests}
+use Rattle.std.proofs.lemmas.List.Folds.{list_all-append}
+use Rattle.iso_wire.specs.Contents.{Contents}
+use Rattle.iso_wire.specs.Decimal.{decimal}
+use Rattle.iso_wire.specs.Elements.{has, value_in}
+use Rattle.iso_order.specs.declared.act.Act.{Act}
+use Rattle.iso_order.specs.declared.act.Act.TheVariants.{Debit, Credit, Inquiry, Undo, Complete}
+use Rattle.iso_order.specs.declared.act.Money.{Money}
+use Rattle.iso_order.specs.declared.key.TxKey.{TxKey}
+use Rattle.iso_order.specs.declared.verdict.Verdict.{Verdict}
+use Rattle.iso_order.specs.declared.verdict.Verdict.TheVariants.{Order}
+use Rattle.iso_order.specs.AccountNumber.{AccountNumber, is_pan}
+use Rattle.iso_order.specs.Fields.{version, class, function, origin, asks, base_of, text, part, has_key, key_of, money_of, original_mti, is_original, is_own, original_of, completes, is_hold, hold_of, is_replacement, left_of, kind, is_debit, is_credit, is_inquiry}
+use Rattle.iso_order.specs.Key.{class_of, function_of, is_valid_key}
+use Rattle.iso_order.specs.Order.{Instruction, is_currency, is_account, is_moved, is_payment, is_hold_for, is_valid_act, is_valid}
+use Rattle.iso_order.specs.Request.{RequestsAsk, money_in, processing_code, moved_by, named_by, left_by, account_number, acquirer_code, original_data, replacement_amounts, requested, request}
+use Rattle.iso_order.specs.Text.{is_digit, are_digits, number}
+use Rattle.iso_order.specs.Verdict.{first_of, network_lines, key_lines, reversal_lines, original_lines, completion_lines, account_lines, act_lines, amount_lines, credited, asked, debited_by, verdict}
+use Rattle.iso_order.proofs.Ascending.{value_in-from}
+use Rattle.iso_order.proofs.Decimals.{number-decimal, are_digits-decimal, digits-by, are_digits-acquirer, number-acquirer}
+use Rattle.iso_order.proofs.Rows.{list_all-decimal, length-decimal}
+use Rattle.iso_order.proofs.Table.{is_answered, not_network, with_key, not_reversal, is_replaced, with_original, not_completing, with_hold, with_account}
+
+-- ---- a key
+
+-- what holds of the type and the numbers of a key
+pub record KeyFacts (k : TxKey) : Type 0 where
+  pub version : k.base / 1000 ≡ 0
+  pub asking : asks (k.base / 10 % 10) ≡ true
+  pub origin : k.base % 10 ≤ 5
+  pub first : base_of k.base ≡ k.base
+  pub small : k.base < 10 ^ 4
+  pub stan : k.stan < 10 ^ 6
+  pub sent : k.sent < 10 ^ 10
+  pub acquirer : k.acquirer < 10 ^ 11
+
+even_digit : (b : ℕ) → (b % 10 == 0 || b % 10 == 2 || b % 10 == 4) ≡ true → (b % 2 ≡ 0) × (b % 10 ≤ 5)
+even_digit b h = (grind (arith, nat_tests), grind (arith, nat_tests))
+
+pub key_facts : (k : TxKey) → is_valid_key k ≡ true → KeyFacts k
+key_facts k h =
+    let a = and_parts (nat_lt k.base 1000 && (function_of k == 0 || function_of k == 2) && (k.base % 10 == 0 || k.base % 10 == 2 || k.base % 10 == 4) && nat_le k.stan 999999 && nat_le k.sent 9999999999) (nat_le k.acquirer 99999999999) h in
+    let b = and_parts (nat_lt k.base 1000 && (function_of k == 0 || function_of k == 2) && (k.base % 10 == 0 || k.base % 10 == 2 || k.base % 10 == 4) && nat_le k.stan 999999) (nat_le k.sent 9999999999) a.0 in
+    let s = and_parts (nat_lt k.base 1000 && (function_of k == 0 || function_of k == 2) && (k.base % 10 == 0 || k.base % 10 == 2 || k.base % 10 == 4)) (nat_le k.stan 999999) b.0 in
+    let o = and_parts (nat_lt k.base 1000 && (function_of k == 0 || function_of k == 2)) (k.base % 10 == 0 || k.base % 10 == 2 || k.base % 10 == 4) s.0 in
+    let f = and_parts (nat_lt k.base 1000) (function_of k == 0 || function_of k == 2) o.0 in
+    let low : k.base < 1000 = let lt = f.0 in grind (arith, nat_tests) in
+    let even = even_digit k.base o.1 in
+    record {
+      version = omega arith;
+      asking = f.1;
+      origin = even.1;
+      first = omega (arith, even.0);
+      small = omega arith;
+      stan = omega (arith, leb-true k.stan 999999 s.1);
+      sent = omega (arith, leb-true k.sent 9999999999 b.1);
+      acquirer = omega (arith, leb-true k.acquirer 99999999999 a.1);
+    }
+
+-- ---- messages of a key
+
+-- the message is under the key, and asks
+record Keyed (m : Contents) (k : TxKey) : Type 0 where
+  answered : (version m == 0 && asks (function m)) ≡ true
+  origin : nat_lt 5 (origin m) ≡ false
+  named : has_key m ≡ true
+  key : key_of m ≡ k
+
+-- the whole table of a message of class 1, 2 or 4 that has a key
+keyed-verdict : (m : Contents) (k : TxKey) → Keyed m k → (class m == 8) ≡ false → (class m == 1 || class m == 2 || class m == 4) ≡ true
+    → verdict m ≡ first_of (reversal_lines m ++ completion_lines m ++ account_lines m ++ act_lines m ++ amount_lines m) (credited m)
+unfolding verdict
+keyed-verdict m k keyed other served =
+    let rest = reversal_lines m ++ completion_lines m ++ account_lines m ++ act_lines m ++ amount_lines m in
+    is_answered m (network_lines m ++ key_lines m ++ rest) (credited m) keyed.answered keyed.origin
+    ∙ not_network m (key_lines m ++ rest) (credited m) other
+    ∙ with_key m rest (credited m) served keyed.named
+
+-- what is asked under the key
+asked-order : (m : Contents) (k : TxKey) (a act : Act) → key_of m ≡ k → a ≡ act → asked m a ≡ Order (record { key = k; act = act })
+asked-order m k a act key same = rw (key, same) refl
+
+reversal-verdict : (m : Contents) (k original : TxKey) (left : ℕ) → Keyed m k → class m ≡ 4 → is_replacement m ≡ true → are_digits 42 42 (text m 90) ≡ true
+    → is_original (original_mti m) ≡ true → is_own m ≡ true → original_of m ≡ original → left_of m ≡ left → verdict m ≡ Order (record { key = k; act = Undo original left })
+reversal-verdict m k original left keyed four replaced digits type own named leaves =
+    let rest = completion_lines m ++ account_lines m ++ act_lines m ++ amount_lines m in
+    let is4 = eq-eqb (class m) 4 four in
+    keyed-verdict m k keyed (rw four refl) (rw four refl)
+    ∙ is_replaced m rest (credited m) replaced
+    ∙ with_original m rest (credited m) is4 digits type own
+    ∙ asked-order m k (Undo (original_of m) (left_of m)) (Undo original left) keyed.key (rw (named, leaves) refl)
+
+-- ---- payments
+
+-- the message tells the money
+record Paying (m : Contents) (k : TxKey) (money : Money) (code : ℕ) : Type 0 where
+  keyed : Keyed m k
+  payment : (class m == 1 || class m == 2) ≡ true
+  account : are_digits 1 19 (text m 2) ≡ true
+  coded : are_digits 6 6 (text m 3) ≡ true
+  of_kind : kind m ≡ code
+  currency : is_currency (text m 49) ≡ true
+  told : money_of m money.amount ≡ money
+  -- no hold is named, or one that can be completed
+  completing : (lines : List (Bool × Verdict)) (last : Verdict) → first_of (completion_lines m ++ lines) last ≡ first_of lines last
+
+-- the element 4 of what is moved
+record Moving (m : Contents) (money : Money) : Type 0 where
+  digits : are_digits 12 12 (text m 4) ≡ true
+  amount : number (text m 4) ≡ money.amount
+  some : (money.amount == 0) ≡ false
+
+not_others : (n : ℕ) → (n == 1 || n == 2) ≡ true → ((n == 8) ≡ false) × ((n == 4) ≡ false) × ((n == 1 || n == 2 || n == 4) ≡ true)
+not_others n h = (grind (arith, nat_tests), grind (arith, nat_tests), grind (arith, nat_tests))
+
+-- the lines on the processing code and the amount
+paying-verdict : (m : Contents) (k : TxKey) (money : Money) (code : ℕ) → Paying m k money code → verdict m ≡ first_of (act_lines m ++ amount_lines m) (credited m)
+paying-verdict m k money code p =
+    let classes = not_others (class m) p.payment in
+    let rest = act_lines m ++ amount_lines m in
+    keyed-verdict m k p.keyed classes.0 classes.2
+    ∙ not_reversal m (completion_lines m ++ account_lines m ++ rest) (credited m) classes.1
+    ∙ p.completing (account_lines m ++ rest) (credited m)
+    ∙ with_account m rest (credited m) p.account p.coded p.currency
+
+debit-verdict : (m : Contents) (k : TxKey) (money : Money) (hold : Option TxKey) → Paying m k money 0 → Moving m money → hold_of m ≡ hold → verdict m ≡ Order (record { key = k; act = debited_by money hold })
+debit-verdict m k money hold p moving named =
+    paying-verdict m k money 0 p ∙ rw (p.of_kind, moving.digits, moving.amount, moving.some, named, p.told, p.keyed.key) refl
+
+credit-verdict : (m : Contents) (k : TxKey) (money : Money) → Paying m k money 20 → Moving m money → (class m == 1) ≡ false → completes m ≡ false → verdict m ≡ Order (record { key = k; act = Credit money })
+credit-verdict m k money p moving two plain =
+    paying-verdict m k money 20 p ∙ rw (p.of_kind, two, plain, moving.digits, moving.amount, moving.some, p.told, p.keyed.key) refl
+
+inquiry-verdict : (m : Contents) (k : TxKey) (money : Money) → Paying m k money 31 → (function m == 2) ≡ false → money.amount ≡ 0 → verdict m ≡ Order (record { key = k; act = Inquiry money })
+inquiry-verdict m k money p asking none =
+    let same : money_of m 0 ≡ money = ap (money_of m) (sym none) ∙ p.told in
+    paying-verdict m k money 31 p ∙ rw (p.of_kind, asking, same, p.keyed.key) refl
+
+-- the original data elements are digits
+pub original-digits : (k : TxKey) → list_all is_digit (original_data k) ≡ true
+original-digits k =
+    let behind3 : List ℕ = decimal 11 k.acquirer ++ decimal 11 0 in
+    let behind2 : List ℕ = decimal 10 k.sent ++ behind3 in
+    let behind1 : List ℕ = decimal 6 k.stan ++ behind2 in
+    let last = list_all-append is_digit (decimal 11 k.acquirer) (decimal 11 0) ∙ and_from (list_all is_digit (decimal 11 k.acquirer)) (list_all is_digit (decimal 11 0)) (list_all-decimal 11 k.acquirer) (list_all-decimal 11 0) in
+    let third = list_all-append is_digit (decimal 10 k.sent) behind3 ∙ and_from (list_all is_digit (decimal 10 k.sent)) (list_all is_digit behind3) (list_all-decimal 10 k.sent) last in
+    let second = list_all-append is_digit (decimal 6 k.stan) behind2 ∙ and_from (list_all is_digit (decimal 6 k.stan)) (list_all is_digit behind2) (list_all-decimal 6 k.stan) third in
+    list_all-append is_digit (decimal 4 k.base) behind1 ∙ and_from (list_all is_digit (decimal 4 k.base)) (list_all is_digit behind1) (list_all-decimal 4 k.base) second
+
+-- ---- the request under a key
+
+module _ (key : TxKey) (act : Act) (valid : is_valid_key key ≡ true) where
+  abbrev m : Contents
+  m = request (record { key = key; act = act })
+
+  facts : KeyFacts key
+  facts = key_facts key valid
+
+  mti-is : m.mti ≡ key.base
+  unfolding request
+  mti-is = refl
+
+  value-is : (n : ℕ) → 2 ≤ n → n ≤ 128 → value_in m.elements n ≡ requested key act n
+  unfolding request
+  value-is n low high = value_in-from (requested key act) 2 127 n low (omega arith)
+
+  text-is : (n : ℕ) → 2 ≤ n → n ≤ 128 → text m n ≡ unwrap_or (requested key act n) []
+  text-is n low high = ap (λ (v : Option (List ℕ)). unwrap_or v []) (value-is n low high)
+
+  sent-text : text m 7 ≡ decimal 10 key.sent
+  sent-text = text-is 7 (omega arith) (omega arith)
+
+  stan-text : text m 11 ≡ decimal 6 key.stan
+  stan-text = text-is 11 (omega arith) (omega arith)
+
+  acquirer-text : text m 32 ≡ acquirer_code key.acquirer
+  acquirer-text = text-is 32 (omega arith) (omega arith)
+
+  acquirer-is : number (text m 32) ≡ key.acquirer
+  acquirer-is = ap number acquirer-text ∙ number-acquirer key.acquirer facts.acquirer
+
+  class-is : class m ≡ class_of key
+  class-is = ap (λ (n : ℕ). n / 100 % 10) mti-is
+
+  function-is : function m ≡ function_of key
+  function-is = ap (λ (n : ℕ). n / 10 % 10) mti-is
+
+  keyed : Keyed m key
+  keyed =
+      let stan-is : number (text m 11) ≡ key.stan = ap number stan-text ∙ number-decimal 6 key.stan facts.stan in
+      let sent-is : number (text m 7) ≡ key.sent = ap number sent-text ∙ number-decimal 10 key.sent facts.sent in
+      let origin_small : nat_lt 5 (key.base % 10) ≡ false = let low = facts.origin in grind (arith, nat_tests) in
+      let version_zero : (key.base / 1000 == 0) ≡ true = eq-eqb (key.base / 1000) 0 facts.version in
+      record {
+        answered = ap (λ (n : ℕ). n / 1000 == 0 && asks (n / 10 % 10)) mti-is ∙ and_from _ _ version_zero facts.asking;
+        origin = ap (λ (n : ℕ). nat_lt 5 (n % 10)) mti-is ∙ origin_small;
+        named =
+            and_from _ _ (and_from _ _ (ap (are_digits 10 10) sent-text ∙ are_digits-decimal 10 key.sent) (ap (are_digits 6 6) stan-text ∙ are_digits-decimal 6 key.stan))
+            (ap (are_digits 1 11) acquirer-text ∙ are_digits-acquirer key.acquirer);
+        key = rw (stan-is, sent-is, acquirer-is) (ap (λ (n : ℕ). record key { base = n }) (ap base_of mti-is ∙ facts.first));
+      }
+
+  -- ---- money
+
+  pan-parts : (p : AccountNumber) → is_pan p ≡ true → (1 ≤ p.len) × (p.len ≤ 19) × (p.digits < 10 ^ p.len)
+  pan-parts p h = (grind (arith, nat_tests), grind (arith, nat_tests), grind (arith, nat_tests))
+
+  paying : (money : Money) (code digits : ℕ) → money_in act ≡ Some money → processing_code act ≡ Some digits → part 0 2 (decimal 6 digits) ≡ code → is_account money ≡ true → is_payment key ≡ true
+      → ((lines : List (Bool × Verdict)) (last : Verdict) → first_of (completion_lines m ++ lines) last ≡ first_of lines last) → Paying m key money code
+  paying money code digits has_money has_code kind-is account payment completing =
+      let account-text : text m 2 ≡ account_number money = text-is 2 (omega arith) (omega arith) ∙ ap (λ (o : Option Money). unwrap_or (option_map account_number o) []) has_money in
+      let code-text : text m 3 ≡ decimal 6 digits = text-is 3 (omega arith) (omega arith) ∙ ap (λ (o : Option ℕ). unwrap_or (option_map (decimal 6) o) []) has_code in
+      let currency-text : text m 49 ≡ money.currency = text-is 49 (omega arith) (omega arith) ∙ ap (λ (o : Option Money). unwrap_or (option_map (λ (x : Money). x.currency) o) []) has_money in
+      let both = and_parts (is_pan money.pan) (is_currency money.currency) account in
+      let pan = pan-parts money.pan both.0 in
+      let size = length-decimal money.pan.len money.pan.digits in
+      let number-is : number (text m 2) ≡ money.pan.digits = ap number account-text ∙ number-decimal money.pan.len money.pan.digits pan.2 in
+      let length-is : length (text m 2) ≡ money.pan.len = ap (λ (t : List ℕ). length t) account-text ∙ size in
+      record {
+        keyed = keyed;
+        payment = ap (λ (n : ℕ). n == 1 || n == 2) class-is ∙ payment;
+        account = ap (are_digits 1 19) account-text ∙ digits-by 1 19 (account_number money) (omega (arith, pan.0)) (omega (arith, pan.1)) (list_all-decimal money.pan.len money.pan.digits);
+        coded = ap (are_digits 6 6) code-text ∙ are_digits-decimal 6 digits;
+        of_kind = ap (part 0 2) code-text ∙ kind-is;
+        currency = ap is_currency currency-text ∙ both.1;
+        told = rw (number-is, length-is, currency-text) refl;
+        completing = completing;
+      }
+
+  moving : (money : Money) → moved_by act ≡ Some money.amount → is_moved money ≡ true → Moving m money
+  moving money moves good =
+      let most = and_parts (is_account money && nat_le 1 money.amount) (nat_le money.amount 999999999999) good in
+      let least = and_parts (is_account money) (nat_le 1 money.amount) most.0 in
+      let small : money.amount < 10 ^ 12 = omega (arith, leb-true money.amount 999999999999 most.1) in
+      let amount-text : text m 4 ≡ decimal 12 money.amount = text-is 4 (omega arith) (omega arith) ∙ ap (λ (o : Option ℕ). unwrap_or (option_map (decimal 12) o) []) moves in
+      let one = leb-true 1 money.amount least.1 in
+      record {
+        digits = ap (are_digits 12 12) amount-text ∙ are_digits-decimal 12 money.amount;
+        amount = ap number amount-text ∙ number-decimal 12 money.amount small;
+        some = grind (arith, nat_tests);
+      }
+
+  -- ---- a transaction that is named
+
+  naming : has m.elements 90 ≡ is_some (option_map original_data (named_by act))
+  naming = ap (λ (v : Option (List ℕ)). is_some v) (value-is 90 (omega arith) (omega arith))
+
+  not_naming : named_by act ≡ None → completes m ≡ false
+  not_naming none = off (class m == 2 && function m == 2) (has m.elements 90) (naming ∙ ap (λ (o : Option TxKey). is_some (option_map original_data o)) none)
+    where
+      off : (p q : Bool) → q ≡ false → (p && q) ≡ false
+      off true q h = h
+      off false q h = refl
+
+  module _ (k : TxKey) (named : named_by act ≡ Some k) (good : is_valid_key k ≡ true) (own : k.acquirer ≡ key.acquirer) where
+    named-facts : KeyFacts k
+    named-facts = key_facts k good
+
+    data-text : text m 90 ≡ original_data k
+    data-text = text-is 90 (omega arith) (omega arith) ∙ ap (λ (o : Option TxKey). unwrap_or (option_map original_data o) []) named
+
+    data-digits : are_digits 42 42 (text m 90) ≡ true
+    data-digits =
+        ap (are_digits 42 42) data-text ∙ digits-by 42 42 (original_data k) (omega arith) (omega arith) (original-digits k)
+
+    named-mti : original_mti m ≡ k.base
+    named-mti = ap (part 0 4) data-text ∙ number-decimal 4 k.base named-facts.small
+
+    named-key : original_of m ≡ k
+    named-key =
+        let stan-is : part 4 6 (text m 90) ≡ k.stan = ap (part 4 6) data-text ∙ number-decimal 6 k.stan named-facts.stan in
+        let sent-is : part 10 10 (text m 90) ≡ k.sent = ap (part 10 10) data-text ∙ number-decimal 10 k.sent named-facts.sent in
+        let same : number (text m 32) ≡ k.acquirer = acquirer-is ∙ sym own in
+        rw (stan-is, sent-is, same) (ap (λ (n : ℕ). record k { base = n }) (ap base_of named-mti ∙ named-facts.first))
+
+    named-own : is_own m ≡ true
+    named-own =
+        let told : part 20 11 (text m 90) ≡ key.acquirer = ap (part 20 11) data-text ∙ number-decimal 11 k.acquirer named-facts.acquirer ∙ own in
+        let itself : (key.acquirer == key.acquirer) ≡ true = eq-eqb key.acquirer key.acquirer refl in
+        rw (told, acquirer-is, itself) (or_true (key.acquirer == 0))
+      where
+        or_true : (p : Bool) → (p || true) ≡ true
+        or_true true = refl
+        or_true false = refl
+
+    named-original : is_payment k ≡ true → is_original (original_mti m) ≡ true
+    named-original payment =
+        ap is_original named-mti
+        ∙ and_from _ _ (and_from _ _ (and_from _ _ (eq-eqb (k.base / 1000) 0 named-facts.version) payment) named-facts.asking) (le-leb (k.base % 10) 5 named-facts.origin)
+
+    named-hold : (class_of k == 1) ≡ true → is_hold (original_mti m) ≡ true
+    named-hold one =
+        ap is_hold named-mti
+        ∙ and_from _ _ (and_from _ _ (and_from _ _ (eq-eqb (k.base / 1000) 0 named-facts.version) one) named-facts.asking) (le-leb (k.base % 10) 5 named-facts.origin)
+
+    is_naming : class_of key ≡ 2 → function_of key ≡ 2 → completes m ≡ true
+    is_naming two advice =
+        and_from _ _ (and_from _ _ (eq-eqb (class m) 2 (class-is ∙ two)) (eq-eqb (function m) 2 (function-is ∙ advice)))
+        (naming ∙ ap (λ (o : Option TxKey). is_some (option_map original_data o)) named)
+
+-- ---- what a reversal leaves
+
+module _ (key original : TxKey) (left : ℕ) (valid : is_valid_key key ≡ true) (few : left ≤ 999999999999) where
+  abbrev reversing : Act
+  reversing = Undo original left
+
+  leaving : (t : Bool) → (left == 0) ≡ t → (is_replacement (m key reversing valid) ≡ true) × (left_of (m key reversing valid) ≡ left)
+  leaving true none =
+      let missing : value_in (m key reversing valid).elements 95 ≡ None = value-is key reversing valid 95 (omega arith) (omega arith) ∙ ap (λ (t : Bool). option_map replacement_amounts (if t then None else Some left)) none in
+      (rw missing refl, rw missing (sym (eqb-true left 0 none)))
+  leaving false some =
+      let there : value_in (m key reversing valid).elements 95 ≡ Some (replacement_amounts left) = value-is key reversing valid 95 (omega arith) (omega arith) ∙ ap (λ (t : Bool). option_map replacement_amounts (if t then None else Some left)) some in
+      (rw there (are_digits-decimal 12 left), rw there (number-decimal 12 left (omega arith)))
+
+-- ---- each act
+
+pub valid-parts : (o : Instruction) → is_valid o ≡ true → (is_valid_key o.key ≡ true) × (is_valid_act o.key o.act ≡ true)
+unfolding is_valid
+valid-parts o h = and_parts (is_valid_key o.key) (is_valid_act o.key o.act) h
+
+other_class : (n : ℕ) → (n == 2) ≡ true → (n == 1) ≡ false
+other_class n h = grind (arith, nat_tests)
+
+other_function : (n : ℕ) → (n == 0) ≡ true → (n == 2) ≡ false
+other_function n h = grind (arith, nat_tests)
+
+asks-act : (key : TxKey) (act : Act) (valid : is_valid_key key ≡ true) → is_valid_act key act ≡ true → verdict (m key act valid) ≡ Order (record { key = key; act = act })
+asks-act key (Debit money) valid h =
+    let act = Debit money in
+    let parts = and_parts (is_payment key) (is_moved money) h in
+    let most = and_parts (is_account money && nat_le 1 money.amount) (nat_le money.amount 999999999999) parts.1 in
+    let account = (and_parts (is_account money) (nat_le 1 money.amount) most.0).0 in
+    let plain = not_naming key act valid refl in
+    let none : hold_of (m key act valid) ≡ None = rw plain refl in
+    debit-verdict (m key act valid) key money None
+    (paying key act valid money 0 0 refl refl refl account parts.0 (λ lines last. not_completing (m key act valid) lines last plain))
+    (moving key act valid money refl parts.1) none
+asks-act key (Credit money) valid h =
+    let act = Credit money in
+    let parts = and_parts (class_of key == 2) (is_moved money) h in
+    let most = and_parts (is_account money && nat_le 1 money.amount) (nat_le money.amount 999999999999) parts.1 in
+    let account = (and_parts (is_account money) (nat_le 1 money.amount) most.0).0 in
+    let plain = not_naming key act valid refl in
+    let two = eqb-true (class_of key) 2 parts.0 in
+    let payment : is_payment key ≡ true = rw two refl in
+    let financial : (class (m key act valid) == 1) ≡ false = ap (λ (n : ℕ). n == 1) (class-is key act valid) ∙ other_class (class_of key) parts.0 in
+    credit-verdict (m key act valid) key money
+    (paying key act valid money 20 200000 refl refl refl account payment (λ lines last. not_completing (m key act valid) lines last plain))
+    (moving key act valid money refl parts.1) financial plain
+asks-act key (Inquiry money) valid h =
+    let act = Inquiry money in
+    let parts = and_parts (is_payment key && function_of key == 0 && money.amount == 0) (is_account money) h in
+    let front = and_parts (is_payment key && function_of key == 0) (money.amount == 0) parts.0 in
+    let first = and_parts (is_payment key) (function_of key == 0) front.0 in
+    let plain = not_naming key act valid refl in
+    let asking : (function (m key act valid) == 2) ≡ false = ap (λ (n : ℕ). n == 2) (function-is key act valid) ∙ other_function (function_of key) first.1 in
+    inquiry-verdict (m key act valid) key money
+    (paying key act valid money 31 310000 refl refl refl parts.1 first.0 (λ lines last. not_completing (m key act valid) lines last plain))
+    asking (eqb-true money.amount 0 front.1)
+asks-act key (Undo original left) valid h =
+    let act = Undo original left in
+    let small = and_parts (class_of key == 4 && is_valid_key original && is_payment original && original.acquirer == key.acquirer) (nat_le left 999999999999) h in
+    let same = and_parts (class_of key == 4 && is_valid_key original && is_payment original) (original.acquirer == key.acquirer) small.0 in
+    let payment = and_parts (class_of key == 4 && is_valid_key original) (is_payment original) same.0 in
+    let first = and_parts (class_of key == 4) (is_valid_key original) payment.0 in
+    let own = eqb-true original.acquirer key.acquirer same.1 in
+    let leaves = leaving key original left valid (leb-true left 999999999999 small.1) (left == 0) refl in
+    reversal-verdict (m key act valid) key original left (keyed key act valid) (class-is key act valid ∙ eqb-true (class_of key) 4 first.0) leaves.0
+    (data-digits key act valid original refl first.1 own) (named-original key act valid original refl first.1 own payment.1) (named-own key act valid original refl first.1 own)
+    (named-key key act valid original refl first.1 own) leaves.1
+asks-act key (Complete money hold) valid h =
+    let act = Complete money hold in
+    let parts = and_parts (class_of key == 2 && function_of key == 2 && is_moved money) (is_hold_for key hold) h in
+    let front = and_parts (class_of key == 2 && function_of key == 2) (is_moved money) parts.0 in
+    let first = and_parts (class_of key == 2) (function_of key == 2) front.0 in
+    let two = eqb-true (class_of key) 2 first.0 in
+    let advice = eqb-true (function_of key) 2 first.1 in
+    let most = and_parts (is_account money && nat_le 1 money.amount) (nat_le money.amount 999999999999) front.1 in
+    let account = (and_parts (is_account money) (nat_le 1 money.amount) most.0).0 in
+    let same = and_parts (is_valid_key hold && class_of hold == 1) (hold.acquirer == key.acquirer) parts.1 in
+    let authorization = and_parts (is_valid_key hold) (class_of hold == 1) same.0 in
+    let good = authorization.0 in
+    let own = eqb-true hold.acquirer key.acquirer same.1 in
+    let payment : is_payment key ≡ true = rw two refl in
+    let completing = is_naming key act valid hold refl good own two advice in
+    let named : hold_of (m key act valid) ≡ Some hold = rw completing (ap (λ (k : TxKey). Some k) (named-key key act valid hold refl good own)) in
+    debit-verdict (m key act valid) key money (Some hold)
+    (paying key act valid money 0 0 refl refl refl account payment
+    (λ lines last. with_hold (m key act valid) lines last completing (data-digits key act valid hold refl good own) (named-hold key act valid hold refl good own authorization.1) (named-own key act valid hold refl good own)))
+    (moving key act valid money refl front.1) named
+
+pub requests_ask_lem : RequestsAsk
+requests_ask_lem o h = let parts = valid-parts o h in asks-act o.key o.act parts.0 parts.1
