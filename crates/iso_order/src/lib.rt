@@ -1,4 +1,4 @@
-//! What a message asks of an issuer, and the response that it gets.
+//! What a message asks of an issuer, the response that it gets, and the message by which an acquirer asks for an order.
 #![tactic(auto)]
 
 mod act;

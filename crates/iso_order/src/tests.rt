@@ -1,8 +1,10 @@
 //! Values from outside, and that the calls succeed.
 
+mod answers;
 mod completions;
 mod logs;
 mod orders;
+mod requests;
 mod responses;
 mod verdicts;
 
