@@ -3,6 +3,7 @@ mod Codes
 mod Decimals
 mod Digits
 mod Fits
+mod MessageVerdicts
 mod Numbers
 mod RequestFits
 mod RequestVerdicts

@@ -1,23 +1,20 @@
 -- Requests are well formed, and can be written under the built-in tables.
-use Rattle.std.proofs.Common.{◌≡◌, ℕ, ◌+◌, ◌-◌, ◌/◌, ◌^◌, ◌<◌, ◌≤◌, Bool, true, false, ◌&&◌, List, [], ◌∷◌, ◌++◌, length, Option, Some, None, refl, sym, ap, subst, ◌∙◌, arith, eq-eqb, le-leb}
-use Rattle.std.specs.Prelude.{IsTrue, ◌==◌, nat_le, option_map, if◌then◌else◌, IfSome}
+use Rattle.std.proofs.Common.{◌≡◌, ℕ, ◌/◌, ◌<◌, ◌≤◌, Bool, true, false, ◌&&◌, List, [], ◌∷◌, ◌++◌, length, Option, Some, None, refl, sym, ap, subst, ◌∙◌, arith, eq-eqb, le-leb}
+use Rattle.std.specs.Prelude.{◌==◌, nat_le, option_map, if◌then◌else◌, IfSome}
 use Rattle.std.specs.List.{list_all}
-use Rattle.std.proofs.lemmas.Bool.{and_parts, and_from, eqb-true, leb-true}
+use Rattle.std.proofs.lemmas.Bool.{and_parts, and_from, eqb-true}
 use Rattle.std.proofs.lemmas.Bool.Decides.{nat_tests}
 use Rattle.std.proofs.lemmas.List.Folds.{list_all-append}
 use Rattle.iso_parts.specs.declared.prefix.Digits.{Digits}
-use Rattle.iso_parts.specs.declared.prefix.Digits.TheVariants as digits
-use Rattle.iso_parts.specs.declared.class.CharClass.{CharClass}
 use Rattle.iso_parts.specs.declared.class.CharClass.TheVariants as classes
 use Rattle.iso_parts.specs.declared.spec.FieldSpec.{FieldSpec}
-use Rattle.iso_parts.specs.Class.{is_digit, is_member, is_in_class}
+use Rattle.iso_parts.specs.Class.{is_digit}
 use Rattle.iso_parts.specs.PartLaws.{PartLaws}
 use Rattle.iso_parts.specs.Row.{Fits}
 use Rattle.iso_table.specs.declared.edition87.Group.{Group}
 use Rattle.iso_table.specs.declared.edition87.Kind.TheVariants as kinds
 use Rattle.iso_table.specs.Edition87.{IsEdition87, line, none, spec_of, row87}
-use Rattle.iso_table.specs.Layout.{Layout, row_at}
-use Rattle.iso_wire.specs.Contents.{Contents}
+use Rattle.iso_table.specs.Layout.{Layout}
 use Rattle.iso_wire.specs.Decimal.{decimal}
 use Rattle.iso_wire.specs.Elements.{is_number}
 use Rattle.iso_wire.specs.OneSpelling.{WellFormed}
@@ -28,15 +25,16 @@ use Rattle.iso_order.specs.declared.act.Act.TheVariants.{Debit, Credit, Inquiry,
 use Rattle.iso_order.specs.declared.act.Money.{Money}
 use Rattle.iso_order.specs.declared.key.TxKey.{TxKey}
 use Rattle.iso_order.specs.AccountNumber.{AccountNumber, is_pan}
-use Rattle.iso_order.specs.Key.{class_of, function_of, is_valid_key}
+use Rattle.iso_order.specs.Key.{class_of, function_of}
 use Rattle.iso_order.specs.Listing.{elements_at}
-use Rattle.iso_order.specs.Order.{Instruction, is_letter_or_digit, is_currency, is_account, is_moved, is_payment, is_hold_for, is_valid_act, is_valid}
+use Rattle.iso_order.specs.Order.{Instruction, is_letter_or_digit, is_currency, is_account, is_moved, is_payment, is_hold_for, is_valid_act}
 use Rattle.iso_order.specs.Request.{RequestsFit, RequestsAreWellFormed, money_in, processing_code, moved_by, named_by, left_by, account_number, acquirer_code, original_data, replacement_amounts, no_fee, requested, request}
 use Rattle.iso_order.proofs.Decimals.{are_digits-acquirer}
 use Rattle.iso_order.proofs.Digits.{are_digits-most}
-use Rattle.iso_order.proofs.Fits.{IsTaken, Values, refused-at}
-use Rattle.iso_order.proofs.RequestVerdicts.{key_facts, original-digits, valid-parts}
+use Rattle.iso_order.proofs.Fits.{IsTaken, refused-at}
+use Rattle.iso_order.proofs.RequestVerdicts.{original-digits}
 use Rattle.iso_order.proofs.Rows.{list_all-decimal, length-decimal, list_all-more, digit_code, digits_in, codes_in}
+use Rattle.iso_order.proofs.Valid.{key_facts, moved-account, valid-parts}
 use Rattle.iso_order.proofs.WellFormed.{bytes-none, bytes-more, bytes-decimal, bytes-at, ascending-at}
 
 -- no other number has a value in a request
@@ -46,18 +44,13 @@ request-listed o = refl
 
 -- ---- the money of a valid order
 
-account-of : (m : Money) → is_moved m ≡ true → is_account m ≡ true
-account-of m h =
-    let most = and_parts (is_account m && nat_le 1 m.amount) (nat_le m.amount 999999999999) h in
-    (and_parts (is_account m) (nat_le 1 m.amount) most.0).0
-
 pub money-account : (key : TxKey) (act : Act) → is_valid_act key act ≡ true → IfSome (money_in act) (λ m. is_account m ≡ true)
-money-account key (Debit m) h = account-of m (and_parts (is_payment key) (is_moved m) h).1
-money-account key (Credit m) h = account-of m (and_parts (class_of key == 2) (is_moved m) h).1
+money-account key (Debit m) h = moved-account m (and_parts (is_payment key) (is_moved m) h).1
+money-account key (Credit m) h = moved-account m (and_parts (class_of key == 2) (is_moved m) h).1
 money-account key (Inquiry m) h = (and_parts (is_payment key && function_of key == 0 && m.amount == 0) (is_account m) h).1
 money-account key (Undo k left) h = tt
 money-account key (Complete m hold) h =
-    account-of m (and_parts (class_of key == 2 && function_of key == 2) (is_moved m) (and_parts (class_of key == 2 && function_of key == 2 && is_moved m) (is_hold_for key hold) h).0).1
+    moved-account m (and_parts (class_of key == 2 && function_of key == 2) (is_moved m) (and_parts (class_of key == 2 && function_of key == 2 && is_moved m) (is_hold_for key hold) h).0).1
 
 -- ---- each element
 

@@ -1,6 +1,6 @@
 -- What a request asks is the order.
-use Rattle.std.proofs.Common.{◌≡◌, ℕ, ◌+◌, ◌-◌, ◌*◌, ◌/◌, ◌%◌, ◌^◌, ◌<◌, ◌≤◌, Bool, true, false, ◌&&◌, List, [], ◌∷◌, ◌++◌, length, take, drop, Option, Some, None, refl, sym, ap, subst, ◌∙◌, arith, eq-eqb, le-leb}
-use Rattle.std.specs.Prelude.{IsTrue, ◌==◌, ◌||◌, nat_le, nat_lt, not, is_some, option_map, unwrap_or, if◌then◌else◌}
+use Rattle.std.proofs.Common.{◌≡◌, ℕ, ◌/◌, ◌%◌, ◌^◌, ◌<◌, ◌≤◌, Bool, true, false, ◌&&◌, List, [], ◌++◌, length, Option, Some, None, refl, sym, ap, ◌∙◌, arith, eq-eqb, le-leb}
+use Rattle.std.specs.Prelude.{◌==◌, ◌||◌, nat_le, nat_lt, is_some, option_map, unwrap_or, if◌then◌else◌}
 use Rattle.std.specs.List.{list_all}
 use Rattle.std.proofs.lemmas.Bool.{and_parts, and_from, eqb-true, leb-true}
 use Rattle.std.proofs.lemmas.Bool.Decides.{nat_tests}
@@ -15,131 +15,18 @@ use Rattle.iso_order.specs.declared.key.TxKey.{TxKey}
 use Rattle.iso_order.specs.declared.verdict.Verdict.{Verdict}
 use Rattle.iso_order.specs.declared.verdict.Verdict.TheVariants.{Order}
 use Rattle.iso_order.specs.AccountNumber.{AccountNumber, is_pan}
-use Rattle.iso_order.specs.Fields.{version, class, function, origin, asks, base_of, text, part, has_key, key_of, money_of, original_mti, is_original, is_own, original_of, completes, is_hold, hold_of, is_replacement, left_of, kind, is_debit, is_credit, is_inquiry}
+use Rattle.iso_order.specs.Fields.{class, function, asks, base_of, text, part, original_mti, is_original, is_own, original_of, completes, is_hold, hold_of, is_replacement, left_of}
 use Rattle.iso_order.specs.Key.{class_of, function_of, is_valid_key}
-use Rattle.iso_order.specs.Order.{Instruction, is_currency, is_account, is_moved, is_payment, is_hold_for, is_valid_act, is_valid}
-use Rattle.iso_order.specs.Request.{RequestsAsk, money_in, processing_code, moved_by, named_by, left_by, account_number, acquirer_code, original_data, replacement_amounts, requested, request}
+use Rattle.iso_order.specs.Order.{is_currency, is_account, is_moved, is_payment, is_hold_for, is_valid_act}
+use Rattle.iso_order.specs.Request.{RequestsAsk, money_in, processing_code, moved_by, named_by, account_number, acquirer_code, original_data, replacement_amounts, requested, request}
 use Rattle.iso_order.specs.Text.{is_digit, are_digits, number}
-use Rattle.iso_order.specs.Verdict.{first_of, network_lines, key_lines, reversal_lines, original_lines, completion_lines, account_lines, act_lines, amount_lines, credited, asked, debited_by, verdict}
+use Rattle.iso_order.specs.Verdict.{first_of, completion_lines, verdict}
 use Rattle.iso_order.proofs.Ascending.{value_in-from}
 use Rattle.iso_order.proofs.Decimals.{number-decimal, are_digits-decimal, digits-by, are_digits-acquirer, number-acquirer}
+use Rattle.iso_order.proofs.MessageVerdicts.{Keyed, Paying, Moving, reversal-verdict, debit-verdict, credit-verdict, inquiry-verdict}
 use Rattle.iso_order.proofs.Rows.{list_all-decimal, length-decimal}
-use Rattle.iso_order.proofs.Table.{is_answered, not_network, with_key, not_reversal, is_replaced, with_original, not_completing, with_hold, with_account}
-
--- ---- a key
-
--- what holds of the type and the numbers of a key
-pub record KeyFacts (k : TxKey) : Type 0 where
-  pub version : k.base / 1000 ≡ 0
-  pub asking : asks (k.base / 10 % 10) ≡ true
-  pub origin : k.base % 10 ≤ 5
-  pub first : base_of k.base ≡ k.base
-  pub small : k.base < 10 ^ 4
-  pub stan : k.stan < 10 ^ 6
-  pub sent : k.sent < 10 ^ 10
-  pub acquirer : k.acquirer < 10 ^ 11
-
-even_digit : (b : ℕ) → (b % 10 == 0 || b % 10 == 2 || b % 10 == 4) ≡ true → (b % 2 ≡ 0) × (b % 10 ≤ 5)
-even_digit b h = (grind (arith, nat_tests), grind (arith, nat_tests))
-
-pub key_facts : (k : TxKey) → is_valid_key k ≡ true → KeyFacts k
-key_facts k h =
-    let a = and_parts (nat_lt k.base 1000 && (function_of k == 0 || function_of k == 2) && (k.base % 10 == 0 || k.base % 10 == 2 || k.base % 10 == 4) && nat_le k.stan 999999 && nat_le k.sent 9999999999) (nat_le k.acquirer 99999999999) h in
-    let b = and_parts (nat_lt k.base 1000 && (function_of k == 0 || function_of k == 2) && (k.base % 10 == 0 || k.base % 10 == 2 || k.base % 10 == 4) && nat_le k.stan 999999) (nat_le k.sent 9999999999) a.0 in
-    let s = and_parts (nat_lt k.base 1000 && (function_of k == 0 || function_of k == 2) && (k.base % 10 == 0 || k.base % 10 == 2 || k.base % 10 == 4)) (nat_le k.stan 999999) b.0 in
-    let o = and_parts (nat_lt k.base 1000 && (function_of k == 0 || function_of k == 2)) (k.base % 10 == 0 || k.base % 10 == 2 || k.base % 10 == 4) s.0 in
-    let f = and_parts (nat_lt k.base 1000) (function_of k == 0 || function_of k == 2) o.0 in
-    let low : k.base < 1000 = let lt = f.0 in grind (arith, nat_tests) in
-    let even = even_digit k.base o.1 in
-    record {
-      version = omega arith;
-      asking = f.1;
-      origin = even.1;
-      first = omega (arith, even.0);
-      small = omega arith;
-      stan = omega (arith, leb-true k.stan 999999 s.1);
-      sent = omega (arith, leb-true k.sent 9999999999 b.1);
-      acquirer = omega (arith, leb-true k.acquirer 99999999999 a.1);
-    }
-
--- ---- messages of a key
-
--- the message is under the key, and asks
-record Keyed (m : Contents) (k : TxKey) : Type 0 where
-  answered : (version m == 0 && asks (function m)) ≡ true
-  origin : nat_lt 5 (origin m) ≡ false
-  named : has_key m ≡ true
-  key : key_of m ≡ k
-
--- the whole table of a message of class 1, 2 or 4 that has a key
-keyed-verdict : (m : Contents) (k : TxKey) → Keyed m k → (class m == 8) ≡ false → (class m == 1 || class m == 2 || class m == 4) ≡ true
-    → verdict m ≡ first_of (reversal_lines m ++ completion_lines m ++ account_lines m ++ act_lines m ++ amount_lines m) (credited m)
-unfolding verdict
-keyed-verdict m k keyed other served =
-    let rest = reversal_lines m ++ completion_lines m ++ account_lines m ++ act_lines m ++ amount_lines m in
-    is_answered m (network_lines m ++ key_lines m ++ rest) (credited m) keyed.answered keyed.origin
-    ∙ not_network m (key_lines m ++ rest) (credited m) other
-    ∙ with_key m rest (credited m) served keyed.named
-
--- what is asked under the key
-asked-order : (m : Contents) (k : TxKey) (a act : Act) → key_of m ≡ k → a ≡ act → asked m a ≡ Order (record { key = k; act = act })
-asked-order m k a act key same = rw (key, same) refl
-
-reversal-verdict : (m : Contents) (k original : TxKey) (left : ℕ) → Keyed m k → class m ≡ 4 → is_replacement m ≡ true → are_digits 42 42 (text m 90) ≡ true
-    → is_original (original_mti m) ≡ true → is_own m ≡ true → original_of m ≡ original → left_of m ≡ left → verdict m ≡ Order (record { key = k; act = Undo original left })
-reversal-verdict m k original left keyed four replaced digits type own named leaves =
-    let rest = completion_lines m ++ account_lines m ++ act_lines m ++ amount_lines m in
-    let is4 = eq-eqb (class m) 4 four in
-    keyed-verdict m k keyed (rw four refl) (rw four refl)
-    ∙ is_replaced m rest (credited m) replaced
-    ∙ with_original m rest (credited m) is4 digits type own
-    ∙ asked-order m k (Undo (original_of m) (left_of m)) (Undo original left) keyed.key (rw (named, leaves) refl)
-
--- ---- payments
-
--- the message tells the money
-record Paying (m : Contents) (k : TxKey) (money : Money) (code : ℕ) : Type 0 where
-  keyed : Keyed m k
-  payment : (class m == 1 || class m == 2) ≡ true
-  account : are_digits 1 19 (text m 2) ≡ true
-  coded : are_digits 6 6 (text m 3) ≡ true
-  of_kind : kind m ≡ code
-  currency : is_currency (text m 49) ≡ true
-  told : money_of m money.amount ≡ money
-  -- no hold is named, or one that can be completed
-  completing : (lines : List (Bool × Verdict)) (last : Verdict) → first_of (completion_lines m ++ lines) last ≡ first_of lines last
-
--- the element 4 of what is moved
-record Moving (m : Contents) (money : Money) : Type 0 where
-  digits : are_digits 12 12 (text m 4) ≡ true
-  amount : number (text m 4) ≡ money.amount
-  some : (money.amount == 0) ≡ false
-
-not_others : (n : ℕ) → (n == 1 || n == 2) ≡ true → ((n == 8) ≡ false) × ((n == 4) ≡ false) × ((n == 1 || n == 2 || n == 4) ≡ true)
-not_others n h = (grind (arith, nat_tests), grind (arith, nat_tests), grind (arith, nat_tests))
-
--- the lines on the processing code and the amount
-paying-verdict : (m : Contents) (k : TxKey) (money : Money) (code : ℕ) → Paying m k money code → verdict m ≡ first_of (act_lines m ++ amount_lines m) (credited m)
-paying-verdict m k money code p =
-    let classes = not_others (class m) p.payment in
-    let rest = act_lines m ++ amount_lines m in
-    keyed-verdict m k p.keyed classes.0 classes.2
-    ∙ not_reversal m (completion_lines m ++ account_lines m ++ rest) (credited m) classes.1
-    ∙ p.completing (account_lines m ++ rest) (credited m)
-    ∙ with_account m rest (credited m) p.account p.coded p.currency
-
-debit-verdict : (m : Contents) (k : TxKey) (money : Money) (hold : Option TxKey) → Paying m k money 0 → Moving m money → hold_of m ≡ hold → verdict m ≡ Order (record { key = k; act = debited_by money hold })
-debit-verdict m k money hold p moving named =
-    paying-verdict m k money 0 p ∙ rw (p.of_kind, moving.digits, moving.amount, moving.some, named, p.told, p.keyed.key) refl
-
-credit-verdict : (m : Contents) (k : TxKey) (money : Money) → Paying m k money 20 → Moving m money → (class m == 1) ≡ false → completes m ≡ false → verdict m ≡ Order (record { key = k; act = Credit money })
-credit-verdict m k money p moving two plain =
-    paying-verdict m k money 20 p ∙ rw (p.of_kind, two, plain, moving.digits, moving.amount, moving.some, p.told, p.keyed.key) refl
-
-inquiry-verdict : (m : Contents) (k : TxKey) (money : Money) → Paying m k money 31 → (function m == 2) ≡ false → money.amount ≡ 0 → verdict m ≡ Order (record { key = k; act = Inquiry money })
-inquiry-verdict m k money p asking none =
-    let same : money_of m 0 ≡ money = ap (money_of m) (sym none) ∙ p.told in
-    paying-verdict m k money 31 p ∙ rw (p.of_kind, asking, same, p.keyed.key) refl
+use Rattle.iso_order.proofs.Table.{not_completing, with_hold}
+use Rattle.iso_order.proofs.Valid.{KeyFacts, key_facts, moved-account, valid-parts}
 
 -- the original data elements are digits
 pub original-digits : (k : TxKey) → list_all is_digit (original_data k) ≡ true
@@ -319,10 +206,6 @@ module _ (key original : TxKey) (left : ℕ) (valid : is_valid_key key ≡ true)
 
 -- ---- each act
 
-pub valid-parts : (o : Instruction) → is_valid o ≡ true → (is_valid_key o.key ≡ true) × (is_valid_act o.key o.act ≡ true)
-unfolding is_valid
-valid-parts o h = and_parts (is_valid_key o.key) (is_valid_act o.key o.act) h
-
 other_class : (n : ℕ) → (n == 2) ≡ true → (n == 1) ≡ false
 other_class n h = grind (arith, nat_tests)
 
@@ -333,8 +216,7 @@ asks-act : (key : TxKey) (act : Act) (valid : is_valid_key key ≡ true) → is_
 asks-act key (Debit money) valid h =
     let act = Debit money in
     let parts = and_parts (is_payment key) (is_moved money) h in
-    let most = and_parts (is_account money && nat_le 1 money.amount) (nat_le money.amount 999999999999) parts.1 in
-    let account = (and_parts (is_account money) (nat_le 1 money.amount) most.0).0 in
+    let account = moved-account money parts.1 in
     let plain = not_naming key act valid refl in
     let none : hold_of (m key act valid) ≡ None = rw plain refl in
     debit-verdict (m key act valid) key money None
@@ -343,8 +225,7 @@ asks-act key (Debit money) valid h =
 asks-act key (Credit money) valid h =
     let act = Credit money in
     let parts = and_parts (class_of key == 2) (is_moved money) h in
-    let most = and_parts (is_account money && nat_le 1 money.amount) (nat_le money.amount 999999999999) parts.1 in
-    let account = (and_parts (is_account money) (nat_le 1 money.amount) most.0).0 in
+    let account = moved-account money parts.1 in
     let plain = not_naming key act valid refl in
     let two = eqb-true (class_of key) 2 parts.0 in
     let payment : is_payment key ≡ true = rw two refl in
@@ -380,8 +261,7 @@ asks-act key (Complete money hold) valid h =
     let first = and_parts (class_of key == 2) (function_of key == 2) front.0 in
     let two = eqb-true (class_of key) 2 first.0 in
     let advice = eqb-true (function_of key) 2 first.1 in
-    let most = and_parts (is_account money && nat_le 1 money.amount) (nat_le money.amount 999999999999) front.1 in
-    let account = (and_parts (is_account money) (nat_le 1 money.amount) most.0).0 in
+    let account = moved-account money front.1 in
     let same = and_parts (is_valid_key hold && class_of hold == 1) (hold.acquirer == key.acquirer) parts.1 in
     let authorization = and_parts (is_valid_key hold) (class_of hold == 1) same.0 in
     let good = authorization.0 in

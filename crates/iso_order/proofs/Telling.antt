@@ -1,19 +1,15 @@
 -- The response to an order tells its key and the answer's code.
-use Rattle.std.proofs.Common.{◌≡◌, ℕ, ◌+◌, ◌-◌, ◌*◌, ◌/◌, ◌%◌, ◌^◌, ◌<◌, ◌≤◌, Bool, true, false, ◌&&◌, List, [], ◌∷◌, ◌++◌, Option, Some, None, refl, sym, ap, subst, ◌∙◌, arith, eq-eqb, le-leb}
-use Rattle.std.specs.Prelude.{IsTrue, ◌==◌, ◌||◌, nat_le, nat_lt, not, unwrap_or, if◌then◌else◌}
-use Rattle.std.specs.List.{list_all}
+use Rattle.std.proofs.Common.{◌≡◌, ℕ, ◌+◌, ◌-◌, ◌/◌, ◌%◌, ◌<◌, ◌≤◌, Bool, true, false, ◌&&◌, List, [], ◌∷◌, ◌++◌, Option, Some, refl, sym, ap, subst, ◌∙◌, arith, eq-eqb, le-leb}
+use Rattle.std.specs.Prelude.{◌==◌, ◌||◌, nat_le, nat_lt, not, unwrap_or, if◌then◌else◌}
 use Rattle.std.proofs.lemmas.Bool.{and_parts, and_from, eqb-true, leb-true}
 use Rattle.std.proofs.lemmas.Bool.Decides.{nat_tests}
 use Rattle.iso_wire.specs.Contents.{Contents}
 use Rattle.iso_wire.specs.Decimal.{decimal}
-use Rattle.iso_wire.specs.Elements.{value_in}
 use Rattle.iso_order.specs.declared.key.TxKey.{TxKey}
-use Rattle.iso_order.specs.declared.told.Told.{Told}
 use Rattle.iso_order.specs.declared.verdict.Verdict.{Verdict}
 use Rattle.iso_order.specs.declared.verdict.Verdict.TheVariants.{Order, Reply, Silent}
 use Rattle.iso_order.specs.Fields.{version, class, function, origin, asks, base_of, text, has_key, key_of}
 use Rattle.iso_order.specs.Key.{is_valid_key}
-use Rattle.iso_order.specs.Order.{Instruction}
 use Rattle.iso_order.specs.Outcome.{Outcome}
 use Rattle.iso_order.specs.Response.{response, response_mti, element}
 use Rattle.iso_order.specs.Text.{are_digits, number}
@@ -21,7 +17,8 @@ use Rattle.iso_order.specs.Told.{ResponsesTell, told_of, is_answer, answered_bas
 use Rattle.iso_order.specs.Verdict.{first_of, answered_lines, network_lines, key_lines, reversal_lines, completion_lines, account_lines, act_lines, amount_lines, credited, verdict, IfOrder}
 use Rattle.iso_order.proofs.Ascending.{response-each}
 use Rattle.iso_order.proofs.Decimals.{number-decimal, are_digits-decimal}
-use Rattle.iso_order.proofs.Valid.{key-valid}
+use Rattle.iso_order.proofs.Shown.{not_false}
+use Rattle.iso_order.proofs.Valid.{even_digit, key-valid}
 
 -- ---- what a message with an order is
 
@@ -36,10 +33,6 @@ is_order Silent = false
 passed_by : (t : Bool) (v w : Verdict) → is_order (if t then v else w) ≡ true → is_order v ≡ false → (t ≡ false) × (is_order w ≡ true)
 passed_by true v w h none = absurd cc
 passed_by false v w h none = (refl, h)
-
-not_false : (b : Bool) → not b ≡ false → b ≡ true
-not_false true h = refl
-not_false false h = sym h
 
 -- an order has passed a line of another verdict
 passed : (line : Bool × Verdict) (lines : Lines) (last : Verdict) → is_order line.1 ≡ false → is_order (first_of (line ∷ lines) last) ≡ true → (line.0 ≡ false) × (is_order (first_of lines last) ≡ true)
@@ -159,9 +152,6 @@ responses_tell_lem m a o is few =
     tells m a ordering few ∙ ap (λ (k : TxKey). Some (record { key = k; code = a.code })) (sym key)
 
 -- ---- the key that is told
-
-even_digit : (o : ℕ) → o ≤ 4 → o % 2 ≡ 0 → (o == 0 || o == 2 || o == 4) ≡ true
-even_digit o le even = grind (arith, nat_tests)
 
 -- the message type of a request or advice that is answered
 told-type : (mti : ℕ) → mti / 1000 ≡ 0 → (mti / 10 % 10 == 1 || mti / 10 % 10 == 3) ≡ true → mti % 10 ≤ 5

@@ -1,12 +1,12 @@
 -- What a valid order keeps.
-use Rattle.std.proofs.Common.{◌≡◌, ◌≢◌, ℕ, ◌/◌, ◌%◌, ◌<◌, ◌≤◌, Bool, true, refl, arith, eq-eqb, le-leb, ◌&&◌}
+use Rattle.std.proofs.Common.{◌≡◌, ◌≢◌, ℕ, ◌/◌, ◌%◌, ◌^◌, ◌<◌, ◌≤◌, Bool, true, refl, arith, eq-eqb, le-leb, ◌&&◌}
 use Rattle.std.proofs.lemmas.Bool.{and_parts, eqb-true, leb-true}
 use Rattle.std.proofs.lemmas.Bool.Decides.{nat_tests}
 use Rattle.iso_order.specs.declared.key.TxKey.{TxKey}
 use Rattle.iso_order.specs.declared.act.Act.{Act}
 use Rattle.iso_order.specs.declared.act.Act.TheVariants.{Debit, Credit, Inquiry, Undo, Complete}
 use Rattle.iso_order.specs.declared.act.Money.{Money}
-use Rattle.std.specs.Prelude.{IsTrue, IfSome, is_some, Option, Some, None, ◌==◌, ◌||◌, nat_le}
+use Rattle.std.specs.Prelude.{IsTrue, IfSome, is_some, Option, Some, None, ◌==◌, ◌||◌, nat_le, nat_lt}
 use Rattle.iso_order.specs.Fields.{asks, base_of, is_hold, is_original}
 use Rattle.iso_order.specs.Key.{class_of, function_of, is_valid_key}
 use Rattle.iso_order.specs.Verdict.{debited_by}
@@ -42,7 +42,7 @@ pub record Base (mti base : ℕ) : Type 0 where
   pub function : base / 10 % 10 ≡ mti / 10 % 10
   pub origin : (base % 10 == 0 || base % 10 == 2 || base % 10 == 4) ≡ true
 
-even_digit : (o : ℕ) → o ≤ 4 → o % 2 ≡ 0 → (o == 0 || o == 2 || o == 4) ≡ true
+pub even_digit : (o : ℕ) → o ≤ 4 → o % 2 ≡ 0 → (o == 0 || o == 2 || o == 4) ≡ true
 even_digit o le even = grind (arith, nat_tests)
 
 pub base-keeps : (mti : ℕ) → mti / 1000 ≡ 0 → mti % 10 ≤ 5 → Base mti (base_of mti)
@@ -147,3 +147,49 @@ module _ (key : TxKey) (m : Money) (valid : is_valid_key key ≡ true) (account 
       both_true (is_valid_key key) _ valid
       (both_true (is_payment key && function_of key == 0 && m.amount == 0) (is_account m)
       (both_true (is_payment key && function_of key == 0) (m.amount == 0) (both_true (is_payment key) (function_of key == 0) payment (key-request key valid request)) (eq-eqb m.amount 0 none)) account)
+
+-- ---- what a valid key keeps
+
+-- what holds of the type and the numbers of a key
+pub record KeyFacts (k : TxKey) : Type 0 where
+  pub version : k.base / 1000 ≡ 0
+  pub asking : asks (k.base / 10 % 10) ≡ true
+  pub origin : k.base % 10 ≤ 5
+  pub first : base_of k.base ≡ k.base
+  pub small : k.base < 10 ^ 4
+  pub stan : k.stan < 10 ^ 6
+  pub sent : k.sent < 10 ^ 10
+  pub acquirer : k.acquirer < 10 ^ 11
+
+even_base : (b : ℕ) → (b % 10 == 0 || b % 10 == 2 || b % 10 == 4) ≡ true → (b % 2 ≡ 0) × (b % 10 ≤ 5)
+even_base b h = (grind (arith, nat_tests), grind (arith, nat_tests))
+
+pub key_facts : (k : TxKey) → is_valid_key k ≡ true → KeyFacts k
+key_facts k h =
+    let a = and_parts (nat_lt k.base 1000 && (function_of k == 0 || function_of k == 2) && (k.base % 10 == 0 || k.base % 10 == 2 || k.base % 10 == 4) && nat_le k.stan 999999 && nat_le k.sent 9999999999) (nat_le k.acquirer 99999999999) h in
+    let b = and_parts (nat_lt k.base 1000 && (function_of k == 0 || function_of k == 2) && (k.base % 10 == 0 || k.base % 10 == 2 || k.base % 10 == 4) && nat_le k.stan 999999) (nat_le k.sent 9999999999) a.0 in
+    let s = and_parts (nat_lt k.base 1000 && (function_of k == 0 || function_of k == 2) && (k.base % 10 == 0 || k.base % 10 == 2 || k.base % 10 == 4)) (nat_le k.stan 999999) b.0 in
+    let o = and_parts (nat_lt k.base 1000 && (function_of k == 0 || function_of k == 2)) (k.base % 10 == 0 || k.base % 10 == 2 || k.base % 10 == 4) s.0 in
+    let f = and_parts (nat_lt k.base 1000) (function_of k == 0 || function_of k == 2) o.0 in
+    let low : k.base < 1000 = let lt = f.0 in grind (arith, nat_tests) in
+    let even = even_base k.base o.1 in
+    record {
+      version = omega arith;
+      asking = f.1;
+      origin = even.1;
+      first = omega (arith, even.0);
+      small = omega arith;
+      stan = omega (arith, leb-true k.stan 999999 s.1);
+      sent = omega (arith, leb-true k.sent 9999999999 b.1);
+      acquirer = omega (arith, leb-true k.acquirer 99999999999 a.1);
+    }
+
+-- what is moved is moved on an account
+pub moved-account : (m : Money) → is_moved m ≡ true → is_account m ≡ true
+moved-account m h =
+    let most = and_parts (is_account m && nat_le 1 m.amount) (nat_le m.amount 999999999999) h in
+    (and_parts (is_account m) (nat_le 1 m.amount) most.0).0
+
+pub valid-parts : (o : Instruction) → is_valid o ≡ true → (is_valid_key o.key ≡ true) × (is_valid_act o.key o.act ≡ true)
+unfolding is_valid
+valid-parts o h = and_parts (is_valid_key o.key) (is_valid_act o.key o.act) h

@@ -1,4 +1,4 @@
-use Rattle.std.proofs.Common.{◌≡◌, ℕ, List, [], ◌∷◌, sym, ap, subst, ◌∙◌, arith}
+use Rattle.std.proofs.Common.{ℕ, List, [], ◌∷◌, sym, ap, subst, ◌∙◌, arith}
 use Rattle.std.specs.Prelude.{IsTrue}
 use Rattle.iso_wire.specs.Contents.{Contents}
 use Rattle.iso_order.specs.declared.act.Act.{Act}
@@ -7,7 +7,7 @@ use Rattle.iso_order.specs.Listing.{elements_at}
 use Rattle.iso_order.specs.Order.{Instruction, is_valid}
 use Rattle.iso_order.specs.Request.{AsksFor, FitsEdition87, requested}
 use Rattle.iso_order.proofs.RequestFits.{request-listed}
-use Rattle.iso_order.proofs.RequestVerdicts.{KeyFacts, key_facts, valid-parts}
+use Rattle.iso_order.proofs.Valid.{KeyFacts, key_facts, valid-parts}
 use Rattle.iso_order.proofs.asking.request.Goals as goal
 
 -- what holds of the key of a valid order
