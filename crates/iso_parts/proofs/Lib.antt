@@ -16,3 +16,5 @@ pub mod Stable
 pub mod PlainBitmaps
 pub mod SetBitmaps
 pub mod Sizes
+pub mod Judges
+pub mod Extents

@@ -136,3 +136,51 @@ fn bytes_are_missing(rt: HostRuntime) -> Result<(), Fail> {
     }
     Ok(())
 }
+
+#[test]
+fn judging_answers_as_decoding(rt: HostRuntime) -> Result<(), Fail> {
+    let pan = number(Coding::Ascii, Length::LL(Digits::Bcd), 19);
+    let packed = number(Coding::Bcd, Length::LL(Digits::Bcd), 19);
+    let filled = zero_filled(Coding::Bcd);
+    let hex = bytes(Coding::HexText, Length::LL(Digits::Ascii), 9);
+    let cases: [(&str, FieldSpec, &[u8], Result<Judged, FieldFault>); 9] = [
+        (
+            "a whole value",
+            pan,
+            b"\x0212",
+            Ok(Judged::Got { body: 1, used: 3 }),
+        ),
+        ("no bytes", pan, b"", Ok(Judged::More)),
+        ("an unfinished body", pan, b"\x021", Ok(Judged::More)),
+        ("no digits", pan, b"\x1A1", Err(FieldFault::BadLengthDigits)),
+        ("too long", pan, b"\x20", Err(FieldFault::LengthOver)),
+        (
+            "a bad filler",
+            packed,
+            b"\x03\x11\x23",
+            Err(FieldFault::BadFiller),
+        ),
+        (
+            "a nibble above 9",
+            packed,
+            b"\x03\xF1\x2A",
+            Err(FieldFault::NotInClass),
+        ),
+        (
+            "filled up",
+            filled,
+            b"\x00\x01\x23",
+            Ok(Judged::Got { body: 0, used: 3 }),
+        ),
+        (
+            "no hexadecimal digit",
+            hex,
+            b"01G0",
+            Err(FieldFault::BadHex),
+        ),
+    ];
+    for (name, spec, bytes, want) in &cases {
+        assert_eq!(rt; judge_field(spec, bytes), *want, "{name}");
+    }
+    Ok(())
+}

@@ -2,6 +2,7 @@ use Rattle.std.proofs.Common.{◌≤◌, ◌+◌, ◌*◌, ℕ, List, length, ar
 use Rattle.iso_parts.specs.declared.spec.FieldSpec.{FieldSpec}
 use Rattle.iso_parts.specs.Row.{Fits}
 use Rattle.iso_parts.specs.Part.{plain_part}
+use Rattle.iso_parts.proofs.Extents.{part_up_to, length_fault, body_fault}
 use Rattle.iso_parts.proofs.Parts.{part_again}
 use Rattle.iso_parts.proofs.Plain.{fits_from_refusal, plain_is_part, refusal_from_fits}
 use Rattle.iso_parts.proofs.Sizes.{padded_most, plain_part_most}
@@ -20,4 +21,7 @@ returns c = record {
   fits = λ s v. (refusal_from_fits s v, fits_from_refusal s v);
   plain = plain_is_part;
   short = plain_short;
+  most = part_up_to;
+  length_fault = length_fault;
+  body_fault = body_fault;
 }

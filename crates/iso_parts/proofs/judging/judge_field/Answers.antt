@@ -1,0 +1,7 @@
+use Rattle.std.proofs.Common.{arith}
+use Rattle.iso_parts.specs.Reading.{prefix_size}
+use Rattle.iso_parts.proofs.Judges.{is_judged}
+use Rattle.iso_parts.proofs.judging.judge_field.Goals as goal
+
+pub returns-clause-found : goal.returns-clause-found
+returns-clause-found c = is_judged c.args.spec.now c.args.bytes.now c.judged_of.result (prefix_size c.args.spec.now.length) c.requires (λ i. omega (arith, c.type_inv.bytes i)) c.judged_of.ensures.exact

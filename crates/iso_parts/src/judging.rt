@@ -1,0 +1,243 @@
+//! Judging fields without their values, and without memory.
+
+ghost use Rattle.std.specs.Prelude.{◌≡◌, ◌≢◌, ◌≤◌, ◌+◌, ◌*◌, ◌/◌, ℕ, List, take, drop, length, IfErr, IfOk, IfSome};
+ghost use Rattle.std.specs.List.{list_all};
+ghost use Rattle.hex.specs.Hex.{is_hex_digit};
+ghost use Rattle.iso_parts.specs.Class.{is_digit};
+ghost use Rattle.iso_parts.specs.Row.{IsGood};
+ghost use Rattle.iso_parts.specs.declared.fault.FieldFault.TheVariants.{Memory};
+ghost use Rattle.iso_parts.specs.Part.{characters, Part};
+ghost use Rattle.iso_parts.specs.Reading.{IsJudged, Judges, IfJudged, count_at, size_at, prefix_size, body_size, value_of, body_of, part_at};
+
+use crate::class::CharClass;
+use crate::encoding::Coding;
+use crate::fault::FieldFault;
+use crate::field::prefix_of;
+use crate::padding::Pad;
+use crate::spec::FieldSpec;
+
+/// What judging finds at the front of some bytes.
+#[derive(Clone, Copy, Debug, PartialEq, Eq)]
+pub enum Judged {
+    /// A part: where its body begins, and how many bytes the part takes.
+    Got { body: usize, used: usize },
+    /// Less than a whole part.
+    More,
+}
+
+/// Whether the two characters of each byte are digits. The loop has no early end, so that many bytes are judged at
+/// a time.
+fn are_digits(bytes: &[u8]) -> bool
+    ensures { result ≡ list_all is_digit (characters bytes.now) }
+{
+    let mut all = true;
+    for b in bytes {
+        all &= *b / 16 < 10 && *b % 16 < 10;
+    }
+    all
+}
+
+/// Whether each byte is a hexadecimal digit, of either case.
+fn are_hex_digits(bytes: &[u8]) -> bool
+    ensures { result ≡ list_all is_hex_digit bytes.now }
+{
+    let mut all = true;
+    for b in bytes {
+        all &= matches!(*b, b'0'..=b'9' | b'A'..=b'F' | b'a'..=b'f');
+    }
+    all
+}
+
+/// Writes the two characters of each byte.
+fn write_characters(bytes: &[u8], room: &mut [u8])
+    requires { length room.old ≡ 2 * length bytes.now }
+    ensures { room.new ≡ characters bytes.now }
+{
+    for (i, b) in bytes.iter().enumerate() {
+        room[2 * i] = b'0' + *b / 16;
+        room[2 * i + 1] = b'0' + *b % 16;
+    }
+}
+
+/// Judges characters: without their padding they are in the class.
+fn judge_text(spec: &FieldSpec, text: &[u8]) -> Result<(), FieldFault>
+    ensures { IsJudged result (value_of spec.now text.now) }
+{
+    if spec.class.takes(spec.pad.unpadded(text)) {
+        Ok(())
+    } else {
+        Err(FieldFault::NotInClass)
+    }
+}
+
+/// Whether the characters of the body are digits, behind the first one where that is a filler.
+fn are_digits_behind(skip: usize, body: &[u8]) -> bool
+    requires { skip ≤ 1 }
+    ensures { result ≡ list_all is_digit (drop skip (characters body.now)) }
+{
+    match body {
+        [first, rest @ ..] if skip == 1 => *first % 16 < 10 && are_digits(rest),
+        _ => are_digits(body),
+    }
+}
+
+/// Judges packed digits that aren't padded, behind the first character where that is a filler.
+fn judge_digits(spec: &FieldSpec, skip: usize, body: &[u8]) -> Result<(), FieldFault>
+    requires class { spec.now.class ≡ CharClass.N }
+    requires pad { spec.now.pad ≡ Pad.None }
+    requires few { skip ≤ 1 }
+    ensures { IsJudged result (value_of spec.now (drop skip (characters body.now))) }
+{
+    if are_digits_behind(skip, body) {
+        Ok(())
+    } else {
+        Err(FieldFault::NotInClass)
+    }
+}
+
+/// Judges packed characters by writing them out, behind the first one where it is a filler.
+fn judge_written(spec: &FieldSpec, skip: usize, body: &[u8]) -> Result<(), FieldFault>
+    requires few { skip ≤ 2 * length body.now }
+    requires short { length body.now ≤ 500 }
+    ensures { IsJudged result (value_of spec.now (drop skip (characters body.now))) }
+{
+    let mut room = [0; 1000];
+    let (text, _) = room.split_at_mut(2 * body.len());
+    write_characters(body, text);
+    let (_, rest) = text.split_at(skip);
+    judge_text(spec, rest)
+}
+
+/// Judges packed characters, behind the first one where it is a filler.
+fn judge_characters(spec: &FieldSpec, skip: usize, body: &[u8]) -> Result<(), FieldFault>
+    requires few { skip ≤ 1 }
+    requires within { skip ≤ 2 * length body.now }
+    requires short { length body.now ≤ 500 }
+    ensures { IsJudged result (value_of spec.now (drop skip (characters body.now))) }
+{
+    if spec.class == CharClass::N && spec.pad == Pad::None {
+        judge_digits(spec, skip, body)
+    } else {
+        judge_written(spec, skip, body)
+    }
+}
+
+/// Judges a packed body of `n` characters: its filler where the count is odd, and then the characters.
+fn judge_packed(spec: &FieldSpec, n: u16, body: &[u8]) -> Result<(), FieldFault>
+    requires coding { spec.now.coding ≡ Coding.Bcd }
+    requires short { length body.now ≤ 500 }
+    ensures { IsJudged result (body_of spec.now n body.now) }
+{
+    if n % 2 == 0 {
+        return judge_characters(spec, 0, body);
+    }
+    match body {
+        [] => Err(FieldFault::BadFiller),
+        [first, ..] => {
+            if *first / 16 != 0 && *first / 16 != 15 {
+                return Err(FieldFault::BadFiller);
+            }
+            judge_characters(spec, 1, body)
+        }
+    }
+}
+
+/// Judges a body of hexadecimal digits.
+fn judge_hex(spec: &FieldSpec, n: u16, body: &[u8]) -> Result<(), FieldFault>
+    requires good { IsGood spec.now }
+    requires coding { spec.now.coding ≡ Coding.HexText }
+    requires size { length body.now ≡ 2 * n }
+    ensures { IsJudged result (body_of spec.now n body.now) }
+{
+    if are_hex_digits(body) {
+        Ok(())
+    } else {
+        Err(FieldFault::BadHex)
+    }
+}
+
+/// Judges a whole body of `n` characters.
+fn judge_whole(spec: &FieldSpec, n: u16, body: &[u8]) -> Result<(), FieldFault>
+    requires good { IsGood spec.now }
+    requires few { n ≤ 999 }
+    requires size { length body.now ≡ body_size spec.now.coding n }
+    ensures { IsJudged result (body_of spec.now n body.now) }
+{
+    match spec.coding {
+        Coding::Ascii | Coding::Raw => judge_text(spec, body),
+        Coding::Bcd => judge_packed(spec, n, body),
+        Coding::HexText => judge_hex(spec, n, body),
+    }
+}
+
+/// Judges the length that the bytes begin with, and gives the count of characters that it tells, at most the row's
+/// maximum; `None` where bytes are missing. Without a length the count is the maximum. Takes no memory.
+pub fn judge_length(spec: &FieldSpec, bytes: &[u8]) -> Result<Option<u16>, FieldFault>
+    ensures exact { result ≡ count_at spec.now bytes.now }
+    ensures few { IfOk result (λ got. IfSome got (λ n. n ≤ spec.now.max)) }
+    ensures room { IfOk result (λ got. IfSome got (λ n. prefix_size spec.now.length ≤ length bytes.now)) }
+    ensures memory { IfErr result (λ e. e ≢ Memory) }
+{
+    let front = spec.length.prefix_size();
+    if bytes.len() < front {
+        return Ok(None);
+    }
+    let (prefix, _) = bytes.split_at(front);
+    Ok(Some(prefix_of(spec, prefix)?))
+}
+
+/// Judges the body of `n` characters that the bytes begin with, and gives how many bytes it takes; `None` where
+/// bytes are missing. Takes no memory.
+pub fn judge_body(spec: &FieldSpec, n: u16, bytes: &[u8]) -> Result<Option<usize>, FieldFault>
+    requires good { IsGood spec.now }
+    requires few { n ≤ spec.now.max }
+    ensures exact { result ≡ size_at spec.now n bytes.now }
+    ensures room { IfOk result (λ got. IfSome got (λ size. size ≤ length bytes.now)) }
+    ensures memory { IfErr result (λ e. e ≢ Memory) }
+{
+    let size = spec.coding.body_size(n);
+    if bytes.len() < size {
+        return Ok(None);
+    }
+    judge_whole(spec, n, &bytes[..size])?;
+    Ok(Some(size))
+}
+
+/// What [`judge_field`] answers.
+fn judged_of(spec: &FieldSpec, bytes: &[u8]) -> Result<Judged, FieldFault>
+    requires { IsGood spec.now }
+    ensures exact { Judges (prefix_size spec.now.length) result (part_at spec.now bytes.now) }
+    ensures memory { IfErr result (λ e. e ≢ Memory) }
+    ensures room { IfJudged result (λ body used. (body ≤ used) × (used ≤ length bytes.now)) }
+{
+    let front = spec.length.prefix_size();
+    let n = match judge_length(spec, bytes) {
+        Ok(Some(n)) => n,
+        Ok(None) => return Ok(Judged::More),
+        Err(fault) => return Err(fault),
+    };
+    let (_, rest) = bytes.split_at(front);
+    match judge_body(spec, n, rest) {
+        Ok(Some(size)) => Ok(Judged::Got {
+            body: front,
+            used: front + size,
+        }),
+        Ok(None) => Ok(Judged::More),
+        Err(fault) => Err(fault),
+    }
+}
+
+/// Judges the part that the bytes begin with, as [`decode_field`](crate::decode_field) does, but without its value
+/// and without memory: where its body begins, and how many bytes it takes.
+pub fn judge_field(spec: &FieldSpec, bytes: &[u8]) -> Result<Judged, FieldFault>
+    requires { IsGood spec.now }
+    // What is judged good is a part of some value.
+    ensures found { IfJudged result (λ body used. (used ≤ length bytes.now) × ((value : List ℕ) × Part spec.now value (take used bytes.now))) }
+    // It is judged as reading the value judges it,
+    ensures exact { Judges (prefix_size spec.now.length) result (part_at spec.now bytes.now) }
+    // and there is always memory.
+    ensures memory { IfErr result (λ e. e ≢ Memory) }
+    ensures room { IfJudged result (λ body used. (body ≤ used) × (used ≤ length bytes.now)) }
+{
+    judged_of(spec, bytes)
+}
