@@ -22,7 +22,7 @@ use Rattle.iso_wire.proofs.Orders.{Values}
 use Rattle.iso_wire.proofs.WordLaws.{short_or, words_taken}
 
 -- what is read of more bytes is the same, unless they end inside a piece
-abbrev Stays : {A : Type 0} → Result A UnpackFault → Result A UnpackFault → Type 0
+abbrev pub Stays : {A : Type 0} → Result A UnpackFault → Result A UnpackFault → Type 0
 Stays old new = (IsShort old → ⊥) → new ≡ old
 
 stays_bind : {A B : Type 0} (r r' : Result A UnpackFault) (f g : A → Result B UnpackFault) → Stays r r' → ((x : A) → r ≡ Ok x → Stays (f x) (g x)) → Stays (r >>= f) (r' >>= g)
@@ -36,7 +36,7 @@ piece_by false n element at b x r r' is h =
     let room : n ≤ length b = ltb-false (length b) n is in
     λ long. cond-false (ltb (length (b ++ x)) n) (halt element at Short) r' (le-ltb (length (b ++ x)) n (omega (arith, length-append b x))) ∙ h room long
 
-type_stays : (t : Layout) (b x : List ℕ) → Stays (type_at t b) (type_at t (b ++ x))
+pub type_stays : (t : Layout) (b x : List ℕ) → Stays (type_at t b) (type_at t (b ++ x))
 type_stays t b x =
     let size = mti_size t.mti in
     piece_by (ltb (length b) size) size 0 0 b x (of_version t.version (mti_of t.mti (take size b))) (of_version t.version (mti_of t.mti (take size (b ++ x)))) refl (λ room long. ap (λ (l : List ℕ). of_version t.version (mti_of t.mti l)) (take-append-le size b x room))
@@ -46,12 +46,12 @@ word_stays c element at b x =
     let size = map_size c in
     piece_by (ltb (length b) size) size element at b x (word_by element at (word_in c (take size b))) (word_by element at (word_in c (take size (b ++ x)))) refl (λ room long. ap (λ (l : List ℕ). word_by element at (word_in c l)) (take-append-le size b x room))
 
-primary_stays : (t : Layout) (at : ℕ) (b x : List ℕ) → Stays (primary_at t at b) (primary_at t at (b ++ x))
+pub primary_stays : (t : Layout) (at : ℕ) (b x : List ℕ) → Stays (primary_at t at b) (primary_at t at (b ++ x))
 primary_stays t at b x =
     let f = λ (w : ℕ). known_by 0 at w (unknown t.rows (numbers_in w 0)) in
     stays_bind (word_at t.bitmap 0 at b) (word_at t.bitmap 0 at (b ++ x)) f f (word_stays t.bitmap 0 at b x) (λ w e long. refl)
 
-secondary_stays : (t : Layout) (at : ℕ) (b x : List ℕ) → Stays (secondary_at t at b) (secondary_at t at (b ++ x))
+pub secondary_stays : (t : Layout) (at : ℕ) (b x : List ℕ) → Stays (secondary_at t at b) (secondary_at t at (b ++ x))
 secondary_stays t at b x = stays_bind (word_at t.bitmap 1 at b) (word_at t.bitmap 1 at (b ++ x)) (second_known t at) (second_known t at) (word_stays t.bitmap 1 at b x) (λ w e long. refl)
 
 primary_room : (t : Layout) (at : ℕ) (b : List ℕ) (w : ℕ) → primary_at t at b ≡ Ok w → map_size t.bitmap ≤ length b

@@ -18,3 +18,5 @@ pub mod PlainLaws
 pub mod Endings
 pub mod FrameHeaders
 pub mod FrameSplits
+pub mod NoMemory
+pub mod Stages

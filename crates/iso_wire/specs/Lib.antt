@@ -11,5 +11,6 @@ pub mod Faults
 pub mod Reading
 pub mod Frame
 pub mod ReadingLaws
+pub mod Resuming
 pub mod FaultNumbers
 pub mod Masking

@@ -1,6 +1,7 @@
 //! Reading the bitmaps of a message: which elements follow.
 
 ghost use Rattle.std.specs.Prelude.{◌≡◌, ◌≢◌, ◌≤◌, ◌<◌, ◌^◌, length, IfOk, IfErr};
+ghost use Rattle.iso_parts.specs.Bits.{map_size};
 ghost use Rattle.iso_wire.specs.declared.fault.UnpackCause.TheVariants.{Memory};
 ghost use Rattle.iso_wire.specs.Reading.{word_at, known_by, primary_at, secondary_at, words_at};
 
@@ -15,6 +16,7 @@ const TOP: u64 = 0x8000_0000_0000_0000;
 /// The word of the bitmap that the bytes begin with.
 fn word_of(coding: BitmapCoding, element: u8, at: usize, bytes: &[u8]) -> Result<u64, UnpackFault>
     ensures exact { result ≡ word_at coding element at bytes.now }
+    ensures room { IfOk result (λ word. map_size coding ≤ length bytes.now) }
     ensures no_memory { IfErr result (λ e. e.cause ≢ Memory) }
 {
     let size = coding.size();
@@ -40,8 +42,9 @@ fn known_word(element: u8, at: usize, word: u64, unknown: Option<u8>) -> Result<
 }
 
 /// The word of the primary bitmap.
-fn primary_of(table: &Table, at: usize, bytes: &[u8]) -> Result<u64, UnpackFault>
+pub fn primary_of(table: &Table, at: usize, bytes: &[u8]) -> Result<u64, UnpackFault>
     ensures exact { result ≡ primary_at table.now at bytes.now }
+    ensures room { IfOk result (λ word. map_size table.now.bitmap ≤ length bytes.now) }
     ensures no_memory { IfErr result (λ e. e.cause ≢ Memory) }
 {
     let word = word_of(table.bitmap(), 0, at, bytes)?;
@@ -49,8 +52,9 @@ fn primary_of(table: &Table, at: usize, bytes: &[u8]) -> Result<u64, UnpackFault
 }
 
 /// The word of the secondary bitmap.
-fn secondary_of(table: &Table, at: usize, bytes: &[u8]) -> Result<u64, UnpackFault>
+pub fn secondary_of(table: &Table, at: usize, bytes: &[u8]) -> Result<u64, UnpackFault>
     ensures exact { result ≡ secondary_at table.now at bytes.now }
+    ensures room { IfOk result (λ word. map_size table.now.bitmap ≤ length bytes.now) }
     ensures no_memory { IfErr result (λ e. e.cause ≢ Memory) }
     ensures low { IfOk result (λ word. word < 2 ^ 63) }
 {

@@ -8,6 +8,7 @@ mod elements;
 mod fault;
 mod framing;
 mod header;
+mod judging;
 pub mod laws;
 mod masking;
 mod message;

@@ -40,7 +40,7 @@ fn four_digits(a: u8, b: u8, c: u8, d: u8) -> Option<Mti>
 }
 
 /// How many bytes a message type takes.
-fn mti_size(digits: Digits) -> usize
+pub(crate) fn mti_size(digits: Digits) -> usize
     ensures { result ≡ mti_size digits }
 {
     match digits {
@@ -67,9 +67,10 @@ fn mti_of(digits: Digits, bytes: &[u8]) -> Option<Mti>
 }
 
 /// The message type that the bytes begin with.
-fn type_of(table: &Table, bytes: &[u8]) -> Result<Mti, UnpackFault>
+pub(crate) fn type_of(table: &Table, bytes: &[u8]) -> Result<Mti, UnpackFault>
     ensures exact { Gives number result (type_at table.now bytes.now) }
     ensures room { OnOk result (mti_size table.now.mti ≤ length bytes.now) }
+    ensures no_memory { IfErr result (λ e. e.cause ≢ Memory) }
     ensures good { AreGood table.now.rows }
 {
     let version = table.version();
@@ -91,7 +92,7 @@ fn type_of(table: &Table, bytes: &[u8]) -> Result<Mti, UnpackFault>
 }
 
 /// Where a faulty part stops being one, behind the part's start: at its length, or behind it.
-fn place_of(fault: FieldFault, front: usize) -> usize
+pub(crate) fn place_of(fault: FieldFault, front: usize) -> usize
     ensures { result ≡ place_of fault front }
 {
     match fault {
@@ -180,7 +181,11 @@ fn elements_of(
 
 /// The message that the bytes begin with, and how many bytes it takes.
 #[tactic(auto, unfolding(crate::specs::Reading::message_at))]
-fn message_of(alloc: Global, table: &Table, bytes: &[u8]) -> Result<(Message, usize), UnpackFault>
+pub(crate) fn message_of(
+    alloc: Global,
+    table: &Table,
+    bytes: &[u8],
+) -> Result<(Message, usize), UnpackFault>
     ensures exact { Unpacks result (message_at table.now bytes.now) }
     ensures good { AreGood table.now.rows }
 {

@@ -1,0 +1,347 @@
+-- Reading on from a stage gives what reading from the start gives.
+use Rattle.std.proofs.Common.{◌≡◌, ◌≢◌, ℕ, ◌+◌, ◌≤◌, Bool, true, false, cond, ltb, List, [], ◌∷◌, ◌++◌, length, take, drop, Option, Some, None, Result, Ok, Err, refl, sym, ap, subst, ◌∙◌, append_assoc, arith}
+use Rattle.std.proofs.lemmas.Bool.{cond-true, cond-false, ltb-true, ltb-false, lt-ltb, le-ltb}
+use Rattle.std.proofs.lemmas.List.{drop-append-le, take-append-le, drop-drop, length-append, length-drop, append-nil}
+use Rattle.iso_parts.specs.declared.fault.FieldFault.{FieldFault}
+use Rattle.iso_parts.specs.declared.fault.FieldFault.TheVariants.{WrongLength, NotInClass, PadEnd, BadLengthDigits, LengthOver, BadFiller, BadHex, Memory}
+use Rattle.iso_parts.specs.declared.spec.FieldSpec.{FieldSpec}
+use Rattle.iso_parts.specs.Bits.{map_size}
+use Rattle.iso_parts.specs.BitmapReading.{top}
+use Rattle.iso_parts.specs.PartLaws.{PartLaws, IsBodyFault, IsLengthFault}
+use Rattle.iso_parts.specs.Reading.{Outcome, more, fault, prefix_size, prefix_of, body_size, body_of, some_count, count_at, some_size, size_at, at_body, at_prefix, part_at}
+use Rattle.iso_table.specs.Layout.{Layout, row_at}
+use Rattle.iso_wire.specs.declared.fault.UnpackFault.{UnpackFault}
+use Rattle.iso_wire.specs.declared.fault.UnpackCause.TheVariants as causes
+use Rattle.iso_wire.specs.declared.fault.UnpackCause.TheVariants.{Short, UnknownElement, Field}
+use Rattle.iso_wire.specs.declared.judging.Stage.{Stage}
+use Rattle.iso_wire.specs.declared.judging.Stage.TheVariants as stages
+use Rattle.iso_wire.specs.declared.numbers.Numbers.{Numbers}
+use Rattle.iso_wire.specs.Contents.{Contents}
+use Rattle.iso_wire.specs.Numbers.{numbers_in}
+use Rattle.iso_wire.specs.Reading.{◌>>=◌, halt, mti_size, type_at, primary_at, secondary_at, words_by, words_at, place_of, answer, value_by, elements_at, message_at, whole}
+use Rattle.iso_wire.specs.ReadingLaws.{IsShort}
+use Rattle.iso_wire.specs.Resuming.{end_of, end_of_elements, end_by, body_end, body_end_under, end_of_rest, behind_maps, second_words, ends_from, IsWithin, GoesOn, Resumes, Steps, IsResumed}
+use Rattle.iso_wire.proofs.Endings.{Stays, type_stays, primary_stays, secondary_stays}
+use Rattle.iso_wire.proofs.NoMemory.{NoMemory, message}
+use Rattle.iso_wire.proofs.Orders.{Values}
+
+-- what is good stays, whatever follows
+stays_ok : {A : Type 0} (r r' : Result A UnpackFault) (x : A) → r ≡ Ok x → Stays r r' → r' ≡ Ok x
+stays_ok r r' x is stays = stays (λ short. subst IsShort is short) ∙ is
+
+-- ---- elements
+
+abbrev first_of : ℕ → List ℕ → Values × ℕ → Result (Values × ℕ) UnpackFault
+first_of n v x = Ok ((n, v) ∷ x.0, x.1)
+
+end_behind : (n : ℕ) (v : List ℕ) (r : Result (Values × ℕ) UnpackFault) → end_of (r >>= first_of n v) ≡ end_of r
+end_behind n v (Ok x) = refl
+end_behind n v (Err e) = refl
+
+abbrev behind_value : List (Option FieldSpec) → ℕ → List ℕ → ℕ → List ℕ → List ℕ × ℕ → Result (Values × ℕ) UnpackFault
+behind_value rows n ns at b first = elements_at rows ns (at + first.1) (drop first.1 b) >>= first_of n first.0
+
+pub parts_end : (rows : List (Option FieldSpec)) (old : List ℕ) (at : ℕ) (b : List ℕ) → old ≡ [] → end_of_elements rows old at b ≡ Ok at
+parts_end rows old at b none = ap (λ (l : List ℕ). end_of_elements rows l at b) none
+
+-- a length that is whole tells the same count, whatever follows
+count_by : (t : Bool) (r : Result ℕ FieldFault) (n : ℕ) → cond t (Ok None) (some_count r) ≡ Ok (Some n) → (t ≡ false) × (r ≡ Ok n)
+count_by true r n e = absurd cc
+count_by false (Ok m) n e = let same : m ≡ n = cc in (refl, ap Ok same)
+count_by false (Err f) n e = absurd cc
+
+record Counted (s : FieldSpec) (b : List ℕ) (n : ℕ) : Type 0 where
+  pub room : prefix_size s.length ≤ length b
+  pub read : prefix_of s (take (prefix_size s.length) b) ≡ Ok n
+
+counted : (s : FieldSpec) (b : List ℕ) (n : ℕ) → count_at s b ≡ Ok (Some n) → Counted s b n
+counted s b n is =
+    let front = prefix_size s.length in
+    let good = count_by (ltb (length b) front) (prefix_of s (take front b)) n is in
+    record { room = ltb-false (length b) front good.0; read = good.1 }
+
+counted_more : (s : FieldSpec) (b x : List ℕ) (n : ℕ) → Counted s b n → Counted s (b ++ x) n
+counted_more s b x n h =
+    let front = prefix_size s.length in
+    record { room = omega (arith, h.room, length-append b x); read = ap (prefix_of s) (take-append-le front b x h.room) ∙ h.read }
+
+-- a body is whole behind its length where the part is
+same_room : (t : Bool) (front size : ℕ) (b : List ℕ) → front ≤ length b → ltb (length b) (front + size) ≡ t → ltb (length (drop front b)) size ≡ t
+same_room true front size b room is = lt-ltb (length (drop front b)) size (omega (arith, ltb-true (length b) (front + size) is, length-drop front b))
+same_room false front size b room is = le-ltb (length (drop front b)) size (omega (arith, ltb-false (length b) (front + size) is, length-drop front b))
+
+body_place : (e : FieldFault) (front : ℕ) → IsBodyFault e → place_of e front ≡ front
+body_place BadFiller front h = refl
+body_place BadHex front h = refl
+body_place NotInClass front h = refl
+body_place WrongLength front h = refl
+body_place PadEnd front h = refl
+body_place BadLengthDigits front h = absurd h
+body_place LengthOver front h = absurd h
+body_place Memory front h = refl
+
+length_place : (e : FieldFault) (front : ℕ) → IsLengthFault e → place_of e front ≡ 0
+length_place BadLengthDigits front h = refl
+length_place LengthOver front h = refl
+length_place BadFiller front h = absurd h
+length_place BadHex front h = absurd h
+length_place NotInClass front h = absurd h
+length_place WrongLength front h = absurd h
+length_place PadEnd front h = absurd h
+length_place Memory front h = absurd h
+
+abbrev refused : ℕ → ℕ → FieldFault → Result ℕ UnpackFault
+refused n at e = halt n at (Field e)
+
+-- the value of a whole part and then the others, and the end of the body and then the others
+whole_by : (rows : List (Option FieldSpec)) (s : FieldSpec) (n at front size : ℕ) (ns b : List ℕ) (r : Result (List ℕ) FieldFault) → front ≡ prefix_size s.length → ((e : FieldFault) → r ≡ Err e → IsBodyFault e)
+    → end_of (answer s n at (length (drop at b)) (at_body (front + size) r) >>= behind_value rows n ns at (drop at b)) ≡ (end_by n (at + front) (some_size size r) >>= λ end. end_of_elements rows ns end b)
+whole_by rows s n at front size ns b (Ok v) is faults =
+    let place : at + (front + size) ≡ at + front + size = omega arith in
+    end_behind n v (elements_at rows ns (at + (front + size)) (drop (front + size) (drop at b)))
+    ∙ ap (λ (l : List ℕ). end_of (elements_at rows ns (at + (front + size)) l)) (drop-drop (front + size) at b)
+    ∙ ap (λ (k : ℕ). end_of_elements rows ns k b) place
+whole_by rows s n at front size ns b (Err e) is faults =
+    ap (λ (k : ℕ). refused n (at + k) e) (body_place e (prefix_size s.length) (faults e refl) ∙ sym is)
+
+part_by : (t : Bool) (rows : List (Option FieldSpec)) (s : FieldSpec) (n at front size : ℕ) (ns b : List ℕ) (r : Result (List ℕ) FieldFault) → front ≡ prefix_size s.length → ((e : FieldFault) → r ≡ Err e → IsBodyFault e)
+    → ltb (length (drop at b)) (prefix_size s.length) ≡ false
+    → end_of (answer s n at (length (drop at b)) (cond t more (at_body (front + size) r)) >>= behind_value rows n ns at (drop at b)) ≡ (end_by n (at + front) (cond t (Ok None) (some_size size r)) >>= λ end. end_of_elements rows ns end b)
+part_by false rows s n at front size ns b r is faults long = whole_by rows s n at front size ns b r is faults
+part_by true rows s n at front size ns b r is faults long =
+    ap (λ (k : ℕ). short_at n k) (cond-false (ltb (length (drop at b)) (prefix_size s.length)) at (at + prefix_size s.length) long ∙ ap (λ (k : ℕ). at + k) (sym is))
+  where
+    short_at : ℕ → ℕ → Result ℕ UnpackFault
+    short_at n at = halt n at Short
+
+module _ (laws : PartLaws) where
+  -- behind a good length, reading goes on at the body
+  body_read : (rows : List (Option FieldSpec)) (s : FieldSpec) (n count at : ℕ) (ns b : List ℕ) → row_at rows n ≡ Some s → Counted s (drop at b) count
+      → end_of_elements rows (n ∷ ns) at b ≡ end_of_rest rows n count ns (at + prefix_size s.length) b
+  body_read rows s n count at ns b row read =
+      let front = prefix_size s.length in
+      let size = body_size s.coding count in
+      let d : List ℕ = drop at b in
+      let t = ltb (length d) (front + size) in
+      let r : Result (List ℕ) FieldFault = body_of s count (take size (drop front d)) in
+      let long : ltb (length d) front ≡ false = le-ltb (length d) front read.room in
+      let part : part_at s d ≡ cond t more (at_body (front + size) r) = cond-false (ltb (length d) front) more (at_prefix s d (prefix_of s (take front d))) long ∙ ap (at_prefix s d) read.read in
+      let behind : drop (at + front) b ≡ drop front d = sym (drop-drop front at b) in
+      let body : size_at s count (drop (at + front) b) ≡ cond t (Ok None) (some_size size r) =
+      ap (size_at s count) behind ∙ ap (λ (c : Bool). cond c (Ok None) (some_size size r)) (same_room t front size d read.room refl) in
+      ap (λ o. end_of (value_by o n at d >>= behind_value rows n ns at d)) row
+      ∙ ap (λ (o : Outcome). end_of (answer s n at (length d) o >>= behind_value rows n ns at d)) part
+      ∙ part_by t rows s n at front size ns b r refl (laws.body_fault s count (take size (drop front d))) long
+      ∙ ap (λ o. end_by n (at + front) o >>= λ end. end_of_elements rows ns end b) (sym body)
+      ∙ ap (λ o. body_end_under o n count (at + front) b >>= λ end. end_of_elements rows ns end b) (sym row)
+
+  pub length_goes_on : (rows : List (Option FieldSpec)) (s : FieldSpec) (old ns : List ℕ) (n count at : ℕ) (b : List ℕ) → old ≡ n ∷ ns → row_at rows n ≡ Some s → count_at s (drop at b) ≡ Ok (Some count) → at ≤ length b
+      → (x : List ℕ) → end_of_elements rows old at (b ++ x) ≡ end_of_rest rows n count ns (at + prefix_size s.length) (b ++ x)
+  length_goes_on rows s old ns n count at b is row read within = λ x.
+      let place : drop at (b ++ x) ≡ drop at b ++ x = drop-append-le at b x within in
+      let more = subst (λ (l : List ℕ). Counted s l count) (sym place) (counted_more s (drop at b) x count (counted s (drop at b) count read)) in
+      ap (λ (l : List ℕ). end_of_elements rows l at (b ++ x)) is ∙ body_read rows s n count at ns (b ++ x) row more
+
+  -- a bad length is the fault
+  fails_by : (t : Bool) (r : Result ℕ FieldFault) (e : FieldFault) → cond t (Ok None) (some_count r) ≡ Err e → (t ≡ false) × (r ≡ Err e)
+  fails_by true r e is = absurd cc
+  fails_by false (Ok m) e is = absurd cc
+  fails_by false (Err f) e is = let same : f ≡ e = cc in (refl, ap Err same)
+
+  pub length_ends : (rows : List (Option FieldSpec)) (s : FieldSpec) (old ns : List ℕ) (n at : ℕ) (b : List ℕ) (e : FieldFault) → old ≡ n ∷ ns → row_at rows n ≡ Some s → count_at s (drop at b) ≡ Err e → end_of_elements rows old at b ≡ refused n at e
+  length_ends rows s old ns n at b e is row bad =
+      let front = prefix_size s.length in
+      let d : List ℕ = drop at b in
+      let read = fails_by (ltb (length d) front) (prefix_of s (take front d)) e bad in
+      let part : part_at s d ≡ fault e = cond-false (ltb (length d) front) more (at_prefix s d (prefix_of s (take front d))) read.0 ∙ ap (at_prefix s d) read.1 in
+      let none : at + place_of e front ≡ at = ap (λ (k : ℕ). at + k) (length_place e front (laws.length_fault s (take front d) e read.1)) ∙ omega arith in
+      ap (λ (l : List ℕ). end_of_elements rows l at b) is
+      ∙ ap (λ o. end_of (value_by o n at d >>= behind_value rows n ns at d)) row
+      ∙ ap (λ (o : Outcome). end_of (answer s n at (length d) o >>= behind_value rows n ns at d)) part
+      ∙ ap (λ (k : ℕ). refused n k e) none
+
+-- bytes that end inside a length
+lacks_by : (t : Bool) (r : Result ℕ FieldFault) → cond t (Ok None) (some_count r) ≡ Ok None → t ≡ true
+lacks_by true r is = refl
+lacks_by false (Ok m) is = absurd cc
+lacks_by false (Err f) is = absurd cc
+
+abbrev short : ℕ → ℕ → Result ℕ UnpackFault
+short n at = halt n at Short
+
+pub length_lacks : (rows : List (Option FieldSpec)) (s : FieldSpec) (old ns : List ℕ) (n at : ℕ) (b : List ℕ) → old ≡ n ∷ ns → row_at rows n ≡ Some s → count_at s (drop at b) ≡ Ok None → end_of_elements rows old at b ≡ short n at
+length_lacks rows s old ns n at b is row few =
+    let front = prefix_size s.length in
+    let d : List ℕ = drop at b in
+    let less : ltb (length d) front ≡ true = lacks_by (ltb (length d) front) (prefix_of s (take front d)) few in
+    let part : part_at s d ≡ more = cond-true (ltb (length d) front) more (at_prefix s d (prefix_of s (take front d))) less in
+    ap (λ (l : List ℕ). end_of_elements rows l at b) is
+    ∙ ap (λ o. end_of (value_by o n at d >>= behind_value rows n ns at d)) row
+    ∙ ap (λ (o : Outcome). end_of (answer s n at (length d) o >>= behind_value rows n ns at d)) part
+    ∙ ap (short n) (cond-true (ltb (length d) front) at (at + front) less)
+
+-- an element without a row
+pub no_row_ends : (rows : List (Option FieldSpec)) (old ns : List ℕ) (n at : ℕ) (b : List ℕ) → old ≡ n ∷ ns → row_at rows n ≡ None → end_of_elements rows old at b ≡ halt n at (UnknownElement n)
+no_row_ends rows old ns n at b is none =
+    ap (λ (l : List ℕ). end_of_elements rows l at b) is ∙ ap (λ o. end_of (value_by o n at (drop at b) >>= behind_value rows n ns at (drop at b))) none
+
+-- ---- the body of an element
+
+end_is : (n at end : ℕ) (r : Result (Option ℕ) FieldFault) → end_by n at r ≡ Ok end → (size : ℕ) × (r ≡ Ok (Some size)) × (at + size ≡ end)
+end_is n at end (Ok (Some size)) e = (size, refl, cc)
+end_is n at end (Ok None) e = absurd cc
+end_is n at end (Err f) e = absurd cc
+
+size_by : (t : Bool) (size n : ℕ) (r : Result (List ℕ) FieldFault) → cond t (Ok None) (some_size size r) ≡ Ok (Some n) → t ≡ false
+size_by true size n r e = absurd cc
+size_by false size n r e = refl
+
+size_stays : (s : FieldSpec) (count size : ℕ) (b x : List ℕ) → size_at s count b ≡ Ok (Some size) → size_at s count (b ++ x) ≡ Ok (Some size)
+size_stays s count size b x is =
+    let n = body_size s.coding count in
+    let r = λ (l : List ℕ). body_of s count (take n l) in
+    let long = size_by (ltb (length b) n) n size (r b) is in
+    let room : n ≤ length b = ltb-false (length b) n long in
+    cond-false (ltb (length (b ++ x)) n) (Ok None) (some_size n (r (b ++ x))) (le-ltb (length (b ++ x)) n (omega (arith, length-append b x)))
+    ∙ ap (λ (l : List ℕ). some_size n (body_of s count l)) (take-append-le n b x room)
+    ∙ sym (cond-false (ltb (length b) n) (Ok None) (some_size n (r b)) long) ∙ is
+
+-- behind a good body, reading goes on at the next element
+pub body_goes_on : (rows : List (Option FieldSpec)) (s : FieldSpec) (ns : List ℕ) (n count at end : ℕ) (b : List ℕ) → row_at rows n ≡ Some s → body_end s n count at b ≡ Ok end → at ≤ length b
+    → (x : List ℕ) → end_of_rest rows n count ns at (b ++ x) ≡ end_of_elements rows ns end (b ++ x)
+body_goes_on rows s ns n count at end b row read within = λ x.
+    let size = end_is n at end (size_at s count (drop at b)) read in
+    let place : drop at (b ++ x) ≡ drop at b ++ x = drop-append-le at b x within in
+    let stays : body_end s n count at (b ++ x) ≡ Ok end = ap (λ (l : List ℕ). end_by n at (size_at s count l)) place ∙ ap (end_by n at) (size_stays s count size.0 (drop at b) x size.1) ∙ ap Ok size.2 in
+    ap (λ o. body_end_under o n count at (b ++ x) >>= λ end. end_of_elements rows ns end (b ++ x)) row
+    ∙ ap (λ r. r >>= λ end. end_of_elements rows ns end (b ++ x)) stays
+
+pub body_ends : (rows : List (Option FieldSpec)) (s : FieldSpec) (ns : List ℕ) (n count at : ℕ) (b : List ℕ) (e : UnpackFault) → row_at rows n ≡ Some s → body_end s n count at b ≡ Err e → end_of_rest rows n count ns at b ≡ Err e
+body_ends rows s ns n count at b e row bad =
+    ap (λ o. body_end_under o n count at b >>= λ end. end_of_elements rows ns end b) row ∙ ap (λ r. r >>= λ end. end_of_elements rows ns end b) bad
+
+pub no_row_body : (rows : List (Option FieldSpec)) (ns : List ℕ) (n count at : ℕ) (b : List ℕ) → row_at rows n ≡ None → end_of_rest rows n count ns at b ≡ halt n at (UnknownElement n)
+no_row_body rows ns n count at b none = ap (λ o. body_end_under o n count at b >>= λ end. end_of_elements rows ns end b) none
+
+-- ---- from one stage to the next
+
+pub steps_then : (t : Layout) (from to : Stage) (rest : Numbers) (end : ℕ) (b : List ℕ) (r : Result ℕ UnpackFault) → Steps t from b rest to (Ok end) → (after : Stage) → Resumes t (stages.Elements rest end) b after r → Resumes t from b after r
+steps_then t from to rest end b r one after others = record { read = others.read; goes_on = λ x. one.0 x ∙ others.goes_on x; within = others.within }
+
+-- a step that begins where another stage goes on alike
+pub step_from : (t : Layout) (from mid to : Stage) (rest : Numbers) (b : List ℕ) (r : Result ℕ UnpackFault) → GoesOn t from mid b → Steps t mid b rest to r → Steps t from b rest to r
+step_from t from mid to rest b (Ok end) one others = (λ x. one x ∙ others.0 x, others.1)
+step_from t from mid to rest b (Err e) one others = record { read = others.read; goes_on = λ x. one x ∙ others.goes_on x; within = others.within }
+
+pub resumes_then : (t : Layout) (from mid to : Stage) (b : List ℕ) (r : Result ℕ UnpackFault) → GoesOn t from mid b → Resumes t mid b to r → Resumes t from b to r
+resumes_then t from mid to b r one rest = record { read = rest.read; goes_on = λ x. one x ∙ rest.goes_on x; within = rest.within }
+
+-- behind a good type
+abbrev made : ℕ → Values → Contents
+made mti es = record { mti = mti; elements = es }
+
+end_made : (mti : ℕ) (r : Result (Values × ℕ) UnpackFault) → end_of (r >>= λ read. whole (made mti read.0) read.1) ≡ end_of r
+end_made mti (Ok x) = refl
+end_made mti (Err e) = refl
+
+end_words : (mti : ℕ) (r : Result (ℕ × ℕ × ℕ) UnpackFault) (f : ℕ × ℕ × ℕ → Result (Values × ℕ) UnpackFault) → end_of (r >>= λ w. f w >>= λ read. whole (made mti read.0) read.1) ≡ r >>= λ w. end_of (f w)
+end_words mti (Ok w) f = end_made mti (f w)
+end_words mti (Err e) f = refl
+
+abbrev behind_type : Layout → List ℕ → ℕ → Result (Contents × ℕ) UnpackFault
+behind_type t b mti = words_at t (mti_size t.mti) (drop (mti_size t.mti) b) >>= λ w. elements_at t.rows (numbers_in w.0 w.1) (mti_size t.mti + w.2) (drop (mti_size t.mti + w.2) b) >>= λ read. whole (made mti read.0) read.1
+
+message_is : (t : Layout) (b : List ℕ) → message_at t b ≡ type_at t b >>= behind_type t b
+unfolding message_at
+message_is t b = refl
+
+pub type_goes_on : (t : Layout) (b : List ℕ) (mti : ℕ) → type_at t b ≡ Ok mti → GoesOn t stages.Type stages.Primary b
+type_goes_on t b mti read = λ x.
+    let stays : type_at t (b ++ x) ≡ Ok mti = stays_ok (type_at t b) (type_at t (b ++ x)) mti read (type_stays t b x) in
+    let elements : ℕ × ℕ × ℕ → Result (Values × ℕ) UnpackFault = λ w. elements_at t.rows (numbers_in w.0 w.1) (mti_size t.mti + w.2) (drop (mti_size t.mti + w.2) (b ++ x)) in
+    ap end_of (message_is t (b ++ x) ∙ ap (λ r. r >>= behind_type t (b ++ x)) stays)
+    ∙ end_words mti (words_at t (mti_size t.mti) (drop (mti_size t.mti) (b ++ x))) elements
+
+pub type_ends : (t : Layout) (b : List ℕ) (e : UnpackFault) → type_at t b ≡ Err e → end_of (message_at t b) ≡ Err e
+type_ends t b e read = ap end_of (message_is t b ∙ ap (λ r. r >>= behind_type t b) read)
+
+-- behind a good primary bitmap
+primary_again : (t : Layout) (b x : List ℕ) (first : ℕ) → mti_size t.mti ≤ length b → primary_at t (mti_size t.mti) (drop (mti_size t.mti) b) ≡ Ok first
+    → words_at t (mti_size t.mti) (drop (mti_size t.mti) (b ++ x)) ≡ words_by t (mti_size t.mti) (drop (mti_size t.mti) (b ++ x)) first
+primary_again t b x first within read =
+    let at = mti_size t.mti in
+    let stays : primary_at t at (drop at (b ++ x)) ≡ Ok first = ap (primary_at t at) (drop-append-le at b x within) ∙ stays_ok (primary_at t at (drop at b)) (primary_at t at (drop at b ++ x)) first read (primary_stays t at (drop at b) x) in
+    ap (λ r. r >>= words_by t at (drop at (b ++ x))) stays
+
+abbrev words : ℕ → ℕ → ℕ → Result (ℕ × ℕ × ℕ) UnpackFault
+words first second size = Ok (first, second, size)
+
+pub one_map_goes_on : (t : Layout) (b : List ℕ) (first : ℕ) (numbers : List ℕ) → mti_size t.mti ≤ length b → primary_at t (mti_size t.mti) (drop (mti_size t.mti) b) ≡ Ok first → ltb first top ≡ true → numbers ≡ numbers_in first 0
+    → (x : List ℕ) → ends_from t stages.Primary (b ++ x) ≡ end_of_elements t.rows numbers (mti_size t.mti + map_size t.bitmap) (b ++ x)
+one_map_goes_on t b first numbers within read low is = λ x.
+    let size = map_size t.bitmap in
+    ap (λ r. r >>= behind_maps t (b ++ x)) (primary_again t b x first within read ∙ cond-true (ltb first top) (words first 0 size) (second_words t first (b ++ x)) low)
+    ∙ ap (λ (l : List ℕ). end_of_elements t.rows l (mti_size t.mti + size) (b ++ x)) (sym is)
+
+pub two_maps_go_on : (t : Layout) (b : List ℕ) (first : ℕ) → mti_size t.mti ≤ length b → primary_at t (mti_size t.mti) (drop (mti_size t.mti) b) ≡ Ok first → ltb first top ≡ false → GoesOn t stages.Primary (stages.Secondary first) b
+two_maps_go_on t b first within read high = λ x.
+    ap (λ r. r >>= behind_maps t (b ++ x)) (primary_again t b x first within read ∙ cond-false (ltb first top) (words first 0 (map_size t.bitmap)) (second_words t first (b ++ x)) high)
+
+pub primary_ends : (t : Layout) (b : List ℕ) (e : UnpackFault) → primary_at t (mti_size t.mti) (drop (mti_size t.mti) b) ≡ Err e → ends_from t stages.Primary b ≡ Err e
+primary_ends t b e read = ap (λ r. r >>= words_by t (mti_size t.mti) (drop (mti_size t.mti) b) >>= behind_maps t b) read
+
+-- behind a good secondary bitmap
+abbrev second_at : Layout → List ℕ → Result ℕ UnpackFault
+second_at t b = secondary_at t (mti_size t.mti + map_size t.bitmap) (drop (map_size t.bitmap) (drop (mti_size t.mti) b))
+
+pub second_goes_on : (t : Layout) (b : List ℕ) (first second : ℕ) (numbers : List ℕ) → mti_size t.mti + map_size t.bitmap ≤ length b → second_at t b ≡ Ok second → numbers ≡ numbers_in first second
+    → (x : List ℕ) → ends_from t (stages.Secondary first) (b ++ x) ≡ end_of_elements t.rows numbers (mti_size t.mti + (map_size t.bitmap + map_size t.bitmap)) (b ++ x)
+second_goes_on t b first second numbers within read is = λ x.
+    let at = mti_size t.mti in
+    let size = map_size t.bitmap in
+    let inner : List ℕ = drop size (drop at b) in
+    let place : drop size (drop at (b ++ x)) ≡ inner ++ x = drop-drop size at (b ++ x) ∙ drop-append-le (at + size) b x within ∙ ap (λ (l : List ℕ). l ++ x) (sym (drop-drop size at b)) in
+    let stays : second_at t (b ++ x) ≡ Ok second = ap (secondary_at t (at + size)) place ∙ stays_ok (second_at t b) (secondary_at t (at + size) (inner ++ x)) second read (secondary_stays t (at + size) inner x) in
+    ap (λ r. r >>= (λ second. words first second (size + size)) >>= behind_maps t (b ++ x)) stays
+    ∙ ap (λ (l : List ℕ). end_of_elements t.rows l (at + (size + size)) (b ++ x)) (sym is)
+
+pub second_ends : (t : Layout) (b : List ℕ) (first : ℕ) (e : UnpackFault) → second_at t b ≡ Err e → ends_from t (stages.Secondary first) b ≡ Err e
+second_ends t b first e read = ap (λ r. r >>= (λ second. words first second (map_size t.bitmap + map_size t.bitmap)) >>= behind_maps t b) read
+
+-- ---- what is resumed
+
+pub at_start : (t : Layout) (b : List ℕ) → IsResumed t stages.Type b
+at_start t b = (tt, λ x. refl)
+
+-- more bytes reach up to the stage too
+pub within_more : (t : Layout) (stage : Stage) (b x : List ℕ) → IsWithin t stage b → IsWithin t stage (b ++ x)
+within_more t stages.Type b x h = tt
+within_more t stages.Primary b x h = omega (arith, length-append b x)
+within_more t (stages.Secondary first) b x h = omega (arith, length-append b x)
+within_more t (stages.Elements rest at) b x h = omega (arith, length-append b x)
+within_more t (stages.Body n count rest at) b x h = (omega (arith, h.0, length-append b x), h.1)
+
+pub resumed_more : (t : Layout) (from to : Stage) (old piece : List ℕ) (r : Result ℕ UnpackFault) → IsResumed t from old → Resumes t from (old ++ piece) to r → IsResumed t to (old ++ piece)
+resumed_more t from to old piece r so_far found = (
+  found.within,
+  λ x.
+      let group : (old ++ piece) ++ x ≡ old ++ (piece ++ x) = append_assoc old piece x in
+      ap (ends_from t stages.Type) group ∙ so_far.1 (piece ++ x) ∙ ap (ends_from t from) (sym group) ∙ found.goes_on x,
+)
+
+-- what the whole gives
+pub resumed_read : (t : Layout) (from to : Stage) (old piece : List ℕ) (r : Result ℕ UnpackFault) → IsResumed t from old → Resumes t from (old ++ piece) to r → end_of (message_at t (old ++ piece)) ≡ r
+resumed_read t from to old piece r so_far found =
+    let nothing : (old ++ piece) ++ [] ≡ old ++ piece = append-nil (old ++ piece) in
+    so_far.1 piece ∙ ap (ends_from t from) (sym nothing) ∙ found.goes_on [] ∙ ap (ends_from t to) nothing ∙ found.read
+
+fault_of : (r : Result (Contents × ℕ) UnpackFault) (e : UnpackFault) → end_of r ≡ Err e → r ≡ Err e
+fault_of (Ok x) e is = absurd cc
+fault_of (Err f) e is = let same : f ≡ e = cc in ap Err same
+
+-- a fault of judging is that of reading
+pub resumed_fault : (t : Layout) (b : List ℕ) (e : UnpackFault) → end_of (message_at t b) ≡ Err e → message_at t b ≡ Err e
+resumed_fault t b e is = fault_of (message_at t b) e is
+
+pub fault_no_memory : (t : Layout) (b : List ℕ) (e : UnpackFault) → message_at t b ≡ Err e → e.cause ≢ causes.Memory
+fault_no_memory t b e is = subst NoMemory is (message t b)

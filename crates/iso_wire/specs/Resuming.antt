@@ -1,0 +1,88 @@
+-- Reading on from a piece that isn't whole yet: what stood before it isn't read again.
+use Rattle.std.specs.Prelude.{◌≡◌, ℕ, ◌+◌, ◌≤◌, List, ◌++◌, length, drop, Option, Some, None, Result, Ok, Err}
+use Rattle.iso_parts.specs.declared.fault.FieldFault.{FieldFault}
+use Rattle.iso_parts.specs.declared.spec.FieldSpec.{FieldSpec}
+use Rattle.iso_parts.specs.Bits.{map_size}
+use Rattle.iso_parts.specs.Reading.{size_at}
+use Rattle.iso_wire.specs.declared.fault.UnpackFault.{UnpackFault}
+use Rattle.iso_wire.specs.declared.fault.UnpackCause.TheVariants.{Short, UnknownElement, Field}
+use Rattle.iso_wire.specs.declared.judging.Stage.{Stage}
+use Rattle.iso_wire.specs.declared.judging.Stage.TheVariants as stages
+use Rattle.iso_wire.specs.declared.numbers.Numbers.{Numbers}
+use Rattle.iso_table.specs.Layout.{Layout, row_at}
+use Rattle.iso_wire.specs.Numbers.{numbers_in}
+use Rattle.iso_wire.specs.Reading.{◌>>=◌, halt, mti_size, secondary_at, words_at, elements_at, message_at}
+use Rattle.iso_wire.specs.Walk.{left}
+
+-- where what was read ends, without what it was
+abbrev pub end_of : {A : Type 0} → Result (A × ℕ) UnpackFault → Result ℕ UnpackFault
+end_of (Ok x) = Ok x.1
+end_of (Err e) = Err e
+
+-- the end of the elements with the numbers, the first of which begins at an offset
+abbrev pub end_of_elements : List (Option FieldSpec) → List ℕ → ℕ → List ℕ → Result ℕ UnpackFault
+end_of_elements rows ns at b = end_of (elements_at rows ns at (drop at b))
+
+-- where the body of element n ends, which begins at an offset
+abbrev pub end_by : ℕ → ℕ → Result (Option ℕ) FieldFault → Result ℕ UnpackFault
+end_by n at (Ok (Some size)) = Ok (at + size)
+end_by n at (Ok None) = halt n at Short
+end_by n at (Err e) = halt n at (Field e)
+
+abbrev pub body_end : FieldSpec → ℕ → ℕ → ℕ → List ℕ → Result ℕ UnpackFault
+body_end s n count at b = end_by n at (size_at s count (drop at b))
+
+abbrev pub body_end_under : Option FieldSpec → ℕ → ℕ → ℕ → List ℕ → Result ℕ UnpackFault
+body_end_under None n count at b = halt n at (UnknownElement n)
+body_end_under (Some s) n count at b = body_end s n count at b
+
+-- the end of the elements behind the body of element n, of so many characters, and of the body itself
+abbrev pub end_of_rest : List (Option FieldSpec) → ℕ → ℕ → List ℕ → ℕ → List ℕ → Result ℕ UnpackFault
+end_of_rest rows n count ns at b = do
+  end ← body_end_under (row_at rows n) n count at b
+  end_of_elements rows ns end b
+
+-- the end of the elements behind the bitmaps, whose words and size are given
+abbrev pub behind_maps : Layout → List ℕ → ℕ × ℕ × ℕ → Result ℕ UnpackFault
+behind_maps t b w = end_of_elements t.rows (numbers_in w.0 w.1) (mti_size t.mti + w.2) b
+
+-- the words, where the primary one was read
+abbrev pub second_words : Layout → ℕ → List ℕ → Result (ℕ × ℕ × ℕ) UnpackFault
+second_words t first b = do
+  second ← secondary_at t (mti_size t.mti + map_size t.bitmap) (drop (map_size t.bitmap) (drop (mti_size t.mti) b))
+  Ok (first, second, map_size t.bitmap + map_size t.bitmap)
+
+-- where the message ends that the bytes begin with, read on from a stage
+abbrev pub ends_from : Layout → Stage → List ℕ → Result ℕ UnpackFault
+ends_from t stages.Type b = end_of (message_at t b)
+ends_from t stages.Primary b = words_at t (mti_size t.mti) (drop (mti_size t.mti) b) >>= behind_maps t b
+ends_from t (stages.Secondary first) b = second_words t first b >>= behind_maps t b
+ends_from t (stages.Elements rest at) b = end_of_elements t.rows (left rest) at b
+ends_from t (stages.Body n count rest at) b = end_of_rest t.rows n count (left rest) at b
+
+-- the bytes reach up to the stage's piece, and the count of a body is one that its row takes
+abbrev pub IsWithin : Layout → Stage → List ℕ → Type 0
+IsWithin t stages.Type b = Unit {0}
+IsWithin t stages.Primary b = mti_size t.mti ≤ length b
+IsWithin t (stages.Secondary first) b = mti_size t.mti + map_size t.bitmap ≤ length b
+IsWithin t (stages.Elements rest at) b = at ≤ length b
+IsWithin t (stages.Body n count rest at) b = (at ≤ length b) × ((s : FieldSpec) → row_at t.rows n ≡ Some s → count ≤ s.max)
+
+-- whatever follows the bytes, reading goes on alike from both stages
+abbrev pub GoesOn : Layout → Stage → Stage → List ℕ → Type 0
+GoesOn t from to b = (x : List ℕ) → ends_from t from (b ++ x) ≡ ends_from t to (b ++ x)
+
+-- judging came from one stage to another one, and there the bytes end, the message ends, or a piece is bad
+pub record Resumes (t : Layout) (from : Stage) (b : List ℕ) (to : Stage) (answer : Result ℕ UnpackFault) : Type 0 where
+  pub read : ends_from t to b ≡ answer
+  pub goes_on : GoesOn t from to b
+  pub within : IsWithin t to b
+
+-- judging came behind a part, where the other elements go on; or it stopped within the part
+abbrev pub Steps : Layout → Stage → List ℕ → Numbers → Stage → Result ℕ UnpackFault → Type 0
+Steps t from b rest to (Ok end) = GoesOn t from (stages.Elements rest end) b × (end ≤ length b)
+Steps t from b rest to (Err e) = Resumes t from b to (Err e)
+
+-- reading the whole is reading on from the stage, whatever follows the bytes
+abbrev pub IsResumed : Layout → Stage → List ℕ → Type 0
+IsResumed t stage b = IsWithin t stage b × GoesOn t stages.Type stage b

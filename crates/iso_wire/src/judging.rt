@@ -1,0 +1,232 @@
+//! Judging a message without building it: from a piece on, and without memory.
+
+ghost use Rattle.std.specs.Prelude.{◌≡◌, ◌≤◌, ◌+◌, ◌∷◌, ◌<◌, ◌^◌, drop, length, IfOk, Some};
+ghost use Rattle.iso_parts.specs.Bits.{map_size};
+ghost use Rattle.iso_parts.specs.Row.{IsGood};
+ghost use Rattle.iso_table.specs.Layout.{AreGood, row_at};
+ghost use Rattle.iso_wire.specs.Reading.{mti_size};
+ghost use Rattle.iso_wire.specs.Resuming.{IsWithin, Resumes, Steps, body_end};
+ghost use Rattle.iso_wire.specs.Walk.{left};
+
+use crate::bitmaps::{primary_of, secondary_of};
+use crate::fault::{UnpackCause, UnpackFault};
+use crate::numbers::Numbers;
+use crate::unpacking::{mti_size, type_of};
+use iso_parts::{FieldSpec, judge_body, judge_length};
+use iso_table::Table;
+
+/// A word from here on has its first bit set.
+const TOP: u64 = 0x8000_0000_0000_0000;
+
+/// The piece from which judging goes on, since it isn't whole yet.
+#[derive(Clone, Copy, Debug)]
+pub enum Stage {
+    /// The message type.
+    Type,
+    /// The primary bitmap.
+    Primary,
+    /// The secondary bitmap, behind a primary one with this word.
+    Secondary(u64),
+    /// The length of the first of these elements, which begins at the offset.
+    Elements { rest: Numbers, at: usize },
+    /// The body of element `n`, of `count` characters, which begins at the offset; the others follow.
+    Body {
+        n: u8,
+        count: u16,
+        rest: Numbers,
+        at: usize,
+    },
+}
+
+/// Where the body of `count` characters ends, which begins at `at`.
+fn body_end(
+    row: &FieldSpec,
+    n: u8,
+    count: u16,
+    at: usize,
+    bytes: &[u8],
+) -> Result<usize, UnpackFault>
+    requires good { IsGood row.now }
+    requires few { count ≤ row.now.max }
+    requires within { at ≤ length bytes.now }
+    ensures exact { result ≡ body_end row.now n count at bytes.now }
+    ensures room { IfOk result (λ end. end ≤ length bytes.now) }
+{
+    let (_, body) = bytes.split_at(at);
+    match judge_body(row, count, body) {
+        Ok(Some(size)) => Ok(at + size),
+        Ok(None) => Err(UnpackFault::stop(n, at, UnpackCause::Short)),
+        Err(fault) => Err(UnpackFault::stop(n, at, UnpackCause::Field(fault))),
+    }
+}
+
+/// Judges the body of element `n`, of `count` characters, which begins at `at`: the stage behind it and where it ends,
+/// or the fault.
+fn judge_value(
+    table: &Table,
+    n: u8,
+    count: u16,
+    rest: Numbers,
+    at: usize,
+    bytes: &[u8],
+) -> (Stage, Result<usize, UnpackFault>)
+    requires { IsWithin table.now (Stage.Body n count rest at) bytes.now }
+    ensures { Steps table.now (Stage.Body n count rest at) bytes.now rest result.0 result.1 }
+{
+    let here = Stage::Body { n, count, rest, at };
+    let Some(row) = table.row(n) else {
+        let fault = UnpackFault::stop(n, at, UnpackCause::UnknownElement(n));
+        return (here, Err(fault));
+    };
+    match body_end(row, n, count, at, bytes) {
+        Ok(end) => (Stage::Elements { rest, at: end }, Ok(end)),
+        Err(fault) => (here, Err(fault)),
+    }
+}
+
+/// Judges the part of element `n`, the first of `from`, which begins at `at`; `rest` are the others.
+fn judge_part(
+    table: &Table,
+    n: u8,
+    from: Numbers,
+    rest: Numbers,
+    at: usize,
+    bytes: &[u8],
+) -> (Stage, Result<usize, UnpackFault>)
+    requires first { left from ≡ n ∷ left rest }
+    requires within { at ≤ length bytes.now }
+    ensures { Steps table.now (Stage.Elements from at) bytes.now rest result.0 result.1 }
+{
+    iso_parts::laws::parts();
+    let here = Stage::Elements { rest: from, at };
+    let Some(row) = table.row(n) else {
+        let fault = UnpackFault::stop(n, at, UnpackCause::UnknownElement(n));
+        return (here, Err(fault));
+    };
+    let (_, part) = bytes.split_at(at);
+    match judge_length(row, part) {
+        Ok(Some(count)) => {
+            let body = at + row.length.prefix_size();
+            judge_value(table, n, count, rest, body, bytes)
+        }
+        Ok(None) => (here, Err(UnpackFault::stop(n, at, UnpackCause::Short))),
+        Err(fault) => {
+            let fault = UnpackFault::stop(n, at, UnpackCause::Field(fault));
+            (here, Err(fault))
+        }
+    }
+}
+
+/// Judges the elements with these numbers, whose parts begin at `start`.
+fn judge_elements(
+    table: &Table,
+    numbers: Numbers,
+    start: usize,
+    bytes: &[u8],
+) -> (Stage, Result<usize, UnpackFault>)
+    requires { start ≤ length bytes.now }
+    ensures { Resumes table.now (Stage.Elements numbers start) bytes.now result.0 result.1 }
+{
+    let mut walk = numbers;
+    let mut rest = numbers;
+    let mut at = start;
+    while let Some(n) = walk.next() {
+        let (stage, read) = judge_part(table, n, rest, walk, at, bytes);
+        match read {
+            Ok(end) => {
+                at = end;
+                rest = walk;
+            }
+            Err(fault) => return (stage, Err(fault)),
+        }
+    }
+    (Stage::Elements { rest, at }, Ok(at))
+}
+
+/// Judges a message from the body of element `n` on, of `count` characters, which begins at `at`.
+fn judge_rest(
+    table: &Table,
+    n: u8,
+    count: u16,
+    rest: Numbers,
+    at: usize,
+    bytes: &[u8],
+) -> (Stage, Result<usize, UnpackFault>)
+    requires { IsWithin table.now (Stage.Body n count rest at) bytes.now }
+    ensures { Resumes table.now (Stage.Body n count rest at) bytes.now result.0 result.1 }
+{
+    let (stage, read) = judge_value(table, n, count, rest, at, bytes);
+    match read {
+        Ok(end) => judge_elements(table, rest, end, bytes),
+        Err(fault) => (stage, Err(fault)),
+    }
+}
+
+/// Judges a message from its secondary bitmap on.
+fn judge_secondary(table: &Table, first: u64, bytes: &[u8]) -> (Stage, Result<usize, UnpackFault>)
+    requires { mti_size table.now.mti + map_size table.now.bitmap ≤ length bytes.now }
+    ensures { Resumes table.now (Stage.Secondary first) bytes.now result.0 result.1 }
+{
+    let start = mti_size(table.mti());
+    let size = table.bitmap().size();
+    let (_, maps) = bytes.split_at(start);
+    let (_, rest) = maps.split_at(size);
+    match secondary_of(table, start + size, rest) {
+        Ok(second) => judge_elements(
+            table,
+            Numbers::of(first, second),
+            start + (size + size),
+            bytes,
+        ),
+        Err(fault) => (Stage::Secondary(first), Err(fault)),
+    }
+}
+
+/// Judges a message from its primary bitmap on.
+fn judge_primary(table: &Table, bytes: &[u8]) -> (Stage, Result<usize, UnpackFault>)
+    requires { mti_size table.now.mti ≤ length bytes.now }
+    ensures { Resumes table.now Stage.Primary bytes.now result.0 result.1 }
+{
+    let start = mti_size(table.mti());
+    let (_, maps) = bytes.split_at(start);
+    match primary_of(table, start, maps) {
+        Ok(first) => {
+            if first < TOP {
+                judge_elements(
+                    table,
+                    Numbers::of(first, 0),
+                    start + table.bitmap().size(),
+                    bytes,
+                )
+            } else {
+                judge_secondary(table, first, bytes)
+            }
+        }
+        Err(fault) => (Stage::Primary, Err(fault)),
+    }
+}
+
+/// Judges a message from its type on.
+fn judge_type(table: &Table, bytes: &[u8]) -> (Stage, Result<usize, UnpackFault>)
+    ensures { Resumes table.now Stage.Type bytes.now result.0 result.1 }
+{
+    match type_of(table, bytes) {
+        Ok(_) => judge_primary(table, bytes),
+        Err(fault) => (Stage::Type, Err(fault)),
+    }
+}
+
+/// Judges a message from a stage on: the stage of the piece that is bad or isn't whole, and where the message ends,
+/// or the fault. Takes no memory.
+pub fn judge_from(table: &Table, stage: Stage, bytes: &[u8]) -> (Stage, Result<usize, UnpackFault>)
+    requires { IsWithin table.now stage bytes.now }
+    ensures resumes { Resumes table.now stage bytes.now result.0 result.1 }
+{
+    match stage {
+        Stage::Type => judge_type(table, bytes),
+        Stage::Primary => judge_primary(table, bytes),
+        Stage::Secondary(first) => judge_secondary(table, first, bytes),
+        Stage::Elements { rest, at } => judge_elements(table, rest, at, bytes),
+        Stage::Body { n, count, rest, at } => judge_rest(table, n, count, rest, at, bytes),
+    }
+}
