@@ -20,3 +20,4 @@ pub mod FrameHeaders
 pub mod FrameSplits
 pub mod NoMemory
 pub mod Stages
+pub mod Feeds

@@ -12,5 +12,6 @@ pub mod Reading
 pub mod Frame
 pub mod ReadingLaws
 pub mod Resuming
+pub mod Feeding
 pub mod FaultNumbers
 pub mod Masking

@@ -28,7 +28,10 @@ pub enum Stage {
     /// The secondary bitmap, behind a primary one with this word.
     Secondary(u64),
     /// The length of the first of these elements, which begins at the offset.
-    Elements { rest: Numbers, at: usize },
+    Elements {
+        rest: Numbers,
+        at: usize,
+    },
     /// The body of element `n`, of `count` characters, which begins at the offset; the others follow.
     Body {
         n: u8,
@@ -220,7 +223,7 @@ fn judge_type(table: &Table, bytes: &[u8]) -> (Stage, Result<usize, UnpackFault>
 /// or the fault. Takes no memory.
 pub fn judge_from(table: &Table, stage: Stage, bytes: &[u8]) -> (Stage, Result<usize, UnpackFault>)
     requires { IsWithin table.now stage bytes.now }
-    ensures resumes { Resumes table.now stage bytes.now result.0 result.1 }
+    ensures { Resumes table.now stage bytes.now result.0 result.1 }
 {
     match stage {
         Stage::Type => judge_type(table, bytes),

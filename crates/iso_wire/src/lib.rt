@@ -16,6 +16,7 @@ mod numbers;
 mod packing;
 #[cfg(test)]
 mod tests;
+mod unpacker;
 mod unpacking;
 
 pub use decimal::{digits_of, write_decimal};
@@ -25,4 +26,5 @@ pub use header::Header;
 pub use masking::{Shown, masked};
 pub use message::Message;
 pub use packing::pack;
+pub use unpacker::{Fed, Unpacker};
 pub use unpacking::unpack;

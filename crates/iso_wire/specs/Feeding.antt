@@ -1,0 +1,70 @@
+-- A message that comes in pieces: what was taken of it, and what is answered to each further piece.
+use Rattle.std.specs.Prelude.{◌≡◌, ◌≢◌, ℕ, ◌+◌, ◌≤◌, List, [], ◌++◌, length, Option, Some, None, Result, Ok, Err}
+use Rattle.iso_wire.specs.declared.fault.UnpackFault.{UnpackFault}
+use Rattle.iso_wire.specs.declared.fault.UnpackCause.TheVariants.{Short, Memory}
+use Rattle.iso_wire.specs.declared.unpacker.Fed.{Fed}
+use Rattle.iso_wire.specs.declared.unpacker.Fed.TheVariants as fed
+use Rattle.iso_wire.specs.Contents.{Contents}
+use Rattle.iso_wire.specs.Faults.{out_of_memory}
+use Rattle.iso_wire.specs.Reading.{IsFaultOf, message_at, whole}
+use Rattle.iso_wire.specs.ReadingLaws.{IsShort}
+use Rattle.iso_wire.specs.Spelling.{AreBytes, BeginsWith, BeginsWithNone}
+use Rattle.iso_table.specs.Layout.{Layout}
+
+-- the table, the bytes taken of the current message, and the fault that stopped it
+pub record Feeding : Type 0 where
+  pub table : Layout
+  pub taken : List ℕ
+  pub stopped : Option UnpackFault
+
+-- what stands between two calls: a fault other than want of memory, and then nothing is taken; or a message's unfinished front
+abbrev pub IsReady : Layout → List ℕ → Option UnpackFault → Type 0
+IsReady t taken (Some e) = (taken ≡ []) × (e.cause ≢ Memory) × (e.cause ≢ Short)
+IsReady t taken None = IsShort (message_at t taken)
+
+-- ---- what is answered to a piece, behind the bytes taken before it
+
+-- the answer is what reading all the bytes gives, the message's end seen from the piece; unless memory ran out
+abbrev pub Feeds : ℕ → Result Fed UnpackFault → Result (Contents × ℕ) UnpackFault → Type 0
+Feeds before (Ok (fed.Done message used)) read = read ≡ whole message (before + used)
+Feeds before (Ok fed.More) read = IsShort read
+Feeds before (Err e) read = IsFaultOf e read × (e.cause ≢ Short)
+
+-- the bytes that are taken afterwards
+abbrev pub Keeps : List ℕ → List ℕ → List ℕ → Result Fed UnpackFault → Type 0
+Keeps old new piece (Ok (fed.Done message used)) = (new ≡ []) × (used ≤ length piece)
+Keeps old new piece (Ok fed.More) = new ≡ old ++ piece
+Keeps old new piece (Err e) = (e.cause ≡ Memory → new ≡ old) × (e.cause ≢ Memory → new ≡ [])
+
+-- a message and no fault was read
+abbrev pub IsRead : {A : Type 0} → Result A UnpackFault → Type 0
+IsRead (Ok x) = Unit {0}
+IsRead (Err e) = ⊥
+
+-- a message that was built is the one that reading gives, its end seen from behind the bytes taken before it; or memory ran out
+abbrev pub Builds : ℕ → Result (Contents × ℕ) UnpackFault → Result (Contents × ℕ) UnpackFault → Type 0
+Builds before (Ok x) read = read ≡ whole x.0 (before + x.1)
+Builds before (Err e) read = e ≡ out_of_memory
+
+-- and they are ready for a further piece
+abbrev pub IsReadyAfter : Layout → List ℕ → Result Fed UnpackFault → Type 0
+IsReadyAfter t new (Ok fed) = IsShort (message_at t new)
+IsReadyAfter t new (Err e) = (e.cause ≡ Memory → IsShort (message_at t new)) × (e.cause ≢ Memory → (new ≡ []) × (e.cause ≢ Short))
+
+-- how it stands afterwards
+abbrev pub Moves : Feeding → Feeding → List ℕ → Result Fed UnpackFault → Type 0
+Moves old new piece (Ok (fed.Done message used)) = new ≡ record old { taken = [] }
+Moves old new piece (Ok fed.More) = new ≡ record old { taken = old.taken ++ piece }
+Moves old new piece (Err e) = (e.cause ≡ Memory → new ≡ old) × (e.cause ≢ Memory → new ≡ record old { taken = []; stopped = Some e })
+
+-- while it is stopped the fault is answered again, and nothing changes
+abbrev pub StaysStopped : Feeding → Feeding → Result Fed UnpackFault → Type 0
+StaysStopped old new result = (e : UnpackFault) → old.stopped ≡ Some e → (result ≡ Err e) × (new ≡ old)
+
+-- ---- what it means for spellings
+
+-- what is done is a spelling at the front of all the bytes, and behind the bytes taken before it uses only bytes of the piece
+abbrev pub FoundFed : Layout → ℕ → List ℕ → Result Fed UnpackFault → Type 0
+FoundFed t before b (Ok (fed.Done message used)) = BeginsWith t message (before + used) b
+FoundFed t before b (Ok fed.More) = BeginsWithNone t b
+FoundFed t before b (Err e) = e.cause ≢ Memory → (more : List ℕ) → AreBytes more → BeginsWithNone t (b ++ more)

@@ -1,0 +1,255 @@
+//! Reading a message that comes in pieces.
+
+ghost use Rattle.std.specs.Prelude.{◌≡◌, ◌≢◌, ◌≤◌, ◌-◌, ◌++◌, [], take, length, IfOk, None, Some};
+ghost use Rattle.iso_table.specs.Layout.{AreGood};
+ghost use Rattle.iso_wire.specs.Feeding.{IsRead, Builds, Feeds, Keeps, IsReadyAfter, Moves, StaysStopped, FoundFed};
+ghost use Rattle.iso_wire.specs.Reading.{message_at};
+ghost use Rattle.iso_wire.specs.ReadingLaws.{IsShort};
+ghost use Rattle.iso_wire.specs.Resuming.{IsResumed};
+ghost use Rattle.iso_wire.specs.Spelling.{AreBytes};
+
+use crate::fault::{UnpackCause, UnpackFault};
+use crate::judging::{Stage, judge_from};
+use crate::laws::reads_spellings;
+use crate::message::Message;
+use crate::unpacking::message_of;
+use iso_table::Table;
+use std::alloc::Global;
+use std::marker::Model;
+
+/// What is answered to a piece.
+#[derive(Debug, Drop)]
+pub enum Fed {
+    /// The message isn't whole yet: the whole piece is taken.
+    More,
+    /// The message, and how many bytes of this piece it took.
+    Done { message: Message, used: usize },
+}
+
+/// Reads messages that come in pieces of any size. No byte is judged twice: it keeps the bytes of the message so far,
+/// and which piece of it isn't whole.
+#[derive(Debug, Drop)]
+pub struct Unpacker<'t> {
+    table: &'t Table,
+    taken: Vec<u8>,
+    stage: Stage,
+    stopped: Option<UnpackFault>,
+}
+
+impl<'t> Model for Unpacker<'t> {
+    ghost use Rattle.iso_wire.specs.Feeding.{Feeding, IsReady};
+
+    ghost Value = { Feeding };
+
+    ghost view = { λ u. record { table = u.table.now; taken = u.taken.items; stopped = u.stopped } };
+
+    ghost use Rattle.iso_wire.specs.Resuming.{IsResumed};
+
+    ghost invariant = { λ u. IsReady u.table.now u.taken.items u.stopped × IsResumed u.table.now u.stage u.taken.items };
+}
+
+/// The items of a slice of bytes are bytes, past its end too.
+fn are_bytes(bytes: &[u8])
+    ensures { AreBytes bytes.now }
+{}
+
+/// Builds the message that was judged good, and says how many of its bytes stand behind the first `before`, which were
+/// taken earlier.
+fn build(
+    alloc: Global,
+    table: &Table,
+    before: usize,
+    bytes: &[u8],
+) -> Result<(Message, usize), UnpackFault>
+    requires within { before ≤ length bytes.now }
+    requires short { IsShort (message_at table.now (take before bytes.now)) }
+    requires read { IsRead (message_at table.now bytes.now) }
+    ensures exact { Builds before result (message_at table.now bytes.now) }
+    ensures room { IfOk result (λ x. x.1 ≤ length bytes.now - before) }
+    ensures good { AreGood table.now.rows }
+{
+    reads_spellings();
+    match message_of(alloc, table, bytes) {
+        Ok((message, end)) => Ok((message, end - before)),
+        Err(fault) => Err(fault),
+    }
+}
+
+/// Takes the first piece of a message. It is judged where it lies, and kept only if the message isn't whole.
+fn take_first(
+    alloc: Global,
+    table: &Table,
+    taken: &mut Vec<u8>,
+    piece: &[u8],
+) -> (Stage, Result<Fed, UnpackFault>)
+    requires { taken.old.items ≡ [] }
+    ensures exact { Feeds (length taken.old.items) result.1 (message_at table.now (taken.old.items ++ piece.now)) }
+    ensures kept { Keeps taken.old.items taken.new.items piece.now result.1 }
+    ensures resumed { IsResumed table.now result.0 taken.new.items }
+    ensures good { AreGood table.now.rows }
+{
+    let _version = table.version();
+    let (reached, read) = judge_from(table, Stage::Type, piece);
+    if let Err(fault) = read {
+        if fault.cause != UnpackCause::Short {
+            return (Stage::Type, Err(fault));
+        }
+        if taken.extend_from_slice(piece).is_err() {
+            return (Stage::Type, Err(UnpackFault::memory()));
+        }
+        return (reached, Ok(Fed::More));
+    }
+    match build(alloc, table, 0, piece) {
+        Ok((message, used)) => (Stage::Type, Ok(Fed::Done { message, used })),
+        Err(fault) => (Stage::Type, Err(fault)),
+    }
+}
+
+/// Takes a further piece behind the bytes that were taken before it: they are judged from the stage on.
+fn take_next(
+    alloc: Global,
+    table: &Table,
+    stage: Stage,
+    taken: &mut Vec<u8>,
+    piece: &[u8],
+) -> (Stage, Result<Fed, UnpackFault>)
+    requires short { IsShort (message_at table.now taken.old.items) }
+    requires resumed { IsResumed table.now stage taken.old.items }
+    ensures exact { Feeds (length taken.old.items) result.1 (message_at table.now (taken.old.items ++ piece.now)) }
+    ensures kept { Keeps taken.old.items taken.new.items piece.now result.1 }
+    ensures resumed { IsResumed table.now result.0 taken.new.items }
+    ensures good { AreGood table.now.rows }
+{
+    let _version = table.version();
+    let before = taken.len();
+    if taken.extend_from_slice(piece).is_err() {
+        return (stage, Err(UnpackFault::memory()));
+    }
+    let (reached, read) = judge_from(table, stage, taken);
+    if let Err(fault) = read {
+        if fault.cause == UnpackCause::Short {
+            return (reached, Ok(Fed::More));
+        }
+        taken.clear();
+        return (Stage::Type, Err(fault));
+    }
+    match build(alloc, table, before, taken) {
+        Ok((message, used)) => {
+            taken.clear();
+            (Stage::Type, Ok(Fed::Done { message, used }))
+        }
+        Err(fault) => {
+            taken.truncate(before);
+            (stage, Err(fault))
+        }
+    }
+}
+
+/// What [`take`] does.
+fn take_piece(
+    alloc: Global,
+    table: &Table,
+    stage: Stage,
+    taken: &mut Vec<u8>,
+    piece: &[u8],
+) -> (Stage, Result<Fed, UnpackFault>)
+    requires short { IsShort (message_at table.now taken.old.items) }
+    requires resumed { IsResumed table.now stage taken.old.items }
+    ensures exact { Feeds (length taken.old.items) result.1 (message_at table.now (taken.old.items ++ piece.now)) }
+    ensures kept { Keeps taken.old.items taken.new.items piece.now result.1 }
+    ensures resumed { IsResumed table.now result.0 taken.new.items }
+    ensures good { AreGood table.now.rows }
+{
+    if taken.is_empty() {
+        take_first(alloc, table, taken, piece)
+    } else {
+        take_next(alloc, table, stage, taken, piece)
+    }
+}
+
+/// Takes a piece behind the bytes that were taken before it.
+fn take(
+    alloc: Global,
+    table: &Table,
+    stage: Stage,
+    taken: &mut Vec<u8>,
+    piece: &[u8],
+) -> (Stage, Result<Fed, UnpackFault>)
+    requires short { IsShort (message_at table.now taken.old.items) }
+    requires resumed { IsResumed table.now stage taken.old.items }
+    ensures exact { Feeds (length taken.old.items) result.1 (message_at table.now (taken.old.items ++ piece.now)) }
+    ensures kept { Keeps taken.old.items taken.new.items piece.now result.1 }
+    ensures resumed { IsResumed table.now result.0 taken.new.items }
+    ensures ready { IsReadyAfter table.now taken.new.items result.1 }
+    ensures found { FoundFed table.now (length taken.old.items) (taken.old.items ++ piece.now) result.1 }
+{
+    reads_spellings();
+    are_bytes(taken);
+    take_piece(alloc, table, stage, taken, piece)
+}
+
+impl<'t> Unpacker<'t> {
+    ghost use Rattle.iso_wire.specs.Feeding.{Feeding};
+
+    /// An unpacker at the start of a message. Takes no memory.
+    pub fn new(alloc: Global, table: &'t Table) -> Unpacker<'t>
+        ensures { result ≡ record { table = table.now; taken = []; stopped = None } }
+    {
+        Unpacker {
+            table,
+            taken: Vec::new(alloc),
+            stage: Stage::Type,
+            stopped: None,
+        }
+    }
+
+    /// Reads on in a further piece, and answers as `unpack` does of the bytes taken and then the piece: the message as
+    /// soon as it is whole, with the bytes of this piece that it used; else that more is wanted; or the fault, whose
+    /// offset counts from the message's start.
+    ///
+    /// After a message the unpacker stands at the start of the next one. After a fault it holds no bytes, and answers
+    /// the fault again until [`Unpacker::reset`]. Where memory ran out no byte of the piece is taken: the same piece
+    /// can be fed again.
+    pub fn feed(&mut self, alloc: Global, piece: &[u8]) -> Result<Fed, UnpackFault>
+        // A fault that was answered is answered again, until `reset`.
+        ensures stopped { StaysStopped self.old self.new result }
+        // The answer is what `unpack` reads of the bytes taken and then the piece.
+        ensures exact { self.old.stopped ≡ None → Feeds (length self.old.taken) result (message_at self.old.table (self.old.taken ++ piece.now)) }
+        // How the unpacker stands afterwards.
+        ensures state { self.old.stopped ≡ None → Moves self.old self.new piece.now result }
+        // What is done is spelled by the first bytes, more is wanted only where none of them spells a message, and
+        // a fault comes only where no continuation begins with a spelling.
+        ensures found { self.old.stopped ≡ None → FoundFed self.old.table (length self.old.taken) (self.old.taken ++ piece.now) result }
+    {
+        if let Some(fault) = self.stopped {
+            return Err(fault);
+        }
+        let (stage, fed) = take(alloc, self.table, self.stage, &mut self.taken, piece);
+        self.stage = stage;
+        match fed {
+            Ok(fed) => Ok(fed),
+            Err(fault) => {
+                if fault.cause != UnpackCause::Memory {
+                    self.stopped = Some(fault);
+                }
+                Err(fault)
+            }
+        }
+    }
+
+    /// How many bytes of the current message are taken. Takes no memory.
+    pub fn held(&self) -> usize
+        ensures { result ≡ length self.now.taken }
+    {
+        self.taken.len()
+    }
+
+    /// Drops what is taken, and any fault: the unpacker stands at the start of a message. Takes no memory.
+    pub fn reset(&mut self)
+        ensures { self.new ≡ record self.old { taken = []; stopped = None } }
+    {
+        self.taken.clear();
+        self.stage = Stage::Type;
+        self.stopped = None;
+    }
+}
