@@ -21,3 +21,4 @@ pub mod FrameSplits
 pub mod NoMemory
 pub mod Stages
 pub mod Feeds
+pub mod Longest

@@ -2,6 +2,7 @@
 
 ghost use Rattle.std.specs.Prelude.{◌≡◌, ◌≢◌, ◌≤◌, ◌-◌, ◌++◌, [], take, length, IfOk, None, Some};
 ghost use Rattle.iso_table.specs.Layout.{AreGood};
+ghost use Rattle.iso_table.specs.Sizes.{max_bytes};
 ghost use Rattle.iso_wire.specs.Feeding.{IsRead, Builds, Feeds, Keeps, IsReadyAfter, Moves, StaysStopped, FoundFed};
 ghost use Rattle.iso_wire.specs.Reading.{message_at};
 ghost use Rattle.iso_wire.specs.ReadingLaws.{IsShort};
@@ -239,8 +240,11 @@ impl<'t> Unpacker<'t> {
 
     /// How many bytes of the current message are taken. Takes no memory.
     pub fn held(&self) -> usize
-        ensures { result ≡ length self.now.taken }
+        ensures held { result ≡ length self.now.taken }
+        // They are never more than the longest message has.
+        ensures most { result ≤ max_bytes self.now.table }
     {
+        iso_parts::laws::parts();
         self.taken.len()
     }
 
