@@ -22,3 +22,5 @@ pub mod NoMemory
 pub mod Stages
 pub mod Feeds
 pub mod Longest
+pub mod Wires
+pub mod Views

@@ -13,5 +13,7 @@ pub mod Frame
 pub mod ReadingLaws
 pub mod Resuming
 pub mod Feeding
+pub mod Viewing
+pub mod Stops
 pub mod FaultNumbers
 pub mod Masking

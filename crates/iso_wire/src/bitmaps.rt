@@ -72,6 +72,7 @@ pub fn words_of(table: &Table, at: usize, bytes: &[u8]) -> Result<(u64, u64, usi
     ensures exact { result ≡ words_at table.now at bytes.now }
     ensures no_memory { IfErr result (λ e. e.cause ≢ Memory) }
     ensures used { IfOk result (λ x. x.2 ≤ length bytes.now) }
+    ensures short { IfOk result (λ x. x.2 ≤ 32) }
     ensures low { IfOk result (λ x. x.1 < 2 ^ 63) }
 {
     let size = table.bitmap().size();

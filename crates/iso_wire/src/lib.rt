@@ -3,6 +3,7 @@
 #![tactic(auto)]
 
 mod bitmaps;
+mod bodies;
 mod decimal;
 mod elements;
 mod fault;
@@ -18,7 +19,9 @@ mod packing;
 mod tests;
 mod unpacker;
 mod unpacking;
+mod viewing;
 
+pub use bodies::View;
 pub use decimal::{digits_of, write_decimal};
 pub use fault::{PackFault, SetFault, UnpackCause, UnpackFault};
 pub use framing::{FrameFault, Framed, append_frame, frame, unframe};
@@ -28,3 +31,4 @@ pub use message::Message;
 pub use packing::pack;
 pub use unpacker::{Fed, Unpacker};
 pub use unpacking::unpack;
+pub use viewing::view;

@@ -27,7 +27,7 @@ fn take_first(word: u64) -> (u8, u64)
 
 impl Numbers {
     ghost use Rattle.iso_wire.specs.Numbers.{numbers_in, unknown};
-    ghost use Rattle.iso_wire.specs.Walk.{left, Takes};
+    ghost use Rattle.iso_wire.specs.Walk.{left, is_left, Takes};
 
     /// The numbers from 2 on.
     pub(crate) fn of(first: u64, second: u64) -> Numbers
@@ -56,6 +56,17 @@ impl Numbers {
             Some(before + 65)
         } else {
             None
+        }
+    }
+
+    /// Whether the number is among them.
+    pub(crate) fn has(&self, n: u8) -> bool
+        ensures { result ≡ is_left self.now n }
+    {
+        match n {
+            2..=64 => self.first >> (64 - n) & 1 == 1,
+            65..=128 => self.second >> (128 - n) & 1 == 1,
+            _ => false,
         }
     }
 

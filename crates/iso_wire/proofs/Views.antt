@@ -1,0 +1,153 @@
+-- A view is of the message that reading gives, and its bodies are those of the spelling at the front.
+use Rattle.std.proofs.Common.{◌≡◌, ◌≢◌, ℕ, ◌+◌, ◌-◌, ◌≤◌, ◌<◌, List, [], ◌∷◌, ◌++◌, length, take, drop, Option, Some, Result, Ok, Err, refl, sym, ap, subst, ◌∙◌, append_assoc, arith}
+use Rattle.std.proofs.lemmas.List.{drop-take, drop_at, length-drop, length-append, length-take}
+use Rattle.std.proofs.Math.Seq.{take-add}
+use Rattle.iso_parts.specs.declared.spec.FieldSpec.{FieldSpec}
+use Rattle.iso_parts.specs.Part.{Body, prefix}
+use Rattle.iso_parts.specs.Reading.{prefix_size}
+use Rattle.iso_parts.specs.PartLaws.{PartLaws}
+use Rattle.iso_parts.specs.declared.prefix.Digits.TheVariants as digits
+use Rattle.iso_parts.specs.declared.prefix.Length.{Length}
+use Rattle.iso_parts.specs.declared.prefix.Length.TheVariants as lengths
+use Rattle.iso_table.specs.Layout.{Layout, row_at, AreGood}
+use Rattle.iso_wire.specs.declared.fault.UnpackFault.{UnpackFault}
+use Rattle.std.specs.Prelude.{IfErr}
+use Rattle.iso_wire.specs.declared.fault.UnpackCause.TheVariants.{Memory}
+use Rattle.iso_wire.specs.Contents.{Contents}
+use Rattle.iso_wire.specs.Numbers.{numbers_in}
+use Rattle.iso_wire.specs.Reading.{◌>>=◌, mti_size, type_at, words_at, value_at, elements_at, message_at, whole}
+use Rattle.iso_wire.specs.Spelling.{AreBytes, PartAs, Parts}
+use Rattle.iso_wire.specs.Viewing.{Viewed, wire_at, wires_at, view_at, Wired, Views}
+use Rattle.iso_wire.proofs.Bytes.{bytes_drop}
+use Rattle.iso_wire.proofs.NoMemory.{NoMemory, message}
+use Rattle.iso_wire.proofs.ElementLaws.{value_taken}
+use Rattle.iso_wire.proofs.Orders.{Values}
+
+-- both read so many bytes, the one the values and the other their bodies
+abbrev Agrees : List (Option FieldSpec) → ℕ → List ℕ → Result (Values × ℕ) UnpackFault → Result (Values × ℕ) UnpackFault → Type 0
+Agrees rows at b (Ok x) (Ok w) = (used : ℕ) × (x.1 ≡ at + used) × (w.1 ≡ at + used) × (used ≤ length b) × Wired rows x.0 w.0 (take used b)
+Agrees rows at b (Err e) (Err f) = f ≡ e
+Agrees rows at b x w = ⊥
+
+-- the body of a part is what stands behind its length
+record IsBody (rows : List (Option FieldSpec)) (n : ℕ) (b v : List ℕ) (used : ℕ) : Type 0 where
+  pub row : FieldSpec
+  pub is : row_at rows n ≡ Some row
+  pub body : Body row v (wire_at (row_at rows n) b used)
+  pub part : take used b ≡ prefix row.length (length v) ++ wire_at (row_at rows n) b used
+
+length-prefix : (k : Length) (n : ℕ) → length (prefix k n) ≡ prefix_size k
+length-prefix lengths.Fixed n = refl
+length-prefix (lengths.LL digits.Ascii) n = refl
+length-prefix (lengths.LL digits.Bcd) n = refl
+length-prefix (lengths.LLL digits.Ascii) n = refl
+length-prefix (lengths.LLL digits.Bcd) n = refl
+
+body_of : (rows : List (Option FieldSpec)) (n : ℕ) (b v : List ℕ) (used : ℕ) → used ≤ length b → PartAs rows n v (take used b) → IsBody rows n b v used
+body_of rows n b v used room part =
+    let s = part.0 in
+    let body : List ℕ = part.2.0 in
+    let p : List ℕ = prefix s.length (length v) in
+    let front = prefix_size s.length in
+    let plen : length p ≡ front = length-prefix s.length (length v) in
+    let split : take used b ≡ p ++ body = part.2.2 in
+    let enough : front ≤ used = omega (arith, ap length split, length-append p body, length-take used b) in
+    let sum : front + (used - front) ≡ used = omega arith in
+    let wire : wire_at (row_at rows n) b used ≡ body =
+    ap (λ (r : Option FieldSpec). wire_at r b used) part.1
+    ∙ sym (drop-take front (used - front) b) ∙ ap (λ (k : ℕ). drop front (take k b)) sum ∙ ap (drop front) split ∙ drop_at p body front plen in
+    record {
+      row = s;
+      is = part.1;
+      body = subst (Body s v) (sym wire) part.2.1;
+      part = split ∙ ap (λ (l : List ℕ). p ++ l) (sym wire);
+    }
+
+abbrev with_value : ℕ → List ℕ → Values × ℕ → Result (Values × ℕ) UnpackFault
+with_value n v x = Ok ((n, v) ∷ x.0, x.1)
+
+one_more : (rows : List (Option FieldSpec)) (n at used : ℕ) (b v wire : List ℕ) (s : FieldSpec) → used ≤ length b → row_at rows n ≡ Some s → Body s v wire → take used b ≡ prefix s.length (length v) ++ wire
+    → (x w : Result (Values × ℕ) UnpackFault) → Agrees rows (at + used) (drop used b) x w → Agrees rows at b (x >>= with_value n v) (w >>= with_value n wire)
+one_more rows n at used b v wire s room row body part (Err e) (Err f) same = same
+one_more rows n at used b v wire s room row body part (Err e) (Ok w) never = absurd never
+one_more rows n at used b v wire s room row body part (Ok x) (Err f) never = absurd never
+one_more rows n at used b v wire s room row body part (Ok x) (Ok w) rest =
+    let more : ℕ = rest.0 in
+    let tail : List ℕ = take more (drop used b) in
+    let split : take (used + more) b ≡ prefix s.length (length v) ++ (wire ++ tail) = take-add used more b ∙ ap (λ (l : List ℕ). l ++ tail) part ∙ append_assoc (prefix s.length (length v)) wire tail in
+    (used + more, omega (arith, rest.1), omega (arith, rest.2), omega (arith, rest.3, length-drop used b), (s, tail, row, refl, body, split, rest.4))
+
+abbrev behind_value : List (Option FieldSpec) → List ℕ → ℕ → ℕ → List ℕ → List ℕ × ℕ → Result (Values × ℕ) UnpackFault
+behind_value rows ns n at b first = elements_at rows ns (at + first.1) (drop first.1 b) >>= with_value n first.0
+
+abbrev behind_wire : List (Option FieldSpec) → List ℕ → ℕ → ℕ → List ℕ → List ℕ × ℕ → Result (Values × ℕ) UnpackFault
+behind_wire rows ns n at b first = wires_at rows ns (at + first.1) (drop first.1 b) >>= with_value n (wire_at (row_at rows n) b first.1)
+
+module _ (laws : PartLaws) where
+  agrees_by : (rows : List (Option FieldSpec)) (ns : List ℕ) (n at : ℕ) (b : List ℕ) (r : Result (List ℕ × ℕ) UnpackFault) → AreGood rows → AreBytes b → value_at rows n at b ≡ r
+      → ((at : ℕ) (b : List ℕ) → AreBytes b → Agrees rows at b (elements_at rows ns at b) (wires_at rows ns at b))
+      → Agrees rows at b (r >>= behind_value rows ns n at b) (r >>= behind_wire rows ns n at b)
+  agrees_by rows ns n at b (Err e) good fits is rest = refl
+  agrees_by rows ns n at b (Ok first) good fits is rest =
+      let taken = value_taken laws rows n at b first.0 first.1 good fits is in
+      let body = body_of rows n b first.0 first.1 taken.room taken.part in
+      one_more rows n at first.1 b first.0 (wire_at (row_at rows n) b first.1) body.row taken.room body.is body.body body.part
+      (elements_at rows ns (at + first.1) (drop first.1 b)) (wires_at rows ns (at + first.1) (drop first.1 b)) (rest (at + first.1) (drop first.1 b) (bytes_drop first.1 b fits))
+
+  agrees : (rows : List (Option FieldSpec)) (ns : List ℕ) (at : ℕ) (b : List ℕ) → AreGood rows → AreBytes b → Agrees rows at b (elements_at rows ns at b) (wires_at rows ns at b)
+  agrees rows [] at b good fits = (0, omega arith, omega arith, omega arith, refl)
+  agrees rows (n ∷ ns) at b good fits = agrees_by rows ns n at b (value_at rows n at b) good fits refl (λ at b fits. agrees rows ns at b good fits)
+
+-- ---- the whole message
+
+abbrev as_view : ℕ → Values × ℕ → Result Viewed UnpackFault
+as_view mti read = Ok (record { mti = mti; used = read.1; wires = read.0 })
+
+abbrev as_message : ℕ → Values × ℕ → Result (Contents × ℕ) UnpackFault
+as_message mti read = whole (record { mti = mti; elements = read.0 }) read.1
+
+by_elements : (t : Layout) (b : List ℕ) (mti at : ℕ) (x w : Result (Values × ℕ) UnpackFault) → Agrees t.rows at (drop at b) x w → Views t b (w >>= as_view mti) (x >>= as_message mti)
+by_elements t b mti at (Err e) (Err f) same = ap Err (sym same)
+by_elements t b mti at (Err e) (Ok w) never = absurd never
+by_elements t b mti at (Ok x) (Err f) never = absurd never
+by_elements t b mti at (Ok x) (Ok w) same =
+    let used : ℕ = same.0 in
+    let place : drop at (take w.1 b) ≡ take used (drop at b) = ap (λ (k : ℕ). drop at (take k b)) same.2 ∙ drop-take at used b in
+    (x.0, at, ap (λ (k : ℕ). whole (record { mti = mti; elements = x.0 }) k) (same.1 ∙ sym same.2), subst (Wired t.rows x.0 w.0) (sym place) same.4)
+
+abbrev message_behind : Layout → List ℕ → ℕ → ℕ × ℕ × ℕ → Result (Contents × ℕ) UnpackFault
+message_behind t b mti w = elements_at t.rows (numbers_in w.0 w.1) (mti_size t.mti + w.2) (drop (mti_size t.mti + w.2) b) >>= as_message mti
+
+abbrev view_behind : Layout → List ℕ → ℕ → ℕ × ℕ × ℕ → Result Viewed UnpackFault
+view_behind t b mti w = wires_at t.rows (numbers_in w.0 w.1) (mti_size t.mti + w.2) (drop (mti_size t.mti + w.2) b) >>= as_view mti
+
+module _ (laws : PartLaws) where
+  by_words : (t : Layout) (b : List ℕ) (mti : ℕ) (r : Result (ℕ × ℕ × ℕ) UnpackFault) → AreGood t.rows → AreBytes b → Views t b (r >>= view_behind t b mti) (r >>= message_behind t b mti)
+  by_words t b mti (Err e) good fits = refl
+  by_words t b mti (Ok w) good fits =
+      let at = mti_size t.mti + w.2 in
+      let ns = numbers_in w.0 w.1 in
+      by_elements t b mti at (elements_at t.rows ns at (drop at b)) (wires_at t.rows ns at (drop at b)) (agrees laws t.rows ns at (drop at b) good (bytes_drop at b fits))
+
+  by_type : (t : Layout) (b : List ℕ) (r : Result ℕ UnpackFault) → AreGood t.rows → AreBytes b
+      → Views t b (r >>= λ mti. words_at t (mti_size t.mti) (drop (mti_size t.mti) b) >>= view_behind t b mti) (r >>= λ mti. words_at t (mti_size t.mti) (drop (mti_size t.mti) b) >>= message_behind t b mti)
+  by_type t b (Err e) good fits = refl
+  by_type t b (Ok mti) good fits = by_words t b mti (words_at t (mti_size t.mti) (drop (mti_size t.mti) b)) good fits
+
+  pub is_view : (t : Layout) (b : List ℕ) → AreGood t.rows → AreBytes b → Views t b (view_at t b) (message_at t b)
+  unfolding message_at
+  is_view t b good fits = by_type t b (type_at t b) good fits
+
+-- the bodies with their lengths before them are the parts
+pub Wired-Parts : (rows : List (Option FieldSpec)) (es ws : Values) (b : List ℕ) → Wired rows es ws b → Parts rows es b
+Wired-Parts rows [] [] b h = h
+Wired-Parts rows [] (w ∷ ws) b h = absurd h
+Wired-Parts rows (e ∷ es) [] b h = absurd h
+Wired-Parts rows (e ∷ es) (w ∷ ws) b h =
+    let s = h.0 in
+    let p : List ℕ = prefix s.length (length e.1) in
+    (p ++ w.1, h.1, (s, h.2, (w.1, h.4, refl)), Wired-Parts rows es ws h.1 h.6, h.5 ∙ sym (append_assoc p w.1 h.1))
+
+pub never_memory : (t : Layout) (b : List ℕ) (r : Result Viewed UnpackFault) → Views t b r (message_at t b) → IfErr r (λ e. e.cause ≢ Memory)
+never_memory t b (Ok v) h = tt
+never_memory t b (Err e) h = subst NoMemory h (message t b)

@@ -1,0 +1,16 @@
+use Rattle.std.proofs.Common.{◌≡◌, ◌≤◌, ◌+◌, ◌*◌, length, drop}
+use Rattle.iso_wire.specs.Viewing.{wires_at}
+use Rattle.iso_wire.specs.Walk.{left}
+use Rattle.iso_wire.proofs.Wires.{Found}
+use Rattle.iso_wire.proofs.bodies.find_bodies.Given as goal
+
+abbrev pub invariant-loop-n : goal.invariant-loop-n
+invariant-loop-n l = record {
+  found : Found l.table.rows l.bytes l.spots (left l.fn.numbers) (left l.rest) l.at (wires_at l.table.rows (left l.fn.numbers) l.start (drop l.start l.bytes));
+  room : l.at ≤ length l.bytes;
+  few : l.at + 2001 * length (left l.rest) ≤ 260000;
+  spots : length l.spots ≡ 129;
+}
+
+abbrev pub decreases-loop-n : goal.decreases-loop-n
+decreases-loop-n l = length (left l.rest)

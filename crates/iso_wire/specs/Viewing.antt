@@ -1,0 +1,89 @@
+-- A message that is left where it lies: its type, its length, and the bodies of its elements.
+use Rattle.std.specs.Prelude.{◌≡◌, ℕ, ◌+◌, ◌-◌, ◌*◌, ◌/◌, ◌%◌, ◌≤◌, List, [], ◌∷◌, ◌++◌, length, take, drop, map, slice_index, Option, Some, None, Result, Ok, Err}
+use Rattle.iso_parts.specs.declared.spec.FieldSpec.{FieldSpec}
+use Rattle.iso_parts.specs.Part.{Body, prefix}
+use Rattle.iso_parts.specs.Reading.{prefix_size}
+use Rattle.iso_wire.specs.declared.fault.UnpackFault.{UnpackFault}
+use Rattle.iso_wire.specs.Contents.{Contents}
+use Rattle.iso_wire.specs.Numbers.{numbers_in}
+use Rattle.iso_wire.specs.Reading.{◌>>=◌, mti_size, type_at, words_at, value_at, whole}
+use Rattle.iso_table.specs.Layout.{Layout, row_at}
+
+-- the type, how many bytes the message takes, and the body of each element, as it lies there
+pub record Viewed : Type 0 where
+  pub mti : ℕ
+  pub used : ℕ
+  pub wires : List (ℕ × List ℕ)
+
+-- ---- where the bodies lie, four bytes for each element
+
+-- a spot tells an offset and, below it, a length of at most 2,047
+abbrev pub spot_of : ℕ → ℕ → ℕ
+spot_of start len = 2048 * start + len
+
+abbrev pub bytes_at : List ℕ → ℕ → List ℕ
+bytes_at b spot = take (spot % 2048) (drop (spot / 2048) b)
+
+-- the bodies that the spots find in bytes for elements with the numbers
+abbrev pub wire_of : List ℕ → List ℕ → ℕ → ℕ × List ℕ
+wire_of b spots n = (n, bytes_at b (slice_index spots n))
+
+abbrev pub wires_in : List ℕ → List ℕ → List ℕ → List (ℕ × List ℕ)
+wires_in b spots ns = map (wire_of b spots) ns
+
+-- each of those spots lies within so many bytes
+abbrev pub AreWithin : ℕ → List ℕ → List ℕ → Type 0
+AreWithin size spots [] = Unit {0}
+AreWithin size spots (n ∷ ns) = (slice_index spots n / 2048 + slice_index spots n % 2048 ≤ size) × AreWithin size spots ns
+
+-- ---- reading the bodies
+
+-- how many bytes of a part stand before its body
+abbrev pub front_of : Option FieldSpec → ℕ
+front_of None = 0
+front_of (Some s) = prefix_size s.length
+
+-- the body of a part that takes so many bytes
+abbrev pub wire_at : Option FieldSpec → List ℕ → ℕ → List ℕ
+wire_at row b used = take (used - front_of row) (drop (front_of row) b)
+
+-- the bodies of the elements with the numbers, and the offset behind them
+abbrev pub wires_at : List (Option FieldSpec) → List ℕ → ℕ → List ℕ → Result (List (ℕ × List ℕ) × ℕ) UnpackFault
+wires_at rows [] at b = Ok ([], at)
+wires_at rows (n ∷ ns) at b = do
+  first ← value_at rows n at b
+  others ← wires_at rows ns (at + first.1) (drop first.1 b)
+  Ok ((n, wire_at (row_at rows n) b first.1) ∷ others.0, others.1)
+
+-- the message that the bytes begin with
+abbrev pub view_at : Layout → List ℕ → Result Viewed UnpackFault
+view_at t b = do
+  mti ← type_at t b
+  words ← words_at t (mti_size t.mti) (drop (mti_size t.mti) b)
+  read ← wires_at t.rows (numbers_in words.0 words.1) (mti_size t.mti + words.2) (drop (mti_size t.mti + words.2) b)
+  Ok (record { mti = mti; used = read.1; wires = read.0 })
+
+-- a part was judged as reading does, without its value: where its body begins, and how many bytes it takes
+abbrev pub JudgesWire : Option FieldSpec → Result (ℕ × ℕ) UnpackFault → Result (List ℕ × ℕ) UnpackFault → Type 0
+JudgesWire row (Ok x) read = (x.0 ≡ front_of row) × ((value : List ℕ) × (read ≡ Ok (value, x.1)))
+JudgesWire row (Err e) read = read ≡ Err e
+
+-- the spots find the bodies that reading gives
+abbrev pub FindsBodies : List ℕ → List ℕ → List ℕ → Result ℕ UnpackFault → Result (List (ℕ × List ℕ) × ℕ) UnpackFault → Type 0
+FindsBodies b spots ns (Ok end) read = read ≡ Ok (wires_in b spots ns, end)
+FindsBodies b spots ns (Err e) read = read ≡ Err e
+
+-- ---- what it means for spellings
+
+-- the bytes are the parts of the elements, with these bodies
+abbrev pub Wired : List (Option FieldSpec) → List (ℕ × List ℕ) → List (ℕ × List ℕ) → List ℕ → Type 0
+Wired rows [] [] b = b ≡ []
+Wired rows (e ∷ es) (w ∷ ws) b =
+    (s : FieldSpec) × (rest : List ℕ) × (row_at rows e.0 ≡ Some s) × (w.0 ≡ e.0) × Body s e.1 w.1 × (b ≡ prefix s.length (length e.1) ++ (w.1 ++ rest)) × Wired rows es ws rest
+Wired rows es ws b = ⊥
+
+-- a view is of the message that reading gives, and its bodies are those of the spelling at the front; memory never runs out
+abbrev pub Views : Layout → List ℕ → Result Viewed UnpackFault → Result (Contents × ℕ) UnpackFault → Type 0
+Views t b (Ok v) read =
+    (es : List (ℕ × List ℕ)) × (front : ℕ) × (read ≡ whole (record { mti = v.mti; elements = es }) v.used) × Wired t.rows es v.wires (drop front (take v.used b))
+Views t b (Err e) read = read ≡ Err e
