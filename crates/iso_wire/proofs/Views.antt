@@ -11,17 +11,19 @@ use Rattle.iso_parts.specs.declared.prefix.Length.{Length}
 use Rattle.iso_parts.specs.declared.prefix.Length.TheVariants as lengths
 use Rattle.iso_table.specs.Layout.{Layout, row_at, AreGood}
 use Rattle.iso_wire.specs.declared.fault.UnpackFault.{UnpackFault}
-use Rattle.std.specs.Prelude.{IfErr}
-use Rattle.iso_wire.specs.declared.fault.UnpackCause.TheVariants.{Memory}
+use Rattle.std.specs.Prelude.{IfOk, IfErr}
+use Rattle.iso_wire.specs.declared.fault.UnpackCause.TheVariants.{Short, Memory}
 use Rattle.iso_wire.specs.Contents.{Contents}
 use Rattle.iso_wire.specs.Numbers.{numbers_in}
-use Rattle.iso_wire.specs.Reading.{◌>>=◌, mti_size, type_at, words_at, value_at, elements_at, message_at, whole}
-use Rattle.iso_wire.specs.Spelling.{AreBytes, PartAs, Parts}
-use Rattle.iso_wire.specs.Viewing.{Viewed, wire_at, wires_at, view_at, Wired, Views}
+use Rattle.iso_wire.specs.Reading.{◌>>=◌, mti_size, type_at, words_at, value_at, elements_at, IsFaultOf, message_at, whole}
+use Rattle.iso_wire.specs.ReadingLaws.{ReadsSpellings, ReadingStays}
+use Rattle.iso_wire.specs.Spelling.{AreBytes, BeginsWithNone, PartAs, Parts, Spelling}
+use Rattle.iso_wire.specs.Viewing.{Viewed, wire_at, wires_at, view_at, Wired, Views, IsViewed}
 use Rattle.iso_wire.proofs.Bytes.{bytes_drop}
 use Rattle.iso_wire.proofs.NoMemory.{NoMemory, message}
 use Rattle.iso_wire.proofs.ElementLaws.{value_taken}
 use Rattle.iso_wire.proofs.Orders.{Values}
+use Rattle.iso_wire.proofs.Unpacks.{spelled_is_read, is_refused, is_settled}
 
 -- both read so many bytes, the one the values and the other their bodies
 abbrev Agrees : List (Option FieldSpec) → ℕ → List ℕ → Result (Values × ℕ) UnpackFault → Result (Values × ℕ) UnpackFault → Type 0
@@ -151,3 +153,28 @@ Wired-Parts rows (e ∷ es) (w ∷ ws) b h =
 pub never_memory : (t : Layout) (b : List ℕ) (r : Result Viewed UnpackFault) → Views t b r (message_at t b) → IfErr r (λ e. e.cause ≢ Memory)
 never_memory t b (Ok v) h = tt
 never_memory t b (Err e) h = subst NoMemory h (message t b)
+
+-- ---- what a view has found
+
+module _ (reads : ReadsSpellings) where
+  pub is_viewed : (t : Layout) (b : List ℕ) (r : Result Viewed UnpackFault) → AreGood t.rows → AreBytes b → Views t b r (message_at t b) → IfOk r (λ v. IsViewed t v b)
+  is_viewed t b (Ok v) good fits h =
+      let m : Contents = record { mti = v.mti; elements = h.0 } in
+      (m, refl, (reads t m v.used b good fits).0 h.2)
+  is_viewed t b (Err e) good fits h = tt
+
+  pub viewed_only : (t : Layout) (b : List ℕ) (r : Result Viewed UnpackFault) → AreGood t.rows → AreBytes b → Views t b r (message_at t b) → (m : Contents) (front rest : List ℕ) → Spelling t m front → b ≡ front ++ rest → Views t b r (whole m (length front))
+  viewed_only t b r good fits h m front rest spelled split =
+      subst (Views t b r) (ap (message_at t) split ∙ spelled_is_read reads t m front rest good (subst AreBytes split fits) spelled) h
+
+  fault_is : (t : Layout) (b : List ℕ) (e : UnpackFault) → message_at t b ≡ Err e → IsFaultOf e (message_at t b)
+  fault_is t b e is = let other : e.cause ≢ Memory = subst NoMemory is (message t b) in (λ memory. absurd (other memory), λ _. is)
+
+  pub view_refused : (t : Layout) (b : List ℕ) (r : Result Viewed UnpackFault) → AreGood t.rows → AreBytes b → Views t b r (message_at t b) → IfErr r (λ e. BeginsWithNone t b)
+  view_refused t b (Ok v) good fits h = tt
+  view_refused t b (Err e) good fits h = is_refused reads t b (Err e) good fits (fault_is t b e h) (subst NoMemory h (message t b))
+
+  pub view_settled : ReadingStays → (t : Layout) (b : List ℕ) (r : Result Viewed UnpackFault) → AreGood t.rows → AreBytes b → Views t b r (message_at t b)
+      → IfErr r (λ e. e.cause ≢ Short → (more : List ℕ) → AreBytes more → BeginsWithNone t (b ++ more))
+  view_settled stays t b (Ok v) good fits h = tt
+  view_settled stays t b (Err e) good fits h = is_settled reads stays t b (Err e) good fits (fault_is t b e h) (subst NoMemory h (message t b))

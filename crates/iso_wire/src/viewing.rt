@@ -1,24 +1,36 @@
 //! Reading a message without copying it.
 
-ghost use Rattle.std.specs.Prelude.{◌≢◌, ℕ, List, IfErr};
-ghost use Rattle.iso_wire.specs.declared.fault.UnpackCause.TheVariants.{Memory};
-ghost use Rattle.iso_wire.specs.Reading.{message_at};
-ghost use Rattle.iso_wire.specs.Spelling.{Parts};
-ghost use Rattle.iso_wire.specs.Viewing.{Views, Wired};
+ghost use Rattle.std.specs.Prelude.{◌≡◌, ◌≢◌, ◌++◌, ℕ, List, length, IfOk, IfErr};
+ghost use Rattle.iso_wire.specs.declared.fault.UnpackCause.TheVariants.{Short, Memory};
+ghost use Rattle.iso_wire.specs.Contents.{Contents};
+ghost use Rattle.iso_wire.specs.Reading.{message_at, whole};
+ghost use Rattle.iso_wire.specs.Spelling.{AreBytes, BeginsWithNone, Parts, Spelling};
+ghost use Rattle.iso_wire.specs.Viewing.{Views, IsViewed, Wired};
 
 use crate::bodies::{View, view_of};
 use crate::fault::UnpackFault;
+use crate::laws::reads_spellings;
 use iso_table::Table;
 
-/// Views the message that the bytes begin with: it accepts what `unpack` accepts, and says where each element's body
-/// lies. Takes no memory.
+/// Views the message that the bytes begin with, and leaves it where it lies; bytes behind it are left. It accepts what
+/// `unpack` accepts, and refuses the rest with the same fault. Takes no memory.
 pub fn view<'a>(table: &Table, bytes: &'a [u8]) -> Result<View<'a>, UnpackFault>
-    // It answers as reading does, and its bodies are those of the spelling at the front; memory never runs out.
+    // What is viewed is spelled by the first bytes.
+    ensures found { IfOk result (λ v. IsViewed table.now v bytes.now) }
+    // What the first bytes spell is viewed.
+    ensures only { (m : Contents) (front rest : List ℕ) → Spelling table.now m front → bytes.now ≡ front ++ rest → Views table.now bytes.now result (whole m (length front)) }
+    // The bodies are those of the message that reading gives. Which fault it is, and where;
     ensures exact { Views table.now bytes.now result (message_at table.now bytes.now) }
+    // it is never want of memory.
     ensures memory { IfErr result (λ e. e.cause ≢ Memory) }
+    // A fault comes only where the bytes begin with no spelling,
+    ensures refused { IfErr result (λ e. BeginsWithNone table.now bytes.now) }
+    // and where a whole piece is bad, no continuation begins with one either.
+    ensures settled { IfErr result (λ e. e.cause ≢ Short → (more : List ℕ) → AreBytes more → BeginsWithNone table.now (bytes.now ++ more)) }
     // Bodies with their lengths before them are the parts of the elements.
     ensures parts { (es ws : List (ℕ × List ℕ)) (b : List ℕ) → Wired table.now.rows es ws b → Parts table.now.rows es b }
 {
+    reads_spellings();
     iso_parts::laws::parts();
     view_of(table, bytes)
 }
