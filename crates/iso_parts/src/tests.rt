@@ -3,6 +3,7 @@ use std::test::*;
 
 mod bitmaps;
 mod faults;
+mod judgements;
 mod refusals;
 mod values;
 

@@ -14,6 +14,7 @@ use crate::numbers::Numbers;
 use crate::unpacking::{mti_size, place_of, type_of};
 use iso_parts::{Judged, Mti, judge_field};
 use iso_table::Table;
+use std::fmt;
 use std::marker::Model;
 
 /// One spot for each number up to 128.
@@ -104,7 +105,7 @@ fn body_of<'a>(numbers: Numbers, spots: &[u32], bytes: &'a [u8], n: u8) -> Optio
 }
 
 /// A message that lies in the caller's bytes. It tells where the body of each element lies, and copies none.
-#[derive(Debug, Drop)]
+#[derive(Drop)]
 pub struct View<'a> {
     mti: Mti,
     used: usize,
@@ -124,6 +125,16 @@ impl<'a> Model for View<'a> {
     ghost view = { λ v. record { mti = number v.mti; used = v.used; wires = wires_in v.bytes.now v.spots (left v.numbers) } };
 
     ghost invariant = { λ v. AreWithin (length v.bytes.now) v.spots (left v.numbers) };
+}
+
+/// Shows the type and how many bytes the message takes, and none of them.
+impl fmt::Debug for View<'_> {
+    fn fmt<W: fmt::Write>(&self, f: &mut fmt::Formatter<W>) -> fmt::Result {
+        f.debug_struct("View")
+            .field("mti", &self.mti.number())
+            .field("used", &self.used)
+            .finish()
+    }
 }
 
 impl<'a> View<'a> {

@@ -6,14 +6,23 @@ use std::test::*;
 
 mod faults;
 mod frames;
+mod hostile;
 mod masks;
 mod messages;
+mod pieces;
 mod refusals;
+mod views;
 
 const ECHO: &[u8] = b"0800822000000000000004000000000000000102030405000001301";
 
 const PAYMENT: &[u8] =
     b"0200722000010000800016411111111111111100000000000000100001020304050000070512345840";
+
+const REVERSAL: &[u8] = b"04208220000100000000000000400000000001020305000000080512345\
+020000000701020304050000001234500000000000";
+
+const PACKED_ECHO: &[u8] =
+    b"\x08\x00\x82\x20\0\0\0\0\0\0\x04\0\0\0\0\0\0\0\x01\x02\x03\x04\x05\0\0\x01\x03\x01";
 
 /// The bytes of a message, and what they say.
 #[derive(Drop)]
@@ -89,6 +98,7 @@ fn ascii(alloc: Global) -> Result<Table, TableFault> {
         (41, text(8, Pad::Right(b' '))),
         (49, text(3, Pad::None)),
         (70, digits(coding, 3)),
+        (90, digits(coding, 42)),
     ];
     table(alloc, 0, Digits::Ascii, BitmapCoding::Hex, &rows)
 }

@@ -16,6 +16,7 @@ use crate::message::Message;
 use crate::unpacking::message_of;
 use iso_table::Table;
 use std::alloc::Global;
+use std::fmt;
 use std::marker::Model;
 
 /// What is answered to a piece.
@@ -29,7 +30,7 @@ pub enum Fed {
 
 /// Reads messages that come in pieces of any size. No byte is judged twice: it keeps the bytes of the message so far,
 /// and which piece of it isn't whole.
-#[derive(Debug, Drop)]
+#[derive(Drop)]
 pub struct Unpacker<'t> {
     table: &'t Table,
     taken: Vec<u8>,
@@ -47,6 +48,16 @@ impl<'t> Model for Unpacker<'t> {
     ghost use Rattle.iso_wire.specs.Resuming.{IsResumed};
 
     ghost invariant = { λ u. IsReady u.table.now u.taken.items u.stopped × IsResumed u.table.now u.stage u.taken.items };
+}
+
+/// Shows how many bytes are taken, and none of them.
+impl fmt::Debug for Unpacker<'_> {
+    fn fmt<W: fmt::Write>(&self, f: &mut fmt::Formatter<W>) -> fmt::Result {
+        f.debug_struct("Unpacker")
+            .field("held", &self.taken.len())
+            .field("stopped", &self.stopped)
+            .finish()
+    }
 }
 
 /// The items of a slice of bytes are bytes, past its end too.

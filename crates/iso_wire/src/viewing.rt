@@ -1,6 +1,7 @@
 //! Reading a message without copying it.
 
 ghost use Rattle.std.specs.Prelude.{◌≡◌, ◌≢◌, ◌++◌, ℕ, List, length, IfOk, IfErr};
+ghost use Rattle.iso_table.specs.Layout.{AreGood};
 ghost use Rattle.iso_wire.specs.declared.fault.UnpackCause.TheVariants.{Short, Memory};
 ghost use Rattle.iso_wire.specs.Contents.{Contents};
 ghost use Rattle.iso_wire.specs.Reading.{message_at, whole};
@@ -11,6 +12,15 @@ use crate::bodies::{View, view_of};
 use crate::fault::UnpackFault;
 use crate::laws::reads_spellings;
 use iso_table::Table;
+
+/// What [`view`] answers.
+fn seen<'a>(table: &Table, bytes: &'a [u8]) -> Result<View<'a>, UnpackFault>
+    ensures exact { Views table.now bytes.now result (message_at table.now bytes.now) }
+    ensures good { AreGood table.now.rows }
+{
+    iso_parts::laws::parts();
+    view_of(table, bytes)
+}
 
 /// Views the message that the bytes begin with, and leaves it where it lies; bytes behind it are left. It accepts what
 /// `unpack` accepts, and refuses the rest with the same fault. Takes no memory.
@@ -31,6 +41,5 @@ pub fn view<'a>(table: &Table, bytes: &'a [u8]) -> Result<View<'a>, UnpackFault>
     ensures parts { (es ws : List (ℕ × List ℕ)) (b : List ℕ) → Wired table.now.rows es ws b → Parts table.now.rows es b }
 {
     reads_spellings();
-    iso_parts::laws::parts();
-    view_of(table, bytes)
+    seen(table, bytes)
 }

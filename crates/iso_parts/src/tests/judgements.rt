@@ -1,0 +1,100 @@
+//! Parts that are judged, and not read.
+
+use super::*;
+
+#[test]
+fn judging_answers_as_decoding(rt: HostRuntime) -> Result<(), Fail> {
+    let pan = number(Coding::Ascii, Length::LL(Digits::Bcd), 19);
+    let packed = number(Coding::Bcd, Length::LL(Digits::Bcd), 19);
+    let filled = zero_filled(Coding::Bcd);
+    let hex = bytes(Coding::HexText, Length::LL(Digits::Ascii), 9);
+    let cases: [(&str, FieldSpec, &[u8], Result<Judged, FieldFault>); 11] = [
+        (
+            "an account number of 15 digits",
+            packed,
+            b"\x15\x03\x78\x28\x22\x46\x31\x00\x05",
+            Ok(Judged::Got { body: 1, used: 9 }),
+        ),
+        ("its length alone", packed, b"\x15", Ok(Judged::More)),
+        (
+            "a whole value",
+            pan,
+            b"\x0212",
+            Ok(Judged::Got { body: 1, used: 3 }),
+        ),
+        ("no bytes", pan, b"", Ok(Judged::More)),
+        ("an unfinished body", pan, b"\x021", Ok(Judged::More)),
+        ("no digits", pan, b"\x1A1", Err(FieldFault::BadLengthDigits)),
+        ("too long", pan, b"\x20", Err(FieldFault::LengthOver)),
+        (
+            "a bad filler",
+            packed,
+            b"\x03\x11\x23",
+            Err(FieldFault::BadFiller),
+        ),
+        (
+            "a nibble above 9",
+            packed,
+            b"\x03\xF1\x2A",
+            Err(FieldFault::NotInClass),
+        ),
+        (
+            "filled up",
+            filled,
+            b"\x00\x01\x23",
+            Ok(Judged::Got { body: 0, used: 3 }),
+        ),
+        (
+            "no hexadecimal digit",
+            hex,
+            b"01G0",
+            Err(FieldFault::BadHex),
+        ),
+    ];
+    for (name, spec, bytes, want) in &cases {
+        assert!(rt; spec.good().is_ok(), "{name}");
+        assert_eq!(rt; judge_field(spec, bytes), *want, "{name}");
+    }
+    Ok(())
+}
+
+#[test]
+fn lengths_are_judged(rt: HostRuntime) -> Result<(), Fail> {
+    let packed = number(Coding::Bcd, Length::LL(Digits::Bcd), 19);
+    let cases: [(&str, FieldSpec, &[u8], Result<Option<u16>, FieldFault>); 5] = [
+        ("15 digits", packed, b"\x15", Ok(Some(15))),
+        ("no byte", packed, b"", Ok(None)),
+        ("20 digits", packed, b"\x20", Err(FieldFault::LengthOver)),
+        (
+            "a nibble A",
+            packed,
+            b"\x1A",
+            Err(FieldFault::BadLengthDigits),
+        ),
+        ("no length before the value", terminal(), b"", Ok(Some(8))),
+    ];
+    for (name, spec, bytes, want) in &cases {
+        assert_eq!(rt; judge_length(spec, bytes), *want, "{name}");
+    }
+    Ok(())
+}
+
+#[test]
+fn bodies_are_judged(rt: HostRuntime) -> Result<(), Fail> {
+    let packed = number(Coding::Bcd, Length::LL(Digits::Bcd), 19);
+    assert!(rt; packed.good().is_ok());
+    let cases = [
+        (
+            "three digits, and a byte behind",
+            b"\x01\x23\x45".as_slice(),
+            Ok(Some(2)),
+        ),
+        ("one byte of two", b"\x01", Ok(None)),
+        ("a filler 1", b"\x11\x23", Err(FieldFault::BadFiller)),
+        ("a nibble A", b"\x01\x2A", Err(FieldFault::NotInClass)),
+    ];
+    for (name, bytes, want) in &cases {
+        assert_eq!(rt; judge_body(&packed, 3, bytes), *want, "{name}");
+    }
+    Ok(())
+}

@@ -1,0 +1,198 @@
+//! Messages in pieces.
+
+use super::*;
+use crate::UnpackCause::{BadMti, Field};
+use iso_parts::FieldFault;
+
+/// What is answered to a piece, but for the message itself.
+#[derive(Clone, Copy, Debug, PartialEq, Eq)]
+enum Told {
+    More,
+    Done(usize),
+    Fault(UnpackFault),
+}
+
+fn told_by(fed: Result<Fed, UnpackFault>) -> Told {
+    match fed {
+        Ok(Fed::More) => Told::More,
+        Ok(Fed::Done { message: _, used }) => Told::Done(used),
+        Err(fault) => Told::Fault(fault),
+    }
+}
+
+const BAD_TYPE: UnpackFault = UnpackFault {
+    at: 0,
+    element: 0,
+    cause: BadMti,
+};
+
+#[test]
+fn a_message_comes_in_pieces(rt: HostRuntime) -> Result<(), Fail> {
+    let alloc = rt.alloc();
+    let table = Table::ascii87(alloc)?;
+    let mut unpacker = Unpacker::new(alloc, &table);
+
+    // two pieces that end inside an element, and one with the rest and the beginning of the next message
+    assert!(rt; matches!(unpacker.feed(alloc, b"08008220000000")?, Fed::More));
+    assert!(rt;
+        matches!(
+            unpacker.feed(alloc, b"00000004000000000000000102")?,
+            Fed::More
+        )
+    );
+    assert_eq!(rt; unpacker.held(), 40);
+    let last = b"0304050000013010800";
+    match unpacker.feed(alloc, last)? {
+        Fed::More => return Err("the message is whole".into()),
+        Fed::Done { message, used } => {
+            assert_eq!(rt; (message.mti().number(), used), (800, 15));
+            assert_eq!(rt; message.get(7), Some(b"0102030405".as_slice()));
+            assert_eq!(rt; message.get(70), Some(b"301".as_slice()));
+            // what is left begins the next one
+            assert!(rt; matches!(unpacker.feed(alloc, &last[used..])?, Fed::More));
+        }
+    }
+    assert_eq!(rt; unpacker.held(), 4);
+    Ok(())
+}
+
+#[test]
+fn pieces_are_judged_when_they_are_whole(rt: HostRuntime) -> Result<(), Fail> {
+    let alloc = rt.alloc();
+    let table = ascii(alloc)?;
+    let mut unpacker = Unpacker::new(alloc, &table);
+    let cases = [
+        ("no bytes", b"".as_slice(), Told::More, 0),
+        ("three digits of a type", b"08A", Told::More, 3),
+        ("the fourth", b"0", Told::Fault(BAD_TYPE), 0),
+        ("behind a fault", ECHO, Told::Fault(BAD_TYPE), 0),
+        ("no bytes behind a fault", b"", Told::Fault(BAD_TYPE), 0),
+    ];
+    for (name, piece, want, held) in &cases {
+        assert_eq!(rt; told_by(unpacker.feed(alloc, piece)), *want, "{name}");
+        assert_eq!(rt; unpacker.held(), *held, "{name}");
+    }
+    unpacker.reset();
+    assert_eq!(rt; told_by(unpacker.feed(alloc, ECHO)), Told::Done(55));
+    Ok(())
+}
+
+#[test]
+fn a_fault_is_told_from_the_start_of_the_message(rt: HostRuntime) -> Result<(), Fail> {
+    let alloc = rt.alloc();
+    let table = ascii(alloc)?;
+    let mut unpacker = Unpacker::new(alloc, &table);
+    let bad_class = UnpackFault {
+        at: 38,
+        element: 3,
+        cause: Field(FieldFault::NotInClass),
+    };
+    let cases = [
+        (
+            "a whole message and more",
+            b"08000000000000000000020".as_slice(),
+            Told::Done(20),
+        ),
+        ("a type and a bitmap", b"02007220000100008000", Told::More),
+        ("half a length", b"1", Told::More),
+        (
+            "its end, and a body without its end",
+            b"6411111",
+            Told::More,
+        ),
+        ("its end", b"1111111111", Told::More),
+        ("five digits of six", b"00000", Told::More),
+        (
+            "a letter among digits",
+            b"x000000001000",
+            Told::Fault(bad_class),
+        ),
+    ];
+    for (name, piece, want) in &cases {
+        assert_eq!(rt; told_by(unpacker.feed(alloc, piece)), *want, "{name}");
+    }
+    unpacker.reset();
+    assert_eq!(rt;
+        told_by(unpacker.feed(alloc, b"08A0")),
+        Told::Fault(BAD_TYPE)
+    );
+    Ok(())
+}
+
+/// The answers to a message in pieces of one size: how often more was wanted, and the last answer.
+fn in_pieces_of(alloc: Global, table: &Table, size: usize, bytes: &[u8]) -> (usize, Told) {
+    let mut unpacker = Unpacker::new(alloc, table);
+    let mut wanted = 0;
+    let mut last = Told::More;
+    for piece in bytes.chunks(size) {
+        last = told_by(unpacker.feed(alloc, piece));
+        if last == Told::More {
+            wanted += 1;
+        }
+    }
+    (wanted, last)
+}
+
+#[test]
+fn a_message_is_done_with_its_last_byte(rt: HostRuntime) -> Result<(), Fail> {
+    let alloc = rt.alloc();
+    let table = Table::ascii87(alloc)?;
+    let cases = [
+        ("one byte each", 1, 54, 1),
+        ("seven bytes each", 7, 7, 6),
+        ("54 bytes and one", 54, 1, 1),
+        ("all bytes", 55, 0, 55),
+    ];
+    for (name, size, wanted, used) in cases {
+        let want = (wanted, Told::Done(used));
+        assert_eq!(rt; in_pieces_of(alloc, &table, size, ECHO), want, "{name}");
+    }
+    Ok(())
+}
+
+/// Whether a message that is fed in two pieces, cut at `size`, is the one that `unpack` reads.
+fn is_read_in_two(alloc: Global, table: &Table, bytes: &[u8], size: usize) -> Result<bool, Fail> {
+    let (whole, end) = unpack(alloc, table, bytes)?;
+    let mut unpacker = Unpacker::new(alloc, table);
+    let (front, back) = bytes.split_at(size);
+    if told_by(unpacker.feed(alloc, front)) != Told::More || unpacker.held() != size {
+        return Ok(false);
+    }
+    match unpacker.feed(alloc, back)? {
+        Fed::Done { message, used } => {
+            Ok(used + size == end && message.equals(&whole) && unpacker.held() == 0)
+        }
+        Fed::More => Ok(false),
+    }
+}
+
+#[test]
+fn each_split_gives_the_same_message(rt: HostRuntime) -> Result<(), Fail> {
+    let table = Table::ascii87(rt.alloc())?;
+    let cases = [("echo", ECHO), ("payment", PAYMENT), ("reversal", REVERSAL)];
+    for (name, bytes) in &cases {
+        for size in 0..bytes.len() {
+            assert!(rt;
+                is_read_in_two(rt.alloc(), &table, bytes, size)?,
+                "{name}, {size} bytes"
+            );
+        }
+        let last = in_pieces_of(rt.alloc(), &table, 1, bytes);
+        assert_eq!(rt; last, (bytes.len() - 1, Told::Done(1)), "{name}");
+    }
+    Ok(())
+}
+
+#[test]
+fn each_split_gives_the_same_packed_message(rt: HostRuntime) -> Result<(), Fail> {
+    let table = Table::bcd87(rt.alloc())?;
+    for size in 0..PACKED_ECHO.len() {
+        assert!(rt;
+            is_read_in_two(rt.alloc(), &table, PACKED_ECHO, size)?,
+            "{size} bytes"
+        );
+    }
+    let last = in_pieces_of(rt.alloc(), &table, 1, PACKED_ECHO);
+    assert_eq!(rt; last, (27, Told::Done(1)));
+    Ok(())
+}

@@ -1,0 +1,154 @@
+//! Messages that are left where they lie.
+
+use super::*;
+
+/// A message, and the bodies of its elements as they lie there.
+#[derive(Drop)]
+struct Seen {
+    name: &'static str,
+    bytes: &'static [u8],
+    mti: u16,
+    used: usize,
+    wires: &'static [(u8, &'static [u8])],
+}
+
+fn ascii_views() -> [Seen; 4] {
+    [
+        Seen {
+            name: "payment",
+            bytes: PAYMENT,
+            mti: 200,
+            used: 82,
+            wires: &[
+                (2, b"4111111111111111"),
+                (3, b"000000"),
+                (4, b"000000001000"),
+                (7, b"0102030405"),
+                (11, b"000007"),
+                (32, b"12345"),
+                (49, b"840"),
+            ],
+        },
+        Seen {
+            name: "reversal",
+            bytes: REVERSAL,
+            mti: 420,
+            used: 101,
+            wires: &[
+                (7, b"0102030500"),
+                (11, b"000008"),
+                (32, b"12345"),
+                (90, b"020000000701020304050000001234500000000000"),
+            ],
+        },
+        Seen {
+            name: "a padded value, and bytes behind",
+            bytes: b"08000000000000800000TERM1   08",
+            mti: 800,
+            used: 28,
+            wires: &[(41, b"TERM1   ")],
+        },
+        Seen {
+            name: "eight blanks",
+            bytes: b"08000000000000800000        ",
+            mti: 800,
+            used: 28,
+            wires: &[(41, b"        ")],
+        },
+    ]
+}
+
+fn packed_views() -> [Seen; 2] {
+    [
+        Seen {
+            name: "echo",
+            bytes: PACKED_ECHO,
+            mti: 800,
+            used: 28,
+            wires: &[
+                (7, b"\x01\x02\x03\x04\x05"),
+                (11, b"\0\0\x01"),
+                (70, b"\x03\x01"),
+            ],
+        },
+        Seen {
+            name: "filler F",
+            bytes: b"\x08\x00\x82\x20\0\0\0\0\0\0\x04\0\0\0\0\0\0\0\x01\x02\x03\x04\x05\0\0\x01\xF3\x01",
+            mti: 800,
+            used: 28,
+            wires: &[
+                (7, b"\x01\x02\x03\x04\x05"),
+                (11, b"\0\0\x01"),
+                (70, b"\xF3\x01"),
+            ],
+        },
+    ]
+}
+
+/// Whether the view finds these bodies and no other.
+fn finds_only(seen: &View, wires: &[(u8, &[u8])]) -> bool {
+    for n in 0..=255 {
+        if seen.wire(n) != value_in(wires, n) {
+            return false;
+        }
+    }
+    true
+}
+
+#[test]
+fn views_find_the_bodies(rt: HostRuntime) -> Result<(), Fail> {
+    let table = Table::ascii87(rt.alloc())?;
+    for case in &ascii_views() {
+        let name = case.name;
+        let seen = view(&table, case.bytes)?;
+        assert_eq!(rt;
+            (seen.mti().number(), seen.used()),
+            (case.mti, case.used),
+            "{name}"
+        );
+        assert!(rt; finds_only(&seen, case.wires), "{name}");
+    }
+    Ok(())
+}
+
+#[test]
+fn views_find_packed_bodies(rt: HostRuntime) -> Result<(), Fail> {
+    let table = Table::bcd87(rt.alloc())?;
+    for case in &packed_views() {
+        let name = case.name;
+        let seen = view(&table, case.bytes)?;
+        assert_eq!(rt;
+            (seen.mti().number(), seen.used()),
+            (case.mti, case.used),
+            "{name}"
+        );
+        assert!(rt; finds_only(&seen, case.wires), "{name}");
+    }
+    Ok(())
+}
+
+#[test]
+fn a_body_is_a_slice_of_the_callers_bytes(rt: HostRuntime) -> Result<(), Fail> {
+    let table = Table::ascii87(rt.alloc())?;
+    let seen = view(&table, PAYMENT)?;
+    assert_eq!(rt; seen.wire(2), Some(&PAYMENT[22..38]));
+    assert_eq!(rt; seen.wire(49), Some(&PAYMENT[79..82]));
+    assert_eq!(rt; seen.wire(5), None);
+    Ok(())
+}
+
+#[test]
+fn views_and_unpackers_show_no_bytes(rt: HostRuntime) -> Result<(), Fail> {
+    let alloc = rt.alloc();
+    let table = Table::ascii87(alloc)?;
+    let seen = view(&table, PAYMENT)?;
+    assert_eq!(rt;
+        format!(in alloc; "{seen:?}")?.as_str(),
+        "View { mti: 200, used: 82 }"
+    );
+    let mut unpacker = Unpacker::new(alloc, &table);
+    unpacker.feed(alloc, &PAYMENT[..40])?;
+    let shown = format!(in alloc; "{unpacker:?}")?;
+    assert_eq!(rt; shown.as_str(), "Unpacker { held: 40, stopped: None }");
+    Ok(())
+}
