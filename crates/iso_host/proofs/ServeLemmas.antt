@@ -17,16 +17,21 @@ use Rattle.iso_host.proofs.JournalLemmas.{books_more, books_none}
 use Rattle.iso_host.proofs.OutputLemmas.{frames_more, AllFit_more, output_none, output_more, output_front, front_more}
 use Rattle.iso_host.proofs.Running.{Going, Running}
 use Rattle.iso_host.proofs.StreamLemmas.{rest_from}
-use Rattle.iso_host.specs.Asking.{asked_of, count_asked, is_answered, is_silent, is_unreadable}
+use Rattle.iso_host.specs.Asking.{message_in, asked_of, count_asked, is_answered, is_silent, is_unreadable}
 use Rattle.iso_host.specs.Counts.{Counts}
 use Rattle.iso_host.specs.Entering.{books_after, entered, with_orders}
-use Rattle.iso_host.specs.Output.{IsAnswer, IsOutput}
+use Rattle.iso_host.specs.Output.{IsAnswer, IsAnswerTo, IsOutput}
 use Rattle.iso_host.specs.Served.{Served, Outcome, Cut, Cause, Reports, ReportsOneMore, one_more}
 use Rattle.iso_host.specs.Serving.{AnswersPart, AnswersWhole, SpendsOnWrite, Spends, TakesTurns, FillsFrom, SpendsOnRead, Ends}
 use Rattle.iso_host.specs.Writing.{WritesSome}
 use Rattle.iso_host.specs.declared.fault.Report.{Report}
 use Rattle.iso_host.specs.declared.fault.ServeFault.{ServeFault}
 use Rattle.iso_host.specs.declared.fault.ServeFault.TheVariants.{Read, Write, BadHeader, CutFrame, Memory, TooManyTurns}
+
+-- the answer to the message that a body is
+answer_to_body : (t : Layout) (h : Header) (books : Books) (body bytes : List ℕ) → IsAnswerTo t h books (message_in t body) bytes → IsAnswer t h books body bytes
+unfolding IsAnswer IsAnswerTo
+answer_to_body t h books body bytes is = is
 
 module _ (t : Layout) (h : Header) (unread left held : Option (List ℕ)) (old : Books) where
   -- nothing is handled yet
@@ -55,14 +60,14 @@ module _ (t : Layout) (h : Header) (unread left held : Option (List ℕ)) (old :
     answer_more body answer is = subst (λ (b : Books). IsAnswer t h b body answer) served.books is
 
     -- one more body is handled and answered
-    pub served_more : (after : Option (List ℕ)) (new : Books) (body : List ℕ) (used : ℕ) → Begins h bytes body used → AnswersWhole t h mid new body written after
+    pub served_more : (after : Option (List ℕ)) (new : Books) (body : List ℕ) (used : ℕ) → Begins h bytes body used → AnswersWhole t h mid new (message_in t body) written after
         → Served t h unread left held after old new (bodies ++ body ∷ []) (drop used bytes)
     served_more after new body used begins whole = record {
       read = read_more body used begins;
       fit = AllFit_more h bodies body served.fit begins.fits;
       books = entered_more new body whole.entered;
       bytes = served.bytes ++ whole.bytes;
-      output = output_more t h old bodies body served.bytes whole.bytes served.output (answer_more body whole.bytes whole.answer);
+      output = output_more t h old bodies body served.bytes whole.bytes served.output (answer_more body whole.bytes (answer_to_body t h mid body whole.bytes whole.answer));
       answers = Appends-trans held written after _ _ served.answers whole.appends;
     }
 
@@ -112,15 +117,16 @@ module _ (t : Layout) (h : Header) (unread left held : Option (List ℕ)) (old :
         )
 
     -- answering a body ends the call
-    stopped_answering : (after : Option (List ℕ)) (new : Books) (body : List ℕ) (used : ℕ) → Begins h bytes body used → AnswersPart t h mid new body written after
+    stopped_answering : (after : Option (List ℕ)) (new : Books) (body : List ℕ) (used : ℕ) → Begins h bytes body used → AnswersPart t h mid new (message_in t body) written after
         → Cut t h unread left held after old new
     stopped_answering after new body used begins (inl kept) =
         subst (λ (b : Books). Cut t h unread left held after old b) (sym kept.0)
         (subst (λ o. Cut t h unread left held o old mid) (sym kept.1) (stopped_here left [] (Consumes-nil left)))
-    stopped_answering after new body used begins (inr some) = stopped_after after new body used begins some.0 some.1.0 some.1.1 some.1.2
+    stopped_answering after new body used begins (inr some) =
+        stopped_after after new body used begins some.0 some.1.0 (answer_to_body t h mid body some.1.0 some.1.1) some.1.2
 
     pub stop_at : (T : Type 0) (after : Option (List ℕ)) (new : Books) (c0 c1 : Counts) (before turns : ℕ) (body : List ℕ) (used : ℕ) (fault : ServeFault) → Begins h bytes body used
-        → AnswersPart t h mid new body written after → SpendsOnWrite {T = T} c0 c1 before turns (Err fault)
+        → AnswersPart t h mid new (message_in t body) written after → SpendsOnWrite {T = T} c0 c1 before turns (Err fault)
         → Outcome t h unread left held after old new (Err fault)
     stop_at T after new c0 c1 before turns body used Read begins part spent = absurd spent
     stop_at T after new c0 c1 before turns body used BadHeader begins part spent = absurd spent
@@ -197,7 +203,7 @@ begins_within h bytes body used begins =
 
 -- the loop goes on behind the frame
 pub going_more : FirstsGoOn → (t : Layout) (h : Header) (unread left held written after : Option (List ℕ)) (old mid new : Books) (before report : Report) (items body : List ℕ) (at used : ℕ)
-    → Going t h unread left held written old mid before (drop at items) → Begins h (drop at items) body used → AnswersWhole t h mid new body written after
+    → Going t h unread left held written old mid before (drop at items) → Begins h (drop at items) body used → AnswersWhole t h mid new (message_in t body) written after
     → ReportsOneMore before report (asked_of t body)
     → Going t h unread left held after old new report (drop (at + used) items)
 going_more go_on t h unread left held written after old mid new before report items body at used going begins whole reports = record {

@@ -1,11 +1,13 @@
 -- The journal while bodies are handled: the first order of each key, up to the limit.
-use Rattle.std.specs.Prelude.{ℕ, Bool, not, ◌&&◌, nat_le, List, ◌++◌, length, take}
+use Rattle.std.specs.Prelude.{ℕ, Bool, not, ◌&&◌, nat_le, List, ◌++◌, length, take, Option, option_map}
 use Rattle.iso_table.specs.Layout.{Layout}
+use Rattle.iso_wire.specs.Contents.{Contents}
 use Rattle.iso_order.specs.declared.key.TxKey.{TxKey}
 use Rattle.iso_order.specs.Order.{Instruction}
+use Rattle.iso_order.specs.Verdict.{verdict}
 use Rattle.iso_issuer.specs.Books.{Books}
 use Rattle.iso_issuer.specs.Journal.{firsts, is_entered}
-use Rattle.iso_host.specs.Asking.{asked_of, orders_in, orders_of}
+use Rattle.iso_host.specs.Asking.{message_in, orders_in, orders_of}
 
 -- the books with these orders more: the first of each key, up to the limit
 abbrev pub with_orders : Books → List Instruction → Books
@@ -15,9 +17,13 @@ with_orders books orders = record books { orders = take books.limit (firsts (boo
 unfoldable pub books_after : Layout → Books → List (List ℕ) → Books
 books_after t books bodies = with_orders books (orders_of t bodies)
 
+-- the books once the message that a body is, or none, is handled
+abbrev pub entered_by : Books → Option Contents → Books
+entered_by books message = with_orders books (orders_in (option_map verdict message))
+
 -- the books once this body is handled
 abbrev pub entered : Layout → Books → List ℕ → Books
-entered t books body = with_orders books (orders_in (asked_of t body))
+entered t books body = entered_by books (message_in t body)
 
 -- the journal is at its limit, and the key is new
 abbrev pub is_full : Books → TxKey → Bool

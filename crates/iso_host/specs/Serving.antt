@@ -4,10 +4,11 @@ use Rattle.std.specs.declared.option.Option.{Option}
 use Rattle.std.specs.Io.KnownBytes.{Appends, Consumes, Keeps, IsAtEnd}
 use Rattle.iso_table.specs.Layout.{Layout}
 use Rattle.iso_wire.specs.declared.header.Header.{Header}
+use Rattle.iso_wire.specs.Contents.{Contents}
 use Rattle.iso_issuer.specs.Books.{Books}
 use Rattle.iso_host.specs.Counts.{Counts}
-use Rattle.iso_host.specs.Entering.{entered}
-use Rattle.iso_host.specs.Output.{IsAnswer}
+use Rattle.iso_host.specs.Entering.{entered_by}
+use Rattle.iso_host.specs.Output.{IsAnswerTo}
 use Rattle.iso_host.specs.Writing.{WritesSome}
 use Rattle.iso_host.specs.declared.fault.Report.{Report}
 use Rattle.iso_host.specs.declared.fault.ServeFault.{ServeFault}
@@ -37,23 +38,23 @@ SpendsOnWrite old new before left (Err Memory) = Spends old new before left
 
 -- ---- answering
 
--- at an error the books are as they were and nothing was written, or the body's order was entered and some bytes at the
--- front of its answer were written, or none
-abbrev pub AnswersPart : Layout → Header → Books → Books → List ℕ → Option (List ℕ) → Option (List ℕ) → Type 0
-AnswersPart t h old new body held written =
+-- at an error the books are as they were and nothing was written, or the message's order was entered and some bytes at
+-- the front of its answer were written, or none
+abbrev pub AnswersPart : Layout → Header → Books → Books → Option Contents → Option (List ℕ) → Option (List ℕ) → Type 0
+AnswersPart t h old new message held written =
     ((new ≡ old) × (written ≡ held))
-    ⊎ ((new ≡ entered t old body) × ((bytes : List ℕ) × IsAnswer t h old body bytes × WritesSome held written bytes))
+    ⊎ ((new ≡ entered_by old message) × ((bytes : List ℕ) × IsAnswerTo t h old message bytes × WritesSome held written bytes))
 
--- the body's order was entered and its answer written
-pub record AnswersWhole (t : Layout) (h : Header) (old new : Books) (body : List ℕ) (held written : Option (List ℕ)) : Type 0 where
-  pub entered : new ≡ entered t old body
+-- the message's order was entered and its answer written
+pub record AnswersWhole (t : Layout) (h : Header) (old new : Books) (message : Option Contents) (held written : Option (List ℕ)) : Type 0 where
+  pub entered : new ≡ entered_by old message
   pub bytes : List ℕ
-  pub answer : IsAnswer t h old body bytes
+  pub answer : IsAnswerTo t h old message bytes
   pub appends : Appends held written bytes
 
-abbrev pub AnswersInto : {T : Type 0} → Layout → Header → Books → Books → List ℕ → Option (List ℕ) → Option (List ℕ) → Result T ServeFault → Type 0
-AnswersInto t h old new body held written (Ok x) = AnswersWhole t h old new body held written
-AnswersInto t h old new body held written (Err e) = AnswersPart t h old new body held written
+abbrev pub AnswersInto : {T : Type 0} → Layout → Header → Books → Books → Option Contents → Option (List ℕ) → Option (List ℕ) → Result T ServeFault → Type 0
+AnswersInto t h old new message held written (Ok x) = AnswersWhole t h old new message held written
+AnswersInto t h old new message held written (Err e) = AnswersPart t h old new message held written
 
 -- ---- reading
 

@@ -1,4 +1,4 @@
-//! One body: what it asks, and the frame of its response.
+//! One body: its message, what that asks, and the frame of the response.
 ghost use Rattle.std.specs.Prelude.{◌≡◌, ℕ, ◌≤◌, List, [], ◌∷◌, length, true, IfOk, OnOk, OnErr, IfSome, None, Some};
 ghost use Rattle.iso_table.specs.HostReady.{IsHostReady};
 ghost use Rattle.iso_wire.specs.Refusal.{message_refusal};
@@ -8,7 +8,7 @@ ghost use Rattle.iso_order.specs.Response.{response, is_showable};
 ghost use Rattle.iso_order.specs.Verdict.{verdict};
 ghost use Rattle.iso_issuer.specs.Shown.{is_shown_for};
 ghost use Rattle.iso_host.specs.Asking.{message_in, orders_in};
-ghost use Rattle.iso_host.specs.Entering.{entered, with_orders};
+ghost use Rattle.iso_host.specs.Entering.{entered_by, with_orders};
 ghost use Rattle.iso_host.specs.Handled.{Handles, EntersOrKeeps};
 ghost use Rattle.iso_host.specs.Output.{outcome_for, outcome_of, IsFramed};
 
@@ -34,7 +34,7 @@ pub enum Handled {
 
 /// The message that the whole body is, if it is one.
 #[tactic(auto, unfolding(crate::specs::Asking::message_in))]
-fn whole_message(alloc: Global, table: &Table, body: &[u8]) -> Result<Option<Message>, NoMemory>
+pub fn whole_message(alloc: Global, table: &Table, body: &[u8]) -> Result<Option<Message>, NoMemory>
     ensures whole { IfOk result (λ message. message ≡ message_in table.now body.now) }
     ensures read { IfOk result (λ message. IfSome message (λ m. (bytes : List ℕ) × Spelling table.now m bytes)) }
 {
@@ -162,23 +162,24 @@ fn has_frame(table: &Table, header: Header, message: &Message, answer: &Answer)
     let _version = table.version();
 }
 
-/// Handles one body: an order is entered, and then the response is made. After an `Err` its order may be entered:
-/// then the body has an answer, though it wasn't made.
-#[tactic(auto, unfolding(crate::specs::Output::IsAnswer))]
-pub fn handle_body(
+/// Handles what a body is: the order of its message is entered, and then the response is made. After an `Err` the order
+/// may be entered: then the message has an answer, though it wasn't made.
+#[tactic(auto, unfolding(crate::specs::Output::IsAnswerTo))]
+pub fn handle_message(
     alloc: Global,
     table: &Table,
     header: Header,
     issuer: &mut Issuer,
-    body: &[u8],
+    message: Option<Message>,
 ) -> Result<Handled, NoMemory>
-    requires { IsHostReady table.now }
-    ensures handled { IfOk result (Handles table.now header issuer.old body.now) }
-    ensures entered { OnOk result (issuer.new ≡ entered table.now issuer.old body.now) }
-    ensures memory { OnErr result (EntersOrKeeps table.now header issuer.old issuer.new body.now) }
+    requires ready { IsHostReady table.now }
+    requires read { IfSome message (λ m. (bytes : List ℕ) × Spelling table.now m bytes) }
+    ensures handled { IfOk result (Handles table.now header issuer.old message) }
+    ensures entered { OnOk result (issuer.new ≡ entered_by issuer.old message) }
+    ensures memory { OnErr result (EntersOrKeeps table.now header issuer.old issuer.new message) }
 {
     enters_nothing(issuer);
-    let Some(message) = whole_message(alloc, table, body)? else {
+    let Some(message) = message else {
         return Ok(Handled::Unreadable);
     };
     let Some(answer) = answer_to(issuer, &message)? else {

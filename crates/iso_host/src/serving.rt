@@ -1,19 +1,20 @@
 //! The engine: frames from a reader, and the frames of their responses to a writer.
-ghost use Rattle.std.specs.Prelude.{◌≡◌, OnOk};
+ghost use Rattle.std.specs.Prelude.{◌≡◌, ℕ, List, IfSome, OnOk, option_map};
 ghost use Rattle.iso_table.specs.HostReady.{IsHostReady};
-ghost use Rattle.iso_host.specs.Asking.{asked_of};
+ghost use Rattle.iso_wire.specs.Spelling.{Spelling};
+ghost use Rattle.iso_order.specs.Verdict.{verdict};
 ghost use Rattle.iso_host.specs.Served.{Outcome, Cause, Flushes, IsFlushed, ReportsOneMore, WithinTurns};
 ghost use Rattle.iso_host.specs.Serving.{AnswersInto, SpendsOnWrite, TakesTurns, Ends};
 ghost use Rattle.iso_host.specs.Writing.{WritesFront};
 
 use crate::buffer::{drop_front, read_more};
 use crate::fault::{Report, ServeFault};
-use crate::handling::{Handled, enters_nothing, handle_body};
+use crate::handling::{Handled, enters_nothing, handle_message, whole_message};
 use crate::streams::{Inlet, Outlet};
 use iso_issuer::Issuer;
 use iso_issuer::laws::firsts_go_on;
 use iso_table::Table;
-use iso_wire::{Framed, Header, unframe};
+use iso_wire::{Framed, Header, Message, unframe};
 use std::alloc::Global;
 
 /// The report before the first frame.
@@ -48,25 +49,26 @@ fn write_whole<W: Outlet>(writer: &mut W, bytes: &[u8], left: &mut u64) -> Resul
     }
 }
 
-/// Handles one body and writes its answer. After `Memory` nothing was written.
-fn answer_body<W: Outlet>(
+/// Handles the message that a body is, or none, and writes its answer. After `Memory` nothing was written.
+fn answer_message<W: Outlet>(
     alloc: Global,
     table: &Table,
     header: Header,
     issuer: &mut Issuer,
-    body: &[u8],
+    message: Option<Message>,
     writer: &mut W,
     left: &mut u64,
     report: &mut Report,
 ) -> Result<(), ServeFault>
-    requires { IsHostReady table.now }
-    ensures answered { AnswersInto table.now header issuer.old issuer.new body.now (W.contents writer.old) (W.contents writer.new) result }
+    requires ready { IsHostReady table.now }
+    requires read { IfSome message (λ m. (bytes : List ℕ) × Spelling table.now m bytes) }
+    ensures answered { AnswersInto table.now header issuer.old issuer.new message (W.contents writer.old) (W.contents writer.new) result }
     ensures turns { TakesTurns (W.counts writer.old) (W.counts writer.new) left.old left.new }
     ensures spent { SpendsOnWrite (W.counts writer.old) (W.counts writer.new) left.old left.new result }
     ensures flushed { OnOk result (IsFlushed (W.counts writer.old) (W.counts writer.new)) }
-    ensures report { OnOk result (ReportsOneMore report.old report.new (asked_of table.now body.now)) }
+    ensures report { OnOk result (ReportsOneMore report.old report.new (option_map verdict message)) }
 {
-    let Ok(handled) = handle_body(alloc, table, header, issuer, body) else {
+    let Ok(handled) = handle_message(alloc, table, header, issuer, message) else {
         return Err(ServeFault::Memory);
     };
     report.frames = report.frames.saturating_add(1);
@@ -142,12 +144,15 @@ pub fn serve<R: Inlet, W: Outlet>(
         match unframe(header, &buffer[at..]) {
             Err(_) => return Err(ServeFault::BadHeader),
             Ok(Framed::Got { body, used }) => {
-                let answered = answer_body(
+                let Ok(message) = whole_message(alloc, table, body) else {
+                    return Err(ServeFault::Memory);
+                };
+                let answered = answer_message(
                     alloc,
                     table,
                     header,
                     issuer,
-                    body,
+                    message,
                     writer,
                     &mut left,
                     &mut report,
