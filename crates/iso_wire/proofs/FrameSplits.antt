@@ -1,9 +1,9 @@
 -- A stream is split into frames and a rest in one way.
-use Rattle.std.proofs.Common.{◌≡◌, ℕ, zero, suc, ◌+◌, ◌-◌, ◌*◌, ◌/◌, ◌%◌, ◌<◌, ◌≤◌, List, [], ◌∷◌, ◌++◌, length, take, drop, sym, refl, ap, ◌∙◌, arith, append_assoc, length-append, inl, inr, ◌⊎◌}
+use Rattle.std.proofs.Common.{rules, ◌≡◌, ℕ, true, false, zero, suc, ◌+◌, ◌-◌, ◌*◌, ◌/◌, ◌%◌, ◌<◌, ◌≤◌, List, [], ◌∷◌, ◌++◌, length, take, drop, sym, refl, ap, ◌∙◌, arith, append_assoc, length-append, inl, inr, ◌⊎◌}
 use Rattle.std.proofs.lemmas.List.{length-take-le}
 use Rattle.std.proofs.lemmas.Bool.{cases_lt, cases_eq}
 use Rattle.std.proofs.Math.Seq.{take-append_seam, drop-append_seam}
-use Rattle.iso_wire.specs.Frame.{largest, header_size, header_of, frame_of, frames_of, AllFit, NoFrame, Splits}
+use Rattle.iso_wire.specs.Frame.{largest, header_size, header_of, frame_of, frames_of, is_bad_header, AllFit, NoFrame, NeedsMore, Splits}
 use Rattle.iso_wire.specs.declared.header.Header.{Header}
 use Rattle.iso_wire.specs.declared.header.Header.TheVariants.{Binary2, Ascii4, Bcd2}
 use Rattle.iso_wire.proofs.FrameHeaders.{length-header_of}
@@ -176,4 +176,36 @@ split_behind h done bodies more rest f s = record {
   joined = ap (λ l. frames_of h done ++ l) s.joined ∙ sym (append_assoc (frames_of h done) (frames_of h bodies) rest) ∙ ap (λ l. l ++ rest) (sym (frames_of-append h done bodies));
   fit = AllFit-append h done bodies f s.fit;
   partial = s.partial;
+}
+
+-- ---- a frame that is cut off
+
+-- a header that isn't of digits is one whatever follows
+pub bad_stays : (h : Header) (bytes more : List ℕ) → is_bad_header h bytes ≡ true → is_bad_header h (bytes ++ more) ≡ true
+bad_stays Binary2 bytes more bad = absurd cc
+bad_stays Ascii4 [] more bad = absurd cc
+bad_stays Ascii4 (a ∷ []) more bad = absurd cc
+bad_stays Ascii4 (a ∷ b ∷ []) more bad = absurd cc
+bad_stays Ascii4 (a ∷ b ∷ c ∷ []) more bad = absurd cc
+bad_stays Ascii4 (a ∷ b ∷ c ∷ d ∷ bytes) more bad = search rules
+bad_stays Bcd2 [] more bad = absurd cc
+bad_stays Bcd2 (x ∷ []) more bad = absurd cc
+bad_stays Bcd2 (x ∷ y ∷ bytes) more bad = search rules
+
+-- a header that counts a length is of digits
+good_header : (h : Header) (n : ℕ) (part : List ℕ) → n ≤ largest h → is_bad_header h (header_of h n ++ part) ≡ false
+good_header Binary2 n part fits = refl
+good_header Ascii4 n part fits = search rules
+good_header Bcd2 n part fits = search rules
+
+-- a header and fewer bytes than it counts
+pub cut_needs_more : (h : Header) (n : ℕ) (part : List ℕ) → n ≤ largest h → length part < n → NeedsMore h (header_of h n ++ part)
+cut_needs_more h n part fits few = record {
+  no_frame = λ body more p e.
+      let q = only_front h (header_of h n ++ part) body more p e in
+      let behind : drop (header_size h) (header_of h n ++ part) ≡ part =
+      ap (λ k. drop k (header_of h n ++ part)) (sym (length-header_of h n)) ∙ drop-append_seam (header_of h n) part in
+      let size : n ≡ length body = sym (told-header_of h n part fits) ∙ q.0 in
+      omega (arith, ap length q.1, ap length behind, length-append body more, size, few);
+  no_fault = good_header h n part fits;
 }

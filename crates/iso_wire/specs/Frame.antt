@@ -1,5 +1,5 @@
 -- Frames: before each body of bytes a header that counts the body alone.
-use Rattle.std.specs.Prelude.{◌≡◌, ℕ, ◌+◌, ◌*◌, ◌/◌, ◌%◌, ◌≤◌, ◌&&◌, nat_lt, nat_le, not, if◌then◌else◌, Bool, true, false, List, [], ◌∷◌, ◌++◌, length, take, drop, Option, Some, None, Result, Ok, Err}
+use Rattle.std.specs.Prelude.{◌≡◌, ℕ, ◌+◌, ◌*◌, ◌/◌, ◌%◌, ◌<◌, ◌≤◌, ◌&&◌, nat_lt, nat_le, not, if◌then◌else◌, Bool, true, false, List, [], ◌∷◌, ◌++◌, length, take, drop, Option, Some, None, Result, Ok, Err}
 use Rattle.std.specs.List.{list_all}
 use Rattle.iso_parts.specs.Class.{is_digit}
 use Rattle.iso_parts.specs.Part.{characters}
@@ -107,6 +107,14 @@ SplitsBehind =
 abbrev pub BadIsNoFrame : Type 0
 BadIsNoFrame = (h : Header) (bytes : List ℕ) → is_bad_header h bytes ≡ true → NoFrame h bytes
 
+-- and it isn't whatever follows
+abbrev pub BadStays : Type 0
+BadStays = (h : Header) (bytes more : List ℕ) → is_bad_header h bytes ≡ true → is_bad_header h (bytes ++ more) ≡ true
+
+-- a header and fewer bytes than it counts need more
+abbrev pub CutNeedsMore : Type 0
+CutNeedsMore = (h : Header) (n : ℕ) (part : List ℕ) → n ≤ largest h → length part < n → NeedsMore h (header_of h n ++ part)
+
 -- ---- reading a frame from the front of bytes: the header, and then the body, each when it is whole
 
 -- the length that a whole header tells, where it is of digits
@@ -146,6 +154,12 @@ abbrev pub AnswersFront : Header → List ℕ → Result Framed FrameFault → T
 AnswersFront h bytes (Ok (Got body used)) = Begins h bytes body.now used
 AnswersFront h bytes (Ok More) = NeedsMore h bytes
 AnswersFront h bytes (Err e) = (e ≡ BadDigits) × (is_bad_header h bytes ≡ true)
+
+-- the header at the front of the bytes counts this body's length; or the bytes end inside it; or it isn't of digits
+abbrev pub TellsLength : Header → List ℕ → Result (Option ℕ) FrameFault → Type 0
+TellsLength h bytes (Ok (Some n)) = (take (header_size h) bytes ≡ header_of h n) × (n ≤ largest h)
+TellsLength h bytes (Ok None) = (length bytes < header_size h) × NeedsMore h bytes
+TellsLength h bytes (Err e) = (e ≡ BadDigits) × (is_bad_header h bytes ≡ true)
 
 -- the answer is this body, whose frame takes so many bytes
 abbrev pub IsGot : Result Framed FrameFault → List ℕ → ℕ → Type 0

@@ -2,7 +2,7 @@
 
 ghost use Rattle.std.specs.Prelude.{◌≡◌, ◌↔◌, ◌+◌, ◌<◌, ◌≤◌, ℕ, List, [], ◌∷◌, ◌++◌, length, IfOk, OnOk, OnErr, IsErrOf, IsOkUnless, true};
 ghost use Rattle.iso_wire.specs.declared.framing.FrameFault.TheVariants as faults;
-ghost use Rattle.iso_wire.specs.Frame.{largest, header_size, frame_of, Frames, frame_at, Unframes, AnswersFront, IsGot, is_bad_header};
+ghost use Rattle.iso_wire.specs.Frame.{largest, header_size, frame_of, Frames, frame_at, Unframes, AnswersFront, TellsLength, IsGot, is_bad_header};
 
 use crate::header::Header;
 use std::alloc::{AllocError, Global};
@@ -95,6 +95,23 @@ pub fn frame(alloc: Global, header: Header, body: &[u8]) -> Result<Vec<u8>, Fram
     let mut out = Vec::new(alloc);
     append_frame(header, body, &mut out)?;
     Ok(out)
+}
+
+/// The length of the body that the header at the front of the input counts, and `None` where the input ends inside that
+/// header. Takes no memory. The bytes behind the header aren't looked at.
+///
+/// The only fault is `BadDigits`.
+pub fn body_length(header: Header, input: &[u8]) -> Result<Option<usize>, FrameFault>
+    ensures { TellsLength header input.now result }
+{
+    let size = header.size();
+    if input.len() < size {
+        return Ok(None);
+    }
+    match header.length_of(&input[..size]) {
+        Some(length) => Ok(Some(length)),
+        None => Err(FrameFault::BadDigits),
+    }
 }
 
 /// Reads the frame that the input begins with: the header when it is whole, and then the body. Takes no memory.

@@ -1,7 +1,7 @@
 //! What holds of every message and every stream: functions that do nothing, and whose contracts are laws.
 
 ghost use Rattle.iso_wire.specs.Entries.{elements_of};
-ghost use Rattle.iso_wire.specs.Frame.{BadIsNoFrame, FirstOfSplit, SplitsBehind, SplitsOnce, SplitsSomehow};
+ghost use Rattle.iso_wire.specs.Frame.{BadIsNoFrame, BadStays, CutNeedsMore, FirstOfSplit, SplitsBehind, SplitsOnce, SplitsSomehow};
 ghost use Rattle.iso_wire.specs.OneSpelling.{AreOfBytes, HasPlain, PlainOnce, WellFormed};
 ghost use Rattle.iso_wire.specs.ReadingLaws.{ReadingStays, ReadsSpellings};
 
@@ -50,4 +50,6 @@ pub fn splits_once()
     ensures first { FirstOfSplit }
     ensures behind { SplitsBehind }
     ensures bad { BadIsNoFrame }
+    ensures stays { BadStays }
+    ensures cut { CutNeedsMore }
 {}

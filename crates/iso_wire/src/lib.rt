@@ -24,7 +24,7 @@ mod viewing;
 pub use bodies::View;
 pub use decimal::{digits_of, write_decimal};
 pub use fault::{PackFault, SetFault, UnpackCause, UnpackFault};
-pub use framing::{FrameFault, Framed, append_frame, frame, unframe};
+pub use framing::{FrameFault, Framed, append_frame, body_length, frame, unframe};
 pub use header::Header;
 pub use masking::{Shown, masked};
 pub use message::Message;

@@ -4,7 +4,7 @@ use super::*;
 use crate::FrameFault::{BadDigits, TooLong};
 use crate::Framed::{Got, More};
 use crate::Header::{Ascii4, Bcd2, Binary2};
-use crate::{FrameFault, Framed, Header, append_frame, frame, unframe};
+use crate::{FrameFault, Framed, Header, append_frame, body_length, frame, unframe};
 
 #[test]
 fn bodies_are_framed(rt: HostRuntime) -> Result<(), Fail> {
@@ -120,6 +120,29 @@ fn frames_are_read(rt: HostRuntime) -> Result<(), Fail> {
     ];
     for (name, header, bytes, want) in cases {
         assert_eq!(rt; unframe(header, bytes), want, "{name}");
+    }
+    Ok(())
+}
+
+#[test]
+fn headers_are_read_alone(rt: HostRuntime) -> Result<(), Fail> {
+    let cases: [(&str, Header, &[u8], Result<Option<usize>, FrameFault>); 8] = [
+        ("no bytes", Ascii4, b"", Ok(None)),
+        ("half a header with a letter", Ascii4, b"00x", Ok(None)),
+        ("a header with a letter", Ascii4, b"00x5", Err(BadDigits)),
+        ("a header alone", Ascii4, b"0055", Ok(Some(55))),
+        (
+            "a header and a part of the body",
+            Ascii4,
+            b"00550800",
+            Ok(Some(55)),
+        ),
+        ("two bytes", Binary2, b"\xFF\xFE", Ok(Some(65_534))),
+        ("two bytes of digits", Bcd2, b"\x12\x34\x56", Ok(Some(1234))),
+        ("two bytes not of digits", Bcd2, b"\x12\x3A", Err(BadDigits)),
+    ];
+    for (name, header, bytes, want) in cases {
+        assert_eq!(rt; body_length(header, bytes), want, "{name}");
     }
     Ok(())
 }
