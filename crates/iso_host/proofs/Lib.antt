@@ -5,3 +5,4 @@ mod Running
 mod ServeLemmas
 mod StreamLemmas
 mod Walks
+mod WindowLemmas

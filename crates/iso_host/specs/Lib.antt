@@ -5,6 +5,7 @@ pub mod Entering
 pub mod FaultNumbers
 pub mod Handled
 pub mod Output
+pub mod Pieces
 pub mod Served
 pub mod Serving
 pub mod Standard

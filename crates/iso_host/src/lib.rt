@@ -22,6 +22,7 @@ mod standard;
 mod streams;
 #[cfg(test)]
 mod tests;
+mod window;
 mod writing;
 
 pub use counting::{Call, Tally};

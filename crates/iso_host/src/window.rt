@@ -1,0 +1,83 @@
+//! The bytes that were read and not yet taken.
+
+ghost use Rattle.std.specs.Prelude.{◌≡◌, ◌≤◌, [], length, drop};
+ghost use Rattle.std.specs.Io.KnownBytes.{Keeps, prepend_known};
+ghost use Rattle.iso_host.specs.Pieces.{Refills, SpendsOnReads};
+ghost use Rattle.iso_host.specs.Serving.{TakesTurns};
+
+use crate::fault::ServeFault;
+use crate::streams::Inlet;
+use std::marker::Model;
+
+/// The most bytes of one read.
+const BLOCK: usize = 4096;
+
+/// The bytes of one read that are not yet taken. A contract sees them alone.
+#[derive(Drop)]
+pub struct Window {
+    block: [u8; BLOCK],
+    start: usize,
+    end: usize,
+}
+
+impl Model for Window {
+    ghost use Rattle.std.specs.Prelude.{ℕ, List, ◌-◌, ◌≤◌, take, drop};
+
+    ghost Value = { List ℕ };
+
+    ghost view = { λ w. take (w.end - w.start) (drop w.start w.block) };
+
+    ghost invariant = { λ w. (w.start ≤ w.end) × (w.end ≤ 4096) };
+}
+
+impl Window {
+    /// An empty window.
+    pub fn new() -> Window
+        ensures { result ≡ [] }
+    {
+        Window {
+            block: [0; BLOCK],
+            start: 0,
+            end: 0,
+        }
+    }
+
+    /// The bytes.
+    pub fn bytes(&self) -> &[u8]
+        ensures { result.now ≡ self.now }
+    {
+        &self.block[self.start..self.end]
+    }
+
+    /// Goes past the first bytes, which are taken.
+    pub fn pass(&mut self, count: usize)
+        requires { count ≤ length self.old }
+        ensures { self.new ≡ drop count self.old }
+    {
+        self.start += count;
+    }
+
+    /// One read into the empty window, which takes one of the turns that are left. The end of the input is `CutFrame`.
+    pub fn refill<R: Inlet>(&mut self, reader: &mut R, left: &mut u64) -> Result<(), ServeFault>
+        requires { self.old ≡ [] }
+        ensures kept { Keeps (prepend_known self.old (R.remaining reader.old)) (prepend_known self.new (R.remaining reader.new)) }
+        ensures bytes { Refills self.new (R.remaining reader.new) result }
+        ensures turns { TakesTurns (R.counts reader.old) (R.counts reader.new) left.old left.new }
+        ensures spent { SpendsOnReads (R.counts reader.old) (R.counts reader.new) left.old left.new self.old self.new 0 result }
+    {
+        if *left == 0 {
+            return Err(ServeFault::TooManyTurns);
+        }
+        *left -= 1;
+        self.start = 0;
+        self.end = 0;
+        let Ok(count) = reader.read(&mut self.block) else {
+            return Err(ServeFault::Read);
+        };
+        self.end = count;
+        if count == 0 {
+            return Err(ServeFault::CutFrame);
+        }
+        Ok(())
+    }
+}
