@@ -1,6 +1,7 @@
 mod BodyLemmas
 mod JournalLemmas
 mod OutputLemmas
+mod PieceLemmas
 mod Running
 mod ServeLemmas
 mod StreamLemmas

@@ -1,5 +1,6 @@
 -- What holds between two frames of a call of `serve`.
-use Rattle.std.proofs.Common.{◌≡◌, ℕ, ◌+◌, ◌≤◌, List}
+use Rattle.std.proofs.Common.{◌≡◌, ℕ, ◌+◌, ◌≤◌, List, length}
+use Rattle.std.specs.Io.KnownBytes.{Consumes}
 use Rattle.std.specs.declared.option.Option.{Option}
 use Rattle.iso_table.specs.Layout.{Layout}
 use Rattle.iso_wire.specs.declared.header.Header.{Header}
@@ -20,3 +21,9 @@ pub record Running (reader_old r writer_old w : Counts) (turns left : ℕ) : Typ
   pub moved : r.calls + w.calls + (reader_old.moved + writer_old.moved) ≤ reader_old.calls + writer_old.calls + (r.moved + w.moved)
   pub reader : r.failures ≡ reader_old.failures
   pub writer : w.failures ≡ writer_old.failures
+
+-- the bytes that were taken, where so many more are wanted of so many
+pub record SoFar (old new : Option (List ℕ)) (wanted size : ℕ) : Type 0 where
+  pub part : List ℕ
+  pub taken : Consumes old new part
+  pub sum : length part + wanted ≡ size

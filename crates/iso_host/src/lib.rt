@@ -17,6 +17,7 @@ mod fakes;
 mod fault;
 mod handling;
 pub mod laws;
+mod reading;
 mod serving;
 mod standard;
 mod streams;

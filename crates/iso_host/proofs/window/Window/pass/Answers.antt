@@ -1,4 +1,4 @@
-use Rattle.std.proofs.Common.{◌≡◌, ◌≤◌, ◌+◌, ◌-◌, length, take, drop, ap, ◌∙◌, arith, length-take}
+use Rattle.std.proofs.Common.{◌≤◌, ◌+◌, ◌-◌, length, drop, ap, ◌∙◌, arith, length-take}
 use Rattle.iso_host.proofs.WindowLemmas.{passed}
 use Rattle.iso_host.proofs.window.Window.pass.Goals as goal
 
