@@ -1,12 +1,21 @@
 -- One more piece taken through a window.
-use Rattle.std.proofs.Common.{◌≡◌, ℕ, min, ◌+◌, ◌-◌, ◌≤◌, List, [], ◌∷◌, ◌++◌, length, take, drop, sym, refl, ap, subst, ◌∙◌, arith, length-append, length-take, length-drop, Err}
-use Rattle.std.proofs.KnownBytes.{Consumes-kept}
-use Rattle.std.specs.declared.option.Option.{Option}
+use Rattle.std.proofs.Common.{◌≡◌, ◌≢◌, ◌==◌, ℕ, Bool, true, false, Option, min, ◌+◌, ◌-◌, ◌≤◌, List, [], ◌∷◌, ◌++◌, length, take, drop, sym, refl, ap, subst, ◌∙◌, arith, length-append, length-take, length-drop, Err}
+use Rattle.std.proofs.lemmas.Bool.{eqb-true, eqb-false}
+use Rattle.std.proofs.KnownBytes.{Consumes-nil, Consumes-trans, Consumes-kept}
 use Rattle.std.specs.Io.KnownBytes.{Consumes, Keeps, prepend_known}
-use Rattle.iso_host.proofs.Running.{SoFar}
+use Rattle.iso_table.specs.Layout.{Layout}
+use Rattle.iso_wire.specs.declared.header.Header.{Header}
+use Rattle.iso_wire.specs.declared.header.Header.TheVariants.{Binary2, Ascii4, Bcd2}
+use Rattle.iso_wire.specs.Contents.{Contents}
+use Rattle.iso_wire.specs.Feeding.{Feeding}
+use Rattle.iso_wire.specs.Frame.{header_of, largest, CutNeedsMore}
+use Rattle.iso_wire.specs.Spelling.{AreBytes}
+use Rattle.iso_host.proofs.Running.{SoFar, BodySoFar}
 use Rattle.iso_host.proofs.WindowLemmas.{took_more}
+use Rattle.iso_host.specs.Asking.{message_in}
+use Rattle.iso_host.specs.Bodies.{IsRest, holding}
 use Rattle.iso_host.specs.Counts.{Counts}
-use Rattle.iso_host.specs.Pieces.{Refills, TakesBytes, Draws, EndsReads}
+use Rattle.iso_host.specs.Pieces.{EndsInside, Refills, TakesBytes, Draws, EndsReads}
 use Rattle.iso_host.specs.Serving.{Spends}
 use Rattle.iso_host.specs.declared.fault.ServeFault.{ServeFault}
 use Rattle.iso_host.specs.declared.fault.ServeFault.TheVariants.{Read, Write, BadHeader, CutFrame, Memory, TooManyTurns}
@@ -72,3 +81,88 @@ sofar_ends T a b c wanted size window left e so more kept none =
 
 pub sofar_kept : (a b c : Option (List ℕ)) (wanted size : ℕ) → SoFar a b wanted size → Keeps b c → SoFar a c wanted size
 sofar_kept a b c wanted size so kept = record { part = so.part; taken = Consumes-kept a b c so.part so.taken kept; sum = so.sum }
+
+-- ---- a body
+
+-- all of it that is here is fed
+pub body_here : (t : Layout) (u : Feeding) (a r : Option (List ℕ)) (w seen piece after : List ℕ) (wanted size n : ℕ) → BodySoFar t u a (prepend_known w r) wanted size → seen ≡ w → piece ≡ w
+    → n ≡ min (length seen) wanted → after ≡ drop n w → Consumes a (prepend_known after r) (u.taken ++ take n piece) × (length (u.taken ++ take n piece) + (wanted - n) ≡ size)
+body_here t u a r w seen piece after wanted size n so same again least passed =
+    let step = took_more a r w u.taken n so.taken in (
+      subst (λ (l : List ℕ). Consumes a (prepend_known after r) (u.taken ++ take n l)) (sym again)
+          (subst (λ (l : List ℕ). Consumes a (prepend_known l r) (u.taken ++ take n w)) (sym passed) step),
+      omega (arith, so.sum, length-append u.taken (take n piece), length-take n piece, ap length same, ap length again, least),
+    )
+
+-- the rest of it is none behind its last piece, else some
+pub rest_is : (n wanted : ℕ) (rest : List ℕ) → n ≤ wanted → length rest ≡ wanted - n → IsRest (n == wanted) rest
+rest_is n wanted rest few size = by_test (n == wanted) refl
+  where
+    none_of : (l : List ℕ) → length l ≡ 0 → l ≡ []
+    none_of [] e = refl
+    none_of (x ∷ l) e = absurd (omega arith)
+
+    by_test : (b : Bool) → (n == wanted) ≡ b → IsRest b rest
+    by_test true same = none_of rest (omega (arith, size, eqb-true n wanted same))
+    by_test false other = omega (arith, size, few, eqb-false n wanted other)
+
+pub more_wanted : (n wanted : ℕ) → (n == wanted) ≡ false → n ≤ wanted → wanted - n ≡ 0 → ⊥
+more_wanted n wanted other few none = eqb-false n wanted other (omega (arith, few, none))
+
+-- the rest of it is passed over
+pub body_known : (t : Layout) (a b c : Option (List ℕ)) (front rest : List ℕ) (n wanted size : ℕ) (message : Option Contents) → Consumes a b front → length front + (wanted - n) ≡ size → n ≤ wanted
+    → ((rest : List ℕ) → IsRest (n == wanted) rest → message_in t (front ++ rest) ≡ message) → Consumes b c rest → length rest ≡ wanted - n
+    → (body : List ℕ) × Consumes a c body × (length body ≡ size) × (message ≡ message_in t body)
+body_known t a b c front rest n wanted size message taken sum few told behind more = (
+  front ++ rest,
+  Consumes-trans a b c front rest taken behind,
+  omega (arith, sum, more, length-append front rest),
+  sym (told rest (rest_is n wanted rest few more)),
+)
+
+-- or it doesn't come to its end
+pub body_ends : (a b c : Option (List ℕ)) (front : List ℕ) (wanted size : ℕ) (window : List ℕ) (left : Option (List ℕ)) (e : ServeFault) → Consumes a b front → length front + wanted ≡ size
+    → TakesBytes {T = Unit {0}} b c window left wanted (Err e) → TakesBytes {T = Unit {0}} a c window left size (Err e)
+body_ends a b c front wanted size window left e taken sum ends = (
+  front ++ ends.0,
+  Consumes-trans a b c front ends.0 taken ends.1,
+  λ other. let none = ends.2 other in (omega (arith, sum, none.0, length-append front ends.0), none.1, none.2),
+)
+
+-- an empty window wasn't filled
+pub refill_ends : (b c : Option (List ℕ)) (wanted : ℕ) (window : List ℕ) (left : Option (List ℕ)) (e : ServeFault) → Keeps b c → (wanted ≡ 0 → ⊥) → Refills {T = Unit {0}} window left (Err e)
+    → TakesBytes {T = Unit {0}} b c window left wanted (Err e)
+refill_ends b c wanted window left e kept more none = ([], Consumes-kept b b c [] (Consumes-nil b) kept, λ other. (omega (arith, more), none.0, none.1))
+
+-- the loop goes on
+pub body_more : (t : Layout) (u : Feeding) (a b c : Option (List ℕ)) (bytes : List ℕ) (wanted size : ℕ) → Consumes a b bytes → length bytes + wanted ≡ size → Keeps b c → u ≡ holding t bytes → AreBytes bytes
+    → BodySoFar t u a c wanted size
+body_more t u a b c bytes wanted size taken sum kept holds are =
+    let held : bytes ≡ u.taken = sym (ap (λ (f : Feeding). f.taken) holds) in
+    record {
+      holds = subst (λ (l : List ℕ). u ≡ holding t l) held holds;
+      bytes = subst AreBytes held are;
+      taken = subst (Consumes a c) held (Consumes-kept a b c bytes taken kept);
+      sum = subst (λ (l : List ℕ). length l + wanted ≡ size) held sum;
+    }
+
+-- ---- a frame
+
+has_header : (h : Header) (n : ℕ) (part : List ℕ) → header_of h n ++ part ≢ []
+has_header Binary2 n part e = cc
+has_header Ascii4 n part e = cc
+has_header Bcd2 n part e = cc
+
+-- a body that doesn't come to its end
+pub frame_ends : CutNeedsMore → (h : Header) (a b c : Option (List ℕ)) (n : ℕ) (window : List ℕ) (left : Option (List ℕ)) (e : ServeFault) → Consumes a b (header_of h n) → n ≤ largest h
+    → TakesBytes {T = Unit {0}} b c window left n (Err e) → EndsInside h a c window left e
+frame_ends cut h a b c n window left Read header fits ends =
+    let none = ends.2 (λ e. absurd cc) in
+    (header_of h n ++ ends.0, Consumes-trans a b c (header_of h n) ends.0 header ends.1, none.1, cut h n ends.0 fits none.0)
+frame_ends cut h a b c n window left CutFrame header fits ends =
+    let none = ends.2 (λ e. absurd cc) in
+    (header_of h n ++ ends.0, Consumes-trans a b c (header_of h n) ends.0 header ends.1, none.1, cut h n ends.0 fits none.0, has_header h n ends.0, none.2)
+frame_ends cut h a b c n window left TooManyTurns header fits ends = (header_of h n ++ ends.0, Consumes-trans a b c (header_of h n) ends.0 header ends.1)
+frame_ends cut h a b c n window left Memory header fits ends = (header_of h n ++ ends.0, Consumes-trans a b c (header_of h n) ends.0 header ends.1)
+frame_ends cut h a b c n window left Write header fits ends = absurd (ends.2 (λ e. absurd cc)).2
+frame_ends cut h a b c n window left BadHeader header fits ends = absurd (ends.2 (λ e. absurd cc)).2

@@ -4,7 +4,10 @@ use Rattle.std.specs.Io.KnownBytes.{Consumes}
 use Rattle.std.specs.declared.option.Option.{Option}
 use Rattle.iso_table.specs.Layout.{Layout}
 use Rattle.iso_wire.specs.declared.header.Header.{Header}
+use Rattle.iso_wire.specs.Feeding.{Feeding}
+use Rattle.iso_wire.specs.Spelling.{AreBytes}
 use Rattle.iso_issuer.specs.Books.{Books}
+use Rattle.iso_host.specs.Bodies.{holding}
 use Rattle.iso_host.specs.Counts.{Counts}
 use Rattle.iso_host.specs.Served.{Served, Reports}
 use Rattle.iso_host.specs.declared.fault.Report.{Report}
@@ -27,3 +30,10 @@ pub record SoFar (old new : Option (List ℕ)) (wanted size : ℕ) : Type 0 wher
   pub part : List ℕ
   pub taken : Consumes old new part
   pub sum : length part + wanted ≡ size
+
+-- and the unpacker holds them
+pub record BodySoFar (t : Layout) (unpacker : Feeding) (old new : Option (List ℕ)) (wanted size : ℕ) : Type 0 where
+  pub holds : unpacker ≡ holding t unpacker.taken
+  pub bytes : AreBytes unpacker.taken
+  pub taken : Consumes old new unpacker.taken
+  pub sum : length unpacker.taken + wanted ≡ size

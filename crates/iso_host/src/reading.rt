@@ -1,14 +1,38 @@
 //! One frame, taken piece by piece from a reader through a window.
 
-ghost use Rattle.std.specs.Prelude.{◌≡◌, length};
+ghost use Rattle.std.specs.Prelude.{◌≡◌, ◌++◌, [], None, IfOk, OnOk};
 ghost use Rattle.std.specs.Io.KnownBytes.{prepend_known};
+ghost use Rattle.iso_wire.specs.Spelling.{AreBytes};
+ghost use Rattle.iso_host.specs.Bodies.{IsSpelled, ReadsBody, ReadsFrame, SpendsOnFrame, Tells, holding};
 ghost use Rattle.iso_host.specs.Pieces.{TakesByte, TakesBytes, TakesHeader, SpendsOnHeader, SpendsOnReads};
 ghost use Rattle.iso_host.specs.Serving.{TakesTurns};
 
 use crate::fault::ServeFault;
 use crate::streams::Inlet;
 use crate::window::Window;
-use iso_wire::{Header, body_length};
+use iso_order::NoMemory;
+use iso_table::Table;
+use iso_wire::laws::{reads_spellings, splits_once};
+use iso_wire::{Fed, Header, Message, UnpackCause, Unpacker, body_length};
+use std::alloc::Global;
+
+/// What stands next in the input.
+#[derive(Drop)]
+pub enum Next {
+    /// Nothing: it ends between two frames.
+    End,
+    /// A frame, whose body is one whole message, or none.
+    Body(Option<Message>),
+}
+
+/// What the first bytes of a body tell of it.
+#[derive(Drop)]
+enum Told {
+    /// They may begin a message: further ones are wanted.
+    Unfinished,
+    /// The body is one whole message, or none, whatever follows.
+    Known(Option<Message>),
+}
 
 /// Takes the next byte.
 fn next_byte<R: Inlet>(
@@ -80,5 +104,122 @@ fn pass_over<R: Inlet>(
         if let Err(fault) = window.refill(reader, left) {
             return Err(fault);
         }
+    }
+}
+
+/// The items of a slice of bytes are bytes.
+fn are_bytes(bytes: &[u8])
+    ensures { AreBytes bytes.now }
+{}
+
+/// Feeds the next bytes of a body to the unpacker. Once they tell what the body is, the unpacker stands at the start of
+/// a message again.
+fn feed_piece(
+    alloc: Global,
+    table: &Table,
+    unpacker: &mut Unpacker<'_>,
+    piece: &[u8],
+    is_last: bool,
+) -> Result<Told, NoMemory>
+    requires holds { unpacker.old ≡ holding table.now unpacker.old.taken }
+    requires bytes { AreBytes unpacker.old.taken }
+    ensures { IfOk result (Tells table.now (unpacker.old.taken ++ piece.now) is_last unpacker.new) }
+{
+    reads_spellings();
+    are_bytes(piece);
+    let _version = table.version();
+    match unpacker.feed(alloc, piece) {
+        Ok(Fed::More) => {
+            if !is_last {
+                return Ok(Told::Unfinished);
+            }
+            unpacker.reset();
+            Ok(Told::Known(None))
+        }
+        Ok(Fed::Done { message, used }) => {
+            if is_last && used == piece.len() {
+                Ok(Told::Known(Some(message)))
+            } else {
+                Ok(Told::Known(None))
+            }
+        }
+        Err(fault) => match fault.cause {
+            UnpackCause::Memory => Err(NoMemory),
+            _ => {
+                unpacker.reset();
+                Ok(Told::Known(None))
+            }
+        },
+    }
+}
+
+/// Takes a body of so many bytes, and gives the message that it is, if it is one. It is read as its bytes come.
+fn read_body<R: Inlet>(
+    alloc: Global,
+    table: &Table,
+    unpacker: &mut Unpacker<'_>,
+    size: usize,
+    window: &mut Window,
+    reader: &mut R,
+    left: &mut u64,
+) -> Result<Option<Message>, ServeFault>
+    requires { unpacker.old ≡ holding table.now [] }
+    ensures bytes { ReadsBody table.now (prepend_known window.old (R.remaining reader.old)) (prepend_known window.new (R.remaining reader.new))
+        window.new (R.remaining reader.new) size result }
+    ensures turns { TakesTurns (R.counts reader.old) (R.counts reader.new) left.old left.new }
+    ensures spent { SpendsOnReads (R.counts reader.old) (R.counts reader.new) left.old left.new window.old window.new size result }
+    ensures held { OnOk result (unpacker.new ≡ holding table.now []) }
+    ensures read { IfOk result (IsSpelled table.now) }
+{
+    let mut wanted = size;
+    'pieces: loop {
+        let here = window.bytes().len().min(wanted);
+        let piece = &window.bytes()[..here];
+        let told = feed_piece(alloc, table, unpacker, piece, here == wanted);
+        window.pass(here);
+        wanted -= here;
+        match told {
+            Err(_) => return Err(ServeFault::Memory),
+            Ok(Told::Known(message)) => {
+                if let Err(fault) = pass_over(wanted, window, reader, left) {
+                    return Err(fault);
+                }
+                return Ok(message);
+            }
+            Ok(Told::Unfinished) => {}
+        }
+        if let Err(fault) = window.refill(reader, left) {
+            return Err(fault);
+        }
+    }
+}
+
+/// Takes the next frame, and gives the message that its body is, if it is one. The unpacker stands at the start of a
+/// message before and after it.
+pub fn read_frame<R: Inlet>(
+    alloc: Global,
+    table: &Table,
+    header: Header,
+    unpacker: &mut Unpacker<'_>,
+    window: &mut Window,
+    reader: &mut R,
+    left: &mut u64,
+) -> Result<Next, ServeFault>
+    requires { unpacker.old ≡ holding table.now [] }
+    ensures bytes { ReadsFrame table.now header (prepend_known window.old (R.remaining reader.old)) (prepend_known window.new (R.remaining reader.new))
+        window.new (R.remaining reader.new) result }
+    ensures turns { TakesTurns (R.counts reader.old) (R.counts reader.new) left.old left.new }
+    ensures spent { SpendsOnFrame (R.counts reader.old) (R.counts reader.new) left.old left.new window.old window.new result }
+    ensures held { OnOk result (unpacker.new ≡ holding table.now []) }
+{
+    splits_once();
+    let size = match read_header(header, window, reader, left) {
+        Err(fault) => return Err(fault),
+        Ok(None) => return Ok(Next::End),
+        Ok(Some(size)) => size,
+    };
+    match read_body(alloc, table, unpacker, size, window, reader, left) {
+        Ok(message) => Ok(Next::Body(message)),
+        Err(fault) => Err(fault),
     }
 }
