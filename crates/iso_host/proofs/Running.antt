@@ -1,5 +1,5 @@
 -- What holds between two frames of a call of `serve`.
-use Rattle.std.proofs.Common.{◌≡◌, ℕ, ◌+◌, ◌≤◌, List, length}
+use Rattle.std.proofs.Common.{◌≡◌, ℕ, ◌+◌, ◌≤◌, List, [], length}
 use Rattle.std.specs.Io.KnownBytes.{Consumes}
 use Rattle.std.specs.declared.option.Option.{Option}
 use Rattle.iso_table.specs.Layout.{Layout}
@@ -12,10 +12,10 @@ use Rattle.iso_host.specs.Counts.{Counts}
 use Rattle.iso_host.specs.Served.{Served, Reports}
 use Rattle.iso_host.specs.declared.fault.Report.{Report}
 
--- the frames so far were handled and answered, and these bytes were read behind them
-pub record Going (t : Layout) (h : Header) (unread left held written : Option (List ℕ)) (old new : Books) (report : Report) (rest : List ℕ) : Type 0 where
+-- the frames so far were handled and answered, and no byte behind them was taken
+pub record Going (t : Layout) (h : Header) (unread pending held written : Option (List ℕ)) (old new : Books) (report : Report) : Type 0 where
   pub bodies : List (List ℕ)
-  pub served : Served t h unread left held written old new bodies rest
+  pub served : Served t h unread pending held written old new bodies []
   pub reports : Reports t report bodies
 
 -- each turn was taken by a read or a write, and moved a byte; none failed

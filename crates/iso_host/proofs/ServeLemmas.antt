@@ -1,28 +1,27 @@
 -- One step of the loop of `serve`.
-use Rattle.std.proofs.Common.{◌≡◌, ℕ, ◌+◌, ◌-◌, ◌≤◌, Bool, true, false, cond, List, [], ◌∷◌, ◌++◌, length, take, drop, sym, subst, refl, arith, ap, ◌∙◌, append_assoc, append-nil, zero-add, length-append, Result, Ok, Err, inl, inr, take-append-drop}
-use Rattle.std.proofs.lemmas.List.{drop-drop}
+use Rattle.std.proofs.Common.{◌≡◌, ◌≢◌, ℕ, ◌+◌, ◌≤◌, Bool, true, false, cond, List, [], ◌∷◌, ◌++◌, length, take, drop, sym, subst, refl, arith, ap, ◌∙◌, append_assoc, append-nil, zero-add, length-append, Some, None, Ok, Err, inl, inr, take-append-drop}
 use Rattle.std.proofs.lemmas.List.Sums.{sum_by-append}
-use Rattle.std.proofs.KnownBytes.{Appends-trans, Appends-nil, Consumes-nil, Consumes-trans, Consumes-kept}
+use Rattle.std.proofs.KnownBytes.{Appends-trans, Appends-nil, Consumes-trans}
 use Rattle.std.specs.declared.option.Option.{Option}
 use Rattle.std.specs.Io.Iter.{u64_saturate}
-use Rattle.std.specs.Io.KnownBytes.{Consumes}
+use Rattle.std.specs.Io.KnownBytes.{Consumes, Keeps, IsAtEnd, prepend_known}
 use Rattle.iso_table.specs.Layout.{Layout}
 use Rattle.iso_wire.specs.declared.header.Header.{Header}
 use Rattle.iso_wire.specs.declared.header.Header.TheVariants.{Binary2, Ascii4, Bcd2}
-use Rattle.iso_wire.specs.Frame.{frame_of, frames_of, NoFrame, Begins, NeedsMore, is_bad_header}
+use Rattle.iso_wire.specs.Frame.{frame_of, frames_of, largest, NoFrame, is_bad_header, BadIsNoFrame, BadStays}
 use Rattle.iso_order.specs.declared.verdict.Verdict.{Verdict}
 use Rattle.iso_issuer.specs.Books.{Books}
 use Rattle.iso_issuer.specs.Laws.{FirstsGoOn}
 use Rattle.iso_host.proofs.JournalLemmas.{books_more, books_none}
 use Rattle.iso_host.proofs.OutputLemmas.{frames_more, AllFit_more, output_none, output_more, output_front, front_more}
 use Rattle.iso_host.proofs.Running.{Going, Running}
-use Rattle.iso_host.proofs.StreamLemmas.{rest_from}
 use Rattle.iso_host.specs.Asking.{message_in, asked_of, count_asked, is_answered, is_silent, is_unreadable}
 use Rattle.iso_host.specs.Counts.{Counts}
 use Rattle.iso_host.specs.Entering.{books_after, entered, with_orders}
 use Rattle.iso_host.specs.Output.{IsAnswer, IsAnswerTo, IsOutput}
-use Rattle.iso_host.specs.Served.{Served, Outcome, Cut, Cause, Reports, ReportsOneMore, one_more}
-use Rattle.iso_host.specs.Serving.{AnswersPart, AnswersWhole, SpendsOnWrite, Spends, TakesTurns, FillsFrom, SpendsOnRead, Ends}
+use Rattle.iso_host.specs.Pieces.{EndsInside}
+use Rattle.iso_host.specs.Served.{Served, Outcome, Cut, Reports, ReportsOneMore, one_more}
+use Rattle.iso_host.specs.Serving.{AnswersPart, AnswersWhole, SpendsOnWrite, Spends, TakesTurns}
 use Rattle.iso_host.specs.Writing.{WritesSome}
 use Rattle.iso_host.specs.declared.fault.Report.{Report}
 use Rattle.iso_host.specs.declared.fault.ServeFault.{ServeFault}
@@ -33,11 +32,32 @@ answer_to_body : (t : Layout) (h : Header) (books : Books) (body bytes : List �
 unfolding IsAnswer IsAnswerTo
 answer_to_body t h books body bytes is = is
 
-module _ (t : Layout) (h : Header) (unread left held : Option (List ℕ)) (old : Books) where
+-- what was taken and what waits in the window was read
+taken_behind : (a r : Option (List ℕ)) (taken window : List ℕ) → Consumes a (prepend_known window r) taken → Consumes a r (taken ++ window)
+taken_behind None r taken window read = tt
+taken_behind (Some x) None taken window read = absurd read
+taken_behind (Some x) (Some y) taken window read = read ∙ sym (append_assoc taken window y)
+
+none_taken : (a b : Option (List ℕ)) → Keeps a b → Consumes a b []
+none_taken None b kept = tt
+none_taken (Some x) None kept = absurd kept
+none_taken (Some x) (Some y) kept = sym kept
+
+none_waits : (a : Option (List ℕ)) → Consumes a (prepend_known [] a) []
+none_waits None = tt
+none_waits (Some x) = refl
+
+-- no frame begins where there is no byte
+no_byte : (h : Header) → NoFrame h []
+no_byte Binary2 body more fits e = cc
+no_byte Ascii4 body more fits e = cc
+no_byte Bcd2 body more fits e = cc
+
+module _ (t : Layout) (h : Header) (unread held : Option (List ℕ)) (old : Books) where
   -- nothing is handled yet
-  pub served_none : (left ≡ unread) → with_orders old [] ≡ old → (bytes : List ℕ) → bytes ≡ [] → Served t h unread left held held old old [] bytes
-  served_none same kept bytes none = record {
-    read = subst (λ o. Consumes unread o bytes) (sym same) (subst (Consumes unread unread) (sym none) (Consumes-nil unread));
+  pub served_none : with_orders old [] ≡ old → (window : List ℕ) → window ≡ [] → Served t h unread (prepend_known window unread) held held old old [] []
+  served_none kept window none = record {
+    read = subst (λ (w : List ℕ). Consumes unread (prepend_known w unread) []) (sym none) (none_waits unread);
     fit = tt;
     books = sym (books_none t old kept);
     bytes = [];
@@ -45,26 +65,36 @@ module _ (t : Layout) (h : Header) (unread left held : Option (List ℕ)) (old :
     answers = Appends-nil held;
   }
 
-  module _ (go_on : FirstsGoOn) (written : Option (List ℕ)) (mid : Books) (bodies : List (List ℕ)) (bytes : List ℕ) (served : Served t h unread left held written old mid bodies bytes) where
+  module _ (go_on : FirstsGoOn) (pending written : Option (List ℕ)) (mid : Books) (bodies : List (List ℕ)) (served : Served t h unread pending held written old mid bodies []) where
     -- the journal goes on by the body's order
     entered_more : (new : Books) (body : List ℕ) → new ≡ entered t mid body → new ≡ books_after t old (bodies ++ body ∷ [])
     entered_more new body enters = enters ∙ ap (λ (b : Books). entered t b body) served.books ∙ sym (books_more go_on t old bodies body)
 
     -- the frame is the next one
-    read_more : (body : List ℕ) (used : ℕ) → Begins h bytes body used → Consumes unread left (frames_of h (bodies ++ body ∷ []) ++ drop used bytes)
-    read_more body used begins =
-        subst (Consumes unread left) (ap (λ (l : List ℕ). frames_of h bodies ++ l) begins.whole ∙ sym (frames_more h bodies body (drop used bytes))) served.read
+    read_more : (next : Option (List ℕ)) (body : List ℕ) → Consumes pending next (frame_of h body) → Consumes unread next (frames_of h (bodies ++ body ∷ []) ++ [])
+    read_more next body taken =
+        let frames : (frames_of h bodies ++ []) ++ frame_of h body ≡ frames_of h (bodies ++ body ∷ []) ++ [] =
+        append_assoc (frames_of h bodies) [] (frame_of h body) ∙ ap (λ (l : List ℕ). frames_of h bodies ++ l) (sym (append-nil (frame_of h body))) ∙ sym (frames_more h bodies body []) in
+        subst (Consumes unread next) frames (Consumes-trans unread pending next _ _ served.read taken)
+
+    -- some bytes behind the frames are read, the window's last
+    read_part : (left : Option (List ℕ)) (window part : List ℕ) → Consumes pending (prepend_known window left) part → Consumes unread left (frames_of h bodies ++ (part ++ window))
+    read_part left window part taken =
+        let bytes : ((frames_of h bodies ++ []) ++ part) ++ window ≡ frames_of h bodies ++ (part ++ window) =
+        append_assoc (frames_of h bodies ++ []) part window ∙ append_assoc (frames_of h bodies) [] (part ++ window) in
+        subst (Consumes unread left) bytes
+        (taken_behind unread left ((frames_of h bodies ++ []) ++ part) window (Consumes-trans unread pending (prepend_known window left) _ _ served.read taken))
 
     -- the answer is the next one of the output
     answer_more : (body answer : List ℕ) → IsAnswer t h mid body answer → IsAnswer t h (books_after t old bodies) body answer
     answer_more body answer is = subst (λ (b : Books). IsAnswer t h b body answer) served.books is
 
     -- one more body is handled and answered
-    pub served_more : (after : Option (List ℕ)) (new : Books) (body : List ℕ) (used : ℕ) → Begins h bytes body used → AnswersWhole t h mid new (message_in t body) written after
-        → Served t h unread left held after old new (bodies ++ body ∷ []) (drop used bytes)
-    served_more after new body used begins whole = record {
-      read = read_more body used begins;
-      fit = AllFit_more h bodies body served.fit begins.fits;
+    pub served_more : (next after : Option (List ℕ)) (new : Books) (body : List ℕ) → Consumes pending next (frame_of h body) → length body ≤ largest h
+        → AnswersWhole t h mid new (message_in t body) written after → Served t h unread next held after old new (bodies ++ body ∷ []) []
+    served_more next after new body taken fits whole = record {
+      read = read_more next body taken;
+      fit = AllFit_more h bodies body served.fit fits;
       books = entered_more new body whole.entered;
       bytes = served.bytes ++ whole.bytes;
       output = output_more t h old bodies body served.bytes whole.bytes served.output (answer_more body whole.bytes (answer_to_body t h mid body whole.bytes whole.answer));
@@ -72,15 +102,16 @@ module _ (t : Layout) (h : Header) (unread left held : Option (List ℕ)) (old :
     }
 
     -- one more body is handled, and of its answer nothing or a part is written
-    stopped_after : (after : Option (List ℕ)) (new : Books) (body : List ℕ) (used : ℕ) → Begins h bytes body used → new ≡ entered t mid body
-        → (answer : List ℕ) → IsAnswer t h mid body answer → WritesSome written after answer → Cut t h unread left held after old new
-    stopped_after after new body used begins enters answer is some = (
+    stopped_after : (left after : Option (List ℕ)) (window : List ℕ) (new : Books) (body : List ℕ) → Consumes pending (prepend_known window left) (frame_of h body) → length body ≤ largest h
+        → new ≡ entered t mid body → (answer : List ℕ) → IsAnswer t h mid body answer → WritesSome written after answer → Cut t h unread left held after old new
+    stopped_after left after window new body taken fits enters answer is some = (
       bodies ++ body ∷ [],
-      drop used bytes,
+      window,
       served.bytes ++ take some.0 answer,
       record {
-        read = read_more body used begins;
-        fit = AllFit_more h bodies body served.fit begins.fits;
+        read = subst (Consumes unread left) (ap (λ (l : List ℕ). l ++ window) (append-nil (frames_of h (bodies ++ body ∷ []))))
+            (taken_behind unread left (frames_of h (bodies ++ body ∷ []) ++ []) window (read_more (prepend_known window left) body taken));
+        fit = AllFit_more h bodies body served.fit fits;
         books = entered_more new body enters;
         answers = Appends-trans held written after _ _ served.answers some.2;
         less = served.bytes;
@@ -95,15 +126,15 @@ module _ (t : Layout) (h : Header) (unread left held : Option (List ℕ)) (old :
       },
     )
 
-    -- it stops between two bodies
-    pub stopped_here : (later : Option (List ℕ)) (more : List ℕ) → Consumes left later more → Cut t h unread later held written old mid
-    stopped_here later more consumed =
+    -- it stops before the next body is handled
+    stopped_here : (left : Option (List ℕ)) (window part : List ℕ) → Consumes pending (prepend_known window left) part → Cut t h unread left held written old mid
+    stopped_here left window part taken =
         let front = output_front t h old bodies served.bytes served.output in (
           bodies,
-          bytes ++ more,
+          part ++ window,
           served.bytes,
           record {
-            read = subst (Consumes unread later) (append_assoc (frames_of h bodies) bytes more) (Consumes-trans unread left later _ _ served.read consumed);
+            read = read_part left window part taken;
             fit = served.fit;
             books = served.books;
             answers = served.answers;
@@ -117,40 +148,62 @@ module _ (t : Layout) (h : Header) (unread left held : Option (List ℕ)) (old :
         )
 
     -- answering a body ends the call
-    stopped_answering : (after : Option (List ℕ)) (new : Books) (body : List ℕ) (used : ℕ) → Begins h bytes body used → AnswersPart t h mid new (message_in t body) written after
-        → Cut t h unread left held after old new
-    stopped_answering after new body used begins (inl kept) =
+    stopped_answering : (left after : Option (List ℕ)) (window : List ℕ) (new : Books) (body : List ℕ) → Consumes pending (prepend_known window left) (frame_of h body) → length body ≤ largest h
+        → AnswersPart t h mid new (message_in t body) written after → Cut t h unread left held after old new
+    stopped_answering left after window new body taken fits (inl kept) =
         subst (λ (b : Books). Cut t h unread left held after old b) (sym kept.0)
-        (subst (λ o. Cut t h unread left held o old mid) (sym kept.1) (stopped_here left [] (Consumes-nil left)))
-    stopped_answering after new body used begins (inr some) =
-        stopped_after after new body used begins some.0 some.1.0 (answer_to_body t h mid body some.1.0 some.1.1) some.1.2
+        (subst (λ o. Cut t h unread left held o old mid) (sym kept.1) (stopped_here left window (frame_of h body) taken))
+    stopped_answering left after window new body taken fits (inr some) =
+        stopped_after left after window new body taken fits some.0 some.1.0 (answer_to_body t h mid body some.1.0 some.1.1) some.1.2
 
-    pub stop_at : (T : Type 0) (after : Option (List ℕ)) (new : Books) (c0 c1 : Counts) (before turns : ℕ) (body : List ℕ) (used : ℕ) (fault : ServeFault) → Begins h bytes body used
-        → AnswersPart t h mid new (message_in t body) written after → SpendsOnWrite {T = T} c0 c1 before turns (Err fault)
-        → Outcome t h unread left held after old new (Err fault)
-    stop_at T after new c0 c1 before turns body used Read begins part spent = absurd spent
-    stop_at T after new c0 c1 before turns body used BadHeader begins part spent = absurd spent
-    stop_at T after new c0 c1 before turns body used CutFrame begins part spent = absurd spent
-    stop_at T after new c0 c1 before turns body used Write begins part spent = stopped_answering after new body used begins part
-    stop_at T after new c0 c1 before turns body used TooManyTurns begins part spent = stopped_answering after new body used begins part
-    stop_at T after new c0 c1 before turns body used Memory begins part spent = stopped_answering after new body used begins part
+    pub stop_at : (T : Type 0) (left after : Option (List ℕ)) (window : List ℕ) (new : Books) (c0 c1 : Counts) (before turns : ℕ) (body : List ℕ) (fault : ServeFault)
+        → Consumes pending (prepend_known window left) (frame_of h body) → length body ≤ largest h → AnswersPart t h mid new (message_in t body) written after
+        → SpendsOnWrite {T = T} c0 c1 before turns (Err fault) → Outcome t h unread left held after old new (Err fault)
+    stop_at T left after window new c0 c1 before turns body Read taken fits part spent = absurd spent
+    stop_at T left after window new c0 c1 before turns body BadHeader taken fits part spent = absurd spent
+    stop_at T left after window new c0 c1 before turns body CutFrame taken fits part spent = absurd spent
+    stop_at T left after window new c0 c1 before turns body Write taken fits part spent = stopped_answering left after window new body taken fits part
+    stop_at T left after window new c0 c1 before turns body TooManyTurns taken fits part spent = stopped_answering left after window new body taken fits part
+    stop_at T left after window new c0 c1 before turns body Memory taken fits part spent = stopped_answering left after window new body taken fits part
 
-    -- a read ends the call
-    pub stop_reading : (later : Option (List ℕ)) (buffer : List ℕ) (c0 c1 : Counts) (before turns : ℕ) (old_buffer : List ℕ) (fault : ServeFault) → NoFrame h bytes
-        → FillsFrom left later old_buffer buffer (Err fault) → SpendsOnRead c0 c1 before turns (Err fault) → Outcome t h unread later held written old mid (Err fault)
-    stop_reading later buffer c0 c1 before turns old_buffer Read none fills spent = (
-      bodies,
-      bytes,
-      record { read = Consumes-kept unread left later _ served.read fills.1; fit = served.fit; books = served.books; bytes = served.bytes; output = served.output; answers = served.answers },
-      none,
-      tt,
-    )
-    stop_reading later buffer c0 c1 before turns old_buffer Memory none fills spent = stopped_here later fills.1.0 fills.1.1
-    stop_reading later buffer c0 c1 before turns old_buffer TooManyTurns none fills spent =
-        stopped_here later [] (Consumes-kept left left later [] (Consumes-nil left) fills.1)
-    stop_reading later buffer c0 c1 before turns old_buffer Write none fills spent = absurd spent
-    stop_reading later buffer c0 c1 before turns old_buffer BadHeader none fills spent = absurd spent
-    stop_reading later buffer c0 c1 before turns old_buffer CutFrame none fills spent = absurd spent
+    -- all frames are handled, and these bytes are read behind them
+    served_part : (left : Option (List ℕ)) (window part : List ℕ) → Consumes pending (prepend_known window left) part → Served t h unread left held written old mid bodies (part ++ window)
+    served_part left window part taken = record {
+      read = read_part left window part taken;
+      fit = served.fit;
+      books = served.books;
+      bytes = served.bytes;
+      output = served.output;
+      answers = served.answers;
+    }
+
+    -- a frame doesn't come to its end
+    pub stop_inside : BadIsNoFrame → BadStays → (left : Option (List ℕ)) (window : List ℕ) (fault : ServeFault) → EndsInside h pending (prepend_known window left) window left fault
+        → Outcome t h unread left held written old mid (Err fault)
+    stop_inside bad stays left window Read (part, taken, none, needs) =
+        let all : part ++ window ≡ part = ap (λ (l : List ℕ). part ++ l) none ∙ append-nil part in
+        (bodies, part ++ window, served_part left window part taken, subst (NoFrame h) (sym all) needs.no_frame, tt)
+    stop_inside bad stays left window CutFrame (part, taken, none, needs, some, end) =
+        let all : part ++ window ≡ part = ap (λ (l : List ℕ). part ++ l) none ∙ append-nil part in (
+          bodies,
+          part ++ window,
+          served_part left window part taken,
+          subst (NoFrame h) (sym all) needs.no_frame,
+          (subst (λ (l : List ℕ). l ≢ []) (sym all) some, end, ap (is_bad_header h) all ∙ needs.no_fault),
+        )
+    stop_inside bad stays left window BadHeader (part, taken, is_bad) =
+        let fault = stays h part window is_bad in
+        (bodies, part ++ window, served_part left window part taken, bad h (part ++ window) fault, fault)
+    stop_inside bad stays left window TooManyTurns (part, taken) = stopped_here left window part taken
+    stop_inside bad stays left window Memory (part, taken) = stopped_here left window part taken
+    stop_inside bad stays left window Write ends = absurd ends
+
+    -- the input ends between two frames
+    pub ends_whole : (left : Option (List ℕ)) (window : List ℕ) (report : Report) → Keeps pending (prepend_known window left) → window ≡ [] → IsAtEnd left → Reports t report bodies
+        → Outcome t h unread left held written old mid (Ok report)
+    ends_whole left window report kept none end reports =
+        let read = served_part left window [] (none_taken pending (prepend_known window left) kept) in
+        (bodies, window, read, subst (NoFrame h) (sym none) (no_byte h), (none, end, reports))
 
 -- ---- the report
 
@@ -177,39 +230,15 @@ reports_more t old new bodies body r s = record {
   unreadable = counts_more t is_unreadable bodies body _ _ r.unreadable s.unreadable;
 }
 
--- ---- the buffer
-
--- a frame is its header and its body
-frame_size : (h : Header) (body : List ℕ) → 2 + length body ≤ length (frame_of h body)
-frame_size Binary2 body = omega arith
-frame_size Ascii4 body = omega arith
-frame_size Bcd2 body = omega arith
-
--- `&buffer[at..]` begins with a frame
-pub begins_at : (h : Header) (xs items : List ℕ) (at : ℕ) (body : List ℕ) (used : ℕ) → xs ≡ items → Begins h (take (length xs - at) (drop at xs)) body used → Begins h (drop at items) body used
-begins_at h xs items at body used e begins = subst (λ l. Begins h (drop at l) body used) e (subst (λ l. Begins h l body used) (rest_from at xs) begins)
-
-pub needs_at : (h : Header) (xs items : List ℕ) (at : ℕ) → xs ≡ items → NeedsMore h (take (length xs - at) (drop at xs)) → NeedsMore h (drop at items)
-needs_at h xs items at e needs = subst (λ l. NeedsMore h (drop at l)) e (subst (NeedsMore h) (rest_from at xs) needs)
-
--- the frame is no longer than what is there
-pub begins_within : (h : Header) (bytes body : List ℕ) (used : ℕ) → Begins h bytes body used → (2 ≤ used) × (used ≤ length bytes)
-begins_within h bytes body used begins =
-    let whole : length bytes ≡ length (frame_of h body) + length (drop used bytes) = ap length begins.whole ∙ length-append (frame_of h body) (drop used bytes) in
-    let size = begins.size in
-    (omega (arith, frame_size h body), omega arith)
-
 -- ---- the loop
 
 -- the loop goes on behind the frame
-pub going_more : FirstsGoOn → (t : Layout) (h : Header) (unread left held written after : Option (List ℕ)) (old mid new : Books) (before report : Report) (items body : List ℕ) (at used : ℕ)
-    → Going t h unread left held written old mid before (drop at items) → Begins h (drop at items) body used → AnswersWhole t h mid new (message_in t body) written after
-    → ReportsOneMore before report (asked_of t body)
-    → Going t h unread left held after old new report (drop (at + used) items)
-going_more go_on t h unread left held written after old mid new before report items body at used going begins whole reports = record {
+pub going_more : FirstsGoOn → (t : Layout) (h : Header) (unread pending next held written after : Option (List ℕ)) (old mid new : Books) (before report : Report) (body : List ℕ)
+    → Going t h unread pending held written old mid before → Consumes pending next (frame_of h body) → length body ≤ largest h → AnswersWhole t h mid new (message_in t body) written after
+    → ReportsOneMore before report (asked_of t body) → Going t h unread next held after old new report
+going_more go_on t h unread pending next held written after old mid new before report body going taken fits whole reports = record {
   bodies = going.bodies ++ body ∷ [];
-  served = subst (Served t h unread left held after old new (going.bodies ++ body ∷ [])) (drop-drop used at items)
-      (served_more t h unread left held old go_on written mid going.bodies (drop at items) going.served after new body used begins whole);
+  served = served_more t h unread held old go_on pending written mid going.bodies going.served next after new body taken fits whole;
   reports = reports_more t before report going.bodies body going.reports reports;
 }
 
@@ -221,70 +250,10 @@ running_write reader_old r writer_old w w' turns left left' running takes spends
   writer = spends.failures ∙ running.writer;
 }
 
--- what a read gave is behind what was there
-pub going_read : (t : Layout) (h : Header) (unread left later held written : Option (List ℕ)) (old new : Books) (report : Report) (rest buffer after : List ℕ) (n : ℕ)
-    → Going t h unread left held written old new report rest → buffer ≡ rest → FillsFrom left later buffer after (Ok n) → Going t h unread later held written old new report after
-going_read t h unread left later held written old new report rest buffer after n going same fills =
-    let served = going.served in
-    let whole : (frames_of h going.bodies ++ rest) ++ fills.0 ≡ frames_of h going.bodies ++ after =
-    append_assoc (frames_of h going.bodies) rest fills.0 ∙ ap (λ (l : List ℕ). frames_of h going.bodies ++ l) (ap (λ (l : List ℕ). l ++ fills.0) (sym same) ∙ sym fills.1) in
-    record {
-      bodies = going.bodies;
-      served = record {
-        read = subst (Consumes unread later) whole (Consumes-trans unread left later _ _ served.read fills.2);
-        fit = served.fit;
-        books = served.books;
-        bytes = served.bytes;
-        output = served.output;
-        answers = served.answers;
-      };
-      reports = going.reports;
-    }
-
--- a read that gave nothing leaves the bytes as they were
-nothing_read : (left later : Option (List ℕ)) (rest buffer after : List ℕ) (n : ℕ) → buffer ≡ rest → FillsFrom left later buffer after (Ok n) → n ≡ 0 → after ≡ rest
-nothing_read left later rest buffer after n same fills none =
-    fills.1 ∙ ap (λ (l : List ℕ). buffer ++ l) (no_bytes fills.0 (fills.3 ∙ none)) ∙ append-nil buffer ∙ same
-  where
-    no_bytes : (bytes : List ℕ) → length bytes ≡ 0 → bytes ≡ []
-    no_bytes [] h = refl
-    no_bytes (b ∷ bytes) h = absurd (omega arith)
-
--- the input ends, between frames or inside one
-pub ends_whole : (t : Layout) (h : Header) (unread left later held written : Option (List ℕ)) (old new : Books) (report : Report) (rest buffer after : List ℕ) (n : ℕ) (result : Result Report ServeFault)
-    → Going t h unread left held written old new report rest → NeedsMore h rest → buffer ≡ rest → FillsFrom left later buffer after (Ok n) → n ≡ 0 → Ends after report result
-    → Outcome t h unread later held written old new result
-ends_whole t h unread left later held written old new report rest buffer after n (Ok r) going needs same fills none ends =
-    let kept : after ≡ rest = nothing_read left later rest buffer after n same fills none in
-    let read = going_read t h unread left later held written old new report rest buffer after n going same fills in (
-      read.bodies,
-      after,
-      read.served,
-      subst (NoFrame h) (sym kept) needs.no_frame,
-      (ends.0, fills.5 none, subst (λ (x : Report). Reports t x read.bodies) (sym ends.1) read.reports),
-    )
-ends_whole t h unread left later held written old new report rest buffer after n (Err e) going needs same fills none ends =
-    let kept : after ≡ rest = nothing_read left later rest buffer after n same fills none in
-    let read = going_read t h unread left later held written old new report rest buffer after n going same fills in
-    subst (λ (x : ServeFault). Outcome t h unread later held written old new (Err x)) (sym ends.1) (
-      read.bodies,
-      after,
-      read.served,
-      subst (NoFrame h) (sym kept) needs.no_frame,
-      (ends.0, fills.5 none, ap (is_bad_header h) kept ∙ needs.no_fault),
-    )
-
--- and neither stream failed
-pub ends_without_failure : (reader_old r r' writer_old w : Counts) (turns left left' n : ℕ) (rest : List ℕ) (report : Report) (result : Result Report ServeFault) → Running reader_old r writer_old w turns left
-    → SpendsOnRead r r' left left' (Ok n) → Ends rest report result → Cause reader_old r' writer_old w turns result
-ends_without_failure reader_old r r' writer_old w turns left left' n rest report (Ok x) running reads ends = record { reader = reads.0.failures ∙ running.reader; writer = running.writer }
-ends_without_failure reader_old r r' writer_old w turns left left' n rest report (Err e) running reads ends =
-    subst (λ (x : ServeFault). Cause reader_old r' writer_old w turns (Err x)) (sym ends.1) (record { reader = reads.0.failures ∙ running.reader; writer = running.writer })
-
-pub running_read : (reader_old r r' writer_old w : Counts) (turns left left' n : ℕ) → Running reader_old r writer_old w turns left → SpendsOnRead r r' left left' (Ok n) → (n ≡ 0 → ⊥) → Running reader_old r' writer_old w turns left'
-running_read reader_old r r' writer_old w turns left left' n running reads some = record {
-  calls = omega (arith, running.calls, reads.0.calls, reads.1);
-  moved = omega (arith, running.moved, reads.0.calls, reads.0.moved);
-  reader = reads.0.failures ∙ running.reader;
+pub running_read : (reader_old r r' writer_old w : Counts) (turns left left' : ℕ) → Running reader_old r writer_old w turns left → TakesTurns r r' left left' → Spends r r' left left' → Running reader_old r' writer_old w turns left'
+running_read reader_old r r' writer_old w turns left left' running takes spends = record {
+  calls = omega (arith, running.calls, takes);
+  moved = omega (arith, running.moved, spends.moved);
+  reader = spends.failures ∙ running.reader;
   writer = running.writer;
 }

@@ -1,7 +1,7 @@
 -- What the parts of the engine do to a reader and a writer, and what they spend.
-use Rattle.std.specs.Prelude.{◌≡◌, ◌≢◌, ◌⊎◌, ℕ, ◌+◌, ◌<◌, ◌≤◌, List, [], ◌++◌, length, Result, Ok, Err}
+use Rattle.std.specs.Prelude.{◌≡◌, ◌⊎◌, ℕ, ◌+◌, ◌<◌, ◌≤◌, List, Result, Ok, Err}
 use Rattle.std.specs.declared.option.Option.{Option}
-use Rattle.std.specs.Io.KnownBytes.{Appends, Consumes, Keeps, IsAtEnd}
+use Rattle.std.specs.Io.KnownBytes.{Appends}
 use Rattle.iso_table.specs.Layout.{Layout}
 use Rattle.iso_wire.specs.declared.header.Header.{Header}
 use Rattle.iso_wire.specs.Contents.{Contents}
@@ -10,7 +10,6 @@ use Rattle.iso_host.specs.Counts.{Counts}
 use Rattle.iso_host.specs.Entering.{entered_by}
 use Rattle.iso_host.specs.Output.{IsAnswerTo}
 use Rattle.iso_host.specs.Writing.{WritesSome}
-use Rattle.iso_host.specs.declared.fault.Report.{Report}
 use Rattle.iso_host.specs.declared.fault.ServeFault.{ServeFault}
 use Rattle.iso_host.specs.declared.fault.ServeFault.TheVariants.{Read, Write, BadHeader, CutFrame, Memory, TooManyTurns}
 
@@ -55,38 +54,3 @@ pub record AnswersWhole (t : Layout) (h : Header) (old new : Books) (message : O
 abbrev pub AnswersInto : {T : Type 0} → Layout → Header → Books → Books → Option Contents → Option (List ℕ) → Option (List ℕ) → Result T ServeFault → Type 0
 AnswersInto t h old new message held written (Ok x) = AnswersWhole t h old new message held written
 AnswersInto t h old new message held written (Err e) = AnswersPart t h old new message held written
-
--- ---- reading
-
--- at Ok these bytes were read to the buffer's end, none only at the end of the input; at an error the buffer is as it was
-abbrev pub FillsFrom : Option (List ℕ) → Option (List ℕ) → List ℕ → List ℕ → Result ℕ ServeFault → Type 0
-FillsFrom old new before after (Ok n) =
-    (bytes : List ℕ) × (after ≡ before ++ bytes) × Consumes old new bytes × (length bytes ≡ n) × (n ≤ 4096) × (n ≡ 0 → IsAtEnd new)
-FillsFrom old new before after (Err Memory) = (after ≡ before) × ((bytes : List ℕ) × Consumes old new bytes)
-FillsFrom old new before after (Err Read) = (after ≡ before) × Keeps old new
-FillsFrom old new before after (Err Write) = (after ≡ before) × Keeps old new
-FillsFrom old new before after (Err BadHeader) = (after ≡ before) × Keeps old new
-FillsFrom old new before after (Err CutFrame) = (after ≡ before) × Keeps old new
-FillsFrom old new before after (Err TooManyTurns) = (after ≡ before) × Keeps old new
-
--- one more read, which gave n bytes
-pub record Reads (old new : Counts) (n : ℕ) : Type 0 where
-  pub calls : new.calls ≡ old.calls + 1
-  pub moved : new.moved ≡ old.moved + n
-  pub failures : new.failures ≡ old.failures
-
-abbrev pub SpendsOnRead : Counts → Counts → ℕ → ℕ → Result ℕ ServeFault → Type 0
-SpendsOnRead old new before left (Ok n) = Reads old new n × (left + 1 ≡ before)
-SpendsOnRead old new before left (Err Read) = old.failures < new.failures
-SpendsOnRead old new before left (Err TooManyTurns) = (new ≡ old) × (left ≡ 0) × (before ≡ 0)
-SpendsOnRead old new before left (Err Memory) = new.failures ≡ old.failures
-SpendsOnRead old new before left (Err Write) = ⊥
-SpendsOnRead old new before left (Err BadHeader) = ⊥
-SpendsOnRead old new before left (Err CutFrame) = ⊥
-
--- ---- the end of the input
-
--- the report between frames, a fault inside one
-abbrev pub Ends : List ℕ → Report → Result Report ServeFault → Type 0
-Ends rest report (Ok r) = (rest ≡ []) × (r ≡ report)
-Ends rest report (Err e) = (rest ≢ []) × (e ≡ CutFrame)

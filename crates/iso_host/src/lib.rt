@@ -10,7 +10,6 @@
 //! - `laws`: what a body asks is what it spells, and bodies have one output.
 #![tactic(auto)]
 
-mod buffer;
 mod counting;
 #[cfg(test)]
 mod fakes;

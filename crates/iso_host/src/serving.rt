@@ -4,17 +4,19 @@ ghost use Rattle.iso_table.specs.HostReady.{IsHostReady};
 ghost use Rattle.iso_wire.specs.Spelling.{Spelling};
 ghost use Rattle.iso_order.specs.Verdict.{verdict};
 ghost use Rattle.iso_host.specs.Served.{Outcome, Cause, Flushes, IsFlushed, ReportsOneMore, WithinTurns};
-ghost use Rattle.iso_host.specs.Serving.{AnswersInto, SpendsOnWrite, TakesTurns, Ends};
+ghost use Rattle.iso_host.specs.Serving.{AnswersInto, SpendsOnWrite, TakesTurns};
 ghost use Rattle.iso_host.specs.Writing.{WritesFront};
 
-use crate::buffer::{drop_front, read_more};
 use crate::fault::{Report, ServeFault};
-use crate::handling::{Handled, enters_nothing, handle_message, whole_message};
+use crate::handling::{Handled, enters_nothing, handle_message};
+use crate::reading::{Next, read_frame};
 use crate::streams::{Inlet, Outlet};
+use crate::window::Window;
 use iso_issuer::Issuer;
 use iso_issuer::laws::firsts_go_on;
 use iso_table::Table;
-use iso_wire::{Framed, Header, Message, unframe};
+use iso_wire::laws::splits_once;
+use iso_wire::{Header, Message, Unpacker};
 use std::alloc::Global;
 
 /// The report before the first frame.
@@ -91,17 +93,6 @@ fn answer_message<W: Outlet>(
     }
 }
 
-/// How serving ends where the input does, with these bytes left: between frames, or inside one.
-fn ended(rest: &[u8], report: Report) -> Result<Report, ServeFault>
-    ensures { Ends rest.now report result }
-{
-    if rest.is_empty() {
-        Ok(report)
-    } else {
-        Err(ServeFault::CutFrame)
-    }
-}
-
 /// Reads frames to the end of the input, handles each body, and writes its answer before the next frame is looked at.
 ///
 /// A body that is not one whole message is passed over, and so is a message that is not to be answered. An order is
@@ -135,42 +126,39 @@ pub fn serve<R: Inlet, W: Outlet>(
         (W.counts writer.old) (W.counts writer.new) turns result }
 {
     firsts_go_on();
+    splits_once();
     enters_nothing(issuer);
     let mut left = turns;
     let mut report = NO_FRAMES;
-    let mut buffer = Vec::new(alloc);
-    let mut at = 0;
+    let mut window = Window::new();
+    let mut unpacker = Unpacker::new(alloc, table);
     'frames: loop {
-        match unframe(header, &buffer[at..]) {
-            Err(_) => return Err(ServeFault::BadHeader),
-            Ok(Framed::Got { body, used }) => {
-                let Ok(message) = whole_message(alloc, table, body) else {
-                    return Err(ServeFault::Memory);
-                };
-                let answered = answer_message(
-                    alloc,
-                    table,
-                    header,
-                    issuer,
-                    message,
-                    writer,
-                    &mut left,
-                    &mut report,
-                );
-                if let Err(fault) = answered {
-                    return Err(fault);
-                }
-                at += used;
-            }
-            Ok(Framed::More) => {
-                drop_front(&mut buffer, at);
-                at = 0;
-                match read_more(reader, &mut buffer, &mut left) {
-                    Err(fault) => return Err(fault),
-                    Ok(0) => return ended(&buffer, report),
-                    Ok(_) => {}
-                }
-            }
+        let read = read_frame(
+            alloc,
+            table,
+            header,
+            &mut unpacker,
+            &mut window,
+            reader,
+            &mut left,
+        );
+        let message = match read {
+            Err(fault) => return Err(fault),
+            Ok(Next::End) => return Ok(report),
+            Ok(Next::Body(message)) => message,
+        };
+        let answered = answer_message(
+            alloc,
+            table,
+            header,
+            issuer,
+            message,
+            writer,
+            &mut left,
+            &mut report,
+        );
+        if let Err(fault) = answered {
+            return Err(fault);
         }
     }
 }

@@ -1,17 +1,19 @@
-use Rattle.std.proofs.Common.{◌+◌, ◌*◌, ◌-◌, ◌≤◌, vec_len, drop}
+use Rattle.std.proofs.Common.{◌≡◌, ◌+◌, ◌*◌, [], length}
+use Rattle.std.specs.Io.KnownBytes.{prepend_known}
 use Rattle.iso_host.proofs.Running.{Going, Running}
+use Rattle.iso_host.specs.Bodies.{holding}
 use Rattle.iso_host.specs.Served.{IsFlushed}
 use Rattle.iso_host.proofs.serving.serve.Given as goal
 
 abbrev pub invariant-frames : goal.invariant-frames
 invariant-frames g l = record {
-  in_range : l.at ≤ vec_len l.buffer;
-  going : Going l.table l.header (g.R.Inlet.remaining l.initial.reader) (g.R.Inlet.remaining l.reader) (g.W.Outlet.contents l.initial.writer)
-      (g.W.Outlet.contents l.writer) l.initial.issuer l.issuer l.report (drop l.at l.buffer.items);
+  held : l.unpacker ≡ holding l.table [];
+  going : Going l.table l.header (g.R.Inlet.remaining l.initial.reader) (prepend_known l.window (g.R.Inlet.remaining l.reader)) (g.W.Outlet.contents l.initial.writer)
+      (g.W.Outlet.contents l.writer) l.initial.issuer l.issuer l.report;
   running : Running (g.R.Inlet.counts l.initial.reader) (g.R.Inlet.counts l.reader) (g.W.Outlet.counts l.initial.writer)
       (g.W.Outlet.counts l.writer) l.turns l.left;
   flushed : IsFlushed (g.W.Outlet.counts l.initial.writer) (g.W.Outlet.counts l.writer);
 }
 
 abbrev pub decreases-frames : goal.decreases-frames
-decreases-frames g l = 4097 * l.left + (vec_len l.buffer - l.at)
+decreases-frames g l = 4097 * l.left + length l.window
