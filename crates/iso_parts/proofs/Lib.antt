@@ -18,3 +18,4 @@ pub mod SetBitmaps
 pub mod Sizes
 pub mod Judges
 pub mod Extents
+pub mod PieceLaws

@@ -13,7 +13,7 @@ use Rattle.iso_parts.specs.Part.{prefix}
 use Rattle.iso_parts.specs.Reading.{number_of, count_of, prefix_size}
 
 -- three digits, and their number
-record AreDigits (a b c n : ℕ) : Type 0 where
+pub record AreDigits (a b c n : ℕ) : Type 0 where
   pub a_low : 48 ≤ a
   pub a_high : a ≤ 57
   pub b_low : 48 ≤ b
@@ -40,7 +40,7 @@ digit_low a h = grind (arith, nat_tests)
 digit_high : (a : ℕ) → is_digit a ≡ true → a ≤ 57
 digit_high a h = grind (arith, nat_tests)
 
-number_takes : (a b c n : ℕ) → number_of (a ∷ b ∷ c ∷ []) ≡ Ok n → AreDigits a b c n
+pub number_takes : (a b c n : ℕ) → number_of (a ∷ b ∷ c ∷ []) ≡ Ok n → AreDigits a b c n
 number_takes a b c n h =
     let got = chosen_ok _ _ _ _ h in
     let first = and_parts _ _ got.0 in

@@ -8,3 +8,5 @@ pub mod Part
 pub mod Reading
 pub mod PartLaws
 pub mod MapLaws
+pub mod Pieces
+pub mod PieceLaws
