@@ -24,7 +24,7 @@ abbrev ok_of : Values × ℕ → Result (Values × ℕ) UnpackFault
 ok_of x = Ok x
 
 module _ (laws : PartLaws) where
-  part_read : (rows : List (Option FieldSpec)) (n at : ℕ) (v part rest : List ℕ) → AreGood rows → PartAs rows n v part → value_at rows n at (part ++ rest) ≡ Ok (v, length part)
+  pub part_read : (rows : List (Option FieldSpec)) (n at : ℕ) (v part rest : List ℕ) → AreGood rows → PartAs rows n v part → value_at rows n at (part ++ rest) ≡ Ok (v, length part)
   part_read rows n at v part rest good is_part =
       ap (λ r. value_by r n at (part ++ rest)) is_part.1 ∙ ap (answer is_part.0 n at (length (part ++ rest))) (laws.again is_part.0 v part rest (good n is_part.0 is_part.1) is_part.2)
 

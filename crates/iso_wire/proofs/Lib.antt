@@ -24,3 +24,7 @@ pub mod Feeds
 pub mod Longest
 pub mod Wires
 pub mod Views
+pub mod StopsNumbers
+pub mod StopsMaps
+pub mod StopsHalted
+pub mod StopsParts

@@ -29,7 +29,7 @@ no_65 low (e ∷ es) asc = has_after e es 65 asc.2 ∙ no_65 (e.0 + 1) es asc.3
 
 -- ---- what is spelled is read
 
-type_again : (t : Layout) (n : ℕ) (rest : List ℕ) → n < 10000 → n / 1000 ≡ t.version → type_at t (mti_bytes t.mti n ++ rest) ≡ Ok n
+pub type_again : (t : Layout) (n : ℕ) (rest : List ℕ) → n < 10000 → n / 1000 ≡ t.version → type_at t (mti_bytes t.mti n ++ rest) ≡ Ok n
 type_again t n rest small version =
     let front : List ℕ = mti_bytes t.mti n in
     let size = mti_size t.mti in
@@ -72,7 +72,7 @@ module _ (part_laws : PartLaws) (map_laws : MapLaws) where
 
 -- ---- what is read is spelled so
 
-version_or : (version : ℕ) (o : Option ℕ) (n : ℕ) → of_version version o ≡ Ok n → (o ≡ Some n) × (n / 1000 ≡ version)
+pub version_or : (version : ℕ) (o : Option ℕ) (n : ℕ) → of_version version o ≡ Ok n → (o ≡ Some n) × (n / 1000 ≡ version)
 version_or version None n e = absurd cc
 version_or version (Some k) n e = version_by (eqb (k / 1000) version) version k n refl e
   where

@@ -29,17 +29,17 @@ HasBits w set = (k : ℕ) → 0 < k → k ≤ 64 → has_bit w k ≡ set k
 pub small_first : (w : ℕ) → w < top → eqb (bit_at w 63) 1 ≡ false
 small_first w lt = let e : w / 2 ^ 63 % 2 ≡ 0 = omega arith in ap (λ (n : ℕ). eqb n 1) e
 
-large_first : (w : ℕ) → w < 2 ^ 64 → top ≤ w → eqb (bit_at w 63) 1 ≡ true
+pub large_first : (w : ℕ) → w < 2 ^ 64 → top ≤ w → eqb (bit_at w 63) 1 ≡ true
 large_first w fits le = let e : w / 2 ^ 63 % 2 ≡ 1 = omega arith in ap (λ (n : ℕ). eqb n 1) e
 
-first_small : (w : ℕ) → w < 2 ^ 64 → eqb (bit_at w 63) 1 ≡ false → w < top
+pub first_small : (w : ℕ) → w < 2 ^ 64 → eqb (bit_at w 63) 1 ≡ false → w < top
 first_small w fits h =
     elim (cases_lt w top) [
       | inl lt ↦ lt
       | inr le ↦ absurd (let f : true ≡ false = sym (large_first w fits le) ∙ h in cc)
     ]
 
-first_large : (w : ℕ) → eqb (bit_at w 63) 1 ≡ true → top ≤ w
+pub first_large : (w : ℕ) → eqb (bit_at w 63) 1 ≡ true → top ≤ w
 first_large w h =
     elim (cases_lt w top) [
       | inl lt ↦ absurd (let f : true ≡ false = sym h ∙ small_first w lt in cc)
@@ -182,10 +182,10 @@ one_first w k small low high =
       | inr ne ↦ grind (arith, nat_tests)
     ]
 
-one_none : (w k : ℕ) → 64 < k → k ≤ 128 → in_words w 0 k ≡ false
+pub one_none : (w k : ℕ) → 64 < k → k ≤ 128 → in_words w 0 k ≡ false
 one_none w k low high = let z = bit_at-zero (128 - k) in grind (arith, nat_tests)
 
-two_first : (w v k : ℕ) → w < 2 ^ 64 → top ≤ w → 0 < k → k ≤ 64 → eqb (bit_at w (64 - k)) 1 ≡ first_set true (in_words w v) k
+pub two_first : (w v k : ℕ) → w < 2 ^ 64 → top ≤ w → 0 < k → k ≤ 64 → eqb (bit_at w (64 - k)) 1 ≡ first_set true (in_words w v) k
 two_first w v k fits large low high =
     elim (cases_eq k 1) [
       | inl e ↦ let s = large_first w fits large in rw e s
@@ -206,7 +206,7 @@ pub short_or : {A : Type 0} (t : Bool) (element at : ℕ) (r : Result A UnpackFa
 short_or true element at r x e = absurd cc
 short_or false element at r x e = (refl, e)
 
-word_or : (element at : ℕ) (o : Option ℕ) (w : ℕ) → word_by element at o ≡ Ok w → o ≡ Some w
+pub word_or : (element at : ℕ) (o : Option ℕ) (w : ℕ) → word_by element at o ≡ Ok w → o ≡ Some w
 word_or element at None w e = absurd cc
 word_or element at (Some v) w e = ap Some (ok_is v w e)
 

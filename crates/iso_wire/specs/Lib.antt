@@ -17,3 +17,4 @@ pub mod Viewing
 pub mod Stops
 pub mod FaultNumbers
 pub mod Masking
+pub mod StopsLaws
