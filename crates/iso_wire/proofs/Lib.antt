@@ -28,3 +28,5 @@ pub mod StopsNumbers
 pub mod StopsMaps
 pub mod StopsHalted
 pub mod StopsParts
+pub mod StopsReading
+pub mod StopsLaws

@@ -1,9 +1,9 @@
 -- A bitmap that isn't whole or is bad stops reading, and good ones are read.
-use Rattle.std.proofs.Common.{◌≡◌, ℕ, ◌+◌, ◌-◌, ◌≤◌, ◌<◌, ◌^◌, Bool, true, false, ◌&&◌, cond, eqb, leb, ltb, is_some, List, ◌++◌, length, take, drop, Some, None, Result, Ok, Err, refl, sym, ap, subst, ◌∙◌, arith, inl, inr}
-use Rattle.std.proofs.lemmas.Bool.{cases_eq, cases_lt, and_parts, ltb-false, ltb-true, lt-ltb, le-ltb, cond-true, cond-false, leb-true}
+use Rattle.std.proofs.Common.{◌≡◌, ℕ, ◌+◌, ◌-◌, ◌≤◌, ◌<◌, ◌^◌, Bool, true, false, ◌&&◌, cond, leb, ltb, is_some, List, ◌++◌, length, take, drop, None, Result, Ok, refl, sym, ap, subst, ◌∙◌, arith, inl, inr}
+use Rattle.std.proofs.lemmas.Bool.{cases_eq, cases_lt, and_parts, ltb-false, lt-ltb, le-ltb, cond-true, cond-false, leb-true}
 use Rattle.std.proofs.lemmas.Bool.Decides.{nat_tests}
-use Rattle.std.proofs.lemmas.List.{take_at, length-take, length-append}
-use Rattle.iso_parts.specs.Bits.{BitsIn, map_size, in_words, first_set, second_set}
+use Rattle.std.proofs.lemmas.List.{take_at, length-append}
+use Rattle.iso_parts.specs.Bits.{map_size, in_words, first_set, second_set}
 use Rattle.iso_parts.specs.BitmapReading.{top, word_in}
 use Rattle.iso_parts.specs.MapLaws.{MapLaws, has_bit}
 use Rattle.iso_table.specs.Layout.{Layout, row_at}
@@ -163,10 +163,10 @@ module _ (laws : MapLaws) where
       let known = second_ok (ltb other.0 top) (at + n) other.0 v (unknown t.rows (numbers_in 0 other.0)) other.2 in
       let none_above : unknown t.rows (numbers_in 0 v) ≡ None = subst (λ (v : ℕ). unknown t.rows (numbers_in 0 v) ≡ None) known.1 known.0 in
       let rows : HaveRows t (in_words w v) 2 129 = λ k from to here.
-          elim (cases_lt 64 k) [
-            | inl above ↦ secondary_known t w v none_above k (omega arith) to here
-            | inr low ↦ primary_known t w none k from (omega arith) (sym (in_first w v k low) ∙ here)
-          ] in
+      elim (cases_lt 64 k) [
+        | inl above ↦ secondary_known t w v none_above k (omega arith) to here
+        | inr low ↦ primary_known t w none k from (omega arith) (sym (in_first w v k low) ∙ here)
+      ] in
       subst (λ (x : ℕ × ℕ × ℕ). HaveRows t (in_words x.0 x.1) 2 129) (ok_is (w, v, n + n) x two.2) rows
 
   -- bitmaps that are read have elements with rows alone

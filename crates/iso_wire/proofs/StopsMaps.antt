@@ -1,12 +1,11 @@
 -- Reading stops at a message type or a bitmap exactly where the piece isn't whole, or is bad.
-use Rattle.std.proofs.Common.{◌≡◌, ◌≢◌, ℕ, ◌+◌, ◌-◌, ◌/◌, ◌≤◌, ◌<◌, ◌^◌, Bool, true, false, cond, eqb, ltb, is_some, List, ◌++◌, length, take, drop, Option, Some, None, Result, Ok, Err, refl, sym, ap, subst, ◌∙◌, arith, inl, inr}
-use Rattle.std.specs.Int.{bit_at}
+use Rattle.std.proofs.Common.{◌≡◌, ◌≢◌, ℕ, ◌-◌, ◌/◌, ◌≤◌, ◌<◌, ◌^◌, Bool, true, false, cond, eqb, ltb, List, length, take, Option, Some, None, Result, Ok, Err, refl, sym, ap, ◌∙◌, arith, inl, inr}
 use Rattle.std.proofs.lemmas.Bool.{cases_eq, cases_lt, eqb-true, ltb-false, ltb-true, lt-ltb, le-ltb, cond-true, cond-false}
 use Rattle.std.proofs.lemmas.Bool.Decides.{nat_tests}
 use Rattle.std.proofs.lemmas.Nat.Bits.{bit_at-zero}
 use Rattle.std.proofs.lemmas.List.{length-take}
 use Rattle.iso_parts.specs.declared.bitmap.BitmapCoding.{BitmapCoding}
-use Rattle.iso_parts.specs.Bits.{BitsIn, map_size, in_words, first_set, second_set}
+use Rattle.iso_parts.specs.Bits.{BitsIn, map_size, in_words, second_set}
 use Rattle.iso_parts.specs.BitmapReading.{top, word_in}
 use Rattle.iso_parts.specs.MapLaws.{MapLaws, has_bit}
 use Rattle.iso_table.specs.Layout.{Layout}
@@ -15,15 +14,15 @@ use Rattle.iso_wire.specs.declared.fault.UnpackCause.{UnpackCause}
 use Rattle.iso_wire.specs.declared.fault.UnpackCause.TheVariants as causes
 use Rattle.iso_wire.specs.Numbers.{numbers_in, unknown}
 use Rattle.iso_wire.specs.Reading.{◌>>=◌, halt, mti_size, mti_of, of_version, type_at, word_by, word_at, known_by, primary_at, second_known, secondary_at}
-use Rattle.iso_wire.specs.Spelling.{mti_bytes, AreBytes}
-use Rattle.iso_wire.specs.Stops.{Piece, type, primary, secondary, owner, size_of, IsType, IsOwnType, HaveRows, IsUnknown, IsBadType, IsBadPrimary, IsBadSecondary, Halts}
+use Rattle.iso_wire.specs.Spelling.{AreBytes}
+use Rattle.iso_wire.specs.Stops.{Piece, type, primary, secondary, owner, IsType, IsOwnType, HaveRows, IsUnknown, Halts}
 use Rattle.iso_wire.proofs.Bytes.{bytes_take}
 use Rattle.iso_wire.proofs.ElementLaws.{ok_is}
 use Rattle.iso_wire.proofs.Messages.{version_or}
 use Rattle.iso_wire.proofs.NumberLaws.{all_known}
 use Rattle.iso_wire.proofs.StopsNumbers.{all_have_rows, lowest_unknown, unknown_again}
 use Rattle.iso_wire.proofs.Types.{mti_again, mti_takes}
-use Rattle.iso_wire.proofs.WordLaws.{small_first, large_first, first_small, first_large, one_none, bits_agree, short_or, word_or}
+use Rattle.iso_wire.proofs.WordLaws.{small_first, large_first, one_none, bits_agree, short_or}
 
 -- ---- a piece that stops reading
 
@@ -134,12 +133,12 @@ primary_unknown t w n h =
     elim (cases_lt 64 n) [
       | inl above ↦ absurd (no_truth (in_words w 0 n) lowest.there (one_none w n above (omega (arith, lowest.to))))
       | inr low ↦ record {
-          from = lowest.from;
-          to = omega arith;
-          there = sym (in_first w 0 n low) ∙ lowest.there;
-          row = lowest.row;
-          others = λ k from to here. lowest.others k from to (in_first w 0 k (omega arith) ∙ here);
-        }
+        from = lowest.from;
+        to = omega arith;
+        there = sym (in_first w 0 n low) ∙ lowest.there;
+        row = lowest.row;
+        others = λ k from to here. lowest.others k from to (in_first w 0 k (omega arith) ∙ here);
+      }
     ]
 
 pub primary_unknown_again : (t : Layout) (set : ℕ → Bool) (w n : ℕ) → Agrees (has_bit w) set 2 65 → IsUnknown t set 2 65 n → unknown t.rows (numbers_in w 0) ≡ Some n
@@ -176,12 +175,12 @@ secondary_unknown t v n small h =
           elim (cases_eq n 65) [
             | inl third ↦ absurd (no_truth (high_bits v 65) (ap (high_bits v) (sym third) ∙ there) (small_first v small))
             | inr other ↦ record {
-                from = omega arith;
-                to = omega (arith, lowest.to);
-                there = there;
-                row = lowest.row;
-                others = λ k from to here. lowest.others k (omega arith) to (in_second 0 v k (omega arith) (omega (arith, lowest.to)) ∙ here);
-              }
+              from = omega arith;
+              to = omega (arith, lowest.to);
+              there = there;
+              row = lowest.row;
+              others = λ k from to here. lowest.others k (omega arith) to (in_second 0 v k (omega arith) (omega (arith, lowest.to)) ∙ here);
+            }
           ]
     ]
 

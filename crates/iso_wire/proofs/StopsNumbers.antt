@@ -1,5 +1,5 @@
 -- The numbers of a set: those below one of them, and the lowest one without a row.
-use Rattle.std.proofs.Common.{◌≡◌, ℕ, zero, suc, ◌+◌, ◌-◌, ◌≤◌, ◌<◌, Bool, true, false, ◌&&◌, eqb, ltb, is_some, is_none, List, [], ◌∷◌, ◌++◌, Option, Some, None, refl, sym, ap, subst, ◌∙◌, arith, inl, inr}
+use Rattle.std.proofs.Common.{◌≡◌, ℕ, zero, suc, ◌+◌, ◌≤◌, ◌<◌, Bool, true, false, is_some, is_none, List, [], ◌∷◌, ◌++◌, Option, Some, None, refl, sym, ap, subst, ◌∙◌, arith, inl, inr}
 use Rattle.std.proofs.lemmas.Bool.{cases_eq, cases_lt}
 use Rattle.std.proofs.lemmas.Bool.Decides.{nat_tests}
 use Rattle.iso_parts.specs.declared.spec.FieldSpec.{FieldSpec}
@@ -28,11 +28,12 @@ behind_below set zero low n from to here = absurd (omega (arith, from, to))
 behind_below set (suc count) low n from to here =
     elim (cases_eq low n) [
       | inl same ↦
-          let others : List ℕ = numbers set count (low + 1) in
-          (others,
+          let others : List ℕ = numbers set count (low + 1) in (
+            others,
             one_more set count low (ap set same ∙ here)
-            ∙ ap (λ (k : ℕ). k ∷ others) same
-            ∙ ap (λ (l : List ℕ). l ++ n ∷ others) (sym (numbers_none (below n set) (suc count) low (λ k from to. below_none set n k (omega arith)))))
+                ∙ ap (λ (k : ℕ). k ∷ others) same
+                ∙ ap (λ (l : List ℕ). l ++ n ∷ others) (sym (numbers_none (below n set) (suc count) low (λ k from to. below_none set n k (omega arith)))),
+          )
       | inr ne ↦
           let rest = behind_below set count (low + 1) n (omega arith) (omega arith) here in
           (rest.0, step_below (set low) set count low n (n ∷ rest.0) refl (omega arith) rest.1)

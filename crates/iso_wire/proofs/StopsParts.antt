@@ -1,5 +1,5 @@
 -- Reading stops at the length or the body of an element exactly where that piece isn't whole, or is bad.
-use Rattle.std.proofs.Common.{◌≡◌, ℕ, ◌+◌, ◌≤◌, ◌<◌, Bool, true, false, cond, ltb, List, [], ◌∷◌, ◌++◌, ◌⊎◌, length, take, drop, Option, Some, Result, Ok, Err, refl, sym, ap, subst, ◌∙◌, append_assoc, arith, inl, inr}
+use Rattle.std.proofs.Common.{◌≡◌, ℕ, ◌+◌, ◌≤◌, ◌<◌, Bool, true, false, cond, ltb, List, [], ◌∷◌, ◌++◌, ◌⊎◌, length, take, drop, Option, Some, Result, Ok, Err, refl, sym, ap, ◌∙◌, append_assoc, arith, inl, inr}
 use Rattle.std.proofs.lemmas.Bool.{ltb-false, ltb-true, lt-ltb, le-ltb, cond-true, cond-false}
 use Rattle.std.proofs.lemmas.List.{take_at, drop_at, drop-drop, length-append, length-take, length-drop}
 use Rattle.std.proofs.Math.Seq.{take-add}
@@ -12,9 +12,9 @@ use Rattle.iso_parts.specs.declared.fault.FieldFault.TheVariants as faults
 use Rattle.iso_parts.specs.PartLaws.{PartLaws}
 use Rattle.iso_parts.specs.PieceLaws.{PieceLaws}
 use Rattle.iso_parts.specs.Pieces.{TellsCount, IsCount, IsBadCount, IsBadBody}
-use Rattle.iso_parts.specs.Reading.{prefix_size, prefix_of, body_size, body_of, Outcome, more, at_body, at_prefix, part_at}
+use Rattle.iso_parts.specs.Reading.{prefix_size, prefix_of, body_size, body_of, more, at_body, at_prefix, part_at}
 use Rattle.iso_parts.specs.Row.{IsGood}
-use Rattle.iso_table.specs.Layout.{Layout, row_at, AreGood}
+use Rattle.iso_table.specs.Layout.{Layout, AreGood}
 use Rattle.iso_wire.specs.declared.fault.UnpackFault.{UnpackFault}
 use Rattle.iso_wire.specs.declared.fault.UnpackCause.{UnpackCause}
 use Rattle.iso_wire.specs.declared.fault.UnpackCause.TheVariants as causes

@@ -1,6 +1,6 @@
 -- Where bytes stop being a message, and why (ISO 8583:1987, structure of a message). The bytes are some good pieces,
 -- joined, and a rest. The good pieces call for the next one; in the rest it isn't whole, or it is whole and bad.
-use Rattle.std.specs.Prelude.{◌≡◌, ◌≢◌, ℕ, ◌+◌, ◌/◌, ◌<◌, ◌≤◌, ◌&&◌, nat_lt, Bool, true, false, is_some, List, [], ◌++◌, length, take, Some, None}
+use Rattle.std.specs.Prelude.{◌≡◌, ◌≢◌, ℕ, ◌/◌, ◌<◌, ◌≤◌, ◌&&◌, nat_lt, Bool, true, false, is_some, List, [], ◌++◌, length, take, Some, None}
 use Rattle.iso_parts.specs.declared.spec.FieldSpec.{FieldSpec}
 use Rattle.iso_parts.specs.Bits.{map_size, BitsIn, Bitmaps, first_set, second_set}
 use Rattle.iso_parts.specs.Pieces.{IsCount, IsBadCount, IsBadBody}

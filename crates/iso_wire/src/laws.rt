@@ -4,6 +4,7 @@ ghost use Rattle.iso_wire.specs.Entries.{elements_of};
 ghost use Rattle.iso_wire.specs.Frame.{BadIsNoFrame, BadStays, CutNeedsMore, FirstOfSplit, SplitsBehind, SplitsOnce, SplitsSomehow};
 ghost use Rattle.iso_wire.specs.OneSpelling.{AreOfBytes, HasPlain, PlainOnce, WellFormed};
 ghost use Rattle.iso_wire.specs.ReadingLaws.{ReadingStays, ReadsSpellings};
+ghost use Rattle.iso_wire.specs.StopsLaws.{NeverBoth, SpellsOrStops, StopsAsRead, StopsOnce, StopsStay};
 
 use crate::elements::Entry;
 use crate::message::Message;
@@ -30,6 +31,26 @@ pub fn reads_spellings()
 {
     iso_parts::laws::parts();
     iso_parts::laws::bitmaps();
+}
+
+/// Bytes begin with a spelling, or they stop at one place, at one element, for one cause: behind some good pieces, at
+/// the first piece that isn't whole or is bad.
+pub fn stops()
+    // Reading gives a fault exactly where the bytes stop.
+    ensures exact { StopsAsRead }
+    // They begin with a spelling, or they stop,
+    ensures some { SpellsOrStops }
+    // and not both,
+    ensures either { NeverBoth }
+    // and they stop once.
+    ensures once { StopsOnce }
+    // They go on to stop there whatever bytes follow, unless they are too short.
+    ensures stay { StopsStay }
+{
+    reads_spellings();
+    iso_parts::laws::parts();
+    iso_parts::laws::bitmaps();
+    iso_parts::laws::pieces();
 }
 
 /// A well-formed message that the table doesn't refuse has one plain spelling, which `pack` writes.

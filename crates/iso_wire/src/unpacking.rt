@@ -2,19 +2,21 @@
 
 ghost use Rattle.std.specs.Prelude.{◌≡◌, ◌≢◌, ℕ, ◌+◌, ◌≤◌, ◌<◌, length, List, take, drop, ◌++◌, option_map, slice_index, IfOk, IfErr, OnOk};
 ghost use Rattle.iso_parts.specs.Mti.{number};
+ghost use Rattle.iso_wire.specs.declared.fault.UnpackCause.{UnpackCause};
 ghost use Rattle.iso_wire.specs.declared.fault.UnpackCause.TheVariants.{Short, Memory};
 ghost use Rattle.iso_wire.specs.Contents.{Contents};
 ghost use Rattle.iso_wire.specs.Entries.{views, IsWhole};
 ghost use Rattle.iso_wire.specs.Faults.{out_of_memory};
 ghost use Rattle.iso_table.specs.Layout.{AreGood};
-ghost use Rattle.iso_wire.specs.Reading.{Gives, AppendsPart, AppendsElement, place_of, value_at, elements_at, four_digits, mti_size, mti_of, type_at, message_at, Unpacks, whole};
+ghost use Rattle.iso_wire.specs.Reading.{Gives, AppendsPart, AppendsElement, place_of, value_at, elements_at, four_digits, halt, mti_size, mti_of, type_at, message_at, Unpacks, whole};
 ghost use Rattle.iso_wire.specs.Spelling.{Spelling, AreBytes, BeginsWith, BeginsWithNone, IsUnambiguous};
+ghost use Rattle.iso_wire.specs.Stops.{Stops};
 ghost use Rattle.iso_wire.specs.Walk.{left};
 
 use crate::bitmaps::words_of;
 use crate::elements::Elements;
 use crate::fault::{UnpackCause, UnpackFault};
-use crate::laws::reads_spellings;
+use crate::laws::{reads_spellings, stops};
 use crate::message::Message;
 use crate::numbers::Numbers;
 use iso_parts::{Digits, FieldFault, FieldSpec, Mti, append_value};
@@ -212,6 +214,10 @@ pub fn unpack(alloc: Global, table: &Table, bytes: &[u8]) -> Result<(Message, us
     ensures exact { Unpacks result (message_at table.now bytes.now) }
     // and then it tells no place.
     ensures memory { IfErr result (λ e. e.cause ≡ Memory → e ≡ out_of_memory) }
+    // A fault tells where the bytes stop, by their whole pieces, and why,
+    ensures stops { IfErr result (λ e. e.cause ≢ Memory → Stops table.now bytes.now e.at e.element e.cause) }
+    // and where they stop is told, unless memory runs out.
+    ensures told { (at element : ℕ) (cause : UnpackCause) → Stops table.now bytes.now at element cause → Unpacks result (halt element at cause) }
     // A fault comes only where the bytes begin with no spelling,
     ensures refused { IfErr result (λ e. e.cause ≢ Memory → BeginsWithNone table.now bytes.now) }
     // and where a whole piece is bad, no continuation begins with one either.
@@ -220,5 +226,6 @@ pub fn unpack(alloc: Global, table: &Table, bytes: &[u8]) -> Result<(Message, us
     ensures one { IsUnambiguous table.now }
 {
     reads_spellings();
+    stops();
     message_of(alloc, table, bytes)
 }

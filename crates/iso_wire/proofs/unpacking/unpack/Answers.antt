@@ -1,4 +1,5 @@
 use Rattle.std.proofs.Common.{arith}
+use Rattle.iso_wire.proofs.StopsLaws.{fault_stops, stop_is_told}
 use Rattle.iso_wire.proofs.Unpacks.{is_found, is_given, is_refused, is_settled, one_spelling, tells_no_place}
 use Rattle.iso_wire.proofs.unpacking.unpack.Goals as goal
 
@@ -19,3 +20,9 @@ returns-clause-settled c = is_settled c.reads_spellings.ensures.exact c.reads_sp
 
 pub returns-clause-memory : goal.returns-clause-memory
 returns-clause-memory c = tells_no_place c.message_of.result _ c.message_of.ensures.exact
+
+pub returns-clause-stops : goal.returns-clause-stops
+returns-clause-stops c = fault_stops c.stops.ensures.exact c.args.table.now c.args.bytes.now c.message_of.result c.message_of.ensures.good (λ i. omega (arith, c.type_inv.bytes i)) c.message_of.ensures.exact
+
+pub returns-clause-told : goal.returns-clause-told
+returns-clause-told c = stop_is_told c.stops.ensures.exact c.args.table.now c.args.bytes.now c.message_of.result c.message_of.ensures.good (λ i. omega (arith, c.type_inv.bytes i)) c.message_of.ensures.exact
