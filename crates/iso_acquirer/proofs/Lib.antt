@@ -1,0 +1,4 @@
+pub mod Keys
+pub mod Numbered
+pub mod Made
+pub mod Kept

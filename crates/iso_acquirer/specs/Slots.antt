@@ -1,0 +1,201 @@
+-- What an acquirer keeps, by trace number, and what its calls do to it.
+use Rattle.std.specs.Prelude.{◌≡◌, ◌≤◌, ℕ, true, List, [], ◌∷◌, ◌++◌, ◌==◌, ◌||◌, ◌+◌, length, nat_lt, find, map, sum_by, Option, Some, None, option_map, option_and_then, Result, Ok, Err, if◌then◌else◌}
+use Rattle.std.specs.List.{AllByRecursion}
+use Rattle.iso_order.specs.declared.key.TxKey.{TxKey}
+use Rattle.iso_order.specs.declared.act.Act.TheVariants.{Debit, Undo}
+use Rattle.iso_order.specs.AccountNumber.{AccountNumber}
+use Rattle.iso_order.specs.Key.{same_key}
+use Rattle.iso_order.specs.Order.{Instruction, is_currency}
+use Rattle.iso_acquirer.specs.declared.fault.AcqFault.{AcqFault}
+use Rattle.iso_acquirer.specs.declared.fault.AcqFault.TheVariants.{NoMoreTrace, NoSuch, Closed}
+use Rattle.iso_acquirer.specs.declared.slot.Slot.{Slot}
+use Rattle.iso_acquirer.specs.declared.slot.Role.{Role}
+use Rattle.iso_acquirer.specs.declared.slot.Role.TheVariants.{Transaction, Reversal}
+use Rattle.iso_acquirer.specs.declared.slot.Stage.{Stage}
+use Rattle.iso_acquirer.specs.declared.slot.Stage.TheVariants.{Asked, Undoing, Granted, Denied, Undone}
+use Rattle.iso_acquirer.specs.declared.state.State.{State}
+use Rattle.iso_acquirer.specs.declared.state.State.TheVariants.{Waiting, Reversing, Approved, Declined, Reversed}
+
+-- an acquirer as contracts see it: its number (element 32), and each order that it made, by trace number (element 11) from 1 on
+pub record Party : Type 0 where
+  pub id : ℕ
+  pub slots : List Slot
+
+-- the orders have the trace numbers from n on
+abbrev pub AreNumbered : ℕ → List Slot → Type 0
+AreNumbered n [] = Unit {0}
+AreNumbered n (s ∷ ss) = (s.order.key.stan ≡ n) × AreNumbered (n + 1) ss
+
+-- what is kept under a trace number
+abbrev pub slot_at : List Slot → ℕ → Option Slot
+slot_at slots stan = find (λ s. s.order.key.stan == stan) slots
+
+abbrev pub order_at : List Slot → ℕ → Option Instruction
+order_at slots stan = option_map (λ s. s.order) (slot_at slots stan)
+
+-- ---- states
+
+abbrev pub state_by : Stage → State
+state_by (Asked n) = Waiting n
+state_by (Undoing u) = Reversing
+state_by Granted = Approved
+state_by (Denied c) = Declined c
+state_by (Undone u) = Reversed
+
+-- a reversal is no transaction
+abbrev pub state_in : Role → Option State
+state_in (Transaction stage) = Some (state_by stage)
+state_in (Reversal stan) = None
+
+-- the state of the transaction of that trace number, where there is one
+abbrev pub state_of : List Slot → ℕ → Option State
+state_of slots stan = option_and_then (λ s. state_in s.role) (slot_at slots stan)
+
+-- the reversal of a transaction, where there is one
+abbrev pub undo_of : Stage → Option Instruction
+undo_of (Asked n) = None
+undo_of (Undoing u) = Some u
+undo_of Granted = None
+undo_of (Denied c) = None
+undo_of (Undone u) = Some u
+
+-- how many reversals of a transaction may still be made: one or none
+abbrev pub may_reverse : Stage → ℕ
+may_reverse (Asked n) = 1
+may_reverse (Undoing u) = 0
+may_reverse Granted = 0
+may_reverse (Denied c) = 0
+may_reverse (Undone u) = 0
+
+-- a reversal isn't reversed
+abbrev pub to_reverse : Role → ℕ
+to_reverse (Transaction stage) = may_reverse stage
+to_reverse (Reversal stan) = 0
+
+-- how many reversals may still be made
+abbrev pub waiting : List Slot → ℕ
+waiting slots = sum_by (λ s. to_reverse s.role) slots
+
+-- ---- changes
+
+-- a transaction comes to another stage; a reversal stays
+abbrev pub on_stage : (Stage → Stage) → Role → Role
+on_stage step (Transaction stage) = Transaction (step stage)
+on_stage step (Reversal stan) = Reversal stan
+
+abbrev pub stepped : (Stage → Stage) → Slot → Slot
+stepped step s = record { order = s.order; role = on_stage step s.role }
+
+-- the transaction of that trace number comes to another stage
+abbrev pub changed : (Stage → Stage) → ℕ → List Slot → List Slot
+changed step stan slots = map (λ s. if s.order.key.stan == stan then stepped step s else s) slots
+
+-- an order that is made and sent for the first time
+abbrev pub transaction_of : Instruction → Slot
+transaction_of o = record { order = o; role = Transaction (Asked 1) }
+
+-- the reversal of the transaction of that trace number
+abbrev pub reversal_for : ℕ → Instruction → Slot
+reversal_for stan undo = record { order = undo; role = Reversal stan }
+
+-- ---- begin
+
+-- a debit of a request (message type 0200), under the next trace number
+abbrev pub debit_of : Party → AccountNumber → ℕ → List ℕ → ℕ → Instruction
+debit_of p pan amount currency sent = record {
+  key = record { base = 200; stan = length p.slots + 1; sent = sent; acquirer = p.id };
+  act = Debit (record { pan = pan; amount = amount; currency = currency });
+}
+
+-- a transaction is begun
+abbrev pub begun : List Slot → Instruction → List Slot
+begun slots o = slots ++ transaction_of o ∷ []
+
+-- what the caller gives: 1 to twelve nines (element 4), three letters or digits (element 49), ten digits (element 7)
+pub record IsFair (amount : ℕ) (currency : List ℕ) (sent : ℕ) : Type 0 where
+  pub least : 1 ≤ amount
+  pub most : amount ≤ 999999999999
+  pub currency_fits : is_currency currency ≡ true
+  pub sent_fits : sent ≤ 9999999999
+
+-- ---- timeout
+
+-- the reversal of an order (message type 0420), under the next trace number; it leaves nothing
+abbrev pub reversal_of : List Slot → Instruction → Instruction
+reversal_of slots o = record {
+  key = record { base = 420; stan = length slots + 1; sent = o.key.sent; acquirer = o.key.acquirer };
+  act = Undo o.key 0;
+}
+
+-- the transaction is reversed, by an order that is made
+abbrev pub reversing : List Slot → ℕ → Instruction → List Slot
+reversing slots stan undo = changed (λ _. Undoing undo) stan slots ++ reversal_for stan undo ∷ []
+
+-- the order that is sent, and what is kept: the order again, after the second time its reversal, and then that again
+abbrev pub timed_out_by : List Slot → Instruction → Stage → Result (Instruction × List Slot) AcqFault
+timed_out_by slots o (Asked n) =
+    if n == 1 then Ok (o, changed (λ _. Asked 2) o.key.stan slots)
+    else if nat_lt (length slots) 999999 then Ok (reversal_of slots o, reversing slots o.key.stan (reversal_of slots o))
+    else Err NoMoreTrace
+timed_out_by slots o (Undoing u) = Ok (u, slots)
+timed_out_by slots o Granted = Err Closed
+timed_out_by slots o (Denied c) = Err Closed
+timed_out_by slots o (Undone u) = Err Closed
+
+abbrev pub timed_out_in : List Slot → Instruction → Role → Result (Instruction × List Slot) AcqFault
+timed_out_in slots o (Transaction stage) = timed_out_by slots o stage
+timed_out_in slots o (Reversal stan) = Err NoSuch
+
+abbrev pub timed_out_at : List Slot → Option Slot → Result (Instruction × List Slot) AcqFault
+timed_out_at slots None = Err NoSuch
+timed_out_at slots (Some s) = timed_out_in slots s.order s.role
+
+abbrev pub timed_out : List Slot → ℕ → Result (Instruction × List Slot) AcqFault
+timed_out slots stan = timed_out_at slots (slot_at slots stan)
+
+-- ---- answer
+
+-- the stage after an answer to the transaction's own order: 0 grants it, 94 and 96 leave it open (element 39)
+abbrev pub stage_after : ℕ → Stage → Stage
+stage_after code (Asked n) = if code == 0 then Granted else (if (code == 94) || (code == 96) then Asked n else Denied code)
+stage_after code (Undoing u) = Undoing u
+stage_after code Granted = Granted
+stage_after code (Denied c) = Denied c
+stage_after code (Undone u) = Undone u
+
+-- the stage after an answer to its reversal
+abbrev pub stage_undone : ℕ → Stage → Stage
+stage_undone code (Asked n) = Asked n
+stage_undone code (Undoing u) = if code == 0 then Undone u else Undoing u
+stage_undone code Granted = Granted
+stage_undone code (Denied c) = Denied c
+stage_undone code (Undone u) = Undone u
+
+-- an answer comes: to a transaction's order, or to the reversal of a transaction
+abbrev pub answered_in : List Slot → ℕ → ℕ → Role → List Slot
+answered_in slots stan code (Transaction stage) = changed (stage_after code) stan slots
+answered_in slots stan code (Reversal original) = changed (stage_undone code) original slots
+
+abbrev pub answered_at : List Slot → TxKey → ℕ → Option Slot → List Slot
+answered_at slots key code None = slots
+answered_at slots key code (Some s) = if same_key s.order.key key then answered_in slots key.stan code s.role else slots
+
+-- an answer to any other key changes nothing
+abbrev pub answered : List Slot → TxKey → ℕ → List Slot
+answered slots key code = answered_at slots key code (slot_at slots key.stan)
+
+-- ---- how it is kept
+
+-- a transaction's order is a request of class 2
+abbrev pub IsRequest : Role → Instruction → Type 0
+IsRequest (Transaction stage) o = o.key.base ≡ 200
+IsRequest (Reversal stan) o = Unit {0}
+
+-- the numbers are in a row and few, and there is room for each reversal that may come
+pub record IsKept (id : ℕ) (slots : List Slot) (open_ones : ℕ) (len capacity : ℕ) : Type 0 where
+  pub id_fits : id ≤ 99999999999
+  pub numbered : AreNumbered 1 slots
+  pub few : length slots ≤ 999999
+  pub counted : open_ones ≡ waiting slots
+  pub room : len + open_ones ≤ capacity
+  pub requests : AllByRecursion (λ s. IsRequest s.role s.order) slots

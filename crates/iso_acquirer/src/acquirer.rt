@@ -1,0 +1,360 @@
+//! The acquirer.
+
+ghost use Rattle.std.specs.Prelude.{◌≡◌, ◌≢◌, ◌≤◌, ◌<◌, ◌↔◌, [], length, true, Ok, Err, Some, IfSome, List, slice_get, IfOk, OnOk, OnErr, IfErr};
+ghost use Rattle.iso_order.specs.Key.{is_valid_key, same_key};
+ghost use Rattle.iso_order.specs.declared.act.Act.TheVariants.{Debit};
+ghost use Rattle.iso_acquirer.specs.declared.fault.AcqFault.TheVariants.{NoMoreTrace, Memory};
+ghost use Rattle.iso_acquirer.specs.declared.slot.Role.TheVariants.{Transaction};
+ghost use Rattle.iso_acquirer.specs.Slots.{AreNumbered, slot_at, state_by, state_of, may_reverse, to_reverse, on_stage, changed, begun, debit_of, IsFair, IsRequest, reversal_of, reversing, timed_out, timed_out_by, answered_in, stage_after, stage_undone, answered};
+
+use crate::fault::AcqFault;
+use crate::slot::{Role, Slot, Stage};
+use crate::state::State;
+use iso_order::{Act, Money, Order, Pan, TxKey};
+use std::alloc::Global;
+use std::marker::Model;
+
+/// Sends debits, asks again where no answer comes, and reverses what it doesn't hear of.
+#[derive(Drop)]
+pub struct Acquirer {
+    id: u64,
+    /// Each order that was made: that of trace number 1 first.
+    slots: Vec<Slot>,
+    /// How many reversals may still be made.
+    waiting: usize,
+}
+
+impl Model for Acquirer {
+    ghost use Rattle.std.specs.Prelude.{vec_len, vec_capacity};
+    ghost use Rattle.iso_acquirer.specs.Slots.{Party, IsKept};
+
+    ghost Value = { Party };
+
+    ghost view = { λ a. record { id = a.id; slots = a.slots.items } };
+
+    ghost invariant = { λ a. IsKept a.id a.slots.items a.waiting (vec_len a.slots) (vec_capacity a.slots) };
+}
+
+fn slot_in(slots: &[Slot], place: usize) -> Option<Slot>
+    ensures { result ≡ slice_get slots.now place }
+{
+    slots.get(place).copied()
+}
+
+/// What is kept under a trace number.
+fn slot_at(slots: &[Slot], stan: u32) -> Option<Slot>
+    requires { AreNumbered 1 slots.now }
+    ensures value { result ≡ slot_at slots.now stan }
+    ensures there { IfSome result (λ slot. slot_at slots.now slot.order.key.stan ≡ Some slot) }
+{
+    if stan == 0 {
+        return None;
+    }
+    slot_in(slots, stan as usize - 1)
+}
+
+/// Brings the transaction of a trace number to a stage.
+fn put(slots: &mut [Slot], slot: &Slot, stage: Stage)
+    requires numbered { AreNumbered 1 slots.old }
+    requires there { slot_at slots.old slot.now.order.key.stan ≡ Some slot.now }
+    ensures { (step : Stage → Stage) → on_stage step slot.now.role ≡ Transaction stage → slots.new ≡ changed step slot.now.order.key.stan slots.old }
+{
+    let place = slot.order.key().stan as usize - 1;
+    slots[place] = Slot {
+        order: slot.order,
+        role: Role::Transaction(stage),
+    };
+}
+
+fn state_by(stage: Stage) -> State
+    ensures { result ≡ state_by stage }
+{
+    match stage {
+        Stage::Asked(count) => State::Waiting(count),
+        Stage::Undoing(_) => State::Reversing,
+        Stage::Granted => State::Approved,
+        Stage::Denied(code) => State::Declined(code),
+        Stage::Undone(_) => State::Reversed,
+    }
+}
+
+/// How many reversals of a transaction at that stage may still be made: one or none.
+fn may_reverse(stage: &Stage) -> usize
+    ensures { result ≡ may_reverse stage.now }
+{
+    match stage {
+        Stage::Asked(_) => 1,
+        Stage::Undoing(_) | Stage::Granted | Stage::Denied(_) | Stage::Undone(_) => 0,
+    }
+}
+
+/// How many reversals of an order may still be made: a reversal isn't reversed.
+fn to_reverse(role: &Role) -> usize
+    ensures { result ≡ to_reverse role.now }
+{
+    match role {
+        Role::Transaction(stage) => may_reverse(stage),
+        Role::Reversal(_) => 0,
+    }
+}
+
+fn is_key(a: TxKey, b: TxKey) -> bool
+    ensures { result ≡ same_key a b }
+{
+    a.base == b.base && a.stan == b.stan && a.sent == b.sent && a.acquirer == b.acquirer
+}
+
+/// The stage after an answer to the transaction's own order.
+fn stage_after(stage: Stage, code: u8) -> Stage
+    ensures { result ≡ stage_after code stage }
+{
+    match stage {
+        Stage::Asked(count) => match code {
+            0 => Stage::Granted,
+            94 | 96 => Stage::Asked(count),
+            _ => Stage::Denied(code),
+        },
+        Stage::Undoing(_) | Stage::Granted | Stage::Denied(_) | Stage::Undone(_) => stage,
+    }
+}
+
+/// The stage after an answer to the transaction's reversal.
+fn stage_undone(stage: Stage, code: u8) -> Stage
+    ensures { result ≡ stage_undone code stage }
+{
+    match stage {
+        Stage::Undoing(undo) => {
+            if code == 0 {
+                Stage::Undone(undo)
+            } else {
+                stage
+            }
+        }
+        Stage::Asked(_) | Stage::Granted | Stage::Denied(_) | Stage::Undone(_) => stage,
+    }
+}
+
+/// A debit, under a key of class 2.
+fn debit(key: TxKey, money: Money) -> Order
+    requires key { is_valid_key key ≡ true }
+    requires base { key.base ≡ 200 }
+    requires fair { IsFair money.amount money.currency key.sent }
+    ensures { result ≡ record { key = key; act = Debit money } }
+{
+    let _ = money.pan.len();
+    Order::new(key, Act::Debit(money)).unwrap()
+}
+
+/// The reversal of a transaction's order, under the next trace number.
+fn reversal(used: usize, order: Order) -> Order
+    requires few { used < 999999 }
+    requires base { order.key.base ≡ 200 }
+    ensures { (slots : List Slot) → length slots ≡ used → result ≡ reversal_of slots order }
+{
+    let original = order.key();
+    let key = TxKey {
+        base: 420,
+        stan: used as u32 + 1,
+        sent: original.sent,
+        acquirer: original.acquirer,
+    };
+    Order::new(key, Act::Undo { original, left: 0 }).unwrap()
+}
+
+impl Acquirer {
+    /// An acquirer of that number (element 32), of at most 11 digits, with no transaction. Takes no memory.
+    pub fn new(alloc: Global, id: u64) -> Acquirer
+        requires { id ≤ 99999999999 }
+        ensures { result ≡ record { id = id; slots = [] } }
+    {
+        Acquirer {
+            id,
+            slots: Vec::new(alloc),
+            waiting: 0,
+        }
+    }
+
+    /// Its number. Takes no memory.
+    pub(crate) fn id(&self) -> u64
+        ensures { result ≡ self.now.id }
+    {
+        self.id
+    }
+
+    pub(crate) fn allocator(&self) -> Global {
+        *self.slots.allocator()
+    }
+
+    /// The state of the transaction of that trace number, where there is one: a reversal is none. Takes no memory.
+    pub fn state(&self, stan: u32) -> Option<State>
+        ensures { result ≡ state_of self.now.slots stan }
+    {
+        let slot = slot_at(&self.slots, stan)?;
+        match slot.role {
+            Role::Transaction(stage) => Some(state_by(stage)),
+            Role::Reversal(_) => None,
+        }
+    }
+
+    /// Begins a debit under the next trace number, from 1 on: gives its order, a message 0200. The caller gives an
+    /// amount of 1 to 999,999,999,999 minor units, a currency of three letters or digits, and the transmission date
+    /// and time as a number of at most ten digits. Takes the room for its reversal too: no other call takes memory.
+    pub fn begin(
+        &mut self,
+        pan: Pan,
+        amount: u64,
+        currency: [u8; 3],
+        sent: u64,
+    ) -> Result<Order, AcqFault>
+        requires { IsFair amount currency sent }
+        ensures order { IfOk result (λ order. order ≡ debit_of self.old pan amount currency sent) }
+        ensures begun { OnOk result (self.new ≡ record self.old { slots = begun self.old.slots (debit_of self.old pan amount currency sent) }) }
+        ensures few { OnOk result (length self.old.slots < 999999) }
+
+        // It has used all trace numbers, or memory ran out.
+        ensures no_more { (result ≡ Err NoMoreTrace) ↔ (length self.old.slots ≡ 999999) }
+        ensures memory { IfErr result (λ e. e ≢ NoMoreTrace → e ≡ Memory) }
+        ensures unchanged { OnErr result (self.new ≡ self.old) }
+    {
+        let used = self.slots.len();
+        if used >= 999_999 {
+            return Err(AcqFault::NoMoreTrace);
+        }
+        self.slots.reserve(self.waiting + 2)?;
+        let key = TxKey {
+            base: 200,
+            stan: used as u32 + 1,
+            sent,
+            acquirer: self.id,
+        };
+        let money = Money {
+            pan,
+            amount,
+            currency,
+        };
+        let order = debit(key, money);
+        self.slots.push_reserved(Slot {
+            order,
+            role: Role::Transaction(Stage::Asked(1)),
+        });
+        self.waiting += 1;
+        Ok(order)
+    }
+
+    /// Brings a transaction to a stage.
+    fn bring(&mut self, slot: &Slot, stage: Stage)
+        requires there { slot_at self.old.slots slot.now.order.key.stan ≡ Some slot.now }
+        requires fewer { may_reverse stage ≤ to_reverse slot.now.role }
+        requires transaction { (before : Stage) × (slot.now.role ≡ Transaction before) }
+        ensures { (step : Stage → Stage) → on_stage step slot.now.role ≡ Transaction stage → self.new ≡ record self.old { slots = changed step slot.now.order.key.stan self.old.slots } }
+    {
+        let before = to_reverse(&slot.role);
+        let after = may_reverse(&stage);
+        put(&mut self.slots, slot, stage);
+        self.waiting = self.waiting - before + after;
+    }
+
+    /// Makes the reversal of a transaction under the next trace number. Its room is there.
+    fn reverse(&mut self, slot: &Slot) -> Result<Order, AcqFault>
+        requires there { slot_at self.old.slots slot.now.order.key.stan ≡ Some slot.now }
+        requires asked { to_reverse slot.now.role ≡ 1 }
+        ensures order { IfOk result (λ order. order ≡ reversal_of self.old.slots slot.now.order) }
+        ensures reversing { OnOk result (self.new ≡ record self.old { slots = reversing self.old.slots slot.now.order.key.stan (reversal_of self.old.slots slot.now.order) }) }
+        ensures few { OnOk result (length self.old.slots < 999999) }
+        ensures no_more { IfErr result (λ e. (e ≡ NoMoreTrace) × (length self.old.slots ≡ 999999)) }
+        ensures unchanged { OnErr result (self.new ≡ self.old) }
+    {
+        let used = self.slots.len();
+        if used >= 999_999 {
+            return Err(AcqFault::NoMoreTrace);
+        }
+        let undo = reversal(used, slot.order);
+        put(&mut self.slots, slot, Stage::Undoing(undo));
+        self.slots.push_reserved(Slot {
+            order: undo,
+            role: Role::Reversal(slot.order.key().stan),
+        });
+        self.waiting -= 1;
+        Ok(undo)
+    }
+
+    /// The order to send where no answer came in time to the transaction of that trace number: the transaction's own
+    /// order a second time, then its reversal, a message 0420, and that same reversal again and again. Takes no memory.
+    pub fn timeout(&mut self, stan: u32) -> Result<Order, AcqFault>
+        ensures ok { IfOk result (λ order. timed_out self.old.slots stan ≡ Ok (order, self.new.slots)) }
+        ensures own { self.new.id ≡ self.old.id }
+
+        // No such transaction, it is closed, or all trace numbers are used.
+        ensures fault { IfErr result (λ e. timed_out self.old.slots stan ≡ Err e) }
+        ensures unchanged { OnErr result (self.new ≡ self.old) }
+    {
+        let Some(slot) = slot_at(&self.slots, stan) else {
+            return Err(AcqFault::NoSuch);
+        };
+        let role = slot.role;
+        match role {
+            Role::Transaction(stage) => self.timed_out(&slot, stage),
+            Role::Reversal(_) => Err(AcqFault::NoSuch),
+        }
+    }
+
+    fn timed_out(&mut self, slot: &Slot, stage: Stage) -> Result<Order, AcqFault>
+        requires there { slot_at self.old.slots slot.now.order.key.stan ≡ Some slot.now }
+        requires transaction { slot.now.role ≡ Transaction stage }
+        ensures ok { IfOk result (λ order. timed_out_by self.old.slots slot.now.order stage ≡ Ok (order, self.new.slots)) }
+        ensures own { self.new.id ≡ self.old.id }
+        ensures fault { IfErr result (λ e. timed_out_by self.old.slots slot.now.order stage ≡ Err e) }
+        ensures unchanged { OnErr result (self.new ≡ self.old) }
+    {
+        match stage {
+            Stage::Asked(count) => {
+                if count == 1 {
+                    self.bring(slot, Stage::Asked(2));
+                    Ok(slot.order)
+                } else {
+                    self.reverse(slot)
+                }
+            }
+            Stage::Undoing(undo) => Ok(undo),
+            Stage::Granted | Stage::Denied(_) | Stage::Undone(_) => Err(AcqFault::Closed),
+        }
+    }
+
+    /// Takes an answer: the code (element 39) that an order of that key got. To a transaction's own order that waits,
+    /// 0 approves, 94 and 96 leave it open, and any other code declines; to the reversal of one that is being reversed,
+    /// 0 closes it. Any other answer changes nothing. Takes no memory.
+    pub fn answer(&mut self, key: TxKey, code: u8)
+        ensures { self.new ≡ record self.old { slots = answered self.old.slots key code } }
+    {
+        let Some(slot) = slot_at(&self.slots, key.stan) else {
+            return;
+        };
+        if is_key(slot.order.key(), key) {
+            self.answer_to(&slot, code);
+        }
+    }
+
+    fn answer_to(&mut self, slot: &Slot, code: u8)
+        requires there { slot_at self.old.slots slot.now.order.key.stan ≡ Some slot.now }
+        ensures { self.new ≡ record self.old { slots = answered_in self.old.slots slot.now.order.key.stan code slot.now.role } }
+    {
+        match slot.role {
+            Role::Transaction(stage) => self.bring(slot, stage_after(stage, code)),
+            Role::Reversal(original) => self.undo_answered(original, code),
+        }
+    }
+
+    /// Takes an answer to the reversal of the transaction of that trace number.
+    fn undo_answered(&mut self, original: u32, code: u8)
+        ensures { self.new ≡ record self.old { slots = changed (stage_undone code) original self.old.slots } }
+    {
+        let Some(slot) = slot_at(&self.slots, original) else {
+            return;
+        };
+        let role = slot.role;
+        match role {
+            Role::Transaction(stage) => self.bring(&slot, stage_undone(stage, code)),
+            Role::Reversal(_) => {}
+        }
+    }
+}

@@ -1,0 +1,11 @@
+//! The other end: an acquirer that sends debits and reverses what it doesn't hear of, and what both ends agree on.
+#![tactic(auto)]
+
+mod acquirer;
+mod fault;
+mod slot;
+mod state;
+
+pub use acquirer::Acquirer;
+pub use fault::{AcqFault, StepFault};
+pub use state::State;

@@ -1,0 +1,34 @@
+//! What an acquirer keeps under a trace number.
+
+use iso_order::Order;
+
+/// How far a transaction got.
+#[derive(Clone, Copy, Debug)]
+pub enum Stage {
+    /// Its order was sent so many times, and no answer decided it.
+    Asked(u8),
+    /// This reversal of it was sent, and not answered.
+    Undoing(Order),
+    /// It was granted.
+    Granted,
+    /// It was refused with that code.
+    Denied(u8),
+    /// This reversal of it was answered.
+    Undone(Order),
+}
+
+/// What an order of an acquirer is.
+#[derive(Clone, Copy, Debug)]
+pub enum Role {
+    /// A transaction's own order, and how far the transaction got.
+    Transaction(Stage),
+    /// The reversal of the transaction of that trace number.
+    Reversal(u32),
+}
+
+/// What an acquirer keeps under a trace number: an order that it made.
+#[derive(Clone, Copy, Debug)]
+pub struct Slot {
+    pub order: Order,
+    pub role: Role,
+}
