@@ -10,11 +10,8 @@ use Rattle.iso_acquirer.specs.declared.slot.Role.TheVariants.{Transaction, Rever
 use Rattle.iso_acquirer.specs.declared.slot.Stage.{Stage}
 use Rattle.iso_acquirer.specs.declared.slot.Stage.TheVariants.{Asked, Undoing, Granted, Denied, Undone}
 use Rattle.iso_acquirer.specs.Slots.{AreNumbered, slot_at, may_reverse, to_reverse, waiting, on_stage, stepped, changed, transaction_of, reversal_for, begun, reversing, stage_after, stage_undone, IsRequest, IsKept}
+use Rattle.iso_acquirer.proofs.Lists.{all-push}
 use Rattle.iso_acquirer.proofs.Numbered.{summed, numbered-changed, numbered-push, length-changed, all-changed, all-found}
-
-pub all-push : {X : Type 0} (P : X → Type 0) (xs : List X) (x : X) → AllByRecursion P xs → P x → AllByRecursion P (xs ++ x ∷ [])
-all-push P [] x all p = (p, tt)
-all-push P (y ∷ ys) x all p = (all.0, all-push P ys x all.1 p)
 
 abbrev AreRequests : List Slot → Type 0
 AreRequests slots = AllByRecursion (λ s. IsRequest s.role s.order) slots

@@ -1,4 +1,10 @@
 pub mod Keys
+pub mod Lists
 pub mod Numbered
 pub mod Made
 pub mod Kept
+pub mod Clauses
+pub mod Agree
+pub mod Entered
+pub mod Changed
+pub mod Answered

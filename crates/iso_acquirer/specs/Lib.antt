@@ -1,2 +1,5 @@
 pub mod FaultNumbers
 pub mod Slots
+pub mod World
+pub mod Agreed
+pub mod Agreement

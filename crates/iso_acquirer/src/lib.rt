@@ -2,10 +2,14 @@
 #![tactic(auto)]
 
 mod acquirer;
+mod event;
 mod fault;
 mod slot;
 mod state;
+mod world;
 
 pub use acquirer::Acquirer;
+pub use event::{Event, Given};
 pub use fault::{AcqFault, StepFault};
 pub use state::State;
+pub use world::World;

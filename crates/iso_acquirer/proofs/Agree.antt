@@ -1,0 +1,38 @@
+-- Both ends agree on each transaction.
+use Rattle.std.proofs.Common.{◌≡◌, ℕ, refl, ap, sym, ◌∙◌, subst}
+use Rattle.std.specs.Prelude.{Option, Some, None, option_map, option_and_then}
+use Rattle.iso_order.specs.Order.{Instruction}
+use Rattle.iso_issuer.specs.Laws.{GrantedStands, DeclinedFalls, NoneIsNone, StandsNoMore, ReversedNeverStands}
+use Rattle.iso_acquirer.specs.declared.slot.Slot.{Slot}
+use Rattle.iso_acquirer.specs.declared.slot.Role.{Role}
+use Rattle.iso_acquirer.specs.declared.slot.Role.TheVariants.{Transaction, Reversal}
+use Rattle.iso_acquirer.specs.declared.slot.Stage.{Stage}
+use Rattle.iso_acquirer.specs.declared.slot.Stage.TheVariants.{Asked, Undoing, Granted, Denied, Undone}
+use Rattle.iso_acquirer.specs.declared.state.State.{State}
+use Rattle.iso_acquirer.specs.Slots.{slot_at, order_at, state_by, state_in, state_of}
+use Rattle.iso_acquirer.specs.World.{World}
+use Rattle.iso_acquirer.specs.Agreed.{IsSound}
+use Rattle.iso_acquirer.specs.Agreement.{AgreesIn, BothAgree}
+use Rattle.iso_acquirer.proofs.Keys.{some_is}
+use Rattle.iso_acquirer.proofs.Numbered.{found}
+use Rattle.iso_acquirer.proofs.Clauses.{order_of_slot, approved-stands, declined-never, reversed-never}
+
+module _ (none_is_none : NoneIsNone) (stands : GrantedStands) (falls : DeclinedFalls) (no_more : StandsNoMore) (never : ReversedNeverStands) (w : World) (sound : IsSound w) where
+  by_stage : (stan : ℕ) (s : Slot) → slot_at w.acquirer.slots stan ≡ Some s → (stage : Stage) → s.role ≡ Transaction stage → AgreesIn w s.order (state_by stage)
+  by_stage stan s here (Asked n) role = tt
+  by_stage stan s here (Undoing u) role = tt
+  by_stage stan s here Granted role =
+      approved-stands w.acquirer.id w.acquirer.slots w.sent w.given _ sound.agreed none_is_none stands stan s here (found w.acquirer.slots 1 stan s sound.agreed.numbered here).0 role
+  by_stage stan s here (Denied c) role = declined-never w.acquirer.id w.acquirer.slots w.sent w.given w.issuer.accounts w.issuer.orders sound.agreed no_more falls stan s c here role
+  by_stage stan s here (Undone u) role = reversed-never w.acquirer.id w.acquirer.slots w.sent w.given w.issuer.accounts w.issuer.orders sound.agreed never stan s u here role
+
+  by_role : (stan : ℕ) (s : Slot) → slot_at w.acquirer.slots stan ≡ Some s → (role : Role) → s.role ≡ role → (state : State) → state_in role ≡ Some state → AgreesIn w s.order state
+  by_role stan s here (Transaction stage) role state is = subst (AgreesIn w s.order) (some_is (state_by stage) state is) (by_stage stan s here stage role)
+  by_role stan s here (Reversal k) role state is = cc
+
+  pub both-agree : BothAgree w
+  both-agree stan o state made told = by_slot (slot_at w.acquirer.slots stan) refl made told
+    where
+      by_slot : (f : Option Slot) → slot_at w.acquirer.slots stan ≡ f → option_map (λ s. s.order) f ≡ Some o → option_and_then (λ s. state_in s.role) f ≡ Some state → AgreesIn w o state
+      by_slot None e g h = cc
+      by_slot (Some s) e g h = subst (λ x. AgreesIn w x state) (some_is s.order o g) (by_role stan s e s.role refl state h)

@@ -1,0 +1,173 @@
+-- Both ends, and what may happen to them.
+use Rattle.std.specs.Prelude.{◌≡◌, ◌≢◌, ◌<◌, ℕ, List, [], ◌∷◌, ◌++◌, ◌+◌, length, Option, Some, None, slice_get, Ok, Err}
+use Rattle.iso_order.specs.AccountNumber.{AccountNumber}
+use Rattle.iso_order.specs.Order.{Instruction}
+use Rattle.iso_issuer.specs.declared.fault.Refused.{Refused}
+use Rattle.iso_issuer.specs.declared.fault.Refused.TheVariants.{Full, Memory}
+use Rattle.iso_issuer.specs.Decision.{reply}
+use Rattle.iso_issuer.specs.Books.{Books, journal, entering, IsFullFor, IsRoomFor}
+use Rattle.iso_acquirer.specs.declared.event.Event.{Event}
+use Rattle.iso_acquirer.specs.declared.event.Event.TheVariants.{Begin, Timeout, Deliver, Answer, Other}
+use Rattle.iso_acquirer.specs.declared.event.Given.{Given}
+use Rattle.iso_acquirer.specs.declared.fault.AcqFault.TheVariants as acquirer
+use Rattle.iso_acquirer.specs.declared.fault.StepFault.{StepFault}
+use Rattle.iso_acquirer.specs.declared.fault.StepFault.TheVariants as fault
+use Rattle.iso_acquirer.specs.declared.slot.Slot.{Slot}
+use Rattle.iso_acquirer.specs.Slots.{Party, begun, debit_of, IsFair, timed_out, answered}
+
+-- the acquirer and the issuer, with all that was ever sent and given
+pub record World : Type 0 where
+  pub acquirer : Party
+  pub sent : List Instruction
+  pub given : List Given
+  pub issuer : Books
+
+-- ---- what an event makes of them
+
+-- the acquirer sends an order, and keeps these slots
+abbrev pub sending : World → Instruction × List Slot → World
+sending w (o, slots) = record {
+  acquirer = record { id = w.acquirer.id; slots = slots };
+  sent = w.sent ++ o ∷ [];
+  given = w.given;
+  issuer = w.issuer;
+}
+
+-- the issuer gets a sent order, and its answer is given
+abbrev pub delivered : World → Instruction → World
+delivered w o = record {
+  acquirer = w.acquirer;
+  sent = w.sent;
+  given = w.given ++ record { key = o.key; answer = reply w.issuer.accounts (journal w.issuer) o } ∷ [];
+  issuer = entering w.issuer o;
+}
+
+-- the acquirer gets a given answer
+abbrev pub told : World → Given → World
+told w g = record {
+  acquirer = record { id = w.acquirer.id; slots = answered w.acquirer.slots g.key g.answer.code };
+  sent = w.sent;
+  given = w.given;
+  issuer = w.issuer;
+}
+
+-- the issuer gets an order of another acquirer
+abbrev pub other : World → Instruction → World
+other w o = record { acquirer = w.acquirer; sent = w.sent; given = w.given; issuer = entering w.issuer o }
+
+-- ---- an event that is made
+
+-- the acquirer had a trace number left, and sends a new debit
+pub record IsBegun (old : World) (o : Instruction) (new : World) : Type 0 where
+  pub left : length old.acquirer.slots < 999999
+  pub after : new ≡ sending old (o, begun old.acquirer.slots o)
+
+-- the acquirer sends what it sends where no answer came in time
+pub record IsAsked (old : World) (stan : ℕ) (new : World) : Type 0 where
+  pub asked : Instruction × List Slot
+  pub found : timed_out old.acquirer.slots stan ≡ Ok asked
+  pub after : new ≡ sending old asked
+
+-- an order was sent at that place, and the issuer has its key or room for it
+pub record IsDelivered (old : World) (place : ℕ) (new : World) : Type 0 where
+  pub order : Instruction
+  pub found : slice_get old.sent place ≡ Some order
+  pub room : IsFullFor old.issuer order.key → ⊥
+  pub after : new ≡ delivered old order
+
+-- an answer was given at that place
+pub record IsTold (old : World) (place : ℕ) (new : World) : Type 0 where
+  pub answer : Given
+  pub found : slice_get old.given place ≡ Some answer
+  pub after : new ≡ told old answer
+
+-- the order is of another acquirer, and the issuer has its key or room for it
+pub record IsOther (old : World) (o : Instruction) (new : World) : Type 0 where
+  pub others_own : o.key.acquirer ≢ old.acquirer.id
+  pub room : IsFullFor old.issuer o.key → ⊥
+  pub after : new ≡ other old o
+
+abbrev pub IsMade : World → Event → World → Type 0
+IsMade old (Begin pan amount currency sent) new = IsBegun old (debit_of old.acquirer pan amount currency sent) new
+IsMade old (Timeout stan) new = IsAsked old stan new
+IsMade old (Deliver place) new = IsDelivered old place new
+IsMade old (Answer place) new = IsTold old place new
+IsMade old (Other o) new = IsOther old o new
+
+-- ---- why one isn't made
+
+-- the issuer has no room for a new key, or no memory for it
+abbrev pub IsRefused : Books → Instruction → Refused → Type 0
+IsRefused b o Full = IsFullFor b o.key
+IsRefused b o Memory = IsRoomFor b o.key
+
+-- all trace numbers are used, or memory ran out
+abbrev pub IsNotBegun : World → StepFault → Type 0
+IsNotBegun old (fault.Acquirer e) = (e ≡ acquirer.NoMoreTrace → length old.acquirer.slots ≡ 999999) × (e ≢ acquirer.NoMoreTrace → e ≡ acquirer.Memory)
+IsNotBegun old fault.Memory = Unit {0}
+IsNotBegun old fault.NoSuch = ⊥
+IsNotBegun old fault.OwnKey = ⊥
+IsNotBegun old (fault.Issuer e) = ⊥
+
+-- the acquirer refuses, or memory ran out
+abbrev pub IsNotAsked : World → ℕ → StepFault → Type 0
+IsNotAsked old stan (fault.Acquirer e) = timed_out old.acquirer.slots stan ≡ Err e
+IsNotAsked old stan fault.Memory = Unit {0}
+IsNotAsked old stan fault.NoSuch = ⊥
+IsNotAsked old stan fault.OwnKey = ⊥
+IsNotAsked old stan (fault.Issuer e) = ⊥
+
+-- no order was sent at that place, or the issuer refuses it, or memory ran out
+abbrev pub IsNotDelivered : World → ℕ → StepFault → Type 0
+IsNotDelivered old place fault.NoSuch = slice_get old.sent place ≡ None
+IsNotDelivered old place (fault.Issuer e) = (o : Instruction) × (slice_get old.sent place ≡ Some o) × IsRefused old.issuer o e
+IsNotDelivered old place fault.Memory = (o : Instruction) × (slice_get old.sent place ≡ Some o)
+IsNotDelivered old place fault.OwnKey = ⊥
+IsNotDelivered old place (fault.Acquirer e) = ⊥
+
+-- no answer was given at that place
+abbrev pub IsNotTold : World → ℕ → StepFault → Type 0
+IsNotTold old place fault.NoSuch = slice_get old.given place ≡ None
+IsNotTold old place fault.Memory = ⊥
+IsNotTold old place fault.OwnKey = ⊥
+IsNotTold old place (fault.Acquirer e) = ⊥
+IsNotTold old place (fault.Issuer e) = ⊥
+
+-- the order has this acquirer's number, or the issuer refuses it
+abbrev pub IsNotOther : World → Instruction → StepFault → Type 0
+IsNotOther old o fault.OwnKey = o.key.acquirer ≡ old.acquirer.id
+IsNotOther old o (fault.Issuer e) = (o.key.acquirer ≢ old.acquirer.id) × IsRefused old.issuer o e
+IsNotOther old o fault.Memory = ⊥
+IsNotOther old o fault.NoSuch = ⊥
+IsNotOther old o (fault.Acquirer e) = ⊥
+
+abbrev pub IsNotMade : World → Event → StepFault → Type 0
+IsNotMade old (Begin pan amount currency sent) e = IsNotBegun old e
+IsNotMade old (Timeout stan) e = IsNotAsked old stan e
+IsNotMade old (Deliver place) e = IsNotDelivered old place e
+IsNotMade old (Answer place) e = IsNotTold old place e
+IsNotMade old (Other o) e = IsNotOther old o e
+
+-- ---- runs
+
+-- what the caller gives: a debit that can be begun
+abbrev pub IsFairEvent : Event → Type 0
+IsFairEvent (Begin pan amount currency sent) = IsFair amount currency sent
+IsFairEvent (Timeout stan) = Unit {0}
+IsFairEvent (Deliver place) = Unit {0}
+IsFairEvent (Answer place) = Unit {0}
+IsFairEvent (Other o) = Unit {0}
+
+-- an event is made, or refused and nothing changes
+abbrev pub IsStep : World → Event → World → Option StepFault → Type 0
+IsStep old event new None = IsMade old event new
+IsStep old event new (Some e) = IsNotMade old event e × (new ≡ old)
+
+abbrev pub refused_in : Option StepFault → ℕ
+refused_in None = 0
+refused_in (Some e) = 1
+
+-- the steps in order, and the number of refusals
+abbrev pub IsRan : World → List Event → ℕ → World → Type 0
+IsRan old [] n new = (n ≡ 0) × (new ≡ old)
+IsRan old (e ∷ es) n new = (mid : World) × (f : Option StepFault) × (m : ℕ) × IsStep old e mid f × IsRan mid es m new × (n ≡ refused_in f + m)
