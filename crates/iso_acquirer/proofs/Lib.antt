@@ -8,3 +8,6 @@ pub mod Agree
 pub mod Entered
 pub mod Changed
 pub mod Answered
+pub mod Begun
+pub mod TimedOut
+pub mod Closed

@@ -1,0 +1,5 @@
+use Rattle.std.proofs.Common.{Some, refl}
+use Rattle.iso_acquirer.proofs.world.World.refusals.Goals as goal
+
+pub returns-in-Err-clause-step : goal.returns-in-Err-clause-step
+returns-in-Err-clause-step c = (Some c.in-Err.field-0, (c.in-Err.ensures.fault, c.in-Err.ensures.unchanged), refl)
