@@ -11,3 +11,5 @@ pub mod Answered
 pub mod Begun
 pub mod TimedOut
 pub mod Closed
+pub mod Sums
+pub mod Settled
