@@ -1,0 +1,96 @@
+ghost use Rattle.std.specs.Prelude.{◌≡◌, ◌≤◌, IfOk, All};
+ghost use Rattle.iso_acquirer.specs.World.{IsFairEvent};
+
+use super::*;
+use iso_issuer::{Accounts, Issuer, Refused};
+use iso_order::{Act, Money, Order, Pan, TxKey};
+use std::alloc::Global;
+use std::process::Abort;
+use std::test::*;
+
+mod faults;
+mod generated;
+mod schedules;
+mod transactions;
+
+/// The number of the acquirer, and the transmission date and time of its orders.
+const ID: u64 = 12_345;
+const SENT: u64 = 102_030_405;
+
+fn account() -> Result<Pan, Fail> {
+    Ok(Pan::from_digits(b"4111111111111111").ok_or("16 digits")?)
+}
+
+const fn key(base: u16, stan: u32, acquirer: u64) -> TxKey {
+    TxKey {
+        base,
+        stan,
+        sent: SENT,
+        acquirer,
+    }
+}
+
+/// An acquirer, and an issuer with 5000 on each of two accounts.
+fn world(alloc: Global, limit: u32) -> Result<World, Fail> {
+    if limit < 1 || 999_999 < limit {
+        return Err("a limit from 1 to 999,999")?;
+    }
+    let text =
+        b"{\"accounts\":[{\"currency\":\"840\",\"opening\":5000,\"pan\":\"4111111111111111\"},
+        {\"currency\":\"840\",\"opening\":5000,\"pan\":\"01\"}]}";
+    let accounts = Accounts::from_json(alloc, text)?;
+    Ok(World::new(Acquirer::new(alloc, ID), Issuer::new(accounts, limit)))
+}
+
+/// The acquirer begins a debit of the account.
+fn begin(amount: u64) -> Result<Event, Fail>
+    ensures { IfOk result IsFairEvent }
+{
+    if amount < 1 || 999_999_999_999 < amount {
+        return Err("an amount that a debit can have")?;
+    }
+    Ok(Event::Begin {
+        pan: account()?,
+        amount,
+        currency: *b"840",
+        sent: SENT,
+    })
+}
+
+/// Whether memory ran out.
+fn wants_memory(told: Result<(), StepFault>) -> bool {
+    matches!(
+        told,
+        Err(StepFault::Memory
+            | StepFault::Acquirer(AcqFault::Memory)
+            | StepFault::Issuer(Refused::Memory))
+    )
+}
+
+/// Makes an event, and again where memory ran out, which changed nothing.
+fn step(world: &mut World, event: Event) -> Result<(), StepFault>
+    requires { IsFairEvent event }
+{
+    let told = world.step(event);
+    if wants_memory(told) {
+        world.step(event)
+    } else {
+        told
+    }
+}
+
+/// An event, what comes of it, the state that the acquirer then holds of a transaction, and what is then on the account.
+type Row = (Event, Result<(), StepFault>, Option<State>, i64);
+
+/// Plays events.
+fn play(rt: &impl Abort, world: &mut World, stan: u32, rows: &[Row]) -> Result<(), Fail>
+    requires { All (λ row. IsFairEvent row.0) rows.now }
+{
+    for (event, told, state, ledger) in rows {
+        assert_eq!(rt; step(world, *event), *told, "{event:?}");
+        assert_eq!(rt; world.acquirer().state(stan), *state, "{event:?}");
+        assert_eq!(rt; world.issuer().ledger(account()?), Some(*ledger), "{event:?}");
+        assert_eq!(rt; world.issuer().available(account()?), Some(*ledger), "{event:?}");
+    }
+    Ok(())
+}

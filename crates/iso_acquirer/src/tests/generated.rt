@@ -1,0 +1,2 @@
+//! Generated schedules.
+use super::*;
