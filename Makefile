@@ -2,6 +2,7 @@
 # make test    every test and every stored run, without proofs; the last line is 'N passed, N failed'
 # make build   proves the command and what it stands on, and builds it: crates/iso_cli/out/iso_cli
 # make day     the frames of examples/day.txt through an issuer host, and each answer; builds the command
+# make schedule  an acquirer whose answers get lost, and what both ends hold: SCHEDULE=examples/lost-answers.txt
 # make check   proves what changed since the last check
 # make prove   the whole gate: every proof, must-fail edit, test and program, from nothing
 # make memory  the tests of a crate with each of its first allocations refused in turn: CRATE=iso_issuer FIRST=15 LAST=22
@@ -15,19 +16,20 @@ COMMAND := crates/iso_cli/out/iso_cli
 BENCH := crates/iso_bench/out/iso_bench
 ANSWERS := crates/iso_cli/out/answers.txt
 SOURCES := $(shell find crates -name out -prune -o -type f \( -name '*.rt' -o -name '*.antt' \) -print) crates.txt
+SCHEDULE := examples/lost-answers.txt
 CRATE := iso_issuer
 FIRST := 15
 LAST := 22
 ORDERS := 900000
 SIZES := 10000 100000 900000
 
-.PHONY: run test build day check prove memory bench
+.PHONY: run test build day schedule check prove memory bench
 
 run:
 	@if $(MAKE) --silent --no-print-directory --question $(COMMAND); then \
 	    $(COMMAND) < examples/echo.txt; \
 	else \
-	    scripts/echo.sh; \
+	    scripts/quick-run.sh iso_cli examples/echo.txt; \
 	fi
 
 test:
@@ -38,6 +40,9 @@ build: $(COMMAND)
 day: $(COMMAND)
 	@$(COMMAND) run ascii87 examples/accounts.json ascii4 < examples/day.txt > $(ANSWERS)
 	@examples/show-answers.sh $(COMMAND) ascii87 ascii4 $(ANSWERS)
+
+schedule:
+	@scripts/quick-run.sh iso_schedule $(SCHEDULE)
 
 $(COMMAND): $(SOURCES)
 	cd crates/iso_cli && rt run < ../../examples/echo.txt > /dev/null

@@ -1,5 +1,5 @@
 #!/bin/sh
-# Runs a program on its stored input, and the command on the examples too, without proving it. Prints each run that
+# Runs a program on its stored input, and on those of the examples that are its own, without proving it. Prints each run that
 # failed, and a line of counts: try-runs.sh CRATE
 set -u
 cd "$(dirname "$0")/../crates/$1" || exit 1
@@ -30,6 +30,9 @@ if [ "$1" = iso_cli ]; then
     run /dev/null "$examples/expected/check" check check terminals.json
     run "$examples/day.txt" "$examples/expected/day" day run ascii87 accounts.json ascii4
     run "$examples/hotel.txt" "$examples/expected/hotel" hotel run ascii87 accounts.json ascii4
+fi
+if [ "$1" = iso_schedule ]; then
+    run "$examples/lost-answers.txt" "$examples/expected/lost-answers" lost-answers
 fi
 
 rt try --cases "$cases" --data "accounts.json=$examples/accounts.json" --data terminals.json=../../tables/terminals.json \

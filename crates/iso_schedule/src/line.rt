@@ -1,0 +1,68 @@
+//! A line of a schedule.
+
+ghost use Rattle.std.specs.Prelude.{IfSome};
+ghost use Rattle.iso_acquirer.specs.World.{IsFairEvent};
+ghost use Rattle.iso_schedule.specs.Fair.{IsFairLine};
+
+use iso_acquirer::Event;
+use iso_order::Pan;
+
+/// The largest amount, in minor units.
+const MOST: u64 = 999_999_999_999;
+
+/// When each purchase is sent: month, day, hour, minute, second.
+const SENT: u64 = 102_030_405;
+
+/// What a line is.
+#[derive(Clone, Copy, Debug)]
+pub enum Line {
+    /// A remark.
+    Said,
+    /// What happens next.
+    Event(Event),
+    /// Nothing that can happen.
+    Unknown,
+}
+
+/// The event that a word and a number name, if they name one.
+fn event_of(pan: Pan, word: &str, number: u64) -> Option<Event>
+    ensures { IfSome result IsFairEvent }
+{
+    match word {
+        "begin" => {
+            if number == 0 || number > MOST {
+                return None;
+            }
+            Some(Event::Begin {
+                pan,
+                amount: number,
+                currency: *b"840",
+                sent: SENT,
+            })
+        }
+        "timeout" => Some(Event::Timeout(u32::try_from(number).ok()?)),
+        "deliver" => Some(Event::Deliver(number as usize)),
+        "answer" => Some(Event::Answer(number as usize)),
+        _ => None,
+    }
+}
+
+/// What a line says. Each event is one that can be played.
+pub fn line_of(pan: Pan, text: &str) -> Line
+    ensures { IsFairLine result }
+{
+    let text = text.trim();
+    if text.is_empty() || text.starts_with("#") {
+        return Line::Said;
+    }
+    let Some((word, digits)) = text.split_once(" ") else {
+        return Line::Unknown;
+    };
+    let Ok(number) = digits.parse::<u64>() else {
+        return Line::Unknown;
+    };
+    match event_of(pan, word, number) {
+        Some(event) => Line::Event(event),
+        None => Line::Unknown,
+    }
+}

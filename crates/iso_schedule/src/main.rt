@@ -1,0 +1,74 @@
+//! Plays a schedule between an acquirer and an issuer: what is sent, what gets lost, what comes twice or late.
+//!
+//! Each line of the input is an event, and what both ends hold after it is printed beside it. Places count from 0.
+//!
+//! - `begin AMOUNT`: the acquirer begins a purchase of that amount, and sends its request
+//! - `timeout TRACE`: no answer came in time to the purchase of that trace number
+//! - `deliver PLACE`: the issuer gets the order that was sent at that place, and answers it
+//! - `answer PLACE`: the acquirer gets the answer that was given at that place
+//!
+//! An empty line, and one that begins with `#`, is printed as it is.
+#![tactic(auto)]
+
+ghost use Rattle.iso_acquirer.specs.World.{IsFairEvent};
+
+mod line;
+mod told;
+
+use anyhow::{Context, Result};
+use iso_acquirer::{Acquirer, Event, World};
+use iso_issuer::{Accounts, Issuer};
+use iso_order::Pan;
+use line::{Line, line_of};
+use std::alloc::Global;
+use std::io;
+use told::{tell, tell_refused};
+
+/// The acquirer's number.
+const ACQUIRER: u64 = 12345;
+
+/// The account of all purchases.
+const PAN: &[u8] = b"4111111111111111";
+
+/// What the issuer knows of it.
+const ACCOUNTS: &[u8] =
+    b"{\"accounts\":[{\"currency\":\"840\",\"opening\":5000,\"pan\":\"4111111111111111\"}]}";
+
+/// How many orders the issuer's journal takes.
+const LIMIT: u32 = 999_999;
+
+/// Both ends, before anything is sent.
+fn new_world(alloc: Global) -> Result<World> {
+    let accounts = Accounts::from_json(alloc, ACCOUNTS).context("reading the account")?;
+    Ok(World::new(Acquirer::new(alloc, ACQUIRER), Issuer::new(accounts, LIMIT)))
+}
+
+/// Plays an event, and prints what came of it.
+fn play(rt: &HostRuntime, world: &mut World, pan: Pan, text: &str, event: &Event) -> io::Result<()>
+    requires { IsFairEvent event.now }
+{
+    match world.step(*event) {
+        Ok(()) => tell(rt, world, pan, text, event),
+        Err(fault) => tell_refused(rt, text, &fault),
+    }
+}
+
+/// Plays what a line says.
+fn play_line(rt: &HostRuntime, world: &mut World, pan: Pan, text: &str) -> io::Result<()> {
+    let line = line_of(pan, text);
+    match &line {
+        Line::Said => println!(rt; "{text}"),
+        Line::Unknown => println!(rt; "{text:<12}  no event"),
+        Line::Event(event) => play(rt, world, pan, text, event),
+    }
+}
+
+fn main(rt: HostRuntime) -> Result<()> {
+    let mut world = new_world(rt.alloc())?;
+    let pan = Pan::from_digits(PAN).context("reading the account number")?;
+    let text = io::read_to_string(rt.alloc(), rt.stdin()).context("reading the schedule")?;
+    for line in text.lines() {
+        play_line(&rt, &mut world, pan, line)?;
+    }
+    Ok(())
+}
