@@ -19,11 +19,11 @@ const FULL: u8 = 255;
 pub struct Draws {
     state: u64,
     /// How many trace numbers there are.
-    stans: u64,
+    stans: u32,
 }
 
 impl Draws {
-    pub fn new(state: u64, stans: u64) -> Draws {
+    pub fn new(state: u64, stans: u32) -> Draws {
         Draws { state, stans }
     }
 
@@ -46,7 +46,7 @@ impl Draws {
 
     /// One of few trace numbers, so that keys come again and reversals find them.
     fn stan(&mut self) -> u32 {
-        (self.next() % self.stans.max(1)) as u32
+        (self.next() % 600_000) as u32 % self.stans.max(1)
     }
 
     /// What a reversal leaves: often nothing.
