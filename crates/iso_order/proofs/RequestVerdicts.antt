@@ -52,7 +52,7 @@ module _ (key : TxKey) (act : Act) (valid : is_valid_key key ≡ true) where
   unfolding request
   mti-is = refl
 
-  value-is : (n : ℕ) → 2 ≤ n → n ≤ 128 → value_in m.elements n ≡ requested key act n
+  pub value-is : (n : ℕ) → 2 ≤ n → n ≤ 128 → value_in m.elements n ≡ requested key act n
   unfolding request
   value-is n low high = value_in-from (requested key act) 2 127 n low (omega arith)
 

@@ -1,9 +1,9 @@
 //! The message that asks for an order.
 
-ghost use Rattle.std.specs.Prelude.{◌≡◌, ◌≤◌, ◌++◌, ◌∷◌, [], true, OnOk, IfOk, option_map};
+ghost use Rattle.std.specs.Prelude.{◌≡◌, ℕ, ◌≤◌, ◌++◌, ◌∷◌, [], true, OnOk, IfOk, option_map};
 ghost use Rattle.iso_parts.specs.Mti.{number};
 ghost use Rattle.iso_wire.specs.Decimal.{decimal};
-ghost use Rattle.iso_wire.specs.Elements.{is_number, IsBelow};
+ghost use Rattle.iso_wire.specs.Elements.{value_in, is_number, IsBelow};
 ghost use Rattle.iso_order.specs.Listing.{entry, elements_at, ascend};
 ghost use Rattle.iso_order.specs.Request.{money_in, processing_code, moved_by, named_by, left_by, acquirer_code, account_number, original_data, replacement_amounts, requested, request, AsksFor, FitsEdition87};
 
@@ -245,6 +245,9 @@ fn add_all(key: &TxKey, act: &Act, numbers: &[u8], request: &mut Message) -> Res
 /// only for want of memory.
 pub fn request(alloc: Global, order: &Order) -> Result<Message, NoMemory>
     ensures whole { IfOk result (λ made. made ≡ request order.now) }
+    // Element by element.
+    ensures each { IfOk result (λ made. (n : ℕ) → 2 ≤ n → n ≤ 128
+        → value_in made.elements n ≡ requested order.now.key order.now.act n) }
     // What it asks is that very order.
     ensures order { IfOk result (λ made. AsksFor made order.now) }
     // Both built-in tables can write it.

@@ -7,6 +7,7 @@ use Rattle.iso_order.specs.Listing.{elements_at}
 use Rattle.iso_order.specs.Order.{Instruction, is_valid}
 use Rattle.iso_order.specs.Request.{AsksFor, FitsEdition87, requested}
 use Rattle.iso_order.proofs.RequestFits.{request-listed}
+use Rattle.iso_order.proofs.RequestVerdicts.{value-is}
 use Rattle.iso_order.proofs.Valid.{KeyFacts, key_facts, valid-parts}
 use Rattle.iso_order.proofs.asking.request.Goals as goal
 
@@ -30,6 +31,11 @@ returns-clause-whole c =
     ∙ ap (λ (k : TxKey). record { mti = k.base; elements = elements_at (requested k c.act-act.result) numbers }) c.key-key.ensures.value
     ∙ ap (λ (a : Act). record { mti = c.args.order.now.key.base; elements = elements_at (requested c.args.order.now.key a) numbers }) c.act-act.ensures.value
     ∙ sym (request-listed c.args.order.now)
+
+pub returns-clause-each : goal.returns-clause-each
+returns-clause-each c = λ n low high.
+    let o = c.args.order.now in
+    rw (returns-clause-whole c) (value-is o.key o.act (valid-parts o c.key-key.ensures.valid).0 n low high)
 
 pub returns-clause-order : goal.returns-clause-order
 returns-clause-order c =
