@@ -1,4 +1,4 @@
-ghost use Rattle.std.specs.Prelude.{◌≡◌, ◌≤◌, IfOk, All};
+ghost use Rattle.std.specs.Prelude.{IfOk};
 ghost use Rattle.iso_acquirer.specs.World.{IsFairEvent};
 
 use super::*;
@@ -8,6 +8,7 @@ use std::alloc::Global;
 use std::process::Abort;
 use std::test::*;
 
+mod draws;
 mod faults;
 mod generated;
 mod schedules;
@@ -15,10 +16,20 @@ mod transactions;
 
 /// The number of the acquirer, and the transmission date and time of its orders.
 const ID: u64 = 12_345;
+
 const SENT: u64 = 102_030_405;
 
+/// The numbers of the accounts.
+const ACCOUNT: &[u8] = b"4111111111111111";
+
+const OTHER: &[u8] = b"01";
+
+fn pan(text: &[u8]) -> Result<Pan, Fail> {
+    Ok(Pan::from_digits(text).ok_or("1 to 19 digits")?)
+}
+
 fn account() -> Result<Pan, Fail> {
-    Ok(Pan::from_digits(b"4111111111111111").ok_or("16 digits")?)
+    pan(ACCOUNT)
 }
 
 const fn key(base: u16, stan: u32, acquirer: u64) -> TxKey {
@@ -61,19 +72,21 @@ fn begin(amount: u64) -> Result<Event, Fail>
 fn wants_memory(told: Result<(), StepFault>) -> bool {
     matches!(
         told,
-        Err(StepFault::Memory
-            | StepFault::Acquirer(AcqFault::Memory)
-            | StepFault::Issuer(Refused::Memory))
+        Err(
+            StepFault::Memory
+                | StepFault::Acquirer(AcqFault::Memory)
+                | StepFault::Issuer(Refused::Memory)
+        )
     )
 }
 
 /// Makes an event, and again where memory ran out, which changed nothing.
-fn step(world: &mut World, event: Event) -> Result<(), StepFault>
-    requires { IsFairEvent event }
+fn step(world: &mut World, event: &Event) -> Result<(), StepFault>
+    requires { IsFairEvent event.now }
 {
-    let told = world.step(event);
+    let told = world.step(*event);
     if wants_memory(told) {
-        world.step(event)
+        world.step(*event)
     } else {
         told
     }
@@ -82,15 +95,32 @@ fn step(world: &mut World, event: Event) -> Result<(), StepFault>
 /// An event, what comes of it, the state that the acquirer then holds of a transaction, and what is then on the account.
 type Row = (Event, Result<(), StepFault>, Option<State>, i64);
 
-/// Plays events.
-fn play(rt: &impl Abort, world: &mut World, stan: u32, rows: &[Row]) -> Result<(), Fail>
-    requires { All (λ row. IsFairEvent row.0) rows.now }
+/// The event, which begins no other debits than `begin` makes.
+fn fair(event: Event) -> Result<Event, Fail>
+    ensures { IfOk result IsFairEvent }
 {
+    match event {
+        Event::Begin { amount, .. } => begin(amount),
+        Event::Timeout(_) | Event::Deliver(_) | Event::Answer(_) | Event::Other(_) => Ok(event),
+    }
+}
+
+/// Plays events.
+fn play(rt: &impl Abort, world: &mut World, stan: u32, rows: &[Row]) -> Result<(), Fail> {
     for (event, told, state, ledger) in rows {
-        assert_eq!(rt; step(world, *event), *told, "{event:?}");
+        let event = fair(*event)?;
+        assert_eq!(rt; step(world, &event), *told, "{event:?}");
         assert_eq!(rt; world.acquirer().state(stan), *state, "{event:?}");
-        assert_eq!(rt; world.issuer().ledger(account()?), Some(*ledger), "{event:?}");
-        assert_eq!(rt; world.issuer().available(account()?), Some(*ledger), "{event:?}");
+        assert_eq!(rt;
+            world.issuer().ledger(account()?),
+            Some(*ledger),
+            "{event:?}"
+        );
+        assert_eq!(rt;
+            world.issuer().available(account()?),
+            Some(*ledger),
+            "{event:?}"
+        );
     }
     Ok(())
 }

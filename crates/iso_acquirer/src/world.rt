@@ -10,7 +10,10 @@ use crate::acquirer::Acquirer;
 use crate::event::{Event, Given};
 use crate::fault::StepFault;
 use iso_issuer::Issuer;
-use iso_issuer::laws::{granted_stands, journals_grow, keys_stay_distinct, reversals_stay, reversed_never_stands, stands_no_more};
+use iso_issuer::laws::{
+    granted_stands, journals_grow, keys_stay_distinct, reversals_stay, reversed_never_stands,
+    stands_no_more,
+};
 use iso_order::laws::comparisons;
 use iso_order::{Order, Pan};
 use std::marker::Model;

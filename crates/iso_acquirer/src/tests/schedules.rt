@@ -1,10 +1,17 @@
 //! Orders and answers that are lost, late, repeated and out of order.
+ghost use Rattle.std.specs.Prelude.{IfOk};
+ghost use Rattle.iso_acquirer.specs.World.{IsFairEvent};
+
 use super::*;
 
 const ASKED: Option<State> = Some(State::Waiting(1));
+
 const AGAIN: Option<State> = Some(State::Waiting(2));
+
 const REVERSING: Option<State> = Some(State::Reversing);
+
 const APPROVED: Option<State> = Some(State::Approved);
+
 const REVERSED: Option<State> = Some(State::Reversed);
 
 /// The codes of the answers that were given, in order.
@@ -31,8 +38,18 @@ fn reversed_before_it_came(rt: HostRuntime) -> Result<(), Fail> {
     play(&rt, &mut world, 1, &rows)?;
     assert_eq!(rt; codes(rt.alloc(), &world)?.as_slice(), [0, 21].as_slice());
     let refused = [
-        (Event::Timeout(1), Err(StepFault::Acquirer(AcqFault::Closed)), REVERSED, 5000),
-        (Event::Timeout(5), Err(StepFault::Acquirer(AcqFault::NoSuch)), REVERSED, 5000),
+        (
+            Event::Timeout(1),
+            Err(StepFault::Acquirer(AcqFault::Closed)),
+            REVERSED,
+            5000,
+        ),
+        (
+            Event::Timeout(5),
+            Err(StepFault::Acquirer(AcqFault::NoSuch)),
+            REVERSED,
+            5000,
+        ),
         (Event::Deliver(9), Err(StepFault::NoSuch), REVERSED, 5000),
         (Event::Answer(2), Err(StepFault::NoSuch), REVERSED, 5000),
     ];
@@ -72,7 +89,10 @@ fn approved_by_the_answer_to_the_repeat(rt: HostRuntime) -> Result<(), Fail> {
         (Event::Answer(2), Ok(()), Some(State::Declined(51)), 4000),
     ];
     play(&rt, &mut world, 2, &second)?;
-    assert_eq!(rt; codes(rt.alloc(), &world)?.as_slice(), [0, 0, 51].as_slice());
+    assert_eq!(rt;
+        codes(rt.alloc(), &world)?.as_slice(),
+        [0, 0, 51].as_slice()
+    );
     Ok(())
 }
 
@@ -83,7 +103,12 @@ fn full(rt: HostRuntime) -> Result<(), Fail> {
         (begin(1000)?, Ok(()), ASKED, 5000),
         (begin(1000)?, Ok(()), ASKED, 5000),
         (Event::Deliver(0), Ok(()), ASKED, 4000),
-        (Event::Deliver(1), Err(StepFault::Issuer(Refused::Full)), ASKED, 4000),
+        (
+            Event::Deliver(1),
+            Err(StepFault::Issuer(Refused::Full)),
+            ASKED,
+            4000,
+        ),
     ];
     play(&rt, &mut world, 1, &rows)?;
     assert_eq!(rt; world.given().len(), 1);
@@ -113,7 +138,12 @@ fn orders_of_others(rt: HostRuntime) -> Result<(), Fail> {
         (begin(1000)?, Ok(()), ASKED, 4300),
         (Event::Deliver(0), Ok(()), ASKED, 3300),
         (other(777)?, Ok(()), ASKED, 3300),
-        (other(778)?, Err(StepFault::Issuer(Refused::Full)), ASKED, 3300),
+        (
+            other(778)?,
+            Err(StepFault::Issuer(Refused::Full)),
+            ASKED,
+            3300,
+        ),
     ];
     play(&rt, &mut world, 1, &rows)?;
     assert_eq!(rt; world.given().len(), 1);

@@ -65,7 +65,14 @@ fn answers_while_waiting(rt: HostRuntime) -> Result<(), Fail> {
         (key(200, 2, ID), 0, State::Waiting(1)),
         (key(200, 0, ID), 0, State::Waiting(1)),
         (key(200, 1, 777), 0, State::Waiting(1)),
-        (TxKey { sent: 1, ..key(200, 1, ID) }, 0, State::Waiting(1)),
+        (
+            TxKey {
+                sent: 1,
+                ..key(200, 1, ID)
+            },
+            0,
+            State::Waiting(1),
+        ),
     ];
     for (key, code, state) in rows {
         let mut acquirer = begun(&rt, rt.alloc())?;
