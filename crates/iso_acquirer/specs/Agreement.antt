@@ -26,7 +26,8 @@ pub record StandsIn (entries : List Entry) (o : Instruction) : Type 0 where
   pub same : entry.order ≡ o
   pub counts : stands entries entry ≡ true
 
--- what the acquirer holds as approved is entered and stands; what it holds as declined or reversed doesn't stand in any journal that goes on from here
+-- what the acquirer holds as approved is entered and stands;
+-- what it holds as declined or reversed doesn't stand in any journal that goes on from here
 abbrev pub AgreesIn : World → Instruction → State → Type 0
 AgreesIn w o (Waiting n) = Unit {0}
 AgreesIn w o Reversing = Unit {0}

@@ -246,7 +246,8 @@ impl Acquirer {
         requires there { slot_at self.old.slots slot.now.order.key.stan ≡ Some slot.now }
         requires fewer { may_reverse stage ≤ to_reverse slot.now.role }
         requires transaction { (before : Stage) × (slot.now.role ≡ Transaction before) }
-        ensures { (step : Stage → Stage) → on_stage step slot.now.role ≡ Transaction stage → self.new ≡ record self.old { slots = changed step slot.now.order.key.stan self.old.slots } }
+        ensures { (step : Stage → Stage) → on_stage step slot.now.role ≡ Transaction stage →
+            self.new ≡ record self.old { slots = changed step slot.now.order.key.stan self.old.slots } }
     {
         let before = to_reverse(&slot.role);
         let after = may_reverse(&stage);
@@ -259,7 +260,8 @@ impl Acquirer {
         requires there { slot_at self.old.slots slot.now.order.key.stan ≡ Some slot.now }
         requires asked { to_reverse slot.now.role ≡ 1 }
         ensures order { IfOk result (λ order. order ≡ reversal_of self.old.slots slot.now.order) }
-        ensures reversing { OnOk result (self.new ≡ record self.old { slots = reversing self.old.slots slot.now.order.key.stan (reversal_of self.old.slots slot.now.order) }) }
+        ensures reversing { let stan = slot.now.order.key.stan in
+            OnOk result (self.new ≡ record self.old { slots = reversing self.old.slots stan (reversal_of self.old.slots slot.now.order) }) }
         ensures few { OnOk result (length self.old.slots < 999999) }
         ensures no_more { IfErr result (λ e. (e ≡ NoMoreTrace) × (length self.old.slots ≡ 999999)) }
         ensures unchanged { OnErr result (self.new ≡ self.old) }

@@ -11,10 +11,9 @@ use crate::event::{Event, Given};
 use crate::fault::StepFault;
 use iso_issuer::Issuer;
 use iso_issuer::laws::{
-    granted_stands, journals_grow, keys_stay_distinct, reversals_stay, reversed_never_stands,
-    stands_no_more,
+    granted_stands, journals_grow, keys_stay_distinct, replies_are_kept, reversals_stay,
+    reversed_never_stands, stands_no_more,
 };
-use iso_order::laws::comparisons;
 use iso_order::{Order, Pan};
 use std::marker::Model;
 
@@ -138,9 +137,9 @@ impl World {
             return Err(StepFault::NoSuch);
         };
         self.given.reserve(1)?;
-        comparisons();
         journals_grow();
         keys_stay_distinct();
+        replies_are_kept();
         reversals_stay();
         match self.issuer.handle(order) {
             Ok(answer) => {

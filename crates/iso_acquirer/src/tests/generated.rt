@@ -9,9 +9,9 @@ use std::collections::BTreeSet;
 const LIMIT: u32 = 30;
 
 /// The amount of a debit.
-fn debited(order: &Order) -> Option<u64> {
+fn debited(order: &Order) -> Option<i64> {
     match order.act() {
-        Act::Debit(money) => Some(money.amount),
+        Act::Debit(money) => i64::try_from(money.amount).ok(),
         _ => None,
     }
 }
@@ -72,7 +72,7 @@ fn taken(rt: &impl Abort, world: &World) -> i64 {
             last = key.stan;
             if let Some(amount) = debited(order) {
                 if stands(rt, world, key) {
-                    taken = taken.saturating_add(amount as i64);
+                    taken = taken.saturating_add(amount);
                 }
             }
         }
@@ -98,25 +98,51 @@ fn is_closed(state: State) -> bool {
 /// The state of each transaction so far, the first at 0.
 fn states(alloc: Global, world: &World) -> Result<Vec<Option<State>>, Fail> {
     let mut states = Vec::new(alloc);
-    for stan in 1..=world.sent().len() {
-        states.push(world.acquirer().state(stan as u32))?;
+    let mut stan: u32 = 0;
+    for _ in world.sent() {
+        stan = stan.saturating_add(1);
+        states.push(world.acquirer().state(stan))?;
     }
     Ok(states)
 }
 
+/// What comes of a timeout of a transaction in that state.
+fn asked(state: Option<State>) -> Result<(), StepFault> {
+    match state {
+        None => Err(StepFault::Acquirer(AcqFault::NoSuch)),
+        Some(state) => {
+            if is_closed(state) {
+                Err(StepFault::Acquirer(AcqFault::Closed))
+            } else {
+                Ok(())
+            }
+        }
+    }
+}
+
+/// What comes of a delivery from a list of that length.
+fn taken_from(len: usize, place: usize) -> Result<(), StepFault> {
+    if place < len {
+        Ok(())
+    } else {
+        Err(StepFault::NoSuch)
+    }
+}
+
 /// What comes of an event, as far as the lists and states tell; a full journal aside.
-fn expected(world: &World, event: Event) -> Result<(), StepFault> {
+fn expected(world: &World, event: &Event) -> Result<(), StepFault> {
     match event {
         Event::Begin { .. } => Ok(()),
-        Event::Timeout(stan) => match world.acquirer().state(stan) {
-            None => Err(StepFault::Acquirer(AcqFault::NoSuch)),
-            Some(state) if is_closed(state) => Err(StepFault::Acquirer(AcqFault::Closed)),
-            Some(_) => Ok(()),
-        },
-        Event::Deliver(place) if place >= world.sent().len() => Err(StepFault::NoSuch),
-        Event::Answer(place) if place >= world.given().len() => Err(StepFault::NoSuch),
-        Event::Other(order) if order.key().acquirer == ID => Err(StepFault::OwnKey),
-        Event::Deliver(_) | Event::Answer(_) | Event::Other(_) => Ok(()),
+        Event::Timeout(stan) => asked(world.acquirer().state(*stan)),
+        Event::Deliver(place) => taken_from(world.sent().len(), *place),
+        Event::Answer(place) => taken_from(world.given().len(), *place),
+        Event::Other(order) => {
+            if order.key().acquirer == ID {
+                Err(StepFault::OwnKey)
+            } else {
+                Ok(())
+            }
+        }
     }
 }
 
@@ -159,7 +185,7 @@ fn make(rt: &impl Abort, alloc: Global, world: &mut World, event: &Event) -> Res
 {
     let before = states(alloc, world)?;
     let told_before = sizes(world)?;
-    let expected = expected(world, *event);
+    let expected = expected(world, event);
     let told = step(world, event);
     if told == Err(StepFault::Issuer(Refused::Full)) {
         assert_eq!(rt;
@@ -209,7 +235,7 @@ fn approved(world: &World) -> i64 {
             last = stan;
             if world.acquirer().state(stan) == Some(State::Approved) {
                 if let Some(amount) = debited(order) {
-                    approved = approved.saturating_add(amount as i64);
+                    approved = approved.saturating_add(amount);
                 }
             }
         }
@@ -227,8 +253,10 @@ fn balances(rt: &impl Abort, world: &World) -> Result<(), Fail> {
 
 /// Closes all transactions, and compares the books of both ends. Then all comes once more and changes nothing.
 fn settle(rt: &impl Abort, alloc: Global, world: &mut World, alone: bool) -> Result<(), Fail> {
-    for stan in 1..=world.sent().len() {
-        close(world, stan as u32);
+    let mut stan: u32 = 0;
+    for _ in 0..world.sent().len() {
+        stan = stan.saturating_add(1);
+        close(world, stan);
     }
     let closed = states(alloc, world)?;
     agree(rt, world, closed.as_slice());
