@@ -4,7 +4,7 @@ use Rattle.hex.specs.Hex.{IsBytes}
 use Rattle.iso_parts.specs.declared.spec.FieldSpec.{FieldSpec}
 use Rattle.iso_parts.specs.declared.fault.FieldFault.{FieldFault}
 use Rattle.iso_parts.specs.declared.fault.FieldFault.TheVariants.{BadLengthDigits, LengthOver, BadFiller, BadHex, NotInClass}
-use Rattle.iso_parts.specs.Part.{Part, plain_part}
+use Rattle.iso_parts.specs.Part.{Part, Body, padded, plain_part}
 use Rattle.iso_parts.specs.Reading.{Outcome, got, more, fault, prefix_size, prefix_of, body_size, body_of, part_at}
 use Rattle.iso_parts.specs.Row.{Fits, IsGood, refusal}
 
@@ -51,3 +51,5 @@ pub record PartLaws : Type 0 where
   -- a length that isn't good has a fault of lengths, and a body one of bodies
   pub length_fault : (s : FieldSpec) (p : List ℕ) (e : FieldFault) → prefix_of s p ≡ Err e → IsLengthFault e
   pub body_fault : (s : FieldSpec) (n : ℕ) (b : List ℕ) (e : FieldFault) → body_of s n b ≡ Err e → IsBodyFault e
+  -- all bodies of one value have one length
+  pub sized : (s : FieldSpec) (v b : List ℕ) → Body s v b → length b ≡ body_size s.coding (length (padded s v))

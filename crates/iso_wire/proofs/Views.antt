@@ -1,10 +1,11 @@
 -- A view is of the message that reading gives, and its bodies are those of the spelling at the front.
-use Rattle.std.proofs.Common.{◌≡◌, ◌≢◌, ℕ, ◌+◌, ◌-◌, ◌≤◌, ◌<◌, List, [], ◌∷◌, ◌++◌, length, take, drop, Option, Some, Result, Ok, Err, refl, sym, ap, subst, ◌∙◌, append_assoc, arith}
+use Rattle.std.proofs.Common.{◌≡◌, ◌≢◌, ℕ, ◌+◌, ◌-◌, ◌≤◌, ◌<◌, List, [], ◌∷◌, ◌++◌, length, take, drop, Option, Some, Result, Ok, Err, refl, sym, ap, subst, ◌∙◌, append_assoc, arith, inl, inr}
+use Rattle.std.proofs.lemmas.Bool.{cases_lt}
 use Rattle.std.proofs.lemmas.List.{drop-take, drop_at, length-drop, length-append, length-take}
 use Rattle.std.proofs.Math.Seq.{take-add}
 use Rattle.iso_parts.specs.declared.spec.FieldSpec.{FieldSpec}
-use Rattle.iso_parts.specs.Part.{Body, prefix}
-use Rattle.iso_parts.specs.Reading.{prefix_size}
+use Rattle.iso_parts.specs.Part.{Body, Part, padded, prefix}
+use Rattle.iso_parts.specs.Reading.{prefix_size, body_size}
 use Rattle.iso_parts.specs.PartLaws.{PartLaws}
 use Rattle.iso_parts.specs.declared.prefix.Digits.TheVariants as digits
 use Rattle.iso_parts.specs.declared.prefix.Length.{Length}
@@ -17,7 +18,7 @@ use Rattle.iso_wire.specs.Contents.{Contents}
 use Rattle.iso_wire.specs.Numbers.{numbers_in}
 use Rattle.iso_wire.specs.Reading.{◌>>=◌, mti_size, type_at, words_at, value_at, elements_at, IsFaultOf, message_at, whole}
 use Rattle.iso_wire.specs.ReadingLaws.{ReadsSpellings, ReadingStays}
-use Rattle.iso_wire.specs.Spelling.{AreBytes, BeginsWithNone, PartAs, Parts, Spelling}
+use Rattle.iso_wire.specs.Spelling.{mti_bytes, AreBytes, BeginsWithNone, PartAs, Parts, Spelling}
 use Rattle.iso_wire.specs.Viewing.{Viewed, wire_at, wires_at, view_at, Wired, Views, IsViewed}
 use Rattle.iso_wire.proofs.Bytes.{bytes_drop}
 use Rattle.iso_wire.proofs.NoMemory.{NoMemory, message}
@@ -154,15 +155,64 @@ pub never_memory : (t : Layout) (b : List ℕ) (r : Result Viewed UnpackFault) �
 never_memory t b (Ok v) h = tt
 never_memory t b (Err e) h = subst NoMemory h (message t b)
 
+-- ---- the parts of a spelling
+
+some_is : (a b : FieldSpec) → Some a ≡ Some b → a ≡ b
+some_is a b e = cc
+
+abbrev part_size : FieldSpec → List ℕ → ℕ
+part_size s v = length (prefix s.length (length v)) + body_size s.coding (length (padded s v))
+
+-- all parts of one value have one length
+part_sized : (laws : PartLaws) (s : FieldSpec) (v b : List ℕ) → Part s v b → length b ≡ part_size s v
+part_sized laws s v b part =
+    let p : List ℕ = prefix s.length (length v) in
+    ap length part.2 ∙ length-append p part.0 ∙ ap (λ (k : ℕ). length p + k) (laws.sized s v part.0 part.1)
+
+same_part : (laws : PartLaws) (rows : List (Option FieldSpec)) (n : ℕ) (v a b : List ℕ) → PartAs rows n v a → PartAs rows n v b → length a ≡ length b
+same_part laws rows n v a b x y =
+    let same : x.0 ≡ y.0 = some_is x.0 y.0 (sym x.1 ∙ y.1) in
+    part_sized laws x.0 v a x.2 ∙ ap (λ (s : FieldSpec). part_size s v) same ∙ sym (part_sized laws y.0 v b y.2)
+
+same_parts : (laws : PartLaws) (rows : List (Option FieldSpec)) (es : Values) (a b : List ℕ) → Parts rows es a → Parts rows es b → length a ≡ length b
+same_parts laws rows [] a b x y = ap length x ∙ sym (ap length y)
+same_parts laws rows (e ∷ es) a b x y =
+    let first = same_part laws rows e.0 e.1 x.0 y.0 x.2 y.2 in
+    let others = same_parts laws rows es x.1 y.1 x.3 y.3 in
+    ap length x.4 ∙ length-append x.0 x.1 ∙ omega (arith, first, others) ∙ sym (length-append y.0 y.1) ∙ sym (ap length y.4)
+
+nothing : (l : List ℕ) → length l ≡ 0 → l ≡ []
+nothing [] none = refl
+nothing (x ∷ l) none = absurd (omega arith)
+
+-- two ends of a list of one length are one
+same_end : (w q p : List ℕ) (front : ℕ) → w ≡ q ++ p → length (drop front w) ≡ length p → drop front w ≡ p
+same_end w q p front split same =
+    elim (cases_lt (length w) front) [
+      | inl past ↦
+          let none : length (drop front w) ≡ 0 = omega (arith, length-drop front w) in
+          nothing (drop front w) none ∙ sym (nothing p (sym same ∙ none))
+      | inr within ↦
+          let place : length q ≡ front = omega (arith, same, length-drop front w, ap length split, length-append q p) in
+          ap (drop front) split ∙ drop_at q p front place
+    ]
+
 -- ---- what a view has found
 
-module _ (reads : ReadsSpellings) where
-  pub is_viewed : (t : Layout) (b : List ℕ) (r : Result Viewed UnpackFault) → AreGood t.rows → AreBytes b → Views t b r (message_at t b) → IfOk r (λ v. IsViewed t v b)
-  is_viewed t b (Ok v) good fits h =
-      let m : Contents = record { mti = v.mti; elements = h.0 } in
-      (m, refl, (reads t m v.used b good fits).0 h.2)
-  is_viewed t b (Err e) good fits h = tt
+pub is_viewed : PartLaws → ReadsSpellings → (t : Layout) (b : List ℕ) (r : Result Viewed UnpackFault) → AreGood t.rows → AreBytes b → Views t b r (message_at t b) → IfOk r (λ v. IsViewed t v b)
+is_viewed laws reads t b (Ok v) good fits h =
+    let es : Values = h.0 in
+    let m : Contents = record { mti = v.mti; elements = es } in
+    let begins = (reads t m v.used b good fits).0 h.2 in
+    let s = begins.1 in
+    let w : List ℕ = take v.used b in
+    let head : List ℕ = mti_bytes t.mti v.mti ++ s.maps in
+    let split : w ≡ head ++ s.parts = s.bytes ∙ sym (append_assoc (mti_bytes t.mti v.mti) s.maps s.parts) in
+    let size = same_parts laws t.rows es (drop h.1 w) s.parts (Wired-Parts t.rows es v.wires (drop h.1 w) h.3) s.elements in
+    (m, refl, begins.0, (s, subst (Wired t.rows es v.wires) (same_end w head s.parts h.1 split size) h.3))
+is_viewed laws reads t b (Err e) good fits h = tt
 
+module _ (reads : ReadsSpellings) where
   pub viewed_only : (t : Layout) (b : List ℕ) (r : Result Viewed UnpackFault) → AreGood t.rows → AreBytes b → Views t b r (message_at t b) → (m : Contents) (front rest : List ℕ) → Spelling t m front → b ≡ front ++ rest → Views t b r (whole m (length front))
   viewed_only t b r good fits h m front rest spelled split =
       subst (Views t b r) (ap (message_at t) split ∙ spelled_is_read reads t m front rest good (subst AreBytes split fits) spelled) h

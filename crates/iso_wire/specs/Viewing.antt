@@ -7,7 +7,7 @@ use Rattle.iso_wire.specs.declared.fault.UnpackFault.{UnpackFault}
 use Rattle.iso_wire.specs.Contents.{Contents}
 use Rattle.iso_wire.specs.Numbers.{numbers_in}
 use Rattle.iso_wire.specs.Reading.{◌>>=◌, mti_size, type_at, words_at, value_at, whole}
-use Rattle.iso_wire.specs.Spelling.{BeginsWith}
+use Rattle.iso_wire.specs.Spelling.{Spelling}
 use Rattle.iso_table.specs.Layout.{Layout, row_at}
 
 -- the type, how many bytes the message takes, and the body of each element, as it lies there
@@ -89,6 +89,7 @@ Views t b (Ok v) read =
     (es : List (ℕ × List ℕ)) × (front : ℕ) × (read ≡ whole (record { mti = v.mti; elements = es }) v.used) × Wired t.rows es v.wires (drop front (take v.used b))
 Views t b (Err e) read = read ≡ Err e
 
--- the first bytes, so many of them, spell a message of the type
+-- the first bytes, so many of them, spell a message of the type, and the bodies are those of its elements in that spelling
 abbrev pub IsViewed : Layout → Viewed → List ℕ → Type 0
-IsViewed t v b = (m : Contents) × (m.mti ≡ v.mti) × BeginsWith t m v.used b
+IsViewed t v b =
+    (m : Contents) × (m.mti ≡ v.mti) × (v.used ≤ length b) × ((spelling : Spelling t m (take v.used b)) × Wired t.rows m.elements v.wires spelling.parts)

@@ -28,8 +28,8 @@ pub enum Fed {
     Done { message: Message, used: usize },
 }
 
-/// Reads messages that come in pieces of any size. No byte is judged twice: it keeps the bytes of the message so far,
-/// and which piece of it isn't whole.
+/// Reads messages that come in pieces of any size. It keeps the bytes of the message so far, and which piece of it isn't
+/// whole: from there it judges on.
 #[derive(Drop)]
 pub struct Unpacker<'t> {
     table: &'t Table,

@@ -25,7 +25,7 @@ fn seen<'a>(table: &Table, bytes: &'a [u8]) -> Result<View<'a>, UnpackFault>
 /// Views the message that the bytes begin with, and leaves it where it lies; bytes behind it are left. It accepts what
 /// `unpack` accepts, and refuses the rest with the same fault. Takes no memory.
 pub fn view<'a>(table: &Table, bytes: &'a [u8]) -> Result<View<'a>, UnpackFault>
-    // What is viewed is spelled by the first bytes.
+    // What is viewed is spelled by the first bytes, and its bodies are those of that spelling.
     ensures found { IfOk result (λ v. IsViewed table.now v bytes.now) }
     // What the first bytes spell is viewed.
     ensures only { (m : Contents) (front rest : List ℕ) → Spelling table.now m front → bytes.now ≡ front ++ rest → Views table.now bytes.now result (whole m (length front)) }
@@ -41,5 +41,6 @@ pub fn view<'a>(table: &Table, bytes: &'a [u8]) -> Result<View<'a>, UnpackFault>
     ensures parts { (es ws : List (ℕ × List ℕ)) (b : List ℕ) → Wired table.now.rows es ws b → Parts table.now.rows es b }
 {
     reads_spellings();
+    iso_parts::laws::parts();
     seen(table, bytes)
 }

@@ -82,7 +82,6 @@ fn lengths_are_judged(rt: HostRuntime) -> Result<(), Fail> {
 #[test]
 fn bodies_are_judged(rt: HostRuntime) -> Result<(), Fail> {
     let packed = number(Coding::Bcd, Length::LL(Digits::Bcd), 19);
-    assert!(rt; packed.good().is_ok());
     let cases = [
         (
             "three digits, and a byte behind",
@@ -94,6 +93,7 @@ fn bodies_are_judged(rt: HostRuntime) -> Result<(), Fail> {
         ("a nibble A", b"\x01\x2A", Err(FieldFault::NotInClass)),
     ];
     for (name, bytes, want) in &cases {
+        assert!(rt; packed.good().is_ok() && 3 <= packed.max, "{name}");
         assert_eq!(rt; judge_body(&packed, 3, bytes), *want, "{name}");
     }
     Ok(())

@@ -119,10 +119,10 @@ fn a_cut_packed_message_is_short_alike(rt: HostRuntime) -> Result<(), Fail> {
     Ok(())
 }
 
-/// The fault of a message whose bit `n` is set and has no row; its bitmaps begin at `at`, with `size` bytes each.
-fn unknown(n: u8, at: usize, size: usize) -> UnpackFault {
+/// The fault of a message whose bit `n` is set and has no row; its bitmaps begin at `first` and `second`.
+fn unknown(n: u8, first: usize, second: usize) -> UnpackFault {
     UnpackFault {
-        at: if n <= 64 { at } else { at + size },
+        at: if n <= 64 { first } else { second },
         element: if n <= 64 { 0 } else { 1 },
         cause: if n == 65 {
             ThirdBitmap
@@ -132,15 +132,16 @@ fn unknown(n: u8, at: usize, size: usize) -> UnpackFault {
     }
 }
 
-/// A digit with one more bit, where the bit isn't set.
+/// A hexadecimal digit with one more bit.
 fn with_bit(digit: u8, bit: u8) -> u8 {
     let value = match digit {
         b'0'..=b'9' => digit - b'0',
-        _ => (digit % 32) + 9,
+        _ => digit % 32 + 9,
     };
-    match (value % 16) | bit {
+    match value | bit {
         value @ 0..=9 => b'0' + value,
-        value => b'A' + (value - 10),
+        value @ 10..=15 => b'A' + (value - 10),
+        _ => digit,
     }
 }
 
@@ -149,9 +150,10 @@ fn wrong_bit(alloc: Global, table: &Table, bytes: &[u8], last: u8) -> Result<Opt
     for n in 2..=last {
         if table.row(n).is_none() {
             let mut changed = Vec::from_slice(alloc, bytes)?;
-            let at = 4 + (n as usize - 1) / 4;
-            changed[at] = with_bit(bytes[at], 8 >> ((n - 1) % 4));
-            let fault = Some(unknown(n, 4, 16));
+            if let Some(digit) = changed.get_mut(4 + (n as usize - 1) / 4) {
+                *digit = with_bit(*digit, 8 >> ((n - 1) % 4));
+            }
+            let fault = Some(unknown(n, 4, 20));
             if refused(alloc, table, &changed) != [fault, fault, fault] {
                 return Ok(Some(n));
             }
@@ -165,9 +167,10 @@ fn wrong_raw_bit(alloc: Global, table: &Table, bytes: &[u8]) -> Result<Option<u8
     for n in 2..=128 {
         if table.row(n).is_none() {
             let mut changed = Vec::from_slice(alloc, bytes)?;
-            let at = 2 + (n as usize - 1) / 8;
-            changed[at] = bytes[at] | 128 >> ((n - 1) % 8);
-            let fault = Some(unknown(n, 2, 8));
+            if let Some(eight) = changed.get_mut(2 + (n as usize - 1) / 8) {
+                *eight |= 128 >> ((n - 1) % 8);
+            }
+            let fault = Some(unknown(n, 2, 10));
             if refused(alloc, table, &changed) != [fault, fault, fault] {
                 return Ok(Some(n));
             }

@@ -124,7 +124,7 @@ fn in_pieces_of(alloc: Global, table: &Table, size: usize, bytes: &[u8]) -> (usi
     let mut unpacker = Unpacker::new(alloc, table);
     let mut wanted = 0;
     let mut last = Told::More;
-    for piece in bytes.chunks(size) {
+    for piece in bytes.chunks(size.max(1)) {
         last = told_by(unpacker.feed(alloc, piece));
         if last == Told::More {
             wanted += 1;
@@ -154,7 +154,7 @@ fn a_message_is_done_with_its_last_byte(rt: HostRuntime) -> Result<(), Fail> {
 fn is_read_in_two(alloc: Global, table: &Table, bytes: &[u8], size: usize) -> Result<bool, Fail> {
     let (whole, end) = unpack(alloc, table, bytes)?;
     let mut unpacker = Unpacker::new(alloc, table);
-    let (front, back) = bytes.split_at(size);
+    let (front, back) = bytes.split_at(size.min(bytes.len()));
     if told_by(unpacker.feed(alloc, front)) != Told::More || unpacker.held() != size {
         return Ok(false);
     }

@@ -1,13 +1,14 @@
 use Rattle.std.proofs.Common.{◌≤◌, ◌+◌, ◌*◌, ℕ, List, length, arith}
 use Rattle.iso_parts.specs.declared.spec.FieldSpec.{FieldSpec}
 use Rattle.iso_parts.specs.Row.{Fits}
-use Rattle.iso_parts.specs.Part.{plain_part}
+use Rattle.iso_parts.specs.Part.{padded, plain_part}
 use Rattle.iso_parts.proofs.Extents.{part_up_to, length_fault, body_fault}
 use Rattle.iso_parts.proofs.Parts.{part_again}
 use Rattle.iso_parts.proofs.Plain.{fits_from_refusal, plain_is_part, refusal_from_fits}
 use Rattle.iso_parts.proofs.Sizes.{padded_most, plain_part_most}
 use Rattle.iso_parts.proofs.Stable.{part_stays}
 use Rattle.iso_parts.proofs.Takes.{part_takes}
+use Rattle.iso_parts.proofs.Texts.{size_again}
 use Rattle.iso_parts.proofs.laws.parts.Goals as goal
 
 plain_short : (s : FieldSpec) (v : List ℕ) → Fits s v → length (plain_part s v) ≤ 2 * s.max + 4
@@ -24,4 +25,5 @@ returns c = record {
   most = part_up_to;
   length_fault = length_fault;
   body_fault = body_fault;
+  sized = λ s v b body. size_again s.coding b (padded s v) body.1;
 }

@@ -3,7 +3,7 @@ use Rattle.iso_wire.proofs.Views.{is_viewed, viewed_only, never_memory, view_ref
 use Rattle.iso_wire.proofs.viewing.view.Goals as goal
 
 pub returns-clause-found : goal.returns-clause-found
-returns-clause-found c = is_viewed c.reads_spellings.ensures.exact c.args.table.now c.args.bytes.now c.seen.result c.seen.ensures.good (λ i. omega (arith, c.type_inv.bytes i)) c.seen.ensures.exact
+returns-clause-found c = is_viewed c.parts.ensures c.reads_spellings.ensures.exact c.args.table.now c.args.bytes.now c.seen.result c.seen.ensures.good (λ i. omega (arith, c.type_inv.bytes i)) c.seen.ensures.exact
 
 pub returns-clause-only : goal.returns-clause-only
 returns-clause-only c = viewed_only c.reads_spellings.ensures.exact c.args.table.now c.args.bytes.now c.seen.result c.seen.ensures.good (λ i. omega (arith, c.type_inv.bytes i)) c.seen.ensures.exact
