@@ -1,5 +1,5 @@
 -- A view is of the message that reading gives, and its bodies are those of the spelling at the front.
-use Rattle.std.proofs.Common.{◌≡◌, ◌≢◌, ℕ, ◌+◌, ◌-◌, ◌≤◌, ◌<◌, List, [], ◌∷◌, ◌++◌, length, take, drop, Option, Some, Result, Ok, Err, refl, sym, ap, subst, ◌∙◌, append_assoc, arith, inl, inr}
+use Rattle.std.proofs.Common.{◌≡◌, ◌≢◌, ℕ, ◌+◌, ◌-◌, ◌≤◌, List, [], ◌∷◌, ◌++◌, length, take, drop, Option, Some, Result, Ok, Err, refl, sym, ap, subst, ◌∙◌, append_assoc, arith, inl, inr}
 use Rattle.std.proofs.lemmas.Bool.{cases_lt}
 use Rattle.std.proofs.lemmas.List.{drop-take, drop_at, length-drop, length-append, length-take}
 use Rattle.std.proofs.Math.Seq.{take-add}
@@ -18,8 +18,8 @@ use Rattle.iso_wire.specs.Contents.{Contents}
 use Rattle.iso_wire.specs.Numbers.{numbers_in}
 use Rattle.iso_wire.specs.Reading.{◌>>=◌, mti_size, type_at, words_at, value_at, elements_at, IsFaultOf, message_at, whole}
 use Rattle.iso_wire.specs.ReadingLaws.{ReadsSpellings, ReadingStays}
-use Rattle.iso_wire.specs.Spelling.{mti_bytes, AreBytes, BeginsWithNone, PartAs, Parts, Spelling}
-use Rattle.iso_wire.specs.Viewing.{Viewed, wire_at, wires_at, view_at, Wired, Views, IsViewed}
+use Rattle.iso_wire.specs.Spelling.{mti_bytes, AreBytes, BeginsWithNone, PartAs, Parts}
+use Rattle.iso_wire.specs.Viewing.{Viewed, wire_at, wires_at, view_at, Wired, Views, ViewsSpelled, IsViewed}
 use Rattle.iso_wire.proofs.Bytes.{bytes_drop}
 use Rattle.iso_wire.proofs.NoMemory.{NoMemory, message}
 use Rattle.iso_wire.proofs.ElementLaws.{value_taken}
@@ -213,8 +213,8 @@ is_viewed laws reads t b (Ok v) good fits h =
 is_viewed laws reads t b (Err e) good fits h = tt
 
 module _ (reads : ReadsSpellings) where
-  pub viewed_only : (t : Layout) (b : List ℕ) (r : Result Viewed UnpackFault) → AreGood t.rows → AreBytes b → Views t b r (message_at t b) → (m : Contents) (front rest : List ℕ) → Spelling t m front → b ≡ front ++ rest → Views t b r (whole m (length front))
-  viewed_only t b r good fits h m front rest spelled split =
+  pub viewed_only : (t : Layout) (b : List ℕ) (r : Result Viewed UnpackFault) → AreGood t.rows → AreBytes b → Views t b r (message_at t b) → ViewsSpelled t b r
+  viewed_only t b r good fits h = λ m front rest spelled split.
       subst (Views t b r) (ap (message_at t) split ∙ spelled_is_read reads t m front rest good (subst AreBytes split fits) spelled) h
 
   fault_is : (t : Layout) (b : List ℕ) (e : UnpackFault) → message_at t b ≡ Err e → IsFaultOf e (message_at t b)

@@ -89,6 +89,10 @@ Views t b (Ok v) read =
     (es : List (ℕ × List ℕ)) × (front : ℕ) × (read ≡ whole (record { mti = v.mti; elements = es }) v.used) × Wired t.rows es v.wires (drop front (take v.used b))
 Views t b (Err e) read = read ≡ Err e
 
+-- what the first bytes spell is viewed
+abbrev pub ViewsSpelled : Layout → List ℕ → Result Viewed UnpackFault → Type 0
+ViewsSpelled t b result = (m : Contents) (front rest : List ℕ) → Spelling t m front → b ≡ front ++ rest → Views t b result (whole m (length front))
+
 -- the first bytes, so many of them, spell a message of the type, and the bodies are those of its elements in that spelling
 abbrev pub IsViewed : Layout → Viewed → List ℕ → Type 0
 IsViewed t v b =

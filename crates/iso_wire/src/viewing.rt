@@ -1,12 +1,11 @@
 //! Reading a message without copying it.
 
-ghost use Rattle.std.specs.Prelude.{◌≡◌, ◌≢◌, ◌++◌, ℕ, List, length, IfOk, IfErr};
+ghost use Rattle.std.specs.Prelude.{◌≢◌, ◌++◌, ℕ, List, IfOk, IfErr};
 ghost use Rattle.iso_table.specs.Layout.{AreGood};
 ghost use Rattle.iso_wire.specs.declared.fault.UnpackCause.TheVariants.{Short, Memory};
-ghost use Rattle.iso_wire.specs.Contents.{Contents};
-ghost use Rattle.iso_wire.specs.Reading.{message_at, whole};
-ghost use Rattle.iso_wire.specs.Spelling.{AreBytes, BeginsWithNone, Parts, Spelling};
-ghost use Rattle.iso_wire.specs.Viewing.{Views, IsViewed, Wired};
+ghost use Rattle.iso_wire.specs.Reading.{message_at};
+ghost use Rattle.iso_wire.specs.Spelling.{AreBytes, BeginsWithNone, Parts};
+ghost use Rattle.iso_wire.specs.Viewing.{Views, ViewsSpelled, IsViewed, Wired};
 
 use crate::bodies::{View, view_of};
 use crate::fault::UnpackFault;
@@ -28,7 +27,7 @@ pub fn view<'a>(table: &Table, bytes: &'a [u8]) -> Result<View<'a>, UnpackFault>
     // What is viewed is spelled by the first bytes, and its bodies are those of that spelling.
     ensures found { IfOk result (λ v. IsViewed table.now v bytes.now) }
     // What the first bytes spell is viewed.
-    ensures only { (m : Contents) (front rest : List ℕ) → Spelling table.now m front → bytes.now ≡ front ++ rest → Views table.now bytes.now result (whole m (length front)) }
+    ensures only { ViewsSpelled table.now bytes.now result }
     // The bodies are those of the message that reading gives. Which fault it is, and where;
     ensures exact { Views table.now bytes.now result (message_at table.now bytes.now) }
     // it is never want of memory.
@@ -36,7 +35,7 @@ pub fn view<'a>(table: &Table, bytes: &'a [u8]) -> Result<View<'a>, UnpackFault>
     // A fault comes only where the bytes begin with no spelling,
     ensures refused { IfErr result (λ e. BeginsWithNone table.now bytes.now) }
     // and where a whole piece is bad, no continuation begins with one either.
-    ensures settled { IfErr result (λ e. e.cause ≢ Short → (more : List ℕ) → AreBytes more → BeginsWithNone table.now (bytes.now ++ more)) }
+    ensures settled { IfErr result (λ e. e.cause ≢ Short → (x : List ℕ) → AreBytes x → BeginsWithNone table.now (bytes.now ++ x)) }
     // Bodies with their lengths before them are the parts of the elements.
     ensures parts { (es ws : List (ℕ × List ℕ)) (b : List ℕ) → Wired table.now.rows es ws b → Parts table.now.rows es b }
 {

@@ -122,12 +122,12 @@ fn a_fault_is_told_from_the_start_of_the_message(rt: HostRuntime) -> Result<(), 
 /// The answers to a message in pieces of one size: how often more was wanted, and the last answer.
 fn in_pieces_of(alloc: Global, table: &Table, size: usize, bytes: &[u8]) -> (usize, Told) {
     let mut unpacker = Unpacker::new(alloc, table);
-    let mut wanted = 0;
+    let mut wanted: usize = 0;
     let mut last = Told::More;
     for piece in bytes.chunks(size.max(1)) {
         last = told_by(unpacker.feed(alloc, piece));
         if last == Told::More {
-            wanted += 1;
+            wanted = wanted.saturating_add(1);
         }
     }
     (wanted, last)

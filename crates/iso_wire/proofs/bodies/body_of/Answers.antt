@@ -1,5 +1,4 @@
 use Rattle.std.proofs.Common.{Some, sym, ap, ◌∙◌}
-use Rattle.iso_wire.specs.Viewing.{bytes_at}
 use Rattle.iso_wire.proofs.Wires.{left_body, left_within, left_absent}
 use Rattle.iso_wire.proofs.bodies.body_of.Goals as goal
 

@@ -1,4 +1,4 @@
-use Rattle.std.proofs.Common.{◌≡◌, ◌≤◌, ◌+◌, ◌*◌, length, ap, arith, refl, rules}
+use Rattle.std.proofs.Common.{length, ap, arith, refl, rules}
 use Rattle.iso_wire.specs.Walk.{left}
 use Rattle.iso_wire.proofs.Wires.{found_first, found_next, few_left, left_ascend}
 use Rattle.iso_wire.proofs.bodies.find_bodies.Goals as goal

@@ -1,4 +1,4 @@
-use Rattle.std.proofs.Common.{List, ℕ, sym}
+use Rattle.std.proofs.Common.{sym}
 use Rattle.iso_wire.proofs.Wires.{got_few}
 use Rattle.iso_wire.proofs.bodies.judge_wire.Goals as goal
 

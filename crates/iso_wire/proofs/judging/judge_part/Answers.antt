@@ -1,8 +1,6 @@
-use Rattle.std.proofs.Common.{◌≡◌, ℕ, List, Err, ◌+◌, sym, ap, ◌∙◌, subst, refl}
+use Rattle.std.proofs.Common.{ℕ, List, Err, ◌+◌, sym, ap, ◌∙◌, refl}
 use Rattle.iso_parts.specs.Reading.{prefix_size}
-use Rattle.iso_wire.specs.declared.fault.UnpackFault.{UnpackFault}
 use Rattle.iso_wire.specs.declared.judging.Stage.TheVariants as stages
-use Rattle.iso_wire.specs.Resuming.{Steps}
 use Rattle.iso_wire.specs.Walk.{left}
 use Rattle.iso_wire.proofs.Stages.{length_goes_on, length_ends, step_from}
 use Rattle.iso_wire.proofs.judging.judge_part.Goals as goal
