@@ -12,6 +12,7 @@ mod messages;
 mod pieces;
 mod refusals;
 mod views;
+mod stops;
 
 const ECHO: &[u8] = b"0800822000000000000004000000000000000102030405000001301";
 
