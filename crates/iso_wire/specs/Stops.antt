@@ -1,5 +1,7 @@
--- Where bytes stop being a message, and why (ISO 8583:1987, structure of a message). The bytes are some good pieces,
--- joined, and a rest. The good pieces call for the next one; in the rest it isn't whole, or it is whole and bad.
+-- Where bytes stop being a message, and why (ISO 8583:1987, structure of a message: message type identifier, bitmaps,
+-- data elements). The bytes are some good pieces, joined, and a rest. The good pieces call for the next one; in the rest
+-- it isn't whole, or it is whole and bad. Nothing is read here: pieces are told by the grammar that says which bytes
+-- spell a message, and only how many bytes a whole piece has is told by the tables that reading goes by too.
 use Rattle.std.specs.Prelude.{◌≡◌, ◌≢◌, ℕ, ◌/◌, ◌<◌, ◌≤◌, ◌&&◌, nat_lt, Bool, true, false, is_some, List, [], ◌++◌, length, take, Some, None}
 use Rattle.iso_parts.specs.declared.spec.FieldSpec.{FieldSpec}
 use Rattle.iso_parts.specs.Bits.{map_size, BitsIn, Bitmaps, first_set, second_set}
@@ -14,6 +16,7 @@ use Rattle.iso_wire.specs.Spelling.{mti_bytes, Parts}
 
 -- ---- the pieces of a message
 
+-- a piece of a message: it is judged when it is whole
 pub data Piece : Type 0 where
   -- the message type
   type : Piece
@@ -44,11 +47,11 @@ size_of t (body n s c) = body_size s.coding c
 
 -- ---- good pieces
 
--- the bytes are the four digits of a message type
+-- the bytes are the four digits of a message type (ISO 8583:1987, message type identifier)
 abbrev pub IsType : Layout → ℕ → List ℕ → Type 0
 IsType t n p = (n < 10000) × (p ≡ mti_bytes t.mti n)
 
--- the bytes are a message type of the table's version
+-- the bytes are a message type of the table's version (its first digit)
 abbrev pub IsOwnType : Layout → List ℕ → Type 0
 IsOwnType t p = (n : ℕ) × IsType t n p × (n / 1000 ≡ t.version)
 
@@ -56,11 +59,11 @@ IsOwnType t p = (n : ℕ) × IsType t n p × (n / 1000 ≡ t.version)
 abbrev pub HaveRows : Layout → (ℕ → Bool) → ℕ → ℕ → Type 0
 HaveRows t set low end = (k : ℕ) → low ≤ k → k < end → set k ≡ true → is_some (row_at t.rows k) ≡ true
 
--- the bytes are a good primary bitmap that says that a secondary one follows
+-- the bytes are a good primary bitmap that says that a secondary one follows (ISO 8583:1987, bitmaps: bit 1)
 abbrev pub IsFirstOfTwo : Layout → List ℕ → Type 0
 IsFirstOfTwo t p = (set : ℕ → Bool) × BitsIn t.bitmap (first_set true set) p × HaveRows t set 2 65
 
--- the bytes are the good bitmaps of the set, two of them or one
+-- the bytes are the good bitmaps of the set, two of them or one (ISO 8583:1987, primary and secondary bitmap)
 pub record AreGoodMaps (t : Layout) (set : ℕ → Bool) (p : List ℕ) : Type 0 where
   pub two : Bool
   pub bitmaps : Bitmaps t.bitmap two set p
@@ -72,7 +75,7 @@ abbrev pub below : ℕ → (ℕ → Bool) → ℕ → Bool
 below n set k = set k && nat_lt k n
 
 -- the bytes are all the pieces before element n, which has this row: a message type, bitmaps that tell of n, and the
--- parts of the elements below n
+-- parts of the elements below n (ISO 8583:1987, data elements: in ascending order of their bits)
 pub record IsBefore (t : Layout) (n : ℕ) (s : FieldSpec) (b : List ℕ) : Type 0 where
   pub set : ℕ → Bool
   pub earlier : List (ℕ × List ℕ)
@@ -108,7 +111,7 @@ pub record IsUnknown (t : Layout) (set : ℕ → Bool) (low end n : ℕ) : Type 
   pub row : row_at t.rows n ≡ None
   pub others : HaveRows t set low n
 
--- a message type isn't of four digits, or is of another version
+-- a message type isn't of four digits; or it is, and of another version
 abbrev pub IsBadType : Layout → List ℕ → UnpackCause → Type 0
 IsBadType t p BadMti = (n : ℕ) → IsType t n p → ⊥
 IsBadType t p WrongVersion = (n : ℕ) × IsType t n p × (n / 1000 ≢ t.version)
@@ -120,7 +123,7 @@ IsBadPrimary t p BadHex = (set : ℕ → Bool) → BitsIn t.bitmap set p → ⊥
 IsBadPrimary t p (UnknownElement n) = (set : ℕ → Bool) × BitsIn t.bitmap set p × IsUnknown t set 2 65 n
 IsBadPrimary t p other = ⊥
 
--- so does a secondary one; before that, its first bit tells of a third bitmap
+-- a secondary bitmap isn't of hexadecimal digits, tells of a third bitmap, or of an element without a row
 abbrev pub IsBadSecondary : Layout → List ℕ → UnpackCause → Type 0
 IsBadSecondary t p BadHex = (set : ℕ → Bool) → BitsIn t.bitmap (second_set set) p → ⊥
 IsBadSecondary t p ThirdBitmap = (set : ℕ → Bool) × BitsIn t.bitmap (second_set set) p × (set 65 ≡ true)
