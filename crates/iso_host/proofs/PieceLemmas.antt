@@ -11,7 +11,7 @@ use Rattle.iso_wire.specs.Feeding.{Feeding}
 use Rattle.iso_wire.specs.Frame.{header_of, largest, CutNeedsMore}
 use Rattle.iso_wire.specs.Spelling.{AreBytes}
 use Rattle.iso_host.proofs.Running.{SoFar, BodySoFar}
-use Rattle.iso_host.proofs.WindowLemmas.{took_more}
+use Rattle.iso_host.proofs.WindowLemmas.{passes, took_more}
 use Rattle.iso_host.specs.Asking.{message_in}
 use Rattle.iso_host.specs.Bodies.{IsRest, holding}
 use Rattle.iso_host.specs.Counts.{Counts}
@@ -83,6 +83,15 @@ pub sofar_kept : (a b c : Option (List ℕ)) (wanted size : ℕ) → SoFar a b w
 sofar_kept a b c wanted size so kept = record { part = so.part; taken = Consumes-kept a b c so.part so.taken kept; sum = so.sum }
 
 -- ---- a body
+
+-- all of it is here, and taken
+pub taken_here : (r : Option (List ℕ)) (w seen body after : List ℕ) (size : ℕ) → seen ≡ w → body ≡ w → size ≤ length seen → after ≡ drop size w
+    → Consumes (prepend_known w r) (prepend_known after r) (take size body) × (length (take size body) ≡ size)
+taken_here r w seen body after size same again room passed = (
+  subst (λ (l : List ℕ). Consumes (prepend_known w r) (prepend_known after r) (take size l)) (sym again)
+  (subst (λ (l : List ℕ). Consumes (prepend_known w r) (prepend_known l r) (take size w)) (sym passed) (passes r w size)),
+  omega (arith, length-take size body, ap length again, ap length same, room),
+)
 
 -- all of it that is here is fed
 pub body_here : (t : Layout) (u : Feeding) (a r : Option (List ℕ)) (w seen piece after : List ℕ) (wanted size n : ℕ) → BodySoFar t u a (prepend_known w r) wanted size → seen ≡ w → piece ≡ w

@@ -8,6 +8,7 @@ ghost use Rattle.iso_host.specs.Pieces.{TakesByte, TakesBytes, TakesHeader, Spen
 ghost use Rattle.iso_host.specs.Serving.{TakesTurns};
 
 use crate::fault::ServeFault;
+use crate::handling::whole_message;
 use crate::streams::Inlet;
 use crate::window::Window;
 use iso_order::NoMemory;
@@ -153,8 +154,8 @@ fn feed_piece(
     }
 }
 
-/// Takes a body of so many bytes, and gives the message that it is, if it is one. It is read as its bytes come.
-fn read_body<R: Inlet>(
+/// Takes a body that isn't all in the window: it is read as its bytes come.
+fn read_pieces<R: Inlet>(
     alloc: Global,
     table: &Table,
     unpacker: &mut Unpacker<'_>,
@@ -191,6 +192,35 @@ fn read_body<R: Inlet>(
         if let Err(fault) = window.refill(reader, left) {
             return Err(fault);
         }
+    }
+}
+
+/// Takes a body of so many bytes, and gives the message that it is, if it is one. In the window it is read where it lies.
+fn read_body<R: Inlet>(
+    alloc: Global,
+    table: &Table,
+    unpacker: &mut Unpacker<'_>,
+    size: usize,
+    window: &mut Window,
+    reader: &mut R,
+    left: &mut u64,
+) -> Result<Option<Message>, ServeFault>
+    requires { unpacker.old ≡ holding table.now [] }
+    ensures bytes { ReadsBody table.now (prepend_known window.old (R.remaining reader.old)) (prepend_known window.new (R.remaining reader.new))
+        window.new (R.remaining reader.new) size result }
+    ensures turns { TakesTurns (R.counts reader.old) (R.counts reader.new) left.old left.new }
+    ensures spent { SpendsOnReads (R.counts reader.old) (R.counts reader.new) left.old left.new window.old window.new size result }
+    ensures held { OnOk result (unpacker.new ≡ holding table.now []) }
+    ensures read { IfOk result (IsSpelled table.now) }
+{
+    if window.bytes().len() < size {
+        return read_pieces(alloc, table, unpacker, size, window, reader, left);
+    }
+    let read = whole_message(alloc, table, &window.bytes()[..size]);
+    window.pass(size);
+    match read {
+        Ok(message) => Ok(message),
+        Err(_) => Err(ServeFault::Memory),
     }
 }
 

@@ -2,6 +2,7 @@
 mod example;
 mod frames;
 mod interruptions;
+mod pieces;
 mod serving;
 mod turns;
 

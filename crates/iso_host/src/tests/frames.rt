@@ -54,6 +54,18 @@ pub fn served<R: Read + Drop, W: Write>(
     writer: &mut W,
     turns: u64,
 ) -> Result<Result<Report, ServeFault>, Fail> {
+    served_behind(alloc, Header::Ascii4, issuer, reader, writer, turns)
+}
+
+/// How serving the reader ends, frames behind this header.
+pub fn served_behind<R: Read + Drop, W: Write>(
+    alloc: Global,
+    header: Header,
+    issuer: &mut Issuer,
+    reader: R,
+    writer: &mut W,
+    turns: u64,
+) -> Result<Result<Report, ServeFault>, Fail> {
     let table = Table::ascii87(alloc)?;
     table.host_ready()?;
     let mut input = Std::new(reader);
@@ -61,7 +73,7 @@ pub fn served<R: Read + Drop, W: Write>(
     let ended = serve(
         alloc,
         &table,
-        Header::Ascii4,
+        header,
         issuer,
         &mut input,
         &mut output,

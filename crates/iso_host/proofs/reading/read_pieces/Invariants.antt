@@ -3,7 +3,7 @@ use Rattle.std.specs.Io.KnownBytes.{prepend_known}
 use Rattle.iso_host.proofs.Running.{BodySoFar}
 use Rattle.iso_host.specs.Pieces.{Draws}
 use Rattle.iso_host.specs.Serving.{TakesTurns}
-use Rattle.iso_host.proofs.reading.read_body.Given as goal
+use Rattle.iso_host.proofs.reading.read_pieces.Given as goal
 
 abbrev pub invariant-pieces : goal.invariant-pieces
 invariant-pieces g l = record {

@@ -1,0 +1,177 @@
+//! Bodies that are no message, and frames that come piece by piece.
+
+use super::frames::{ECHO, ECHOED, GRANTED, PURCHASE, issuer, joined, served, served_behind};
+use crate::fakes::{FewBytes, FewTaken};
+use crate::fault::{Report, ServeFault};
+use iso_wire::Header;
+use std::alloc::Global;
+use std::test::Fail;
+
+/// How serving these frames ends, and what is written, where a read gives so many bytes.
+fn pieced(
+    alloc: Global,
+    input: &[u8],
+    piece: usize,
+) -> Result<(Result<Report, ServeFault>, Vec<u8>), Fail> {
+    let mut issuer = issuer(alloc)?;
+    let reader = FewBytes {
+        bytes: input,
+        piece,
+        calls: 1000,
+    };
+    let mut writer = FewTaken::new(alloc, 5000, 1000, false);
+    let ended = served(alloc, &mut issuer, reader, &mut writer, 1000)?;
+    Ok((ended, writer.taken))
+}
+
+#[test]
+fn an_unreadable_body_alone(rt: HostRuntime) -> Result<(), Fail> {
+    let alloc = rt.alloc();
+    let unreadable = Report {
+        frames: 1,
+        answered: 0,
+        silent: 0,
+        unreadable: 1,
+    };
+    for (name, header, body) in [
+        ("no bytes", b"0000".as_slice(), b"".as_slice()),
+        ("no message", b"0003", b"abc"),
+        ("a message type with a letter", b"0006", b"08A0xy"),
+        ("a front of a message", b"0054", &ECHO[..54]),
+        (
+            "a message and three bytes",
+            b"0058",
+            b"0800822000000000000004000000000000000102030405000001301XYZ",
+        ),
+    ] {
+        let input = joined(alloc, &[header, body])?;
+        for piece in [1usize, 7, 59, 5000] {
+            let (ended, taken) = pieced(alloc, &input, piece)?;
+            assert_eq!(rt; ended, Ok(unreadable), "{name}, {piece} bytes a read");
+            assert_eq!(rt;
+                taken.as_slice(),
+                b"".as_slice(),
+                "{name}, {piece} bytes a read"
+            );
+        }
+    }
+    Ok(())
+}
+
+#[test]
+fn the_next_frame_is_answered(rt: HostRuntime) -> Result<(), Fail> {
+    let alloc = rt.alloc();
+    let both = Report {
+        frames: 2,
+        answered: 1,
+        silent: 0,
+        unreadable: 1,
+    };
+    let wanted = joined(alloc, &[b"0057", ECHOED])?;
+    for (name, header, body) in [
+        ("behind no bytes", b"0000".as_slice(), b"".as_slice()),
+        ("behind a message type with a letter", b"0006", b"08A0xy"),
+        ("behind a front of a message", b"0054", &ECHO[..54]),
+        (
+            "behind a message and three bytes",
+            b"0058",
+            b"0800822000000000000004000000000000000102030405000001301XYZ",
+        ),
+    ] {
+        let input = joined(alloc, &[header, body, b"0055", ECHO])?;
+        for piece in [1usize, 7, 59, 5000] {
+            let (ended, taken) = pieced(alloc, &input, piece)?;
+            assert_eq!(rt; ended, Ok(both), "{name}, {piece} bytes a read");
+            assert_eq!(rt;
+                taken.as_slice(),
+                wanted.as_slice(),
+                "{name}, {piece} bytes a read"
+            );
+        }
+    }
+    Ok(())
+}
+
+#[test]
+fn a_purchase_behind_an_unreadable_body(rt: HostRuntime) -> Result<(), Fail> {
+    let alloc = rt.alloc();
+    let input = joined(alloc, &[b"0003abc0082", PURCHASE])?;
+    let wanted = joined(alloc, &[b"0090", GRANTED])?;
+    let report = Report {
+        frames: 2,
+        answered: 1,
+        silent: 0,
+        unreadable: 1,
+    };
+    for piece in [1usize, 5, 5000] {
+        let (ended, taken) = pieced(alloc, &input, piece)?;
+        assert_eq!(rt; ended, Ok(report), "{piece} bytes a read");
+        assert_eq!(rt; taken.as_slice(), wanted.as_slice(), "{piece} bytes a read");
+    }
+    Ok(())
+}
+
+#[test]
+fn the_longest_body(rt: HostRuntime) -> Result<(), Fail> {
+    let alloc = rt.alloc();
+    for (name, byte) in [("of zeros", b'0'), ("of bytes that are no digits", 0xFF)] {
+        let mut input = vec![in alloc; byte; 65_537]?;
+        input[0] = 0xFF;
+        input[1] = 0xFF;
+        let mut issuer = issuer(alloc)?;
+        let reader = FewBytes {
+            bytes: &input,
+            piece: 5000,
+            calls: 1000,
+        };
+        let mut writer = FewTaken::new(alloc, 5000, 1000, false);
+        let ended = served_behind(
+            alloc,
+            Header::Binary2,
+            &mut issuer,
+            reader,
+            &mut writer,
+            1000,
+        )?;
+        let report = Report {
+            frames: 1,
+            answered: 0,
+            silent: 0,
+            unreadable: 1,
+        };
+        assert_eq!(rt; ended, Ok(report), "{name}");
+        assert_eq!(rt; writer.taken.as_slice(), b"".as_slice(), "{name}");
+    }
+    Ok(())
+}
+
+#[test]
+fn a_long_body_is_cut(rt: HostRuntime) -> Result<(), Fail> {
+    let alloc = rt.alloc();
+    for (name, input) in [
+        ("ten zeros", b"\xFF\xFF0000000000".as_slice()),
+        ("a front of a message", b"\xFF\xFF0800822000"),
+        ("no message", b"\xFF\xFF\xFF\xFF\xFF\xFF"),
+        ("no byte", b"\xFF\xFF"),
+        ("half a header", b"\xFF"),
+    ] {
+        let mut issuer = issuer(alloc)?;
+        let reader = FewBytes {
+            bytes: input,
+            piece: 3,
+            calls: 1000,
+        };
+        let mut writer = FewTaken::new(alloc, 5000, 1000, false);
+        let ended = served_behind(
+            alloc,
+            Header::Binary2,
+            &mut issuer,
+            reader,
+            &mut writer,
+            1000,
+        )?;
+        assert_eq!(rt; ended, Err(ServeFault::CutFrame), "{name}");
+        assert_eq!(rt; writer.taken.as_slice(), b"".as_slice(), "{name}");
+    }
+    Ok(())
+}
