@@ -89,7 +89,7 @@ pub taken_here : (r : Option (List ℕ)) (w seen body after : List ℕ) (size : 
     → Consumes (prepend_known w r) (prepend_known after r) (take size body) × (length (take size body) ≡ size)
 taken_here r w seen body after size same again room passed = (
   subst (λ (l : List ℕ). Consumes (prepend_known w r) (prepend_known after r) (take size l)) (sym again)
-  (subst (λ (l : List ℕ). Consumes (prepend_known w r) (prepend_known l r) (take size w)) (sym passed) (passes r w size)),
+      (subst (λ (l : List ℕ). Consumes (prepend_known w r) (prepend_known l r) (take size w)) (sym passed) (passes r w size)),
   omega (arith, length-take size body, ap length again, ap length same, room),
 )
 

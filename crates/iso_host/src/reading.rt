@@ -53,8 +53,8 @@ fn next_byte<R: Inlet>(
     Ok(byte)
 }
 
-/// Takes the header of the next frame, and gives the length of its body; `None` where the input ends before it.
-fn read_header<R: Inlet>(
+/// Takes a header that isn't all in the window, byte by byte.
+fn read_header_bytes<R: Inlet>(
     header: Header,
     window: &mut Window,
     reader: &mut R,
@@ -81,6 +81,24 @@ fn read_header<R: Inlet>(
             }
         }
     }
+}
+
+/// Takes the header of the next frame, and gives the length of its body; `None` where the input ends before it.
+fn read_header<R: Inlet>(
+    header: Header,
+    window: &mut Window,
+    reader: &mut R,
+    left: &mut u64,
+) -> Result<Option<usize>, ServeFault>
+    ensures bytes { TakesHeader header (prepend_known window.old (R.remaining reader.old)) (prepend_known window.new (R.remaining reader.new)) window.new (R.remaining reader.new) result }
+    ensures turns { TakesTurns (R.counts reader.old) (R.counts reader.new) left.old left.new }
+    ensures spent { SpendsOnHeader (R.counts reader.old) (R.counts reader.new) left.old left.new window.old window.new result }
+{
+    if let Ok(Some(length)) = body_length(header, window.bytes()) {
+        window.pass(header.size());
+        return Ok(Some(length));
+    }
+    read_header_bytes(header, window, reader, left)
 }
 
 /// Passes over the next bytes, so many of them.

@@ -34,7 +34,7 @@ fn number_of(a: u8, b: u8, c: u8, d: u8) -> Option<usize>
 
 impl Header {
     /// How many bytes the header takes.
-    pub(crate) fn size(self) -> usize
+    pub fn size(self) -> usize
         ensures { result ≡ header_size self }
     {
         match self {

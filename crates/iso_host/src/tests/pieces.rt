@@ -1,6 +1,8 @@
 //! Bodies that are no message, and frames that come piece by piece.
 
-use super::frames::{ECHO, ECHOED, GRANTED, PURCHASE, issuer, joined, served, served_behind};
+use super::frames::{
+    ECHO, ECHOED, GRANTED, PURCHASE, REPEAT, issuer, joined, served, served_behind,
+};
 use crate::fakes::{FewBytes, FewTaken};
 use crate::fault::{Report, ServeFault};
 use iso_wire::Header;
@@ -104,6 +106,45 @@ fn a_purchase_behind_an_unreadable_body(rt: HostRuntime) -> Result<(), Fail> {
         unreadable: 1,
     };
     for piece in [1usize, 5, 5000] {
+        let (ended, taken) = pieced(alloc, &input, piece)?;
+        assert_eq!(rt; ended, Ok(report), "{piece} bytes a read");
+        assert_eq!(rt; taken.as_slice(), wanted.as_slice(), "{piece} bytes a read");
+    }
+    Ok(())
+}
+
+#[test]
+fn a_purchase_a_repeat_and_a_reversal(rt: HostRuntime) -> Result<(), Fail> {
+    let alloc = rt.alloc();
+    let reversal = joined(
+        alloc,
+        &[
+            b"0420822000010000000000000040000000000102030500000008",
+            b"0512345020000000701020304050000001234500000000000",
+        ],
+    )?;
+    let reversed = joined(
+        alloc,
+        &[
+            b"0430822000010200000000000040000000000102030500000008",
+            b"051234500020000000701020304050000001234500000000000",
+        ],
+    )?;
+    let input = joined(
+        alloc,
+        &[b"0082", PURCHASE, b"0082", REPEAT, b"0101", &reversal],
+    )?;
+    let wanted = joined(
+        alloc,
+        &[b"0090", GRANTED, b"0090", GRANTED, b"0103", &reversed],
+    )?;
+    let report = Report {
+        frames: 3,
+        answered: 3,
+        silent: 0,
+        unreadable: 0,
+    };
+    for piece in [1usize, 5000] {
         let (ended, taken) = pieced(alloc, &input, piece)?;
         assert_eq!(rt; ended, Ok(report), "{piece} bytes a read");
         assert_eq!(rt; taken.as_slice(), wanted.as_slice(), "{piece} bytes a read");

@@ -1,4 +1,4 @@
-use Rattle.std.proofs.Common.{refl, arith}
+use Rattle.std.proofs.Common.{refl}
 use Rattle.iso_host.proofs.PieceLemmas.{taken_here}
 use Rattle.iso_host.proofs.reading.read_body.Goals as goal
 

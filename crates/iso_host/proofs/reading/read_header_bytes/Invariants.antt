@@ -3,7 +3,7 @@ use Rattle.std.specs.Io.KnownBytes.{Consumes, prepend_known}
 use Rattle.iso_wire.specs.Frame.{header_size}
 use Rattle.iso_host.specs.Pieces.{Draws}
 use Rattle.iso_host.specs.Serving.{TakesTurns}
-use Rattle.iso_host.proofs.reading.read_header.Given as goal
+use Rattle.iso_host.proofs.reading.read_header_bytes.Given as goal
 
 abbrev pub invariant-bytes : goal.invariant-bytes
 invariant-bytes g l = record {
