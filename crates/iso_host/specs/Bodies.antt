@@ -1,5 +1,5 @@
 -- What the pieces of a body tell of it, and what is read of a frame.
-use Rattle.std.specs.Prelude.{◌≡◌, ◌≢◌, ℕ, ◌<◌, ◌≤◌, Bool, true, false, List, [], ◌++◌, length, Option, None, IfSome, Result, Ok, Err}
+use Rattle.std.specs.Prelude.{◌≡◌, ℕ, ◌<◌, ◌≤◌, Bool, true, false, List, [], ◌++◌, length, Option, None, IfSome, Result, Ok, Err}
 use Rattle.std.specs.Io.KnownBytes.{Consumes, Keeps, IsAtEnd}
 use Rattle.iso_table.specs.Layout.{Layout}
 use Rattle.iso_wire.specs.declared.header.Header.{Header}
@@ -9,9 +9,8 @@ use Rattle.iso_wire.specs.Frame.{frame_of, largest}
 use Rattle.iso_wire.specs.Spelling.{AreBytes, Spelling}
 use Rattle.iso_host.specs.Asking.{message_in}
 use Rattle.iso_host.specs.Counts.{Counts}
-use Rattle.iso_host.specs.Pieces.{NoByte, EndsInside, Draws, EndsReads}
+use Rattle.iso_host.specs.Pieces.{EndsInside, TakesBytes, Draws, EndsReads}
 use Rattle.iso_host.specs.declared.fault.ServeFault.{ServeFault}
-use Rattle.iso_host.specs.declared.fault.ServeFault.TheVariants.{Memory}
 use Rattle.iso_host.specs.declared.reading.Next.{Next}
 use Rattle.iso_host.specs.declared.reading.Next.TheVariants as next
 use Rattle.iso_host.specs.declared.reading.Told.{Told}
@@ -37,10 +36,10 @@ Tells t bytes is_last new (told.Known message) =
     ((rest : List ℕ) → IsRest is_last rest → message_in t (bytes ++ rest) ≡ message) × IsSpelled t message × (new ≡ holding t [])
 
 -- a body of so many bytes is taken, and its message is given; or the frame doesn't come to its end
-abbrev pub ReadsBody : Layout → Option (List ℕ) → Option (List ℕ) → List ℕ → Option (List ℕ) → ℕ → Result (Option Contents) ServeFault → Type 0
+abbrev pub ReadsBody :
+    Layout → Option (List ℕ) → Option (List ℕ) → List ℕ → Option (List ℕ) → ℕ → Result (Option Contents) ServeFault → Type 0
 ReadsBody t old new window left size (Ok message) = (body : List ℕ) × Consumes old new body × (length body ≡ size) × (message ≡ message_in t body)
-ReadsBody t old new window left size (Err e) =
-    (part : List ℕ) × Consumes old new part × (e ≢ Memory → (length part < size) × (window ≡ []) × NoByte left e)
+ReadsBody t old new window left size (Err e) = TakesBytes {T = Unit {0}} old new window left size (Err e)
 
 -- a frame is taken, and the message of its body is given; or the input ends before it
 abbrev pub ReadsFrame : Layout → Header → Option (List ℕ) → Option (List ℕ) → List ℕ → Option (List ℕ) → Result Next ServeFault → Type 0

@@ -7,7 +7,7 @@ use Rattle.iso_order.specs.Order.{Instruction}
 use Rattle.iso_order.specs.Verdict.{verdict}
 use Rattle.iso_issuer.specs.Books.{Books}
 use Rattle.iso_issuer.specs.Journal.{firsts, is_entered}
-use Rattle.iso_host.specs.Asking.{message_in, orders_in, orders_of}
+use Rattle.iso_host.specs.Asking.{asked_of, orders_in, orders_of}
 
 -- the books with these orders more: the first of each key, up to the limit
 abbrev pub with_orders : Books → List Instruction → Books
@@ -23,7 +23,7 @@ entered_by books message = with_orders books (orders_in (option_map verdict mess
 
 -- the books once this body is handled
 abbrev pub entered : Layout → Books → List ℕ → Books
-entered t books body = entered_by books (message_in t body)
+entered t books body = with_orders books (orders_in (asked_of t body))
 
 -- the journal is at its limit, and the key is new
 abbrev pub is_full : Books → TxKey → Bool

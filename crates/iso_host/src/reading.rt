@@ -41,7 +41,8 @@ fn next_byte<R: Inlet>(
     reader: &mut R,
     left: &mut u64,
 ) -> Result<u8, ServeFault>
-    ensures bytes { TakesByte (prepend_known window.old (R.remaining reader.old)) (prepend_known window.new (R.remaining reader.new)) window.new (R.remaining reader.new) result }
+    ensures bytes { TakesByte (prepend_known window.old (R.remaining reader.old)) (prepend_known window.new (R.remaining reader.new))
+        window.new (R.remaining reader.new) result }
     ensures turns { TakesTurns (R.counts reader.old) (R.counts reader.new) left.old left.new }
     ensures spent { SpendsOnReads (R.counts reader.old) (R.counts reader.new) left.old left.new window.old window.new 1 result }
 {
@@ -60,7 +61,8 @@ fn read_header_bytes<R: Inlet>(
     reader: &mut R,
     left: &mut u64,
 ) -> Result<Option<usize>, ServeFault>
-    ensures bytes { TakesHeader header (prepend_known window.old (R.remaining reader.old)) (prepend_known window.new (R.remaining reader.new)) window.new (R.remaining reader.new) result }
+    ensures bytes { TakesHeader header (prepend_known window.old (R.remaining reader.old)) (prepend_known window.new (R.remaining reader.new))
+        window.new (R.remaining reader.new) result }
     ensures turns { TakesTurns (R.counts reader.old) (R.counts reader.new) left.old left.new }
     ensures spent { SpendsOnHeader (R.counts reader.old) (R.counts reader.new) left.old left.new window.old window.new result }
 {
@@ -90,7 +92,8 @@ fn read_header<R: Inlet>(
     reader: &mut R,
     left: &mut u64,
 ) -> Result<Option<usize>, ServeFault>
-    ensures bytes { TakesHeader header (prepend_known window.old (R.remaining reader.old)) (prepend_known window.new (R.remaining reader.new)) window.new (R.remaining reader.new) result }
+    ensures bytes { TakesHeader header (prepend_known window.old (R.remaining reader.old)) (prepend_known window.new (R.remaining reader.new))
+        window.new (R.remaining reader.new) result }
     ensures turns { TakesTurns (R.counts reader.old) (R.counts reader.new) left.old left.new }
     ensures spent { SpendsOnHeader (R.counts reader.old) (R.counts reader.new) left.old left.new window.old window.new result }
 {
@@ -108,7 +111,8 @@ fn pass_over<R: Inlet>(
     reader: &mut R,
     left: &mut u64,
 ) -> Result<(), ServeFault>
-    ensures bytes { TakesBytes (prepend_known window.old (R.remaining reader.old)) (prepend_known window.new (R.remaining reader.new)) window.new (R.remaining reader.new) count result }
+    ensures bytes { TakesBytes (prepend_known window.old (R.remaining reader.old)) (prepend_known window.new (R.remaining reader.new))
+        window.new (R.remaining reader.new) count result }
     ensures turns { TakesTurns (R.counts reader.old) (R.counts reader.new) left.old left.new }
     ensures spent { SpendsOnReads (R.counts reader.old) (R.counts reader.new) left.old left.new window.old window.new count result }
 {
