@@ -4,8 +4,12 @@ use Rattle.std.specs.Prelude.{IfErr}
 use Rattle.iso_table.specs.Layout.{Layout, AreGood}
 use Rattle.iso_wire.specs.declared.fault.UnpackFault.{UnpackFault}
 use Rattle.iso_wire.specs.declared.fault.UnpackCause.{UnpackCause}
-use Rattle.iso_wire.specs.declared.fault.UnpackCause.TheVariants.{Memory}
+use Rattle.iso_wire.specs.declared.fault.UnpackCause.TheVariants.{Short, Memory}
+use Rattle.iso_wire.specs.declared.unpacker.Fed.{Fed}
+use Rattle.iso_wire.specs.declared.unpacker.Fed.TheVariants as fed
 use Rattle.iso_wire.specs.Contents.{Contents}
+use Rattle.iso_wire.specs.Feeding.{Feeds, StopsFed}
+use Rattle.iso_wire.specs.Viewing.{Viewed, Views}
 use Rattle.iso_wire.specs.Reading.{halt, message_at, whole, Unpacks}
 use Rattle.iso_wire.specs.ReadingLaws.{IsShort, ReadsSpellings, ReadingStays}
 use Rattle.iso_wire.specs.Spelling.{AreBytes, BeginsWith}
@@ -40,7 +44,7 @@ module _ (reads : ReadsSpellings) (stays : ReadingStays) (stops : StopsAsRead) w
       let again : message_at t (b ++ more) ≡ message_at t b = stays t b more good bytes (λ short. long (subst IsShort read short)) in
       (stops t (b ++ more) at element cause good (bytes_append b more bytes others)).0 (again ∙ read)
 
--- ---- what a function that unpacks answers
+-- ---- what a function that reads answers
 
 module _ (stops : StopsAsRead) where
   -- a fault is where the bytes stop
@@ -51,3 +55,26 @@ module _ (stops : StopsAsRead) where
   -- and where the bytes stop is the fault
   pub stop_is_told : (t : Layout) (b : List ℕ) (r : Result (Contents × ℕ) UnpackFault) → AreGood t.rows → AreBytes b → Unpacks r (message_at t b) → (at element : ℕ) (cause : UnpackCause) → Stops t b at element cause → Unpacks r (halt element at cause)
   stop_is_told t b r good bytes h at element cause stop = subst (Unpacks r) ((stops t b at element cause good bytes).1 stop) h
+
+  -- a view's fault is where the bytes stop
+  pub view_stops : (t : Layout) (b : List ℕ) (r : Result Viewed UnpackFault) → AreGood t.rows → AreBytes b → Views t b r (message_at t b) → IfErr r (λ e. Stops t b e.at e.element e.cause)
+  view_stops t b (Ok v) good bytes h = tt
+  view_stops t b (Err e) good bytes h = (stops t b e.at e.element e.cause good bytes).0 h
+
+  -- and where the bytes stop is its fault
+  pub stop_is_viewed : (t : Layout) (b : List ℕ) (r : Result Viewed UnpackFault) → AreGood t.rows → AreBytes b → Views t b r (message_at t b) → (at element : ℕ) (cause : UnpackCause) → Stops t b at element cause → Views t b r (halt element at cause)
+  stop_is_viewed t b r good bytes h at element cause stop = subst (Views t b r) ((stops t b at element cause good bytes).1 stop) h
+
+  short_stops : (r : Result (Contents × ℕ) UnpackFault) (t : Layout) (b : List ℕ) → AreGood t.rows → AreBytes b → message_at t b ≡ r → IsShort r → (at : ℕ) × (element : ℕ) × Stops t b at element Short
+  short_stops (Ok x) t b good bytes is h = absurd h
+  short_stops (Err e) t b good bytes is h = (e.at, e.element, subst (λ (c : UnpackCause). Stops t b e.at e.element c) h ((stops t b e.at e.element e.cause good bytes).0 is))
+
+  -- what is answered to a piece tells where all the bytes stop
+  pub fed_stops : (t : Layout) (before : ℕ) (b : List ℕ) (r : Result Fed UnpackFault) → AreGood t.rows → AreBytes b → Feeds before r (message_at t b) → StopsFed t b r
+  fed_stops t before b (Ok (fed.Done message used)) good bytes h = tt
+  fed_stops t before b (Ok fed.More) good bytes h = short_stops (message_at t b) t b good bytes refl h
+  fed_stops t before b (Err e) good bytes h = λ other. (stops t b e.at e.element e.cause good bytes).0 (h.0.1 other)
+
+  -- and where they stop is answered
+  pub stop_is_fed : (t : Layout) (before : ℕ) (b : List ℕ) (r : Result Fed UnpackFault) → AreGood t.rows → AreBytes b → Feeds before r (message_at t b) → (at element : ℕ) (cause : UnpackCause) → Stops t b at element cause → Feeds before r (halt element at cause)
+  stop_is_fed t before b r good bytes h at element cause stop = subst (Feeds before r) ((stops t b at element cause good bytes).1 stop) h

@@ -9,6 +9,7 @@ use Rattle.iso_wire.specs.Faults.{out_of_memory}
 use Rattle.iso_wire.specs.Reading.{IsFaultOf, message_at, whole}
 use Rattle.iso_wire.specs.ReadingLaws.{IsShort}
 use Rattle.iso_wire.specs.Spelling.{AreBytes, BeginsWith, BeginsWithNone}
+use Rattle.iso_wire.specs.Stops.{Stops}
 use Rattle.iso_table.specs.Layout.{Layout}
 
 -- the table, the bytes taken of the current message, and the fault that stopped it
@@ -68,3 +69,9 @@ abbrev pub FoundFed : Layout → ℕ → List ℕ → Result Fed UnpackFault →
 FoundFed t before b (Ok (fed.Done message used)) = BeginsWith t message (before + used) b
 FoundFed t before b (Ok fed.More) = BeginsWithNone t b
 FoundFed t before b (Err e) = e.cause ≢ Memory → (more : List ℕ) → AreBytes more → BeginsWithNone t (b ++ more)
+
+-- a fault tells where all the bytes stop, and why; more is wanted where they end inside a piece
+abbrev pub StopsFed : Layout → List ℕ → Result Fed UnpackFault → Type 0
+StopsFed t b (Ok (fed.Done message used)) = Unit {0}
+StopsFed t b (Ok fed.More) = (at : ℕ) × (element : ℕ) × Stops t b at element Short
+StopsFed t b (Err e) = e.cause ≢ Memory → Stops t b e.at e.element e.cause

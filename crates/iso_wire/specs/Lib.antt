@@ -11,10 +11,10 @@ pub mod Faults
 pub mod Reading
 pub mod Frame
 pub mod ReadingLaws
+pub mod Stops
 pub mod Resuming
 pub mod Feeding
 pub mod Viewing
-pub mod Stops
 pub mod FaultNumbers
 pub mod Masking
 pub mod StopsLaws

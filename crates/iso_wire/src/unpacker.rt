@@ -1,17 +1,19 @@
 //! Reading a message that comes in pieces.
 
-ghost use Rattle.std.specs.Prelude.{◌≡◌, ◌≢◌, ◌≤◌, ◌-◌, ◌++◌, [], take, length, IfOk, None, Some};
+ghost use Rattle.std.specs.Prelude.{ℕ, ◌≡◌, ◌≢◌, ◌≤◌, ◌-◌, ◌++◌, [], take, length, IfOk, None, Some};
 ghost use Rattle.iso_table.specs.Layout.{AreGood};
 ghost use Rattle.iso_table.specs.Sizes.{max_bytes};
-ghost use Rattle.iso_wire.specs.Feeding.{IsRead, Builds, Feeds, Keeps, IsReadyAfter, Moves, StaysStopped, FoundFed};
-ghost use Rattle.iso_wire.specs.Reading.{message_at};
+ghost use Rattle.iso_wire.specs.Feeding.{IsRead, Builds, Feeds, Keeps, IsReadyAfter, Moves, StaysStopped, FoundFed, StopsFed};
+ghost use Rattle.iso_wire.specs.declared.fault.UnpackCause.{UnpackCause};
+ghost use Rattle.iso_wire.specs.Reading.{halt, message_at};
+ghost use Rattle.iso_wire.specs.Stops.{Stops};
 ghost use Rattle.iso_wire.specs.ReadingLaws.{IsShort};
 ghost use Rattle.iso_wire.specs.Resuming.{IsResumed};
 ghost use Rattle.iso_wire.specs.Spelling.{AreBytes};
 
 use crate::fault::{UnpackCause, UnpackFault};
 use crate::judging::{Stage, judge_from};
-use crate::laws::reads_spellings;
+use crate::laws::{reads_spellings, stops};
 use crate::message::Message;
 use crate::unpacking::message_of;
 use iso_table::Table;
@@ -194,8 +196,12 @@ fn take(
     ensures resumed { IsResumed table.now result.0 taken.new.items }
     ensures ready { IsReadyAfter table.now taken.new.items result.1 }
     ensures found { FoundFed table.now (length taken.old.items) (taken.old.items ++ piece.now) result.1 }
+    ensures stops { StopsFed table.now (taken.old.items ++ piece.now) result.1 }
+    ensures told { (at element : ℕ) (cause : UnpackCause) → Stops table.now (taken.old.items ++ piece.now) at element cause
+        → Feeds (length taken.old.items) result.1 (halt element at cause) }
 {
     reads_spellings();
+    stops();
     are_bytes(taken);
     take_piece(alloc, table, stage, taken, piece)
 }
@@ -229,6 +235,11 @@ impl<'t> Unpacker<'t> {
         ensures exact { self.old.stopped ≡ None → Feeds (length self.old.taken) result (message_at self.old.table (self.old.taken ++ piece.now)) }
         // How the unpacker stands afterwards.
         ensures state { self.old.stopped ≡ None → Moves self.old self.new piece.now result }
+        // A fault tells where the bytes taken and then the piece stop, and why; more is wanted where they are too short;
+        ensures stops { self.old.stopped ≡ None → StopsFed self.old.table (self.old.taken ++ piece.now) result }
+        // and where they stop is answered.
+        ensures told { self.old.stopped ≡ None → (at element : ℕ) (cause : UnpackCause) → Stops self.old.table (self.old.taken ++ piece.now) at element cause
+            → Feeds (length self.old.taken) result (halt element at cause) }
         // What is done is spelled by the first bytes, more is wanted only where none of them spells a message, and
         // a fault comes only where no continuation begins with a spelling.
         ensures found { self.old.stopped ≡ None → FoundFed self.old.table (length self.old.taken) (self.old.taken ++ piece.now) result }

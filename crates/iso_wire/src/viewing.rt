@@ -2,14 +2,16 @@
 
 ghost use Rattle.std.specs.Prelude.{◌≢◌, ◌++◌, ℕ, List, IfOk, IfErr};
 ghost use Rattle.iso_table.specs.Layout.{AreGood};
+ghost use Rattle.iso_wire.specs.declared.fault.UnpackCause.{UnpackCause};
 ghost use Rattle.iso_wire.specs.declared.fault.UnpackCause.TheVariants.{Short, Memory};
-ghost use Rattle.iso_wire.specs.Reading.{message_at};
+ghost use Rattle.iso_wire.specs.Reading.{halt, message_at};
 ghost use Rattle.iso_wire.specs.Spelling.{AreBytes, BeginsWithNone, Parts};
+ghost use Rattle.iso_wire.specs.Stops.{Stops};
 ghost use Rattle.iso_wire.specs.Viewing.{Views, ViewsSpelled, IsViewed, Wired};
 
 use crate::bodies::{View, view_of};
 use crate::fault::UnpackFault;
-use crate::laws::reads_spellings;
+use crate::laws::{reads_spellings, stops};
 use iso_table::Table;
 
 /// What [`view`] answers.
@@ -32,6 +34,10 @@ pub fn view<'a>(table: &Table, bytes: &'a [u8]) -> Result<View<'a>, UnpackFault>
     ensures exact { Views table.now bytes.now result (message_at table.now bytes.now) }
     // it is never want of memory.
     ensures memory { IfErr result (λ e. e.cause ≢ Memory) }
+    // A fault tells where the bytes stop, by their whole pieces, and why,
+    ensures stops { IfErr result (λ e. Stops table.now bytes.now e.at e.element e.cause) }
+    // and where they stop is told.
+    ensures told { (at element : ℕ) (cause : UnpackCause) → Stops table.now bytes.now at element cause → Views table.now bytes.now result (halt element at cause) }
     // A fault comes only where the bytes begin with no spelling,
     ensures refused { IfErr result (λ e. BeginsWithNone table.now bytes.now) }
     // and where a whole piece is bad, no continuation begins with one either.
@@ -40,6 +46,7 @@ pub fn view<'a>(table: &Table, bytes: &'a [u8]) -> Result<View<'a>, UnpackFault>
     ensures parts { (es ws : List (ℕ × List ℕ)) (b : List ℕ) → Wired table.now.rows es ws b → Parts table.now.rows es b }
 {
     reads_spellings();
+    stops();
     iso_parts::laws::parts();
     seen(table, bytes)
 }

@@ -1,4 +1,5 @@
 use Rattle.std.proofs.Common.{arith}
+use Rattle.iso_wire.proofs.StopsLaws.{view_stops, stop_is_viewed}
 use Rattle.iso_wire.proofs.Views.{is_viewed, viewed_only, never_memory, view_refused, view_settled, Wired-Parts}
 use Rattle.iso_wire.proofs.viewing.view.Goals as goal
 
@@ -19,3 +20,9 @@ returns-clause-memory c = never_memory c.args.table.now c.args.bytes.now c.seen.
 
 pub returns-clause-parts : goal.returns-clause-parts
 returns-clause-parts c = λ es ws b h. Wired-Parts c.args.table.now.rows es ws b h
+
+pub returns-clause-stops : goal.returns-clause-stops
+returns-clause-stops c = view_stops c.stops.ensures.exact c.args.table.now c.args.bytes.now c.seen.result c.seen.ensures.good (λ i. omega (arith, c.type_inv.bytes i)) c.seen.ensures.exact
+
+pub returns-clause-told : goal.returns-clause-told
+returns-clause-told c = stop_is_viewed c.stops.ensures.exact c.args.table.now c.args.bytes.now c.seen.result c.seen.ensures.good (λ i. omega (arith, c.type_inv.bytes i)) c.seen.ensures.exact
