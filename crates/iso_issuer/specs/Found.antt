@@ -1,5 +1,5 @@
 -- What an order finds in the journal, before it is entered.
-use Rattle.std.specs.Prelude.{◌≡◌, ℕ, List, Option, Some, None, option_map}
+use Rattle.std.specs.Prelude.{◌≡◌, ℕ, Bool, true, false, List, Option, Some, None, option_map}
 use Rattle.std.specs.Option.{option_or}
 use Rattle.iso_order.specs.declared.act.Act.{Act}
 use Rattle.iso_order.specs.declared.act.Act.TheVariants.{Debit, Credit, Inquiry, Undo, Complete}
@@ -19,6 +19,14 @@ use Rattle.iso_issuer.specs.Journal.{undone, left_at, weight, reversed_by, relea
 abbrev pub touched_at : List Entry → Option Entry → Option Touched
 touched_at journal None = None
 touched_at journal (Some e) = Some (record { entry = e; left = left_at journal e.order.key; weight = weight journal e })
+
+-- it may reverse an entry or end a hold
+abbrev pub touches : Act → Bool
+touches (Undo original left) = true
+touches (Complete m hold) = true
+touches (Debit m) = false
+touches (Credit m) = false
+touches (Inquiry m) = false
 
 -- what the first reversal of its key leaves, the entry that it reverses, and the hold that it ends or gives back
 pub record IsFoundFor (journal : List Entry) (o : Instruction) (found : Found) : Type 0 where

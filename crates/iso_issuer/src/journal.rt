@@ -1,7 +1,7 @@
 //! The journal: the orders that were entered, each with the answer that it was given.
 
 ghost use Rattle.iso_issuer.specs.Effect.{is_key, effect_of};
-ghost use Rattle.iso_issuer.specs.Found.{touched_at, weight_in, IsFoundFor};
+ghost use Rattle.iso_issuer.specs.Found.{touched_at, touches, weight_in, IsFoundFor};
 ghost use Rattle.iso_issuer.specs.declared.journal.Entry.{Entry};
 ghost use Rattle.std.specs.Prelude.{◌≡◌, ◌≤◌, ◌<◌, ◌+◌, ◌==◌, ℕ, List, is_some, true, false, map, ◌++◌, ◌∷◌, [], None, if◌then◌else◌, OnOk, OnErr, length};
 ghost use Rattle.std.specs.BTreeMap as tree;
@@ -54,6 +54,16 @@ fn undone(order: Order) -> Option<TxKey>
     match order.act() {
         Act::Undo { original, .. } => Some(original),
         Act::Debit(_) | Act::Credit(_) | Act::Inquiry(_) | Act::Complete { .. } => None,
+    }
+}
+
+/// Whether an order may reverse an entry or end a hold.
+fn touches(order: Order) -> bool
+    ensures { result ≡ touches order.act }
+{
+    match order.act() {
+        Act::Undo { .. } | Act::Complete { .. } => true,
+        Act::Debit(_) | Act::Credit(_) | Act::Inquiry(_) => false,
     }
 }
 
@@ -292,6 +302,13 @@ impl Journal {
         ensures released { weight_in result.released ≤ 999999999999 }
         ensures apart { (q : TxKey) → is_key (ended_key self.now order) q ≡ true → is_key (undone order.act) q ≡ false }
     {
+        if !touches(order) {
+            return Found {
+                left: self.left_at(order.key()),
+                reversed: None,
+                released: None,
+            };
+        }
         let reversed = self.reversed_by(order);
         let released = self.released_by(order, &reversed);
         Found {
