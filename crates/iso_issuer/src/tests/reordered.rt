@@ -84,13 +84,22 @@ fn tell_the_same(rt: &impl Abort, one: &Issuer, other: &Issuer, name: u64) -> Re
         let number = pan(text)?;
         assert!(rt; one.ledger(number).is_some());
         assert_eq!(rt; one.ledger(number), other.ledger(number), "list {name}");
-        assert_eq!(rt; one.available(number), other.available(number), "list {name}");
+        assert_eq!(rt;
+            one.available(number),
+            other.available(number),
+            "list {name}"
+        );
     }
     Ok(())
 }
 
 /// Hands over a list, and then the same list in three other orders.
-fn compare(rt: &impl Abort, alloc: Global, list: u64, codes: &mut BTreeSet<u8>) -> Result<(), Fail> {
+fn compare(
+    rt: &impl Abort,
+    alloc: Global,
+    list: u64,
+    codes: &mut BTreeSet<u8>,
+) -> Result<(), Fail> {
     let mut draws = Draws::new(list, 200);
     let mut orders = distinct(alloc, &mut draws)?;
     assert!(rt; orders.len() >= 250, "list {list}");
