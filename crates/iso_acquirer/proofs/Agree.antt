@@ -1,7 +1,6 @@
 -- Both ends agree on each transaction.
-use Rattle.std.proofs.Common.{◌≡◌, ℕ, refl, ap, sym, ◌∙◌, subst}
+use Rattle.std.proofs.Common.{◌≡◌, ℕ, refl, subst}
 use Rattle.std.specs.Prelude.{Option, Some, None, option_map, option_and_then}
-use Rattle.iso_order.specs.Order.{Instruction}
 use Rattle.iso_issuer.specs.Laws.{GrantedStands, DeclinedFalls, NoneIsNone, StandsNoMore, ReversedNeverStands}
 use Rattle.iso_acquirer.specs.declared.slot.Slot.{Slot}
 use Rattle.iso_acquirer.specs.declared.slot.Role.{Role}
@@ -9,13 +8,13 @@ use Rattle.iso_acquirer.specs.declared.slot.Role.TheVariants.{Transaction, Rever
 use Rattle.iso_acquirer.specs.declared.slot.Stage.{Stage}
 use Rattle.iso_acquirer.specs.declared.slot.Stage.TheVariants.{Asked, Undoing, Granted, Denied, Undone}
 use Rattle.iso_acquirer.specs.declared.state.State.{State}
-use Rattle.iso_acquirer.specs.Slots.{slot_at, order_at, state_by, state_in, state_of}
+use Rattle.iso_acquirer.specs.Slots.{slot_at, state_by, state_in}
 use Rattle.iso_acquirer.specs.World.{World}
 use Rattle.iso_acquirer.specs.Agreed.{IsSound}
 use Rattle.iso_acquirer.specs.Agreement.{AgreesIn, BothAgree}
 use Rattle.iso_acquirer.proofs.Keys.{some_is}
 use Rattle.iso_acquirer.proofs.Numbered.{found}
-use Rattle.iso_acquirer.proofs.Clauses.{order_of_slot, approved-stands, declined-never, reversed-never}
+use Rattle.iso_acquirer.proofs.Clauses.{approved-stands, declined-never, reversed-never}
 
 module _ (none_is_none : NoneIsNone) (stands : GrantedStands) (falls : DeclinedFalls) (no_more : StandsNoMore) (never : ReversedNeverStands) (w : World) (sound : IsSound w) where
   by_stage : (stan : ℕ) (s : Slot) → slot_at w.acquirer.slots stan ≡ Some s → (stage : Stage) → s.role ≡ Transaction stage → AgreesIn w s.order (state_by stage)

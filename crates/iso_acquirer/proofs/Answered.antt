@@ -1,5 +1,5 @@
 -- An answer that the issuer gave comes to the acquirer.
-use Rattle.std.proofs.Common.{◌≡◌, ◌≢◌, ℕ, Bool, true, false, refl, arith, ap, sym, ◌∙◌, List, [], ◌∷◌, cond}
+use Rattle.std.proofs.Common.{◌≡◌, ◌≢◌, ℕ, Bool, true, false, refl, arith, ap, sym, ◌∙◌, List, cond}
 use Rattle.std.specs.Prelude.{◌||◌, ◌==◌, Option, Some, None, option_map}
 use Rattle.std.proofs.lemmas.Grind.{common_steps}
 use Rattle.iso_order.specs.declared.key.TxKey.{TxKey}
@@ -21,7 +21,7 @@ use Rattle.iso_acquirer.specs.Agreed.{answer_at, code_at, IsHeld, IsReversal, Is
 use Rattle.iso_acquirer.proofs.Keys.{same_key_is, same_key_self, same_number, some_is}
 use Rattle.iso_acquirer.proofs.Numbered.{found}
 use Rattle.iso_acquirer.proofs.Clauses.{own_order, all_wholly, transaction_at}
-use Rattle.iso_acquirer.proofs.Changed.{KeepsUndo, agreed-changed}
+use Rattle.iso_acquirer.proofs.Changed.{agreed-changed}
 
 -- an answer to a transaction's own order
 held-after : (entries : List Entry) (k : TxKey) (a : Outcome) (stage : Stage) → answer_at entries k ≡ Some a → IsHeld entries k stage → IsHeld entries k (stage_after a.code stage)

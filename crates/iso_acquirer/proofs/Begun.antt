@@ -12,15 +12,14 @@ use Rattle.iso_acquirer.specs.declared.event.Given.{Given}
 use Rattle.iso_acquirer.specs.declared.slot.Slot.{Slot}
 use Rattle.iso_acquirer.specs.declared.slot.Role.{Role}
 use Rattle.iso_acquirer.specs.declared.slot.Role.TheVariants.{Transaction, Reversal}
-use Rattle.iso_acquirer.specs.declared.slot.Stage.{Stage}
 use Rattle.iso_acquirer.specs.declared.slot.Stage.TheVariants.{Asked, Undoing}
 use Rattle.iso_acquirer.specs.Slots.{AreNumbered, slot_at, order_at, undo_of, on_stage, stepped, changed, transaction_of, reversal_for, begun, reversing}
-use Rattle.iso_acquirer.specs.Agreed.{answer_at, IsTransaction, IsReversal, IsRole, IsSlot, IsKnown, IsAgreed}
-use Rattle.iso_acquirer.proofs.Keys.{some_is, none_is_not, number_self, same_number}
+use Rattle.iso_acquirer.specs.Agreed.{answer_at, IsRole, IsSlot, IsKnown, IsAgreed}
+use Rattle.iso_acquirer.proofs.Keys.{some_is, none_is_not, number_self}
 use Rattle.iso_acquirer.proofs.Lists.{all-push, all-weaker, find-more}
 use Rattle.iso_acquirer.proofs.Numbered.{above, found, numbered-changed, numbered-push, length-changed}
-use Rattle.iso_acquirer.proofs.Clauses.{slot_of_order, same_stage, transaction_at}
-use Rattle.iso_acquirer.proofs.Changed.{KeepsUndo, changed_slot, changed-found, changed-back, order-changed, known-changed, sent-changed, reversal-changed}
+use Rattle.iso_acquirer.proofs.Clauses.{slot_of_order, same_stage}
+use Rattle.iso_acquirer.proofs.Changed.{KeepsUndo, changed-found, changed-back, order-changed, known-changed, sent-changed, reversal-changed}
 
 -- one of the acquirer's orders is sent, for the first time or again
 pub agreed-sent : (id : ℕ) (slots : List Slot) (sent : List Instruction) (given : List Given) (entries : List Entry) (o : Instruction) →

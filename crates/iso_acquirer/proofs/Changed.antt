@@ -10,7 +10,7 @@ use Rattle.iso_acquirer.specs.declared.slot.Role.{Role}
 use Rattle.iso_acquirer.specs.declared.slot.Role.TheVariants.{Transaction, Reversal}
 use Rattle.iso_acquirer.specs.declared.slot.Stage.{Stage}
 use Rattle.iso_acquirer.specs.Slots.{AreNumbered, slot_at, order_at, undo_of, on_stage, stepped, changed}
-use Rattle.iso_acquirer.specs.Agreed.{IsHeld, IsTransaction, IsReversal, IsRole, IsSlot, IsKnown, IsAgreed}
+use Rattle.iso_acquirer.specs.Agreed.{IsHeld, IsReversal, IsRole, IsSlot, IsKnown, IsAgreed}
 use Rattle.iso_acquirer.proofs.Keys.{same_number, some_is}
 use Rattle.iso_acquirer.proofs.Lists.{all-weaker}
 use Rattle.iso_acquirer.proofs.Numbered.{found, numbered-changed}

@@ -1,5 +1,5 @@
 -- How an acquirer keeps its transactions.
-use Rattle.std.proofs.Common.{◌≡◌, ℕ, Bool, true, false, refl, arith, ap, sym, ◌∙◌, List, [], ◌∷◌, ◌++◌, length, ◌<◌, ◌≤◌, ◌+◌, ◌-◌, cond, length-append}
+use Rattle.std.proofs.Common.{◌≡◌, ℕ, Bool, true, false, refl, arith, ap, sym, List, [], ◌∷◌, length, ◌<◌, ◌≤◌, ◌+◌, ◌-◌, cond, length-append}
 use Rattle.std.specs.Prelude.{◌==◌, ◌||◌, Some}
 use Rattle.std.specs.List.{AllByRecursion}
 use Rattle.std.proofs.lemmas.List.Sums.{sum_by_push}
@@ -9,7 +9,7 @@ use Rattle.iso_acquirer.specs.declared.slot.Role.{Role}
 use Rattle.iso_acquirer.specs.declared.slot.Role.TheVariants.{Transaction, Reversal}
 use Rattle.iso_acquirer.specs.declared.slot.Stage.{Stage}
 use Rattle.iso_acquirer.specs.declared.slot.Stage.TheVariants.{Asked, Undoing, Granted, Denied, Undone}
-use Rattle.iso_acquirer.specs.Slots.{AreNumbered, slot_at, may_reverse, to_reverse, waiting, on_stage, stepped, changed, transaction_of, reversal_for, begun, reversing, stage_after, stage_undone, IsRequest, IsKept}
+use Rattle.iso_acquirer.specs.Slots.{AreNumbered, slot_at, may_reverse, to_reverse, waiting, on_stage, changed, transaction_of, reversal_for, begun, reversing, stage_after, stage_undone, IsRequest, IsKept}
 use Rattle.iso_acquirer.proofs.Lists.{all-push}
 use Rattle.iso_acquirer.proofs.Numbered.{summed, numbered-changed, numbered-push, length-changed, all-changed, all-found}
 

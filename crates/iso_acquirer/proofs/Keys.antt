@@ -1,5 +1,5 @@
 -- Keys and orders that compare alike, and other plain facts.
-use Rattle.std.proofs.Common.{◌≡◌, ◌≢◌, ℕ, Bool, true, false, refl, arith, ap, sym, ◌∙◌, ◌<◌, cond}
+use Rattle.std.proofs.Common.{◌≡◌, ◌≢◌, ℕ, Bool, true, false, refl, arith}
 use Rattle.std.specs.Prelude.{◌&&◌, ◌==◌, Some, None}
 use Rattle.std.proofs.lemmas.Grind.{common_steps}
 use Rattle.iso_order.specs.declared.key.TxKey.{TxKey}

@@ -3,10 +3,8 @@ use Rattle.std.proofs.Common.{◌≡◌, ℕ, zero, suc, Bool, true, false, refl
 use Rattle.std.specs.Prelude.{◌==◌, Option, Some, None, sum_by, slice_get, IfSome}
 use Rattle.std.specs.List.{AllByRecursion}
 use Rattle.std.proofs.lemmas.List.Sums.{sum_by-cons}
-use Rattle.iso_order.specs.Order.{Instruction}
 use Rattle.iso_acquirer.specs.declared.slot.Slot.{Slot}
-use Rattle.iso_acquirer.specs.declared.slot.Role.{Role}
-use Rattle.iso_acquirer.specs.declared.slot.Role.TheVariants.{Transaction, Reversal}
+use Rattle.iso_acquirer.specs.declared.slot.Role.TheVariants.{Reversal}
 use Rattle.iso_acquirer.specs.declared.slot.Stage.{Stage}
 use Rattle.iso_acquirer.specs.Slots.{AreNumbered, slot_at, changed, stepped}
 use Rattle.iso_acquirer.proofs.Keys.{same_number, number_self, other_number, some_is}

@@ -1,23 +1,20 @@
 -- The books of both ends, where nothing is open.
 use Rattle.std.proofs.Common.{◌≡◌, ℕ, Bool, true, false, refl, arith, ap, sym, ◌∙◌, subst, List, [], ◌∷◌, cond, append-nil}
-use Rattle.std.specs.Prelude.{◌==◌, ◌&&◌, Option, Some, None, map, is_some, option_and_then, sum_by, ℤ, pos, ◌+ℤ◌, ◌-ℤ◌}
+use Rattle.std.specs.Prelude.{◌==◌, Some, None, map, is_some, option_and_then, ℤ, pos, ◌+ℤ◌, ◌-ℤ◌}
 use Rattle.std.specs.List.{AllByRecursion}
 use Rattle.std.proofs.lemmas.Int.{ints}
-use Rattle.iso_order.specs.declared.act.Act.{Act}
-use Rattle.iso_order.specs.declared.act.Act.TheVariants.{Debit, Undo}
+use Rattle.iso_order.specs.declared.act.Act.TheVariants.{Debit}
 use Rattle.iso_order.specs.declared.act.Money.{Money}
 use Rattle.iso_order.specs.AccountNumber.{AccountNumber}
 use Rattle.iso_order.specs.declared.key.TxKey.{TxKey}
 use Rattle.iso_order.specs.Key.{class_of}
 use Rattle.iso_order.specs.Order.{Instruction, same_pan}
 use Rattle.iso_issuer.specs.declared.account.Account.{Account}
-use Rattle.iso_issuer.specs.declared.effect.Effect.{Effect}
-use Rattle.iso_issuer.specs.declared.effect.Side.{Side}
 use Rattle.iso_issuer.specs.declared.effect.Side.TheVariants.{Given, Taken, Held}
 use Rattle.iso_issuer.specs.declared.journal.Entry.{Entry}
-use Rattle.iso_issuer.specs.Effect.{effect_of, effect_by, amount_of, is_on}
+use Rattle.iso_issuer.specs.Effect.{effect_of, effect_by, amount_of}
 use Rattle.iso_issuer.specs.Journal.{entry_at, stands, weight, is_entered, HasDistinctKeys}
-use Rattle.iso_issuer.specs.Balance.{share, total, ledger, available}
+use Rattle.iso_issuer.specs.Balance.{share, total, ledger}
 use Rattle.iso_issuer.specs.Decision.{journal_of}
 use Rattle.iso_issuer.specs.Books.{journal}
 use Rattle.iso_issuer.specs.Laws.{EntriesAreOfOrders, EnteredHasEntry, GrantedWeighsAll, DeclinedFalls, FallenWeighsNothing, NoneIsNone, NeverStands, StandsNoMore, ReversedNeverStands}
@@ -26,9 +23,9 @@ use Rattle.iso_acquirer.specs.declared.slot.Role.{Role}
 use Rattle.iso_acquirer.specs.declared.slot.Role.TheVariants.{Transaction, Reversal}
 use Rattle.iso_acquirer.specs.declared.slot.Stage.{Stage}
 use Rattle.iso_acquirer.specs.declared.slot.Stage.TheVariants.{Asked, Undoing, Granted, Denied, Undone}
-use Rattle.iso_acquirer.specs.Slots.{slot_at, state_by, state_in, state_of}
+use Rattle.iso_acquirer.specs.Slots.{slot_at, state_by, state_in}
 use Rattle.iso_acquirer.specs.World.{World}
-use Rattle.iso_acquirer.specs.Agreed.{IsTransaction, IsReversal, IsRole, IsKnown, IsSound}
+use Rattle.iso_acquirer.specs.Agreed.{IsTransaction, IsRole, IsKnown, IsSound}
 use Rattle.iso_acquirer.specs.Agreement.{is_closed, is_approved, debited, approved, IsSettled, BooksAgree}
 use Rattle.iso_acquirer.proofs.Keys.{some_is}
 use Rattle.iso_acquirer.proofs.Lists.{all-weaker}

@@ -1,5 +1,5 @@
 -- Sums over entries, and over what is kept under their trace numbers.
-use Rattle.std.proofs.Common.{◌≡◌, ◌≢◌, ℕ, Bool, true, false, refl, arith, ap, sym, ◌∙◌, List, [], ◌∷◌, ◌<◌, ◌+◌, cond}
+use Rattle.std.proofs.Common.{◌≡◌, ◌≢◌, ℕ, Bool, true, false, refl, arith, ap, sym, ◌∙◌, List, [], ◌∷◌, ◌+◌, cond}
 use Rattle.std.specs.Prelude.{◌||◌, ◌==◌, Option, Some, None, map, is_some, sum_by}
 use Rattle.std.specs.List.{AllByRecursion}
 use Rattle.std.proofs.lemmas.Grind.{common_steps}

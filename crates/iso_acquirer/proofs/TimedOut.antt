@@ -11,7 +11,7 @@ use Rattle.iso_acquirer.specs.declared.slot.Role.{Role}
 use Rattle.iso_acquirer.specs.declared.slot.Role.TheVariants.{Transaction, Reversal}
 use Rattle.iso_acquirer.specs.declared.slot.Stage.{Stage}
 use Rattle.iso_acquirer.specs.declared.slot.Stage.TheVariants.{Asked, Undoing, Granted, Denied, Undone}
-use Rattle.iso_acquirer.specs.Slots.{slot_at, order_at, undo_of, changed, timed_out, timed_out_at, timed_out_in, timed_out_by, reversal_of, reversing}
+use Rattle.iso_acquirer.specs.Slots.{slot_at, undo_of, changed, timed_out, timed_out_at, timed_out_in, timed_out_by, reversal_of, reversing}
 use Rattle.iso_acquirer.specs.Agreed.{IsAgreed}
 use Rattle.iso_acquirer.proofs.Keys.{some_is, none_is_not}
 use Rattle.iso_acquirer.proofs.Numbered.{found}

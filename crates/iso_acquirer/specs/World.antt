@@ -1,6 +1,5 @@
 -- Both ends, and what may happen to them.
 use Rattle.std.specs.Prelude.{◌≡◌, ◌≢◌, ◌<◌, ℕ, List, [], ◌∷◌, ◌++◌, ◌+◌, length, Option, Some, None, slice_get, Ok, Err}
-use Rattle.iso_order.specs.AccountNumber.{AccountNumber}
 use Rattle.iso_order.specs.Order.{Instruction}
 use Rattle.iso_issuer.specs.declared.fault.Refused.{Refused}
 use Rattle.iso_issuer.specs.declared.fault.Refused.TheVariants.{Full, Memory}

@@ -1,5 +1,4 @@
-use Rattle.std.proofs.Common.{◌≡◌, arith, ap, ◌-◌}
-use Rattle.iso_acquirer.specs.declared.slot.Role.TheVariants.{Transaction}
+use Rattle.std.proofs.Common.{arith, ap, ◌-◌}
 use Rattle.iso_acquirer.proofs.Numbered.{found, written}
 use Rattle.iso_acquirer.proofs.acquirer.put.Goals as goal
 

@@ -3,7 +3,6 @@ use Rattle.std.proofs.lemmas.List.{with_items_is}
 use Rattle.iso_order.specs.Order.{Instruction}
 use Rattle.iso_acquirer.specs.declared.slot.Role.{Role}
 use Rattle.iso_acquirer.specs.declared.slot.Role.TheVariants.{Transaction, Reversal}
-use Rattle.iso_acquirer.specs.declared.slot.Stage.{Stage}
 use Rattle.iso_acquirer.specs.declared.slot.Stage.TheVariants.{Undoing}
 use Rattle.iso_acquirer.specs.Slots.{Party, slot_at, reversal_for, on_stage, to_reverse, changed, reversing, reversal_of}
 use Rattle.iso_acquirer.proofs.Kept.{kept-reversing, open-counted, request-found}

@@ -1,5 +1,4 @@
 use Rattle.std.proofs.Common.{◌≡◌, sym, ◌∙◌, ap, subst, Some, None}
-use Rattle.iso_acquirer.specs.declared.slot.Slot.{Slot}
 use Rattle.iso_acquirer.specs.declared.slot.Role.TheVariants.{Transaction}
 use Rattle.iso_acquirer.specs.Slots.{Party, AreNumbered, slot_at, on_stage, changed, stage_undone}
 use Rattle.iso_acquirer.proofs.Numbered.{found, unchanged, reversal-stays}
