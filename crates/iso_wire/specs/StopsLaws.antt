@@ -10,16 +10,21 @@ use Rattle.iso_wire.specs.Stops.{Stops}
 
 -- reading gives a fault exactly where the bytes stop there, at that element, for that cause
 abbrev pub StopsAsRead : Type 0
-StopsAsRead = (t : Layout) (b : List ℕ) (at element : ℕ) (cause : UnpackCause) → AreGood t.rows → AreBytes b → (message_at t b ≡ halt element at cause) ↔ Stops t b at element cause
+StopsAsRead =
+    (t : Layout) (b : List ℕ) (at element : ℕ) (cause : UnpackCause) → AreGood t.rows → AreBytes b
+    → (message_at t b ≡ halt element at cause) ↔ Stops t b at element cause
 
 -- the bytes begin with a spelling, or they stop somewhere,
 abbrev pub SpellsOrStops : Type 0
 SpellsOrStops =
-    (t : Layout) (b : List ℕ) → AreGood t.rows → AreBytes b → ((m : Contents) × (n : ℕ) × BeginsWith t m n b) ⊎ ((at : ℕ) × (element : ℕ) × (cause : UnpackCause) × Stops t b at element cause)
+    (t : Layout) (b : List ℕ) → AreGood t.rows → AreBytes b
+    → ((m : Contents) × (n : ℕ) × BeginsWith t m n b) ⊎ ((at : ℕ) × (element : ℕ) × (cause : UnpackCause) × Stops t b at element cause)
 
 -- and not both
 abbrev pub NeverBoth : Type 0
-NeverBoth = (t : Layout) (b : List ℕ) (m : Contents) (n at element : ℕ) (cause : UnpackCause) → AreGood t.rows → AreBytes b → BeginsWith t m n b → Stops t b at element cause → ⊥
+NeverBoth =
+    (t : Layout) (b : List ℕ) (m : Contents) (n at element : ℕ) (cause : UnpackCause) → AreGood t.rows → AreBytes b
+    → BeginsWith t m n b → Stops t b at element cause → ⊥
 
 -- they stop at one place, at one element, for one cause
 abbrev pub StopsOnce : Type 0
