@@ -1,6 +1,6 @@
 -- What an order found, once it is entered.
-use Rattle.std.proofs.Common.{◌≡◌, ℕ, Bool, true, false, cond, not, refl, ap, sym, ◌∙◌, subst, List, [], ◌∷◌, ◌++◌}
-use Rattle.std.specs.Prelude.{Option, Some, None, is_some, option_and_then, option_map, ◌&&◌}
+use Rattle.std.proofs.Common.{◌≡◌, ℕ, true, cond, refl, ap, sym, ◌∙◌, subst, List, [], ◌∷◌, ◌++◌}
+use Rattle.std.specs.Prelude.{Option, Some, None, is_some, option_and_then, option_map}
 use Rattle.std.specs.Option.{option_or}
 use Rattle.iso_order.specs.declared.key.TxKey.{TxKey}
 use Rattle.iso_order.specs.declared.act.Act.{Act}
@@ -12,7 +12,7 @@ use Rattle.iso_order.specs.AccountNumber.{AccountNumber}
 use Rattle.iso_issuer.specs.declared.effect.Effect.{Effect}
 use Rattle.iso_issuer.specs.declared.found.Touched.{Touched}
 use Rattle.iso_issuer.specs.declared.found.Found.{Found}
-use Rattle.iso_issuer.specs.Effect.{effect_of, effect_by, is_key}
+use Rattle.iso_issuer.specs.Effect.{effect_by, is_key}
 use Rattle.iso_issuer.specs.Journal.{entry_at, undone, left_by, left_at, weight, weight_at, reversed_by, released_by, ended_key}
 use Rattle.iso_issuer.specs.Index.{dropped_of, dropped_at, dropped_by}
 use Rattle.iso_issuer.specs.Decision.{money_of}

@@ -1,7 +1,6 @@
 -- The entries as they are kept, and one more.
 use Rattle.std.proofs.Common.{◌≡◌, ℕ, zero, suc, ◌+◌, ◌-◌, ◌<◌, ◌≤◌, Bool, true, false, cond, refl, arith, ap, sym, ◌∙◌, List, [], ◌∷◌, ◌++◌, length, get_or, length-append}
 use Rattle.std.specs.Prelude.{ℤ, Option, Some, None, map, ◌==◌, Result, Ok, Err, OnErr}
-use Rattle.std.specs.List.{All}
 use Rattle.std.specs.Option.{option_or}
 use Rattle.std.specs.Ordering.{nat_cmp, is_eq}
 use Rattle.std.specs.BTreeMap as tree
@@ -18,7 +17,7 @@ use Rattle.iso_issuer.specs.declared.index.Index.{Index}
 use Rattle.iso_issuer.specs.declared.journal.Entry.{Entry}
 use Rattle.iso_issuer.specs.Effect.{is_key}
 use Rattle.iso_issuer.specs.Journal.{entry_at, undone, left_by, HasDistinctKeys}
-use Rattle.iso_issuer.specs.Index.{key_cmp, count_at, mark_at, added_by, dropped_by, completions, entries_from, AreStored, IsIndexOf, AnswersAlike}
+use Rattle.iso_issuer.specs.Index.{key_cmp, count_at, mark_at, added_by, dropped_by, entries_from, AreStored, IsIndexOf, AnswersAlike}
 use Rattle.iso_issuer.proofs.ByKey.{place_of-push, left-push}
 use Rattle.iso_issuer.proofs.Counts.{counts-entered}
 

@@ -1,11 +1,10 @@
 use Rattle.std.proofs.Common.{◌≡◌, ap, sym, ◌∙◌, arith, cond, length, ◌++◌, ◌∷◌, [], ◌<◌, ◌≤◌, ◌+◌, ◌-◌}
-use Rattle.std.specs.Prelude.{Some, None, map, ◌==◌}
+use Rattle.std.specs.Prelude.{◌==◌}
 use Rattle.std.specs.Ordering.{nat_cmp}
 use Rattle.std.specs.BTreeMap as tree
 use Rattle.std.proofs.lemmas.Grind.{common_steps}
 use Rattle.iso_issuer.specs.declared.journal.Entry.{Entry}
-use Rattle.iso_issuer.specs.Journal.{entry_at, HasDistinctKeys}
-use Rattle.iso_issuer.specs.Index.{added_by, dropped_by, entries_from, IsIndexOf, count_at, mark_at}
+use Rattle.iso_issuer.specs.Index.{dropped_by, entries_from, IsIndexOf, count_at, mark_at}
 use Rattle.iso_issuer.proofs.ByKey.{place_of-none}
 use Rattle.iso_issuer.proofs.Counts.{few-counted, counted-dropped}
 use Rattle.iso_issuer.proofs.Stored.{entries-same, stored-alike, alike-self, taken-back, length-entries, index-entered, stored-entered, entries-entered, on-err, IsPut}
