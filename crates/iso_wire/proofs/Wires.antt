@@ -1,5 +1,5 @@
 -- Finding the bodies of elements one after the other, as a loop does, and looking one up.
-use Rattle.std.proofs.Common.{◌≡◌, ℕ, zero, suc, ◌+◌, ◌-◌, ◌/◌, ◌%◌, ◌^◌, ◌≤◌, ◌<◌, ◌&&◌, Bool, true, false, eqb, leb, List, [], ◌∷◌, ◌++◌, length, take, drop, set, get_or, Option, Some, None, Result, Ok, Err, refl, sym, ap, subst, ◌∙◌, append_assoc, arith, inl, inr}
+use Rattle.std.proofs.Common.{◌≡◌, ℕ, zero, suc, ◌+◌, ◌-◌, ◌≤◌, ◌<◌, ◌&&◌, Bool, true, false, eqb, leb, List, [], ◌∷◌, ◌++◌, length, take, drop, set, Option, Some, None, Result, Ok, Err, refl, sym, ap, subst, ◌∙◌, append_assoc, arith, inl, inr}
 use Rattle.std.proofs.lemmas.Bool.{cases_eq, cond-true, cond-false, and_parts, leb-true, le-leb}
 use Rattle.std.proofs.lemmas.Bool.Decides.{nat_tests}
 use Rattle.std.proofs.lemmas.List.{drop-drop, append-nil, get_or-set_same, get_or-set_other}
@@ -14,12 +14,13 @@ use Rattle.iso_parts.specs.PartLaws.{PartLaws, IsUpTo}
 use Rattle.iso_parts.specs.Reading.{got, prefix_size, body_size, part_at}
 use Rattle.iso_parts.specs.Row.{IsGood, limit}
 use Rattle.iso_table.specs.Layout.{row_at}
+use Rattle.iso_wire.specs.declared.bodies.Spot.{Spot}
 use Rattle.iso_wire.specs.declared.fault.UnpackFault.{UnpackFault}
 use Rattle.iso_wire.specs.declared.numbers.Numbers.{Numbers}
 use Rattle.iso_wire.specs.Elements.{value_in}
 use Rattle.iso_wire.specs.Numbers.{numbers}
 use Rattle.iso_wire.specs.Reading.{◌>>=◌, value_at}
-use Rattle.iso_wire.specs.Viewing.{spot_of, bytes_at, wire_of, wires_in, AreWithin, front_of, wire_at, wires_at}
+use Rattle.iso_wire.specs.Viewing.{bytes_at, no_spot, spot_at, wire_of, wires_in, IsWithin, AreWithin, front_of, wire_at, wires_at}
 use Rattle.iso_wire.specs.Walk.{left, is_left}
 use Rattle.iso_wire.proofs.Loop.{with_front}
 use Rattle.iso_wire.proofs.NumberLaws.{one_more, no_more, no_numbers}
@@ -87,39 +88,30 @@ below_next n (k ∷ done) h = (omega (arith, h.0), below_next n done h.1)
 -- ---- spots
 
 -- a spot that is put at a number leaves those of the numbers below
-wires_stay : (b spots done : List ℕ) (n p : ℕ) → AreBelow n done → wires_in b (set spots n p) done ≡ wires_in b spots done
+wires_stay : (b : List ℕ) (spots : List Spot) (done : List ℕ) (n : ℕ) (p : Spot) → AreBelow n done → wires_in b (set spots n p) done ≡ wires_in b spots done
 wires_stay b spots [] n p below = refl
 wires_stay b spots (k ∷ done) n p below =
-    let same : get_or (set spots n p) k 0 ≡ get_or spots k 0 = get_or-set_other spots n k p 0 (λ e. omega (arith, below.0)) in
-    ap (λ (q : ℕ). (k, bytes_at b q) ∷ wires_in b (set spots n p) done) same ∙ ap (λ (l : Values). wire_of b spots k ∷ l) (wires_stay b spots done n p below.1)
+    let same : spot_at (set spots n p) k ≡ spot_at spots k = get_or-set_other spots n k p no_spot (λ e. omega (arith, below.0)) in
+    ap (λ (q : Spot). (k, bytes_at b q) ∷ wires_in b (set spots n p) done) same ∙ ap (λ (l : Values). wire_of b spots k ∷ l) (wires_stay b spots done n p below.1)
 
-within_stay : (size : ℕ) (spots done : List ℕ) (n p : ℕ) → AreBelow n done → AreWithin size spots done → AreWithin size (set spots n p) done
+within_stay : (size : ℕ) (spots : List Spot) (done : List ℕ) (n : ℕ) (p : Spot) → AreBelow n done → AreWithin size spots done → AreWithin size (set spots n p) done
 within_stay size spots [] n p below h = tt
 within_stay size spots (k ∷ done) n p below h =
-    let same : get_or spots k 0 ≡ get_or (set spots n p) k 0 = sym (get_or-set_other spots n k p 0 (λ e. omega (arith, below.0))) in
-    (subst (λ (q : ℕ). q / 2048 + q % 2048 ≤ size) same h.0, within_stay size spots done n p below.1 h.1)
+    let same : spot_at spots k ≡ spot_at (set spots n p) k = sym (get_or-set_other spots n k p no_spot (λ e. omega (arith, below.0))) in
+    (subst (IsWithin size) same h.0, within_stay size spots done n p below.1 h.1)
 
-wires_append : (b spots done : List ℕ) (n : ℕ) → wires_in b spots (done ++ n ∷ []) ≡ wires_in b spots done ++ wire_of b spots n ∷ []
+wires_append : (b : List ℕ) (spots : List Spot) (done : List ℕ) (n : ℕ) → wires_in b spots (done ++ n ∷ []) ≡ wires_in b spots done ++ wire_of b spots n ∷ []
 wires_append b spots [] n = refl
 wires_append b spots (k ∷ done) n = ap (λ (l : Values). wire_of b spots k ∷ l) (wires_append b spots done n)
 
-within_append : (size : ℕ) (spots done : List ℕ) (n : ℕ) → AreWithin size spots done → get_or spots n 0 / 2048 + get_or spots n 0 % 2048 ≤ size → AreWithin size spots (done ++ n ∷ [])
+within_append : (size : ℕ) (spots : List Spot) (done : List ℕ) (n : ℕ) → AreWithin size spots done → IsWithin size (spot_at spots n) → AreWithin size spots (done ++ n ∷ [])
 within_append size spots [] n h le = (le, tt)
 within_append size spots (k ∷ done) n h le = (h.0, within_append size spots done n h.1 le)
-
-spot_start : (start len : ℕ) → len < 2 ^ 11 → spot_of start len / 2048 ≡ start
-spot_start start len short = omega arith
-
-spot_len : (start len : ℕ) → len < 2 ^ 11 → spot_of start len % 2048 ≡ len
-spot_len start len short = omega arith
-
-spot_bytes : (b : List ℕ) (start len : ℕ) → len < 2 ^ 11 → bytes_at b (spot_of start len) ≡ take len (drop start b)
-spot_bytes b start len short = ap (λ (k : ℕ). take k (drop (spot_of start len / 2048) b)) (spot_len start len short) ∙ ap (λ (k : ℕ). take len (drop k b)) (spot_start start len short)
 
 -- ---- the loop
 
 -- the numbers that were done, and what holds of them and of those to come
-pub record Found (rows : List (Option FieldSpec)) (b spots old ns : List ℕ) (at : ℕ) (total : Result (Values × ℕ) UnpackFault) : Type 0 where
+pub record Found (rows : List (Option FieldSpec)) (b : List ℕ) (spots : List Spot) (old ns : List ℕ) (at : ℕ) (total : Result (Values × ℕ) UnpackFault) : Type 0 where
   pub done : List ℕ
   pub next : ℕ
   pub numbers : done ++ ns ≡ old
@@ -128,7 +120,7 @@ pub record Found (rows : List (Option FieldSpec)) (b spots old ns : List ℕ) (a
   pub read : with_front (wires_in b spots done) (wires_at rows ns at (drop at b)) ≡ total
   pub within : AreWithin (length b) spots done
 
-pub found_first : (rows : List (Option FieldSpec)) (b spots old : List ℕ) (at : ℕ) (total : Result (Values × ℕ) UnpackFault) → Ascends 2 old → wires_at rows old at (drop at b) ≡ total → Found rows b spots old old at total
+pub found_first : (rows : List (Option FieldSpec)) (b : List ℕ) (spots : List Spot) (old : List ℕ) (at : ℕ) (total : Result (Values × ℕ) UnpackFault) → Ascends 2 old → wires_at rows old at (drop at b) ≡ total → Found rows b spots old old at total
 found_first rows b spots old at total asc is = record {
   done = [];
   next = 2;
@@ -143,21 +135,20 @@ found_first rows b spots old at total asc is = record {
     nothing (Ok x) = refl
     nothing (Err e) = refl
 
-pub found_next : (rows : List (Option FieldSpec)) (b spots old ns rest v : List ℕ) (n at body used p : ℕ) (total : Result (Values × ℕ) UnpackFault) → Found rows b spots old ns at total
-    → ns ≡ n ∷ rest → length spots ≡ 129 → body ≡ front_of (row_at rows n) → value_at rows n at (drop at b) ≡ Ok (v, used) → p ≡ spot_of (at + body) (used - body) → body ≤ used → used ≤ 2001 → at + used ≤ length b
+pub found_next : (rows : List (Option FieldSpec)) (b : List ℕ) (spots : List Spot) (old ns rest v : List ℕ) (n at body used : ℕ) (p : Spot) (total : Result (Values × ℕ) UnpackFault) → Found rows b spots old ns at total
+    → ns ≡ n ∷ rest → length spots ≡ 129 → body ≡ front_of (row_at rows n) → value_at rows n at (drop at b) ≡ Ok (v, used) → p ≡ record { start = at + body; end = at + used } → body ≤ used → at + used ≤ length b
     → Found rows b (set spots n p) old rest (at + used) total
-found_next rows b spots old ns rest v n at body used p total h is room front read place inner few end =
+found_next rows b spots old ns rest v n at body used p total h is room front read place inner last =
     let above : Ascends h.next (n ∷ rest) = subst (Ascends h.next) is h.above in
     let below : AreBelow n h.done = below_more h.next n h.done above.0 h.below in
-    let there : get_or (set spots n p) n 0 ≡ p = get_or-set_same spots n p 0 (omega (arith, above.1)) in
-    let len : used - body < 2 ^ 11 = omega arith in
+    let there : spot_at (set spots n p) n ≡ p = get_or-set_same spots n p no_spot (omega (arith, above.1)) in
+    let len : at + used - (at + body) ≡ used - body = omega arith in
     let wire : wire_of b (set spots n p) n ≡ (n, wire_at (row_at rows n) (drop at b) used) =
-    ap (λ (q : ℕ). (n, bytes_at b q)) (there ∙ place) ∙ ap (λ (l : List ℕ). (n, l)) (spot_bytes b (at + body) (used - body) len)
+    ap (λ (q : Spot). (n, bytes_at b q)) (there ∙ place) ∙ ap (λ (k : ℕ). (n, take k (drop (at + body) b))) len
     ∙ ap (λ (l : List ℕ). (n, take (used - body) l)) (sym (drop-drop body at b)) ∙ ap (λ (k : ℕ). (n, take (used - k) (drop k (drop at b)))) front in
     let wires : wires_in b (set spots n p) (h.done ++ n ∷ []) ≡ wires_in b spots h.done ++ (n, wire_at (row_at rows n) (drop at b) used) ∷ [] =
     wires_append b (set spots n p) h.done n ∙ ap (λ (l : Values). l ++ wire_of b (set spots n p) n ∷ []) (wires_stay b spots h.done n p below) ∙ ap (λ (e : ℕ × List ℕ). wires_in b spots h.done ++ e ∷ []) wire in
-    let inside : get_or (set spots n p) n 0 / 2048 + get_or (set spots n p) n 0 % 2048 ≤ length b =
-    subst (λ (q : ℕ). q / 2048 + q % 2048 ≤ length b) (sym (there ∙ place)) (omega (arith, spot_start (at + body) (used - body) len, spot_len (at + body) (used - body) len)) in
+    let inside : IsWithin (length b) (spot_at (set spots n p) n) = subst (IsWithin (length b)) (sym (there ∙ place)) (omega (arith, inner), last) in
     record {
       done = h.done ++ n ∷ [];
       next = n + 1;
@@ -170,15 +161,15 @@ found_next rows b spots old ns rest v n at body used p total h is room front rea
       within = within_append (length b) (set spots n p) h.done n (within_stay (length b) spots h.done n p below h.within) inside;
     }
 
-pub found_all : (rows : List (Option FieldSpec)) (b spots old ns : List ℕ) (at : ℕ) (total : Result (Values × ℕ) UnpackFault) → Found rows b spots old ns at total → ns ≡ [] → (total ≡ Ok (wires_in b spots old, at)) × AreWithin (length b) spots old
+pub found_all : (rows : List (Option FieldSpec)) (b : List ℕ) (spots : List Spot) (old ns : List ℕ) (at : ℕ) (total : Result (Values × ℕ) UnpackFault) → Found rows b spots old ns at total → ns ≡ [] → (total ≡ Ok (wires_in b spots old, at)) × AreWithin (length b) spots old
 found_all rows b spots old ns at total h none =
     let all : h.done ≡ old = sym (append-nil h.done) ∙ ap (λ (l : List ℕ). h.done ++ l) (sym none) ∙ h.numbers in
     (wires_end rows (wires_in b spots h.done) ns at (drop at b) total none h.read ∙ ap (λ (l : List ℕ). Ok (wires_in b spots l, at)) all, subst (AreWithin (length b) spots) all h.within)
 
 -- ---- the body of one element
 
-body_by : (is : Bool) (b spots : List ℕ) (set : ℕ → Bool) (count n k : ℕ) → set n ≡ is → n ≤ k → k < n + suc count → set k ≡ true
-    → (n + 1 ≤ k → k < n + 1 + count → value_in (wires_in b spots (numbers set count (n + 1))) k ≡ Some (bytes_at b (get_or spots k 0))) → value_in (wires_in b spots (numbers set (suc count) n)) k ≡ Some (bytes_at b (get_or spots k 0))
+body_by : (is : Bool) (b : List ℕ) (spots : List Spot) (set : ℕ → Bool) (count n k : ℕ) → set n ≡ is → n ≤ k → k < n + suc count → set k ≡ true
+    → (n + 1 ≤ k → k < n + 1 + count → value_in (wires_in b spots (numbers set count (n + 1))) k ≡ Some (bytes_at b (spot_at spots k))) → value_in (wires_in b spots (numbers set (suc count) n)) k ≡ Some (bytes_at b (spot_at spots k))
 body_by false b spots set count n k is low high here rest =
     elim (cases_eq n k) [
       | inl same ↦ absurd (let both : true ≡ false = sym here ∙ ap set (sym same) ∙ is in cc)
@@ -188,19 +179,19 @@ body_by true b spots set count n k is low high here rest =
     elim (cases_eq n k) [
       | inl same ↦
           let t : eqb n k ≡ true = grind (arith, nat_tests) in
-          ap (λ (l : List ℕ). value_in (wires_in b spots l) k) (one_more set count n is) ∙ cond-true (eqb n k) (Some (bytes_at b (get_or spots n 0))) (value_in (wires_in b spots (numbers set count (n + 1))) k) t
-          ∙ ap (λ (m : ℕ). Some (bytes_at b (get_or spots m 0))) same
+          ap (λ (l : List ℕ). value_in (wires_in b spots l) k) (one_more set count n is) ∙ cond-true (eqb n k) (Some (bytes_at b (spot_at spots n))) (value_in (wires_in b spots (numbers set count (n + 1))) k) t
+          ∙ ap (λ (m : ℕ). Some (bytes_at b (spot_at spots m))) same
       | inr other ↦
           let t : eqb n k ≡ false = grind (arith, nat_tests) in
-          ap (λ (l : List ℕ). value_in (wires_in b spots l) k) (one_more set count n is) ∙ cond-false (eqb n k) (Some (bytes_at b (get_or spots n 0))) (value_in (wires_in b spots (numbers set count (n + 1))) k) t
+          ap (λ (l : List ℕ). value_in (wires_in b spots l) k) (one_more set count n is) ∙ cond-false (eqb n k) (Some (bytes_at b (spot_at spots n))) (value_in (wires_in b spots (numbers set count (n + 1))) k) t
           ∙ rest (omega arith) (omega arith)
     ]
 
-body_there : (b spots : List ℕ) (set : ℕ → Bool) (count n k : ℕ) → n ≤ k → k < n + count → set k ≡ true → value_in (wires_in b spots (numbers set count n)) k ≡ Some (bytes_at b (get_or spots k 0))
+body_there : (b : List ℕ) (spots : List Spot) (set : ℕ → Bool) (count n k : ℕ) → n ≤ k → k < n + count → set k ≡ true → value_in (wires_in b spots (numbers set count n)) k ≡ Some (bytes_at b (spot_at spots k))
 body_there b spots set zero n k low high here = absurd (omega arith)
 body_there b spots set (suc count) n k low high here = body_by (set n) b spots set count n k refl low high here (λ low high. body_there b spots set count (n + 1) k low high here)
 
-none_by : (is : Bool) (b spots : List ℕ) (set : ℕ → Bool) (count n k : ℕ) → set n ≡ is → (n ≤ k → k < n + suc count → set k ≡ true → ⊥)
+none_by : (is : Bool) (b : List ℕ) (spots : List Spot) (set : ℕ → Bool) (count n k : ℕ) → set n ≡ is → (n ≤ k → k < n + suc count → set k ≡ true → ⊥)
     → value_in (wires_in b spots (numbers set count (n + 1))) k ≡ None → value_in (wires_in b spots (numbers set (suc count) n)) k ≡ None
 none_by false b spots set count n k is absent rest = ap (λ (l : List ℕ). value_in (wires_in b spots l) k) (no_more set count n is) ∙ rest
 none_by true b spots set count n k is absent rest =
@@ -208,16 +199,16 @@ none_by true b spots set count n k is absent rest =
       | inl same ↦ absurd (absent (omega arith) (omega arith) (ap set (sym same) ∙ is))
       | inr other ↦
           let t : eqb n k ≡ false = grind (arith, nat_tests) in
-          ap (λ (l : List ℕ). value_in (wires_in b spots l) k) (one_more set count n is) ∙ cond-false (eqb n k) (Some (bytes_at b (get_or spots n 0))) (value_in (wires_in b spots (numbers set count (n + 1))) k) t
+          ap (λ (l : List ℕ). value_in (wires_in b spots l) k) (one_more set count n is) ∙ cond-false (eqb n k) (Some (bytes_at b (spot_at spots n))) (value_in (wires_in b spots (numbers set count (n + 1))) k) t
           ∙ rest
     ]
 
-body_absent : (b spots : List ℕ) (set : ℕ → Bool) (count n k : ℕ) → (n ≤ k → k < n + count → set k ≡ true → ⊥) → value_in (wires_in b spots (numbers set count n)) k ≡ None
+body_absent : (b : List ℕ) (spots : List Spot) (set : ℕ → Bool) (count n k : ℕ) → (n ≤ k → k < n + count → set k ≡ true → ⊥) → value_in (wires_in b spots (numbers set count n)) k ≡ None
 body_absent b spots set zero n k absent = ap (λ (l : List ℕ). value_in (wires_in b spots l) k) (no_numbers set n)
 body_absent b spots set (suc count) n k absent = none_by (set n) b spots set count n k refl absent (body_absent b spots set count (n + 1) k (λ low high. absent (omega arith) (omega arith)))
 
-within_by : (is : Bool) (size : ℕ) (spots : List ℕ) (set : ℕ → Bool) (count n k : ℕ) → set n ≡ is → set k ≡ true → n ≤ k → AreWithin size spots (numbers set (suc count) n)
-    → (n + 1 ≤ k → AreWithin size spots (numbers set count (n + 1)) → get_or spots k 0 / 2048 + get_or spots k 0 % 2048 ≤ size) → get_or spots k 0 / 2048 + get_or spots k 0 % 2048 ≤ size
+within_by : (is : Bool) (size : ℕ) (spots : List Spot) (set : ℕ → Bool) (count n k : ℕ) → set n ≡ is → set k ≡ true → n ≤ k → AreWithin size spots (numbers set (suc count) n)
+    → (n + 1 ≤ k → AreWithin size spots (numbers set count (n + 1)) → IsWithin size (spot_at spots k)) → IsWithin size (spot_at spots k)
 within_by false size spots set count n k is here low h rest =
     elim (cases_eq n k) [
       | inl same ↦ absurd (let both : true ≡ false = sym here ∙ ap set (sym same) ∙ is in cc)
@@ -226,11 +217,11 @@ within_by false size spots set count n k is here low h rest =
 within_by true size spots set count n k is here low h rest =
     let all : AreWithin size spots (n ∷ numbers set count (n + 1)) = subst (AreWithin size spots) (one_more set count n is) h in
     elim (cases_eq n k) [
-      | inl same ↦ subst (λ (m : ℕ). get_or spots m 0 / 2048 + get_or spots m 0 % 2048 ≤ size) same all.0
+      | inl same ↦ subst (λ (m : ℕ). IsWithin size (spot_at spots m)) same all.0
       | inr other ↦ rest (omega arith) all.1
     ]
 
-within_there : (size : ℕ) (spots : List ℕ) (set : ℕ → Bool) (count n k : ℕ) → n ≤ k → k < n + count → set k ≡ true → AreWithin size spots (numbers set count n) → get_or spots k 0 / 2048 + get_or spots k 0 % 2048 ≤ size
+within_there : (size : ℕ) (spots : List Spot) (set : ℕ → Bool) (count n k : ℕ) → n ≤ k → k < n + count → set k ≡ true → AreWithin size spots (numbers set count n) → IsWithin size (spot_at spots k)
 within_there size spots set zero n k low high here h = absurd (omega arith)
 within_there size spots set (suc count) n k low high here h = within_by (set n) size spots set count n k refl here low h (λ low all. within_there size spots set count (n + 1) k low (omega arith) here all)
 
@@ -246,10 +237,10 @@ left_is walk k is =
     let range = and_parts (leb 2 k) (leb k 128) both.0 in
     record { low = leb-true 2 k range.0; high = leb-true k 128 range.1; there = both.1 }
 
-pub left_body : (walk : Numbers) (b spots : List ℕ) (k : ℕ) → is_left walk k ≡ true → value_in (wires_in b spots (left walk)) k ≡ Some (bytes_at b (get_or spots k 0))
+pub left_body : (walk : Numbers) (b : List ℕ) (spots : List Spot) (k : ℕ) → is_left walk k ≡ true → value_in (wires_in b spots (left walk)) k ≡ Some (bytes_at b (spot_at spots k))
 left_body walk b spots k is = let there = left_is walk k is in body_there b spots (in_words walk.first walk.second) 127 2 k there.low (omega (arith, there.high)) there.there
 
-pub left_within : (walk : Numbers) (size : ℕ) (spots : List ℕ) (k : ℕ) → is_left walk k ≡ true → AreWithin size spots (left walk) → get_or spots k 0 / 2048 + get_or spots k 0 % 2048 ≤ size
+pub left_within : (walk : Numbers) (size : ℕ) (spots : List Spot) (k : ℕ) → is_left walk k ≡ true → AreWithin size spots (left walk) → IsWithin size (spot_at spots k)
 left_within walk size spots k is h = let there = left_is walk k is in within_there size spots (in_words walk.first walk.second) 127 2 k there.low (omega (arith, there.high)) there.there h
 
 pub left_few : (walk : Numbers) (k : ℕ) → is_left walk k ≡ true → k ≤ 128
@@ -258,7 +249,7 @@ left_few walk k is = (left_is walk k is).high
 all_three : (x y z : Bool) → x ≡ true → y ≡ true → z ≡ true → (x && y && z) ≡ true
 all_three x y z first second third = rw (first, second, third) refl
 
-pub left_absent : (walk : Numbers) (b spots : List ℕ) (k : ℕ) → is_left walk k ≡ false → value_in (wires_in b spots (left walk)) k ≡ None
+pub left_absent : (walk : Numbers) (b : List ℕ) (spots : List Spot) (k : ℕ) → is_left walk k ≡ false → value_in (wires_in b spots (left walk)) k ≡ None
 left_absent walk b spots k is =
     body_absent b spots (in_words walk.first walk.second) 127 2 k (λ low high there.
     let all : is_left walk k ≡ true = all_three (leb 2 k) (leb k 128) (in_words walk.first walk.second k) (le-leb 2 k low) (le-leb k 128 (omega arith)) there in

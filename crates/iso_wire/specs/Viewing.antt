@@ -1,8 +1,10 @@
 -- A message that is left where it lies: its type, its length, and the bodies of its elements.
-use Rattle.std.specs.Prelude.{◌≡◌, ℕ, ◌+◌, ◌-◌, ◌*◌, ◌/◌, ◌%◌, ◌≤◌, List, [], ◌∷◌, ◌++◌, length, take, drop, map, slice_index, Option, Some, None, Result, Ok, Err}
+use Rattle.std.specs.Prelude.{◌≡◌, ℕ, ◌+◌, ◌-◌, ◌≤◌, List, [], ◌∷◌, ◌++◌, length, take, drop, map, Option, Some, None, Result, Ok, Err}
+use Rattle.std.specs.List.{slice_index_or}
 use Rattle.iso_parts.specs.declared.spec.FieldSpec.{FieldSpec}
 use Rattle.iso_parts.specs.Part.{Body, prefix}
 use Rattle.iso_parts.specs.Reading.{prefix_size}
+use Rattle.iso_wire.specs.declared.bodies.Spot.{Spot}
 use Rattle.iso_wire.specs.declared.fault.UnpackFault.{UnpackFault}
 use Rattle.iso_wire.specs.Contents.{Contents}
 use Rattle.iso_wire.specs.Numbers.{numbers_in}
@@ -16,26 +18,33 @@ pub record Viewed : Type 0 where
   pub used : ℕ
   pub wires : List (ℕ × List ℕ)
 
--- ---- where the bodies lie, four bytes for each element
+-- ---- where the bodies lie, from an offset up to another
 
--- a spot tells an offset and, below it, a length of at most 2,047
-abbrev pub spot_of : ℕ → ℕ → ℕ
-spot_of start len = 2048 * start + len
+abbrev pub bytes_at : List ℕ → Spot → List ℕ
+bytes_at b spot = take (spot.end - spot.start) (drop spot.start b)
 
-abbrev pub bytes_at : List ℕ → ℕ → List ℕ
-bytes_at b spot = take (spot % 2048) (drop (spot / 2048) b)
+abbrev pub no_spot : Spot
+no_spot = record { start = 0; end = 0 }
+
+-- the spot of a number
+abbrev pub spot_at : List Spot → ℕ → Spot
+spot_at spots n = slice_index_or spots n no_spot
 
 -- the bodies that the spots find in bytes for elements with the numbers
-abbrev pub wire_of : List ℕ → List ℕ → ℕ → ℕ × List ℕ
-wire_of b spots n = (n, bytes_at b (slice_index spots n))
+abbrev pub wire_of : List ℕ → List Spot → ℕ → ℕ × List ℕ
+wire_of b spots n = (n, bytes_at b (spot_at spots n))
 
-abbrev pub wires_in : List ℕ → List ℕ → List ℕ → List (ℕ × List ℕ)
+abbrev pub wires_in : List ℕ → List Spot → List ℕ → List (ℕ × List ℕ)
 wires_in b spots ns = map (wire_of b spots) ns
 
--- each of those spots lies within so many bytes
-abbrev pub AreWithin : ℕ → List ℕ → List ℕ → Type 0
+-- a spot lies within so many bytes
+abbrev pub IsWithin : ℕ → Spot → Type 0
+IsWithin size spot = (spot.start ≤ spot.end) × (spot.end ≤ size)
+
+-- each of those spots does
+abbrev pub AreWithin : ℕ → List Spot → List ℕ → Type 0
 AreWithin size spots [] = Unit {0}
-AreWithin size spots (n ∷ ns) = (slice_index spots n / 2048 + slice_index spots n % 2048 ≤ size) × AreWithin size spots ns
+AreWithin size spots (n ∷ ns) = IsWithin size (spot_at spots n) × AreWithin size spots ns
 
 -- ---- reading the bodies
 
@@ -70,7 +79,7 @@ JudgesWire row (Ok x) read = (x.0 ≡ front_of row) × ((value : List ℕ) × (r
 JudgesWire row (Err e) read = read ≡ Err e
 
 -- the spots find the bodies that reading gives
-abbrev pub FindsBodies : List ℕ → List ℕ → List ℕ → Result ℕ UnpackFault → Result (List (ℕ × List ℕ) × ℕ) UnpackFault → Type 0
+abbrev pub FindsBodies : List ℕ → List Spot → List ℕ → Result ℕ UnpackFault → Result (List (ℕ × List ℕ) × ℕ) UnpackFault → Type 0
 FindsBodies b spots ns (Ok end) read = read ≡ Ok (wires_in b spots ns, end)
 FindsBodies b spots ns (Err e) read = read ≡ Err e
 

@@ -1,12 +1,12 @@
 //! A message that lies in the caller's bytes, and where the bodies of its elements lie.
 
-ghost use Rattle.std.specs.Prelude.{◌≡◌, ◌+◌, ◌*◌, ◌/◌, ◌%◌, ◌≤◌, ◌<◌, ◌^◌, drop, length, slice_index, IfOk, MatchOption, None, Some};
+ghost use Rattle.std.specs.Prelude.{◌≡◌, ◌+◌, ◌*◌, ◌≤◌, drop, length, IfOk, MatchOption, None, Some};
 ghost use Rattle.iso_parts.specs.Mti.{number};
 ghost use Rattle.iso_table.specs.Layout.{row_at, AreGood};
 ghost use Rattle.iso_wire.specs.Elements.{value_in};
 ghost use Rattle.iso_wire.specs.Reading.{value_at};
 ghost use Rattle.iso_wire.specs.Walk.{left};
-ghost use Rattle.iso_wire.specs.Viewing.{spot_of, bytes_at, wires_in, AreWithin, wires_at, view_at, JudgesWire, FindsBodies};
+ghost use Rattle.iso_wire.specs.Viewing.{bytes_at, wires_in, IsWithin, AreWithin, wires_at, view_at, JudgesWire, FindsBodies};
 
 use crate::bitmaps::words_of;
 use crate::fault::{UnpackCause, UnpackFault};
@@ -20,23 +20,19 @@ use std::marker::Model;
 /// One spot for each number up to 128.
 const SPOTS: usize = 129;
 
-/// Where a body lies, in four bytes: no message has 2^21 bytes, and no body 2^11.
-fn spot(start: usize, len: usize) -> u32
-    requires early { start < 2 ^ 21 }
-    requires short { len < 2 ^ 11 }
-    ensures { result ≡ spot_of start len }
-{
-    2048 * start as u32 + len as u32
+/// Where a body lies in the bytes: from `start` up to `end`.
+#[derive(Clone, Copy, Debug)]
+struct Spot {
+    start: u32,
+    end: u32,
 }
 
 /// The bytes that lie at a spot.
-fn bytes_at(bytes: &[u8], spot: u32) -> &[u8]
-    requires { spot / 2048 + spot % 2048 ≤ length bytes.now }
+fn bytes_at(bytes: &[u8], spot: Spot) -> &[u8]
+    requires { IsWithin (length bytes.now) spot }
     ensures { result.now ≡ bytes_at bytes.now spot }
 {
-    let (_, rest) = bytes.split_at((spot / 2048) as usize);
-    let (body, _) = rest.split_at((spot % 2048) as usize);
-    body
+    &bytes[spot.start as usize..spot.end as usize]
 }
 
 /// Judges the part of element `n`, which begins at `at`: where its body begins in it, and how many bytes it takes.
@@ -72,7 +68,7 @@ fn find_bodies(
     numbers: Numbers,
     start: usize,
     bytes: &[u8],
-    spots: &mut [u32],
+    spots: &mut [Spot],
 ) -> Result<usize, UnpackFault>
     requires early { start ≤ 36 }
     requires within { start ≤ length bytes.now }
@@ -84,14 +80,17 @@ fn find_bodies(
     let mut at = start;
     while let Some(n) = rest.next() {
         let (body, used) = judge_wire(table, n, at, bytes)?;
-        spots[n as usize] = spot(at + body, used - body);
+        spots[n as usize] = Spot {
+            start: (at + body) as u32,
+            end: (at + used) as u32,
+        };
         at += used;
     }
     Ok(at)
 }
 
 /// The body of an element, if its number is there.
-fn body_of<'a>(numbers: Numbers, spots: &[u32], bytes: &'a [u8], n: u8) -> Option<&'a [u8]>
+fn body_of<'a>(numbers: Numbers, spots: &[Spot], bytes: &'a [u8], n: u8) -> Option<&'a [u8]>
     requires room { length spots.now ≡ 129 }
     requires within { AreWithin (length bytes.now) spots.now (left numbers) }
     ensures { MatchOption result (value_in (wires_in bytes.now spots.now (left numbers)) n ≡ None)
@@ -111,7 +110,7 @@ pub struct View<'a> {
     used: usize,
     bytes: &'a [u8],
     numbers: Numbers,
-    spots: [u32; SPOTS],
+    spots: [Spot; SPOTS],
 }
 
 impl<'a> Model for View<'a> {
@@ -172,7 +171,7 @@ pub fn view_of<'a>(table: &Table, bytes: &'a [u8]) -> Result<View<'a>, UnpackFau
     let (_, rest) = bytes.split_at(size);
     let (first, second, used) = words_of(table, size, rest)?;
     let numbers = Numbers::of(first, second);
-    let mut spots = [0; SPOTS];
+    let mut spots = [Spot { start: 0, end: 0 }; SPOTS];
     let end = find_bodies(table, numbers, size + used, bytes, &mut spots)?;
     Ok(View {
         mti,

@@ -17,7 +17,7 @@ loop-n-preserved c =
     let read = c.in_ok-body.ensures.exact in
     let fewer = ap length c.in-Some.ensures in
     record {
-      found = found_next c.args.table.now.rows c.args.bytes.now l.spots (left c.args.numbers) (left l.rest) (left c.next.new.self) read.1.0 c.in-Some.n l.at c.in_ok-body.body c.in_ok-body.used c.spot.result _ l.invariant.found c.in-Some.ensures l.invariant.spots read.0 read.1.1 c.spot.ensures c.in_ok-body.ensures.room.0 c.in_ok-body.ensures.few c.in_ok-body.ensures.room.1;
+      found = found_next c.args.table.now.rows c.args.bytes.now l.spots (left c.args.numbers) (left l.rest) (left c.next.new.self) read.1.0 c.in-Some.n l.at c.in_ok-body.body c.in_ok-body.used _ _ l.invariant.found c.in-Some.ensures l.invariant.spots read.0 read.1.1 refl c.in_ok-body.ensures.room.0 c.in_ok-body.ensures.room.1;
       room = c.in_ok-body.ensures.room.1;
       few = omega (arith, fewer, l.invariant.few, c.in_ok-body.ensures.few);
       spots = search rules;
