@@ -11,8 +11,8 @@ mod masks;
 mod messages;
 mod pieces;
 mod refusals;
-mod views;
 mod stops;
+mod views;
 
 const ECHO: &[u8] = b"0800822000000000000004000000000000000102030405000001301";
 
