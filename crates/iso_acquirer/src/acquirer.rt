@@ -5,7 +5,9 @@ ghost use Rattle.iso_order.specs.Key.{is_valid_key, same_key};
 ghost use Rattle.iso_order.specs.declared.act.Act.TheVariants.{Debit};
 ghost use Rattle.iso_acquirer.specs.declared.fault.AcqFault.TheVariants.{NoMoreTrace, Memory};
 ghost use Rattle.iso_acquirer.specs.declared.slot.Role.TheVariants.{Transaction};
-ghost use Rattle.iso_acquirer.specs.Slots.{AreNumbered, slot_at, state_by, state_of, may_reverse, to_reverse, on_stage, changed, begun, debit_of, IsFair, IsRequest, reversal_of, reversing, timed_out, timed_out_by, answered_in, stage_after, stage_undone, answered};
+ghost use Rattle.iso_acquirer.specs.Slots.{AreNumbered, slot_at, state_by, state_of, may_reverse, to_reverse, on_stage, changed, begun};
+ghost use Rattle.iso_acquirer.specs.Slots.{debit_of, IsFair, IsRequest, reversal_of, reversing, timed_out, timed_out_by, answered_in};
+ghost use Rattle.iso_acquirer.specs.Slots.{stage_after, stage_undone, answered};
 
 use crate::fault::AcqFault;
 use crate::slot::{Role, Slot, Stage};

@@ -3,7 +3,8 @@
 ghost use Rattle.std.specs.Prelude.{◌≡◌, Option, All, length, ◌<◌, [], OnOk, OnErr, IfErr, slice_get};
 ghost use Rattle.iso_acquirer.specs.declared.fault.StepFault;
 ghost use Rattle.iso_acquirer.specs.Slots.{debit_of, IsFair, answered};
-ghost use Rattle.iso_acquirer.specs.World.{World as Both, IsDelivered, IsNotDelivered, IsTold, IsNotTold, IsOther, IsNotOther, IsBegun, IsNotBegun, IsAsked, IsNotAsked, IsFairEvent, IsMade, IsNotMade, IsStep, IsRan, refused_in};
+ghost use Rattle.iso_acquirer.specs.World.{World as Both, IsDelivered, IsNotDelivered, IsTold, IsNotTold, IsOther, IsNotOther, IsBegun};
+ghost use Rattle.iso_acquirer.specs.World.{IsNotBegun, IsAsked, IsNotAsked, IsFairEvent, IsMade, IsNotMade, IsStep, IsRan, refused_in};
 ghost use Rattle.iso_acquirer.specs.Agreement.{BothAgree, StaysClosed, BooksAgree};
 
 use crate::acquirer::Acquirer;

@@ -7,7 +7,8 @@ ghost use Rattle.std.specs.Prelude.{◌≡◌, ◌≤◌, ◌<◌, ◌+◌, ◌=
 ghost use Rattle.std.specs.BTreeMap as tree;
 ghost use Rattle.std.specs.Ordering.{nat_cmp};
 ghost use Rattle.iso_issuer.specs.Index.{added_by, dropped_of, dropped_by};
-ghost use Rattle.iso_issuer.specs.Journal.{entry_at, undone, left_at, is_nothing, smaller, counts_with, is_completed, is_ended, weight, reversed_by, ended_key, released_by, HasDistinctKeys};
+ghost use Rattle.iso_issuer.specs.Journal.{entry_at, undone, left_at, is_nothing, smaller, counts_with, is_completed, is_ended, weight};
+ghost use Rattle.iso_issuer.specs.Journal.{reversed_by, ended_key, released_by, HasDistinctKeys};
 
 use crate::effect::{Effect, Hold, Side, amount_of, effect_of, ended_by, hold_by};
 use crate::found::{Found, Touched};

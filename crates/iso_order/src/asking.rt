@@ -5,7 +5,8 @@ ghost use Rattle.iso_parts.specs.Mti.{number};
 ghost use Rattle.iso_wire.specs.Decimal.{decimal};
 ghost use Rattle.iso_wire.specs.Elements.{value_in, is_number, IsBelow};
 ghost use Rattle.iso_order.specs.Listing.{entry, elements_at, ascend};
-ghost use Rattle.iso_order.specs.Request.{money_in, processing_code, moved_by, named_by, left_by, acquirer_code, account_number, original_data, replacement_amounts, requested, request, AsksFor, FitsEdition87};
+ghost use Rattle.iso_order.specs.Request.{money_in, processing_code, moved_by, named_by, left_by, acquirer_code, account_number};
+ghost use Rattle.iso_order.specs.Request.{original_data, replacement_amounts, requested, request, AsksFor, FitsEdition87};
 
 use crate::act::{Act, Money};
 use crate::key::TxKey;

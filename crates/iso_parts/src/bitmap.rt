@@ -218,7 +218,8 @@ impl Bitmap {
         // A set that is got is the one that the first bytes spell.
         ensures found { FoundMaps BitmapCoding.Raw bytes.now result }
         // The set that bytes at the front spell is got.
-        ensures only { (two : Bool) (set : ℕ → Bool) (front rest : List ℕ) → set 65 ≡ false → Bitmaps BitmapCoding.Raw two set front → bytes.now ≡ front ++ rest → IsRead set (length front) result }
+        ensures only { (two : Bool) (set : ℕ → Bool) (front rest : List ℕ) → set 65 ≡ false → Bitmaps BitmapCoding.Raw two set front
+            → bytes.now ≡ front ++ rest → IsRead set (length front) result }
         // It has neither number 1, whose bit tells of the second bitmap, nor 0, 65 or one above 128.
         ensures numbers { IfRead result AreElements }
         // Which fault it is, and that bytes are missing.
@@ -233,7 +234,8 @@ impl Bitmap {
         // A set that is got is the one that the first bytes spell.
         ensures found { FoundMaps BitmapCoding.Hex bytes.now result }
         // The set that bytes at the front spell is got.
-        ensures only { (two : Bool) (set : ℕ → Bool) (front rest : List ℕ) → set 65 ≡ false → Bitmaps BitmapCoding.Hex two set front → bytes.now ≡ front ++ rest → IsRead set (length front) result }
+        ensures only { (two : Bool) (set : ℕ → Bool) (front rest : List ℕ) → set 65 ≡ false → Bitmaps BitmapCoding.Hex two set front
+            → bytes.now ≡ front ++ rest → IsRead set (length front) result }
         // It has neither number 1, whose bit tells of the second bitmap, nor 0, 65 or one above 128.
         ensures numbers { IfRead result AreElements }
         // Which fault it is, and that bytes are missing.

@@ -1,6 +1,7 @@
 //! Fields: a value as the part of a message, its length and then its body.
 
-ghost use Rattle.std.specs.Prelude.{IfOk, IfSome, drop, vec_len, ◌≡◌, ◌≢◌, ℕ, List, take, ◌+◌, ◌-◌, ◌≤◌, ◌++◌, ◌↔◌, length, replicate, OnOk, OnErr, IfErr, IsTrue, None, Some};
+ghost use Rattle.std.specs.Prelude.{IfOk, IfSome, drop, vec_len, ◌≡◌, ◌≢◌, ℕ, List, take, ◌+◌, ◌-◌, ◌≤◌, ◌++◌, ◌↔◌, length, replicate};
+ghost use Rattle.std.specs.Prelude.{OnOk, OnErr, IfErr, IsTrue, None, Some};
 ghost use Rattle.iso_parts.specs.declared.fault.FieldFault.TheVariants.{Memory};
 ghost use Rattle.iso_parts.specs.Row.{is_length, refusal, IsGood, Fits};
 ghost use Rattle.iso_parts.specs.Part.{with_pads, padded, plain, plain_part, Part, Keeps};

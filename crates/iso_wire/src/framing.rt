@@ -122,7 +122,8 @@ pub fn unframe<'a>(header: Header, input: &'a [u8]) -> Result<Framed<'a>, FrameF
     // A frame that is got begins the input; more is wanted where neither a frame nor a bad header does.
     ensures front { AnswersFront header input.now result }
     // Each whole frame that begins the input is got.
-    ensures got { (body more : List ℕ) → length body ≤ largest header → input.now ≡ frame_of header body ++ more → IsGot result body (header_size header + length body) }
+    ensures got { (body more : List ℕ) → length body ≤ largest header → input.now ≡ frame_of header body ++ more
+        → IsGot result body (header_size header + length body) }
     ensures bad { IsErrOf result faults.BadDigits ↔ (is_bad_header header input.now ≡ true) }
 {
     let size = header.size();

@@ -37,7 +37,8 @@ pub fn view<'a>(table: &Table, bytes: &'a [u8]) -> Result<View<'a>, UnpackFault>
     // A fault tells where the bytes stop, by their whole pieces, and why,
     ensures stops { IfErr result (λ e. Stops table.now bytes.now e.at e.element e.cause) }
     // and where they stop is told.
-    ensures told { (at element : ℕ) (cause : UnpackCause) → Stops table.now bytes.now at element cause → Views table.now bytes.now result (halt element at cause) }
+    ensures told { (at element : ℕ) (cause : UnpackCause) → Stops table.now bytes.now at element cause
+        → Views table.now bytes.now result (halt element at cause) }
     // A fault comes only where the bytes begin with no spelling,
     ensures refused { IfErr result (λ e. BeginsWithNone table.now bytes.now) }
     // and where a whole piece is bad, no continuation begins with one either.
