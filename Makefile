@@ -2,6 +2,7 @@
 # make test    every test and every stored run, without proofs; the last line is 'N passed, N failed'
 # make build   proves the command and what it stands on, and builds it: crates/iso_cli/out/iso_cli
 # make day     the frames of examples/day.txt through an issuer host, and each answer; builds the command
+# make replay  a host that is killed and started again on the frames that were kept; builds the command
 # make schedule  an acquirer whose answers get lost, and what both ends hold: SCHEDULE=examples/lost-answers.txt
 # make check   proves what changed since the last check
 # make prove   the whole gate: every proof, must-fail edit, test and program, from nothing
@@ -23,7 +24,7 @@ LAST := 22
 ORDERS := 900000
 SIZES := 10000 100000 900000
 
-.PHONY: run test build day schedule check prove memory bench
+.PHONY: run test build day replay schedule check prove memory bench
 
 run:
 	@if $(MAKE) --silent --no-print-directory --question $(COMMAND); then \
@@ -40,6 +41,9 @@ build: $(COMMAND)
 day: $(COMMAND)
 	@$(COMMAND) run ascii87 examples/accounts.json ascii4 < examples/day.txt > $(ANSWERS)
 	@examples/show-answers.sh $(COMMAND) ascii87 ascii4 $(ANSWERS)
+
+replay: $(COMMAND)
+	@examples/replay.sh $(COMMAND)
 
 schedule:
 	@scripts/quick-run.sh iso_schedule $(SCHEDULE)
