@@ -18,7 +18,7 @@ use iso_order::laws::{responses_are_short, responses_are_well_formed, responses_
 use iso_order::{Answer, NoMemory, Order, Verdict, order_of, respond};
 use iso_table::Table;
 use iso_wire::laws::{spelled_once, well_formed};
-use iso_wire::{FrameFault, Header, Message, PackFault, UnpackCause, frame, pack, unpack};
+use iso_wire::{FrameFault, Header, Message, PackFault, UnpackCause, Unpacker, frame, pack};
 use std::alloc::Global;
 
 /// What came of a body.
@@ -34,15 +34,21 @@ pub enum Handled {
 
 /// The message that the whole body is, if it is one.
 #[tactic(auto, unfolding(crate::specs::Asking::message_in))]
-pub fn whole_message(alloc: Global, table: &Table, body: &[u8]) -> Result<Option<Message>, NoMemory>
-    ensures whole { IfOk result (λ message. message ≡ message_in table.now body.now) }
-    ensures read { IfOk result (λ message. IfSome message (λ m. (bytes : List ℕ) × Spelling table.now m bytes)) }
+pub fn whole_message(
+    alloc: Global,
+    unpacker: &mut Unpacker<'_>,
+    body: &[u8],
+) -> Result<Option<Message>, NoMemory>
+    ensures whole { IfOk result (λ message. message ≡ message_in unpacker.old.table body.now) }
+    ensures read { IfOk result (λ message. IfSome message (λ m. (bytes : List ℕ) × Spelling unpacker.old.table m bytes)) }
+    ensures kept { unpacker.new ≡ unpacker.old }
 {
-    match unpack(alloc, table, body) {
+    match unpacker.unpack(alloc, body) {
         Ok((message, used)) => {
             if used == body.len() {
                 Ok(Some(message))
             } else {
+                unpacker.reuse(message);
                 Ok(None)
             }
         }
@@ -170,22 +176,22 @@ pub fn handle_message(
     table: &Table,
     header: Header,
     issuer: &mut Issuer,
-    message: Option<Message>,
+    message: &Option<Message>,
 ) -> Result<Handled, NoMemory>
     requires ready { IsHostReady table.now }
-    requires read { IfSome message (λ m. (bytes : List ℕ) × Spelling table.now m bytes) }
-    ensures handled { IfOk result (Handles table.now header issuer.old message) }
-    ensures entered { OnOk result (issuer.new ≡ entered_by issuer.old message) }
-    ensures memory { OnErr result (EntersOrKeeps table.now header issuer.old issuer.new message) }
+    requires read { IfSome message.now (λ m. (bytes : List ℕ) × Spelling table.now m bytes) }
+    ensures handled { IfOk result (Handles table.now header issuer.old message.now) }
+    ensures entered { OnOk result (issuer.new ≡ entered_by issuer.old message.now) }
+    ensures memory { OnErr result (EntersOrKeeps table.now header issuer.old issuer.new message.now) }
 {
     enters_nothing(issuer);
     let Some(message) = message else {
         return Ok(Handled::Unreadable);
     };
-    let Some(answer) = answer_to(issuer, &message)? else {
+    let Some(answer) = answer_to(issuer, message)? else {
         return Ok(Handled::Silent);
     };
-    has_frame(table, header, &message, &answer);
-    let bytes = answer_frame(alloc, table, header, &message, &answer)?;
+    has_frame(table, header, message, &answer);
+    let bytes = answer_frame(alloc, table, header, message, &answer)?;
     Ok(Handled::Answered(bytes))
 }

@@ -238,7 +238,7 @@ fn read_body<R: Inlet>(
     if window.bytes().len() < size {
         return read_pieces(alloc, table, unpacker, size, window, reader, left);
     }
-    let read = whole_message(alloc, table, &window.bytes()[..size]);
+    let read = whole_message(alloc, unpacker, &window.bytes()[..size]);
     window.pass(size);
     match read {
         Ok(message) => Ok(message),

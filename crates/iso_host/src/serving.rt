@@ -57,18 +57,18 @@ fn answer_message<W: Outlet>(
     table: &Table,
     header: Header,
     issuer: &mut Issuer,
-    message: Option<Message>,
+    message: &Option<Message>,
     writer: &mut W,
     left: &mut u64,
     report: &mut Report,
 ) -> Result<(), ServeFault>
     requires ready { IsHostReady table.now }
-    requires read { IfSome message (λ m. (bytes : List ℕ) × Spelling table.now m bytes) }
-    ensures answered { AnswersInto table.now header issuer.old issuer.new message (W.contents writer.old) (W.contents writer.new) result }
+    requires read { IfSome message.now (λ m. (bytes : List ℕ) × Spelling table.now m bytes) }
+    ensures answered { AnswersInto table.now header issuer.old issuer.new message.now (W.contents writer.old) (W.contents writer.new) result }
     ensures turns { TakesTurns (W.counts writer.old) (W.counts writer.new) left.old left.new }
     ensures spent { SpendsOnWrite (W.counts writer.old) (W.counts writer.new) left.old left.new result }
     ensures flushed { OnOk result (IsFlushed (W.counts writer.old) (W.counts writer.new)) }
-    ensures report { OnOk result (ReportsOneMore report.old report.new (option_map verdict message)) }
+    ensures report { OnOk result (ReportsOneMore report.old report.new (option_map verdict message.now)) }
 {
     let Ok(handled) = handle_message(alloc, table, header, issuer, message) else {
         return Err(ServeFault::Memory);
@@ -152,13 +152,16 @@ pub fn serve<R: Inlet, W: Outlet>(
             table,
             header,
             issuer,
-            message,
+            &message,
             writer,
             &mut left,
             &mut report,
         );
         if let Err(fault) = answered {
             return Err(fault);
+        }
+        if let Some(message) = message {
+            unpacker.reuse(message);
         }
     }
 }

@@ -6,11 +6,13 @@ use Rattle.std.specs.Prelude.{◌≡◌, ◌≢◌, ℕ, ◌+◌, ◌-◌, ◌*�
 use Rattle.iso_parts.specs.declared.prefix.Digits.{Digits}
 use Rattle.iso_parts.specs.declared.prefix.Digits.TheVariants as digits
 use Rattle.iso_parts.specs.declared.bitmap.BitmapCoding.{BitmapCoding}
+use Rattle.iso_parts.specs.declared.mti.Mti.{Mti}
 use Rattle.iso_parts.specs.declared.spec.FieldSpec.{FieldSpec}
 use Rattle.iso_parts.specs.declared.fault.FieldFault.{FieldFault}
 use Rattle.iso_parts.specs.declared.fault.FieldFault.TheVariants as fields
 use Rattle.iso_parts.specs.Class.{is_digit}
 use Rattle.iso_parts.specs.Bits.{map_size}
+use Rattle.iso_parts.specs.Mti.{number}
 use Rattle.iso_parts.specs.BitmapReading.{word_in, top}
 use Rattle.iso_parts.specs.Reading.{Outcome, got, more, fault, prefix_size, part_at}
 use Rattle.iso_wire.specs.declared.fault.UnpackFault.{UnpackFault}
@@ -165,6 +167,11 @@ AppendsPart old new (Err e) read = IsFaultOf e read
 abbrev pub AppendsElement : List (ℕ × List ℕ) → List (ℕ × List ℕ) → ℕ → Result ℕ UnpackFault → Result (List ℕ × ℕ) UnpackFault → Type 0
 AppendsElement old new n (Ok used) read = (value : List ℕ) × (read ≡ Ok (value, used)) × (new ≡ old ++ (n, value) ∷ [])
 AppendsElement old new n (Err e) read = IsFaultOf e read
+
+-- a function read these elements of the message that reading gives, and answers its type and how many bytes it takes
+abbrev pub ReadsInto : List (ℕ × List ℕ) → Result (Mti × ℕ) UnpackFault → Result (Contents × ℕ) UnpackFault → Type 0
+ReadsInto elements (Ok x) read = read ≡ Ok (record { mti = number x.0; elements = elements }, x.1)
+ReadsInto elements (Err e) read = IsFaultOf e read
 
 -- what unpacking answers is what reading gives, unless memory ran out
 abbrev pub Unpacks : Result (Contents × ℕ) UnpackFault → Result (Contents × ℕ) UnpackFault → Type 0

@@ -151,6 +151,18 @@ impl Elements {
         Ok(Elements { values, index })
     }
 
+    /// Drops all elements and makes room for some. The memory that was there is kept, and is enough where it has the room.
+    pub fn start_over(&mut self, elements: usize, bytes: usize) -> Result<(), AllocError>
+        ensures none { views self.new ≡ [] }
+        ensures whole { IsWhole self.new }
+    {
+        self.values.clear();
+        self.index.clear();
+        self.values.reserve(bytes)?;
+        self.index.reserve(elements)?;
+        Ok(())
+    }
+
     /// Finds the place of an element: at once where it stands behind the others.
     fn find(&self, n: u8) -> Place
         requires whole { IsWhole self.now }

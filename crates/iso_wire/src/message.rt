@@ -96,6 +96,13 @@ impl Message {
         Message { mti, elements }
     }
 
+    /// The elements alone, whose memory can hold others.
+    pub(crate) fn into_elements(self) -> Elements
+        ensures { views result ≡ self.elements }
+    {
+        self.elements
+    }
+
     /// The message's type. Takes no memory.
     pub fn mti(&self) -> Mti
         ensures { number result ≡ self.now.mti }

@@ -11,6 +11,7 @@ mod masks;
 mod messages;
 mod pieces;
 mod refusals;
+mod reuse;
 mod stops;
 mod views;
 

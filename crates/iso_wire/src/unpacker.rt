@@ -1,25 +1,29 @@
 //! Reading a message that comes in pieces.
 
-ghost use Rattle.std.specs.Prelude.{ℕ, ◌≡◌, ◌≢◌, ◌≤◌, ◌-◌, ◌++◌, [], take, length, IfOk, None, Some};
+ghost use Rattle.std.specs.Prelude.{ℕ, ◌≡◌, ◌≢◌, ◌≤◌, ◌-◌, ◌++◌, [], take, length, List, IfOk, IfErr, None, Some};
 ghost use Rattle.iso_table.specs.Layout.{AreGood};
 ghost use Rattle.iso_table.specs.Sizes.{max_bytes};
 ghost use Rattle.iso_wire.specs.Feeding.{IsRead, Builds, Feeds, Keeps, IsReadyAfter, Moves, StaysStopped, FoundFed, StopsFed};
 ghost use Rattle.iso_wire.specs.declared.fault.UnpackCause.{UnpackCause};
-ghost use Rattle.iso_wire.specs.Reading.{halt, message_at};
+ghost use Rattle.iso_wire.specs.declared.fault.UnpackCause.TheVariants.{Short, Memory};
+ghost use Rattle.iso_wire.specs.Contents.{Contents};
+ghost use Rattle.iso_wire.specs.Faults.{out_of_memory};
+ghost use Rattle.iso_wire.specs.Reading.{halt, message_at, whole, Unpacks};
 ghost use Rattle.iso_wire.specs.Stops.{Stops};
 ghost use Rattle.iso_wire.specs.ReadingLaws.{IsShort};
 ghost use Rattle.iso_wire.specs.Resuming.{IsResumed};
-ghost use Rattle.iso_wire.specs.Spelling.{AreBytes};
+ghost use Rattle.iso_wire.specs.Spelling.{AreBytes, BeginsWith, BeginsWithNone, IsUnambiguous, Spelling};
 
+use crate::elements::Elements;
 use crate::fault::{UnpackCause, UnpackFault};
 use crate::judging::{Stage, judge_from};
 use crate::laws::{reads_spellings, stops};
 use crate::message::Message;
-use crate::unpacking::message_of;
+use crate::unpacking::{message_of, read_message};
 use iso_table::Table;
 use std::alloc::Global;
-use std::fmt;
 use std::marker::Model;
+use std::{fmt, mem};
 
 /// What is answered to a piece.
 #[derive(Debug, Drop)]
@@ -30,14 +34,15 @@ pub enum Fed {
     Done { message: Message, used: usize },
 }
 
-/// Reads messages that come in pieces of any size. It keeps the bytes of the message so far, and which piece of it isn't
-/// whole: from there it judges on.
+/// Reads messages that come in pieces of any size, or whole. It keeps the bytes of the message so far, and which piece of
+/// it isn't whole: from there it judges on. The memory of a message that was given back serves the next whole one.
 #[derive(Drop)]
 pub struct Unpacker<'t> {
     table: &'t Table,
     taken: Vec<u8>,
     stage: Stage,
     stopped: Option<UnpackFault>,
+    spare: Elements,
 }
 
 impl<'t> Model for Unpacker<'t> {
@@ -206,6 +211,43 @@ fn take(
     take_piece(alloc, table, stage, taken, piece)
 }
 
+/// The message that the bytes begin with, in the memory that is spare.
+fn unpack_into(
+    alloc: Global,
+    table: &Table,
+    spare: &mut Elements,
+    bytes: &[u8],
+) -> Result<(Message, usize), UnpackFault>
+    ensures exact { Unpacks result (message_at table.now bytes.now) }
+    ensures good { AreGood table.now.rows }
+{
+    let (mti, end) = read_message(table, bytes, spare)?;
+    let elements = mem::replace(spare, Elements::new(alloc));
+    Ok((Message::from_elements(mti, elements), end))
+}
+
+/// What [`Unpacker::unpack`] does.
+fn unpack_whole(
+    alloc: Global,
+    table: &Table,
+    spare: &mut Elements,
+    bytes: &[u8],
+) -> Result<(Message, usize), UnpackFault>
+    ensures found { IfOk result (λ x. BeginsWith table.now x.0 x.1 bytes.now) }
+    ensures only { (m : Contents) (front rest : List ℕ) → Spelling table.now m front → bytes.now ≡ front ++ rest → Unpacks result (whole m (length front)) }
+    ensures exact { Unpacks result (message_at table.now bytes.now) }
+    ensures memory { IfErr result (λ e. e.cause ≡ Memory → e ≡ out_of_memory) }
+    ensures stops { IfErr result (λ e. e.cause ≢ Memory → Stops table.now bytes.now e.at e.element e.cause) }
+    ensures told { (at element : ℕ) (cause : UnpackCause) → Stops table.now bytes.now at element cause → Unpacks result (halt element at cause) }
+    ensures refused { IfErr result (λ e. e.cause ≢ Memory → BeginsWithNone table.now bytes.now) }
+    ensures settled { IfErr result (λ e. e.cause ≢ Memory → e.cause ≢ Short → (more : List ℕ) → AreBytes more → BeginsWithNone table.now (bytes.now ++ more)) }
+    ensures one { IsUnambiguous table.now }
+{
+    reads_spellings();
+    stops();
+    unpack_into(alloc, table, spare, bytes)
+}
+
 impl<'t> Unpacker<'t> {
     ghost use Rattle.iso_wire.specs.Feeding.{Feeding};
 
@@ -218,6 +260,7 @@ impl<'t> Unpacker<'t> {
             taken: Vec::new(alloc),
             stage: Stage::Type,
             stopped: None,
+            spare: Elements::new(alloc),
         }
     }
 
@@ -258,6 +301,42 @@ impl<'t> Unpacker<'t> {
                 Err(fault)
             }
         }
+    }
+
+    /// Reads the message that the bytes begin with, as the function `unpack` does, into the memory that was given back,
+    /// where it is enough. What `feed` has taken stays. After a fault the memory is kept for the next message.
+    pub fn unpack(&mut self, alloc: Global, bytes: &[u8]) -> Result<(Message, usize), UnpackFault>
+        // What is read is spelled by the first bytes.
+        ensures found { IfOk result (λ x. BeginsWith self.old.table x.0 x.1 bytes.now) }
+        // What the first bytes spell is read, unless memory runs out.
+        ensures only { (m : Contents) (front rest : List ℕ) → Spelling self.old.table m front → bytes.now ≡ front ++ rest → Unpacks result (whole m (length front)) }
+        // Which fault it is, and where, unless memory ran out,
+        ensures exact { Unpacks result (message_at self.old.table bytes.now) }
+        // and then it tells no place.
+        ensures memory { IfErr result (λ e. e.cause ≡ Memory → e ≡ out_of_memory) }
+        // A fault tells where the bytes stop, by their whole pieces, and why,
+        ensures stops { IfErr result (λ e. e.cause ≢ Memory → Stops self.old.table bytes.now e.at e.element e.cause) }
+        // and where they stop is told, unless memory runs out.
+        ensures told { (at element : ℕ) (cause : UnpackCause) → Stops self.old.table bytes.now at element cause → Unpacks result (halt element at cause) }
+        // A fault comes only where the bytes begin with no spelling,
+        ensures refused { IfErr result (λ e. e.cause ≢ Memory → BeginsWithNone self.old.table bytes.now) }
+        // and where a whole piece is bad, no continuation begins with one either.
+        ensures settled { IfErr result (λ e. e.cause ≢ Memory → e.cause ≢ Short → (more : List ℕ) → AreBytes more
+            → BeginsWithNone self.old.table (bytes.now ++ more)) }
+        // No spelling begins with another, and no bytes spell two messages.
+        ensures one { IsUnambiguous self.old.table }
+        // What `feed` has taken stays, and so does its fault.
+        ensures kept { self.new ≡ self.old }
+    {
+        unpack_whole(alloc, self.table, &mut self.spare, bytes)
+    }
+
+    /// Gives a message's memory back, for the next message that [`Unpacker::unpack`] reads. Takes no memory.
+    pub fn reuse(&mut self, message: Message)
+        // What `feed` has taken stays, and so does its fault.
+        ensures { self.new ≡ self.old }
+    {
+        self.spare = message.into_elements();
     }
 
     /// How many bytes of the current message are taken. Takes no memory.

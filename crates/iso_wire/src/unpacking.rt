@@ -5,10 +5,11 @@ ghost use Rattle.iso_parts.specs.Mti.{number};
 ghost use Rattle.iso_wire.specs.declared.fault.UnpackCause.{UnpackCause};
 ghost use Rattle.iso_wire.specs.declared.fault.UnpackCause.TheVariants.{Short, Memory};
 ghost use Rattle.iso_wire.specs.Contents.{Contents};
+ghost use Rattle.iso_wire.specs.Elements.{IsAscending};
 ghost use Rattle.iso_wire.specs.Entries.{views, IsWhole};
 ghost use Rattle.iso_wire.specs.Faults.{out_of_memory};
 ghost use Rattle.iso_table.specs.Layout.{AreGood};
-ghost use Rattle.iso_wire.specs.Reading.{Gives, AppendsPart, AppendsElement, place_of, value_at, elements_at, four_digits, halt, mti_size};
+ghost use Rattle.iso_wire.specs.Reading.{Gives, ReadsInto, AppendsPart, AppendsElement, place_of, value_at, elements_at, four_digits, halt, mti_size};
 ghost use Rattle.iso_wire.specs.Reading.{mti_of, type_at, message_at, Unpacks, whole};
 ghost use Rattle.iso_wire.specs.Spelling.{Spelling, AreBytes, BeginsWith, BeginsWithNone, IsUnambiguous};
 ghost use Rattle.iso_wire.specs.Stops.{Stops};
@@ -155,35 +156,56 @@ fn append_element(
     Ok(used)
 }
 
-/// The elements with these numbers, whose parts begin at `start`, and the offset behind them. The room for them
-/// is taken once: a part has at most two characters a byte.
-fn elements_of(
-    alloc: Global,
+/// Reads the elements with these numbers, whose parts begin at `start`, in place of the ones that were there, and gives
+/// the offset behind them. The room for them is taken once: a part has at most two characters a byte.
+fn read_elements(
     table: &Table,
     numbers: Numbers,
     start: usize,
     bytes: &[u8],
-) -> Result<(Elements, usize), UnpackFault>
+    elements: &mut Elements,
+) -> Result<usize, UnpackFault>
     requires { start ≤ length bytes.now }
-    ensures exact { Gives (λ x. (views x.0, x.1)) result (elements_at table.now.rows (left numbers) start (drop start bytes.now)) }
-    ensures whole { IfOk result (λ x. IsWhole x.0) }
+    ensures exact { Gives (λ end. (views elements.new, end)) result (elements_at table.now.rows (left numbers) start (drop start bytes.now)) }
+    ensures whole { OnOk result (IsWhole elements.new) }
 {
     let count = numbers.count();
     let room = count
         .saturating_mul(LONGEST_VALUE)
         .min((bytes.len() - start).saturating_mul(2));
-    let mut elements = Elements::with_room(alloc, count, room)?;
+    elements.start_over(count, room)?;
     let mut rest = numbers;
     let mut at = start;
     while let Some(n) = rest.next() {
-        let used = append_element(table, n, at, bytes, &mut elements)?;
+        let used = append_element(table, n, at, bytes, elements)?;
         at += used;
     }
-    Ok((elements, at))
+    Ok(at)
+}
+
+/// Reads the message that the bytes begin with: its type, its elements in place of the ones that were there, and how
+/// many bytes it takes.
+#[tactic(auto, unfolding(crate::specs::Reading::message_at))]
+pub(crate) fn read_message(
+    table: &Table,
+    bytes: &[u8],
+    elements: &mut Elements,
+) -> Result<(Mti, usize), UnpackFault>
+    ensures exact { ReadsInto (views elements.new) result (message_at table.now bytes.now) }
+    ensures whole { OnOk result (IsWhole elements.new) }
+    ensures ascending { OnOk result (IsAscending 2 (views elements.new)) }
+    ensures good { AreGood table.now.rows }
+{
+    let mti = type_of(table, bytes)?;
+    let size = mti_size(table.mti());
+    let (_, rest) = bytes.split_at(size);
+    let (first, second, used) = words_of(table, size, rest)?;
+    let numbers = Numbers::of(first, second);
+    let end = read_elements(table, numbers, size + used, bytes, elements)?;
+    Ok((mti, end))
 }
 
 /// The message that the bytes begin with, and how many bytes it takes.
-#[tactic(auto, unfolding(crate::specs::Reading::message_at))]
 pub(crate) fn message_of(
     alloc: Global,
     table: &Table,
@@ -192,12 +214,8 @@ pub(crate) fn message_of(
     ensures exact { Unpacks result (message_at table.now bytes.now) }
     ensures good { AreGood table.now.rows }
 {
-    let mti = type_of(table, bytes)?;
-    let size = mti_size(table.mti());
-    let (_, rest) = bytes.split_at(size);
-    let (first, second, used) = words_of(table, size, rest)?;
-    let numbers = Numbers::of(first, second);
-    let (elements, end) = elements_of(alloc, table, numbers, size + used, bytes)?;
+    let mut elements = Elements::new(alloc);
+    let (mti, end) = read_message(table, bytes, &mut elements)?;
     Ok((Message::from_elements(mti, elements), end))
 }
 

@@ -1,4 +1,4 @@
-use Rattle.std.proofs.Common.{[], refl, arith, inr}
+use Rattle.std.proofs.Common.{[], refl, ◌∙◌, arith, inr}
 use Rattle.iso_host.proofs.ServeLemmas.{served_none, going_more, running_write, running_read, stop_at, stop_inside, ends_whole}
 use Rattle.iso_host.proofs.StreamLemmas.{flushed_more}
 use Rattle.iso_host.proofs.serving.serve.Goals as goal
@@ -40,6 +40,19 @@ frames-preserved g c =
     let e = c.in_default.ensures in
     record {
       held = read.held;
+      going = going_more c.firsts_go_on.ensures _ _ _ _ _ _ _ _ _ _ _ _ _ _ c.frames.invariant.going frame.1 frame.2 (rw frame.3 at e.answered) (rw frame.3 at e.report);
+      running = running_write _ _ _ _ _ _ _ _ (running_read _ _ _ _ _ _ _ _ c.frames.invariant.running read.turns drawn.spends) e.turns e.spent;
+      flushed = flushed_more _ _ _ c.frames.invariant.flushed e.flushed;
+    }
+
+pub frames-preserved-in-Some : goal.frames-preserved-in-Some
+frames-preserved-in-Some g c =
+    let read = c.in-Ok-Body.ensures in
+    let frame = rw c.in-Ok-Body.field-0-is at read.bytes in
+    let drawn = rw c.in-Ok-Body.field-0-is at read.spent in
+    let e = c.in_default.ensures in
+    record {
+      held = c.reuse.ensures ∙ read.held;
       going = going_more c.firsts_go_on.ensures _ _ _ _ _ _ _ _ _ _ _ _ _ _ c.frames.invariant.going frame.1 frame.2 (rw frame.3 at e.answered) (rw frame.3 at e.report);
       running = running_write _ _ _ _ _ _ _ _ (running_read _ _ _ _ _ _ _ _ c.frames.invariant.running read.turns drawn.spends) e.turns e.spent;
       flushed = flushed_more _ _ _ c.frames.invariant.flushed e.flushed;

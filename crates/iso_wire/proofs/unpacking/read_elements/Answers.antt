@@ -3,7 +3,7 @@ use Rattle.std.proofs.lemmas.List.{drop-drop}
 use Rattle.iso_wire.specs.Entries.{views}
 use Rattle.iso_wire.specs.Walk.{left}
 use Rattle.iso_wire.proofs.Loop.{goes_on}
-use Rattle.iso_wire.proofs.unpacking.elements_of.Goals as goal
+use Rattle.iso_wire.proofs.unpacking.read_elements.Goals as goal
 
 pub loop-n-preserved : goal.loop-n-preserved
 loop-n-preserved c =

@@ -3,7 +3,7 @@ use Rattle.iso_wire.specs.Entries.{views, IsWhole}
 use Rattle.iso_wire.specs.Reading.{elements_at}
 use Rattle.iso_wire.specs.Walk.{left}
 use Rattle.iso_wire.proofs.Loop.{with_front}
-use Rattle.iso_wire.proofs.unpacking.elements_of.Given as goal
+use Rattle.iso_wire.proofs.unpacking.read_elements.Given as goal
 
 abbrev pub invariant-loop-n : goal.invariant-loop-n
 invariant-loop-n l = record {
