@@ -70,8 +70,9 @@ number_fault : (p : List ℕ) (e : FieldFault) → number_of p ≡ Err e → IsL
 number_fault [] e is = let same : BadLengthDigits ≡ e = cc in subst IsLengthFault same tt
 number_fault (h ∷ []) e is = let same : BadLengthDigits ≡ e = cc in subst IsLengthFault same tt
 number_fault (h ∷ t ∷ []) e is = let same : BadLengthDigits ≡ e = cc in subst IsLengthFault same tt
-number_fault (h ∷ t ∷ o ∷ []) e is = digits_fault (is_digit h && is_digit t && is_digit o) (100 * (h - 48) + 10 * (t - 48) + (o - 48)) e is
-number_fault (h ∷ t ∷ o ∷ x ∷ rest) e is = let same : BadLengthDigits ≡ e = cc in subst IsLengthFault same tt
+number_fault (h ∷ t ∷ o ∷ []) e is = let same : BadLengthDigits ≡ e = cc in subst IsLengthFault same tt
+number_fault (k ∷ h ∷ t ∷ o ∷ []) e is = digits_fault (is_digit k && is_digit h && is_digit t && is_digit o) (1000 * (k - 48) + 100 * (h - 48) + 10 * (t - 48) + (o - 48)) e is
+number_fault (k ∷ h ∷ t ∷ o ∷ x ∷ rest) e is = let same : BadLengthDigits ≡ e = cc in subst IsLengthFault same tt
 
 zero_fault : (t : Bool) (p : List ℕ) (e : FieldFault) → cond t (number_of p) (Err BadLengthDigits) ≡ Err e → IsLengthFault e
 zero_fault true p e is = number_fault p e is
@@ -79,11 +80,13 @@ zero_fault false p e is = let same : BadLengthDigits ≡ e = cc in subst IsLengt
 
 count_fault : (k : Length) (max : ℕ) (p : List ℕ) (e : FieldFault) → count_of k max p ≡ Err e → IsLengthFault e
 count_fault lengths.Fixed max p e is = absurd cc
-count_fault (lengths.LL digits.Ascii) max p e is = number_fault (48 ∷ p) e is
-count_fault (lengths.LL digits.Bcd) max p e is = number_fault (48 ∷ characters p) e is
-count_fault (lengths.LLL digits.Ascii) max p e is = number_fault p e is
+count_fault (lengths.LL digits.Ascii) max p e is = number_fault (48 ∷ 48 ∷ p) e is
+count_fault (lengths.LL digits.Bcd) max p e is = number_fault (48 ∷ 48 ∷ characters p) e is
+count_fault (lengths.LLL digits.Ascii) max p e is = number_fault (48 ∷ p) e is
+count_fault (lengths.LLLL digits.Ascii) max p e is = number_fault p e is
+count_fault (lengths.LLLL digits.Bcd) max p e is = number_fault (characters p) e is
 count_fault (lengths.LLL digits.Bcd) max [] e is = let same : BadLengthDigits ≡ e = cc in subst IsLengthFault same tt
-count_fault (lengths.LLL digits.Bcd) max (x ∷ p) e is = zero_fault (eqb (48 + x / 16) 48) ((48 + x % 16) ∷ characters p) e is
+count_fault (lengths.LLL digits.Bcd) max (x ∷ p) e is = zero_fault (eqb (48 + x / 16) 48) (characters (x ∷ p)) e is
 
 prefix_fault : (max : ℕ) (r : Result ℕ FieldFault) (e : FieldFault) → ((f : FieldFault) → r ≡ Err f → IsLengthFault f) → (r >>= up_to_max max) ≡ Err e → IsLengthFault e
 prefix_fault max (Ok n) e of_count is = over_fault (ltb max n) n e is

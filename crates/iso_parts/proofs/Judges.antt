@@ -1,7 +1,8 @@
 -- Judging a body, and what is judged good is a part.
-use Rattle.std.proofs.Common.{◌≡◌, ℕ, ◌+◌, ◌*◌, ◌%◌, ◌≤◌, ◌<◌, Bool, true, false, cond, ltb, List, [], ◌∷◌, length, take, drop, get_or, Some, None, Result, Ok, Err, refl, ap, subst, ◌∙◌, arith}
+use Rattle.std.proofs.Common.{◌≡◌, ◌≢◌, ℕ, zero, suc, ◌+◌, ◌*◌, ◌/◌, ◌%◌, ◌≤◌, ◌<◌, Bool, true, false, cond, ltb, List, [], ◌∷◌, length, take, drop, get_or, Some, None, Result, Ok, Err, refl, ap, subst, ◌∙◌, arith}
 use Rattle.std.specs.List.{list_all}
-use Rattle.std.proofs.lemmas.Bool.{cond-true, cond-false, ltb-true, ltb-false, lt-ltb, le-ltb}
+use Rattle.std.proofs.lemmas.Bool.Decides.{nat_tests}
+use Rattle.std.proofs.lemmas.Bool.{and_parts, cond-true, cond-false, ltb-true, ltb-false, lt-ltb, le-ltb}
 use Rattle.std.proofs.lemmas.List.{length-drop}
 use Rattle.std.proofs.lemmas.List.Sums.{AllPass-from_list_all, list_all-from_AllPass}
 use Rattle.hex.specs.Hex.{decode_of, is_hex_digit}
@@ -18,11 +19,12 @@ use Rattle.iso_parts.specs.declared.fault.FieldFault.{FieldFault}
 use Rattle.iso_parts.specs.declared.fault.FieldFault.TheVariants.{BadHex, NotInClass}
 use Rattle.iso_parts.specs.declared.judging.Judged.{Judged}
 use Rattle.iso_parts.specs.declared.judging.Judged.TheVariants as judgements
-use Rattle.iso_parts.specs.Class.{is_digit, is_in_class}
+use Rattle.iso_parts.specs.Class.{is_digit, is_within, is_in_class}
 use Rattle.iso_parts.specs.Row.{IsGood, is_coded}
-use Rattle.iso_parts.specs.Part.{Part}
+use Rattle.iso_parts.specs.Part.{characters, Part}
 use Rattle.iso_parts.specs.Reading.{◌>>=◌, or_bad_hex, text_of, unpadded, value_of, body_of, prefix_size, prefix_of, body_size, some_count, count_at, some_size, size_at, got, more, fault, at_prefix, at_body, part_at, Judges, IfJudged}
 use Rattle.iso_parts.proofs.Takes.{part_takes}
+use Rattle.iso_parts.proofs.Texts.{has_nibbles}
 
 -- characters that are in the class without their padding
 pub value_is : (s : FieldSpec) (w : List ℕ) → is_in_class s.class (unpadded s.pad w) ≡ true → value_of s w ≡ Ok (unpadded s.pad w)
@@ -41,6 +43,47 @@ digits_judged s w is none h = value_is s w (class_of_digits s.class s.pad w is n
 
 pub digits_refused : (s : FieldSpec) (w : List ℕ) → s.class ≡ classes.N → s.pad ≡ pads.None → list_all is_digit w ≡ false → value_of s w ≡ Err NotInClass
 digits_refused s w is none h = ap (λ (t : Bool). cond t (Ok (unpadded s.pad w)) (Err NotInClass)) (class_of_digits s.class s.pad w is none ∙ h)
+
+-- ---- packed characters of any nibble
+
+class_of_packed : (c : CharClass) → is_coded codings.Bcd c ≡ true → c ≢ classes.N → c ≡ classes.Z
+class_of_packed classes.Z h other = refl
+class_of_packed classes.N h other = absurd (other refl)
+class_of_packed classes.A h other = absurd cc
+class_of_packed classes.AN h other = absurd cc
+class_of_packed classes.ANS h other = absurd cc
+class_of_packed classes.ZD h other = absurd cc
+class_of_packed classes.XN h other = absurd cc
+class_of_packed classes.B h other = absurd cc
+
+nibble_within : (a : ℕ) → a < 16 → is_within 48 63 (48 + a) ≡ true
+nibble_within a small = grind (arith, nat_tests)
+
+characters_nibbles : (b : List ℕ) → ((i : ℕ) → get_or b i 0 < 256) → has_nibbles (characters b) ≡ true
+characters_nibbles [] bytes = refl
+characters_nibbles (x ∷ xs) bytes =
+    let byte : x < 256 = bytes 0 in
+    rw (nibble_within (x / 16) (omega arith), nibble_within (x % 16) (omega arith)) (characters_nibbles xs (λ i. bytes (suc i)))
+
+nibbles_behind : (n : ℕ) (w : List ℕ) → has_nibbles w ≡ true → has_nibbles (drop n w) ≡ true
+nibbles_behind zero w all = all
+nibbles_behind (suc n) [] all = refl
+nibbles_behind (suc n) (x ∷ xs) all = nibbles_behind n xs (and_parts (is_within 48 63 x) (has_nibbles xs) all).1
+
+nibbles_in_class : (w : List ℕ) → has_nibbles w ≡ true → is_in_class classes.Z w ≡ true
+nibbles_in_class [] all = refl
+nibbles_in_class (x ∷ xs) all = all
+
+-- without padding any nibbles are a value
+pub any_packed : (s : FieldSpec) (n : ℕ) (b : List ℕ) → IsGood s → s.coding ≡ codings.Bcd → s.class ≢ classes.N → s.pad ≡ pads.None → ((i : ℕ) → get_or b i 0 < 256)
+    → value_of s (drop n (characters b)) ≡ Ok (unpadded s.pad (drop n (characters b)))
+any_packed s n b good coded other none bytes =
+    let w : List ℕ = drop n (characters b) in
+    let is : s.class ≡ classes.Z = class_of_packed s.class (subst (λ (c : Coding). is_coded c s.class ≡ true) coded good.coding) other in
+    value_is s w (
+    ap (λ (c : CharClass). is_in_class c (unpadded s.pad w)) is
+    ∙ ap (λ (p : Pad). is_in_class classes.Z (unpadded p w)) none
+    ∙ nibbles_in_class w (nibbles_behind n (characters b) (characters_nibbles b bytes)))
 
 -- ---- hexadecimal digits
 

@@ -20,6 +20,8 @@ length-prefix (lengths.LL digits.Ascii) n = refl
 length-prefix (lengths.LL digits.Bcd) n = refl
 length-prefix (lengths.LLL digits.Ascii) n = refl
 length-prefix (lengths.LLL digits.Bcd) n = refl
+length-prefix (lengths.LLLL digits.Ascii) n = refl
+length-prefix (lengths.LLLL digits.Bcd) n = refl
 
 -- ---- what is a part is read
 

@@ -14,11 +14,12 @@ use Rattle.iso_parts.specs.declared.fault.FieldFault.{FieldFault}
 use Rattle.iso_parts.specs.declared.fault.FieldFault.TheVariants as faults
 use Rattle.iso_parts.specs.Class.{is_in_class}
 use Rattle.iso_parts.specs.Part.{characters, prefix}
+use Rattle.iso_parts.specs.Row.{limit}
 use Rattle.iso_parts.specs.PieceLaws.{PieceLaws}
 use Rattle.iso_parts.specs.Pieces.{TellsCount, IsCount, IsText, IsBadCount, IsBadBody}
 use Rattle.iso_parts.specs.Reading.{◌>>=◌, prefix_size, number_of, count_of, prefix_of, body_size, behind_filler, or_bad_hex, text_of, unpadded, value_of, body_of}
 use Rattle.iso_parts.proofs.Pads.{unpadded-with_pads, IsUnpadded-unpadded}
-use Rattle.iso_parts.proofs.Prefixes.{number_takes, count_again, count_takes}
+use Rattle.iso_parts.proofs.Prefixes.{count_again, count_takes}
 use Rattle.iso_parts.proofs.Texts.{text_again, text_takes}
 
 abbrev AreBytes : List ℕ → Type 0
@@ -30,27 +31,17 @@ count_told : (k : Length) (max c : ℕ) (p : List ℕ) → TellsCount k max c p 
 count_told lengths.Fixed max c p told = ap Ok (sym told.1)
 count_told (lengths.LL d) max c p told = ap (count_of (lengths.LL d) max) told.1 ∙ count_again (lengths.LL d) max c told.0 (λ e. absurd cc)
 count_told (lengths.LLL d) max c p told = ap (count_of (lengths.LLL d) max) told.1 ∙ count_again (lengths.LLL d) max c told.0 (λ e. absurd cc)
-
-two_digits : (max n : ℕ) (p : List ℕ) → length p ≡ 2 → count_of (lengths.LL digits.Ascii) max p ≡ Ok n → n ≤ 99
-two_digits max n (t ∷ o ∷ []) len h = let d = number_takes 48 t o n h in omega arith
-two_digits max n [] len h = absurd (omega arith)
-two_digits max n (t ∷ []) len h = absurd (omega arith)
-two_digits max n (t ∷ o ∷ x ∷ p) len h = absurd (omega arith)
-
-one_byte : (max n : ℕ) (p : List ℕ) → length p ≡ 1 → count_of (lengths.LL digits.Bcd) max p ≡ Ok n → n ≤ 99
-one_byte max n (x ∷ []) len h = let d = number_takes 48 (48 + x / 16) (48 + x % 16) n h in omega arith
-one_byte max n [] len h = absurd (omega arith)
-one_byte max n (x ∷ y ∷ p) len h = absurd (omega arith)
+count_told (lengths.LLLL d) max c p told = ap (count_of (lengths.LLLL d) max) told.1 ∙ count_again (lengths.LLLL d) max c told.0 (λ e. absurd cc)
 
 -- the maximum is looked at only where the length is fixed
-not_fixed : (k : Length) (max n : ℕ) (p : List ℕ) → (k ≡ lengths.Fixed → ⊥) → length p ≡ prefix_size k → AreBytes p → count_of k max p ≡ Ok n → (n < 1000) × (p ≡ prefix k n)
+not_fixed : (k : Length) (max n : ℕ) (p : List ℕ) → (k ≡ lengths.Fixed → ⊥) → length p ≡ prefix_size k → AreBytes p → count_of k max p ≡ Ok n → (n ≤ limit k) × (p ≡ prefix k n)
 not_fixed k max n p other len bytes h = let d = count_takes k max n p (λ e. absurd (other e)) len bytes h in (d.small, d.bytes)
 
 count_tells : (k : Length) (max n : ℕ) (p : List ℕ) → length p ≡ prefix_size k → AreBytes p → count_of k max p ≡ Ok n → TellsCount k max n p
 count_tells lengths.Fixed max n p len bytes h = let same : max ≡ n = cc in (nil_from_length p len, sym same)
-count_tells (lengths.LL digits.Ascii) max n p len bytes h = (two_digits max n p len h, (not_fixed (lengths.LL digits.Ascii) max n p (λ e. absurd cc) len bytes h).1)
-count_tells (lengths.LL digits.Bcd) max n p len bytes h = (one_byte max n p len h, (not_fixed (lengths.LL digits.Bcd) max n p (λ e. absurd cc) len bytes h).1)
-count_tells (lengths.LLL d) max n p len bytes h = let got = not_fixed (lengths.LLL d) max n p (λ e. absurd cc) len bytes h in (omega (arith, got.0), got.1)
+count_tells (lengths.LL d) max n p len bytes h = not_fixed (lengths.LL d) max n p (λ e. absurd cc) len bytes h
+count_tells (lengths.LLL d) max n p len bytes h = not_fixed (lengths.LLL d) max n p (λ e. absurd cc) len bytes h
+count_tells (lengths.LLLL d) max n p len bytes h = not_fixed (lengths.LLLL d) max n p (λ e. absurd cc) len bytes h
 
 -- ---- a length that is refused
 
@@ -62,8 +53,9 @@ number_err : (l : List ℕ) (e : FieldFault) → number_of l ≡ Err e → fault
 number_err [] e h = cc
 number_err (a ∷ []) e h = cc
 number_err (a ∷ b ∷ []) e h = cc
-number_err (a ∷ b ∷ c ∷ []) e h = (chosen_err _ _ e _ h).1
-number_err (a ∷ b ∷ c ∷ d ∷ l) e h = cc
+number_err (a ∷ b ∷ c ∷ []) e h = cc
+number_err (a ∷ b ∷ c ∷ d ∷ []) e h = (chosen_err _ _ e _ h).1
+number_err (a ∷ b ∷ c ∷ d ∷ f ∷ l) e h = cc
 
 after_zero_err : (b : Bool) (l : List ℕ) (e : FieldFault) → cond b (number_of l) (Err faults.BadLengthDigits) ≡ Err e → faults.BadLengthDigits ≡ e
 after_zero_err true l e h = number_err l e h
@@ -71,11 +63,13 @@ after_zero_err false l e h = cc
 
 count_err : (k : Length) (max : ℕ) (p : List ℕ) (e : FieldFault) → count_of k max p ≡ Err e → faults.BadLengthDigits ≡ e
 count_err lengths.Fixed max p e h = absurd cc
-count_err (lengths.LL digits.Ascii) max p e h = number_err (48 ∷ p) e h
-count_err (lengths.LL digits.Bcd) max p e h = number_err (48 ∷ characters p) e h
-count_err (lengths.LLL digits.Ascii) max p e h = number_err p e h
+count_err (lengths.LL digits.Ascii) max p e h = number_err (48 ∷ 48 ∷ p) e h
+count_err (lengths.LL digits.Bcd) max p e h = number_err (48 ∷ 48 ∷ characters p) e h
+count_err (lengths.LLL digits.Ascii) max p e h = number_err (48 ∷ p) e h
+count_err (lengths.LLLL digits.Ascii) max p e h = number_err p e h
+count_err (lengths.LLLL digits.Bcd) max p e h = number_err (characters p) e h
 count_err (lengths.LLL digits.Bcd) max [] e h = cc
-count_err (lengths.LLL digits.Bcd) max (x ∷ p) e h = after_zero_err (eqb (48 + x / 16) 48) ((48 + x % 16) ∷ characters p) e h
+count_err (lengths.LLL digits.Bcd) max (x ∷ p) e h = after_zero_err (eqb (48 + x / 16) 48) (characters (x ∷ p)) e h
 
 abbrev within : FieldSpec → ℕ → Result ℕ FieldFault
 within s n = cond (ltb s.max n) (Err faults.LengthOver) (Ok n)

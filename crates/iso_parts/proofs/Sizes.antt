@@ -22,7 +22,7 @@ use Rattle.iso_parts.specs.Row.{is_exact, Fits}
 
 -- ---- a part
 
-length-pairs : (w : List ℕ) → length (pairs w) ≤ length w
+length-pairs : (w : List ℕ) → 2 * length (pairs w) ≤ length w
 length-pairs [] = omega arith
 length-pairs (h ∷ []) = omega arith
 length-pairs (h ∷ l ∷ rest) = let shorter = length-pairs rest in omega arith
@@ -31,7 +31,7 @@ filled_by : (t : Bool) (w : List ℕ) → length (if t then 48 ∷ w else w) ≤
 filled_by true w = omega arith
 filled_by false w = omega arith
 
-plain_most : (c : Coding) (w : List ℕ) → length (plain c w) ≤ 2 * length w + 1
+plain_most : (c : Coding) (w : List ℕ) → length (plain c w) ≤ 2 * length w
 plain_most codings.Ascii w = omega arith
 plain_most codings.Raw w = omega arith
 plain_most codings.Bcd w =
@@ -40,14 +40,16 @@ plain_most codings.Bcd w =
     omega arith
 plain_most codings.HexText w = omega (arith, length-encode_with upper_digits w)
 
-prefix_most : (l : Length) (n : ℕ) → length (prefix l n) ≤ 3
+prefix_most : (l : Length) (n : ℕ) → length (prefix l n) ≤ 4
 prefix_most lengths.Fixed n = omega arith
 prefix_most (lengths.LL digits.Ascii) n = omega arith
 prefix_most (lengths.LL digits.Bcd) n = omega arith
 prefix_most (lengths.LLL digits.Ascii) n = omega arith
 prefix_most (lengths.LLL digits.Bcd) n = omega arith
+prefix_most (lengths.LLLL digits.Ascii) n = omega arith
+prefix_most (lengths.LLLL digits.Bcd) n = omega arith
 
--- at most three bytes for the length, two for each character, and a filler
+-- at most four bytes for the length, and two for each character
 pub plain_part_most : (s : FieldSpec) (v : List ℕ) → length (plain_part s v) ≤ 2 * length (padded s v) + 4
 plain_part_most s v =
     let front = prefix_most s.length (length v) in

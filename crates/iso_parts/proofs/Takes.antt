@@ -14,7 +14,7 @@ use Rattle.iso_parts.specs.declared.fault.FieldFault.TheVariants.{LengthOver, No
 use Rattle.iso_parts.specs.declared.field.Step.{Step}
 use Rattle.iso_parts.specs.declared.field.Step.TheVariants as steps
 use Rattle.iso_parts.specs.Class.{is_in_class}
-use Rattle.iso_parts.specs.Row.{IsGood, Fits, limit, is_exact, is_good_pad}
+use Rattle.iso_parts.specs.Row.{IsGood, Fits, is_exact, is_good_pad}
 use Rattle.iso_parts.specs.Part.{padded, with_pads, prefix, Part, Stands}
 use Rattle.iso_parts.specs.Reading.{◌>>=◌, prefix_size, prefix_of, count_of, body_size, text_of, unpadded, value_of, body_of, Outcome, got, more, at_body, at_prefix, part_at, Reads, IfGot}
 use Rattle.iso_parts.proofs.Pads.{IsUnpadded, IsUnpadded-unpadded}
@@ -50,6 +50,7 @@ fixed_count : (k : Length) (max m : ℕ) (p : List ℕ) → k ≡ lengths.Fixed 
 fixed_count lengths.Fixed max m p fixed e = sym cc
 fixed_count (lengths.LL d) max m p fixed e = absurd cc
 fixed_count (lengths.LLL d) max m p fixed e = absurd cc
+fixed_count (lengths.LLLL d) max m p fixed e = absurd cc
 
 -- what is filled up again, by the kind of padding
 refilled : (s : FieldSpec) (pad : Pad) (w v : List ℕ) → is_good_pad s pad ≡ true → (s.length ≡ lengths.Fixed → length w ≡ s.max) → IsUnpadded pad w v → with_pads pad (s.max - length v) v ≡ w
@@ -68,6 +69,7 @@ length_fits lengths.Fixed (pads.Left p) max w v le full un = let lt : length v �
 length_fits lengths.Fixed (pads.Right p) max w v le full un = let lt : length v ≤ max = omega (arith, un.shorter) in grind (arith, nat_tests)
 length_fits (lengths.LL d) pad max w v le full un = let lt : length v ≤ max = omega (arith, un.shorter) in grind (arith, nat_tests)
 length_fits (lengths.LLL d) pad max w v le full un = let lt : length v ≤ max = omega (arith, un.shorter) in grind (arith, nat_tests)
+length_fits (lengths.LLLL d) pad max w v le full un = let lt : length v ≤ max = omega (arith, un.shorter) in grind (arith, nat_tests)
 
 -- what a body of the right size tells
 record Tells (s : FieldSpec) (m : ℕ) (body v : List ℕ) : Type 0 where
@@ -94,11 +96,6 @@ body_takes s m body v good le full len e =
 
 -- ---- the whole part
 
-limit_small : (k : Length) → limit k ≤ 999
-limit_small lengths.Fixed = omega arith
-limit_small (lengths.LL d) = omega arith
-limit_small (lengths.LLL d) = omega arith
-
 bytes_take : (n : ℕ) (b : List ℕ) → ((i : ℕ) → get_or b i 0 < 256) → (i : ℕ) → get_or (take n b) i 0 < 256
 bytes_take n b h i =
     elim (cases_lt i n) [
@@ -111,8 +108,7 @@ prefix_takes s m p good len fits e =
     let read = bind_ok (count_of s.length s.max p) (λ n. cond (ltb s.max n) (Err LengthOver) (Ok n)) m e in
     let kept = refused_over (ltb s.max read.0) LengthOver read.0 m read.2 in
     let counted : count_of s.length s.max p ≡ Ok m = read.1 ∙ ap Ok kept.1 in
-    let small : s.length ≡ lengths.Fixed → s.max < 1000 = λ fixed. omega (arith, max_small s good, limit_small s.length) in
-    (omega (arith, ltb-false s.max read.0 kept.0, kept.1), λ fixed. fixed_count s.length s.max m p fixed counted, (count_takes s.length s.max m p small len fits counted).bytes)
+    (omega (arith, ltb-false s.max read.0 kept.0, kept.1), λ fixed. fixed_count s.length s.max m p fixed counted, (count_takes s.length s.max m p (λ fixed. max_small s good) len fits counted).bytes)
 
 pub part_takes : (s : FieldSpec) (b v : List ℕ) (n : ℕ) → IsGood s → ((i : ℕ) → get_or b i 0 < 256) → part_at s b ≡ got v n → (n ≤ length b) × Part s v (take n b)
 part_takes s b v n good fits e =

@@ -51,6 +51,8 @@ prefix (lengths.LL digits.Ascii) n = (48 + n / 10) ∷ (48 + n % 10) ∷ []
 prefix (lengths.LL digits.Bcd) n = (16 * (n / 10) + n % 10) ∷ []
 prefix (lengths.LLL digits.Ascii) n = (48 + n / 100) ∷ (48 + n / 10 % 10) ∷ (48 + n % 10) ∷ []
 prefix (lengths.LLL digits.Bcd) n = (n / 100) ∷ (16 * (n / 10 % 10) + n % 10) ∷ []
+prefix (lengths.LLLL digits.Ascii) n = (48 + n / 1000) ∷ (48 + n / 100 % 10) ∷ (48 + n / 10 % 10) ∷ (48 + n % 10) ∷ []
+prefix (lengths.LLLL digits.Bcd) n = (16 * (n / 1000) + n / 100 % 10) ∷ (16 * (n / 10 % 10) + n % 10) ∷ []
 
 -- the bytes are a part of the value: its length, where one is written, and a body
 abbrev pub Part : FieldSpec → List ℕ → List ℕ → Type 0

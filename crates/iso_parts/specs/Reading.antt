@@ -33,22 +33,27 @@ prefix_size (lengths.LL digits.Ascii) = 2
 prefix_size (lengths.LL digits.Bcd) = 1
 prefix_size (lengths.LLL digits.Ascii) = 3
 prefix_size (lengths.LLL digits.Bcd) = 2
+prefix_size (lengths.LLLL digits.Ascii) = 4
+prefix_size (lengths.LLLL digits.Bcd) = 2
 
--- the number of two or three digits, the second and third given as characters
+-- the number of four digits, given as characters
 abbrev pub number_of : List ℕ → Result ℕ FieldFault
-number_of (h ∷ t ∷ o ∷ []) = if is_digit h && is_digit t && is_digit o then Ok (100 * (h - 48) + 10 * (t - 48) + (o - 48)) else Err BadLengthDigits
+number_of (k ∷ h ∷ t ∷ o ∷ []) =
+    if is_digit k && is_digit h && is_digit t && is_digit o then Ok (1000 * (k - 48) + 100 * (h - 48) + 10 * (t - 48) + (o - 48)) else Err BadLengthDigits
 number_of other = Err BadLengthDigits
 
--- the count that the digits of a length tell; under BCD three digits have a 0 before them
+-- the count that the digits of a length tell, with zeros before fewer than four; under BCD three digits have a 0 before them
 abbrev pub count_of : Length → ℕ → List ℕ → Result ℕ FieldFault
 count_of lengths.Fixed max p = Ok max
-count_of (lengths.LL digits.Ascii) max p = number_of (48 ∷ p)
-count_of (lengths.LL digits.Bcd) max p = number_of (48 ∷ characters p)
-count_of (lengths.LLL digits.Ascii) max p = number_of p
+count_of (lengths.LL digits.Ascii) max p = number_of (48 ∷ 48 ∷ p)
+count_of (lengths.LL digits.Bcd) max p = number_of (48 ∷ 48 ∷ characters p)
+count_of (lengths.LLL digits.Ascii) max p = number_of (48 ∷ p)
+count_of (lengths.LLLL digits.Ascii) max p = number_of p
+count_of (lengths.LLLL digits.Bcd) max p = number_of (characters p)
 count_of (lengths.LLL digits.Bcd) max p = number_after_zero (characters p)
   where
     number_after_zero : List ℕ → Result ℕ FieldFault
-    number_after_zero (z ∷ rest) = if z == 48 then number_of rest else Err BadLengthDigits
+    number_after_zero (z ∷ rest) = if z == 48 then number_of (z ∷ rest) else Err BadLengthDigits
     number_after_zero [] = Err BadLengthDigits
 
 -- the count that a whole length tells

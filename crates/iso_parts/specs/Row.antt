@@ -17,10 +17,15 @@ use Rattle.iso_parts.specs.Class.{is_within, is_in_class}
 
 -- ---- good rows
 
--- the greatest count that the length's digits can tell
+-- the most characters of a value: four digits can tell no more
+abbrev pub longest_value : ℕ
+longest_value = 9999
+
+-- the greatest count that the length's digits can tell; without digits that of three
 abbrev pub limit : Length → ℕ
 limit (lengths.LL d) = 99
 limit (lengths.LLL d) = 999
+limit (lengths.LLLL d) = longest_value
 limit lengths.Fixed = 999
 
 abbrev pub is_good_max : FieldSpec → Bool
@@ -54,6 +59,7 @@ abbrev pub is_padded : CharClass → Length → Bool
 is_padded c lengths.Fixed = is_text c
 is_padded c (lengths.LL d) = false
 is_padded c (lengths.LLL d) = false
+is_padded c (lengths.LLLL d) = false
 
 abbrev pub is_good_pad : FieldSpec → Pad → Bool
 is_good_pad s pads.None = true

@@ -3,13 +3,15 @@
 ghost use Rattle.std.specs.Prelude.{IfOk, IfSome, drop, vec_len, ◌≡◌, ◌≢◌, ℕ, List, take, ◌+◌, ◌-◌, ◌≤◌, ◌++◌, ◌↔◌, length, replicate};
 ghost use Rattle.std.specs.Prelude.{OnOk, OnErr, IfErr, IsTrue, None, Some};
 ghost use Rattle.iso_parts.specs.declared.fault.FieldFault.TheVariants.{Memory};
-ghost use Rattle.iso_parts.specs.Row.{is_length, refusal, IsGood, Fits};
+ghost use Rattle.iso_parts.specs.declared.prefix.Length.TheVariants.{Fixed};
+ghost use Rattle.iso_parts.specs.Row.{is_length, limit, longest_value, refusal, IsGood, Fits};
 ghost use Rattle.iso_parts.specs.Part.{with_pads, padded, plain, plain_part, Part, Keeps};
 ghost use Rattle.iso_parts.specs.Reading.{prefix_size, Reads, AppendsRead, AppendsValue, IfGot, got, prefix_of, value_of, body_of, part_at};
 
 use crate::encoding::Coding;
 use crate::fault::FieldFault;
 use crate::padding::Pad;
+use crate::prefix::LONGEST_FIXED;
 use crate::spec::FieldSpec;
 use std::alloc::{AllocError, Global};
 use std::fmt;
@@ -80,12 +82,12 @@ fn fill(pad: Pad, value: &[u8], text: &mut [u8])
 /// Appends the body of a value that is filled up under BCD.
 fn append_filled_bcd(spec: &FieldSpec, value: &[u8], out: &mut Vec<u8>) -> Result<(), AllocError>
     requires room { length value.now ≤ spec.now.max }
-    requires max { spec.now.max ≤ 999 }
+    requires max { spec.now.max ≤ limit Fixed }
     requires exact { spec.now.pad ≡ Pad.None → length value.now ≡ spec.now.max }
     ensures ok { OnOk result (out.new.items ≡ out.old.items ++ plain Coding.Bcd (padded spec.now value.now)) }
     ensures err { OnErr result (Keeps out.old.items out.new.items) }
 {
-    let mut text = [0; 999];
+    let mut text = [0; LONGEST_FIXED];
     let (text, _) = text.split_at_mut(spec.max as usize);
     fill(spec.pad, value, text);
     Coding::Bcd.append_text(text, out)
@@ -93,8 +95,8 @@ fn append_filled_bcd(spec: &FieldSpec, value: &[u8], out: &mut Vec<u8>) -> Resul
 
 /// Room for the part of a value of so many characters.
 fn room_for(spec: &FieldSpec, count: usize) -> usize
-    requires few { count ≤ 999 }
-    requires small { spec.now.max ≤ 999 }
+    requires few { count ≤ longest_value }
+    requires small { spec.now.max ≤ longest_value }
 {
     let characters = if spec.pad == Pad::None {
         count
@@ -105,6 +107,7 @@ fn room_for(spec: &FieldSpec, count: usize) -> usize
 }
 
 /// Appends the plain part of a value that fits. Where memory runs out, more than was there may stand behind it.
+#[tactic(auto, using(crate::proofs::Counts::padded_few))]
 fn append_part(spec: &FieldSpec, value: &[u8], out: &mut Vec<u8>) -> Result<(), AllocError>
     requires good { IsGood spec.now }
     requires length { IsTrue (is_length spec.now (length value.now)) }

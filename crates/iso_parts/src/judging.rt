@@ -108,24 +108,29 @@ fn judge_written(spec: &FieldSpec, skip: usize, body: &[u8]) -> Result<(), Field
     judge_text(spec, rest)
 }
 
-/// Judges packed characters, behind the first one where it is a filler.
+/// Judges packed characters, behind the first one where it is a filler. Each of them is of class `Z`.
 fn judge_characters(spec: &FieldSpec, skip: usize, body: &[u8]) -> Result<(), FieldFault>
+    requires good { IsGood spec.now }
+    requires coding { spec.now.coding ≡ Coding.Bcd }
     requires few { skip ≤ 1 }
     requires within { skip ≤ 2 * length body.now }
-    requires short { length body.now ≤ 500 }
+    requires short { spec.now.pad ≢ Pad.None → length body.now ≤ 500 }
     ensures { IsJudged result (value_of spec.now (drop skip (characters body.now))) }
 {
-    if spec.class == CharClass::N && spec.pad == Pad::None {
+    if spec.pad != Pad::None {
+        judge_written(spec, skip, body)
+    } else if spec.class == CharClass::N {
         judge_digits(spec, skip, body)
     } else {
-        judge_written(spec, skip, body)
+        Ok(())
     }
 }
 
 /// Judges a packed body of `n` characters: its filler where the count is odd, and then the characters.
 fn judge_packed(spec: &FieldSpec, n: u16, body: &[u8]) -> Result<(), FieldFault>
+    requires good { IsGood spec.now }
     requires coding { spec.now.coding ≡ Coding.Bcd }
-    requires short { length body.now ≤ 500 }
+    requires short { spec.now.pad ≢ Pad.None → length body.now ≤ 500 }
     ensures { IsJudged result (body_of spec.now n body.now) }
 {
     if n % 2 == 0 {
@@ -157,9 +162,10 @@ fn judge_hex(spec: &FieldSpec, n: u16, body: &[u8]) -> Result<(), FieldFault>
 }
 
 /// Judges a whole body of `n` characters.
+#[tactic(auto, using(crate::proofs::Counts::padded_few))]
 fn judge_whole(spec: &FieldSpec, n: u16, body: &[u8]) -> Result<(), FieldFault>
     requires good { IsGood spec.now }
-    requires few { n ≤ 999 }
+    requires few { n ≤ spec.now.max }
     requires size { length body.now ≡ body_size spec.now.coding n }
     ensures { IsJudged result (body_of spec.now n body.now) }
 {

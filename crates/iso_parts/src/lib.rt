@@ -22,7 +22,7 @@ pub use field::{Step, append_value, decode_field, encode_field};
 pub use judging::{Judged, judge_body, judge_field, judge_length};
 pub use mti::{Mti, MtiClass};
 pub use padding::Pad;
-pub use prefix::{Digits, Length};
+pub use prefix::{Digits, LONGEST_VALUE, Length};
 pub use spec::{FieldSpec, SpecFault};
 
 #[cfg(test)]

@@ -8,6 +8,12 @@ ghost use Rattle.iso_parts.specs.Reading.{number_of, count_of, prefix_size};
 use crate::fault::FieldFault;
 use std::alloc::AllocError;
 
+/// The most characters of a value: the digits of a length can tell no more.
+pub const LONGEST_VALUE: usize = 9_999;
+
+/// The most characters of a value of a fixed length, so also of one that is filled up.
+pub(crate) const LONGEST_FIXED: usize = 999;
+
 /// How decimal digits are written.
 #[derive(Clone, Copy, Debug, PartialEq, Eq)]
 pub enum Digits {
@@ -26,15 +32,20 @@ pub enum Length {
     LL(Digits),
     /// Three digits; under BCD with a nibble 0 before them.
     LLL(Digits),
+    /// Four digits.
+    LLLL(Digits),
 }
 
-fn number_of(h: u8, t: u8, o: u8) -> Result<u16, FieldFault>
-    ensures { result ≡ number_of (h ∷ t ∷ o ∷ []) }
+fn number_of(k: u8, h: u8, t: u8, o: u8) -> Result<u16, FieldFault>
+    ensures { result ≡ number_of (k ∷ h ∷ t ∷ o ∷ []) }
 {
-    match (h, t, o) {
-        (b'0'..=b'9', b'0'..=b'9', b'0'..=b'9') => {
-            Ok(100 * (h - b'0') as u16 + 10 * (t - b'0') as u16 + (o - b'0') as u16)
-        }
+    match (k, h, t, o) {
+        (b'0'..=b'9', b'0'..=b'9', b'0'..=b'9', b'0'..=b'9') => Ok(
+            1000 * (k - b'0') as u16
+                + 100 * (h - b'0') as u16
+                + 10 * (t - b'0') as u16
+                + (o - b'0') as u16,
+        ),
         _ => Err(FieldFault::BadLengthDigits),
     }
 }
@@ -46,7 +57,9 @@ impl Length {
     {
         match self {
             Length::LL(_) => 99,
-            Length::Fixed | Length::LLL(_) => 999,
+            Length::LLL(_) => 999,
+            Length::LLLL(_) => LONGEST_VALUE as u16,
+            Length::Fixed => LONGEST_FIXED as u16,
         }
     }
 
@@ -60,6 +73,8 @@ impl Length {
             Length::LL(Digits::Bcd) => 1,
             Length::LLL(Digits::Ascii) => 3,
             Length::LLL(Digits::Bcd) => 2,
+            Length::LLLL(Digits::Ascii) => 4,
+            Length::LLLL(Digits::Bcd) => 2,
         }
     }
 
@@ -70,15 +85,24 @@ impl Length {
     {
         match (self, prefix) {
             (Length::Fixed, _) => Ok(max),
-            (Length::LL(Digits::Ascii), [t, o]) => number_of(b'0', *t, *o),
-            (Length::LL(Digits::Bcd), [x]) => number_of(b'0', b'0' + *x / 16, b'0' + *x % 16),
-            (Length::LLL(Digits::Ascii), [h, t, o]) => number_of(*h, *t, *o),
+            (Length::LL(Digits::Ascii), [t, o]) => number_of(b'0', b'0', *t, *o),
+            (Length::LL(Digits::Bcd), [x]) => {
+                number_of(b'0', b'0', b'0' + *x / 16, b'0' + *x % 16)
+            }
+            (Length::LLL(Digits::Ascii), [h, t, o]) => number_of(b'0', *h, *t, *o),
             (Length::LLL(Digits::Bcd), [x, y]) => {
                 if *x / 16 != 0 {
                     return Err(FieldFault::BadLengthDigits);
                 }
-                number_of(b'0' + *x % 16, b'0' + *y / 16, b'0' + *y % 16)
+                number_of(b'0', b'0' + *x % 16, b'0' + *y / 16, b'0' + *y % 16)
             }
+            (Length::LLLL(Digits::Ascii), [k, h, t, o]) => number_of(*k, *h, *t, *o),
+            (Length::LLLL(Digits::Bcd), [x, y]) => number_of(
+                b'0' + *x / 16,
+                b'0' + *x % 16,
+                b'0' + *y / 16,
+                b'0' + *y % 16,
+            ),
             _ => unreachable!(),
         }
     }
@@ -89,7 +113,8 @@ impl Length {
         ensures ok { OnOk result (out.new.items ≡ out.old.items ++ prefix self n) }
         ensures err { OnErr result (out.new.items ≡ out.old.items) }
     {
-        let (hundreds, tens, ones) = ((n / 100) as u8, (n / 10 % 10) as u8, (n % 10) as u8);
+        let (tens, ones) = ((n / 10 % 10) as u8, (n % 10) as u8);
+        let (thousands, hundreds) = ((n / 1000) as u8, (n / 100 % 10) as u8);
         match self {
             Length::Fixed => Ok(()),
             Length::LL(Digits::Ascii) => {
@@ -100,6 +125,15 @@ impl Length {
                 out.extend_from_slice(&[b'0' + hundreds, b'0' + tens, b'0' + ones])
             }
             Length::LLL(Digits::Bcd) => out.extend_from_slice(&[hundreds, 16 * tens + ones]),
+            Length::LLLL(Digits::Ascii) => out.extend_from_slice(&[
+                b'0' + thousands,
+                b'0' + hundreds,
+                b'0' + tens,
+                b'0' + ones,
+            ]),
+            Length::LLLL(Digits::Bcd) => {
+                out.extend_from_slice(&[16 * thousands + hundreds, 16 * tens + ones])
+            }
         }
     }
 }

@@ -28,7 +28,7 @@ pub struct FieldSpec {
 /// What is wrong with a row.
 #[derive(Clone, Copy, Debug, PartialEq, Eq, Error)]
 pub enum SpecFault {
-    /// The maximum is 0, or above 99 for LL, or above 999.
+    /// The maximum is 0, or more than the length can tell: 99 for LL, 9,999 for LLLL, else 999.
     #[error("the maximum is out of range")]
     BadMax,
     /// The coding doesn't write the class.

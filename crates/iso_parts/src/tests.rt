@@ -42,6 +42,7 @@ fn bytes(coding: Coding, length: Length, max: u16) -> FieldSpec {
 #[test]
 fn rows_are_judged(rt: HostRuntime) -> Result<(), Fail> {
     let ll = Length::LL(Digits::Ascii);
+    let llll = Length::LLLL(Digits::Bcd);
     let pad = Pad::Left(b'0');
     let cases = [
         (
@@ -65,6 +66,27 @@ fn rows_are_judged(rt: HostRuntime) -> Result<(), Fail> {
             Err(SpecFault::PadNotAllowed),
         ),
         ("LL of 99", number(Coding::Ascii, ll, 99), Ok(())),
+        (
+            "LLL of 1,000",
+            number(Coding::Ascii, Length::LLL(Digits::Ascii), 1_000),
+            Err(SpecFault::BadMax),
+        ),
+        (
+            "a fixed length of 1,000",
+            number(Coding::Ascii, Length::Fixed, 1_000),
+            Err(SpecFault::BadMax),
+        ),
+        ("LLLL of 9,999", number(Coding::Bcd, llll, 9_999), Ok(())),
+        (
+            "LLLL of 10,000",
+            number(Coding::Bcd, llll, 10_000),
+            Err(SpecFault::BadMax),
+        ),
+        (
+            "a pad on LLLL",
+            row(CharClass::N, Coding::Bcd, llll, 9, pad),
+            Err(SpecFault::PadNotAllowed),
+        ),
     ];
     for (name, row, expected) in &cases {
         assert_eq!(rt; row.good(), *expected, "{name}");
@@ -151,6 +173,8 @@ fn lengths_take_bytes(rt: HostRuntime) {
         ("two digits under BCD", Length::LL(Digits::Bcd), 1),
         ("three digits", Length::LLL(Digits::Ascii), 3),
         ("three digits under BCD", Length::LLL(Digits::Bcd), 2),
+        ("four digits", Length::LLLL(Digits::Ascii), 4),
+        ("four digits under BCD", Length::LLLL(Digits::Bcd), 2),
     ];
     for (name, length, size) in &cases {
         assert_eq!(rt; length.prefix_size(), *size, "{name}");

@@ -70,6 +70,8 @@ fn bytes_are_refused(rt: HostRuntime) -> Result<(), Fail> {
         Pad::None,
     );
     let ascii = number(Coding::Ascii, Length::LL(Digits::Ascii), 19);
+    let four = bytes(Coding::HexText, Length::LLLL(Digits::Ascii), 9_998);
+    let packed_four = bytes(Coding::Raw, Length::LLLL(Digits::Bcd), 9_999);
     let cases = [
         (
             "G is no digit",
@@ -99,6 +101,24 @@ fn bytes_are_refused(rt: HostRuntime) -> Result<(), Fail> {
             "a letter in a length that begins above the maximum",
             ascii,
             b"9x",
+            FieldFault::BadLengthDigits,
+        ),
+        (
+            "9,999 of 9,998 bytes",
+            four,
+            b"9999",
+            FieldFault::LengthOver,
+        ),
+        (
+            "a letter behind three digits of a length",
+            four,
+            b"000x",
+            FieldFault::BadLengthDigits,
+        ),
+        (
+            "a nibble above 9 in four digits of a length",
+            packed_four,
+            b"\xA0\x00",
             FieldFault::BadLengthDigits,
         ),
         ("a filler of 1", bcd, b"\x03\x13\x01", FieldFault::BadFiller),

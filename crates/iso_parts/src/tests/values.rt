@@ -11,7 +11,7 @@ struct Case {
     part: &'static [u8],
 }
 
-fn parts() -> [Case; 19] {
+fn parts() -> [Case; 22] {
     let (ascii, bcd) = (Digits::Ascii, Digits::Bcd);
     [
         Case {
@@ -152,7 +152,137 @@ fn parts() -> [Case; 19] {
             value: b"Abc",
             part: b"003Abc",
         },
+        Case {
+            name: "bytes as digits behind four digits of a length",
+            row: bytes(Coding::HexText, Length::LLLL(ascii), 9_999),
+            value: b"\x01\x02\x0A",
+            part: b"000301020A",
+        },
+        Case {
+            name: "four digits of a length under BCD",
+            row: bytes(Coding::Raw, Length::LLLL(bcd), 9_999),
+            value: b"\x9F\x26\x08",
+            part: b"\x00\x03\x9F\x26\x08",
+        },
+        Case {
+            name: "an odd track behind four digits under BCD",
+            row: row(
+                CharClass::Z,
+                Coding::Bcd,
+                Length::LLLL(bcd),
+                9_999,
+                Pad::None,
+            ),
+            value: b"4=1",
+            part: b"\x00\x03\x04\xD1",
+        },
     ]
+}
+
+/// Long values: their row, how many bytes `A` (or `1` under BCD) they are, and their length's bytes.
+#[test]
+fn long_values_are_written_and_read(rt: HostRuntime) -> Result<(), Fail> {
+    let (ascii, bcd) = (Digits::Ascii, Digits::Bcd);
+    let text = |length, max| row(CharClass::ANS, Coding::Ascii, length, max, Pad::None);
+    let cases = [
+        (
+            "999 characters",
+            text(Length::LLL(ascii), 999),
+            b'A',
+            999,
+            b"999".as_slice(),
+            999,
+        ),
+        (
+            "1,000 characters",
+            text(Length::LLLL(ascii), 1_000),
+            b'A',
+            1_000,
+            b"1000",
+            1_000,
+        ),
+        (
+            "9,999 characters",
+            text(Length::LLLL(ascii), 9_999),
+            b'A',
+            9_999,
+            b"9999",
+            9_999,
+        ),
+        (
+            "1,000 under BCD",
+            text(Length::LLLL(bcd), 9_999),
+            b'A',
+            1_000,
+            b"\x10\x00",
+            1_000,
+        ),
+        (
+            "9,999 packed digits",
+            number(Coding::Bcd, Length::LLLL(bcd), 9_999),
+            b'1',
+            9_999,
+            b"\x99\x99",
+            5_000,
+        ),
+        (
+            "9,998 packed digits",
+            number(Coding::Bcd, Length::LLLL(bcd), 9_998),
+            b'1',
+            9_998,
+            b"\x99\x98",
+            4_999,
+        ),
+        (
+            "9,999 packed characters",
+            row(
+                CharClass::Z,
+                Coding::Bcd,
+                Length::LLLL(ascii),
+                9_999,
+                Pad::None,
+            ),
+            b'?',
+            9_999,
+            b"9999",
+            5_000,
+        ),
+        (
+            "9,999 bytes as digits",
+            bytes(Coding::HexText, Length::LLLL(ascii), 9_999),
+            0xAB,
+            9_999,
+            b"9999",
+            19_998,
+        ),
+    ];
+    for (name, spec, byte, count, prefix, size) in &cases {
+        assert!(rt; spec.good().is_ok(), "{name}");
+        let mut value = Vec::new(rt.alloc());
+        value.resize(*count, *byte)?;
+        let mut part = Vec::new(rt.alloc());
+        encode_field(spec, &value, &mut part)?;
+        assert_eq!(rt; part.len(), prefix.len() + size, "{name}");
+        assert!(rt; part.as_slice().starts_with(prefix), "{name}");
+        let used = prefix.len() + size;
+        let judged = judge_field(spec, &part);
+        assert_eq!(rt;
+            judged,
+            Ok(Judged::Got {
+                body: prefix.len(),
+                used
+            }),
+            "{name}"
+        );
+        let mut read = Vec::new(rt.alloc());
+        assert_eq!(rt;
+            append_value(spec, &part, &mut read),
+            Ok(Some(used)),
+            "{name}"
+        );
+        assert_eq!(rt; read.as_slice(), value.as_slice(), "{name}");
+    }
+    Ok(())
 }
 
 #[test]
