@@ -9,6 +9,7 @@ use Rattle.iso_parts.specs.declared.spec.SpecFault.{SpecFault}
 use Rattle.iso_parts.specs.declared.spec.SpecFault.TheVariants as specs
 use Rattle.iso_parts.specs.Row.{spec_fault}
 use Rattle.iso_table.specs.declared.draft.Row.{Row}
+use Rattle.iso_table.specs.declared.reading.Profile.{Profile}
 use Rattle.iso_table.specs.declared.fault.TableFault.{TableFault}
 use Rattle.iso_table.specs.declared.fault.TableFault.TheVariants.{NotJson, BadVersion, BadNumber, Twice}
 use Rattle.iso_table.specs.Layout.{is_version, is_element}
@@ -22,12 +23,12 @@ cons_map : (so_far : List Row) (row : Row) (rest : Option (List Row)) → option
 cons_map so_far row None = refl
 cons_map so_far row (Some rs) = ap (λ (xs : List Row). Some xs) (sym (append_assoc so_far (row ∷ []) rs))
 
-pub rows_more : (values : List Value) (i : ℕ) (v : Value) (row : Row) (so_far : List Row) (total : Option (List Row)) → i < length values → row_in (view (get_or values i v)) ≡ Some row
-    → total ≡ option_map (λ rest. so_far ++ rest) (rows_in (items_view (drop i values))) → total ≡ option_map (λ rest. (so_far ++ row ∷ []) ++ rest) (rows_in (items_view (drop (i + 1) values)))
-rows_more values i v row so_far total lt is judged =
+pub rows_more : (p : Profile) (values : List Value) (i : ℕ) (v : Value) (row : Row) (so_far : List Row) (total : Option (List Row)) → i < length values → row_in p (view (get_or values i v)) ≡ Some row
+    → total ≡ option_map (λ rest. so_far ++ rest) (rows_in p (items_view (drop i values))) → total ≡ option_map (λ rest. (so_far ++ row ∷ []) ++ rest) (rows_in p (items_view (drop (i + 1) values)))
+rows_more p values i v row so_far total lt is judged =
     let less : drop i values ≡ get_or values i v ∷ drop (i + 1) values = drop-cons values i v lt ∙ ap (λ (k : ℕ). get_or values i v ∷ drop k values) (sym (add-one i)) in
-    let rest : Option (List Row) = rows_in (items_view (drop (i + 1) values)) in
-    let here : rows_in (items_view (drop i values)) ≡ option_map (λ rs. row ∷ rs) rest = ap (λ (vs : List Value). rows_in (items_view vs)) less ∙ ap (λ (o : Option Row). o >>= (λ r. option_map (λ rs. r ∷ rs) rest)) is in
+    let rest : Option (List Row) = rows_in p (items_view (drop (i + 1) values)) in
+    let here : rows_in p (items_view (drop i values)) ≡ option_map (λ rs. row ∷ rs) rest = ap (λ (vs : List Value). rows_in p (items_view vs)) less ∙ ap (λ (o : Option Row). o >>= (λ r. option_map (λ rs. r ∷ rs) rest)) is in
     judged ∙ ap (option_map (λ rs. so_far ++ rs)) here ∙ cons_map so_far row rest
 
 -- ---- a table or a fault

@@ -22,6 +22,7 @@ use Rattle.iso_parts.specs.declared.bitmap.BitmapCoding.{BitmapCoding}
 use Rattle.iso_parts.specs.declared.bitmap.BitmapCoding.TheVariants as bitmaps
 use Rattle.iso_parts.specs.Row.{IsGood, limit, is_pad_byte, is_good_pad, is_padded}
 use Rattle.iso_table.specs.declared.draft.Row.{Row}
+use Rattle.iso_table.specs.declared.reading.Profile.TheVariants.{Two}
 use Rattle.iso_table.specs.Layout.{Layout, IsAccepted, row_at, is_version, is_element}
 use Rattle.iso_table.specs.Accepted.{Contents, Accepted, Holds, AreRows, OtherNumbers, HasEachOnce, row_of}
 use Rattle.iso_table.specs.Document.{◌>>=◌, class_name, class_named, coding_name, coding_named, digits_name, digits_named, bitmap_name, bitmap_named, length_name, pad_name, pad_named, byte_by, byte_of, up_to, whole_at, digits_at, class_in, coding_in, length_in, pad_in, spec_in, row_in, rows_in, bitmap_in, list_in, with_rows, members_in, or_shape, draft_in, table_in, prefix_named, prefix_members, row_object, row_data, rows_data, document}
@@ -89,6 +90,7 @@ low_max : (l : Length) (n : ℕ) → (nat_le 1 n && nat_le n (limit l)) ≡ true
 low_max lengths.Fixed n h = grind (arith, nat_tests)
 low_max (lengths.LL d) n h = grind (arith, nat_tests)
 low_max (lengths.LLL d) n h = grind (arith, nat_tests)
+low_max (lengths.LLLL d) n h = grind (arith, nat_tests)
 
 -- the object of a row, of its parts
 object_of : ℕ → List ℕ → List ℕ → Length → ℕ → List ℕ → Data
@@ -100,21 +102,22 @@ object_of n class coding l max pad =
     (member (codes "number") (number (unsigned n))
     (member (codes "pad") (string pad) (prefix_members (prefix_named l))))))))
 
-length_again : (n : ℕ) (class coding : List ℕ) (l : Length) (max : ℕ) (pad : List ℕ) → length_in (object_of n class coding l max pad) ≡ Some l
+length_again : (n : ℕ) (class coding : List ℕ) (l : Length) (max : ℕ) (pad : List ℕ) → length_in Two (object_of n class coding l max pad) ≡ Some l
 unfolding object_of
 length_again n class coding lengths.Fixed max pad = refl
 length_again n class coding (lengths.LL d) max pad = ap (option_map lengths.LL) (digits_again d)
 length_again n class coding (lengths.LLL d) max pad = ap (option_map lengths.LLL) (digits_again d)
+length_again n class coding (lengths.LLLL d) max pad = ap (option_map lengths.LLLL) (digits_again d)
 
-spec_by : (d : Data) (s : FieldSpec) → class_in d ≡ Some s.class → coding_in d ≡ Some s.coding → length_in d ≡ Some s.length → whole_at (codes "max") 65535 d ≡ Some s.max → pad_in d ≡ Some s.pad → spec_in d ≡ Some s
+spec_by : (d : Data) (s : FieldSpec) → class_in d ≡ Some s.class → coding_in d ≡ Some s.coding → length_in Two d ≡ Some s.length → whole_at (codes "max") 65535 d ≡ Some s.max → pad_in d ≡ Some s.pad → spec_in Two d ≡ Some s
 spec_by d s a b c e f =
-    ap (λ (x : Option CharClass). x >>= (λ class. coding_in d >>= (λ coding. length_in d >>= (λ length. whole_at (codes "max") 65535 d >>= (λ max. pad_in d >>= (λ pad. Some (record { class = class; coding = coding; length = length; max = max; pad = pad }))))))) a
-    ∙ ap (λ (x : Option Coding). x >>= (λ coding. length_in d >>= (λ length. whole_at (codes "max") 65535 d >>= (λ max. pad_in d >>= (λ pad. Some (record { class = s.class; coding = coding; length = length; max = max; pad = pad })))))) b
+    ap (λ (x : Option CharClass). x >>= (λ class. coding_in d >>= (λ coding. length_in Two d >>= (λ length. whole_at (codes "max") 65535 d >>= (λ max. pad_in d >>= (λ pad. Some (record { class = class; coding = coding; length = length; max = max; pad = pad }))))))) a
+    ∙ ap (λ (x : Option Coding). x >>= (λ coding. length_in Two d >>= (λ length. whole_at (codes "max") 65535 d >>= (λ max. pad_in d >>= (λ pad. Some (record { class = s.class; coding = coding; length = length; max = max; pad = pad })))))) b
     ∙ ap (λ (x : Option Length). x >>= (λ length. whole_at (codes "max") 65535 d >>= (λ max. pad_in d >>= (λ pad. Some (record { class = s.class; coding = s.coding; length = length; max = max; pad = pad }))))) c
     ∙ ap (λ (x : Option ℕ). x >>= (λ max. pad_in d >>= (λ pad. Some (record { class = s.class; coding = s.coding; length = s.length; max = max; pad = pad })))) e
     ∙ ap (λ (x : Option Pad). x >>= (λ pad. Some (record { class = s.class; coding = s.coding; length = s.length; max = s.max; pad = pad }))) f
 
-spec_again : (n : ℕ) (s : FieldSpec) → IsGood s → spec_in (row_data n s) ≡ Some s
+spec_again : (n : ℕ) (s : FieldSpec) → IsGood s → spec_in Two (row_data n s) ≡ Some s
 unfolding object_of
 spec_again n s g = spec_by (row_data n s) s
     (class_again s.class)
@@ -123,9 +126,9 @@ spec_again n s g = spec_by (row_data n s) s
     (up_to_low 65535 s.max (low_max s.length s.max g.max))
     (pad_again s s.pad g.pad)
 
-row_again : (n : ℕ) (s : FieldSpec) → n ≤ 65535 → IsGood s → row_in (row_data n s) ≡ Some (record { number = n; spec = s })
+row_again : (n : ℕ) (s : FieldSpec) → n ≤ 65535 → IsGood s → row_in Two (row_data n s) ≡ Some (record { number = n; spec = s })
 row_again n s h g =
-    ap (λ (x : Option ℕ). x >>= (λ m. spec_in (row_data n s) >>= (λ spec. Some (record { number = m; spec = spec })))) (up_to_low 65535 n h)
+    ap (λ (x : Option ℕ). x >>= (λ m. spec_in Two (row_data n s) >>= (λ spec. Some (record { number = m; spec = spec })))) (up_to_low 65535 n h)
     ∙ ap (λ (x : Option FieldSpec). x >>= (λ spec. Some (record { number = n; spec = spec }))) (spec_again n s g)
 
 -- the rows from number n on, as a list
@@ -134,12 +137,12 @@ rows_list n [] = []
 rows_list n (None ∷ rs) = rows_list (n + 1) rs
 rows_list n (Some s ∷ rs) = record { number = n; spec = s } ∷ rows_list (n + 1) rs
 
-rows_again : (n : ℕ) (rs : List (Option FieldSpec)) → n + length rs ≤ 65535 → ((k : ℕ) (s : FieldSpec) → row_at rs k ≡ Some s → IsGood s) → rows_in (rows_data n rs) ≡ Some (rows_list n rs)
+rows_again : (n : ℕ) (rs : List (Option FieldSpec)) → n + length rs ≤ 65535 → ((k : ℕ) (s : FieldSpec) → row_at rs k ≡ Some s → IsGood s) → rows_in Two (rows_data n rs) ≡ Some (rows_list n rs)
 unfolding rows_list
 rows_again n [] h g = refl
 rows_again n (None ∷ rs) h g = rows_again (n + 1) rs (omega arith) (λ k s e. g (suc k) s e)
 rows_again n (Some s ∷ rs) h g =
-    ap (λ (x : Option Row). x >>= (λ row. option_map (λ rows. row ∷ rows) (rows_in (rows_data (n + 1) rs)))) (row_again n s (omega arith) (g zero s refl))
+    ap (λ (x : Option Row). x >>= (λ row. option_map (λ rows. row ∷ rows) (rows_in Two (rows_data (n + 1) rs)))) (row_again n s (omega arith) (g zero s refl))
     ∙ ap (option_map (λ rows. record { number = n; spec = s } ∷ rows)) (rows_again (n + 1) rs (omega arith) (λ k t e. g (suc k) t e))
 
 -- ---- the whole document
@@ -150,13 +153,13 @@ contents_of t = record { version = t.version; mti = t.mti; bitmap = t.bitmap; ro
 low_version : (v : ℕ) → is_version v ≡ true → v ≤ 255
 low_version v h = grind (arith, nat_tests)
 
-draft_by : (d : Data) (c : Contents) → draft_in d ≡ or_shape (members_in d) → whole_at (codes "version") 255 d ≡ Some c.version → digits_at (codes "mti") d ≡ Some c.mti → bitmap_in d ≡ Some c.bitmap → list_in d ≡ Some c.rows → draft_in d ≡ Ok c
+draft_by : (d : Data) (c : Contents) → draft_in d ≡ or_shape (members_in Two d) → whole_at (codes "version") 255 d ≡ Some c.version → digits_at (codes "mti") d ≡ Some c.mti → bitmap_in d ≡ Some c.bitmap → list_in Two d ≡ Some c.rows → draft_in d ≡ Ok c
 draft_by d c whole a b e f =
     whole
     ∙ ap or_shape (
-    ap (λ (x : Option ℕ). x >>= (λ version. digits_at (codes "mti") d >>= (λ mti. bitmap_in d >>= (λ bitmap. with_rows version mti bitmap (list_in d))))) a
-    ∙ ap (λ (x : Option Digits). x >>= (λ mti. bitmap_in d >>= (λ bitmap. with_rows c.version mti bitmap (list_in d)))) b
-    ∙ ap (λ (x : Option BitmapCoding). x >>= (λ bitmap. with_rows c.version c.mti bitmap (list_in d))) e
+    ap (λ (x : Option ℕ). x >>= (λ version. digits_at (codes "mti") d >>= (λ mti. bitmap_in d >>= (λ bitmap. with_rows version mti bitmap (list_in Two d))))) a
+    ∙ ap (λ (x : Option Digits). x >>= (λ mti. bitmap_in d >>= (λ bitmap. with_rows c.version mti bitmap (list_in Two d)))) b
+    ∙ ap (λ (x : Option BitmapCoding). x >>= (λ bitmap. with_rows c.version c.mti bitmap (list_in Two d))) e
     ∙ ap (with_rows c.version c.mti c.bitmap) f)
 
 draft_again : (t : Layout) → IsAccepted t → draft_in (document t) ≡ Ok (contents_of t)

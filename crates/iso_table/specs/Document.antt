@@ -1,5 +1,5 @@
--- A table as a JSON document, of profile 1.
-use Rattle.std.specs.Prelude.{◌≡◌, ℕ, ◌+◌, ◌==◌, nat_le, Bool, false, List, [], ◌∷◌, ◌++◌, length, take, drop, find, Option, None, Some, option_map, Result, Ok, Err, if◌then◌else◌, codes}
+-- A table as a JSON document, of profile 1 or 2.
+use Rattle.std.specs.Prelude.{◌≡◌, ℕ, ◌+◌, ◌==◌, nat_le, Bool, false, true, List, [], ◌∷◌, ◌++◌, length, take, drop, find, Option, None, Some, option_map, Result, Ok, Err, if◌then◌else◌, codes}
 use Rattle.std.specs.Str.{IsUtf8, bytes_eq}
 use Rattle.hex.specs.Hex.{decode_sized, encode_upper}
 use Rattle.hex.specs.declared.error.FromHexError.{FromHexError}
@@ -20,8 +20,10 @@ use Rattle.iso_parts.specs.declared.spec.FieldSpec.{FieldSpec}
 use Rattle.iso_parts.specs.declared.bitmap.BitmapCoding.{BitmapCoding}
 use Rattle.iso_parts.specs.declared.bitmap.BitmapCoding.TheVariants as bitmaps
 use Rattle.iso_table.specs.declared.draft.Row.{Row}
+use Rattle.iso_table.specs.declared.reading.Profile.{Profile}
+use Rattle.iso_table.specs.declared.reading.Profile.TheVariants.{One, Two}
 use Rattle.iso_table.specs.declared.fault.TableFault.{TableFault}
-use Rattle.iso_table.specs.declared.fault.TableFault.TheVariants.{Shape, Profile}
+use Rattle.iso_table.specs.declared.fault.TableFault.TheVariants as faults
 use Rattle.iso_table.specs.Layout.{Layout}
 use Rattle.iso_table.specs.Accepted.{Contents, Holds, first_fault}
 
@@ -76,6 +78,7 @@ abbrev pub length_name : Length → List ℕ
 length_name lengths.Fixed = codes "fixed"
 length_name (lengths.LL d) = codes "LL"
 length_name (lengths.LLL d) = codes "LLL"
+length_name (lengths.LLLL d) = codes "LLLL"
 
 -- the text that a padding is written as, its byte in upper-case digits
 abbrev pub pad_name : Pad → List ℕ
@@ -97,6 +100,15 @@ byte_by (Err e) = None
 -- the byte of two hexadecimal digits, of either case
 abbrev pub byte_of : List ℕ → Option ℕ
 byte_of t = byte_by (decode_sized t 1)
+
+-- the profile of this number
+abbrev pub profile_numbered : ℕ → Option Profile
+profile_numbered n = if n == 1 then Some One else if n == 2 then Some Two else None
+
+-- whether documents of the profile may have lengths of four digits
+abbrev pub has_four_digits : Profile → Bool
+has_four_digits One = false
+has_four_digits Two = true
 
 -- what stands behind a beginning
 abbrev pub behind : List ℕ → List ℕ → Option (List ℕ)
@@ -160,17 +172,18 @@ digits_at key d = text_at key d >>= digits_named
 abbrev pub prefix_in : Data → Option Digits
 prefix_in d = if has_size 7 d then digits_at (codes "prefix") d else None
 
--- the length of this name, in an object of six members, or of seven with the digits of `LL` and `LLL`
-abbrev pub length_by : Data → List ℕ → Option Length
-length_by d t =
+-- the length of this name, in an object of six members, or of seven with the digits of `LL`, `LLL` and `LLLL`
+abbrev pub length_by : Profile → Data → List ℕ → Option Length
+length_by p d t =
     if bytes_eq t (codes "fixed") then (if has_size 6 d then Some lengths.Fixed else None)
     else if bytes_eq t (codes "LL") then option_map lengths.LL (prefix_in d)
     else if bytes_eq t (codes "LLL") then option_map lengths.LLL (prefix_in d)
+    else if bytes_eq t (codes "LLLL") then (if has_four_digits p then option_map lengths.LLLL (prefix_in d) else None)
     else None
 
 -- the length of a row
-abbrev pub length_in : Data → Option Length
-length_in d = text_at (codes "length") d >>= length_by d
+abbrev pub length_in : Profile → Data → Option Length
+length_in p d = text_at (codes "length") d >>= length_by p d
 
 -- the class of a row
 abbrev pub class_in : Data → Option CharClass
@@ -185,60 +198,65 @@ abbrev pub pad_in : Data → Option Pad
 pad_in d = text_at (codes "pad") d >>= pad_named
 
 -- how the field of a row is laid out
-abbrev pub spec_in : Data → Option FieldSpec
-spec_in d = do
+abbrev pub spec_in : Profile → Data → Option FieldSpec
+spec_in p d = do
   class ← class_in d
   coding ← coding_in d
-  length ← length_in d
+  length ← length_in p d
   max ← whole_at (codes "max") 65535 d
   pad ← pad_in d
   Some (record { class = class; coding = coding; length = length; max = max; pad = pad })
 
 -- a row
-abbrev pub row_in : Data → Option Row
-row_in d = do
+abbrev pub row_in : Profile → Data → Option Row
+row_in p d = do
   n ← whole_at (codes "number") 65535 d
-  spec ← spec_in d
+  spec ← spec_in p d
   Some (record { number = n; spec = spec })
 
 -- the rows of a list, each of them one
-abbrev pub rows_in : Items → Option (List Row)
-rows_in no_items = Some []
-rows_in (item d ds) = row_in d >>= (λ row. option_map (λ rows. row ∷ rows) (rows_in ds))
+abbrev pub rows_in : Profile → Items → Option (List Row)
+rows_in p no_items = Some []
+rows_in p (item d ds) = row_in p d >>= (λ row. option_map (λ rows. row ∷ rows) (rows_in p ds))
 
 -- how both bitmaps are written
 abbrev pub bitmap_in : Data → Option BitmapCoding
 bitmap_in d = text_at (codes "bitmap") d >>= bitmap_named
 
 -- the rows of an object
-abbrev pub list_in : Data → Option (List Row)
-list_in d = get (codes "rows") d >>= as_array >>= rows_in
+abbrev pub list_in : Profile → Data → Option (List Row)
+list_in p d = get (codes "rows") d >>= as_array >>= rows_in p
 
 -- a draft of these parts, if the rows are some
 abbrev pub with_rows : ℕ → Digits → BitmapCoding → Option (List Row) → Option Contents
 with_rows version mti bitmap rows = option_map (λ rows. record { version = version; mti = mti; bitmap = bitmap; rows = rows }) rows
 
 -- the draft that the members say
-abbrev pub members_in : Data → Option Contents
-members_in d = do
+abbrev pub members_in : Profile → Data → Option Contents
+members_in p d = do
   version ← whole_at (codes "version") 255 d
   mti ← digits_at (codes "mti") d
   bitmap ← bitmap_in d
-  with_rows version mti bitmap (list_in d)
+  with_rows version mti bitmap (list_in p d)
 
 -- the draft of an object of the five members and no others
-abbrev pub contents_in : Data → Option Contents
-contents_in d = if has_size 5 d then members_in d else None
+abbrev pub contents_in : Profile → Data → Option Contents
+contents_in p d = if has_size 5 d then members_in p d else None
 
 -- the draft, or that the shape is another
 abbrev pub or_shape : Option Contents → Result Contents TableFault
-or_shape None = Err Shape
+or_shape None = Err faults.Shape
 or_shape (Some c) = Ok c
 
--- the draft of profile 1: no profile is another shape, and another profile is told before anything else
+-- the draft under a profile that is known: another profile is told before anything else
+abbrev pub by_known : Option Profile → Data → Result Contents TableFault
+by_known None d = Err faults.Profile
+by_known (Some p) d = or_shape (contents_in p d)
+
+-- the draft of the profile with this number: no number is another shape
 abbrev pub by_profile : Option ℕ → Data → Result Contents TableFault
-by_profile None d = Err Shape
-by_profile (Some p) d = if p == 1 then or_shape (contents_in d) else Err Profile
+by_profile None d = Err faults.Shape
+by_profile (Some n) d = by_known (profile_numbered n) d
 
 -- the draft that the data are, or what is wrong before the draft is checked
 abbrev pub draft_in : Data → Result Contents TableFault
@@ -281,6 +299,7 @@ abbrev pub prefix_named : Length → Option Digits
 prefix_named lengths.Fixed = None
 prefix_named (lengths.LL d) = Some d
 prefix_named (lengths.LLL d) = Some d
+prefix_named (lengths.LLLL d) = Some d
 
 -- the member of a length's digits, where there are some
 abbrev pub prefix_members : Option Digits → Members
@@ -312,6 +331,6 @@ abbrev pub document : Layout → Data
 document t =
     object (member (codes "bitmap") (string (bitmap_name t.bitmap))
     (member (codes "mti") (string (digits_name t.mti))
-    (member (codes "profile") (number (unsigned 1))
+    (member (codes "profile") (number (unsigned 2))
     (member (codes "rows") (array (rows_data 0 t.rows))
     (member (codes "version") (number (unsigned t.version)) no_members)))))

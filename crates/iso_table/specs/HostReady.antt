@@ -41,6 +41,7 @@ is_fixed l = false
 abbrev pub is_counted : Length → Bool
 is_counted (lengths.LL d) = true
 is_counted (lengths.LLL d) = true
+is_counted (lengths.LLLL d) = false
 is_counted lengths.Fixed = false
 
 -- nothing fills a value up

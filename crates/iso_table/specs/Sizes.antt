@@ -28,6 +28,8 @@ prefix_bytes (lengths.LL digits.Ascii) = 2
 prefix_bytes (lengths.LL digits.Bcd) = 1
 prefix_bytes (lengths.LLL digits.Ascii) = 3
 prefix_bytes (lengths.LLL digits.Bcd) = 2
+prefix_bytes (lengths.LLLL digits.Ascii) = 4
+prefix_bytes (lengths.LLLL digits.Bcd) = 2
 
 -- the bytes of n characters
 abbrev pub body_bytes : Coding → ℕ → ℕ

@@ -36,8 +36,8 @@ pub enum TableFault {
     /// This element's row may not have its padding.
     #[error("element {0} has a padding that it may not have")]
     PadNotAllowed(u16),
-    /// The text is of another profile than 1.
-    #[error("the profile is not 1")]
+    /// The text is of another profile than 1 and 2.
+    #[error("the profile is neither 1 nor 2")]
     Profile,
     /// Memory ran out.
     #[error("memory ran out")]

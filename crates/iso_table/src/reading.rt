@@ -1,4 +1,4 @@
-//! A draft from JSON, of profile 1.
+//! A draft from JSON, of profile 1 or 2.
 
 ghost use Rattle.std.specs.Prelude.{◌≡◌, ◌≢◌, ◌+◌, IfOk, IfErr, IfSome, IsNone, IsErrOf, None, Some, Ok, Err, option_map, codes};
 ghost use Rattle.serde_json.specs.Errors.{IsMemory};
@@ -8,13 +8,42 @@ ghost use Rattle.iso_table.specs.Accepted.{contents};
 ghost use Rattle.iso_table.specs.Document.{number_at, digits_at, class_in, coding_in, pad_in, class_named, coding_named, digits_named};
 ghost use Rattle.iso_table.specs.Document.{bitmap_named, pad_named, byte_of, behind, has_size, text_at, whole_at, prefix_in, length_by};
 ghost use Rattle.iso_table.specs.Document.{length_in, spec_in, row_in, rows_in, bitmap_in, list_in, members_in, with_rows, contents_in};
-ghost use Rattle.iso_table.specs.Document.{draft_in, StandsFor, IsNotJson};
+ghost use Rattle.iso_table.specs.Document.{profile_numbered, has_four_digits, draft_in, StandsFor, IsNotJson};
 
 use crate::draft::{Draft, Row};
 use crate::fault::TableFault;
 use iso_parts::{BitmapCoding, CharClass, Coding, Digits, FieldSpec, Length, Pad};
 use serde_json::{Category, Value};
 use std::alloc::Global;
+
+/// The profiles of documents that are read.
+#[derive(Clone, Copy, Debug, PartialEq, Eq)]
+pub enum Profile {
+    /// Lengths of two and three digits.
+    One,
+    /// Lengths of four digits too.
+    Two,
+}
+
+impl Profile {
+    /// The profile of this number.
+    fn numbered(number: u16) -> Option<Profile>
+        ensures { result ≡ profile_numbered number }
+    {
+        match number {
+            1 => Some(Profile::One),
+            2 => Some(Profile::Two),
+            _ => None,
+        }
+    }
+
+    /// Whether documents of the profile may have lengths of four digits.
+    fn has_four_digits(self) -> bool
+        ensures { result ≡ has_four_digits self }
+    {
+        self == Profile::Two
+    }
+}
 
 fn class_named(name: &str) -> Option<CharClass>
     ensures { result ≡ class_named name.now }
@@ -150,21 +179,22 @@ fn prefix_of(value: &Value) -> Option<Digits>
     }
 }
 
-fn length_named(value: &Value, name: &str) -> Option<Length>
-    ensures { result ≡ length_by (view value.now) name.now }
+fn length_named(profile: Profile, value: &Value, name: &str) -> Option<Length>
+    ensures { result ≡ length_by profile (view value.now) name.now }
 {
     match name {
         "fixed" if has_members(value, 6) => Some(Length::Fixed),
         "LL" => prefix_of(value).map(Length::LL),
         "LLL" => prefix_of(value).map(Length::LLL),
+        "LLLL" if profile.has_four_digits() => prefix_of(value).map(Length::LLLL),
         _ => None,
     }
 }
 
-fn length_of(value: &Value) -> Option<Length>
-    ensures { result ≡ length_in (view value.now) }
+fn length_of(profile: Profile, value: &Value) -> Option<Length>
+    ensures { result ≡ length_in profile (view value.now) }
 {
-    length_named(value, text_at(value, "length")?)
+    length_named(profile, value, text_at(value, "length")?)
 }
 
 fn class_of(value: &Value) -> Option<CharClass>
@@ -186,37 +216,37 @@ fn pad_of(value: &Value) -> Option<Pad>
 }
 
 /// How the field of a row is laid out.
-fn spec_of(value: &Value) -> Option<FieldSpec>
-    ensures { result ≡ spec_in (view value.now) }
+fn spec_of(profile: Profile, value: &Value) -> Option<FieldSpec>
+    ensures { result ≡ spec_in profile (view value.now) }
 {
     Some(FieldSpec {
         class: class_of(value)?,
         coding: coding_of(value)?,
-        length: length_of(value)?,
+        length: length_of(profile, value)?,
         max: u16_at(value, "max")?,
         pad: pad_of(value)?,
     })
 }
 
 /// The row that a JSON value is.
-fn row_of(value: &Value) -> Option<Row>
-    ensures { result ≡ row_in (view value.now) }
+fn row_of(profile: Profile, value: &Value) -> Option<Row>
+    ensures { result ≡ row_in profile (view value.now) }
 {
     Some(Row {
         number: u16_at(value, "number")?,
-        spec: spec_of(value)?,
+        spec: spec_of(profile, value)?,
     })
 }
 
 /// The rows that these JSON values are.
-fn rows_of(alloc: Global, values: &[Value]) -> Result<Vec<Row>, TableFault>
-    ensures ok { IfOk result (λ rows. rows_in (items_view values.now) ≡ Some rows.items) }
+fn rows_of(alloc: Global, profile: Profile, values: &[Value]) -> Result<Vec<Row>, TableFault>
+    ensures ok { IfOk result (λ rows. rows_in profile (items_view values.now) ≡ Some rows.items) }
     ensures fault { IfErr result (λ e. e ≢ Memory → e ≡ Shape) }
-    ensures shape { IfErr result (λ e. e ≢ Memory → rows_in (items_view values.now) ≡ None) }
+    ensures shape { IfErr result (λ e. e ≢ Memory → rows_in profile (items_view values.now) ≡ None) }
 {
     let mut rows = Vec::new(alloc);
     for value in values {
-        let Some(row) = row_of(value) else {
+        let Some(row) = row_of(profile, value) else {
             return Err(TableFault::Shape);
         };
         rows.push(row)?;
@@ -239,9 +269,9 @@ fn bitmap_of(value: &Value) -> Option<BitmapCoding>
 }
 
 /// What an object of all members says beside its rows.
-fn head_of(value: &Value) -> Option<Head>
-    ensures some { IfSome result (λ h. members_in (view value.now) ≡ with_rows h.version h.mti h.bitmap (list_in (view value.now))) }
-    ensures none { IsNone result → members_in (view value.now) ≡ None }
+fn head_of(profile: Profile, value: &Value) -> Option<Head>
+    ensures some { IfSome result (λ h. members_in profile (view value.now) ≡ with_rows h.version h.mti h.bitmap (list_in profile (view value.now))) }
+    ensures none { IsNone result → members_in profile (view value.now) ≡ None }
 {
     Some(Head {
         version: u8_at(value, "version")?,
@@ -251,10 +281,10 @@ fn head_of(value: &Value) -> Option<Head>
 }
 
 /// The rows of an object, each of them one.
-fn list_of(alloc: Global, value: &Value) -> Result<Vec<Row>, TableFault>
-    ensures ok { IfOk result (λ rows. list_in (view value.now) ≡ Some rows.items) }
+fn list_of(alloc: Global, profile: Profile, value: &Value) -> Result<Vec<Row>, TableFault>
+    ensures ok { IfOk result (λ rows. list_in profile (view value.now) ≡ Some rows.items) }
     ensures fault { IfErr result (λ e. e ≢ Memory → e ≡ Shape) }
-    ensures shape { IfErr result (λ e. e ≢ Memory → list_in (view value.now) ≡ None) }
+    ensures shape { IfErr result (λ e. e ≢ Memory → list_in profile (view value.now) ≡ None) }
 {
     let Some(list) = value.get("rows") else {
         return Err(TableFault::Shape);
@@ -262,26 +292,26 @@ fn list_of(alloc: Global, value: &Value) -> Result<Vec<Row>, TableFault>
     let Some(values) = list.as_array() else {
         return Err(TableFault::Shape);
     };
-    rows_of(alloc, values.as_slice())
+    rows_of(alloc, profile, values.as_slice())
 }
 
 /// The draft that an object of all members is.
-fn contents_of(alloc: Global, value: &Value) -> Result<Draft, TableFault>
-    ensures ok { IfOk result (λ d. contents_in (view value.now) ≡ Some (contents d)) }
+fn contents_of(alloc: Global, profile: Profile, value: &Value) -> Result<Draft, TableFault>
+    ensures ok { IfOk result (λ d. contents_in profile (view value.now) ≡ Some (contents d)) }
     ensures fault { IfErr result (λ e. e ≢ Memory → e ≡ Shape) }
-    ensures shape { IfErr result (λ e. e ≢ Memory → contents_in (view value.now) ≡ None) }
+    ensures shape { IfErr result (λ e. e ≢ Memory → contents_in profile (view value.now) ≡ None) }
 {
     if !has_members(value, 5) {
         return Err(TableFault::Shape);
     }
-    let Some(head) = head_of(value) else {
+    let Some(head) = head_of(profile, value) else {
         return Err(TableFault::Shape);
     };
     Ok(Draft {
         version: head.version,
         mti: head.mti,
         bitmap: head.bitmap,
-        rows: list_of(alloc, value)?,
+        rows: list_of(alloc, profile, value)?,
     })
 }
 
@@ -291,10 +321,12 @@ pub fn draft_of(alloc: Global, value: &Value) -> Result<Draft, TableFault>
     ensures fault { IfErr result (λ e. e ≢ Memory → draft_in (view value.now) ≡ Err e) }
     ensures json { IsErrOf result TableFault.NotJson → ⊥ }
 {
-    match u16_at(value, "profile") {
-        Some(1) => contents_of(alloc, value),
-        Some(_) => Err(TableFault::Profile),
-        None => Err(TableFault::Shape),
+    let Some(number) = u16_at(value, "profile") else {
+        return Err(TableFault::Shape);
+    };
+    match Profile::numbered(number) {
+        Some(profile) => contents_of(alloc, profile, value),
+        None => Err(TableFault::Profile),
     }
 }
 

@@ -28,7 +28,7 @@ pub fn bitmap_bytes(bitmap: BitmapCoding) -> u64
 /// The bytes of a length.
 fn prefix_bytes(kind: Length) -> u64
     ensures exact { result ≡ prefix_bytes kind }
-    ensures bound { result ≤ 3 }
+    ensures bound { result ≤ 4 }
 {
     match kind {
         Length::Fixed => 0,
@@ -36,6 +36,8 @@ fn prefix_bytes(kind: Length) -> u64
         Length::LL(Digits::Bcd) => 1,
         Length::LLL(Digits::Ascii) => 3,
         Length::LLL(Digits::Bcd) => 2,
+        Length::LLLL(Digits::Ascii) => 4,
+        Length::LLLL(Digits::Bcd) => 2,
     }
 }
 
@@ -55,7 +57,7 @@ fn body_bytes(coding: Coding, characters: u16) -> u64
 /// The bytes of a row's longest field.
 fn field_bytes(spec: &FieldSpec) -> u64
     ensures exact { result ≡ field_bytes spec.now }
-    ensures bound { result ≤ 131073 }
+    ensures bound { result ≤ 131074 }
 {
     prefix_bytes(spec.length) + body_bytes(spec.coding, spec.max)
 }
@@ -63,7 +65,7 @@ fn field_bytes(spec: &FieldSpec) -> u64
 /// The bytes of the longest field at a place.
 fn place_bytes(place: Option<FieldSpec>) -> u64
     ensures exact { result ≡ place_bytes place }
-    ensures bound { result ≤ 131073 }
+    ensures bound { result ≤ 131074 }
 {
     match place {
         None => 0,
@@ -75,7 +77,7 @@ fn place_bytes(place: Option<FieldSpec>) -> u64
 pub fn places_bytes(places: &[Option<FieldSpec>]) -> u64
     requires { length places.now ≤ 129 }
     ensures exact { result ≡ sum_by place_bytes places.now }
-    ensures bound { result ≤ 129 * 131073 }
+    ensures bound { result ≤ 129 * 131074 }
 {
     let mut bytes = 0;
     for place in places {

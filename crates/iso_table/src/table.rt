@@ -76,7 +76,7 @@ impl Table {
     }
 
     /// The table of a JSON text, or the first fault: no JSON; no object with a whole number as
-    /// `profile`; another profile than 1; a member that is missing, unknown or of another kind; and
+    /// `profile`; another profile than 1 and 2; a member that is missing, unknown or of another kind; and
     /// then as [`Table::check`]. A text that stands for a table, as what [`Table::to_json`] wrote,
     /// gives that very table, unless memory ran out. A refusal leaves nothing behind: the text is
     /// only read.
@@ -90,7 +90,7 @@ impl Table {
         Table::read(alloc, text)
     }
 
-    /// The JSON text of the table, of profile 1: compact, with members in the order of their names,
+    /// The JSON text of the table, of profile 2: compact, with members in the order of their names,
     /// rows in the order of their numbers and pads in upper-case digits. The table stays as it is,
     /// also where memory ran out.
     pub fn to_json(&self, alloc: Global) -> Result<Vec<u8>, NoMemory>

@@ -1,4 +1,4 @@
-//! A table as JSON, of profile 1.
+//! A table as JSON, of profile 2.
 
 ghost use Rattle.std.specs.Prelude.{◌≡◌, ◌++◌, ◌∷◌, [], None, Some, IfOk, option_map, string_bytes};
 ghost use Rattle.hex.specs.Hex.{encode_upper};
@@ -61,6 +61,7 @@ fn length_name(kind: Length) -> &'static str
         Length::Fixed => "fixed",
         Length::LL(_) => "LL",
         Length::LLL(_) => "LLL",
+        Length::LLLL(_) => "LLLL",
     }
 }
 
@@ -90,7 +91,7 @@ fn prefix_of(kind: Length) -> Option<Digits>
 {
     match kind {
         Length::Fixed => None,
-        Length::LL(digits) | Length::LLL(digits) => Some(digits),
+        Length::LL(digits) | Length::LLL(digits) | Length::LLLL(digits) => Some(digits),
     }
 }
 
@@ -167,7 +168,7 @@ pub fn document(
     json!(in alloc; {
         "bitmap": bitmap_name(bitmap),
         "mti": digits_name(mti),
-        "profile": 1u64,
+        "profile": 2u64,
         "rows": rows,
         "version": version,
     })

@@ -3,9 +3,17 @@ use crate::fault::TableFault::{
     BadMax, BadNumber, BadVersion, CodingClass, NotJson, PadNotAllowed, Profile, Shape, Twice,
 };
 
-/// A table of one row, as `to_json` writes it.
+/// A table of one row, of profile 1.
 const TERMINAL: &str =
     r#"{"bitmap":"hex","mti":"ascii","profile":1,"rows":[{"class":"ANS","coding":"ascii","length":"fixed","max":8,"number":41,"pad":"right:20"}],"version":0}"#;
+
+/// The same table as `to_json` writes it.
+const WRITTEN: &str =
+    r#"{"bitmap":"hex","mti":"ascii","profile":2,"rows":[{"class":"ANS","coding":"ascii","length":"fixed","max":8,"number":41,"pad":"right:20"}],"version":0}"#;
+
+/// A table with four digits of a length, as `to_json` writes it.
+const CHIP: &str =
+    r#"{"bitmap":"hex","mti":"ascii","profile":2,"rows":[{"class":"B","coding":"hex","length":"LLLL","max":9999,"number":48,"pad":"none","prefix":"ascii"}],"version":0}"#;
 
 /// Its rows.
 const ROWS: &str =
@@ -15,12 +23,23 @@ const ROWS: &str =
 const ROW_TWICE: &str =
     r#"[{"class":"ANS","coding":"ascii","length":"fixed","max":8,"number":41,"pad":"right:20"},{"class":"ANS","coding":"ascii","length":"fixed","max":8,"number":41,"pad":"right:20"}]"#;
 
-/// The document of one row, with a new text in place of an old one, which stands there once.
-fn edited(rt: &impl Abort, alloc: Global, old: &str, new: &str) -> Result<String, AllocError> {
-    let parts = TERMINAL.split_once(old);
+/// A document with a new text in place of an old one, which stands there once.
+fn edited_in(
+    rt: &impl Abort,
+    alloc: Global,
+    document: &str,
+    old: &str,
+    new: &str,
+) -> Result<String, AllocError> {
+    let parts = document.split_once(old);
     let (front, rest) = parts.expect(rt, "the document has the old text");
     assert!(rt; !rest.contains(old), "the document has {old} twice");
     format!(in alloc; "{front}{new}{rest}")
+}
+
+/// The document of one row, with a new text in place of an old one.
+fn edited(rt: &impl Abort, alloc: Global, old: &str, new: &str) -> Result<String, AllocError> {
+    edited_in(rt, alloc, TERMINAL, old, new)
 }
 
 /// Edits of the document, and what the tables say: a name, an old text, and the new one in its place.
@@ -38,6 +57,8 @@ fn reads_documents(rt: HostRuntime) -> Result<(), Fail> {
         ),
     )];
     let account = [(2, number(Coding::Bcd, Length::LL(Digits::Bcd), 19))];
+    let four_digits = Length::LLLL(Digits::Ascii);
+    let chip = [(48, bytes(Coding::HexText, four_digits, 9_999))];
     let three = [
         (
             3,
@@ -63,6 +84,13 @@ fn reads_documents(rt: HostRuntime) -> Result<(), Fail> {
     ];
     for (name, old, new, says) in [
         ("one row", TERMINAL, TERMINAL, ascii_table(0, &terminal, 44)),
+        (
+            "profile 2",
+            TERMINAL,
+            WRITTEN,
+            ascii_table(0, &terminal, 44),
+        ),
+        ("four digits", TERMINAL, CHIP, ascii_table(0, &chip, 20_038)),
         ("version 1", ":0", ":1", ascii_table(1, &terminal, 44)),
         ("no rows", ROWS, "[]", ascii_table(0, &[], 36)),
         (
@@ -111,7 +139,7 @@ fn reads_documents(rt: HostRuntime) -> Result<(), Fail> {
 
 /// Edits of the document that are no tables: a name, an old text, the new one in its place, and the fault.
 /// `:1` stands at the profile alone, and `:0` at the version.
-const REFUSED: [(&str, &str, &str, TableFault); 43] = [
+const REFUSED: [(&str, &str, &str, TableFault); 46] = [
     ("empty text", TERMINAL, "", NotJson),
     ("an object cut short", TERMINAL, "{", NotJson),
     ("text behind the object", ":0}", ":0}0", NotJson),
@@ -121,6 +149,9 @@ const REFUSED: [(&str, &str, &str, TableFault); 43] = [
     ("a profile below zero", ":1", ":-1", Shape),
     ("a profile above 65535", ":1", ":65536", Shape),
     ("profile 7", ":1", ":7", Profile),
+    ("profile 0", ":1", ":0", Profile),
+    ("profile 3", ":1", ":3", Profile),
+    ("profile 2 alone", TERMINAL, r#"{"profile":2}"#, Shape),
     ("profile 7 alone", TERMINAL, r#"{"profile":7}"#, Profile),
     ("profile 1 alone", TERMINAL, r#"{"profile":1}"#, Shape),
     ("an unknown member", ":0", r#":0,"owner":"acquirer""#, Shape),
@@ -230,10 +261,37 @@ fn reads_text_alone(rt: HostRuntime) -> Result<(), Fail> {
     Ok(())
 }
 
+/// Edits of the table with four digits of a length: a name, an old text, the new one in its place, and the fault.
+#[test]
+fn refuses_four_digits(rt: HostRuntime) -> Result<(), Fail> {
+    for (name, old, new, fault) in [
+        ("profile 1", r#""profile":2"#, r#""profile":1"#, Shape),
+        ("five digits", "LLLL", "LLLLL", Shape),
+        ("lower case", "LLLL", "llll", Shape),
+        ("no prefix", r#","prefix":"ascii""#, "", Shape),
+        ("maximum 10000", "9999", "10000", BadMax(48)),
+        ("maximum 0", "9999", "0", BadMax(48)),
+        ("LLL", "LLLL", "LLL", BadMax(48)),
+        ("a pad", "none", "left:30", PadNotAllowed(48)),
+        ("text as digits", r#""B""#, r#""ANS""#, CodingClass(48)),
+    ] {
+        let text = edited_in(&rt, rt.alloc(), CHIP, old, new)?;
+        let table = Table::from_json(rt.alloc(), text.as_bytes());
+        assert_eq!(rt; table.err(), Some(fault), "{name}");
+    }
+    Ok(())
+}
+
 #[test]
 fn writes_what_it_read(rt: HostRuntime) -> Result<(), Fail> {
-    let table = Table::from_json(rt.alloc(), TERMINAL.as_bytes())?;
-    let text = table.to_json(rt.alloc())?;
-    assert_eq!(rt; text.as_slice(), TERMINAL.as_bytes());
+    for (name, document, written) in [
+        ("profile 1", TERMINAL, WRITTEN),
+        ("profile 2", WRITTEN, WRITTEN),
+        ("four digits", CHIP, CHIP),
+    ] {
+        let table = Table::from_json(rt.alloc(), document.as_bytes())?;
+        let text = table.to_json(rt.alloc())?;
+        assert_eq!(rt; text.as_slice(), written.as_bytes(), "{name}");
+    }
     Ok(())
 }

@@ -1,7 +1,7 @@
 use super::*;
 
 /// The table of the 1987 edition in ASCII, a row a line: without its line ends it is `tables/ascii87.json`.
-const ASCII87: &str = r#"{"bitmap":"hex","mti":"ascii","profile":1,"rows":[
+const ASCII87: &str = r#"{"bitmap":"hex","mti":"ascii","profile":2,"rows":[
 {"class":"N","coding":"ascii","length":"LL","max":19,"number":2,"pad":"none","prefix":"ascii"},
 {"class":"N","coding":"ascii","length":"fixed","max":6,"number":3,"pad":"none"},
 {"class":"N","coding":"ascii","length":"fixed","max":12,"number":4,"pad":"none"},
@@ -131,7 +131,7 @@ const ASCII87: &str = r#"{"bitmap":"hex","mti":"ascii","profile":1,"rows":[
 ],"version":0}"#;
 
 /// The table of the 1987 edition in BCD, a row a line: without its line ends it is `tables/bcd87.json`.
-const BCD87: &str = r#"{"bitmap":"raw","mti":"bcd","profile":1,"rows":[
+const BCD87: &str = r#"{"bitmap":"raw","mti":"bcd","profile":2,"rows":[
 {"class":"N","coding":"bcd","length":"LL","max":19,"number":2,"pad":"none","prefix":"bcd"},
 {"class":"N","coding":"bcd","length":"fixed","max":6,"number":3,"pad":"none"},
 {"class":"N","coding":"bcd","length":"fixed","max":12,"number":4,"pad":"none"},

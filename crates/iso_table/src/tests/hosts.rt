@@ -61,6 +61,7 @@ fn needs_rows(rt: HostRuntime) -> Result<(), Fail> {
 fn takes_rows(rt: HostRuntime) -> Result<(), Fail> {
     let (ascii, fixed) = (Coding::Ascii, Length::Fixed);
     let (ll, lll) = (Length::LL(Digits::Ascii), Length::LLL(Digits::Bcd));
+    let llll = Length::LLLL(Digits::Ascii);
     for (element, row) in [
         (2, number(Coding::Bcd, lll, 1)),
         (3, number(Coding::Bcd, fixed, 6)),
@@ -68,6 +69,9 @@ fn takes_rows(rt: HostRuntime) -> Result<(), Fail> {
         (13, spec(CharClass::A, ascii, fixed, 99, Pad::Left(0x20))),
         (32, number(ascii, ll, 10)),
         (33, text(lll, 99)),
+        (37, text(llll, 99)),
+        (42, bytes(Coding::HexText, llll, 99)),
+        (48, bytes(Coding::HexText, llll, 9_999)),
         (38, number(ascii, fixed, 6)),
         (38, spec(CharClass::AN, ascii, fixed, 6, Pad::None)),
         (39, text(fixed, 2)),
@@ -87,10 +91,16 @@ fn takes_rows(rt: HostRuntime) -> Result<(), Fail> {
 fn refuses_shapes(rt: HostRuntime) -> Result<(), Fail> {
     let (ascii, fixed) = (Coding::Ascii, Length::Fixed);
     let (ll, lll) = (Length::LL(Digits::Ascii), Length::LLL(Digits::Ascii));
+    let llll = Length::LLLL(Digits::Bcd);
     for (element, row) in [
         (2, number(ascii, ll, 20)),
         (2, number(ascii, fixed, 19)),
         (2, text(ll, 19)),
+        (2, number(ascii, llll, 19)),
+        (32, number(Coding::Bcd, llll, 11)),
+        (37, text(llll, 100)),
+        (54, text(llll, 120)),
+        (90, number(ascii, llll, 42)),
         (3, number(ascii, fixed, 5)),
         (3, spec(CharClass::N, ascii, fixed, 6, Pad::Left(0x30))),
         (4, number(ascii, ll, 12)),

@@ -7,5 +7,5 @@ use Rattle.iso_table.proofs.reading.rows_of.Goals as goal
 
 pub loop-value-preserved : goal.loop-value-preserved
 loop-value-preserved c =
-    let is = ap (λ (v : Value). row_in (view v)) (sym c.value-item.is) ∙ sym c.in-Some.ensures in
-    rw c.in_ok-push.ensures.items (rows_more c.args.values.now c.loop-value.value-index c.value-item.result c.in-Some.row c.loop-value.rows.items _ c.loop-value-test.true is c.loop-value.invariant)
+    let is = ap (λ (v : Value). row_in c.args.profile (view v)) (sym c.value-item.is) ∙ sym c.in-Some.ensures in
+    rw c.in_ok-push.ensures.items (rows_more c.args.profile c.args.values.now c.loop-value.value-index c.value-item.result c.in-Some.row c.loop-value.rows.items _ c.loop-value-test.true is c.loop-value.invariant)

@@ -5,4 +5,4 @@ use Rattle.iso_table.proofs.reading.rows_of.Given as goal
 
 -- the rows so far, and then those of the rest
 abbrev pub invariant-loop-value : goal.invariant-loop-value
-invariant-loop-value l = rows_in (items_view l.values) ≡ option_map (λ rest. l.rows.items ++ rest) (rows_in (items_view (drop l.value-index l.values)))
+invariant-loop-value l = rows_in l.profile (items_view l.values) ≡ option_map (λ rest. l.rows.items ++ rest) (rows_in l.profile (items_view (drop l.value-index l.values)))

@@ -5,5 +5,5 @@ use Rattle.iso_table.proofs.sizes.places_bytes.Given as goal
 abbrev pub invariant-loop-place : goal.invariant-loop-place
 invariant-loop-place l = record {
   exact : l.bytes ≡ sum_by place_bytes (take l.place-index l.places);
-  bound : l.bytes ≤ l.place-index * 131073;
+  bound : l.bytes ≤ l.place-index * 131074;
 }
