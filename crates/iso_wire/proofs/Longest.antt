@@ -45,6 +45,8 @@ prefix_same (lengths.LL digits.Ascii) = refl
 prefix_same (lengths.LL digits.Bcd) = refl
 prefix_same (lengths.LLL digits.Ascii) = refl
 prefix_same (lengths.LLL digits.Bcd) = refl
+prefix_same (lengths.LLLL digits.Ascii) = refl
+prefix_same (lengths.LLLL digits.Bcd) = refl
 
 body_same : (c : Coding) (n : ℕ) → body_bytes c n ≡ body_size c n
 body_same codings.Ascii n = refl

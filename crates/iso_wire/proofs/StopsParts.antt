@@ -55,6 +55,8 @@ told_size (lengths.LL digits.Ascii) max c p told = ap length told.1
 told_size (lengths.LL digits.Bcd) max c p told = ap length told.1
 told_size (lengths.LLL digits.Ascii) max c p told = ap length told.1
 told_size (lengths.LLL digits.Bcd) max c p told = ap length told.1
+told_size (lengths.LLLL digits.Ascii) max c p told = ap length told.1
+told_size (lengths.LLLL digits.Bcd) max c p told = ap length told.1
 
 -- the length is good, and the body stops reading with this fault
 pub record BodyHalts (t : Layout) (n : ℕ) (s : FieldSpec) (at : ℕ) (b : List ℕ) (e : UnpackFault) : Type 0 where

@@ -45,6 +45,8 @@ length-prefix (lengths.LL digits.Ascii) n = refl
 length-prefix (lengths.LL digits.Bcd) n = refl
 length-prefix (lengths.LLL digits.Ascii) n = refl
 length-prefix (lengths.LLL digits.Bcd) n = refl
+length-prefix (lengths.LLLL digits.Ascii) n = refl
+length-prefix (lengths.LLLL digits.Bcd) n = refl
 
 body_of : (rows : List (Option FieldSpec)) (n : ℕ) (b v : List ℕ) (used : ℕ) → used ≤ length b → PartAs rows n v (take used b) → IsBody rows n b v used
 body_of rows n b v used room part =

@@ -1,5 +1,5 @@
 -- Finding the bodies of elements one after the other, as a loop does, and looking one up.
-use Rattle.std.proofs.Common.{◌≡◌, ℕ, zero, suc, ◌+◌, ◌-◌, ◌≤◌, ◌<◌, ◌&&◌, Bool, true, false, eqb, leb, List, [], ◌∷◌, ◌++◌, length, take, drop, set, Option, Some, None, Result, Ok, Err, refl, sym, ap, subst, ◌∙◌, append_assoc, arith, inl, inr}
+use Rattle.std.proofs.Common.{◌≡◌, ℕ, zero, suc, ◌+◌, ◌-◌, ◌*◌, ◌≤◌, ◌<◌, ◌&&◌, Bool, true, false, eqb, leb, List, [], ◌∷◌, ◌++◌, length, take, drop, set, Option, Some, None, Result, Ok, Err, refl, sym, ap, subst, ◌∙◌, append_assoc, arith, inl, inr}
 use Rattle.std.proofs.lemmas.Bool.{cases_eq, cond-true, cond-false, and_parts, leb-true, le-leb}
 use Rattle.std.proofs.lemmas.Bool.Decides.{nat_tests}
 use Rattle.std.proofs.lemmas.List.{drop-drop, append-nil, get_or-set_same, get_or-set_other}
@@ -12,7 +12,7 @@ use Rattle.iso_parts.specs.declared.prefix.Length.TheVariants as lengths
 use Rattle.iso_parts.specs.Bits.{in_words}
 use Rattle.iso_parts.specs.PartLaws.{PartLaws, IsUpTo}
 use Rattle.iso_parts.specs.Reading.{got, prefix_size, body_size, part_at}
-use Rattle.iso_parts.specs.Row.{IsGood, limit}
+use Rattle.iso_parts.specs.Row.{IsGood, limit, longest_value}
 use Rattle.iso_table.specs.Layout.{row_at}
 use Rattle.iso_wire.specs.declared.bodies.Spot.{Spot}
 use Rattle.iso_wire.specs.declared.fault.UnpackFault.{UnpackFault}
@@ -20,7 +20,7 @@ use Rattle.iso_wire.specs.declared.numbers.Numbers.{Numbers}
 use Rattle.iso_wire.specs.Elements.{value_in}
 use Rattle.iso_wire.specs.Numbers.{numbers}
 use Rattle.iso_wire.specs.Reading.{◌>>=◌, value_at}
-use Rattle.iso_wire.specs.Viewing.{bytes_at, no_spot, spot_at, wire_of, wires_in, IsWithin, AreWithin, front_of, wire_at, wires_at}
+use Rattle.iso_wire.specs.Viewing.{bytes_at, longest_part, no_spot, spot_at, wire_of, wires_in, IsWithin, AreWithin, front_of, wire_at, wires_at}
 use Rattle.iso_wire.specs.Walk.{left, is_left}
 use Rattle.iso_wire.proofs.Loop.{with_front}
 use Rattle.iso_wire.proofs.NumberLaws.{one_more, no_more, no_numbers}
@@ -271,31 +271,34 @@ few_left walk = few_numbers (in_words walk.first walk.second) 127 2
 
 -- ---- the longest part
 
-limit_few : (k : Length) → limit k ≤ 999
+limit_few : (k : Length) → limit k ≤ longest_value
 limit_few lengths.Fixed = omega arith
 limit_few (lengths.LL d) = omega arith
 limit_few (lengths.LLL d) = omega arith
+limit_few (lengths.LLLL d) = omega arith
 
-front_few : (k : Length) → prefix_size k ≤ 3
+front_few : (k : Length) → prefix_size k ≤ 4
 front_few lengths.Fixed = omega arith
 front_few (lengths.LL digits.Ascii) = omega arith
 front_few (lengths.LL digits.Bcd) = omega arith
 front_few (lengths.LLL digits.Ascii) = omega arith
 front_few (lengths.LLL digits.Bcd) = omega arith
+front_few (lengths.LLLL digits.Ascii) = omega arith
+front_few (lengths.LLLL digits.Bcd) = omega arith
 
-body_few : (c : Coding) (n : ℕ) → n ≤ 999 → body_size c n ≤ 1998
+body_few : (c : Coding) (n : ℕ) → n ≤ longest_value → body_size c n ≤ 2 * longest_value
 body_few codings.Ascii n le = omega arith
 body_few codings.Raw n le = omega arith
 body_few codings.Bcd n le = omega arith
 body_few codings.HexText n le = omega arith
 
-pub longest_part : (s : FieldSpec) → IsGood s → prefix_size s.length + body_size s.coding s.max ≤ 2001
-longest_part s good =
+pub part_few : (s : FieldSpec) → IsGood s → prefix_size s.length + body_size s.coding s.max ≤ longest_part
+part_few s good =
     let max : s.max ≤ limit s.length = leb-true s.max (limit s.length) (and_parts (leb 1 s.max) (leb s.max (limit s.length)) good.max).1 in
     omega (arith, max, limit_few s.length, front_few s.length, body_few s.coding s.max (omega (arith, max, limit_few s.length)))
 
 -- a part that was read is no longer
-pub got_few : (laws : PartLaws) (s : FieldSpec) (b v : List ℕ) (used : ℕ) → IsGood s → part_at s b ≡ got v used → used ≤ 2001
+pub got_few : (laws : PartLaws) (s : FieldSpec) (b v : List ℕ) (used : ℕ) → IsGood s → part_at s b ≡ got v used → used ≤ longest_part
 got_few laws s b v used good is =
     let most = subst (IsUpTo (prefix_size s.length + body_size s.coding s.max) (length b)) is (laws.most s b) in
-    omega (arith, most, longest_part s good)
+    omega (arith, most, part_few s good)

@@ -1,9 +1,10 @@
 -- A message that is left where it lies: its type, its length, and the bodies of its elements.
-use Rattle.std.specs.Prelude.{◌≡◌, ℕ, ◌+◌, ◌-◌, ◌≤◌, List, [], ◌∷◌, ◌++◌, length, take, drop, map, Option, Some, None, Result, Ok, Err}
+use Rattle.std.specs.Prelude.{◌≡◌, ℕ, ◌+◌, ◌-◌, ◌*◌, ◌≤◌, List, [], ◌∷◌, ◌++◌, length, take, drop, map, Option, Some, None, Result, Ok, Err}
 use Rattle.std.specs.List.{slice_index_or}
 use Rattle.iso_parts.specs.declared.spec.FieldSpec.{FieldSpec}
 use Rattle.iso_parts.specs.Part.{Body, prefix}
 use Rattle.iso_parts.specs.Reading.{prefix_size}
+use Rattle.iso_parts.specs.Row.{longest_value}
 use Rattle.iso_wire.specs.declared.bodies.Spot.{Spot}
 use Rattle.iso_wire.specs.declared.fault.UnpackFault.{UnpackFault}
 use Rattle.iso_wire.specs.Contents.{Contents}
@@ -47,6 +48,10 @@ AreWithin size spots [] = Unit {0}
 AreWithin size spots (n ∷ ns) = IsWithin size (spot_at spots n) × AreWithin size spots ns
 
 -- ---- reading the bodies
+
+-- the most bytes of a part: four of length, and two for each character
+abbrev pub longest_part : ℕ
+longest_part = 2 * longest_value + 4
 
 -- how many bytes of a part stand before its body
 abbrev pub front_of : Option FieldSpec → ℕ

@@ -6,7 +6,7 @@ ghost use Rattle.iso_table.specs.Layout.{row_at, AreGood};
 ghost use Rattle.iso_wire.specs.Elements.{value_in};
 ghost use Rattle.iso_wire.specs.Reading.{value_at};
 ghost use Rattle.iso_wire.specs.Walk.{left};
-ghost use Rattle.iso_wire.specs.Viewing.{bytes_at, wires_in, IsWithin, AreWithin, wires_at, view_at, JudgesWire, FindsBodies};
+ghost use Rattle.iso_wire.specs.Viewing.{bytes_at, longest_part, wires_in, IsWithin, AreWithin, wires_at, view_at, JudgesWire, FindsBodies};
 
 use crate::bitmaps::words_of;
 use crate::fault::{UnpackCause, UnpackFault};
@@ -40,8 +40,7 @@ fn judge_wire(table: &Table, n: u8, at: usize, bytes: &[u8]) -> Result<(usize, u
     requires { at ≤ length bytes.now }
     ensures exact { JudgesWire (row_at table.now.rows n) result (value_at table.now.rows n at (drop at bytes.now)) }
     ensures room { IfOk result (λ x. (x.0 ≤ x.1) × (at + x.1 ≤ length bytes.now)) }
-    // Three bytes of length, and two for each of 999 characters.
-    ensures few { IfOk result (λ x. x.1 ≤ 2001) }
+    ensures few { IfOk result (λ x. x.1 ≤ longest_part) }
 {
     iso_parts::laws::parts();
     let Some(row) = table.row(n) else {

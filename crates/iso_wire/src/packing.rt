@@ -21,7 +21,7 @@ use std::alloc::{AllocError, Global};
 const LONGEST_HEAD: usize = 36;
 
 /// The most bytes that a length takes.
-const LONGEST_PREFIX: usize = 3;
+const LONGEST_PREFIX: usize = 4;
 
 /// The fault of element `n` whose value is refused.
 fn pack_fault(n: u8, fault: FieldFault) -> PackFault

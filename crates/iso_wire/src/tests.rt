@@ -7,6 +7,7 @@ use std::test::*;
 mod faults;
 mod frames;
 mod hostile;
+mod long_values;
 mod masks;
 mod messages;
 mod pieces;

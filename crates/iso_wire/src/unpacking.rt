@@ -21,12 +21,9 @@ use crate::fault::{UnpackCause, UnpackFault};
 use crate::laws::{reads_spellings, stops};
 use crate::message::Message;
 use crate::numbers::Numbers;
-use iso_parts::{Digits, FieldFault, FieldSpec, Mti, append_value};
+use iso_parts::{Digits, FieldFault, FieldSpec, LONGEST_VALUE, Mti, append_value};
 use iso_table::Table;
 use std::alloc::Global;
-
-/// The most characters that a row allows a value.
-const LONGEST_VALUE: usize = 999;
 
 /// The type of four digits.
 fn four_digits(a: u8, b: u8, c: u8, d: u8) -> Option<Mti>

@@ -1,5 +1,5 @@
 use Rattle.std.proofs.Common.{◌≡◌, ◌≤◌, ◌+◌, ◌*◌, length, drop}
-use Rattle.iso_wire.specs.Viewing.{wires_at}
+use Rattle.iso_wire.specs.Viewing.{longest_part, wires_at}
 use Rattle.iso_wire.specs.Walk.{left}
 use Rattle.iso_wire.proofs.Wires.{Found}
 use Rattle.iso_wire.proofs.bodies.find_bodies.Given as goal
@@ -8,7 +8,7 @@ abbrev pub invariant-loop-n : goal.invariant-loop-n
 invariant-loop-n l = record {
   found : Found l.table.rows l.bytes l.spots (left l.fn.numbers) (left l.rest) l.at (wires_at l.table.rows (left l.fn.numbers) l.start (drop l.start l.bytes));
   room : l.at ≤ length l.bytes;
-  few : l.at + 2001 * length (left l.rest) ≤ 260000;
+  few : l.at + longest_part * length (left l.rest) ≤ 36 + longest_part * 127;
   spots : length l.spots ≡ 129;
 }
 
