@@ -10,3 +10,4 @@ pub mod PartLaws
 pub mod MapLaws
 pub mod Pieces
 pub mod PieceLaws
+pub mod Building

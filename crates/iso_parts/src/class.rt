@@ -2,7 +2,7 @@
 
 ghost use Rattle.std.specs.Prelude.{◌≡◌};
 ghost use Rattle.std.specs.List.{list_all};
-ghost use Rattle.iso_parts.specs.Class.{is_member, is_first, is_in_class};
+ghost use Rattle.iso_parts.specs.Class.{is_within, is_member, is_in_class};
 
 /// The characters that a value may have.
 #[derive(Clone, Copy, Debug, PartialEq, Eq)]
@@ -25,6 +25,20 @@ pub enum CharClass {
     B,
 }
 
+/// Whether each byte lies from `low` up to `high`. The loop has no early end, so that many bytes are looked at at a
+/// time.
+fn are_within(low: u8, high: u8, bytes: &[u8]) -> bool
+    ensures { result ≡ list_all (is_within low high) bytes.now }
+{
+    let mut least = u8::MAX;
+    let mut greatest = u8::MIN;
+    for b in bytes {
+        least = least.min(*b);
+        greatest = greatest.max(*b);
+    }
+    low <= least && greatest <= high
+}
+
 impl CharClass {
     fn has(self, b: u8) -> bool
         ensures { result ≡ is_member self b }
@@ -40,17 +54,8 @@ impl CharClass {
         }
     }
 
-    fn has_first(self, b: u8) -> bool
-        ensures { result ≡ is_first self b }
-    {
-        match self {
-            CharClass::XN => matches!(b, b'C' | b'D'),
-            _ => self.has(b),
-        }
-    }
-
     /// Whether each byte is of the class. The loop has no early end, so that many bytes are judged at a time.
-    fn has_all(self, bytes: &[u8]) -> bool
+    fn has_each(self, bytes: &[u8]) -> bool
         ensures { result ≡ list_all (is_member self) bytes.now }
     {
         let mut all = true;
@@ -60,13 +65,27 @@ impl CharClass {
         all
     }
 
+    /// Whether each byte is of the class: where the class is one range, the least and the greatest byte tell.
+    fn has_all(self, bytes: &[u8]) -> bool
+        ensures { result ≡ list_all (is_member self) bytes.now }
+    {
+        match self {
+            CharClass::N | CharClass::XN => are_within(0x30, 0x39, bytes),
+            CharClass::ANS => are_within(0x20, 0x7E, bytes),
+            CharClass::Z => are_within(0x30, 0x3F, bytes),
+            _ => self.has_each(bytes),
+        }
+    }
+
     /// Whether the bytes are a value of the class.
     pub(crate) fn takes(self, value: &[u8]) -> bool
         ensures { result ≡ is_in_class self value.now }
     {
         match value {
-            [] => true,
-            [first, rest @ ..] => self.has_first(*first) && self.has_all(rest),
+            [first, rest @ ..] if self == CharClass::XN => {
+                matches!(*first, b'C' | b'D') && self.has_all(rest)
+            }
+            _ => self.has_all(value),
         }
     }
 }

@@ -143,9 +143,9 @@ impl Coding {
         ensures { result ≡ body_size self n }
     {
         match self {
-            Coding::Ascii | Coding::Raw => n as usize,
             Coding::Bcd => (n as usize + 1) / 2,
             Coding::HexText => 2 * n as usize,
+            _ => n as usize,
         }
     }
 

@@ -153,6 +153,7 @@ pub fn encode_field(spec: &FieldSpec, value: &[u8], out: &mut Vec<u8>) -> Result
 }
 
 /// The count of characters that a whole length tells.
+#[inline]
 pub(crate) fn prefix_of(spec: &FieldSpec, prefix: &[u8]) -> Result<u16, FieldFault>
     requires { length prefix.now ≡ prefix_size spec.now.length }
     ensures { result ≡ prefix_of spec.now prefix.now }

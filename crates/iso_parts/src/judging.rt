@@ -3,6 +3,7 @@
 ghost use Rattle.std.specs.Prelude.{◌≡◌, ◌≢◌, ◌≤◌, ◌+◌, ◌*◌, ◌/◌, ℕ, List, take, drop, length, IfErr, IfOk, IfSome};
 ghost use Rattle.std.specs.List.{list_all};
 ghost use Rattle.hex.specs.Hex.{is_hex_digit};
+ghost use Rattle.iso_parts.specs.Building.{IsPart};
 ghost use Rattle.iso_parts.specs.Class.{is_digit};
 ghost use Rattle.iso_parts.specs.Row.{IsGood};
 ghost use Rattle.iso_parts.specs.declared.fault.FieldFault.TheVariants.{Memory};
@@ -194,6 +195,7 @@ pub fn judge_length(spec: &FieldSpec, bytes: &[u8]) -> Result<Option<u16>, Field
 
 /// Judges the body of `n` characters that the bytes begin with, and gives how many bytes it takes; `None` where
 /// bytes are missing. Takes no memory.
+#[inline]
 pub fn judge_body(spec: &FieldSpec, n: u16, bytes: &[u8]) -> Result<Option<usize>, FieldFault>
     requires good { IsGood spec.now }
     requires few { n ≤ spec.now.max }
@@ -237,8 +239,10 @@ fn judged_of(spec: &FieldSpec, bytes: &[u8]) -> Result<Judged, FieldFault>
 /// and without memory: where its body begins, and how many bytes it takes.
 pub fn judge_field(spec: &FieldSpec, bytes: &[u8]) -> Result<Judged, FieldFault>
     requires { IsGood spec.now }
-    // What is judged good is a part of some value.
+    // What is judged good is a part of some value,
     ensures found { IfJudged result (λ body used. (used ≤ length bytes.now) × ((value : List ℕ) × Part spec.now value (take used bytes.now))) }
+    // and its value can be appended without judging it again.
+    ensures part { IfJudged result (λ body used. IsPart (part_at spec.now bytes.now)) }
     // It is judged as reading the value judges it,
     ensures exact { Judges (prefix_size spec.now.length) result (part_at spec.now bytes.now) }
     // and there is always memory.

@@ -3,6 +3,7 @@
 
 mod bitmap;
 mod bitmap_reading;
+mod building;
 mod class;
 mod encoding;
 mod fault;
@@ -15,6 +16,7 @@ mod prefix;
 mod spec;
 
 pub use bitmap::{Bitmap, BitmapCause, BitmapCoding, BitmapFault, BitmapStep};
+pub use building::append_judged;
 pub use class::CharClass;
 pub use encoding::Coding;
 pub use fault::FieldFault;

@@ -316,6 +316,26 @@ fn parts_are_read(rt: HostRuntime) -> Result<(), Fail> {
 }
 
 #[test]
+fn judged_parts_are_built(rt: HostRuntime) -> Result<(), Fail> {
+    for case in &parts() {
+        let name = case.name;
+        assert!(rt; case.row.good().is_ok(), "{name}");
+        let longer = [case.part, b"7?"].concat(rt.alloc())?;
+        let expected = [b"before", case.value].concat(rt.alloc())?;
+        let mut out = Vec::from_slice(rt.alloc(), b"before")?;
+        match judge_field(&case.row, &longer)? {
+            Judged::Got { .. } => {
+                let used = append_judged(&case.row, &longer, &mut out)?;
+                assert_eq!(rt; used, case.part.len(), "{name}");
+                assert_eq!(rt; out.as_slice(), expected.as_slice(), "{name}");
+            }
+            Judged::More => return Err(name)?,
+        }
+    }
+    Ok(())
+}
+
+#[test]
 fn other_spellings_are_read(rt: HostRuntime) -> Result<(), Fail> {
     let cases = [
         Case {
