@@ -4,7 +4,7 @@ use crate::messages::{PAYMENT, large};
 use crate::speed::Speed;
 use anyhow::{Result, ensure};
 use iso_table::Table;
-use iso_wire::{Message, pack, unpack};
+use iso_wire::{Message, pack, unpack, view};
 use std::alloc::Global;
 use std::rt::Clock;
 use std::time::Instant;
@@ -38,6 +38,17 @@ fn written(
     Speed::since(rt, start, u64::from(times))
 }
 
+/// Views the bytes so many times, and looks each time where the body of that element lies.
+fn viewed(rt: &impl Clock, table: &Table, bytes: &[u8], element: u8, times: u32) -> Result<Speed> {
+    let start = Instant::now(rt)?;
+    for _ in 0..times {
+        let view = view(table, bytes)?;
+        ensure!(view.used() == bytes.len(), "bytes are left");
+        ensure!(view.wire(element).is_some(), "an element is missing");
+    }
+    Speed::since(rt, start, u64::from(times))
+}
+
 /// Prints what one call took.
 fn print(rt: &impl Print, verb: &str, size: usize, speed: Speed) -> Result<()> {
     let nanos = speed.nanos_each();
@@ -60,7 +71,10 @@ fn measure_one(
     let speed = read(rt, alloc, table, bytes, times)?;
     print(rt, "unpack", bytes.len(), speed)?;
     let speed = written(rt, alloc, table, &message, times)?;
-    print(rt, "pack", bytes.len(), speed)
+    print(rt, "pack", bytes.len(), speed)?;
+    let last = message.elements().highest();
+    let speed = viewed(rt, table, bytes, last, times)?;
+    print(rt, "view", bytes.len(), speed)
 }
 
 /// Measures the payment so many times, and the large message a hundredth as often.

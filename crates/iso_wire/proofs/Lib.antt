@@ -10,6 +10,7 @@ pub mod ElementLaws
 pub mod WordLaws
 pub mod Messages
 pub mod Unpacks
+pub mod Built
 pub mod WalkLaws
 pub mod Loop
 pub mod Appends

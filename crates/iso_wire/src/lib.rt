@@ -4,6 +4,7 @@
 
 mod bitmaps;
 mod bodies;
+mod building;
 mod decimal;
 mod elements;
 mod fault;

@@ -14,12 +14,13 @@ ghost use Rattle.iso_wire.specs.ReadingLaws.{IsShort};
 ghost use Rattle.iso_wire.specs.Resuming.{IsResumed};
 ghost use Rattle.iso_wire.specs.Spelling.{AreBytes, BeginsWith, BeginsWithNone, IsUnambiguous, Spelling};
 
+use crate::building::build_judged;
 use crate::elements::Elements;
 use crate::fault::{UnpackCause, UnpackFault};
 use crate::judging::{Stage, judge_from};
 use crate::laws::{reads_spellings, stops};
 use crate::message::Message;
-use crate::unpacking::{message_of, read_message};
+use crate::unpacking::read_message;
 use iso_table::Table;
 use std::alloc::Global;
 use std::marker::Model;
@@ -88,7 +89,7 @@ fn build(
     ensures good { AreGood table.now.rows }
 {
     reads_spellings();
-    match message_of(alloc, table, bytes) {
+    match build_judged(alloc, table, bytes) {
         Ok((message, end)) => Ok((message, end - before)),
         Err(fault) => Err(fault),
     }

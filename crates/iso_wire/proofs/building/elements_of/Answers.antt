@@ -1,0 +1,24 @@
+use Rattle.std.proofs.Common.{drop}
+use Rattle.std.proofs.lemmas.List.{drop-drop}
+use Rattle.iso_wire.specs.Entries.{views}
+use Rattle.iso_wire.specs.Walk.{left}
+use Rattle.iso_wire.proofs.Built.{first_read}
+use Rattle.iso_wire.proofs.Loop.{goes_on}
+use Rattle.iso_wire.proofs.building.elements_of.Goals as goal
+
+pub loop-n-preserved : goal.loop-n-preserved
+loop-n-preserved c =
+    let read = c.in_ok-used.ensures.exact in
+    let at = c.loop-n.at in
+    let used = c.in_ok-used.used in
+    let behind = drop-drop used at c.args.bytes.now in
+    rw (read.2, ← behind) (record {
+      read = goes_on c.args.table.now.rows (views c.loop-n.elements) (left c.loop-n.rest) (left c.next.new.self) c.in-Some.n at (drop at c.args.bytes.now) (read.0, used) _ c.in-Some.ensures read.1 c.loop-n.invariant.read;
+      room = c.in_ok-used.ensures.room;
+      whole = c.in_ok-used.ensures.whole;
+    })
+
+pub append_element-requires-clause-read : goal.append_element-requires-clause-read
+append_element-requires-clause-read c =
+    let at = c.loop-n.at in
+    first_read c.args.table.now.rows (views c.loop-n.elements) (left c.loop-n.rest) (left c.next.new.self) c.in-Some.n at (drop at c.args.bytes.now) _ c.in-Some.ensures c.loop-n.invariant.read c.requires.read

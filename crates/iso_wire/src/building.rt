@@ -1,0 +1,90 @@
+//! Building a message that was judged good, without judging it again.
+
+ghost use Rattle.std.specs.Prelude.{◌≡◌, ◌+◌, ◌≤◌, drop, length, IfOk, OnOk};
+ghost use Rattle.iso_table.specs.Layout.{AreGood};
+ghost use Rattle.iso_wire.specs.Entries.{views, IsWhole};
+ghost use Rattle.iso_wire.specs.Feeding.{IsRead};
+ghost use Rattle.iso_wire.specs.Reading.{AppendsElement, Gives, Unpacks, value_at, elements_at, message_at};
+ghost use Rattle.iso_wire.specs.Walk.{left};
+
+use crate::bitmaps::words_of;
+use crate::elements::Elements;
+use crate::fault::UnpackFault;
+use crate::message::Message;
+use crate::numbers::Numbers;
+use crate::unpacking::{mti_size, type_of};
+use iso_parts::{LONGEST_VALUE, append_judged};
+use iso_table::Table;
+use std::alloc::Global;
+
+/// Appends element `n`, whose part begins at `at`, and gives how many bytes the part takes.
+fn append_element(
+    table: &Table,
+    n: u8,
+    at: usize,
+    bytes: &[u8],
+    elements: &mut Elements,
+) -> Result<usize, UnpackFault>
+    requires within { at ≤ length bytes.now }
+    requires whole { IsWhole elements.old }
+    requires read { IsRead (value_at table.now.rows n at (drop at bytes.now)) }
+    ensures exact { AppendsElement (views elements.old) (views elements.new) n result (value_at table.now.rows n at (drop at bytes.now)) }
+    ensures room { IfOk result (λ used. at + used ≤ length bytes.now) }
+    ensures whole { OnOk result (IsWhole elements.new) }
+{
+    let Some(row) = table.row(n) else {
+        unreachable!();
+    };
+    let (_, part) = bytes.split_at(at);
+    let from = elements.values.len();
+    let used = append_judged(row, part, &mut elements.values)?;
+    elements.close(n, from)?;
+    Ok(used)
+}
+
+/// The elements with these numbers, whose parts begin at `start`, and the offset behind them.
+fn elements_of(
+    alloc: Global,
+    table: &Table,
+    numbers: Numbers,
+    start: usize,
+    bytes: &[u8],
+) -> Result<(Elements, usize), UnpackFault>
+    requires within { start ≤ length bytes.now }
+    requires read { IsRead (elements_at table.now.rows (left numbers) start (drop start bytes.now)) }
+    ensures exact { Gives (λ x. (views x.0, x.1)) result (elements_at table.now.rows (left numbers) start (drop start bytes.now)) }
+    ensures whole { IfOk result (λ x. IsWhole x.0) }
+{
+    let count = numbers.count();
+    let room = count
+        .saturating_mul(LONGEST_VALUE)
+        .min((bytes.len() - start).saturating_mul(2));
+    let mut elements = Elements::with_room(alloc, count, room)?;
+    let mut rest = numbers;
+    let mut at = start;
+    while let Some(n) = rest.next() {
+        let used = append_element(table, n, at, bytes, &mut elements)?;
+        at += used;
+    }
+    Ok((elements, at))
+}
+
+/// The message that the bytes begin with, and how many bytes it takes. The caller has judged it good.
+#[tactic(auto, unfolding(crate::specs::Reading::message_at))]
+pub(crate) fn build_judged(
+    alloc: Global,
+    table: &Table,
+    bytes: &[u8],
+) -> Result<(Message, usize), UnpackFault>
+    requires read { IsRead (message_at table.now bytes.now) }
+    ensures exact { Unpacks result (message_at table.now bytes.now) }
+    ensures good { AreGood table.now.rows }
+{
+    let mti = type_of(table, bytes)?;
+    let size = mti_size(table.mti());
+    let (_, rest) = bytes.split_at(size);
+    let (first, second, used) = words_of(table, size, rest)?;
+    let numbers = Numbers::of(first, second);
+    let (elements, end) = elements_of(alloc, table, numbers, size + used, bytes)?;
+    Ok((Message::from_elements(mti, elements), end))
+}
