@@ -96,6 +96,7 @@ length_by false n max same = grind (arith, nat_tests)
 counted_by : (l : Length) (p : Pad) (n max : ℕ) → is_counted l ≡ true → n ≤ max → (if is_exact l p then n == max else nat_le n max) ≡ true
 counted_by (lengths.LL d) p n max is within = grind (arith, nat_tests)
 counted_by (lengths.LLL d) p n max is within = grind (arith, nat_tests)
+counted_by (lengths.LLLL d) p n max is within = absurd cc
 counted_by lengths.Fixed p n max is within = absurd cc
 
 -- ---- rows

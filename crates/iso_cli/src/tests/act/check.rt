@@ -66,6 +66,34 @@ fn a_table_is_checked(rt: HostRuntime) -> Result<(), Fail> {
     runs(&rt, &cases, TERMINALS)
 }
 
+/// Chip data in hexadecimal digits, behind four digits of a length.
+const CHIP: &[u8] =
+    b"{\"bitmap\":\"hex\",\"mti\":\"ascii\",\"profile\":2,\"rows\":[{\"class\":\"B\",\"coding\":\"hex\",\
+      \"length\":\"LLLL\",\"max\":9999,\"number\":48,\"pad\":\"none\",\"prefix\":\"ascii\"}],\"version\":0}";
+
+#[test]
+fn four_digits_of_a_length_are_checked_and_shown(rt: HostRuntime) -> Result<(), Fail> {
+    let cases = [
+        Case {
+            name: "checked",
+            words: &["check", "table.json"],
+            input: b"",
+            status: 0,
+            output: b"OK version=0 rows=1 max=20038\n",
+            faults: b"",
+        },
+        Case {
+            name: "shown",
+            words: &["show", "table.json"],
+            input: b"08000000000000010000000301020A",
+            status: 0,
+            output: b"MTI=0800 1987 NetworkManagement Request Acquirer\nDE048=01020A\nUSED=30/30\n",
+            faults: b"",
+        },
+    ];
+    runs(&rt, &cases, CHIP)
+}
+
 #[test]
 fn a_table_is_refused(rt: HostRuntime) -> Result<(), Fail> {
     let documents = [
@@ -145,6 +173,20 @@ fn a_table_is_refused(rt: HostRuntime) -> Result<(), Fail> {
             b"{\"bitmap\":\"hex\",\"mti\":\"ascii\",\"profile\":1,\"rows\":[{\"class\":\"N\",\"coding\":\"ascii\",\
               \"length\":\"LL\",\"prefix\":\"ascii\",\"max\":12345678901234567890,\"number\":2,\"pad\":\"none\"}],\
               \"version\":0}"
+                .as_slice(),
+            b"refused: table Shape\n".as_slice(),
+        ),
+        (
+            "LLLL of 10,000",
+            b"{\"bitmap\":\"hex\",\"mti\":\"ascii\",\"profile\":2,\"rows\":[{\"class\":\"B\",\"coding\":\"hex\",\
+              \"length\":\"LLLL\",\"max\":10000,\"number\":48,\"pad\":\"none\",\"prefix\":\"ascii\"}],\"version\":0}"
+                .as_slice(),
+            b"refused: table BadMax element 48\n".as_slice(),
+        ),
+        (
+            "LLLL under profile 1",
+            b"{\"bitmap\":\"hex\",\"mti\":\"ascii\",\"profile\":1,\"rows\":[{\"class\":\"B\",\"coding\":\"hex\",\
+              \"length\":\"LLLL\",\"max\":9999,\"number\":48,\"pad\":\"none\",\"prefix\":\"ascii\"}],\"version\":0}"
                 .as_slice(),
             b"refused: table Shape\n".as_slice(),
         ),
