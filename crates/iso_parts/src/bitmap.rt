@@ -1,7 +1,8 @@
 //! Bitmaps: which elements a message has.
 
 ghost use Rattle.std.specs.Int.{bit_at};
-ghost use Rattle.std.specs.Prelude.{◌≡◌, ◌≢◌, ℕ, ◌+◌, ◌-◌, ◌<◌, ◌≤◌, ◌^◌, ◌++◌, Bool, true, false, List, length, take, drop, OnOk, OnErr, ◌==◌, ◌⊎◌};
+ghost use Rattle.std.specs.Prelude.{◌≡◌, ◌≢◌, ◌+◌, ◌-◌, ◌<◌, ◌≤◌, ◌^◌, ◌++◌, ◌==◌, ◌⊎◌};
+ghost use Rattle.std.specs.Prelude.{ℕ, Bool, true, false, List, length, take, drop, OnOk, OnErr};
 
 use crate::bitmap_reading::{hex_word, raw_word, read};
 use crate::encoding::append_hex;

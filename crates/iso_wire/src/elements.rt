@@ -1,6 +1,7 @@
 //! The elements of a message, their values one after another in one buffer.
 
-ghost use Rattle.std.specs.Prelude.{◌≡◌, ◌+◌, ◌-◌, ◌^◌, ◌<◌, ◌≤◌, ◌↔◌, ◌++◌, ◌∷◌, [], ℕ, All, length, take, drop, insert, slice_get};
+ghost use Rattle.std.specs.Prelude.{◌≡◌, ◌+◌, ◌-◌, ◌^◌, ◌<◌, ◌≤◌, ◌↔◌, ◌++◌, ◌∷◌, []};
+ghost use Rattle.std.specs.Prelude.{ℕ, All, length, take, drop, insert, slice_get};
 ghost use Rattle.std.specs.Prelude.{slice_set, vec_len, vec_capacity, IsTrue, true, IfOk, OnOk, OnErr, MatchOption, Some, None};
 ghost use Rattle.iso_parts.specs.Bits.{contains};
 ghost use Rattle.iso_wire.specs.Elements.{value_in, has, is_number, IsAscending, IsBelow, put, without};

@@ -1,6 +1,7 @@
 //! Messages.
 
-ghost use Rattle.std.specs.Prelude.{◌≡◌, ◌<◌, ◌≤◌, ◌^◌, ◌++◌, ◌∷◌, [], ℕ, All, true, false, ◌↔◌, IfOk, OnOk, OnErr, IsTrue, IsOkUnless};
+ghost use Rattle.std.specs.Prelude.{◌≡◌, ◌<◌, ◌≤◌, ◌^◌, ◌++◌, ◌∷◌, [], ◌↔◌};
+ghost use Rattle.std.specs.Prelude.{ℕ, All, true, false, IfOk, OnOk, OnErr, IsTrue, IsOkUnless};
 ghost use Rattle.std.specs.Prelude.{MatchOption, Some, None};
 ghost use Rattle.iso_parts.specs.Bits.{contains};
 ghost use Rattle.iso_parts.specs.Mti.{number};

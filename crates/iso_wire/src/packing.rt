@@ -60,7 +60,8 @@ fn append_elements(
 ) -> Result<(), PackFault>
     requires { bytes_in index.now ≡ length values.now }
     ensures written { OnOk result (out.new.items ≡ out.old.items ++ flat_map (plain_of table.now.rows) (elements_of index.now values.now)) }
-    ensures spelled { OnOk result (Parts table.now.rows (elements_of index.now values.now) (flat_map (plain_of table.now.rows) (elements_of index.now values.now))) }
+    ensures spelled { OnOk result (Parts table.now.rows (elements_of index.now values.now)
+        (flat_map (plain_of table.now.rows) (elements_of index.now values.now))) }
     ensures fits { OnOk result (refused table.now.rows (elements_of index.now values.now) ≡ None) }
     ensures fault { IfErr result (λ e. e ≢ pack.Memory → refused table.now.rows (elements_of index.now values.now) ≡ Some e) }
 {
@@ -150,7 +151,8 @@ pub fn pack(alloc: Global, table: &Table, message: &Message) -> Result<Vec<u8>, 
     // Which fault it is, unless memory ran out.
     ensures fault { IfErr result (λ e. e ≢ pack.Memory → message_refusal table.now message.now ≡ Some e) }
     // Whatever bytes follow it, what is written reads as the message, and no byte more.
-    ensures again { IfOk result (λ out. (rest : List ℕ) → AreBytes rest → message_at table.now (out.items ++ rest) ≡ whole message.now (length out.items)) }
+    ensures again { IfOk result (λ out. (rest : List ℕ) → AreBytes rest →
+        message_at table.now (out.items ++ rest) ≡ whole message.now (length out.items)) }
 {
     reads_spellings();
     plain_spelling(alloc, table, message)
