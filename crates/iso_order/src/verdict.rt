@@ -1,6 +1,7 @@
 //! What a message asks of an issuer.
 
-ghost use Rattle.std.specs.Prelude.{◌≡◌, ◌==◌, ◌&&◌, ◌≤◌, is_some, ◌++◌, ◌⊎◌, List, Bool, true, false, Some, None, IfSome, IsTrue, if◌then◌else◌};
+ghost use Rattle.std.specs.Prelude.{◌≡◌, ◌==◌, ◌&&◌, ◌≤◌, ◌++◌, ◌⊎◌, if◌then◌else◌};
+ghost use Rattle.std.specs.Prelude.{is_some, List, Bool, true, false, Some, None, IfSome, IsTrue};
 ghost use Rattle.iso_wire.specs.Elements.{has};
 ghost use Rattle.iso_order.specs.Fields.{version, class, function, origin, asks, key_of, is_original, kind, is_debit, is_credit};
 ghost use Rattle.iso_order.specs.Fields.{is_inquiry, money_of, part, is_replacement, left_of, completes, hold_of};
