@@ -3,6 +3,7 @@
 # make build   proves the command and what it stands on, and builds it: crates/iso_cli/out/iso_cli
 # make day     the frames of examples/day.txt through an issuer host, and each answer; builds the command
 # make replay  a host that is killed and started again on the frames that were kept; builds the command
+# make connections  an acquirer whose answers get lost, and peers that misbehave, at a host on a port; builds the command
 # make schedule  an acquirer whose answers get lost, and what both ends hold: SCHEDULE=examples/lost-answers.txt
 # make check   proves what changed since the last check
 # make prove   the whole gate: every proof, must-fail edit, test and program, from nothing
@@ -24,7 +25,7 @@ LAST := 22
 ORDERS := 900000
 SIZES := 10000 100000 900000
 
-.PHONY: run test build day replay schedule check prove memory bench
+.PHONY: run test build day replay connections schedule check prove memory bench
 
 run:
 	@if $(MAKE) --silent --no-print-directory --question $(COMMAND); then \
@@ -44,6 +45,9 @@ day: $(COMMAND)
 
 replay: $(COMMAND)
 	@examples/replay.sh $(COMMAND)
+
+connections: $(COMMAND)
+	@cd examples && python3 client.py ../$(COMMAND)
 
 schedule:
 	@scripts/quick-run.sh iso_schedule $(SCHEDULE)

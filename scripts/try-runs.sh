@@ -5,8 +5,10 @@ set -u
 cd "$(dirname "$0")/../crates/$1" || exit 1
 
 examples=../../examples
+clients=
+followers=
 folder=$(mktemp -d)
-trap 'rm -rf "$folder"' EXIT
+trap 'kill $followers 2> /dev/null; rm -rf "$folder"' EXIT
 trap 'exit 1' HUP INT TERM
 cases=$folder/cases
 mkdir "$cases"
@@ -22,6 +24,14 @@ run() {
     )
 }
 
+# HEADER: a host on a port, and the client that connects to it
+serve() {
+    python3 "$examples/client.py" --write-case "$cases/serve-$1" "$1" || return
+    python3 "$examples/client.py" --follow-case "$cases/serve-$1" "$1" > "$folder/client-$1" 2>&1 &
+    followers="$followers $!"
+    clients="$clients $1:$!"
+}
+
 run stdin stdout stored
 if [ "$1" = iso_cli ]; then
     run "$examples/echo.txt" "$examples/expected/echo" echo
@@ -30,17 +40,35 @@ if [ "$1" = iso_cli ]; then
     run /dev/null "$examples/expected/check" check check terminals.json
     run "$examples/day.txt" "$examples/expected/day" day run ascii87 accounts.json ascii4
     run "$examples/hotel.txt" "$examples/expected/hotel" hotel run ascii87 accounts.json ascii4
+    if command -v python3 > /dev/null; then
+        serve ascii4
+        serve binary2
+    fi
 fi
 if [ "$1" = iso_schedule ]; then
     run "$examples/lost-answers.txt" "$examples/expected/lost-answers" lost-answers
 fi
 
-rt try --cases "$cases" --data "accounts.json=$examples/accounts.json" --data terminals.json=../../tables/terminals.json \
+rt try --seconds 60 --cases "$cases" --data "accounts.json=$examples/accounts.json" --data terminals.json=../../tables/terminals.json \
     > "$folder/told" 2> "$folder/faults"
 
 wanted=$(find "$cases" -name '*.stdout' | wc -l)
 passed=$(cat "$folder/told" "$folder/faults" | grep -c '^case=.* run=ended status=0 .* output=expected')
 failed=$((wanted - passed))
+
+# the hosts have ended, so a client that still waits for one waits in vain
+[ -z "$clients" ] || sleep 1
+kill $followers 2> /dev/null
+for client in $clients; do
+    if wait "${client#*:}"; then
+        passed=$((passed + 1))
+    else
+        failed=$((failed + 1))
+        echo "FAILED $1: the client of the host behind ${client%:*}:"
+        cat "$folder/client-${client%:*}"
+    fi
+done
+followers=
 if [ "$failed" -gt 0 ]; then
     cat "$folder/told" "$folder/faults" | grep -v '^case=.* run=ended status=0 .* output=expected' \
         | sed "s/^case=/FAILED $1: the run /"
