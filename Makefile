@@ -7,7 +7,7 @@
 # make schedule  an acquirer whose answers get lost, and what both ends hold: SCHEDULE=examples/lost-answers.txt
 # make check   proves what changed since the last check
 # make prove   the whole gate: every proof, must-fail edit, test and program, from nothing
-# make memory  the tests of a crate with each of its first allocations refused in turn: CRATE=iso_issuer FIRST=15 LAST=22
+# make memory  each call that can want memory, and each command, with each of its growths refused in turn
 # make bench   how fast the streams, the codec and the issuer are: ORDERS=2000 SIZES="100 1000" for fewer orders
 
 ifeq ($(shell command -v rt 2> /dev/null),)
@@ -19,9 +19,6 @@ BENCH := crates/iso_bench/out/iso_bench
 ANSWERS := crates/iso_cli/out/answers.txt
 SOURCES := $(shell find crates -name out -prune -o -type f \( -name '*.rt' -o -name '*.antt' \) -print) crates.txt
 SCHEDULE := examples/lost-answers.txt
-CRATE := iso_issuer
-FIRST := 15
-LAST := 22
 ORDERS := 900000
 SIZES := 10000 100000 900000
 
@@ -67,7 +64,8 @@ prove:
 	rt ci
 
 memory:
-	@scripts/memory.sh $(CRATE) $(FIRST) $(LAST)
+	@scripts/memory.sh calls 400
+	@scripts/memory.sh command 400
 
 bench: $(COMMAND) $(BENCH)
 	@ORDERS=$(ORDERS) bench/streams.sh

@@ -1,0 +1,142 @@
+//! The calls on fields and bitmaps.
+
+use crate::ended::Ended;
+use iso_parts::{
+    Bitmap, BitmapCoding, CharClass, Coding, Digits, FieldFault, FieldSpec, Length, Pad, Step,
+    append_value, decode_field, encode_field,
+};
+use std::alloc::Global;
+
+/// An account number in BCD behind its length, as element 2 is.
+const ACCOUNT: FieldSpec = FieldSpec {
+    class: CharClass::N,
+    coding: Coding::Bcd,
+    length: Length::LL(Digits::Bcd),
+    max: 19,
+    pad: Pad::None,
+};
+
+/// Track data in BCD behind its length.
+const TRACK: FieldSpec = FieldSpec {
+    class: CharClass::Z,
+    coding: Coding::Bcd,
+    length: Length::LL(Digits::Bcd),
+    max: 37,
+    pad: Pad::None,
+};
+
+/// Two pads before each value of four digits.
+const PADDED: FieldSpec = FieldSpec {
+    class: CharClass::N,
+    coding: Coding::Ascii,
+    length: Length::Fixed,
+    max: 6,
+    pad: Pad::Left(0x30),
+};
+
+/// A vector that has a byte.
+fn begun(alloc: Global) -> Option<Vec<u8>> {
+    Vec::from_array(alloc, [7u8]).ok()
+}
+
+/// A value, and the part that stands for it behind a byte.
+fn encodes(alloc: Global, spec: &FieldSpec, value: &[u8], part: &[u8]) -> Ended {
+    let Some(mut out) = begun(alloc) else {
+        return Ended::Unready;
+    };
+    if spec.good().is_err() {
+        return Ended::Wrong;
+    }
+    let mut told = encode_field(spec, value, &mut out);
+    let was_refused = told == Err(FieldFault::Memory);
+    if was_refused {
+        if out.as_slice() != b"\x07".as_slice() {
+            return Ended::Wrong;
+        }
+        told = encode_field(spec, value, &mut out);
+    }
+    let is_right = told.is_ok() && out.as_slice() == part;
+    Ended::of(was_refused, is_right)
+}
+
+/// Bytes, the value that they tell, and how many are used.
+fn decodes(alloc: Global, spec: &FieldSpec, bytes: &[u8], wanted: &[u8], size: usize) -> Ended {
+    if spec.good().is_err() {
+        return Ended::Wrong;
+    }
+    let mut told = decode_field(alloc, spec, bytes);
+    let was_refused = matches!(&told, Err(FieldFault::Memory));
+    if was_refused {
+        told = decode_field(alloc, spec, bytes);
+    }
+    let is_right =
+        matches!(&told, Ok(Step::Got { value, used }) if value.as_slice() == wanted && *used == size);
+    Ended::of(was_refused, is_right)
+}
+
+/// The same, behind a byte.
+fn appends_a_value(alloc: Global, bytes: &[u8], wanted: &[u8]) -> Ended {
+    let Some(mut out) = begun(alloc) else {
+        return Ended::Unready;
+    };
+    if ACCOUNT.good().is_err() {
+        return Ended::Wrong;
+    }
+    let mut told = append_value(&ACCOUNT, bytes, &mut out);
+    let was_refused = told == Err(FieldFault::Memory);
+    if was_refused {
+        if out.as_slice() != b"\x07".as_slice() {
+            return Ended::Wrong;
+        }
+        told = append_value(&ACCOUNT, bytes, &mut out);
+    }
+    let is_right = told == Ok(Some(bytes.len())) && out.as_slice() == wanted;
+    Ended::of(was_refused, is_right)
+}
+
+/// The bitmap of element 7, in hexadecimal digits behind a byte.
+fn appends_a_bitmap(alloc: Global) -> Ended {
+    let Some(mut out) = begun(alloc) else {
+        return Ended::Unready;
+    };
+    let mut numbers = Bitmap::new();
+    numbers.set(7);
+    let mut told = numbers.append(BitmapCoding::Hex, &mut out);
+    let was_refused = told.is_err();
+    if was_refused {
+        if out.as_slice() != b"\x07".as_slice() {
+            return Ended::Wrong;
+        }
+        told = numbers.append(BitmapCoding::Hex, &mut out);
+    }
+    let is_right = told.is_ok() && out.as_slice() == b"\x070200000000000000".as_slice();
+    Ended::of(was_refused, is_right)
+}
+
+pub fn rows(alloc: Global) -> [(&'static str, Ended); 8] {
+    let digits = b"378282246310005";
+    let account = b"\x15\x03\x78\x28\x22\x46\x31\x00\x05";
+    let behind = b"\x07\x15\x03\x78\x28\x22\x46\x31\x00\x05";
+    [
+        ("encode_field", encodes(alloc, &ACCOUNT, digits, behind)),
+        (
+            "encode_field",
+            encodes(alloc, &PADDED, b"12", b"\x07000012"),
+        ),
+        (
+            "encode_field",
+            encodes(alloc, &TRACK, b"4=1", b"\x07\x03\x04\xd1"),
+        ),
+        ("decode_field", decodes(alloc, &ACCOUNT, account, digits, 9)),
+        ("decode_field", decodes(alloc, &PADDED, b"000012", b"12", 6)),
+        (
+            "decode_field",
+            decodes(alloc, &TRACK, b"\x03\x04\xd1", b"4=1", 3),
+        ),
+        (
+            "append_value",
+            appends_a_value(alloc, account, b"\x07378282246310005"),
+        ),
+        ("Bitmap::append", appends_a_bitmap(alloc)),
+    ]
+}

@@ -1,0 +1,88 @@
+//! The host.
+
+use crate::ended::Ended;
+use crate::known::{GRANTED, PURCHASE, balances, issuer};
+use iso_host::{Report, ServeFault, Std, serve};
+use iso_issuer::Issuer;
+use iso_table::Table;
+use iso_wire::Header;
+use std::alloc::Global;
+
+/// The frame of a body of 82 or of 90 bytes.
+fn framed(alloc: Global, bodies: &[(&[u8], &[u8])]) -> Option<Vec<u8>> {
+    let mut bytes = Vec::with_capacity(alloc, 200).ok()?;
+    for (header, body) in bodies {
+        bytes.extend_from_slice(header).ok()?;
+        bytes.extend_from_slice(body).ok()?;
+    }
+    Some(bytes)
+}
+
+/// Serves the input, which a read gives whole; `written` has room for the whole output.
+fn served(
+    alloc: Global,
+    table: &Table,
+    issuer: &mut Issuer,
+    input: &[u8],
+    written: &mut Vec<u8>,
+) -> Option<Result<Report, ServeFault>> {
+    table.host_ready().ok()?;
+    let mut reader = Std::new(input);
+    let mut writer = Std::new(written);
+    Some(serve(
+        alloc,
+        table,
+        Header::Ascii4,
+        issuer,
+        &mut reader,
+        &mut writer,
+        100,
+    ))
+}
+
+/// Whether what is written is whole or the front of the output, and each answer in it was entered first.
+fn is_as_written(issuer: &Issuer, written: &[u8], output: &[u8]) -> bool {
+    let posted = match issuer.len() {
+        0 => balances(issuer) == Some((5000, 5000)) && written.is_empty(),
+        1 => balances(issuer) == Some((4000, 4000)),
+        _ => false,
+    };
+    posted && output.starts_with(written)
+}
+
+/// Whether both frames were answered, and one order is entered.
+fn is_whole(told: &Option<Result<Report, ServeFault>>, issuer: &Issuer) -> bool {
+    let is_told = matches!(told, Some(Ok(report)) if (report.frames, report.answered) == (2, 2));
+    is_told && issuer.len() == 1 && balances(issuer) == Some((4000, 4000))
+}
+
+/// Serves a purchase and its repeat, and serves them again where memory ran out: what was posted is posted once.
+fn serves_frames(alloc: Global, table: &Table, input: &[u8], output: &[u8]) -> Ended {
+    let (Some(mut issuer), Some(mut written)) = (issuer(alloc), framed(alloc, &[])) else {
+        return Ended::Unready;
+    };
+    let mut told = served(alloc, table, &mut issuer, input, &mut written);
+    let was_refused = told == Some(Err(ServeFault::Memory));
+    if was_refused {
+        if !is_as_written(&issuer, &written, output) {
+            return Ended::Wrong;
+        }
+        written.clear();
+        told = served(alloc, table, &mut issuer, input, &mut written);
+    }
+    let is_right = is_whole(&told, &issuer) && written.as_slice() == output;
+    Ended::of(was_refused, is_right)
+}
+
+fn serves(alloc: Global) -> Ended {
+    let input = framed(alloc, &[(b"0082", PURCHASE), (b"0082", PURCHASE)]);
+    let output = framed(alloc, &[(b"0090", GRANTED), (b"0090", GRANTED)]);
+    match (Table::ascii87(alloc), input, output) {
+        (Ok(table), Some(input), Some(output)) => serves_frames(alloc, &table, &input, &output),
+        _ => Ended::Unready,
+    }
+}
+
+pub fn rows(alloc: Global) -> [(&'static str, Ended); 1] {
+    [("serve", serves(alloc))]
+}

@@ -1,0 +1,186 @@
+//! The calls on messages and frames.
+
+use crate::ended::Ended;
+use crate::known::{PURCHASE, purchase};
+use iso_parts::Mti;
+use iso_table::Table;
+use iso_wire::{
+    Fed, FrameFault, Header, Message, PackFault, SetFault, UnpackCause, UnpackFault, Unpacker,
+    append_frame, frame, pack, unpack,
+};
+use std::alloc::Global;
+
+/// Puts a value that is longer than the one before it, or than all of them.
+fn sets(alloc: Global, n: u8, value: &[u8]) -> Ended {
+    let (Some(mut message), Some(before)) = (purchase(alloc, 200), purchase(alloc, 200)) else {
+        return Ended::Unready;
+    };
+    let mut told = message.set(n, value);
+    let was_refused = told == Err(SetFault::Memory);
+    if was_refused {
+        if !message.equals(&before) {
+            return Ended::Wrong;
+        }
+        told = message.set(n, value);
+    }
+    let is_right = told.is_ok() && message.get(n) == Some(value);
+    Ended::of(was_refused, is_right && message.get(11) == before.get(11))
+}
+
+fn sets_a_number(alloc: Global) -> Ended {
+    let Some(mti) = Mti::from_digits(200) else {
+        return Ended::Wrong;
+    };
+    let mut message = Message::new(alloc, mti);
+    let mut told = message.set_number(11, 7, 6);
+    let was_refused = told == Err(SetFault::Memory);
+    if was_refused {
+        if !message.equals(&Message::new(alloc, mti)) {
+            return Ended::Wrong;
+        }
+        told = message.set_number(11, 7, 6);
+    }
+    let is_right = told.is_ok() && message.get(11) == Some(b"000007".as_slice());
+    Ended::of(was_refused, is_right)
+}
+
+fn makes_room(alloc: Global) -> Ended {
+    let Some(mti) = Mti::from_digits(800) else {
+        return Ended::Wrong;
+    };
+    let empty = Message::new(alloc, mti);
+    let mut told = Message::with_room(alloc, mti, 2, 20);
+    let was_refused = told.is_err();
+    if was_refused {
+        told = Message::with_room(alloc, mti, 2, 20);
+    }
+    let is_right = matches!(&told, Ok(made) if made.equals(&empty));
+    Ended::of(was_refused, is_right)
+}
+
+fn appends(alloc: Global) -> Ended {
+    let Some(mti) = Mti::from_digits(800) else {
+        return Ended::Wrong;
+    };
+    let mut message = Message::new(alloc, mti);
+    let mut told = message.append(11, b"000007");
+    let was_refused = told.is_err();
+    if was_refused {
+        if message.get(11).is_some() {
+            return Ended::Wrong;
+        }
+        told = message.append(11, b"000007");
+    }
+    let is_right = told.is_ok() && message.get(11) == Some(b"000007".as_slice());
+    Ended::of(was_refused, is_right)
+}
+
+fn packs(alloc: Global) -> Ended {
+    let (Ok(table), Some(message)) = (Table::ascii87(alloc), purchase(alloc, 200)) else {
+        return Ended::Unready;
+    };
+    let mut told = pack(alloc, &table, &message);
+    let was_refused = matches!(&told, Err(PackFault::Memory));
+    if was_refused {
+        told = pack(alloc, &table, &message);
+    }
+    let is_right = matches!(&told, Ok(bytes) if bytes.as_slice() == PURCHASE);
+    Ended::of(was_refused, is_right)
+}
+
+/// Whether a fault is want of memory, which tells no place.
+fn is_memory(fault: &UnpackFault) -> bool {
+    (fault.at, fault.element, fault.cause) == (0, 0, UnpackCause::Memory)
+}
+
+fn unpacks(alloc: Global) -> Ended {
+    let (Ok(table), Some(message)) = (Table::ascii87(alloc), purchase(alloc, 200)) else {
+        return Ended::Unready;
+    };
+    let mut told = unpack(alloc, &table, PURCHASE);
+    let was_refused = matches!(&told, Err(fault) if is_memory(fault));
+    if was_refused {
+        told = unpack(alloc, &table, PURCHASE);
+    }
+    let is_right = matches!(&told, Ok((read, used)) if read.equals(&message) && *used == 82);
+    Ended::of(was_refused, is_right)
+}
+
+/// Feeds a piece, and feeds it again where memory ran out and nothing of it was taken.
+fn feeds(alloc: Global, unpacker: &mut Unpacker<'_>, piece: &[u8]) -> (bool, Option<Fed>) {
+    let held = unpacker.held();
+    match unpacker.feed(alloc, piece) {
+        Ok(fed) => (false, Some(fed)),
+        Err(fault) if is_memory(&fault) && unpacker.held() == held => {
+            (true, unpacker.feed(alloc, piece).ok())
+        }
+        Err(_) => (true, None),
+    }
+}
+
+fn feeds_two_pieces(alloc: Global) -> Ended {
+    let (Ok(table), Some(message)) = (Table::ascii87(alloc), purchase(alloc, 200)) else {
+        return Ended::Unready;
+    };
+    let (front, rest) = PURCHASE.split_at(30);
+    let mut unpacker = Unpacker::new(alloc, &table);
+    let (at_first, more) = feeds(alloc, &mut unpacker, front);
+    let is_kept = matches!(more, Some(Fed::More)) && unpacker.held() == 30;
+    let (at_last, done) = feeds(alloc, &mut unpacker, rest);
+    let is_right = match &done {
+        Some(
+            Fed::Done {
+                message: read,
+                used,
+            },
+        ) => read.equals(&message) && *used == 52,
+        _ => false,
+    };
+    Ended::of(
+        at_first || at_last,
+        is_kept && is_right && unpacker.held() == 0,
+    )
+}
+
+fn frames(alloc: Global) -> Ended {
+    let mut told = frame(alloc, Header::Ascii4, b"0800");
+    let was_refused = matches!(&told, Err(FrameFault::Memory));
+    if was_refused {
+        told = frame(alloc, Header::Ascii4, b"0800");
+    }
+    let is_right = matches!(&told, Ok(bytes) if bytes.as_slice() == b"00040800".as_slice());
+    Ended::of(was_refused, is_right)
+}
+
+/// A second frame behind the first one.
+fn appends_a_frame(alloc: Global) -> Ended {
+    let Ok(mut out) = frame(alloc, Header::Binary2, b"0800") else {
+        return Ended::Unready;
+    };
+    let mut told = append_frame(Header::Bcd2, b"0810", &mut out);
+    let was_refused = told == Err(FrameFault::Memory);
+    if was_refused {
+        if out.as_slice() != b"\x00\x040800".as_slice() {
+            return Ended::Wrong;
+        }
+        told = append_frame(Header::Bcd2, b"0810", &mut out);
+    }
+    let is_right = told.is_ok() && out.as_slice() == b"\x00\x040800\x00\x040810".as_slice();
+    Ended::of(was_refused, is_right)
+}
+
+pub fn rows(alloc: Global) -> [(&'static str, Ended); 10] {
+    let long = [b'7'; 300];
+    [
+        ("Message::set", sets(alloc, 2, &long)),
+        ("Message::set", sets(alloc, 60, &long)),
+        ("Message::set_number", sets_a_number(alloc)),
+        ("Message::with_room", makes_room(alloc)),
+        ("Message::append", appends(alloc)),
+        ("pack", packs(alloc)),
+        ("unpack", unpacks(alloc)),
+        ("Unpacker::feed", feeds_two_pieces(alloc)),
+        ("frame", frames(alloc)),
+        ("append_frame", appends_a_frame(alloc)),
+    ]
+}

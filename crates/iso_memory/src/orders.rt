@@ -1,0 +1,55 @@
+//! The calls that make a message from an order or an answer.
+
+use crate::ended::Ended;
+use crate::known::{GRANTED, debit, purchase};
+use iso_order::{Answer, Verdict, order_of, request, respond};
+use iso_table::Table;
+use iso_wire::{Message, unpack};
+use std::alloc::Global;
+
+/// The first order that is granted.
+const FIRST: Answer = Answer {
+    code: 0,
+    seq: 1,
+    shown: None,
+};
+
+/// The response that grants the purchase.
+fn granted(alloc: Global) -> Option<Message> {
+    let table = Table::ascii87(alloc).ok()?;
+    let (message, _) = unpack(alloc, &table, GRANTED).ok()?;
+    Some(message)
+}
+
+fn responds(alloc: Global) -> Ended {
+    let (Some(asked), Some(wanted)) = (purchase(alloc, 200), granted(alloc)) else {
+        return Ended::Unready;
+    };
+    let Verdict::Order(_) = order_of(&asked) else {
+        return Ended::Wrong;
+    };
+    let mut told = respond(alloc, &asked, &FIRST);
+    let was_refused = told.is_err();
+    if was_refused {
+        told = respond(alloc, &asked, &FIRST);
+    }
+    let is_right = matches!(&told, Ok(made) if made.equals(&wanted));
+    Ended::of(was_refused, is_right)
+}
+
+fn requests(alloc: Global) -> Ended {
+    let (Some(order), Some(wanted)) = (debit(200, 7, 1000), purchase(alloc, 200)) else {
+        return Ended::Unready;
+    };
+    let mut told = request(alloc, &order);
+    let was_refused = told.is_err();
+    if was_refused {
+        told = request(alloc, &order);
+    }
+    let is_right = matches!(&told, Ok(made) if made.equals(&wanted));
+    Ended::of(was_refused, is_right)
+}
+
+pub fn rows(alloc: Global) -> [(&'static str, Ended); 2] {
+    [("respond", responds(alloc)), ("request", requests(alloc))]
+}

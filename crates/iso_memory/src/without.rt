@@ -1,0 +1,141 @@
+//! The calls that take no memory: none of them is ever refused.
+
+use crate::ended::Ended;
+use crate::known::{ACQUIRER, GRANTED, PURCHASE, SENT, account, balances, debit, issuer, purchase};
+use iso_acquirer::{Acquirer, State, World};
+use iso_order::{Verdict, answer_of, order_of};
+use iso_parts::{Bitmap, BitmapStep, Judged, judge_field};
+use iso_table::Table;
+use iso_wire::{Framed, Header, Unpacker, unframe, unpack, view};
+use std::alloc::Global;
+
+/// The bitmap of the purchase, read and written.
+fn bitmaps() -> bool {
+    let (_, bytes) = PURCHASE.split_at(4);
+    match Bitmap::read_hex(bytes) {
+        Ok(BitmapStep::Got { bits, used }) => {
+            let mut raw = [0; 16];
+            let size = bits.write_raw(&mut raw);
+            let read =
+                matches!(Bitmap::read_raw(&raw), Ok(BitmapStep::Got { bits, .. }) if bits.has(11));
+            read && (used, size, bits.highest()) == (16, 8, 49)
+        }
+        _ => false,
+    }
+}
+
+/// A row of a table, and the account of the purchase as it judges it.
+fn tables(alloc: Global) -> Ended {
+    let Ok(table) = Table::ascii87(alloc) else {
+        return Ended::Unready;
+    };
+    let (_, bytes) = PURCHASE.split_at(20);
+    let is_judged = match table.row(2) {
+        Some(spec) => judge_field(spec, bytes) == Ok(Judged::Got { body: 2, used: 18 }),
+        None => false,
+    };
+    let told = (table.version(), table.rows(), table.host_ready());
+    Ended::of(
+        false,
+        is_judged && table.max_bytes() > 0 && told == (0, 126, Ok(())),
+    )
+}
+
+/// What a message has, and what it asks.
+fn messages(alloc: Global) -> Ended {
+    let Some(mut message) = purchase(alloc, 201) else {
+        return Ended::Unready;
+    };
+    let has = message.elements().has(49) && message.get(11) == Some(b"000007".as_slice());
+    let asks = match order_of(&message) {
+        Verdict::Order(order) => order.key().base == 200,
+        _ => false,
+    };
+    let is_same = message.equals(&message) && message.mti().is_repeat();
+    let was_there = message.unset(11) && !message.unset(11);
+    Ended::of(false, has && asks && is_same && was_there)
+}
+
+/// The key and the code of a response.
+fn responses(alloc: Global) -> Ended {
+    let Ok(table) = Table::ascii87(alloc) else {
+        return Ended::Unready;
+    };
+    let Ok((response, _)) = unpack(alloc, &table, GRANTED) else {
+        return Ended::Unready;
+    };
+    let told = matches!(answer_of(&response), Some(told) if (told.key.stan, told.code) == (7, 0));
+    Ended::of(false, told)
+}
+
+/// A view of the purchase, its frame, and an unpacker before and after.
+fn views(alloc: Global) -> Ended {
+    let Ok(table) = Table::ascii87(alloc) else {
+        return Ended::Unready;
+    };
+    let mut unpacker = Unpacker::new(alloc, &table);
+    let was_empty = unpacker.held() == 0;
+    unpacker.reset();
+    let seen = match view(&table, PURCHASE) {
+        Ok(seen) => {
+            let account = seen.wire(2) == Some(b"4111111111111111".as_slice());
+            account && seen.wire(5).is_none() && (seen.mti().number(), seen.used()) == (200, 82)
+        }
+        Err(_) => false,
+    };
+    let framed = matches!(
+        unframe(Header::Ascii4, b"0002ab"),
+        Ok(Framed::Got { used: 6, .. })
+    );
+    Ended::of(false, was_empty && seen && framed && unpacker.held() == 0)
+}
+
+/// A known key, and a full journal.
+fn repeats(alloc: Global) -> Ended {
+    let (Some(mut issuer), Some(first), Some(other)) = (
+        issuer(alloc),
+        debit(200, 1, 1000),
+        debit(200, 1, 2000),
+    ) else {
+        return Ended::Unready;
+    };
+    let Ok(answer) = issuer.handle(first) else {
+        return Ended::Unready;
+    };
+    let again = issuer.handle(first) == Ok(answer);
+    let changed = matches!(issuer.handle(other), Ok(answer) if answer.code == 94);
+    Ended::of(
+        false,
+        again && changed && balances(&issuer) == Some((4000, 4000)),
+    )
+}
+
+/// What is sent where no answer came, and an answer to it.
+fn acquirers(alloc: Global) -> Ended {
+    let (Some(issuer), Some(pan)) = (issuer(alloc), account()) else {
+        return Ended::Unready;
+    };
+    let mut acquirer = Acquirer::new(alloc, ACQUIRER);
+    let Ok(order) = acquirer.begin(pan, 1000, *b"840", SENT) else {
+        return Ended::Unready;
+    };
+    let again = matches!(acquirer.timeout(1), Ok(sent) if sent.is_same(&order));
+    let reverses = acquirer.timeout(1).is_ok() && acquirer.state(1) == Some(State::Reversing);
+    acquirer.answer(order.key(), 0);
+    let stays = acquirer.state(1) == Some(State::Reversing);
+    let world = World::new(Acquirer::new(alloc, ACQUIRER), issuer);
+    let (sent, given) = (world.sent().len(), world.given().len());
+    Ended::of(false, again && reverses && stays && (sent, given) == (0, 0))
+}
+
+pub fn rows(alloc: Global) -> [(&'static str, Ended); 7] {
+    [
+        ("without memory: bitmaps", Ended::of(false, bitmaps())),
+        ("without memory: tables", tables(alloc)),
+        ("without memory: messages", messages(alloc)),
+        ("without memory: responses", responses(alloc)),
+        ("without memory: views", views(alloc)),
+        ("without memory: repeats", repeats(alloc)),
+        ("without memory: acquirers", acquirers(alloc)),
+    ]
+}
