@@ -64,8 +64,8 @@ prove:
 	rt ci
 
 memory:
-	@scripts/memory.sh calls 400
-	@scripts/memory.sh command 400
+	@scripts/memory.sh calls
+	@scripts/memory.sh command
 
 bench: $(COMMAND) $(BENCH)
 	@ORDERS=$(ORDERS) bench/streams.sh

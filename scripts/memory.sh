@@ -3,12 +3,14 @@
 # A program is built once and run many times. In each run the allocation at one fixed count is refused, and the run makes and
 # drops some allocations first: one fewer each time, so that the refusal goes through the whole program, growth by growth.
 # The last line is the judgement.
-# memory.sh calls COUNT: the calls of the libraries, with the program iso_memory. It makes fewer than COUNT allocations
-# memory.sh command COUNT: the commands of iso_cli, each of which makes fewer than COUNT allocations
+# memory.sh calls: the calls of the libraries, by the program iso_memory
+# memory.sh command: the commands of iso_cli
 set -u
 cd "$(dirname "$0")/.." || exit 1
 top=$PWD
-count=$2
+
+# the count of the allocation that is refused: each program makes fewer
+count=400
 
 folder=$(mktemp -d)
 trap 'rm -rf "$folder"' EXIT
@@ -23,7 +25,8 @@ words=20
 judge_calls='
     function judge() {
         if (run == "" || rows == 0 && run > count - words) return
-        if (refusals > 1 || wrongs > 0 || rows == 0) { bad++; print "BAD run " run ": " refusals " refusals, " wrongs " wrong" }
+        if (runs == 0) whole = rows
+        if (refusals > 1 || wrongs > 0 || rows != whole) { bad++; print "BAD run " run ": " rows " rows, " refusals " refusals, " wrongs " wrong" }
         if (refusals == 0) silent[run] = 1
         if (refusals > 0 && (seen == 0 || run < lowest)) { lowest = run; seen = 1 }
         runs++
@@ -54,26 +57,28 @@ judge_calls='
 
 # each run is done, with the output of a run that finds memory, or tells its want of memory behind a front of that output
 judge_command='
-    /^failed: Memory$/ { wants = 1 }
+    /^(\| )?failed: Memory$/ { wants = 1 }
     /^the output differs / { front = /found ""$/ }
     /^case=/ {
         name = substr($1, 6)
-        sub(/[0-9]*$/, "", name)
+        burns = substr(name, length(name) - 3) + 0
+        name = substr(name, 1, length(name) - 4)
         done = /status=0 .*output=expected/
         stopped = /status=3 / && wants && (/output=expected/ || front)
         if (stopped) refused[name]++
-        else if (done) whole[name]++
+        else if (done && (!(name in lowest) || burns < lowest[name])) lowest[name] = burns
+        else if (done) ;
         else { bad++; print "BAD " $0 }
-        names[name] = 1
+        if (!(name in first) || burns < first[name]) first[name] = burns
         wants = 0
         front = 0
         runs++
     }
     END {
-        for (name in names) {
+        for (name in first) {
             print name ": " refused[name] + 0 " growths refused"
             growths += refused[name]
-            if (refused[name] == 0 || whole[name] == 0) { bad++; print "BAD " name }
+            if (refused[name] == 0 || lowest[name] != first[name]) { bad++; print "BAD " name ": it makes more allocations" }
         }
         print "the command: " runs + 0 " runs, " growths + 0 " growths refused, " bad + 0 " bad"
     }'
@@ -94,11 +99,10 @@ calls() {
     awk -v count="$count" -v words="$words" "$judge_calls" "$folder/told"
 }
 
-# NAME INPUT OUTPUT WORD ..: a command, behind each number of allocations
+# MOST NAME INPUT OUTPUT WORD ..: a command that makes fewer allocations than MOST
 runs_of() {
-    name=$1 input=$2 output=$3
-    shift 3
-    burns=0
+    burns=$((count - $1)) name=$2 input=$3 output=$4
+    shift 4
     while [ "$burns" -lt "$count" ]; do
         four=$(printf '%04d' "$burns")
         cp "$input" "$cases/$name$four"
@@ -138,15 +142,15 @@ burning_command() {
 
 commands() {
     examples=$top/examples
-    runs_of echo "$examples/echo.txt" "$examples/expected/echo"
-    runs_of show "$examples/payment.txt" "$examples/expected/show" show ascii87
-    runs_of convert "$examples/echo.txt" "$examples/expected/convert" convert ascii87 bcd87
-    runs_of check /dev/null "$examples/expected/check" check terminals.json
-    runs_of day "$examples/day.txt" "$examples/expected/day" run ascii87 accounts.json ascii4
+    runs_of 40 echo "$examples/echo.txt" "$examples/expected/echo"
+    runs_of 80 show "$examples/payment.txt" "$examples/expected/show" show ascii87
+    runs_of 80 convert "$examples/echo.txt" "$examples/expected/convert" convert ascii87 bcd87
+    runs_of 80 check /dev/null "$examples/expected/check" check terminals.json
+    runs_of 300 day "$examples/day.txt" "$examples/expected/day" run ascii87 accounts.json ascii4
     if [ -f crates/iso_cli/src/prepare.rt ]; then
-        line='frames=1 answered=1 silent=0 unreadable=0\n'
-        printf "$line$line" > "$folder/peers"
-        runs_of peers /dev/null "$folder/peers" serve ascii87 accounts.json ascii4 8583 2
+        line='frames=1 answered=1 silent=0 unreadable=0'
+        printf '%s\n%s\n' "$line" "$line" > "$folder/peers"
+        runs_of 300 peers /dev/null "$folder/peers" serve ascii87 accounts.json ascii4 8583 2
     fi
     burning_command
     try "$folder/top/crates/iso_cli" --data "accounts.json=$examples/accounts.json" \
