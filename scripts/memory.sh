@@ -55,7 +55,8 @@ judge_calls='
         print "the calls: " runs + 0 " runs, " growths + 0 " growths refused, " bad + 0 " bad"
     }'
 
-# each run is done, with the output of a run that finds memory, or tells its want of memory behind a front of that output
+# each run is done, with the output of a run that finds memory, or tells its want of memory behind a front of that output. The
+# quick run shows no fault stream where the output is whole
 judge_command='
     /^(\| )?failed: Memory$/ { wants = 1 }
     /^the output differs / { front = /found ""$/ }
@@ -64,7 +65,7 @@ judge_command='
         burns = substr(name, length(name) - 3) + 0
         name = substr(name, 1, length(name) - 4)
         done = /status=0 .*output=expected/
-        stopped = /status=3 / && wants && (/output=expected/ || front)
+        stopped = /status=3 / && (/output=expected/ || wants && front)
         if (stopped) refused[name]++
         else if (done && (!(name in lowest) || burns < lowest[name])) lowest[name] = burns
         else if (done) ;
@@ -146,11 +147,11 @@ commands() {
     runs_of 80 show "$examples/payment.txt" "$examples/expected/show" show ascii87
     runs_of 80 convert "$examples/echo.txt" "$examples/expected/convert" convert ascii87 bcd87
     runs_of 80 check /dev/null "$examples/expected/check" check terminals.json
-    runs_of 300 day "$examples/day.txt" "$examples/expected/day" run ascii87 accounts.json ascii4
+    runs_of 160 day "$examples/day.txt" "$examples/expected/day" run ascii87 accounts.json ascii4
     if [ -f crates/iso_cli/src/prepare.rt ]; then
         line='frames=1 answered=1 silent=0 unreadable=0'
         printf '%s\n%s\n' "$line" "$line" > "$folder/peers"
-        runs_of 300 peers /dev/null "$folder/peers" serve ascii87 accounts.json ascii4 8583 2
+        runs_of 120 peers /dev/null "$folder/peers" serve ascii87 accounts.json ascii4 8583 2
     fi
     burning_command
     try "$folder/top/crates/iso_cli" --data "accounts.json=$examples/accounts.json" \
