@@ -1,5 +1,7 @@
 //! Streams in memory, whole and failing.
+mod ends;
 mod example;
+mod failures;
 mod frames;
 mod interruptions;
 mod pieces;

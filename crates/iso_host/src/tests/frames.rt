@@ -3,6 +3,7 @@
 use crate::fault::{Report, ServeFault};
 use crate::serving::serve;
 use crate::standard::Std;
+use crate::streams::{Inlet, Outlet};
 use iso_issuer::{Accounts, Issuer};
 use iso_order::Pan;
 use iso_table::Table;
@@ -24,6 +25,24 @@ pub const REPEAT: &[u8] =
 pub const GRANTED: &[u8] =
     b"0210722000010600800016411111111111111100000000000000100001020304050000070512345000001\
 00840";
+
+/// A second purchase of 10.00, and the response to it where it is the journal's second order.
+pub const SECOND: &[u8] =
+    b"02007220000100008000164111111111111111000000000000001000010203040500001005123458\
+40";
+
+pub const SECOND_GRANTED: &[u8] =
+    b"0210722000010600800016411111111111111100000000000000100001020304050000100512345000002\
+00840";
+
+/// A reversal of the first purchase, and its response.
+pub const REVERSAL: &[u8] =
+    b"04208220000100000000000000400000000001020305000000080512345020000000701020304050000001\
+234500000000000";
+
+pub const REVERSED: &[u8] =
+    b"0430822000010200000000000040000000000102030500000008051234500020000000701020304050000\
+001234500000000000";
 
 /// An echo test, and its response.
 pub const ECHO: &[u8] = b"0800822000000000000004000000000000000102030405000001301";
@@ -66,20 +85,23 @@ pub fn served_behind<R: Read + Drop, W: Write>(
     writer: &mut W,
     turns: u64,
 ) -> Result<Result<Report, ServeFault>, Fail> {
-    let table = Table::ascii87(alloc)?;
-    table.host_ready()?;
     let mut input = Std::new(reader);
     let mut output = Std::new(writer);
-    let ended = serve(
-        alloc,
-        &table,
-        header,
-        issuer,
-        &mut input,
-        &mut output,
-        turns,
-    );
-    Ok(ended)
+    served_between(alloc, header, issuer, &mut input, &mut output, turns)
+}
+
+/// How serving between an inlet and an outlet ends.
+pub fn served_between<R: Inlet, W: Outlet>(
+    alloc: Global,
+    header: Header,
+    issuer: &mut Issuer,
+    reader: &mut R,
+    writer: &mut W,
+    turns: u64,
+) -> Result<Result<Report, ServeFault>, Fail> {
+    let table = Table::ascii87(alloc)?;
+    table.host_ready()?;
+    Ok(serve(alloc, &table, header, issuer, reader, writer, turns))
 }
 
 pub fn ledger(issuer: &Issuer) -> Result<Option<i64>, Fail> {

@@ -1,0 +1,102 @@
+//! A reader and a writer that move a few bytes a call, and of whose calls one fails.
+ghost use Rattle.std.specs.Prelude.{Some};
+
+use crate::counting::{Call, Tally};
+use crate::streams::{Failed, Inlet, Outlet};
+use std::alloc::{AllocError, Global};
+
+/// Gives at most so many bytes a read, and at least one. One of its reads fails, counted from 1; with 0 none does.
+#[derive(Drop)]
+pub struct Reader<'a> {
+    pub bytes: &'a [u8],
+    pub piece: usize,
+    pub fails_at: u32,
+    pub reads: u32,
+    pub tally: Tally,
+}
+
+impl<'a> Reader<'a> {
+    pub fn new(bytes: &'a [u8], piece: usize, fails_at: u32) -> Reader<'a> {
+        Reader {
+            bytes,
+            piece,
+            fails_at,
+            reads: 0,
+            tally: Tally::new(),
+        }
+    }
+}
+
+impl<'a> Inlet for Reader<'a> {
+    ghost remaining = { λ r. Some r.bytes.now };
+
+    ghost counts = { λ r. r.tally.counts };
+
+    fn read(&mut self, buffer: &mut [u8]) -> Result<usize, Failed> {
+        self.reads = self.reads.saturating_add(1);
+        if self.reads == self.fails_at {
+            self.tally = self.tally.then(&Call::Failed);
+            return Err(Failed);
+        }
+        let count = self.bytes.len().min(self.piece.max(1)).min(buffer.len());
+        let (front, rest) = self.bytes.split_at(count);
+        buffer[..count].copy_from_slice(front);
+        self.bytes = rest;
+        self.tally = self.tally.then(&Call::Read(count));
+        Ok(count)
+    }
+}
+
+/// Takes at most so many bytes a write, and at least one. One of its writes and flushes fails, counted together from 1;
+/// with 0 none does.
+#[derive(Drop)]
+pub struct Writer {
+    pub taken: Vec<u8>,
+    pub piece: usize,
+    pub fails_at: u32,
+    pub writes: u32,
+    pub flushes: u32,
+    pub tally: Tally,
+}
+
+impl Writer {
+    /// A writer with room for 1,000 bytes.
+    pub fn new(alloc: Global, piece: usize, fails_at: u32) -> Result<Writer, AllocError> {
+        Ok(Writer {
+            taken: Vec::with_capacity(alloc, 1000)?,
+            piece,
+            fails_at,
+            writes: 0,
+            flushes: 0,
+            tally: Tally::new(),
+        })
+    }
+}
+
+impl Outlet for Writer {
+    ghost contents = { λ w. Some w.taken.items };
+
+    ghost counts = { λ w. w.tally.counts };
+
+    fn write(&mut self, bytes: &[u8]) -> Result<usize, Failed> {
+        self.writes = self.writes.saturating_add(1);
+        let count = bytes.len().min(self.piece.max(1));
+        let fails = self.writes.saturating_add(self.flushes) == self.fails_at;
+        if fails || self.taken.extend_from_slice(&bytes[..count]).is_err() {
+            self.tally = self.tally.then(&Call::Failed);
+            return Err(Failed);
+        }
+        self.tally = self.tally.then(&Call::Wrote(count));
+        Ok(count)
+    }
+
+    fn flush(&mut self) -> Result<(), Failed> {
+        self.flushes = self.flushes.saturating_add(1);
+        if self.writes.saturating_add(self.flushes) == self.fails_at {
+            self.tally = self.tally.then(&Call::FlushFailed);
+            return Err(Failed);
+        }
+        self.tally = self.tally.then(&Call::Flushed);
+        Ok(())
+    }
+}

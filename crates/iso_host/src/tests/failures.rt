@@ -1,0 +1,299 @@
+//! A day of frames, and each of its reads, writes and flushes that fails in turn. The day is a purchase, its repeat, three
+//! bytes that are no message, a second purchase, and the reversal of the first.
+
+use super::ends::{Reader, Writer};
+use super::frames::{
+    GRANTED, PURCHASE, REPEAT, REVERSAL, REVERSED, SECOND, SECOND_GRANTED, issuer, joined, ledger,
+    served_between,
+};
+use crate::fault::{Report, ServeFault};
+use iso_issuer::Issuer;
+use iso_wire::Header;
+use std::alloc::Global;
+use std::test::Fail;
+
+/// How many bytes a call moves, at most.
+const PIECES: [usize; 6] = [1, 2, 3, 7, 64, 4096];
+
+/// What stands once some frames of the day are handled.
+#[derive(Clone, Copy, Debug)]
+struct Mark {
+    /// The bytes of these frames.
+    read: usize,
+    /// The bytes of their answers.
+    written: usize,
+    ledger: i64,
+    entries: u32,
+}
+
+impl Mark {
+    fn new(read: usize, written: usize, ledger: i64, entries: u32) -> Mark {
+        Mark {
+            read,
+            written,
+            ledger,
+            entries,
+        }
+    }
+}
+
+/// The marks of the day: before the first frame, and behind each.
+fn marks() -> [Mark; 6] {
+    [
+        Mark::new(0, 0, 5000, 0),
+        Mark::new(86, 94, 4000, 1),
+        Mark::new(172, 188, 4000, 1),
+        Mark::new(179, 188, 4000, 1),
+        Mark::new(265, 282, 3000, 2),
+        Mark::new(370, 389, 4000, 3),
+    ]
+}
+
+/// The report of the whole day.
+const WHOLE: Report = Report {
+    frames: 5,
+    answered: 4,
+    silent: 0,
+    unreadable: 1,
+};
+
+/// The frames of the day.
+fn frames(alloc: Global) -> Result<Vec<u8>, Fail> {
+    joined(
+        alloc,
+        &[
+            b"0082", PURCHASE, b"0082", REPEAT, b"0003abc", b"0082", SECOND, b"0101", REVERSAL,
+        ],
+    )
+}
+
+/// The frames of the answers.
+fn answers(alloc: Global) -> Result<Vec<u8>, Fail> {
+    joined(
+        alloc,
+        &[
+            b"0090",
+            GRANTED,
+            b"0090",
+            GRANTED,
+            b"0090",
+            SECOND_GRANTED,
+            b"0103",
+            REVERSED,
+        ],
+    )
+}
+
+/// Whether the issuer stands as at the mark.
+fn stands_at(issuer: &Issuer, mark: &Mark) -> Result<bool, Fail> {
+    Ok(ledger(issuer)? == Some(mark.ledger) && issuer.len() == mark.entries)
+}
+
+/// The last mark that so many bytes come up to.
+fn last_mark(read: usize) -> Mark {
+    let mut last = Mark::new(0, 0, 5000, 0);
+    for mark in marks() {
+        if mark.read <= read {
+            last = mark;
+        }
+    }
+    last
+}
+
+/// Whether the issuer stands as at some mark, and so many bytes lie between the answers up to the mark before it and those
+/// up to it.
+fn lies_at_a_mark(issuer: &Issuer, written: usize) -> Result<bool, Fail> {
+    let mut before = 0;
+    for mark in marks() {
+        if stands_at(issuer, &mark)? && before <= written && written <= mark.written {
+            return Ok(true);
+        }
+        before = mark.written;
+    }
+    Ok(false)
+}
+
+/// The day served once, and how it ended.
+#[derive(Drop)]
+struct Run<'a> {
+    issuer: Issuer,
+    reader: Reader<'a>,
+    writer: Writer,
+    ended: Result<Report, ServeFault>,
+}
+
+/// Serves the day. The read and the write or flush of these numbers fail.
+fn serve_day<'a>(
+    alloc: Global,
+    frames: &'a [u8],
+    piece: usize,
+    failing: (u32, u32),
+    turns: u64,
+) -> Result<Run<'a>, Fail> {
+    let mut issuer = issuer(alloc)?;
+    let mut reader = Reader::new(frames, piece, failing.0);
+    let mut writer = Writer::new(alloc, piece, failing.1)?;
+    let ended = served_between(
+        alloc,
+        Header::Ascii4,
+        &mut issuer,
+        &mut reader,
+        &mut writer,
+        turns,
+    )?;
+    Ok(Run {
+        issuer,
+        reader,
+        writer,
+        ended,
+    })
+}
+
+/// Whether all whole frames that were read are handled and answered, and no more.
+fn stands_as_read(run: &Run<'_>, frames: &[u8], answers: &[u8]) -> Result<bool, Fail> {
+    let mark = last_mark(frames.len().saturating_sub(run.reader.bytes.len()));
+    let written = run.writer.taken.as_slice();
+    Ok(answers.get(..mark.written) == Some(written) && stands_at(&run.issuer, &mark)?)
+}
+
+/// Whether some frames are handled, and all of them but the last are answered, and no more.
+fn stands_as_written(run: &Run<'_>, answers: &[u8]) -> Result<bool, Fail> {
+    let written = run.writer.taken.as_slice();
+    Ok(answers.starts_with(written) && lies_at_a_mark(&run.issuer, written.len())?)
+}
+
+/// Whether the whole day gets its answers where it is sent once more to the same issuer.
+fn is_answered_again(
+    alloc: Global,
+    run: &mut Run<'_>,
+    frames: &[u8],
+    answers: &[u8],
+) -> Result<bool, Fail> {
+    let mut reader = Reader::new(frames, 4096, 0);
+    let mut writer = Writer::new(alloc, 4096, 0)?;
+    let ended = served_between(
+        alloc,
+        Header::Ascii4,
+        &mut run.issuer,
+        &mut reader,
+        &mut writer,
+        1000,
+    )?;
+    Ok(ended == Ok(WHOLE) && writer.taken.as_slice() == answers)
+}
+
+/// How the day ends where no call fails, or the first call whose failure has another end than it should have.
+#[derive(Clone, Copy, Debug, PartialEq, Eq)]
+enum Judged {
+    Ended(Result<Report, ServeFault>),
+    WrongAt(u32),
+}
+
+/// Serves the day with each of its reads failing in turn.
+fn each_read(alloc: Global, piece: usize, frames: &[u8], answers: &[u8]) -> Result<Judged, Fail> {
+    let whole = serve_day(alloc, frames, piece, (0, 0), 1000)?;
+    for failing in 1..=whole.reader.reads {
+        let mut run = serve_day(alloc, frames, piece, (failing, 0), 1000)?;
+        let stands = stands_as_read(&run, frames, answers)?;
+        let comes_again = is_answered_again(alloc, &mut run, frames, answers)?;
+        if run.ended != Err(ServeFault::Read) || !stands || !comes_again {
+            return Ok(Judged::WrongAt(failing));
+        }
+    }
+    Ok(Judged::Ended(whole.ended))
+}
+
+/// Serves the day with each of its writes and flushes failing in turn.
+fn each_write(alloc: Global, piece: usize, frames: &[u8], answers: &[u8]) -> Result<Judged, Fail> {
+    let whole = serve_day(alloc, frames, piece, (0, 0), 1000)?;
+    for failing in 1..=whole.writer.writes.saturating_add(whole.writer.flushes) {
+        let mut run = serve_day(alloc, frames, piece, (0, failing), 1000)?;
+        let stands = stands_as_written(&run, answers)?;
+        let comes_again = is_answered_again(alloc, &mut run, frames, answers)?;
+        if run.ended != Err(ServeFault::Write) || !stands || !comes_again {
+            return Ok(Judged::WrongAt(failing));
+        }
+    }
+    Ok(Judged::Ended(whole.ended))
+}
+
+/// Serves the day with fewer turns than it takes, each number of them in turn.
+fn each_turn(alloc: Global, piece: usize, frames: &[u8], answers: &[u8]) -> Result<Judged, Fail> {
+    let whole = serve_day(alloc, frames, piece, (0, 0), 1000)?;
+    for turns in 0..whole.reader.reads.saturating_add(whole.writer.writes) {
+        let mut run = serve_day(alloc, frames, piece, (0, 0), u64::from(turns))?;
+        let stands = stands_as_written(&run, answers)?
+            && run.reader.reads.saturating_add(run.writer.writes) == turns;
+        let comes_again = is_answered_again(alloc, &mut run, frames, answers)?;
+        if run.ended != Err(ServeFault::TooManyTurns) || !stands || !comes_again {
+            return Ok(Judged::WrongAt(turns));
+        }
+    }
+    Ok(Judged::Ended(whole.ended))
+}
+
+#[test]
+fn each_read_fails(rt: HostRuntime) -> Result<(), Fail> {
+    let frames = frames(rt.alloc())?;
+    let answers = answers(rt.alloc())?;
+    for piece in PIECES {
+        let judged = each_read(rt.alloc(), piece, &frames, &answers)?;
+        assert_eq!(rt; judged, Judged::Ended(Ok(WHOLE)), "{piece} bytes a call");
+    }
+    Ok(())
+}
+
+#[test]
+fn each_write_and_flush_fails(rt: HostRuntime) -> Result<(), Fail> {
+    let frames = frames(rt.alloc())?;
+    let answers = answers(rt.alloc())?;
+    for piece in PIECES {
+        let judged = each_write(rt.alloc(), piece, &frames, &answers)?;
+        assert_eq!(rt; judged, Judged::Ended(Ok(WHOLE)), "{piece} bytes a call");
+    }
+    Ok(())
+}
+
+#[test]
+fn the_turns_are_spent(rt: HostRuntime) -> Result<(), Fail> {
+    let frames = frames(rt.alloc())?;
+    let answers = answers(rt.alloc())?;
+    for piece in [7, 64, 4096] {
+        let judged = each_turn(rt.alloc(), piece, &frames, &answers)?;
+        assert_eq!(rt; judged, Judged::Ended(Ok(WHOLE)), "{piece} bytes a call");
+    }
+    Ok(())
+}
+
+#[test]
+fn an_answer_is_cut_and_comes_again(rt: HostRuntime) -> Result<(), Fail> {
+    let alloc = rt.alloc();
+    let frame = joined(alloc, &[b"0082", PURCHASE])?;
+    let answer = joined(alloc, &[b"0090", GRANTED])?;
+    let mut issuer = issuer(alloc)?;
+    for (name, piece, fails_at, wanted, written) in [
+        (
+            "ten bytes are taken",
+            10,
+            2,
+            Some(ServeFault::Write),
+            b"0090021072".as_slice(),
+        ),
+        ("it comes again", 4096, 0, None, answer.as_slice()),
+    ] {
+        let mut reader = Reader::new(&frame, 4096, 0);
+        let mut writer = Writer::new(alloc, piece, fails_at)?;
+        let ended = served_between(
+            alloc,
+            Header::Ascii4,
+            &mut issuer,
+            &mut reader,
+            &mut writer,
+            1000,
+        )?;
+        assert_eq!(rt; ended.err(), wanted, "{name}");
+        assert_eq!(rt; writer.taken.as_slice(), written, "{name}");
+        assert_eq!(rt; (ledger(&issuer)?, issuer.len()), (Some(4000), 1), "{name}");
+    }
+    Ok(())
+}
