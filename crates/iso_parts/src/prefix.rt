@@ -1,7 +1,7 @@
 //! The length before a value.
 
 ghost use Rattle.std.specs.Prelude.{◌≡◌, ◌≤◌, ◌∷◌, [], ◌++◌, length, OnOk, OnErr};
-ghost use Rattle.iso_parts.specs.Row.{limit};
+ghost use Rattle.iso_parts.specs.Row.{limit, longest_value};
 ghost use Rattle.iso_parts.specs.Part.{prefix};
 ghost use Rattle.iso_parts.specs.Reading.{number_of, count_of, prefix_size};
 
@@ -47,6 +47,25 @@ fn number_of(k: u8, h: u8, t: u8, o: u8) -> Result<u16, FieldFault>
                 + (o - b'0') as u16,
         ),
         _ => Err(FieldFault::BadLengthDigits),
+    }
+}
+
+/// Appends a length of four digits.
+fn append_four(digits: Digits, n: usize, out: &mut Vec<u8>) -> Result<(), AllocError>
+    requires { n ≤ longest_value }
+    ensures ok { OnOk result (out.new.items ≡ out.old.items ++ prefix (Length.LLLL digits) n) }
+    ensures err { OnErr result (out.new.items ≡ out.old.items) }
+{
+    let (thousands, hundreds) = ((n / 1000) as u8, (n / 100 % 10) as u8);
+    let (tens, ones) = ((n / 10 % 10) as u8, (n % 10) as u8);
+    match digits {
+        Digits::Ascii => out.extend_from_slice(&[
+            b'0' + thousands,
+            b'0' + hundreds,
+            b'0' + tens,
+            b'0' + ones,
+        ]),
+        Digits::Bcd => out.extend_from_slice(&[16 * thousands + hundreds, 16 * tens + ones]),
     }
 }
 
@@ -113,8 +132,7 @@ impl Length {
         ensures ok { OnOk result (out.new.items ≡ out.old.items ++ prefix self n) }
         ensures err { OnErr result (out.new.items ≡ out.old.items) }
     {
-        let (tens, ones) = ((n / 10 % 10) as u8, (n % 10) as u8);
-        let (thousands, hundreds) = ((n / 1000) as u8, (n / 100 % 10) as u8);
+        let (hundreds, tens, ones) = ((n / 100) as u8, (n / 10 % 10) as u8, (n % 10) as u8);
         match self {
             Length::Fixed => Ok(()),
             Length::LL(Digits::Ascii) => {
@@ -125,15 +143,7 @@ impl Length {
                 out.extend_from_slice(&[b'0' + hundreds, b'0' + tens, b'0' + ones])
             }
             Length::LLL(Digits::Bcd) => out.extend_from_slice(&[hundreds, 16 * tens + ones]),
-            Length::LLLL(Digits::Ascii) => out.extend_from_slice(&[
-                b'0' + thousands,
-                b'0' + hundreds,
-                b'0' + tens,
-                b'0' + ones,
-            ]),
-            Length::LLLL(Digits::Bcd) => {
-                out.extend_from_slice(&[16 * thousands + hundreds, 16 * tens + ones])
-            }
+            Length::LLLL(digits) => append_four(digits, n, out),
         }
     }
 }
