@@ -11,11 +11,11 @@ use Rattle.iso_host.specs.Asking.{is_unreadable, is_silent, is_answered}
 use Rattle.iso_host.specs.Entering.{entered_by}
 use Rattle.iso_host.specs.Output.{IsAnswerTo}
 
--- the kind of the body whose message this is, and what is written for it
-abbrev pub Handles : Layout → Header → Books → Option Contents → Handled → Type 0
-Handles t h books message Unreadable = IsTrue (is_unreadable (option_map verdict message)) × IsAnswerTo t h books message []
-Handles t h books message Silent = IsTrue (is_silent (option_map verdict message)) × IsAnswerTo t h books message []
-Handles t h books message (Answered bytes) = IsTrue (is_answered (option_map verdict message)) × IsAnswerTo t h books message bytes.items
+-- the kind of the body whose message this is, and what is written for it: these bytes, where it is answered
+abbrev pub Handles : Layout → Header → Books → Option Contents → List ℕ → Handled → Type 0
+Handles t h books message bytes Unreadable = IsTrue (is_unreadable (option_map verdict message)) × IsAnswerTo t h books message []
+Handles t h books message bytes Silent = IsTrue (is_silent (option_map verdict message)) × IsAnswerTo t h books message []
+Handles t h books message bytes Answered = IsTrue (is_answered (option_map verdict message)) × IsAnswerTo t h books message bytes
 
 -- the books are as they were, or the message's order was entered, and the message has an answer
 abbrev pub EntersOrKeeps : Layout → Header → Books → Books → Option Contents → Type 0

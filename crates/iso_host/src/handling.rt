@@ -15,21 +15,51 @@ ghost use Rattle.iso_host.specs.Output.{outcome_for, outcome_of, IsFramed};
 use iso_issuer::laws::firsts_stay;
 use iso_issuer::{Issuer, Refused};
 use iso_order::laws::{responses_are_short, responses_are_well_formed, responses_fit};
-use iso_order::{Answer, NoMemory, Order, Verdict, order_of, respond};
+use iso_order::{Answer, NoMemory, Order, Verdict, order_of, respond_into};
+use iso_parts::Mti;
 use iso_table::Table;
 use iso_wire::laws::{spelled_once, well_formed};
-use iso_wire::{FrameFault, Header, Message, PackFault, UnpackCause, Unpacker, frame, pack};
+use iso_wire::{
+    FrameFault, Header, Message, PackFault, UnpackCause, Unpacker, append_frame, pack_into,
+};
 use std::alloc::Global;
 
+/// The type of a message that isn't made yet.
+const NO_TYPE: Mti = Mti {
+    version: 0,
+    class: 0,
+    function: 0,
+    origin: 0,
+};
+
 /// What came of a body.
-#[derive(Drop)]
+#[derive(Clone, Copy)]
 pub enum Handled {
     /// It is not one whole message.
     Unreadable,
     /// Its message is not answered.
     Silent,
-    /// The frame of its response.
-    Answered(Vec<u8>),
+    /// The frame of its response lies on the desk.
+    Answered,
+}
+
+/// A response and its bytes, in memory that is kept for the next one.
+#[derive(Drop)]
+pub struct Desk {
+    response: Message,
+    packed: Vec<u8>,
+    pub frame: Vec<u8>,
+}
+
+impl Desk {
+    /// A desk with no response on it. Takes no memory.
+    pub fn new(alloc: Global) -> Desk {
+        Desk {
+            response: Message::new(alloc, NO_TYPE),
+            packed: Vec::new(alloc),
+            frame: Vec::new(alloc),
+        }
+    }
 }
 
 /// The message that the whole body is, if it is one.
@@ -109,47 +139,56 @@ fn answer_to(issuer: &mut Issuer, message: &Message) -> Result<Option<Answer>, N
     }
 }
 
-/// The frame of a response. The table refuses none, and each header can count it.
-fn framed_response(
-    alloc: Global,
+/// Writes the frame of a response, in place of the bytes that were there. The table refuses none, and each header can
+/// count it.
+fn write_frame(
     table: &Table,
     header: Header,
     response: &Message,
-) -> Result<Vec<u8>, NoMemory>
+    packed: &mut Vec<u8>,
+    out: &mut Vec<u8>,
+) -> Result<(), NoMemory>
     requires fits { message_refusal table.now response.now ≡ None }
     requires short { (bytes : List ℕ) → PlainSpelling table.now response.now bytes → length bytes ≤ 9999 }
-    ensures { IfOk result (λ bytes. IsFramed table.now header (Some response.now) bytes.items) }
+    ensures { OnOk result (IsFramed table.now header (Some response.now) out.new.items) }
 {
-    let packed = match pack(alloc, table, response) {
-        Ok(packed) => packed,
+    match pack_into(table, response, packed) {
+        Ok(()) => {}
         Err(PackFault::Memory) => return Err(NoMemory),
         Err(_) => unreachable!(),
-    };
-    match frame(alloc, header, &packed) {
-        Ok(bytes) => Ok(bytes),
+    }
+    out.clear();
+    match append_frame(header, packed, out) {
+        Ok(()) => Ok(()),
         Err(FrameFault::Memory) => Err(NoMemory),
         Err(_) => unreachable!(),
     }
 }
 
-/// The frame of the response to a message.
+/// Lays the frame of the response to a message on the desk.
 fn answer_frame(
-    alloc: Global,
     table: &Table,
     header: Header,
     message: &Message,
     answer: &Answer,
-) -> Result<Vec<u8>, NoMemory>
+    desk: &mut Desk,
+) -> Result<(), NoMemory>
     requires ready { IsHostReady table.now }
     requires read { (bytes : List ℕ) × Spelling table.now message.now bytes }
     requires asks { asks (function message.now) ≡ true }
     requires shown { is_showable message.now answer.now.shown ≡ true }
-    ensures { IfOk result (λ bytes. IsFramed table.now header (Some (response message.now answer.now)) bytes.items) }
+    ensures { OnOk result (IsFramed table.now header (Some (response message.now answer.now)) desk.new.frame.items) }
 {
     responses_fit();
     responses_are_short();
-    let response = respond(alloc, message, answer)?;
-    framed_response(alloc, table, header, &response)
+    respond_into(message, answer, &mut desk.response)?;
+    write_frame(
+        table,
+        header,
+        &desk.response,
+        &mut desk.packed,
+        &mut desk.frame,
+    )
 }
 
 /// Each response has a frame: the table doesn't refuse it, so it has a plain spelling, which each header can count.
@@ -168,19 +207,19 @@ fn has_frame(table: &Table, header: Header, message: &Message, answer: &Answer)
     let _version = table.version();
 }
 
-/// Handles what a body is: the order of its message is entered, and then the response is made. After an `Err` the order
-/// may be entered: then the message has an answer, though it wasn't made.
+/// Handles what a body is: the order of its message is entered, and then the frame of the response is laid on the desk.
+/// After an `Err` the order may be entered: then the message has an answer, though it wasn't made.
 #[tactic(auto, unfolding(crate::specs::Output::IsAnswerTo))]
 pub fn handle_message(
-    alloc: Global,
     table: &Table,
     header: Header,
     issuer: &mut Issuer,
     message: &Option<Message>,
+    desk: &mut Desk,
 ) -> Result<Handled, NoMemory>
     requires ready { IsHostReady table.now }
     requires read { IfSome message.now (λ m. (bytes : List ℕ) × Spelling table.now m bytes) }
-    ensures handled { IfOk result (Handles table.now header issuer.old message.now) }
+    ensures handled { IfOk result (Handles table.now header issuer.old message.now desk.new.frame.items) }
     ensures entered { OnOk result (issuer.new ≡ entered_by issuer.old message.now) }
     ensures memory { OnErr result (EntersOrKeeps table.now header issuer.old issuer.new message.now) }
 {
@@ -192,6 +231,6 @@ pub fn handle_message(
         return Ok(Handled::Silent);
     };
     has_frame(table, header, message, &answer);
-    let bytes = answer_frame(alloc, table, header, message, &answer)?;
-    Ok(Handled::Answered(bytes))
+    answer_frame(table, header, message, &answer, desk)?;
+    Ok(Handled::Answered)
 }

@@ -8,7 +8,7 @@ ghost use Rattle.iso_host.specs.Serving.{AnswersInto, SpendsOnWrite, TakesTurns}
 ghost use Rattle.iso_host.specs.Writing.{WritesFront};
 
 use crate::fault::{Report, ServeFault};
-use crate::handling::{Handled, enters_nothing, handle_message};
+use crate::handling::{Desk, Handled, enters_nothing, handle_message};
 use crate::reading::{Next, read_frame};
 use crate::streams::{Inlet, Outlet};
 use crate::window::Window;
@@ -53,11 +53,11 @@ fn write_whole<W: Outlet>(writer: &mut W, bytes: &[u8], left: &mut u64) -> Resul
 
 /// Handles the message that a body is, or none, and writes its answer. After `Memory` nothing was written.
 fn answer_message<W: Outlet>(
-    alloc: Global,
     table: &Table,
     header: Header,
     issuer: &mut Issuer,
     message: &Option<Message>,
+    desk: &mut Desk,
     writer: &mut W,
     left: &mut u64,
     report: &mut Report,
@@ -70,7 +70,7 @@ fn answer_message<W: Outlet>(
     ensures flushed { OnOk result (IsFlushed (W.counts writer.old) (W.counts writer.new)) }
     ensures report { OnOk result (ReportsOneMore report.old report.new (option_map verdict message.now)) }
 {
-    let Ok(handled) = handle_message(alloc, table, header, issuer, message) else {
+    let Ok(handled) = handle_message(table, header, issuer, message, desk) else {
         return Err(ServeFault::Memory);
     };
     report.frames = report.frames.saturating_add(1);
@@ -83,8 +83,8 @@ fn answer_message<W: Outlet>(
             report.silent = report.silent.saturating_add(1);
             Ok(())
         }
-        Handled::Answered(bytes) => {
-            if let Err(fault) = write_whole(writer, bytes.as_slice(), left) {
+        Handled::Answered => {
+            if let Err(fault) = write_whole(writer, &desk.frame, left) {
                 return Err(fault);
             }
             report.answered = report.answered.saturating_add(1);
@@ -132,6 +132,7 @@ pub fn serve<R: Inlet, W: Outlet>(
     let mut report = NO_FRAMES;
     let mut window = Window::new();
     let mut unpacker = Unpacker::new(alloc, table);
+    let mut desk = Desk::new(alloc);
     'frames: loop {
         let read = read_frame(
             alloc,
@@ -148,11 +149,11 @@ pub fn serve<R: Inlet, W: Outlet>(
             Ok(Next::Body(message)) => message,
         };
         let answered = answer_message(
-            alloc,
             table,
             header,
             issuer,
             &message,
+            &mut desk,
             writer,
             &mut left,
             &mut report,

@@ -24,6 +24,6 @@ pub use iso_table::NoMemory;
 pub use key::TxKey;
 pub use order::Order;
 pub use pan::Pan;
-pub use response::respond;
+pub use response::{respond, respond_into};
 pub use told::{Told, answer_of};
 pub use verdict::{Verdict, order_of};

@@ -167,6 +167,24 @@ fn add_all(
     Ok(())
 }
 
+/// Makes a message the response to another, as [`respond`] does, in place of what it was. Its memory is kept, and is
+/// enough where it has the room. The other message and the answer are lent to be read, and stay.
+pub fn respond_into(message: &Message, answer: &Answer, into: &mut Message) -> Result<(), NoMemory>
+    // A request or an advice.
+    requires asks { asks (function message.now) ≡ true }
+    // A balance of at most twelve digits, shown where the verdict is an inquiry.
+    requires shown { is_showable message.now answer.now.shown ≡ true }
+    ensures whole { OnOk result (into.new ≡ response message.now answer.now) }
+    // Element by element.
+    ensures each { OnOk result ((n : ℕ) → 2 ≤ n → n ≤ 128
+        → value_in into.new.elements n ≡ element message.now answer.now n) }
+{
+    let mti = response_type(message);
+    into.start_over(mti, ANSWERED.len(), USUAL_BYTES)?;
+    add_all(message, answer, &ANSWERED, into)?;
+    Ok(())
+}
+
 /// The response to a message, which asks for one: what the message has of the elements that are given back, the
 /// response code (element 39), where a payment is granted its approval number (38), and the balance that is
 /// shown (54). Refuses only for want of memory: the message and the answer are lent to be read, and stay.
@@ -180,8 +198,7 @@ pub fn respond(alloc: Global, message: &Message, answer: &Answer) -> Result<Mess
     ensures each { IfOk result (λ made. (n : ℕ) → 2 ≤ n → n ≤ 128
         → value_in made.elements n ≡ element message.now answer.now n) }
 {
-    let mti = response_type(message);
-    let mut response = Message::with_room(alloc, mti, ANSWERED.len(), USUAL_BYTES)?;
-    add_all(message, answer, &ANSWERED, &mut response)?;
+    let mut response = Message::new(alloc, response_type(message));
+    respond_into(message, answer, &mut response)?;
     Ok(response)
 }

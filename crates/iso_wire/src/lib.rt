@@ -29,7 +29,7 @@ pub use framing::{FrameFault, Framed, append_frame, body_length, frame, unframe}
 pub use header::Header;
 pub use masking::{Shown, masked};
 pub use message::Message;
-pub use packing::pack;
+pub use packing::{pack, pack_into};
 pub use unpacker::{Fed, Unpacker};
 pub use unpacking::unpack;
 pub use viewing::view;

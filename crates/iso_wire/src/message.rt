@@ -88,6 +88,16 @@ impl Message {
         Ok(Message { mti, elements })
     }
 
+    /// Makes it a message of that type with no elements, and with room for so many elements whose values have so many
+    /// bytes. The memory that it has is kept, and is enough where it has the room.
+    pub fn start_over(&mut self, mti: Mti, elements: usize, bytes: usize) -> Result<(), AllocError>
+        // Where memory runs out too.
+        ensures { self.new ≡ record { mti = number mti; elements = [] } }
+    {
+        self.mti = mti;
+        self.elements.start_over(elements, bytes)
+    }
+
     /// The message of that type with those elements.
     pub(crate) fn from_elements(mti: Mti, elements: Elements) -> Message
         requires whole { IsWhole elements }

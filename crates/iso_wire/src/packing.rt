@@ -1,6 +1,6 @@
 //! Writing a message.
 
-ghost use Rattle.std.specs.Prelude.{◌≡◌, ◌≢◌, ℕ, ◌++◌, ◌<◌, List, [], length, slice_index, OnOk, IfOk, IfErr, None, Some};
+ghost use Rattle.std.specs.Prelude.{◌≡◌, ◌≢◌, ℕ, ◌++◌, ◌<◌, List, [], length, slice_index, OnOk, OnErr, IfOk, IfErr, None, Some};
 ghost use Rattle.std.specs.List.{flat_map};
 ghost use Rattle.iso_wire.specs.declared.fault.PackFault.TheVariants as pack;
 ghost use Rattle.iso_wire.specs.Entries.{bytes_in, elements_of, views, IsWhole};
@@ -104,16 +104,62 @@ fn append_mti(digits: Digits, n: u16, out: &mut Vec<u8>) -> Result<(), AllocErro
     }
 }
 
-/// No bytes, and room for the plain spelling of the elements.
-fn room_for(alloc: Global, elements: &Elements) -> Result<Vec<u8>, AllocError>
-    ensures { IfOk result (λ out. out.items ≡ []) }
+/// Drops the bytes that were there, and makes room for the plain spelling of the elements.
+fn make_room(elements: &Elements, out: &mut Vec<u8>) -> Result<(), AllocError>
+    ensures { OnOk result (out.new.items ≡ []) }
 {
     let prefixes = elements.index.len().saturating_mul(LONGEST_PREFIX);
     let bodies = elements.values.len().saturating_mul(2);
-    Vec::with_capacity(
-        alloc,
-        LONGEST_HEAD.saturating_add(prefixes).saturating_add(bodies),
-    )
+    out.clear();
+    out.reserve(LONGEST_HEAD.saturating_add(prefixes).saturating_add(bodies))
+}
+
+/// Writes the plain spelling of a message in place of the bytes that were there.
+fn write_spelling(table: &Table, message: &Message, out: &mut Vec<u8>) -> Result<(), PackFault>
+    ensures packed { OnOk result (PlainSpelling table.now message.now out.new.items) }
+    ensures accepted { OnOk result (message_refusal table.now message.now ≡ None) }
+    ensures fault { IfErr result (λ e. e ≢ pack.Memory → message_refusal table.now message.now ≡ Some e) }
+    // Each item is a byte.
+    ensures bytes { OnOk result (AreBytes out.new.items) }
+    ensures good { AreGood table.now.rows }
+{
+    let mti = message.mti();
+    if mti.version != table.version() {
+        return Err(PackFault::WrongVersion);
+    }
+    let elements = message.parts();
+    make_room(elements, out)?;
+    append_mti(table.mti(), mti.number(), out)?;
+    let numbers = message.elements();
+    numbers.append(table.bitmap(), out)?;
+    append_parts(table, elements, out)?;
+    Ok(())
+}
+
+/// Writes a message as [`pack`] does, in place of the bytes that were there, whose memory is kept. After a fault no byte
+/// is left.
+pub fn pack_into(table: &Table, message: &Message, out: &mut Vec<u8>) -> Result<(), PackFault>
+    // What is written is the plain spelling of the message.
+    ensures packed { OnOk result (PlainSpelling table.now message.now out.new.items) }
+    ensures accepted { OnOk result (message_refusal table.now message.now ≡ None) }
+    // A message that has a spelling is written, unless memory runs out.
+    ensures only { (b : List ℕ) → Spelling table.now message.now b → IfErr result (λ e. e ≡ pack.Memory) }
+    // Which fault it is, unless memory ran out.
+    ensures fault { IfErr result (λ e. e ≢ pack.Memory → message_refusal table.now message.now ≡ Some e) }
+    // After a fault nothing is left.
+    ensures none { OnErr result (out.new.items ≡ []) }
+    // Whatever bytes follow it, what is written reads as the message, and no byte more.
+    ensures again { OnOk result ((rest : List ℕ) → AreBytes rest
+        → message_at table.now (out.new.items ++ rest) ≡ whole message.now (length out.new.items)) }
+{
+    reads_spellings();
+    match write_spelling(table, message, out) {
+        Ok(()) => Ok(()),
+        Err(fault) => {
+            out.clear();
+            Err(fault)
+        }
+    }
 }
 
 /// The plain spelling of a message.
@@ -125,17 +171,11 @@ fn plain_spelling(alloc: Global, table: &Table, message: &Message) -> Result<Vec
     ensures bytes { IfOk result (λ out. AreBytes out.items) }
     ensures good { AreGood table.now.rows }
 {
-    let mti = message.mti();
-    if mti.version != table.version() {
-        return Err(PackFault::WrongVersion);
+    let mut out = Vec::new(alloc);
+    match write_spelling(table, message, &mut out) {
+        Ok(()) => Ok(out),
+        Err(fault) => Err(fault),
     }
-    let elements = message.parts();
-    let mut out = room_for(alloc, elements)?;
-    append_mti(table.mti(), mti.number(), &mut out)?;
-    let numbers = message.elements();
-    numbers.append(table.bitmap(), &mut out)?;
-    append_parts(table, elements, &mut out)?;
-    Ok(out)
 }
 
 /// Writes a message: its type, its bitmaps, and its elements in ascending number. A secondary bitmap is written

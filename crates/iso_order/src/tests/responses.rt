@@ -1,7 +1,7 @@
 //! The responses that messages get.
 
 use super::{Change, message, payment};
-use crate::{Act, Answer, Verdict, order_of, respond};
+use crate::{Act, Answer, Verdict, order_of, respond, respond_into};
 use iso_wire::Message;
 use std::alloc::Global;
 use std::test::Fail;
@@ -127,6 +127,36 @@ fn responses(rt: HostRuntime) -> Result<(), Fail> {
     for case in cases() {
         let asked = message(rt.alloc(), case.mti, case.asked)?;
         let made = response(rt.alloc(), &asked, case.code, case.seq)?;
+        let want = message(rt.alloc(), case.response, case.answered)?;
+        assert!(rt; made.equals(&want), "{}", case.name);
+    }
+    Ok(())
+}
+
+/// Makes a message the response to one that is answered.
+fn respond_over(message: &Message, code: u8, seq: u32, into: &mut Message) -> Result<(), Fail> {
+    if code > 99 || seq > 999_999 {
+        return Err("no answer".into());
+    }
+    let shown = None;
+    match order_of(message) {
+        Verdict::Silent => Err("silent".into()),
+        Verdict::Reply(_) | Verdict::Order(_) => {
+            Ok(respond_into(message, &Answer { code, seq, shown }, into)?)
+        }
+    }
+}
+
+#[test]
+fn a_response_is_made_in_place_of_another(rt: HostRuntime) -> Result<(), Fail> {
+    let mut made = message(
+        rt.alloc(),
+        210,
+        &[(39, b"51"), (54, b"0002840C000000004000")],
+    )?;
+    for case in cases() {
+        let asked = message(rt.alloc(), case.mti, case.asked)?;
+        respond_over(&asked, case.code, case.seq, &mut made)?;
         let want = message(rt.alloc(), case.response, case.answered)?;
         assert!(rt; made.equals(&want), "{}", case.name);
     }

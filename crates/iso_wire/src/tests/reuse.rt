@@ -91,3 +91,36 @@ fn reading_a_whole_message_leaves_the_pieces_of_another(rt: HostRuntime) -> Resu
         }
     }
 }
+
+#[test]
+fn a_message_is_written_over_another(rt: HostRuntime) -> Result<(), Fail> {
+    let alloc = rt.alloc();
+    let table = ascii(alloc)?;
+    let mut out = Vec::new(alloc);
+    for case in &ascii_cases() {
+        let name = case.name;
+        let (message, _) = unpack(alloc, &table, case.bytes)?;
+        pack_into(&table, &message, &mut out)?;
+        assert_eq!(rt; out.as_slice(), case.plain, "{name}");
+    }
+    let refused = message(alloc, 800, &[(12, b"010203")])?;
+    assert_eq!(rt;
+        pack_into(&table, &refused, &mut out).err(),
+        Some(PackFault::NoRow(12))
+    );
+    assert_eq!(rt; out.as_slice(), b"".as_slice());
+    Ok(())
+}
+
+#[test]
+fn a_message_starts_over(rt: HostRuntime) -> Result<(), Fail> {
+    let alloc = rt.alloc();
+    let mut message = message(alloc, 200, &[(2, b"4111111111111111"), (3, b"000000")])?;
+    let response = Mti::from_digits(810).ok_or("not four digits")?;
+    message.start_over(response, 1, 2)?;
+    assert_eq!(rt; message.mti().number(), 810);
+    assert!(rt; has_only(&message, &[]));
+    message.set(39, b"00")?;
+    assert!(rt; has_only(&message, &[(39, b"00")]));
+    Ok(())
+}

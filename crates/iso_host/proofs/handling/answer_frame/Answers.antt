@@ -4,11 +4,11 @@ use Rattle.iso_wire.specs.Spelling.{PlainSpelling}
 use Rattle.iso_order.specs.Fitting.{IsServed}
 use Rattle.iso_host.proofs.handling.answer_frame.Goals as goal
 
-pub framed_response-requires-clause-short : goal.framed_response-requires-clause-short
-framed_response-requires-clause-short c =
+pub write_frame-requires-clause-short : goal.write_frame-requires-clause-short
+write_frame-requires-clause-short c =
     let t = c.args.table.now in
     let m = c.args.message.now in
     let a = c.args.answer.now in
     let served : IsServed t m a = record { ready = c.requires.ready; bytes = c.requires.read.0; read = c.requires.read.1; shown = c.requires.shown } in
-    subst (λ (r : Contents). (bytes : List ℕ) → PlainSpelling t r bytes → length bytes ≤ 9999) (sym c.in_ok-response.ensures.whole)
+    subst (λ (r : Contents). (bytes : List ℕ) → PlainSpelling t r bytes → length bytes ≤ 9999) (sym c.in_ok-respond_into.ensures.whole)
     (λ bytes plain. c.responses_are_short.ensures t m a bytes served plain)

@@ -7,7 +7,7 @@ use Rattle.iso_parts.specs.Mti.{number}
 use Rattle.iso_wire.specs.Spelling.{mti_bytes, Parts, plain_of}
 use Rattle.iso_wire.proofs.Orders.{Values}
 use Rattle.iso_wire.proofs.Packs.{plain_spelling_lem, three_pieces}
-use Rattle.iso_wire.proofs.packing.plain_spelling.Goals as goal
+use Rattle.iso_wire.proofs.packing.write_spelling.Goals as goal
 
 pub returns-clause-packed : goal.returns-clause-packed
 returns-clause-packed c =
@@ -22,9 +22,9 @@ returns-clause-packed c =
     let version : m.mti / 1000 ≡ t.version = omega (arith, same, mti.version_digit, mti.class_digit, mti.function_digit, mti.origin_digit, c.if-mti-version.false, c.version.ensures.version) in
     let plain : PlainBitmaps t.bitmap set maps = subst (λ (k : BitmapCoding). PlainBitmaps k set maps) c.bitmap.ensures c.in_ok-append.ensures.ok.1 in
     let spelled : Parts t.rows m.elements (flat_map f m.elements) = subst (λ (es : Values). Parts t.rows es (flat_map f es)) c.parts-elements.ensures.elements c.in_ok-append_parts.ensures.spelled in
-    let start = c.in_ok-out.out.items in
+    let start = c.make_room.new.out.items in
     let head : c.append_mti.new.out.items ≡ start ++ mti_bytes t.mti m.mti =
     c.in_ok-append_mti.ensures ∙ ap (λ (k : Digits). start ++ mti_bytes k c.number.result) c.mti.ensures ∙ ap (λ (n : ℕ). start ++ mti_bytes t.mti n) (c.number.ensures ∙ same) in
     let tail : c.append_parts.new.out.items ≡ c.append.new.out.items ++ flat_map f m.elements = c.in_ok-append_parts.ensures.written ∙ ap (λ (es : Values). c.append.new.out.items ++ flat_map f es) c.parts-elements.ensures.elements in
-    let whole = three_pieces c.in_ok-out.out.items c.append_mti.new.out.items c.append.new.out.items c.append_parts.new.out.items (mti_bytes t.mti m.mti) maps (flat_map f m.elements) c.in_ok-out.ensures head c.in_ok-append.ensures.ok.2 tail in
+    let whole = three_pieces c.make_room.new.out.items c.append_mti.new.out.items c.append.new.out.items c.append_parts.new.out.items (mti_bytes t.mti m.mti) maps (flat_map f m.elements) c.in_ok-make_room.ensures head c.in_ok-append.ensures.ok.2 tail in
     plain_spelling_lem t m set maps c.append_parts.new.out.items small version c.parts-elements.ensures.ascending c.elements-numbers.ensures plain spelled whole

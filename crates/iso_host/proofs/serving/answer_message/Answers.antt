@@ -1,0 +1,18 @@
+use Rattle.std.proofs.Common.{List, ℕ, refl, arith, inl, inr}
+use Rattle.std.proofs.KnownBytes.{Appends-nil}
+use Rattle.std.specs.declared.option.Option.{Option}
+use Rattle.iso_table.specs.Layout.{Layout}
+use Rattle.iso_wire.specs.declared.header.Header.{Header}
+use Rattle.iso_wire.specs.Contents.{Contents}
+use Rattle.iso_issuer.specs.Books.{Books}
+use Rattle.iso_host.specs.Handled.{EntersOrKeeps}
+use Rattle.iso_host.specs.Serving.{AnswersPart}
+use Rattle.iso_host.proofs.serving.answer_message.Goals as goal
+
+-- no byte was written
+none_written : (t : Layout) (h : Header) (old new : Books) (message : Option Contents) (held : Option (List ℕ)) → EntersOrKeeps t h old new message → AnswersPart t h old new message held held
+none_written t h old new message held (inl kept) = inl (kept, refl)
+none_written t h old new message held (inr entered) = inr (entered.0, (entered.1.0, entered.1.1, (0, omega arith, Appends-nil held)))
+
+pub returns-in_default-clause-answered : goal.returns-in_default-clause-answered
+returns-in_default-clause-answered g c = none_written _ _ _ _ _ _ c.in_default.ensures.memory
