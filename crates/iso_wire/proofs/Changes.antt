@@ -11,7 +11,7 @@ use Rattle.iso_wire.specs.declared.elements.Place.{Place}
 use Rattle.iso_wire.specs.Elements.{value_in, IsAscending, IsBelow, put, without}
 use Rattle.iso_wire.specs.Entries.{bytes_in, elements_of, place_in, views, entry_of, IsWhole, IsMadeOf, IsSame, Holds, Lacks}
 use Rattle.iso_wire.proofs.Orders.{Values, IsAscending-behind, IsAscending-above, IsAscending-after, put-between, put-there, without-there, without-between, value_in-there, value_in-between}
-use Rattle.iso_wire.proofs.Buffers.{bytes_in-append, elements_of-append, elements_of-middle, elements_of-push, below_last}
+use Rattle.iso_wire.proofs.Buffers.{bytes_in-append, elements_of-append, elements_of-middle, below_last}
 use Rattle.iso_wire.proofs.Places.{place_in-before, place_in-there, place_in-nothing}
 
 bytes_in-split : (at : ℕ) (es : List Entry) → bytes_in (take at es) + bytes_in (drop at es) ≡ bytes_in es
@@ -144,31 +144,6 @@ module _ (n : ℕ) (es : List Entry) (b : List ℕ) (p : Place) (lacks : Lacks n
   inserted_bytes v =
       bytes_in-append (take p.at es) ((entry_of n v) ∷ drop p.at es)
       ∙ omega (arith, lacks.front, lacks.back, length-append (take p.start b) (v ++ drop p.start b), length-append v (drop p.start b))
-
--- ---- an element behind the others
-
-index_end : (es : List Entry) (at : ℕ) (e : Entry) → at ≡ length es → take at es ++ e ∷ drop at es ≡ es ++ e ∷ []
-index_end es at e last =
-    ap (λ (l : List Entry). l ++ e ∷ drop at es) (let le : length es ≤ at = omega arith in take_all at es le)
-    ∙ ap (λ (l : List Entry). es ++ e ∷ l) (let le : length es ≤ at = omega arith in drop_all at es le)
-
-bytes_end : (b v : List ℕ) (start : ℕ) → start ≡ length b → take start b ++ (v ++ drop start b) ≡ b ++ v
-bytes_end b v start last =
-    ap (λ (l : List ℕ). l ++ (v ++ drop start b)) (let le : length b ≤ start = omega arith in take_all start b le)
-    ∙ ap (λ (l : List ℕ). b ++ (v ++ l)) (let le : length b ≤ start = omega arith in drop_all start b le)
-    ∙ ap (λ (l : List ℕ). b ++ l) (append-nil v)
-
-pub appended : (n : ℕ) (es : List Entry) (b v : List ℕ) (at start : ℕ) → at ≡ length es → start ≡ length b → bytes_in es ≡ length b → elements_of (take at es ++ (entry_of n v) ∷ drop at es) (take start b ++ (v ++ drop start b)) ≡ elements_of es b ++ (n, v) ∷ []
-appended n es b v at start last end whole =
-    ap (λ (l : List Entry). elements_of l (take start b ++ (v ++ drop start b))) (index_end es at (entry_of n v) last)
-    ∙ ap (λ (l : List ℕ). elements_of (es ++ (entry_of n v) ∷ []) l) (bytes_end b v start end)
-    ∙ elements_of-push es n b v whole
-
-pub appended_bytes : (n : ℕ) (es : List Entry) (b v : List ℕ) (at start : ℕ) → at ≡ length es → start ≡ length b → bytes_in es ≡ length b → bytes_in (take at es ++ (entry_of n v) ∷ drop at es) ≡ length (take start b ++ (v ++ drop start b))
-appended_bytes n es b v at start last end whole =
-    ap bytes_in (index_end es at (entry_of n v) last)
-    ∙ bytes_in-append es ((entry_of n v) ∷ [])
-    ∙ omega (arith, ap length (bytes_end b v start end), length-append b v)
 
 -- ---- what holds however a call ended
 

@@ -256,9 +256,15 @@ impl Elements {
         ensures whole { IsWhole self.new }
         ensures err { OnErr result (IsSame self.old self.new) }
     {
-        let at = self.index.len();
-        let start = self.values.len();
-        self.insert(at, start, n, value)
+        let from = self.values.len();
+        self.values.extend_from_slice(value)?;
+        match self.close(n, from) {
+            Ok(()) => Ok(()),
+            Err(fault) => {
+                self.values.truncate(from);
+                Err(fault)
+            }
+        }
     }
 
     /// Puts a value at its number, in place of the one that was there.
