@@ -36,7 +36,8 @@ fn count_at(counts: &BTreeMap<Hold, u64>, hold: &Hold) -> u64
 /// One entry more completes the hold.
 fn complete(counts: &mut BTreeMap<Hold, u64>, hold: Hold) -> Result<(), AllocError>
     requires { count_at counts.old hold.key hold.pan < 1000000 }
-    ensures ok { OnOk result ((key : TxKey) → (pan : AccountNumber) → count_at counts.new key pan ≡ count_at counts.old key pan + mark_at (Some hold) key pan) }
+    ensures ok { OnOk result ((key : TxKey) → (pan : AccountNumber) →
+        count_at counts.new key pan ≡ count_at counts.old key pan + mark_at (Some hold) key pan) }
     ensures unchanged { OnErr result ((key : TxKey) → (pan : AccountNumber) → count_at counts.new key pan ≡ count_at counts.old key pan) }
 {
     let count = count_at(counts, &hold);

@@ -1,6 +1,7 @@
 //! The issuer.
 
-ghost use Rattle.std.specs.Prelude.{◌≡◌, ◌≢◌, ◌≤◌, ◌<◌, ◌↔◌, ◌++◌, ◌∷◌, [], IsTrue, true, false, length, take, IfOk, OnOk, OnErr, IfErr, IsOk, option_map};
+ghost use Rattle.std.specs.Prelude.{◌≡◌, ◌≢◌, ◌≤◌, ◌<◌, ◌↔◌, ◌++◌, ◌∷◌, []};
+ghost use Rattle.std.specs.Prelude.{IsTrue, true, false, length, take, IfOk, OnOk, OnErr, IfErr, IsOk, option_map};
 ghost use Rattle.iso_issuer.specs.declared.fault.Refused.TheVariants.{Memory};
 ghost use Rattle.iso_issuer.specs.Account.{account_of};
 ghost use Rattle.iso_issuer.specs.Journal.{firsts, is_entered, HasDistinctKeys};
@@ -97,7 +98,8 @@ impl Issuer {
         ensures shown { IfOk result (λ answer. is_shown_for order.act answer.shown ≡ true) }
 
         // Memory aside, the journal has the first order of each key, up to its limit.
-        ensures kept { result ≢ Err Refused.Memory → self.new ≡ record self.old { orders = take self.old.limit (firsts (self.old.orders ++ order ∷ [])) } }
+        ensures kept { result ≢ Err Refused.Memory →
+            self.new ≡ record self.old { orders = take self.old.limit (firsts (self.old.orders ++ order ∷ [])) } }
 
         // A new key at the limit is refused as such, and nothing else is.
         ensures full { (result ≡ Err Refused.Full) ↔ IsFullFor self.old order.key }

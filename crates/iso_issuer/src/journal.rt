@@ -3,7 +3,8 @@
 ghost use Rattle.iso_issuer.specs.Effect.{is_key, effect_of};
 ghost use Rattle.iso_issuer.specs.Found.{touched_at, touches, weight_in, IsFoundFor};
 ghost use Rattle.iso_issuer.specs.declared.journal.Entry.{Entry};
-ghost use Rattle.std.specs.Prelude.{◌≡◌, ◌≤◌, ◌<◌, ◌+◌, ◌==◌, ℕ, List, is_some, true, false, map, ◌++◌, ◌∷◌, [], None, if◌then◌else◌, OnOk, OnErr, length};
+ghost use Rattle.std.specs.Prelude.{◌≡◌, ◌≤◌, ◌<◌, ◌+◌, ◌==◌, ◌++◌, ◌∷◌, [], if◌then◌else◌};
+ghost use Rattle.std.specs.Prelude.{ℕ, List, is_some, true, false, map, None, OnOk, OnErr, length};
 ghost use Rattle.std.specs.BTreeMap as tree;
 ghost use Rattle.std.specs.Ordering.{nat_cmp};
 ghost use Rattle.iso_issuer.specs.Index.{added_by, dropped_of, dropped_by};

@@ -95,7 +95,8 @@ fn post_touched(
     requires near { All (IsNear 2999999) balances.old }
     requires before { weight_in touched.now ≤ 999999999999 }
     requires left { (t : Touched) → touched.now ≡ Some t → option_or t.left leaves ≡ left_at journal.now t.entry.order.key }
-    ensures moved { balances.new ≡ map (moved (effect_at (entry_in touched.now)) (weight_in touched.now) (weight_at journal.now (entry_in touched.now))) balances.old }
+    ensures moved { balances.new ≡ map (moved (effect_at (entry_in touched.now)) (weight_in touched.now)
+        (weight_at journal.now (entry_in touched.now))) balances.old }
     ensures near { (n : ℕ) → All (IsNear n) balances.old → All (IsNear (n + 1)) balances.new }
 {
     if let Some(touched) = touched {
@@ -129,8 +130,11 @@ pub fn settle(
     requires found { WasFoundFor journal.now entry.order found.now }
     requires reversed { weight_in found.now.reversed ≤ 999999999999 }
     requires released { weight_in found.now.released ≤ 999999999999 }
-    ensures moved { balances.new ≡ map (moved (effect_at (entry_in found.now.released)) (weight_in found.now.released) (weight_at journal.now (entry_in found.now.released)))
-        (map (moved (effect_at (entry_in found.now.reversed)) (weight_in found.now.reversed) (weight_at journal.now (entry_in found.now.reversed)))
+    ensures moved { balances.new
+        ≡ map (moved (effect_at (entry_in found.now.released)) (weight_in found.now.released)
+        (weight_at journal.now (entry_in found.now.released)))
+        (map (moved (effect_at (entry_in found.now.reversed)) (weight_in found.now.reversed)
+        (weight_at journal.now (entry_in found.now.reversed)))
         (map (moved (effect_of entry.order) 0 (weight journal.now entry)) balances.old)) }
     ensures near { (n : ℕ) → All (IsNear n) balances.old → All (IsNear (n + 3)) balances.new }
 {
