@@ -16,14 +16,14 @@ jobs() {
     ls crates/*/stdout | cut -d/ -f2 | sed 's|^|scripts/try-runs.sh |'
 }
 
-# the README's example is a test, word for word
+# PAGE TEST: the example of a page is a test, word for word
 example() {
-    sed -n '/^```rust$/,/^```$/p' README.md | sed '1d;$d' > "$folder/example"
-    if cmp -s "$folder/example" crates/iso_host/src/tests/example.rt; then
-        echo "README.md: 1 example passed, 0 failed"
+    sed -n '/^```rust$/,/^```$/p' "$1" | sed '1d;$d' > "$folder/example"
+    if cmp -s "$folder/example" "$2"; then
+        echo "$1: 1 example passed, 0 failed"
     else
-        echo "FAILED README.md: its example isn't crates/iso_host/src/tests/example.rt"
-        echo "README.md: 0 examples passed, 1 failed"
+        echo "FAILED $1: its example isn't $2"
+        echo "$1: 0 examples passed, 1 failed"
     fi
 }
 
@@ -44,7 +44,8 @@ tables() {
 }
 
 {
-    example
+    example README.md crates/iso_host/src/tests/example.rt
+    example examples/pieces.md crates/iso_order/src/tests/pieces.rt
     tables
     jobs | xargs -P 2 -n 2 sh
 } | tee "$folder/told"

@@ -4,6 +4,7 @@ mod answers;
 mod completions;
 mod logs;
 mod orders;
+mod pieces;
 mod requests;
 mod responses;
 mod verdicts;
