@@ -16,7 +16,7 @@ trap 'exit 1' HUP INT TERM
 count() {
     name=$1 module=$2
     shift 2
-    valgrind --tool=callgrind --callgrind-out-file="$folder/$name" --dump-before="*iso_bench::$module::print*" $collect \
+    valgrind --tool=callgrind --callgrind-out-file="$folder/$name" --dump-before="*iso_bench::$module::print*" ${collect:+"$collect"} \
         crates/iso_bench/out/iso_bench "$@" > "$folder/$name.told" 2> /dev/null
 }
 
