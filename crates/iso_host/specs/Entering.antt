@@ -1,5 +1,5 @@
 -- The journal while bodies are handled: the first order of each key, up to the limit.
-use Rattle.std.specs.Prelude.{ℕ, Bool, not, ◌&&◌, nat_le, List, ◌++◌, length, take, Option, option_map}
+use Rattle.std.specs.Prelude.{◌≡◌, ℕ, Bool, not, ◌&&◌, nat_le, List, [], ◌++◌, length, take, Option, option_map}
 use Rattle.iso_table.specs.Layout.{Layout}
 use Rattle.iso_wire.specs.Contents.{Contents}
 use Rattle.iso_order.specs.declared.key.TxKey.{TxKey}
@@ -24,6 +24,15 @@ entered_by books message = with_orders books (orders_in (option_map verdict mess
 -- the books once this body is handled
 abbrev pub entered : Layout → Books → List ℕ → Books
 entered t books body = with_orders books (orders_in (asked_of t body))
+
+-- no bodies leave the books as they are
+abbrev pub StaysWithout : Books → Type 0
+StaysWithout books = (t : Layout) → books_after t books [] ≡ books
+
+-- bodies that follow others are handled as all of them, one after the other
+abbrev pub BodiesGoOn : Type 0
+BodiesGoOn =
+    (t : Layout) (books : Books) (earlier later : List (List ℕ)) → books_after t (books_after t books earlier) later ≡ books_after t books (earlier ++ later)
 
 -- the journal is at its limit, and the key is new
 abbrev pub is_full : Books → TxKey → Bool

@@ -7,7 +7,7 @@
 //! - `Std`: a std reader as an inlet, a std writer as an outlet. A call that the system interrupts is made again.
 //! - `Tally` and `Call`: the counts that an inlet or outlet of your own keeps. They cost nothing at run time.
 //! - `write_all`: whole bytes to an outlet, and a flush.
-//! - `laws`: what a body asks is what it spells, and bodies have one output.
+//! - `laws`: what a body asks is what it spells, bodies have one output, and one journal goes on over several streams.
 #![tactic(auto)]
 
 mod counting;
