@@ -2,3 +2,4 @@ mod CommandLemmas
 mod SourceLemmas
 mod InputLemmas
 mod RunLemmas
+mod ConnectionLemmas

@@ -8,3 +8,5 @@ pub mod Tells
 pub mod Tables
 pub mod Acts
 pub mod Runs
+pub mod Listening
+pub mod Connections

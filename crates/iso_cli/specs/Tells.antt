@@ -23,6 +23,10 @@ pub record Untold (held written : Option (List ℕ)) (old new : Counts) (line : 
 abbrev pub TellsLine : Option (List ℕ) → Option (List ℕ) → Counts → Counts → List ℕ → ℕ → ℕ → Type 0
 TellsLine held written old new line status given = Told held written old new line status given ⊎ Untold held written old new line given
 
--- the same of a stop whose line names no further fault
+-- the same of a stop whose line names no further fault, with this status
+abbrev pub TellsAs : Option (List ℕ) → Option (List ℕ) → Counts → Counts → Stop → ℕ → ℕ → Type 0
+TellsAs held written old new stop status given = IfSome (line_of stop) (λ line. TellsLine held written old new line status given)
+
+-- the same with the stop's own status
 abbrev pub Tells : Option (List ℕ) → Option (List ℕ) → Counts → Counts → Stop → ℕ → Type 0
-Tells held written old new stop given = IfSome (line_of stop) (λ line. TellsLine held written old new line (status_of stop) given)
+Tells held written old new stop given = TellsAs held written old new stop (status_of stop) given

@@ -4,6 +4,7 @@ ghost use Rattle.std.specs.Prelude.{◌≡◌, ◌≤◌, ◌⊎◌, IfOk, IfErr
 ghost use Rattle.iso_cli.specs.declared.stop.Stop.TheVariants.{Words, Memory};
 
 use crate::act::act;
+use crate::port::serve_port;
 use crate::source::Source;
 use crate::stop::{Stop, tell};
 use iso_host::{Inlet, Outlet};
@@ -11,6 +12,7 @@ use std::alloc::{AllocError, Global};
 use std::env;
 use std::env::{Env, FillError};
 use std::io::ErrorKind;
+use std::net::{Net, TcpListener, TcpStream};
 
 /// What a program is given, but its own name. The name is the first argument, and is never looked at.
 #[derive(Drop)]
@@ -60,10 +62,42 @@ fn texts<'a>(alloc: Global, words: &'a [String]) -> Result<Vec<&'a str>, AllocEr
     Ok(texts)
 }
 
+/// Serves a port where the first word is `serve`, and does every other command.
+fn act_or_serve<
+    N: Net<Listener = TcpListener, Stream = TcpStream>,
+    S: Source,
+    I: Inlet,
+    O: Outlet,
+    F: Outlet,
+>(
+    alloc: Global,
+    net: &N,
+    words: &[&str],
+    source: &S,
+    input: &mut I,
+    output: &mut O,
+    faults: &mut F,
+) -> u8
+    ensures status { result ≤ 3 }
+{
+    match words {
+        ["serve", ..] => serve_port(alloc, net, words, source, output, faults),
+        _ => act(alloc, words, source, input, output, faults),
+    }
+}
+
 /// Does what the words ask that the program is given, and gives the status. The program's name isn't judged.
-pub fn act_as_given<R: Env, S: Source, I: Inlet, O: Outlet, F: Outlet>(
+pub fn act_as_given<
+    R: Env,
+    N: Net<Listener = TcpListener, Stream = TcpStream>,
+    S: Source,
+    I: Inlet,
+    O: Outlet,
+    F: Outlet,
+>(
     alloc: Global,
     given: &R,
+    net: &N,
     source: &S,
     input: &mut I,
     output: &mut O,
@@ -76,7 +110,7 @@ pub fn act_as_given<R: Env, S: Source, I: Inlet, O: Outlet, F: Outlet>(
         Err(stop) => return tell(alloc, faults, stop),
     };
     match texts(alloc, &words) {
-        Ok(words) => act(alloc, &words, source, input, output, faults),
+        Ok(words) => act_or_serve(alloc, net, &words, source, input, output, faults),
         Err(_) => tell(alloc, faults, Stop::Memory),
     }
 }

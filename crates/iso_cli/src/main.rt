@@ -5,10 +5,12 @@
 //! - `show TABLE [--clear]`: the lines of the message on the input
 //! - `convert FROM TO`: the message on the input under another table
 //! - `run TABLE ACCOUNTS HEADER`: an issuer host, frames on the input and the frames of their responses
+//! - `serve TABLE ACCOUNTS HEADER PORT COUNT`: the same on a port of this machine, one connection after the other
 #![tactic(auto)]
 
 mod act;
 mod check;
+mod connections;
 mod convert;
 mod describe;
 mod documents;
@@ -16,6 +18,9 @@ mod echo;
 #[cfg(test)]
 mod fakes;
 mod given;
+mod listening;
+mod port;
+mod prepare;
 mod refusal;
 mod report;
 mod run;
@@ -38,6 +43,14 @@ fn main(rt: HostRuntime) -> ExitCode {
     let mut output = Std::new(rt.stdout());
     let mut faults = Std::new(rt.stderr());
     let disk = Disk { rt: &rt };
-    let status = act_as_given(rt.alloc(), &rt, &disk, &mut input, &mut output, &mut faults);
+    let status = act_as_given(
+        rt.alloc(),
+        &rt,
+        &rt,
+        &disk,
+        &mut input,
+        &mut output,
+        &mut faults,
+    );
     ExitCode::from(status)
 }

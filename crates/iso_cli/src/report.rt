@@ -1,22 +1,28 @@
 //! The line that tells what came of the frames.
 
-ghost use Rattle.std.specs.Prelude.{◌≡◌, ◌⊎◌};
+ghost use Rattle.std.specs.Prelude.{◌≡◌, ◌⊎◌, IfOk, Ok, string_bytes};
+ghost use Rattle.iso_cli.specs.Connections.{TellsEnd, report_text};
 
 use crate::stop::{Stop, tell, tell_line};
-use iso_host::{Outlet, Report};
+use iso_host::{Failed, Outlet, Report, write_all};
 use std::alloc::{AllocError, Global};
 
 /// How many frames came, by kind.
-fn report_line(alloc: Global, report: Report) -> Result<String, AllocError> {
+fn report_line(alloc: Global, report: Report) -> Result<String, AllocError>
+    ensures { IfOk result (λ line. string_bytes line ≡ report_text report) }
+{
     let Report {
         frames,
         answered,
         silent,
         unreadable,
     } = report;
-    format!(in alloc;
+    match format!(in alloc;
         "frames={frames} answered={answered} silent={silent} unreadable={unreadable}\n"
-    )
+    ) {
+        Ok(line) => Ok(line),
+        Err(fault) => Err(fault),
+    }
 }
 
 /// Writes the line, and gives the status: 0, or 3 where there is no memory for it or the fault stream fails.
@@ -26,5 +32,24 @@ pub fn tell_report<F: Outlet>(alloc: Global, faults: &mut F, report: Report) -> 
     match report_line(alloc, report) {
         Ok(line) => tell_line(faults, &line, 0),
         Err(_) => tell(alloc, faults, Stop::Memory),
+    }
+}
+
+/// Writes the line to the output, and gives the status: 0, or 3 where there is no memory for it or the output fails. The
+/// fault stream is told which.
+pub fn write_report<O: Outlet, F: Outlet>(
+    alloc: Global,
+    report: Report,
+    output: &mut O,
+    faults: &mut F,
+) -> u8
+    ensures { TellsEnd (O.contents output.old) (O.contents output.new) (F.contents faults.old) (F.contents faults.new) (Ok report) result }
+{
+    let Ok(line) = report_line(alloc, report) else {
+        return tell(alloc, faults, Stop::Memory);
+    };
+    match write_all(output, line.as_bytes()) {
+        Ok(()) => 0,
+        Err(Failed) => tell(alloc, faults, Stop::Write),
     }
 }

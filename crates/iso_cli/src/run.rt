@@ -17,13 +17,13 @@ use iso_wire::Header;
 use std::alloc::Global;
 
 /// The most orders that the journal takes.
-const MOST_ENTRIES: u32 = 999_999;
+pub const MOST_ENTRIES: u32 = 999_999;
 
-/// The most reads and writes.
-const MOST_TURNS: u64 = 100_000_000;
+/// The most reads and writes of a stream.
+pub const MOST_TURNS: u64 = 100_000_000;
 
 /// The table that a word names, if an issuer host can serve under it.
-fn host_table<S: Source>(alloc: Global, source: &S, word: &str) -> Result<Table, Stop>
+pub fn host_table<S: Source>(alloc: Global, source: &S, word: &str) -> Result<Table, Stop>
     ensures named { IfOk result (IsNamed (S.file source.now) word.now) }
     ensures ready { IfOk result IsHostReady }
 {
@@ -33,7 +33,7 @@ fn host_table<S: Source>(alloc: Global, source: &S, word: &str) -> Result<Table,
 }
 
 /// The accounts of the document at a path.
-fn accounts_at<S: Source>(alloc: Global, source: &S, path: &str) -> Result<Accounts, Stop>
+pub fn accounts_at<S: Source>(alloc: Global, source: &S, path: &str) -> Result<Accounts, Stop>
     ensures { IfOk result (λ accounts. IfSome (S.file source.now path.now) (λ text. ListsAccounts text accounts)) }
 {
     let text = document(alloc, source, path)?;

@@ -1,7 +1,7 @@
 //! How the command stops where it doesn't end well: a line on the fault stream, and a status.
 ghost use Rattle.std.specs.Prelude.{◌≡◌, ◌<◌, ◌≤◌, option_map};
 ghost use Rattle.iso_cli.specs.Stops.{status_of, line_of, stop_of_input, stop_of_serving, stop_of_source, stop_of_words};
-ghost use Rattle.iso_cli.specs.Tells.{Tells, TellsLine};
+ghost use Rattle.iso_cli.specs.Tells.{Tells, TellsAs, TellsLine};
 
 use crate::refusal::refusal_line;
 use crate::source::SourceFault;
@@ -201,17 +201,27 @@ pub fn tell_line<F: Outlet>(faults: &mut F, line: &str, status: u8) -> u8
     }
 }
 
-/// Writes the fault line, and gives the status. Where the fault stream itself fails nothing more is written, and
-/// the status is 3.
+/// Writes the fault line, and gives this status. Where the fault stream itself fails nothing more is written, and the
+/// status is 3.
+pub fn tell_as<F: Outlet>(alloc: Global, faults: &mut F, stop: Stop, status: u8) -> u8
+    requires { status ≤ 3 }
+    ensures told { TellsAs (F.contents faults.old) (F.contents faults.new) (F.counts faults.old) (F.counts faults.new) stop status result }
+    ensures range { (status ≤ result) × (result ≤ 3) }
+{
+    if let Some(line) = stop.line() {
+        return tell_line(faults, line, status);
+    }
+    match refusal_line(alloc, stop) {
+        Ok(line) => tell_line(faults, &line, status),
+        Err(_) => tell_line(faults, "failed: Memory\n", 3),
+    }
+}
+
+/// Writes the fault line, and gives the stop's own status. Where the fault stream itself fails nothing more is written,
+/// and the status is 3.
 pub fn tell<F: Outlet>(alloc: Global, faults: &mut F, stop: Stop) -> u8
     ensures told { Tells (F.contents faults.old) (F.contents faults.new) (F.counts faults.old) (F.counts faults.new) stop result }
     ensures range { (1 ≤ result) × (result ≤ 3) }
 {
-    if let Some(line) = stop.line() {
-        return tell_line(faults, line, stop.status());
-    }
-    match refusal_line(alloc, stop) {
-        Ok(line) => tell_line(faults, &line, stop.status()),
-        Err(_) => tell_line(faults, "failed: Memory\n", 3),
-    }
+    tell_as(alloc, faults, stop, stop.status())
 }

@@ -56,7 +56,7 @@ pub enum WordsFault {
     Memory,
 }
 
-fn required<'a>(alloc: Global, id: &'a str) -> Arg<'a>
+pub fn required<'a>(alloc: Global, id: &'a str) -> Arg<'a>
     ensures { FollowsRule (name_rule id.now) result }
 {
     Arg::new(alloc, id).required(true)
@@ -71,7 +71,7 @@ fn clear_flag<'a>(alloc: Global) -> Arg<'a>
 }
 
 /// A command with no help and no version of its own.
-fn bare<'a>(alloc: Global, name: &'static str) -> Command<'a>
+pub fn bare<'a>(alloc: Global, name: &'static str) -> Command<'a>
     ensures { IsCommand (bare_app name.now) result }
 {
     Command::new(alloc, name)
@@ -112,7 +112,7 @@ fn run_command<'a>(alloc: Global) -> Result<Command<'a>, AllocError>
 }
 
 /// The command before its subcommands.
-fn alone<'a>(alloc: Global) -> Command<'a>
+pub fn alone<'a>(alloc: Global) -> Command<'a>
     ensures { IsCommand iso_alone result }
 {
     bare(alloc, "iso")
@@ -154,14 +154,14 @@ fn judge<'a>(alloc: Global, words: &'a [&'a str]) -> Result<(), WordsFault>
 }
 
 /// Whether a word is taken for a name, and not for an option: it doesn't start with a dash.
-fn is_name(word: &str) -> bool
+pub fn is_name(word: &str) -> bool
     ensures { result ≡ is_name word.now }
 {
     !word.starts_with('-')
 }
 
 /// The header of this name.
-fn header_named(word: &str) -> Option<Header>
+pub fn header_named(word: &str) -> Option<Header>
     ensures found { IfSome result (λ header. word.now ≡ header_name header) }
     ensures none { IfNone result ((header : Header) → word.now ≡ header_name header → ⊥) }
 {

@@ -130,6 +130,7 @@ fn the_words_are_those_behind_the_name(rt: HostRuntime) {
         let status = act_as_given(
             rt.alloc(),
             &given,
+            &rt,
             &NoFiles,
             &mut input,
             &mut output,

@@ -8,6 +8,7 @@ use std::alloc::Global;
 use std::process::Abort;
 use std::test::Fail;
 
+mod connections;
 mod ends;
 mod frames;
 mod inquiries;

@@ -121,3 +121,22 @@ fn words_and_documents_are_refused_in_order(rt: HostRuntime) -> Result<(), Fail>
     }
     Ok(())
 }
+
+#[test]
+fn a_port_is_not_served_over_streams(rt: HostRuntime) {
+    let words = ["serve", "ascii87", "accounts.json", "ascii4", "8583", "3"];
+    let mut input = Std::new(PURCHASE);
+    let mut written = Vec::new(rt.alloc());
+    let mut told = Vec::new(rt.alloc());
+    let status = act(
+        rt.alloc(),
+        &words,
+        &DOCUMENTS,
+        &mut input,
+        &mut Std::new(&mut written),
+        &mut Std::new(&mut told),
+    );
+    assert_eq!(rt; status, 2);
+    assert_eq!(rt; written.as_slice(), b"".as_slice());
+    assert_eq!(rt; told.as_slice(), b"command line refused\n".as_slice());
+}

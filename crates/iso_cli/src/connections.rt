@@ -1,0 +1,107 @@
+//! Connections, one after the other, with one journal.
+
+ghost use Rattle.iso_table.specs.HostReady.{IsHostReady};
+ghost use Rattle.iso_cli.specs.Connections.{IsConnection, Serves, TellsEnd};
+
+use crate::report::write_report;
+use crate::run::MOST_TURNS;
+use crate::stop::{Stop, tell, tell_as};
+use iso_host::laws::one_journal;
+use iso_host::{Outlet, Report, ServeFault, Std, serve};
+use iso_issuer::Issuer;
+use iso_table::Table;
+use iso_wire::Header;
+use std::alloc::Global;
+use std::net::{TcpListener, TcpStream};
+
+/// Answers the frames of one connection until its peer closes its writing side, or until a fault. Then it is closed.
+fn serve_peer(
+    alloc: Global,
+    peer: TcpStream,
+    table: &Table,
+    header: Header,
+    issuer: &mut Issuer,
+) -> Result<Report, ServeFault>
+    requires { IsHostReady table.now }
+    ensures { IsConnection table.now issuer.old issuer.new result }
+{
+    // An answer then leaves at once, though the one before it may not have arrived. Where the system refuses this,
+    // answers only come later.
+    let _ = peer.set_nodelay(true);
+    serve(
+        alloc,
+        table,
+        header,
+        issuer,
+        &mut Std::new(&peer),
+        &mut Std::new(&peer),
+        MOST_TURNS,
+    )
+}
+
+/// Waits for the next connection and serves it. An `accept` that fails is a connection that can't be read.
+fn serve_next(
+    alloc: Global,
+    listener: &TcpListener,
+    table: &Table,
+    header: Header,
+    issuer: &mut Issuer,
+) -> Result<Report, ServeFault>
+    requires { IsHostReady table.now }
+    ensures { IsConnection table.now issuer.old issuer.new result }
+{
+    one_journal(issuer);
+    match listener.accept() {
+        Ok((peer, _)) => serve_peer(alloc, peer, table, header, issuer),
+        Err(_) => Err(ServeFault::Read),
+    }
+}
+
+/// Tells how a connection ended: its report on the output, or its fault on the fault stream. The status is 0 where the
+/// next connection can be served, else 3: memory, the output or the fault stream failed.
+fn tell_end<O: Outlet, F: Outlet>(
+    alloc: Global,
+    ended: Result<Report, ServeFault>,
+    output: &mut O,
+    faults: &mut F,
+) -> u8
+    ensures told { TellsEnd (O.contents output.old) (O.contents output.new) (F.contents faults.old) (F.contents faults.new) ended result }
+{
+    match ended {
+        Ok(report) => write_report(alloc, report, output, faults),
+        Err(ServeFault::Memory) => tell(alloc, faults, Stop::Memory),
+        Err(fault) => tell_as(alloc, faults, Stop::from(fault), 0),
+    }
+}
+
+/// Serves `count` connections, one after the other, with one journal, and gives the status: 0 when all of them have
+/// ended, 3 where memory, the output or the fault stream failed before.
+///
+/// Where a connection ends between two frames, the line of its report is written to the output. Where it ends with a
+/// fault, the fault's line is written to `faults`, and the next connection is served: its orders meet the journal that
+/// all connections before it left. An `accept` that fails is one of the connections. The table is one that
+/// `Table::host_ready` accepts.
+pub fn serve_connections<O: Outlet, F: Outlet>(
+    alloc: Global,
+    listener: &TcpListener,
+    table: &Table,
+    header: Header,
+    issuer: &mut Issuer,
+    count: u32,
+    output: &mut O,
+    faults: &mut F,
+) -> u8
+    requires { IsHostReady table.now }
+    ensures served { Serves table.now issuer.old issuer.new count (O.contents output.old) (O.contents output.new)
+        (F.contents faults.old) (F.contents faults.new) result }
+{
+    one_journal(issuer);
+    for _ in 0..count {
+        let ended = serve_next(alloc, listener, table, header, issuer);
+        let status = tell_end(alloc, ended, output, faults);
+        if status != 0 {
+            return status;
+        }
+    }
+    0
+}

@@ -1,0 +1,112 @@
+//! The command line of a host on a port.
+//!
+//! `clap` judges the words, and what it lets pass is matched word by word, so that contracts can speak of the words.
+ghost use Rattle.std.specs.Prelude.{IfOk, IfSome, map};
+ghost use Rattle.iso_cli.specs.Listening.{AsksServe, IsWhole, Listens};
+
+use crate::words::{WordsFault, alone, bare, header_named, is_name, required};
+use clap::Command;
+use clap::error::ErrorKind;
+use iso_wire::Header;
+use std::alloc::{AllocError, Global};
+
+/// What the words of a host on a port ask.
+#[derive(Clone, Copy, Debug, PartialEq, Eq, Drop)]
+pub struct Listening<'a> {
+    /// The table's path or name.
+    pub table: &'a str,
+    /// The path of the accounts.
+    pub accounts: &'a str,
+    /// How a frame counts its body.
+    pub header: Header,
+    /// The port, 1 to 65,535.
+    pub port: u16,
+    /// How many connections are served, 1 to 1,000.
+    pub count: u16,
+}
+
+fn serve_command<'a>(alloc: Global) -> Result<Command<'a>, AllocError> {
+    bare(alloc, "serve")
+        .arg(required(alloc, "table"))?
+        .arg(required(alloc, "accounts"))?
+        .arg(required(alloc, "header"))?
+        .arg(required(alloc, "port"))?
+        .arg(required(alloc, "count"))
+}
+
+/// Whether `clap` lets the words pass.
+fn judge<'a>(alloc: Global, words: &'a [&'a str]) -> Result<(), WordsFault> {
+    let Ok(command) = serve_command(alloc) else {
+        return Err(WordsFault::Memory);
+    };
+    let Ok(command) = alone(alloc).subcommand(command) else {
+        return Err(WordsFault::Memory);
+    };
+    match command.try_get_matches_from(words) {
+        Ok(_found) => Ok(()),
+        Err(error) if error.kind() == ErrorKind::OutOfMemory => Err(WordsFault::Memory),
+        Err(_error) => Err(WordsFault::Refused),
+    }
+}
+
+/// The number that a word is, if it is 1 to `most`: decimal digits, with a plus in front or none.
+fn number_in(word: &str, most: u16) -> Option<u16>
+    ensures { IfSome result (IsWhole 1 most word.now) }
+{
+    match word.parse::<u16>() {
+        Ok(number) if 1 <= number && number <= most => Some(number),
+        _ => None,
+    }
+}
+
+/// A host on a port, by the words that name its table, its accounts, its header, its port and its connections.
+fn listening_by<'a>(
+    table: &'a str,
+    accounts: &'a str,
+    header: &str,
+    port: &str,
+    count: &str,
+) -> Option<Listening<'a>>
+    ensures { IfSome result (Listens table.now accounts.now header.now port.now count.now) }
+{
+    if !is_name(table) || !is_name(accounts) {
+        return None;
+    }
+    Some(Listening {
+        table,
+        accounts,
+        header: header_named(header)?,
+        port: number_in(port, 65_535)?,
+        count: number_in(count, 1_000)?,
+    })
+}
+
+/// What the words ask, by the words alone.
+fn listening_of<'a>(words: &'a [&'a str]) -> Option<Listening<'a>>
+    ensures { IfSome result (AsksServe (map (λ w. w.now) words.now)) }
+{
+    match words {
+        ["serve", table, accounts, header, port, count] => {
+            match listening_by(table, accounts, header, port, count) {
+                Some(listening) => Some(listening),
+                None => None,
+            }
+        }
+        _ => None,
+    }
+}
+
+/// What the words `serve TABLE ACCOUNTS HEADER PORT COUNT` ask, if they are that command line.
+///
+/// No name of a table and no path of accounts starts with a dash.
+pub fn parse_serve<'a>(alloc: Global, words: &'a [&'a str]) -> Result<Listening<'a>, WordsFault>
+    ensures { IfOk result (AsksServe (map (λ w. w.now) words.now)) }
+{
+    if let Err(fault) = judge(alloc, words) {
+        return Err(fault);
+    }
+    match listening_of(words) {
+        Some(listening) => Ok(listening),
+        None => Err(WordsFault::Refused),
+    }
+}

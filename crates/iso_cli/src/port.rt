@@ -1,0 +1,46 @@
+//! A host on a port of this machine.
+
+ghost use Rattle.std.specs.Prelude.{◌≤◌};
+
+use crate::connections::serve_connections;
+use crate::prepare::{Serving, prepare};
+use crate::source::Source;
+use crate::stop::{Stop, tell};
+use iso_host::Outlet;
+use std::alloc::Global;
+use std::net::{Ipv4Addr, Net, TcpListener, TcpStream};
+
+/// Serves the connections that the words ask for, on their port of 127.0.0.1, and gives the status. A port that can't
+/// be bound is a device that can't be read.
+pub fn serve_port<
+    N: Net<Listener = TcpListener, Stream = TcpStream>,
+    S: Source,
+    O: Outlet,
+    F: Outlet,
+>(alloc: Global, net: &N, words: &[&str], source: &S, output: &mut O, faults: &mut F) -> u8
+    ensures status { result ≤ 3 }
+{
+    let Serving {
+        table,
+        header,
+        mut issuer,
+        port,
+        count,
+    } = match prepare(alloc, words, source, faults) {
+        Ok(serving) => serving,
+        Err(status) => return status,
+    };
+    match TcpListener::bind(net, (Ipv4Addr::LOCALHOST, port)) {
+        Ok(listener) => serve_connections(
+            alloc,
+            &listener,
+            &table,
+            header,
+            &mut issuer,
+            count,
+            output,
+            faults,
+        ),
+        Err(_) => tell(alloc, faults, Stop::Read),
+    }
+}

@@ -1,0 +1,66 @@
+//! A host on a port, before the port is bound.
+
+ghost use Rattle.std.specs.Prelude.{◌≡◌, ◌≤◌, IfErr, IfOk, OnOk, map};
+ghost use Rattle.iso_cli.specs.Connections.{Prepares};
+
+use crate::listening::parse_serve;
+use crate::run::{MOST_ENTRIES, accounts_at, host_table};
+use crate::source::Source;
+use crate::stop::{Stop, tell};
+use iso_host::Outlet;
+use iso_issuer::Issuer;
+use iso_table::Table;
+use iso_wire::Header;
+use std::alloc::Global;
+
+/// What a host on a port serves with.
+#[derive(Drop)]
+pub struct Serving {
+    /// The table that messages are read and written under. A host can serve under it.
+    pub table: Table,
+    /// How a frame counts its body.
+    pub header: Header,
+    /// The accounts, with an empty journal.
+    pub issuer: Issuer,
+    /// The port, 1 to 65,535.
+    pub port: u16,
+    /// How many connections are served, 1 to 1,000.
+    pub count: u32,
+}
+
+/// Reads what the words name, the table before the accounts.
+fn prepared<S: Source>(alloc: Global, words: &[&str], source: &S) -> Result<Serving, Stop>
+    ensures { IfOk result (Prepares (map (λ w. w.now) words.now) (S.file source.now)) }
+{
+    let asked = parse_serve(alloc, words)?;
+    let table = host_table(alloc, source, asked.table)?;
+    let accounts = accounts_at(alloc, source, asked.accounts)?;
+    Ok(Serving {
+        table,
+        header: asked.header,
+        issuer: Issuer::new(accounts, MOST_ENTRIES),
+        port: asked.port,
+        count: u32::from(asked.count),
+    })
+}
+
+/// Reads what the words `serve TABLE ACCOUNTS HEADER PORT COUNT` name: the table, then the accounts. Where a word or a
+/// document is refused, the line on `faults` says why, and the status is given: 1 a document was refused, 2 the words
+/// were, 3 a device or memory failed.
+pub fn prepare<S: Source, F: Outlet>(
+    alloc: Global,
+    words: &[&str],
+    source: &S,
+    faults: &mut F,
+) -> Result<Serving, u8>
+    // What the words spell: the table and the accounts that they name, with an empty journal, the port and the count.
+    ensures prepared { IfOk result (Prepares (map (λ w. w.now) words.now) (S.file source.now)) }
+    ensures status { IfErr result (λ status. (1 ≤ status) × (status ≤ 3)) }
+    // Then nothing is told.
+    ensures quiet { OnOk result (F.contents faults.new ≡ F.contents faults.old) }
+{
+    match prepared(alloc, words, source) {
+        Ok(serving) => Ok(serving),
+        Err(stop) => Err(tell(alloc, faults, stop)),
+    }
+}

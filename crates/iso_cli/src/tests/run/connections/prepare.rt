@@ -1,0 +1,175 @@
+//! What a host on a port serves with.
+
+use super::*;
+
+#[test]
+fn a_host_has_what_the_words_name(rt: HostRuntime) -> Result<(), Fail> {
+    for (name, port, count, wanted_port, wanted_count) in [
+        ("as it is written", "8583", "3", 8583u16, 3u32),
+        ("the least", "1", "1", 1, 1),
+        ("the most", "65535", "1000", 65_535, 1_000),
+        ("a plus in front", "+8583", "+3", 8583, 3),
+        ("zeros in front", "08583", "0003", 8583, 3),
+    ] {
+        let mut told = Vec::new(rt.alloc());
+        let mut faults = Std::new(&mut told);
+        let words = ["serve", "ascii87", "accounts.json", "ascii4", port, count];
+        let serving = match prepare(rt.alloc(), &words, &DOCUMENTS, &mut faults) {
+            Ok(serving) => serving,
+            Err(_) => return Err(Fail::from(AllocError)),
+        };
+        assert_eq!(rt; serving.port, wanted_port, "{name}");
+        assert_eq!(rt; serving.count, wanted_count, "{name}");
+        assert_eq!(rt; serving.header, Header::Ascii4, "{name}");
+        assert_eq!(rt; serving.table.rows(), 126, "{name}");
+        assert_eq!(rt; serving.issuer.len(), 0, "{name}");
+        let pan = Pan::from_digits(b"4111111111111111");
+        let ledger = pan.and_then(|pan| serving.issuer.ledger(pan));
+        assert_eq!(rt; ledger, Some(5000), "{name}");
+        assert_eq!(rt; told.as_slice(), b"".as_slice(), "{name}");
+    }
+    Ok(())
+}
+
+#[test]
+fn words_and_documents_of_a_port_are_refused_in_order(rt: HostRuntime) -> Result<(), Fail> {
+    let refused = b"command line refused\n".as_slice();
+    for (name, words, status, line) in [
+        (
+            "port 0",
+            ["serve", "ascii87", "accounts.json", "ascii4", "0", "3"].as_slice(),
+            2u8,
+            refused,
+        ),
+        (
+            "a port above the highest, and no such files",
+            ["serve", "none.json", "none.json", "ascii4", "65536", "3"].as_slice(),
+            2,
+            refused,
+        ),
+        (
+            "a port below zero",
+            ["serve", "ascii87", "accounts.json", "ascii4", "-1", "3"].as_slice(),
+            2,
+            refused,
+        ),
+        (
+            "a port that is no whole number",
+            ["serve", "ascii87", "accounts.json", "ascii4", "8583.0", "3"].as_slice(),
+            2,
+            refused,
+        ),
+        (
+            "an empty port",
+            ["serve", "ascii87", "accounts.json", "ascii4", "", "3"].as_slice(),
+            2,
+            refused,
+        ),
+        (
+            "a plus and no digit",
+            ["serve", "ascii87", "accounts.json", "ascii4", "+", "3"].as_slice(),
+            2,
+            refused,
+        ),
+        (
+            "no connection",
+            ["serve", "ascii87", "accounts.json", "ascii4", "8583", "0"].as_slice(),
+            2,
+            refused,
+        ),
+        (
+            "more connections than the most",
+            [
+                "serve",
+                "ascii87",
+                "accounts.json",
+                "ascii4",
+                "8583",
+                "1001",
+            ]
+            .as_slice(),
+            2,
+            refused,
+        ),
+        (
+            "no such header",
+            ["serve", "ascii87", "accounts.json", "ascii2", "8583", "3"].as_slice(),
+            2,
+            refused,
+        ),
+        (
+            "no count",
+            ["serve", "ascii87", "accounts.json", "ascii4", "8583"].as_slice(),
+            2,
+            refused,
+        ),
+        (
+            "a word too many",
+            [
+                "serve",
+                "ascii87",
+                "accounts.json",
+                "ascii4",
+                "8583",
+                "3",
+                "3",
+            ]
+            .as_slice(),
+            2,
+            refused,
+        ),
+        (
+            "another command",
+            ["run", "ascii87", "accounts.json", "ascii4"].as_slice(),
+            2,
+            refused,
+        ),
+        ("no words", [].as_slice(), 2, refused),
+        (
+            "no such table, and no such accounts",
+            ["serve", "table", "none.json", "ascii4", "8583", "3"].as_slice(),
+            3,
+            b"failed: File\n".as_slice(),
+        ),
+        (
+            "a table under which no host can serve, before accounts that aren't there",
+            ["serve", "table.json", "none.json", "ascii4", "8583", "3"].as_slice(),
+            1,
+            b"refused: host NoRow element 2\n".as_slice(),
+        ),
+        (
+            "no such accounts",
+            ["serve", "bcd87", "none.json", "ascii4", "8583", "3"].as_slice(),
+            3,
+            b"failed: File\n".as_slice(),
+        ),
+        (
+            "a table in the place of the accounts",
+            ["serve", "bcd87", "table.json", "ascii4", "8583", "3"].as_slice(),
+            1,
+            b"refused: accounts Shape\n".as_slice(),
+        ),
+    ] {
+        let mut told = Vec::new(rt.alloc());
+        let mut faults = Std::new(&mut told);
+        let given = match prepare(rt.alloc(), words, &DOCUMENTS, &mut faults) {
+            Ok(_) => 0,
+            Err(status) => status,
+        };
+        assert_eq!(rt; given, status, "{name}");
+        assert_eq!(rt; told.as_slice(), line, "{name}");
+    }
+    Ok(())
+}
+
+#[test]
+fn a_fault_stream_that_fails_has_status_3(rt: HostRuntime) {
+    let words = ["serve", "ascii87", "accounts.json", "ascii4", "0", "3"];
+    let mut told = FewTaken::new(rt.alloc(), 4096, 0, false);
+    let given = match prepare(rt.alloc(), &words, &DOCUMENTS, &mut Std::new(&mut told)) {
+        Ok(_) => 0,
+        Err(status) => status,
+    };
+    assert_eq!(rt; given, 3);
+    assert_eq!(rt; told.taken.as_slice(), b"".as_slice());
+}
