@@ -5,9 +5,11 @@
 # make replay  a host that is killed and started again on the frames that were kept; builds the command
 # make connections  an acquirer whose answers get lost, and peers that misbehave, at a host on a port; builds the command
 # make schedule  an acquirer whose answers get lost, and what both ends hold: SCHEDULE=examples/lost-answers.txt
+# make peers   bad peers of a host on a port, each before a good one; builds the command
 # make check   proves what changed since the last check
 # make prove   the whole gate: every proof, must-fail edit, test and program, from nothing
 # make memory  each call that can want memory, and each command, with each of its growths refused in turn
+# make loopback  how long a round trip on a port takes, and the memory of a host over many connections: ROUNDS=1000 for fewer
 # make bench   how fast the streams, the codec and the issuer are: ORDERS=2000 SIZES="100 1000" for fewer orders
 
 ifeq ($(shell command -v rt 2> /dev/null),)
@@ -21,8 +23,9 @@ SOURCES := $(shell find crates -name out -prune -o -type f \( -name '*.rt' -o -n
 SCHEDULE := examples/lost-answers.txt
 ORDERS := 900000
 SIZES := 10000 100000 900000
+ROUNDS := 100000
 
-.PHONY: run test build day replay connections schedule check prove memory bench
+.PHONY: run test build day replay connections peers schedule check prove memory bench loopback
 
 run:
 	@if $(MAKE) --silent --no-print-directory --question $(COMMAND); then \
@@ -45,6 +48,9 @@ replay: $(COMMAND)
 
 connections: $(COMMAND)
 	@cd examples && python3 client.py ../$(COMMAND)
+
+peers: $(COMMAND)
+	@scripts/bad-peers.py $(COMMAND)
 
 schedule:
 	@scripts/quick-run.sh iso_schedule $(SCHEDULE)
@@ -72,3 +78,6 @@ bench: $(COMMAND) $(BENCH)
 	@$(BENCH) codec 1000000
 	@$(BENCH) issuer $(SIZES)
 	@bench/instructions.sh $(SIZES)
+
+loopback: $(COMMAND)
+	@ROUNDS=$(ROUNDS) bench/loopback.sh

@@ -1,0 +1,185 @@
+/*
+ * Peers on loopback, to measure a host by.
+ *
+ *   loopback port                       a port that is free
+ *   loopback echo PORT COUNT            serves COUNT connections, and sends back what each of them sends
+ *   loopback ask PORT KIND ROUNDS       sends ROUNDS frames, each once the last one is answered: how long that takes
+ *   loopback load PORT COUNT FRAMES     COUNT connections, one after the other, each of FRAMES echo tests
+ *
+ * KIND is what is sent: `bytes`, which come back as they are; `test`, an echo test; `repeat`, one purchase again and
+ * again; `new`, purchases that differ by trace number and time.
+ */
+#include <arpa/inet.h>
+#include <netinet/in.h>
+#include <netinet/tcp.h>
+#include <stdio.h>
+#include <stdlib.h>
+#include <string.h>
+#include <sys/socket.h>
+#include <time.h>
+#include <unistd.h>
+
+#define PURCHASE "00820200722000010000800016411111111111111100000000000000100001020304050000070512345840"
+#define TEST "00550800822000000000000004000000000000000102030405000001301"
+
+enum { TIME_AT = 60, PURCHASE_ANSWER = 94, TEST_ANSWER = 63, BATCH = 100 };
+
+static void fail(const char *what)
+{
+    perror(what);
+    exit(1);
+}
+
+static struct sockaddr_in here(int port)
+{
+    struct sockaddr_in address = {.sin_family = AF_INET, .sin_port = htons(port)};
+    address.sin_addr.s_addr = htonl(INADDR_LOOPBACK);
+    return address;
+}
+
+static int listening(int port)
+{
+    struct sockaddr_in address = here(port);
+    int on = 1, fd = socket(AF_INET, SOCK_STREAM, 0);
+    if (fd < 0 || setsockopt(fd, SOL_SOCKET, SO_REUSEADDR, &on, sizeof on) < 0
+        || bind(fd, (struct sockaddr *)&address, sizeof address) < 0 || listen(fd, 128) < 0)
+        fail("listen");
+    return fd;
+}
+
+static int connected(int port)
+{
+    struct sockaddr_in address = here(port);
+    int on = 1;
+    for (int tries = 0; tries < 500; tries++) {
+        int fd = socket(AF_INET, SOCK_STREAM, 0);
+        if (fd < 0)
+            fail("socket");
+        if (connect(fd, (struct sockaddr *)&address, sizeof address) == 0) {
+            setsockopt(fd, IPPROTO_TCP, TCP_NODELAY, &on, sizeof on);
+            return fd;
+        }
+        close(fd);
+        usleep(10000);
+    }
+    fail("connect");
+    return -1;
+}
+
+static void put(int fd, const char *bytes, size_t size)
+{
+    while (size > 0) {
+        ssize_t count = send(fd, bytes, size, MSG_NOSIGNAL);
+        if (count <= 0)
+            fail("send");
+        bytes += count;
+        size -= count;
+    }
+}
+
+static void get(int fd, char *bytes, size_t size)
+{
+    while (size > 0) {
+        ssize_t count = recv(fd, bytes, size, 0);
+        if (count <= 0)
+            fail("recv");
+        bytes += count;
+        size -= count;
+    }
+}
+
+static void port(void)
+{
+    int fd = listening(0);
+    struct sockaddr_in address;
+    socklen_t size = sizeof address;
+    getsockname(fd, (struct sockaddr *)&address, &size);
+    printf("%d\n", ntohs(address.sin_port));
+}
+
+static void echo(int port, int count)
+{
+    int listener = listening(port), on = 1;
+    char bytes[4096];
+    for (int i = 0; i < count; i++) {
+        int fd = accept(listener, NULL, NULL);
+        ssize_t got;
+        if (fd < 0)
+            fail("accept");
+        setsockopt(fd, IPPROTO_TCP, TCP_NODELAY, &on, sizeof on);
+        while ((got = recv(fd, bytes, sizeof bytes, 0)) > 0)
+            put(fd, bytes, got);
+        close(fd);
+    }
+}
+
+static int by_size(const void *a, const void *b)
+{
+    long x = *(const long *)a, y = *(const long *)b;
+    return (x > y) - (x < y);
+}
+
+static long now(void)
+{
+    struct timespec t;
+    clock_gettime(CLOCK_MONOTONIC, &t);
+    return t.tv_sec * 1000000000L + t.tv_nsec;
+}
+
+static void ask(int port, const char *kind, int rounds)
+{
+    int fd = connected(port), is_test = strcmp(kind, "test") == 0, is_new = strcmp(kind, "new") == 0;
+    char frame[128], answer[128], number[17];
+    long *took = malloc(rounds * sizeof *took);
+    strcpy(frame, is_test ? TEST : PURCHASE);
+    size_t sent = strlen(frame);
+    size_t wanted = is_test ? TEST_ANSWER : strcmp(kind, "bytes") == 0 ? sent : PURCHASE_ANSWER;
+    for (int i = 0; i < rounds; i++) {
+        if (is_new) {
+            snprintf(number, sizeof number, "0102%06d%06d", i / 1000000 % 1000000, i % 1000000);
+            memcpy(frame + TIME_AT, number, 16);
+        }
+        long from = now();
+        put(fd, frame, sent);
+        get(fd, answer, wanted);
+        took[i] = now() - from;
+    }
+    close(fd);
+    qsort(took, rounds, sizeof *took, by_size);
+    printf("%s: rounds=%d median=%.1f us, 1 in 100 over %.1f us\n", kind, rounds, took[rounds / 2] / 1000.0,
+        took[rounds - 1 - rounds / 100] / 1000.0);
+    free(took);
+}
+
+static void load(int port, int count, int frames)
+{
+    static char sent[BATCH * (sizeof TEST - 1)], answers[BATCH * TEST_ANSWER];
+    for (int i = 0; i < BATCH; i++)
+        memcpy(sent + i * (sizeof TEST - 1), TEST, sizeof TEST - 1);
+    for (int i = 0; i < count; i++) {
+        int fd = connected(port);
+        for (int left = frames; left > 0; left -= BATCH) {
+            int batch = left < BATCH ? left : BATCH;
+            put(fd, sent, batch * (sizeof TEST - 1));
+            get(fd, answers, batch * TEST_ANSWER);
+        }
+        close(fd);
+    }
+}
+
+int main(int count, char **words)
+{
+    if (count == 2 && strcmp(words[1], "port") == 0)
+        port();
+    else if (count == 4 && strcmp(words[1], "echo") == 0)
+        echo(atoi(words[2]), atoi(words[3]));
+    else if (count == 5 && strcmp(words[1], "ask") == 0 && atoi(words[4]) > 0)
+        ask(atoi(words[2]), words[3], atoi(words[4]));
+    else if (count == 5 && strcmp(words[1], "load") == 0)
+        load(atoi(words[2]), atoi(words[3]), atoi(words[4]));
+    else {
+        fprintf(stderr, "port | echo PORT COUNT | ask PORT KIND ROUNDS | load PORT COUNT FRAMES\n");
+        return 2;
+    }
+    return 0;
+}
