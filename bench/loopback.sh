@@ -20,6 +20,7 @@ trap stop EXIT
 trap 'exit 1' HUP INT TERM
 
 cc -O2 -o "$folder/loopback" bench/loopback.c
+echo '{"accounts":[{"currency":"840","opening":9000000000000,"pan":"4111111111111111"}]}' > "$folder/accounts.json"
 
 # the most memory that the host has had, in kilobytes
 peak() {
@@ -29,7 +30,7 @@ peak() {
 # COUNT: a host for so many connections, on a port that is free
 start() {
     port=$("$folder/loopback" port)
-    "$host" serve ascii87 examples/accounts.json ascii4 "$port" "$1" > "$folder/told" &
+    "$host" serve ascii87 "$folder/accounts.json" ascii4 "$port" "$1" > "$folder/told" &
     served=$!
 }
 

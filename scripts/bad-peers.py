@@ -33,11 +33,14 @@ def connected(port):
 
 
 def answers(peer):
-    """What a peer is answered, once it sends no more."""
-    peer.shutdown(socket.SHUT_WR)
+    """What a peer is answered, once it sends no more. A host that has closed the connection before resets it."""
     held = b""
-    while more := peer.recv(65536):
-        held += more
+    try:
+        peer.shutdown(socket.SHUT_WR)
+        while more := peer.recv(65536):
+            held += more
+    except OSError:
+        pass
     peer.close()
     return held
 
