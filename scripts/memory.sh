@@ -124,11 +124,11 @@ burning_command() {
             [ ! -d "$crate/$part" ] || cp -r "$crate/$part" "$folder/top/crates/${crate##*/}"
         done
     done
-    cp "$top/scripts/memory/burning.rt" "$folder/top/crates/iso_cli/src"
+    cp "$top/scripts/memory/burning.txt" "$folder/top/crates/iso_cli/src/burning.rt"
     main=$folder/top/crates/iso_cli/src/main.rt
     serving=''
     if [ -f "$top/crates/iso_cli/src/prepare.rt" ]; then
-        cp "$top/scripts/memory/serving.rt" "$folder/top/crates/iso_cli/src"
+        cp "$top/scripts/memory/serving.txt" "$folder/top/crates/iso_cli/src/serving.rt"
         serving='s/let status/if serving::is_asked(\&rt) {\
             return ExitCode::from(serving::serve_peers(\&rt, \&disk, \&mut output, \&mut faults));\
         }\
