@@ -15,10 +15,10 @@ fn chip_table(alloc: Global, max: u16) -> Result<Table, TableFault> {
 }
 
 /// The front of a message with element 48, and a body of so many digits `A` behind it.
-fn chip_message(alloc: Global, digits: &[u8], size: usize) -> Result<Vec<u8>, AllocError> {
+fn chip_message(alloc: Global, digits: &[u8], size: u16) -> Result<Vec<u8>, AllocError> {
     let mut bytes = Vec::from_slice(alloc, b"08000000000000010000")?;
     bytes.extend_from_slice(digits)?;
-    bytes.resize(24 + size, b'A')?;
+    bytes.resize(24 + usize::from(size), b'A')?;
     Ok(bytes)
 }
 
