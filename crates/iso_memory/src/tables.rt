@@ -7,7 +7,7 @@ use std::alloc::Global;
 
 /// A table of one row.
 const ONE_ROW: &[u8] =
-    b"{\"bitmap\":\"hex\",\"mti\":\"ascii\",\"profile\":1,\"rows\":[{\"class\":\"ANS\",\
+    b"{\"bitmap\":\"hex\",\"mti\":\"ascii\",\"profile\":2,\"rows\":[{\"class\":\"ANS\",\
 \"coding\":\"ascii\",\"length\":\"fixed\",\"max\":8,\"number\":41,\"pad\":\"right:20\"}],\"version\":0}";
 
 /// The same table, before it is checked.
