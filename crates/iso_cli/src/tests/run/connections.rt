@@ -1,5 +1,8 @@
 //! Peers of a host on a port, in one process: each has written and closed its writing side before it is accepted.
 
+ghost use Rattle.std.specs.Prelude.{◌≡◌, IfOk};
+ghost use Rattle.iso_table.specs.HostReady.{IsHostReady};
+
 use super::*;
 use crate::connections::serve_connections;
 use crate::fakes::FewTaken;
@@ -16,7 +19,9 @@ mod port;
 mod prepare;
 
 /// A host over the accounts, which still has no port of its own.
-fn serving(alloc: Global, header: &str) -> Result<Serving, Fail> {
+fn serving(alloc: Global, header: &str) -> Result<Serving, Fail>
+    ensures { IfOk result (λ made. IsHostReady made.table) }
+{
     let mut told = Vec::new(alloc);
     let mut faults = Std::new(&mut told);
     let words = ["serve", "ascii87", "accounts.json", header, "8583", "3"];
@@ -56,7 +61,10 @@ fn serve(
     listener: &TcpListener,
     serving: &mut Serving,
     count: u32,
-) -> Result<Ended, Fail> {
+) -> Result<Ended, Fail>
+    requires { IsHostReady serving.old.table }
+    ensures { serving.new.table ≡ serving.old.table }
+{
     let mut output = Vec::new(alloc);
     let mut faults = Vec::new(alloc);
     let status = serve_connections(

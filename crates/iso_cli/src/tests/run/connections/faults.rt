@@ -112,14 +112,15 @@ fn streams_that_fail_end_the_host(rt: HostRuntime) -> Result<(), Fail> {
         let _second = peer(&rt, &listener, &[b"00A2"])?;
         let _third = peer(&rt, &listener, &[b"0082", SECOND])?;
         let mut serving = serving(alloc, "ascii4")?;
+        let lent = &mut serving;
         let mut taken = FewTaken::new(alloc, 4096, case.writes, case.flush_fails);
         let mut told = FewTaken::new(alloc, 4096, case.tells, false);
         let status = serve_connections(
             alloc,
             &listener,
-            &serving.table,
-            serving.header,
-            &mut serving.issuer,
+            &lent.table,
+            lent.header,
+            &mut lent.issuer,
             3,
             &mut Std::new(&mut taken),
             &mut Std::new(&mut told),
