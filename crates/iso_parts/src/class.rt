@@ -25,6 +25,9 @@ pub enum CharClass {
     B,
 }
 
+/// From so many bytes on, looking for the least and the greatest is faster than judging each.
+const MANY: usize = 64;
+
 /// Whether each byte lies from `low` up to `high`. The loop has no early end, so that many bytes are looked at at a
 /// time.
 fn are_within(low: u8, high: u8, bytes: &[u8]) -> bool
@@ -65,10 +68,14 @@ impl CharClass {
         all
     }
 
-    /// Whether each byte is of the class: where the class is one range, the least and the greatest byte tell.
+    /// Whether each byte is of the class: where they are many and the class is one range, the least and the greatest
+    /// byte tell.
     fn has_all(self, bytes: &[u8]) -> bool
         ensures { result ≡ list_all (is_member self) bytes.now }
     {
+        if bytes.len() < MANY {
+            return self.has_each(bytes);
+        }
         match self {
             CharClass::N | CharClass::XN => are_within(0x30, 0x39, bytes),
             CharClass::ANS => are_within(0x20, 0x7E, bytes),

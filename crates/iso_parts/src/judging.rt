@@ -15,6 +15,7 @@ use crate::encoding::Coding;
 use crate::fault::FieldFault;
 use crate::field::prefix_of;
 use crate::padding::Pad;
+use crate::prefix::Length;
 use crate::spec::FieldSpec;
 
 /// What judging finds at the front of some bytes.
@@ -185,6 +186,9 @@ pub fn judge_length(spec: &FieldSpec, bytes: &[u8]) -> Result<Option<u16>, Field
     ensures room { IfOk result (λ got. IfSome got (λ n. prefix_size spec.now.length ≤ length bytes.now)) }
     ensures memory { IfErr result (λ e. e ≢ Memory) }
 {
+    if spec.length == Length::Fixed {
+        return Ok(Some(spec.max));
+    }
     let front = spec.length.prefix_size();
     if bytes.len() < front {
         return Ok(None);

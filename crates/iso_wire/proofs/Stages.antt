@@ -15,6 +15,7 @@ use Rattle.iso_wire.specs.declared.fault.UnpackCause.TheVariants as causes
 use Rattle.iso_wire.specs.declared.fault.UnpackCause.TheVariants.{Short, UnknownElement, Field}
 use Rattle.iso_wire.specs.declared.judging.Stage.{Stage}
 use Rattle.iso_wire.specs.declared.judging.Stage.TheVariants as stages
+use Rattle.iso_wire.specs.declared.judging.Stopped.{Stopped}
 use Rattle.iso_wire.specs.declared.numbers.Numbers.{Numbers}
 use Rattle.iso_wire.specs.Contents.{Contents}
 use Rattle.iso_wire.specs.Numbers.{numbers_in}
@@ -225,13 +226,13 @@ no_row_body rows ns n count at b none = ap (λ o. body_end_under o n count at b 
 
 -- ---- from one stage to the next
 
-pub steps_then : (t : Layout) (from to : Stage) (rest : Numbers) (end : ℕ) (b : List ℕ) (r : Result ℕ UnpackFault) → Steps t from b rest to (Ok end) → (after : Stage) → Resumes t (stages.Elements rest end) b after r → Resumes t from b after r
-steps_then t from to rest end b r one after others = record { read = others.read; goes_on = λ x. one.0 x ∙ others.goes_on x; within = others.within }
+pub steps_then : (t : Layout) (from : Stage) (rest : Numbers) (end : ℕ) (b : List ℕ) (r : Result ℕ UnpackFault) → Steps t from b rest (Ok end) → (after : Stage) → Resumes t (stages.Elements rest end) b after r → Resumes t from b after r
+steps_then t from rest end b r one after others = record { read = others.read; goes_on = λ x. one.0 x ∙ others.goes_on x; within = others.within }
 
 -- a step that begins where another stage goes on alike
-pub step_from : (t : Layout) (from mid to : Stage) (rest : Numbers) (b : List ℕ) (r : Result ℕ UnpackFault) → GoesOn t from mid b → Steps t mid b rest to r → Steps t from b rest to r
-step_from t from mid to rest b (Ok end) one others = (λ x. one x ∙ others.0 x, others.1)
-step_from t from mid to rest b (Err e) one others = record { read = others.read; goes_on = λ x. one x ∙ others.goes_on x; within = others.within }
+pub step_from : (t : Layout) (from mid : Stage) (rest : Numbers) (b : List ℕ) (r : Result ℕ Stopped) → GoesOn t from mid b → Steps t mid b rest r → Steps t from b rest r
+step_from t from mid rest b (Ok end) one others = (λ x. one x ∙ others.0 x, others.1)
+step_from t from mid rest b (Err stopped) one others = record { read = others.read; goes_on = λ x. one x ∙ others.goes_on x; within = others.within }
 
 pub resumes_then : (t : Layout) (from mid to : Stage) (b : List ℕ) (r : Result ℕ UnpackFault) → GoesOn t from mid b → Resumes t mid b to r → Resumes t from b to r
 resumes_then t from mid to b r one rest = record { read = rest.read; goes_on = λ x. one x ∙ rest.goes_on x; within = rest.within }

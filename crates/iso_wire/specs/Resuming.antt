@@ -8,6 +8,7 @@ use Rattle.iso_wire.specs.declared.fault.UnpackFault.{UnpackFault}
 use Rattle.iso_wire.specs.declared.fault.UnpackCause.TheVariants.{Short, UnknownElement, Field}
 use Rattle.iso_wire.specs.declared.judging.Stage.{Stage}
 use Rattle.iso_wire.specs.declared.judging.Stage.TheVariants as stages
+use Rattle.iso_wire.specs.declared.judging.Stopped.{Stopped}
 use Rattle.iso_wire.specs.declared.numbers.Numbers.{Numbers}
 use Rattle.iso_table.specs.Layout.{Layout, row_at}
 use Rattle.iso_wire.specs.Numbers.{numbers_in}
@@ -79,9 +80,9 @@ pub record Resumes (t : Layout) (from : Stage) (b : List ℕ) (to : Stage) (answ
   pub within : IsWithin t to b
 
 -- judging came behind a part, where the other elements go on; or it stopped within the part
-abbrev pub Steps : Layout → Stage → List ℕ → Numbers → Stage → Result ℕ UnpackFault → Type 0
-Steps t from b rest to (Ok end) = GoesOn t from (stages.Elements rest end) b × (end ≤ length b)
-Steps t from b rest to (Err e) = Resumes t from b to (Err e)
+abbrev pub Steps : Layout → Stage → List ℕ → Numbers → Result ℕ Stopped → Type 0
+Steps t from b rest (Ok end) = GoesOn t from (stages.Elements rest end) b × (end ≤ length b)
+Steps t from b rest (Err stopped) = Resumes t from b stopped.stage (Err stopped.fault)
 
 -- reading the whole is reading on from the stage, whatever follows the bytes
 abbrev pub IsResumed : Layout → Stage → List ℕ → Type 0

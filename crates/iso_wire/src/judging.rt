@@ -41,6 +41,13 @@ pub enum Stage {
     },
 }
 
+/// Where judging stopped, and why.
+#[derive(Clone, Copy)]
+struct Stopped {
+    stage: Stage,
+    fault: UnpackFault,
+}
+
 /// Where the body of `count` characters ends, which begins at `at`.
 fn body_end(
     row: &FieldSpec,
@@ -63,8 +70,8 @@ fn body_end(
     }
 }
 
-/// Judges the body of element `n`, of `count` characters, which begins at `at`: the stage behind it and where it ends,
-/// or the fault.
+/// Judges the body of element `n`, of `count` characters, which begins at `at`: where it ends, or the stage and the
+/// fault at which judging stops.
 fn judge_value(
     table: &Table,
     n: u8,
@@ -72,18 +79,18 @@ fn judge_value(
     rest: Numbers,
     at: usize,
     bytes: &[u8],
-) -> (Stage, Result<usize, UnpackFault>)
+) -> Result<usize, Stopped>
     requires { IsWithin table.now (Stage.Body n count rest at) bytes.now }
-    ensures { Steps table.now (Stage.Body n count rest at) bytes.now rest result.0 result.1 }
+    ensures { Steps table.now (Stage.Body n count rest at) bytes.now rest result }
 {
-    let here = Stage::Body { n, count, rest, at };
+    let stage = Stage::Body { n, count, rest, at };
     let Some(row) = table.row(n) else {
         let fault = UnpackFault::stop(n, at, UnpackCause::UnknownElement(n));
-        return (here, Err(fault));
+        return Err(Stopped { stage, fault });
     };
     match body_end(row, n, count, at, bytes) {
-        Ok(end) => (Stage::Elements { rest, at: end }, Ok(end)),
-        Err(fault) => (here, Err(fault)),
+        Ok(end) => Ok(end),
+        Err(fault) => Err(Stopped { stage, fault }),
     }
 }
 
@@ -95,27 +102,28 @@ fn judge_part(
     rest: Numbers,
     at: usize,
     bytes: &[u8],
-) -> (Stage, Result<usize, UnpackFault>)
+) -> Result<usize, Stopped>
     requires first { left from ≡ n ∷ left rest }
     requires within { at ≤ length bytes.now }
-    ensures { Steps table.now (Stage.Elements from at) bytes.now rest result.0 result.1 }
+    ensures { Steps table.now (Stage.Elements from at) bytes.now rest result }
 {
     iso_parts::laws::parts();
-    let here = Stage::Elements { rest: from, at };
+    let stage = Stage::Elements { rest: from, at };
     let Some(row) = table.row(n) else {
         let fault = UnpackFault::stop(n, at, UnpackCause::UnknownElement(n));
-        return (here, Err(fault));
+        return Err(Stopped { stage, fault });
     };
+    let front = row.length.prefix_size();
     let (_, part) = bytes.split_at(at);
     match judge_length(row, part) {
-        Ok(Some(count)) => {
-            let body = at + row.length.prefix_size();
-            judge_value(table, n, count, rest, body, bytes)
+        Ok(Some(count)) => judge_value(table, n, count, rest, at + front, bytes),
+        Ok(None) => {
+            let fault = UnpackFault::stop(n, at, UnpackCause::Short);
+            Err(Stopped { stage, fault })
         }
-        Ok(None) => (here, Err(UnpackFault::stop(n, at, UnpackCause::Short))),
         Err(fault) => {
             let fault = UnpackFault::stop(n, at, UnpackCause::Field(fault));
-            (here, Err(fault))
+            Err(Stopped { stage, fault })
         }
     }
 }
@@ -134,13 +142,12 @@ fn judge_elements(
     let mut rest = numbers;
     let mut at = start;
     while let Some(n) = walk.next() {
-        let (stage, read) = judge_part(table, n, rest, walk, at, bytes);
-        match read {
+        match judge_part(table, n, rest, walk, at, bytes) {
             Ok(end) => {
                 at = end;
                 rest = walk;
             }
-            Err(fault) => return (stage, Err(fault)),
+            Err(stopped) => return (stopped.stage, Err(stopped.fault)),
         }
     }
     (Stage::Elements { rest, at }, Ok(at))
@@ -158,10 +165,9 @@ fn judge_rest(
     requires { IsWithin table.now (Stage.Body n count rest at) bytes.now }
     ensures { Resumes table.now (Stage.Body n count rest at) bytes.now result.0 result.1 }
 {
-    let (stage, read) = judge_value(table, n, count, rest, at, bytes);
-    match read {
+    match judge_value(table, n, count, rest, at, bytes) {
         Ok(end) => judge_elements(table, rest, end, bytes),
-        Err(fault) => (stage, Err(fault)),
+        Err(stopped) => (stopped.stage, Err(stopped.fault)),
     }
 }
 

@@ -13,8 +13,8 @@ returns-in-Ok-Some c =
     let place : ℕ = c.args.at + prefix_size s.length in
     let read = rw (c.in-Ok-Some.field-0-is, c.split_at.ensures.back) at c.in-Ok-Some.ensures.exact in
     let on = length_goes_on c.parts.ensures t.rows s (left c.args.from) (left c.args.rest) c.args.n c.in-Ok-Some.count c.args.at b c.requires.first (sym c.in-Some.ensures.row) (sym read) c.requires.within in
-    let step = rw c.prefix_size.ensures at c.judge_value.ensures in
-    step_from t (stages.Elements c.args.from c.args.at) (stages.Body c.args.n c.in-Ok-Some.count c.args.rest place) c.judge_value.result.0 c.args.rest b c.judge_value.result.1 on step
+    let step = rw c.prefix_size-front.ensures at c.judge_value.ensures in
+    step_from t (stages.Elements c.args.from c.args.at) (stages.Body c.args.n c.in-Ok-Some.count c.args.rest place) c.args.rest b c.judge_value.result on step
 
 pub returns-in-Err : goal.returns-in-Err
 returns-in-Err c =
