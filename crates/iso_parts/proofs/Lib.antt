@@ -20,3 +20,4 @@ pub mod Judges
 pub mod Ranges
 pub mod Extents
 pub mod PieceLaws
+pub mod WordSets

@@ -2,7 +2,7 @@
 
 ghost use Rattle.std.specs.Int.{bit_at};
 ghost use Rattle.std.specs.Prelude.{◌≡◌, ◌≢◌, ◌+◌, ◌-◌, ◌<◌, ◌≤◌, ◌^◌, ◌++◌, ◌==◌, ◌⊎◌};
-ghost use Rattle.std.specs.Prelude.{ℕ, Bool, true, false, List, length, take, drop, OnOk, OnErr};
+ghost use Rattle.std.specs.Prelude.{◌↔◌, ℕ, Bool, true, false, IsTrue, List, length, take, drop, OnOk, OnErr};
 
 use crate::bitmap_reading::{hex_word, raw_word, read};
 use crate::encoding::append_hex;
@@ -155,6 +155,14 @@ impl Bitmap {
             65..=128 => self.second >> (128 - n) & 1 == 1,
             _ => false,
         }
+    }
+
+    /// Whether the set has each number that the words of a primary and a secondary bitmap tell, the first bit of a word
+    /// being the most significant.
+    pub fn has_words(&self, first: u64, second: u64) -> bool
+        ensures { IsTrue result ↔ ((n : ℕ) → in_words first second n ≡ true → contains self.now n ≡ true) }
+    {
+        first & self.first == first && second & self.second == second
     }
 
     /// Puts a number into the set.

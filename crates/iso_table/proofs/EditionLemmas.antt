@@ -122,6 +122,10 @@ all_rows d places size rows n =
       | inr high ↦ ap row_in (slice_get_past places n (omega arith)) ∙ sym (past_by d n (row87 d n) (omega arith) refl)
     ]
 
+-- the rows of the edition stand at the numbers of elements
+pub at_elements87 : (places : List (Option FieldSpec)) (d : Digits) → ((n : ℕ) → row_at places n ≡ row87 d n) → (n : ℕ) (s : FieldSpec) → row_at places n ≡ Some s → IsTrue (is_element n)
+at_elements87 places d rows n s e = (row87-good d n s (sym (rows n) ∙ e)).0
+
 pub edition_made : (t : Layout) (d : Digits) → t.version ≡ 0 → length t.rows ≡ 129 → ((n : ℕ) → row_at t.rows n ≡ row87 d n) → IsAccepted t
 edition_made t d version size rows = record {
   version = rw version refl;

@@ -205,6 +205,10 @@ judged_more rows i d old total lt so_far fine judged =
 
 -- ---- a table of rows with nothing wrong
 
+-- rows stand at the numbers of elements
+pub at_elements : (places : List (Option FieldSpec)) (rows : List Row) → ((n : ℕ) → row_at places n ≡ row_of rows n) → rows_fault [] rows ≡ None → (n : ℕ) (s : FieldSpec) → row_at places n ≡ Some s → IsTrue (is_element n)
+at_elements places rows said fine n s e = (row_of-good rows (accepted_from_none [] rows fine).0 n s (sym (said n) ∙ e)).0
+
 pub table_made : (t : Layout) (rows : List Row) → IsTrue (is_version t.version) → length t.rows ≡ 129 → ((n : ℕ) → row_at t.rows n ≡ row_of rows n) → rows_fault [] rows ≡ None → IsAccepted t
 table_made t rows version size said fine =
     let good = (accepted_from_none [] rows fine).0 in

@@ -1,5 +1,5 @@
 -- A table as its users see it: the rows stand at their numbers.
-use Rattle.std.specs.Prelude.{◌≡◌, ℕ, ◌==◌, ◌||◌, Bool, IsTrue, List, length, slice_get, Option, Some, None}
+use Rattle.std.specs.Prelude.{◌≡◌, ℕ, ◌==◌, ◌||◌, Bool, is_some, IsTrue, List, length, slice_get, Option, Some, None}
 use Rattle.iso_parts.specs.declared.prefix.Digits.{Digits}
 use Rattle.iso_parts.specs.declared.spec.FieldSpec.{FieldSpec}
 use Rattle.iso_parts.specs.Class.{is_within}
@@ -21,6 +21,10 @@ row_in (Some r) = r
 -- the row of element n
 abbrev pub row_at : List (Option FieldSpec) → ℕ → Option FieldSpec
 row_at rows n = row_in (slice_get rows n)
+
+-- the set has the numbers that have a row, and no other
+abbrev pub Knows : (ℕ → Bool) → List (Option FieldSpec) → Type 0
+Knows set rows = (n : ℕ) → set n ≡ is_some (row_at rows n)
 
 -- each row that is there is good
 abbrev pub AreGood : List (Option FieldSpec) → Type 0

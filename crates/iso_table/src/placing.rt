@@ -3,12 +3,14 @@
 ghost use Rattle.std.specs.Prelude.{◌≡◌, ◌≢◌, ◌≤◌, ◌<◌, []};
 ghost use Rattle.std.specs.Prelude.{ℕ, IsTrue, IfOk, IfErr, OnOk, OnErr, None, Some, length, is_some, slice_set, slice_get};
 ghost use Rattle.std.specs.Option.{option_copied};
-ghost use Rattle.iso_table.specs.Layout.{is_version, is_element, row_at};
+ghost use Rattle.iso_parts.specs.Bits.{contains};
+ghost use Rattle.iso_parts.specs.declared.spec.FieldSpec.{FieldSpec};
+ghost use Rattle.iso_table.specs.Layout.{is_version, is_element, row_at, Knows};
 ghost use Rattle.iso_table.specs.Accepted.{row_fault, rows_fault, row_of};
 
 use crate::draft::Row;
 use crate::fault::TableFault;
-use iso_parts::FieldSpec;
+use iso_parts::{Bitmap, FieldSpec};
 
 /// How many places a table has: one for each number up to the highest element.
 pub const PLACES: usize = 129;
@@ -77,4 +79,18 @@ pub fn placed(rows: &[Row]) -> Result<[Option<FieldSpec>; PLACES], TableFault>
         place(&mut places, row)?;
     }
     Ok(places)
+}
+
+/// The numbers that have a row.
+pub fn known_in(places: &[Option<FieldSpec>]) -> Bitmap
+    requires { (n : ℕ) (s : FieldSpec) → row_at places.now n ≡ Some s → IsTrue (is_element n) }
+    ensures { Knows (contains result) places.now }
+{
+    let mut known = Bitmap::new();
+    for number in 0..PLACES {
+        if row_at(places, number).is_some() {
+            known.set(number as u8);
+        }
+    }
+    known
 }

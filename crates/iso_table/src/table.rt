@@ -4,7 +4,8 @@ ghost use Rattle.std.specs.Prelude.{◌≡◌, ◌≢◌, ◌+◌, ◌↔◌};
 ghost use Rattle.std.specs.Prelude.{ℕ, length, is_some, count_by, sum_by, IfOk, IfErr, IsErrOf, IsOk, MatchResult, Some};
 ghost use Rattle.std.specs.Option.{option_copied};
 ghost use Rattle.iso_table.specs.declared.fault.TableFault.TheVariants.{NotJson, Memory};
-ghost use Rattle.iso_table.specs.Layout.{Layout, IsAccepted, AreGood, row_at};
+ghost use Rattle.iso_parts.specs.Bits.{contains};
+ghost use Rattle.iso_table.specs.Layout.{Layout, IsAccepted, AreGood, Knows, row_at};
 ghost use Rattle.iso_table.specs.Accepted.{Accepted, Holds, contents, first_fault};
 ghost use Rattle.iso_table.specs.Document.{IsTableOf, IsFaultOf, IsNotJson, document};
 ghost use Rattle.serde_json.specs.Written.{compact_text};
@@ -16,11 +17,11 @@ use crate::draft::Draft;
 use crate::edition87::{bitmap87, places87};
 use crate::fault::{HostTableFault, NoMemory, TableFault};
 use crate::host::host_rows_fault;
-use crate::placing::{is_version, placed, row_at};
+use crate::placing::{is_version, known_in, placed, row_at};
 use crate::reading::{draft_of, value_of};
 use crate::sizes::{bitmap_bytes, mti_bytes, places_bytes};
 use crate::writing::document;
-use iso_parts::{BitmapCoding, Digits, FieldSpec};
+use iso_parts::{Bitmap, BitmapCoding, Digits, FieldSpec};
 use std::alloc::Global;
 use std::marker::Model;
 
@@ -32,6 +33,8 @@ pub struct Table {
     mti: Digits,
     bitmap: BitmapCoding,
     rows: Vec<Option<FieldSpec>>,
+    known: Bitmap,
+    ghost knows: { Knows (contains known) rows.items },
 }
 
 impl Model for Table {
@@ -56,11 +59,13 @@ impl Table {
             return Err(TableFault::BadVersion);
         }
         let places = placed(draft.rows.as_slice())?;
+        let known = known_in(&places);
         Ok(Table {
             version: draft.version,
             mti: draft.mti,
             bitmap: draft.bitmap,
             rows: Vec::from_array(alloc, places)?,
+            known,
         })
     }
 
@@ -124,11 +129,14 @@ impl Table {
     fn edition87(alloc: Global, digits: Digits) -> Result<Table, NoMemory>
         ensures { IfOk result (IsEdition87 digits) }
     {
+        let places = places87(digits);
+        let known = known_in(&places);
         Ok(Table {
             version: 0,
             mti: digits,
             bitmap: bitmap87(digits),
-            rows: Vec::from_array(alloc, places87(digits))?,
+            rows: Vec::from_array(alloc, places)?,
+            known,
         })
     }
 
@@ -139,6 +147,13 @@ impl Table {
         ensures accepted { IsAccepted self.now }
     {
         row_at(&self.rows, usize::from(number))
+    }
+
+    /// The numbers of the elements that have a row.
+    pub fn known(&self) -> Bitmap
+        ensures { Knows (contains result) self.now.rows }
+    {
+        self.known
     }
 
     /// The first digit of the message types that the table is for.

@@ -97,6 +97,7 @@ fn assert_says(rt: &impl Abort, name: &str, table: &Table, says: Says) {
     for (element, row) in says.rows {
         let found = table.row(*element).copied();
         assert_eq!(rt; found, Some(*row), "{name}: element {element}");
+        assert!(rt; table.known().has(*element), "{name}: element {element}");
     }
 }
 
@@ -128,6 +129,11 @@ fn builds_ascii87(rt: HostRuntime) -> Result<(), Fail> {
         (129, None),
     ] {
         assert_eq!(rt; table.row(element).copied(), row, "element {element}");
+        assert_eq!(rt;
+            table.known().has(element),
+            row.is_some(),
+            "element {element}"
+        );
     }
     Ok(())
 }
@@ -152,6 +158,11 @@ fn builds_bcd87(rt: HostRuntime) -> Result<(), Fail> {
         (100, Some(number(bcd, ll, 11))),
     ] {
         assert_eq!(rt; table.row(element).copied(), row, "element {element}");
+        assert_eq!(rt;
+            table.known().has(element),
+            row.is_some(),
+            "element {element}"
+        );
     }
     Ok(())
 }

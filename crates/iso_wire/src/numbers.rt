@@ -81,6 +81,9 @@ impl Numbers {
     pub(crate) fn unknown_under(self, table: &Table) -> Option<u8>
         ensures { result ≡ unknown table.now.rows (left self) }
     {
+        if table.known().has_words(self.first, self.second) {
+            return None;
+        }
         let mut rest = self;
         while let Some(n) = rest.next() {
             if table.row(n).is_none() {

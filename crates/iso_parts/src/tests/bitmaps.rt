@@ -14,6 +14,47 @@ fn set_of(numbers: &[u8]) -> Bitmap {
 }
 
 #[test]
+fn sets_have_the_numbers_of_words(rt: HostRuntime) {
+    let set = set_of(&[2, 7, 64, 66, 70]);
+    for (name, first, second, has) in [
+        ("none", 0, 0, true),
+        (
+            "all of them",
+            0x4200_0000_0000_0001,
+            0x4400_0000_0000_0000,
+            true,
+        ),
+        (
+            "one of each",
+            0x0200_0000_0000_0000,
+            0x0400_0000_0000_0000,
+            true,
+        ),
+        ("a low one that is missing", 0x4600_0000_0000_0000, 0, false),
+        (
+            "a high one that is missing",
+            0,
+            0x4400_0000_0000_0001,
+            false,
+        ),
+        (
+            "the first bit of the first word",
+            0x8000_0000_0000_0000,
+            0,
+            false,
+        ),
+        (
+            "the first bit of the second word",
+            0,
+            0x8000_0000_0000_0000,
+            false,
+        ),
+    ] {
+        assert_eq!(rt; set.has_words(first, second), has, "{name}");
+    }
+}
+
+#[test]
 fn bitmaps_are_written_and_read(rt: HostRuntime) -> Result<(), Fail> {
     let cases = [
         (

@@ -3,7 +3,7 @@ use Rattle.std.proofs.lemmas.Result.{err_from_is_err_and}
 use Rattle.iso_table.specs.declared.draft.Row.{Row}
 use Rattle.iso_table.specs.Layout.{is_version}
 use Rattle.iso_table.specs.Accepted.{contents, row_of, rows_fault}
-use Rattle.iso_table.proofs.RowLemmas.{table_made, accepted, refused}
+use Rattle.iso_table.proofs.RowLemmas.{at_elements, table_made, accepted, refused}
 use Rattle.iso_table.proofs.table.Table.check.Goals as goal
 
 pub returns-in_err-places-clause-refused : goal.returns-in_err-places-clause-refused
@@ -12,8 +12,14 @@ returns-in_err-places-clause-refused c =
     let same : c.as_slice.result.now ≡ c.args.draft.rows.items = c.as_slice.ensures.value in
     rw p.1 (λ _. refused (contents c.args.draft) _ (ap (rows_fault []) (sym same) ∙ c.in_err-places.ensures.fault))
 
+pub known_in-known-requires : goal.known_in-known-requires
+known_in-known-requires c = let fine = c.in_ok-places.ensures in at_elements c.in_ok-places.places c.as_slice.result.now fine.rows fine.good
+
 pub invariant_of-result : goal.invariant_of-result
-invariant_of-result c =
+invariant_of-result c = (rw c.in_ok-from_array.ensures.items c.known_in-known.ensures, tt)
+
+pub invariant_of-result-2 : goal.invariant_of-result-2
+invariant_of-result-2 c =
     let items = c.in_ok-from_array.ensures.items in
     let fine = c.in_ok-places.ensures in
     let version : is_version c.args.draft.version ≡ true = grind arith in
