@@ -2,8 +2,8 @@
 
 use crate::ended::Ended;
 use iso_parts::{
-    Bitmap, BitmapCoding, CharClass, Coding, Digits, FieldFault, FieldSpec, Length, Pad, Step,
-    append_value, decode_field, encode_field,
+    Bitmap, BitmapCoding, CharClass, Coding, Digits, FieldFault, FieldSpec, Judged, Length, Pad,
+    Step, append_judged, append_value, decode_field, encode_field, judge_field,
 };
 use std::alloc::Global;
 
@@ -74,7 +74,7 @@ fn decodes(alloc: Global, spec: &FieldSpec, bytes: &[u8], wanted: &[u8], size: u
     Ended::of(was_refused, is_right)
 }
 
-/// The same, behind a byte.
+/// The value that the bytes tell, behind a byte.
 fn appends_a_value(alloc: Global, bytes: &[u8], wanted: &[u8]) -> Ended {
     let Some(mut out) = begun(alloc) else {
         return Ended::Unready;
@@ -91,6 +91,29 @@ fn appends_a_value(alloc: Global, bytes: &[u8], wanted: &[u8]) -> Ended {
         told = append_value(&ACCOUNT, bytes, &mut out);
     }
     let is_right = told == Ok(Some(bytes.len())) && out.as_slice() == wanted;
+    Ended::of(was_refused, is_right)
+}
+
+/// The value of a part that is judged good, behind a byte.
+fn appends_judged(alloc: Global, spec: &FieldSpec, bytes: &[u8], wanted: &[u8]) -> Ended {
+    let Some(mut out) = begun(alloc) else {
+        return Ended::Unready;
+    };
+    if spec.good().is_err() {
+        return Ended::Wrong;
+    }
+    let Ok(Judged::Got { .. }) = judge_field(spec, bytes) else {
+        return Ended::Wrong;
+    };
+    let mut told = append_judged(spec, bytes, &mut out);
+    let was_refused = told.is_err();
+    if was_refused {
+        if out.as_slice() != b"\x07".as_slice() {
+            return Ended::Wrong;
+        }
+        told = append_judged(spec, bytes, &mut out);
+    }
+    let is_right = matches!(&told, Ok(used) if *used == bytes.len()) && out.as_slice() == wanted;
     Ended::of(was_refused, is_right)
 }
 
@@ -113,7 +136,7 @@ fn appends_a_bitmap(alloc: Global) -> Ended {
     Ended::of(was_refused, is_right)
 }
 
-pub fn rows(alloc: Global) -> [(&'static str, Ended); 8] {
+pub fn rows(alloc: Global) -> [(&'static str, Ended); 10] {
     let digits = b"378282246310005";
     let account = b"\x15\x03\x78\x28\x22\x46\x31\x00\x05";
     let behind = b"\x07\x15\x03\x78\x28\x22\x46\x31\x00\x05";
@@ -136,6 +159,14 @@ pub fn rows(alloc: Global) -> [(&'static str, Ended); 8] {
         (
             "append_value",
             appends_a_value(alloc, account, b"\x07378282246310005"),
+        ),
+        (
+            "append_judged",
+            appends_judged(alloc, &ACCOUNT, account, b"\x07378282246310005"),
+        ),
+        (
+            "append_judged",
+            appends_judged(alloc, &PADDED, b"000012", b"\x0712"),
         ),
         ("Bitmap::append", appends_a_bitmap(alloc)),
     ]

@@ -3,7 +3,7 @@
 ghost use Rattle.std.specs.Prelude.{◌≡◌, [], IfSome};
 
 use iso_issuer::{Accounts, Issuer};
-use iso_order::{Act, Money, Order, Pan, TxKey};
+use iso_order::{Act, Answer, Money, Order, Pan, TxKey};
 use iso_parts::Mti;
 use iso_wire::Message;
 use std::alloc::Global;
@@ -34,6 +34,13 @@ pub fn message(alloc: Global, mti: u16, elements: &[(u8, &[u8])]) -> Option<Mess
     }
     Some(message)
 }
+
+/// The answer to the first order that is granted.
+pub const FIRST: Answer = Answer {
+    code: 0,
+    seq: 1,
+    shown: None,
+};
 
 /// The message of the purchase, or of its repeat.
 pub fn purchase(alloc: Global, mti: u16) -> Option<Message> {

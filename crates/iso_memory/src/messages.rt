@@ -6,7 +6,7 @@ use iso_parts::Mti;
 use iso_table::Table;
 use iso_wire::{
     Fed, FrameFault, Header, Message, PackFault, SetFault, UnpackCause, UnpackFault, Unpacker,
-    append_frame, frame, pack, unpack,
+    append_frame, frame, pack, pack_into, unpack,
 };
 use std::alloc::Global;
 
@@ -58,6 +58,23 @@ fn makes_room(alloc: Global) -> Ended {
     Ended::of(was_refused, is_right)
 }
 
+/// Makes a purchase a message of another type, whose room is more than it has.
+fn starts_over(alloc: Global) -> Ended {
+    let (Some(mut message), Some(mti)) = (purchase(alloc, 200), Mti::from_digits(810)) else {
+        return Ended::Unready;
+    };
+    let empty = Message::new(alloc, mti);
+    let mut told = message.start_over(mti, 100, 1000);
+    let was_refused = told.is_err();
+    if was_refused {
+        if !message.equals(&empty) {
+            return Ended::Wrong;
+        }
+        told = message.start_over(mti, 100, 1000);
+    }
+    Ended::of(was_refused, told.is_ok() && message.equals(&empty))
+}
+
 fn appends(alloc: Global) -> Ended {
     let Some(mti) = Mti::from_digits(800) else {
         return Ended::Wrong;
@@ -86,6 +103,26 @@ fn packs(alloc: Global) -> Ended {
     }
     let is_right = matches!(&told, Ok(bytes) if bytes.as_slice() == PURCHASE);
     Ended::of(was_refused, is_right)
+}
+
+/// Writes the purchase in place of a byte.
+fn packs_in_place(alloc: Global) -> Ended {
+    let (Ok(table), Some(message), Ok(mut out)) = (
+        Table::ascii87(alloc),
+        purchase(alloc, 200),
+        Vec::from_array(alloc, [7u8]),
+    ) else {
+        return Ended::Unready;
+    };
+    let mut told = pack_into(&table, &message, &mut out);
+    let was_refused = matches!(&told, Err(PackFault::Memory));
+    if was_refused {
+        if !out.is_empty() {
+            return Ended::Wrong;
+        }
+        told = pack_into(&table, &message, &mut out);
+    }
+    Ended::of(was_refused, told.is_ok() && out.as_slice() == PURCHASE)
 }
 
 /// Whether a fault is want of memory, which tells no place.
@@ -142,6 +179,34 @@ fn feeds_two_pieces(alloc: Global) -> Ended {
     )
 }
 
+/// Reads a message between two pieces that are fed: the first piece stays.
+fn unpacks_between(alloc: Global) -> Ended {
+    let (Ok(table), Some(message)) = (Table::ascii87(alloc), purchase(alloc, 200)) else {
+        return Ended::Unready;
+    };
+    let (front, rest) = PURCHASE.split_at(30);
+    let mut unpacker = Unpacker::new(alloc, &table);
+    let Ok(Fed::More) = unpacker.feed(alloc, front) else {
+        return Ended::Unready;
+    };
+    let mut told = unpacker.unpack(alloc, PURCHASE);
+    let was_refused = matches!(&told, Err(fault) if is_memory(fault));
+    if was_refused {
+        told = unpacker.unpack(alloc, PURCHASE);
+    }
+    let is_read = matches!(&told, Ok((read, used)) if read.equals(&message) && *used == 82);
+    match unpacker.feed(alloc, rest) {
+        Ok(
+            Fed::Done {
+                message: fed,
+                used: 52,
+            },
+        ) => Ended::of(was_refused, is_read && fed.equals(&message)),
+        Err(fault) if is_memory(&fault) && is_read && !was_refused => Ended::Unready,
+        _ => Ended::Wrong,
+    }
+}
+
 fn frames(alloc: Global) -> Ended {
     let mut told = frame(alloc, Header::Ascii4, b"0800");
     let was_refused = matches!(&told, Err(FrameFault::Memory));
@@ -169,17 +234,20 @@ fn appends_a_frame(alloc: Global) -> Ended {
     Ended::of(was_refused, is_right)
 }
 
-pub fn rows(alloc: Global) -> [(&'static str, Ended); 10] {
+pub fn rows(alloc: Global) -> [(&'static str, Ended); 13] {
     let long = [b'7'; 300];
     [
         ("Message::set", sets(alloc, 2, &long)),
         ("Message::set", sets(alloc, 60, &long)),
         ("Message::set_number", sets_a_number(alloc)),
         ("Message::with_room", makes_room(alloc)),
+        ("Message::start_over", starts_over(alloc)),
         ("Message::append", appends(alloc)),
         ("pack", packs(alloc)),
+        ("pack_into", packs_in_place(alloc)),
         ("unpack", unpacks(alloc)),
         ("Unpacker::feed", feeds_two_pieces(alloc)),
+        ("Unpacker::unpack", unpacks_between(alloc)),
         ("frame", frames(alloc)),
         ("append_frame", appends_a_frame(alloc)),
     ]

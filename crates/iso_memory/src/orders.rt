@@ -1,18 +1,11 @@
 //! The calls that make a message from an order or an answer.
 
 use crate::ended::Ended;
-use crate::known::{GRANTED, debit, purchase};
-use iso_order::{Answer, Verdict, order_of, request, respond};
+use crate::known::{FIRST, GRANTED, debit, message, purchase};
+use iso_order::{Verdict, order_of, request, respond, respond_into};
 use iso_table::Table;
 use iso_wire::{Message, unpack};
 use std::alloc::Global;
-
-/// The first order that is granted.
-const FIRST: Answer = Answer {
-    code: 0,
-    seq: 1,
-    shown: None,
-};
 
 /// The response that grants the purchase.
 fn granted(alloc: Global) -> Option<Message> {
@@ -37,6 +30,26 @@ fn responds(alloc: Global) -> Ended {
     Ended::of(was_refused, is_right)
 }
 
+/// Makes another message the response, which takes more room than it has.
+fn responds_in_place(alloc: Global) -> Ended {
+    let (Some(asked), Some(wanted), Some(mut made)) = (
+        purchase(alloc, 200),
+        granted(alloc),
+        message(alloc, 800, &[(11, b"000008")]),
+    ) else {
+        return Ended::Unready;
+    };
+    let Verdict::Order(_) = order_of(&asked) else {
+        return Ended::Wrong;
+    };
+    let mut told = respond_into(&asked, &FIRST, &mut made);
+    let was_refused = told.is_err();
+    if was_refused {
+        told = respond_into(&asked, &FIRST, &mut made);
+    }
+    Ended::of(was_refused, told.is_ok() && made.equals(&wanted))
+}
+
 fn requests(alloc: Global) -> Ended {
     let (Some(order), Some(wanted)) = (debit(200, 7, 1000), purchase(alloc, 200)) else {
         return Ended::Unready;
@@ -50,6 +63,10 @@ fn requests(alloc: Global) -> Ended {
     Ended::of(was_refused, is_right)
 }
 
-pub fn rows(alloc: Global) -> [(&'static str, Ended); 2] {
-    [("respond", responds(alloc)), ("request", requests(alloc))]
+pub fn rows(alloc: Global) -> [(&'static str, Ended); 3] {
+    [
+        ("respond", responds(alloc)),
+        ("respond_into", responds_in_place(alloc)),
+        ("request", requests(alloc)),
+    ]
 }

@@ -1,12 +1,14 @@
-//! The calls that take no memory: none of them is ever refused.
+//! The calls that take no memory, some of them since what they write over has the room: none of them is ever refused.
 
 use crate::ended::Ended;
-use crate::known::{ACQUIRER, GRANTED, PURCHASE, SENT, account, balances, debit, issuer, purchase};
+use crate::known::{
+    ACQUIRER, FIRST, GRANTED, PURCHASE, SENT, account, balances, debit, issuer, purchase,
+};
 use iso_acquirer::{Acquirer, State, World};
-use iso_order::{Verdict, answer_of, order_of};
+use iso_order::{Answer, Verdict, answer_of, order_of, respond, respond_into};
 use iso_parts::{Bitmap, BitmapStep, Judged, judge_field};
 use iso_table::Table;
-use iso_wire::{Framed, Header, Unpacker, unframe, unpack, view};
+use iso_wire::{Framed, Header, Unpacker, pack, pack_into, unframe, unpack, view};
 use std::alloc::Global;
 
 /// The bitmap of the purchase, read and written.
@@ -90,6 +92,56 @@ fn views(alloc: Global) -> Ended {
     Ended::of(false, was_empty && seen && framed && unpacker.held() == 0)
 }
 
+/// A message that is read, and bytes that are written, in memory that has the room.
+fn messages_in_place(alloc: Global) -> Ended {
+    let (Ok(table), Some(message)) = (Table::ascii87(alloc), purchase(alloc, 200)) else {
+        return Ended::Unready;
+    };
+    let mut unpacker = Unpacker::new(alloc, &table);
+    let (Ok((read, _)), Ok(mut bytes)) = (
+        unpacker.unpack(alloc, PURCHASE),
+        pack(alloc, &table, &message),
+    ) else {
+        return Ended::Unready;
+    };
+    unpacker.reuse(read);
+    let is_written = pack_into(&table, &message, &mut bytes).is_ok()
+        && bytes.as_slice() == PURCHASE;
+    match unpacker.unpack(alloc, PURCHASE) {
+        Ok((mut again, 82)) => {
+            let is_read = again.equals(&message);
+            let is_begun = again.start_over(message.mti(), 7, 58).is_ok();
+            Ended::of(
+                false,
+                is_written && is_read && is_begun && again.get(11).is_none(),
+            )
+        }
+        _ => Ended::Wrong,
+    }
+}
+
+/// The answer to the first order that is declined.
+const DECLINED: Answer = Answer {
+    code: 51,
+    seq: 1,
+    shown: None,
+};
+
+/// A response that declines, in the place of one that grants.
+fn responses_in_place(alloc: Global) -> Ended {
+    let Some(asked) = purchase(alloc, 200) else {
+        return Ended::Unready;
+    };
+    let Verdict::Order(_) = order_of(&asked) else {
+        return Ended::Wrong;
+    };
+    let Ok(mut made) = respond(alloc, &asked, &FIRST) else {
+        return Ended::Unready;
+    };
+    let is_made = respond_into(&asked, &DECLINED, &mut made).is_ok();
+    Ended::of(false, is_made && made.get(39) == Some(b"51".as_slice()))
+}
+
 /// A known key, and a full journal.
 fn repeats(alloc: Global) -> Ended {
     let (Some(mut issuer), Some(first), Some(other)) = (
@@ -128,13 +180,21 @@ fn acquirers(alloc: Global) -> Ended {
     Ended::of(false, again && reverses && stays && (sent, given) == (0, 0))
 }
 
-pub fn rows(alloc: Global) -> [(&'static str, Ended); 7] {
+pub fn rows(alloc: Global) -> [(&'static str, Ended); 9] {
     [
         ("without memory: bitmaps", Ended::of(false, bitmaps())),
         ("without memory: tables", tables(alloc)),
         ("without memory: messages", messages(alloc)),
         ("without memory: responses", responses(alloc)),
         ("without memory: views", views(alloc)),
+        (
+            "without memory: messages in place",
+            messages_in_place(alloc),
+        ),
+        (
+            "without memory: responses in place",
+            responses_in_place(alloc),
+        ),
         ("without memory: repeats", repeats(alloc)),
         ("without memory: acquirers", acquirers(alloc)),
     ]
