@@ -13,7 +13,8 @@ const WRITTEN: &str =
 
 /// A table with four digits of a length, as `to_json` writes it.
 const CHIP: &str =
-    r#"{"bitmap":"hex","mti":"ascii","profile":2,"rows":[{"class":"B","coding":"hex","length":"LLLL","max":9999,"number":48,"pad":"none","prefix":"ascii"}],"version":0}"#;
+    "{\"bitmap\":\"hex\",\"mti\":\"ascii\",\"profile\":2,\"rows\":[{\"class\":\"B\",\"coding\":\"hex\",\"length\":\"LLLL\",\
+\"max\":9999,\"number\":48,\"pad\":\"none\",\"prefix\":\"ascii\"}],\"version\":0}";
 
 /// Its rows.
 const ROWS: &str =
@@ -21,7 +22,8 @@ const ROWS: &str =
 
 /// Its row twice.
 const ROW_TWICE: &str =
-    r#"[{"class":"ANS","coding":"ascii","length":"fixed","max":8,"number":41,"pad":"right:20"},{"class":"ANS","coding":"ascii","length":"fixed","max":8,"number":41,"pad":"right:20"}]"#;
+    r#"[{"class":"ANS","coding":"ascii","length":"fixed","max":8,"number":41,"pad":"right:20"},
+        {"class":"ANS","coding":"ascii","length":"fixed","max":8,"number":41,"pad":"right:20"}]"#;
 
 /// A document with a new text in place of an old one, which stands there once.
 fn edited_in(
@@ -108,7 +110,8 @@ fn reads_documents(rt: HostRuntime) -> Result<(), Fail> {
         (
             "members and rows in another order",
             "],",
-            r#",{"number":35,"class":"Z","coding":"bcd","length":"LLL","prefix":"ascii","max":37,"pad":"none"},{"pad":"left:2a","max":3,"length":"fixed","coding":"ascii","class":"A","number":3}],"#,
+            r#",{"number":35,"class":"Z","coding":"bcd","length":"LLL","prefix":"ascii","max":37,"pad":"none"},
+                {"pad":"left:2a","max":3,"length":"fixed","coding":"ascii","class":"A","number":3}],"#,
             ascii_table(0, &three, 69),
         ),
         (
