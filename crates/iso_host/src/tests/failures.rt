@@ -8,12 +8,10 @@ use super::frames::{
 };
 use crate::fault::{Report, ServeFault};
 use iso_issuer::Issuer;
+use iso_table::Table;
 use iso_wire::Header;
 use std::alloc::Global;
 use std::test::Fail;
-
-/// How many bytes a call moves, at most.
-const PIECES: [usize; 6] = [1, 2, 3, 7, 64, 4096];
 
 /// What stands once some frames of the day are handled.
 #[derive(Clone, Copy, Debug)]
@@ -56,6 +54,24 @@ const WHOLE: Report = Report {
     silent: 0,
     unreadable: 1,
 };
+
+/// The day: its frames, their answers, and the table that they are written in.
+#[derive(Drop)]
+struct Day {
+    table: Table,
+    frames: Vec<u8>,
+    answers: Vec<u8>,
+}
+
+impl Day {
+    fn new(alloc: Global) -> Result<Day, Fail> {
+        Ok(Day {
+            table: Table::ascii87(alloc)?,
+            frames: frames(alloc)?,
+            answers: answers(alloc)?,
+        })
+    }
+}
 
 /// The frames of the day.
 fn frames(alloc: Global) -> Result<Vec<u8>, Fail> {
@@ -125,16 +141,17 @@ struct Run<'a> {
 /// Serves the day. The read and the write or flush of these numbers fail.
 fn serve_day<'a>(
     alloc: Global,
-    frames: &'a [u8],
+    day: &'a Day,
     piece: usize,
     failing: (u32, u32),
     turns: u64,
 ) -> Result<Run<'a>, Fail> {
     let mut issuer = issuer(alloc)?;
-    let mut reader = Reader::new(frames, piece, failing.0);
+    let mut reader = Reader::new(&day.frames, piece, failing.0);
     let mut writer = Writer::new(alloc, piece, failing.1)?;
     let ended = served_between(
         alloc,
+        &day.table,
         Header::Ascii4,
         &mut issuer,
         &mut reader,
@@ -150,36 +167,32 @@ fn serve_day<'a>(
 }
 
 /// Whether all whole frames that were read are handled and answered, and no more.
-fn stands_as_read(run: &Run<'_>, frames: &[u8], answers: &[u8]) -> Result<bool, Fail> {
-    let mark = last_mark(frames.len().saturating_sub(run.reader.bytes.len()));
+fn stands_as_read(run: &Run<'_>, day: &Day) -> Result<bool, Fail> {
+    let mark = last_mark(day.frames.len().saturating_sub(run.reader.bytes.len()));
     let written = run.writer.taken.as_slice();
-    Ok(answers.get(..mark.written) == Some(written) && stands_at(&run.issuer, &mark)?)
+    Ok(day.answers.get(..mark.written) == Some(written) && stands_at(&run.issuer, &mark)?)
 }
 
 /// Whether some frames are handled, and all of them but the last are answered, and no more.
-fn stands_as_written(run: &Run<'_>, answers: &[u8]) -> Result<bool, Fail> {
+fn stands_as_written(run: &Run<'_>, day: &Day) -> Result<bool, Fail> {
     let written = run.writer.taken.as_slice();
-    Ok(answers.starts_with(written) && lies_at_a_mark(&run.issuer, written.len())?)
+    Ok(day.answers.starts_with(written) && lies_at_a_mark(&run.issuer, written.len())?)
 }
 
 /// Whether the whole day gets its answers where it is sent once more to the same issuer.
-fn is_answered_again(
-    alloc: Global,
-    run: &mut Run<'_>,
-    frames: &[u8],
-    answers: &[u8],
-) -> Result<bool, Fail> {
-    let mut reader = Reader::new(frames, 4096, 0);
+fn is_answered_again(alloc: Global, run: &mut Run<'_>, day: &Day) -> Result<bool, Fail> {
+    let mut reader = Reader::new(&day.frames, 4096, 0);
     let mut writer = Writer::new(alloc, 4096, 0)?;
     let ended = served_between(
         alloc,
+        &day.table,
         Header::Ascii4,
         &mut run.issuer,
         &mut reader,
         &mut writer,
         1000,
     )?;
-    Ok(ended == Ok(WHOLE) && writer.taken.as_slice() == answers)
+    Ok(ended == Ok(WHOLE) && writer.taken.as_slice() == day.answers.as_slice())
 }
 
 /// How the day ends where no call fails, or the first call whose failure has another end than it should have.
@@ -190,12 +203,12 @@ enum Judged {
 }
 
 /// Serves the day with each of its reads failing in turn.
-fn each_read(alloc: Global, piece: usize, frames: &[u8], answers: &[u8]) -> Result<Judged, Fail> {
-    let whole = serve_day(alloc, frames, piece, (0, 0), 1000)?;
+fn each_read(alloc: Global, piece: usize, day: &Day) -> Result<Judged, Fail> {
+    let whole = serve_day(alloc, day, piece, (0, 0), 1000)?;
     for failing in 1..=whole.reader.reads {
-        let mut run = serve_day(alloc, frames, piece, (failing, 0), 1000)?;
-        let stands = stands_as_read(&run, frames, answers)?;
-        let comes_again = is_answered_again(alloc, &mut run, frames, answers)?;
+        let mut run = serve_day(alloc, day, piece, (failing, 0), 1000)?;
+        let stands = stands_as_read(&run, day)?;
+        let comes_again = is_answered_again(alloc, &mut run, day)?;
         if run.ended != Err(ServeFault::Read) || !stands || !comes_again {
             return Ok(Judged::WrongAt(failing));
         }
@@ -204,12 +217,12 @@ fn each_read(alloc: Global, piece: usize, frames: &[u8], answers: &[u8]) -> Resu
 }
 
 /// Serves the day with each of its writes and flushes failing in turn.
-fn each_write(alloc: Global, piece: usize, frames: &[u8], answers: &[u8]) -> Result<Judged, Fail> {
-    let whole = serve_day(alloc, frames, piece, (0, 0), 1000)?;
+fn each_write(alloc: Global, piece: usize, day: &Day) -> Result<Judged, Fail> {
+    let whole = serve_day(alloc, day, piece, (0, 0), 1000)?;
     for failing in 1..=whole.writer.writes.saturating_add(whole.writer.flushes) {
-        let mut run = serve_day(alloc, frames, piece, (0, failing), 1000)?;
-        let stands = stands_as_written(&run, answers)?;
-        let comes_again = is_answered_again(alloc, &mut run, frames, answers)?;
+        let mut run = serve_day(alloc, day, piece, (0, failing), 1000)?;
+        let stands = stands_as_written(&run, day)?;
+        let comes_again = is_answered_again(alloc, &mut run, day)?;
         if run.ended != Err(ServeFault::Write) || !stands || !comes_again {
             return Ok(Judged::WrongAt(failing));
         }
@@ -218,13 +231,13 @@ fn each_write(alloc: Global, piece: usize, frames: &[u8], answers: &[u8]) -> Res
 }
 
 /// Serves the day with fewer turns than it takes, each number of them in turn.
-fn each_turn(alloc: Global, piece: usize, frames: &[u8], answers: &[u8]) -> Result<Judged, Fail> {
-    let whole = serve_day(alloc, frames, piece, (0, 0), 1000)?;
+fn each_turn(alloc: Global, piece: usize, day: &Day) -> Result<Judged, Fail> {
+    let whole = serve_day(alloc, day, piece, (0, 0), 1000)?;
     for turns in 0..whole.reader.reads.saturating_add(whole.writer.writes) {
-        let mut run = serve_day(alloc, frames, piece, (0, 0), u64::from(turns))?;
-        let stands = stands_as_written(&run, answers)?
+        let mut run = serve_day(alloc, day, piece, (0, 0), u64::from(turns))?;
+        let stands = stands_as_written(&run, day)?
             && run.reader.reads.saturating_add(run.writer.writes) == turns;
-        let comes_again = is_answered_again(alloc, &mut run, frames, answers)?;
+        let comes_again = is_answered_again(alloc, &mut run, day)?;
         if run.ended != Err(ServeFault::TooManyTurns) || !stands || !comes_again {
             return Ok(Judged::WrongAt(turns));
         }
@@ -234,10 +247,9 @@ fn each_turn(alloc: Global, piece: usize, frames: &[u8], answers: &[u8]) -> Resu
 
 #[test]
 fn each_read_fails(rt: HostRuntime) -> Result<(), Fail> {
-    let frames = frames(rt.alloc())?;
-    let answers = answers(rt.alloc())?;
-    for piece in PIECES {
-        let judged = each_read(rt.alloc(), piece, &frames, &answers)?;
+    let day = Day::new(rt.alloc())?;
+    for piece in 1..=day.frames.len().saturating_add(1) {
+        let judged = each_read(rt.alloc(), piece, &day)?;
         assert_eq!(rt; judged, Judged::Ended(Ok(WHOLE)), "{piece} bytes a call");
     }
     Ok(())
@@ -245,10 +257,9 @@ fn each_read_fails(rt: HostRuntime) -> Result<(), Fail> {
 
 #[test]
 fn each_write_and_flush_fails(rt: HostRuntime) -> Result<(), Fail> {
-    let frames = frames(rt.alloc())?;
-    let answers = answers(rt.alloc())?;
-    for piece in PIECES {
-        let judged = each_write(rt.alloc(), piece, &frames, &answers)?;
+    let day = Day::new(rt.alloc())?;
+    for piece in 1..=day.frames.len().saturating_add(1) {
+        let judged = each_write(rt.alloc(), piece, &day)?;
         assert_eq!(rt; judged, Judged::Ended(Ok(WHOLE)), "{piece} bytes a call");
     }
     Ok(())
@@ -256,10 +267,9 @@ fn each_write_and_flush_fails(rt: HostRuntime) -> Result<(), Fail> {
 
 #[test]
 fn the_turns_are_spent(rt: HostRuntime) -> Result<(), Fail> {
-    let frames = frames(rt.alloc())?;
-    let answers = answers(rt.alloc())?;
+    let day = Day::new(rt.alloc())?;
     for piece in [7, 64, 4096] {
-        let judged = each_turn(rt.alloc(), piece, &frames, &answers)?;
+        let judged = each_turn(rt.alloc(), piece, &day)?;
         assert_eq!(rt; judged, Judged::Ended(Ok(WHOLE)), "{piece} bytes a call");
     }
     Ok(())
@@ -270,6 +280,7 @@ fn an_answer_is_cut_and_comes_again(rt: HostRuntime) -> Result<(), Fail> {
     let alloc = rt.alloc();
     let frame = joined(alloc, &[b"0082", PURCHASE])?;
     let answer = joined(alloc, &[b"0090", GRANTED])?;
+    let table = Table::ascii87(alloc)?;
     let mut issuer = issuer(alloc)?;
     for (name, piece, fails_at, wanted, written) in [
         (
@@ -285,6 +296,7 @@ fn an_answer_is_cut_and_comes_again(rt: HostRuntime) -> Result<(), Fail> {
         let mut writer = Writer::new(alloc, piece, fails_at)?;
         let ended = served_between(
             alloc,
+            &table,
             Header::Ascii4,
             &mut issuer,
             &mut reader,

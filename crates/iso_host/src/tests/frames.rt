@@ -85,23 +85,32 @@ pub fn served_behind<R: Read + Drop, W: Write>(
     writer: &mut W,
     turns: u64,
 ) -> Result<Result<Report, ServeFault>, Fail> {
+    let table = Table::ascii87(alloc)?;
     let mut input = Std::new(reader);
     let mut output = Std::new(writer);
-    served_between(alloc, header, issuer, &mut input, &mut output, turns)
+    served_between(
+        alloc,
+        &table,
+        header,
+        issuer,
+        &mut input,
+        &mut output,
+        turns,
+    )
 }
 
 /// How serving between an inlet and an outlet ends.
 pub fn served_between<R: Inlet, W: Outlet>(
     alloc: Global,
+    table: &Table,
     header: Header,
     issuer: &mut Issuer,
     reader: &mut R,
     writer: &mut W,
     turns: u64,
 ) -> Result<Result<Report, ServeFault>, Fail> {
-    let table = Table::ascii87(alloc)?;
     table.host_ready()?;
-    Ok(serve(alloc, &table, header, issuer, reader, writer, turns))
+    Ok(serve(alloc, table, header, issuer, reader, writer, turns))
 }
 
 pub fn ledger(issuer: &Issuer) -> Result<Option<i64>, Fail> {
