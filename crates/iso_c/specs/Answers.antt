@@ -1,0 +1,30 @@
+-- What a call answers: how many bytes it wrote to the front of the caller's room, or -1 and a fault.
+use Rattle.std.specs.Prelude.{◌≡◌, ◌⊎◌, ℤ, pos, negsuc, ℕ, ◌<◌, ◌≤◌, List, length, take, drop, Result, Ok, Err}
+use Rattle.iso_c.specs.declared.fault.RumpadolFault.{RumpadolFault}
+use Rattle.iso_c.specs.Causes.{short_room}
+
+-- the room's first bytes, so many, have the property, and the others are as they were
+pub record Written (P : List ℕ → Type 0) (n : ℕ) (old new : List ℕ) : Type 0 where
+  pub fits : n ≤ length new
+  pub front : P (take n new)
+  pub behind : drop n new ≡ drop n old
+
+-- the room is as it was, and the fault has the property, or tells how many bytes with the other one are wanted
+pub record Refused (P : List ℕ → Type 0) (Q : RumpadolFault → Type 0) (old new : List ℕ) (fault : RumpadolFault) : Type 0 where
+  pub untouched : new ≡ old
+  pub reason : Q fault ⊎ ((b : List ℕ) × P b × (length old < length b) × (fault ≡ short_room (length b)))
+
+-- a length and bytes with the one property, or -1 and a fault with the other
+abbrev pub Replies : (List ℕ → Type 0) → (RumpadolFault → Type 0) → ℤ → List ℕ → List ℕ → RumpadolFault → Type 0
+Replies P Q (pos n) old new fault = Written P n old new
+Replies P Q (negsuc k) old new fault = (k ≡ 0) × Refused P Q old new fault
+
+-- the reply to a result of that view
+abbrev pub RepliesTo : Result (List ℕ) RumpadolFault → ℤ → List ℕ → List ℕ → RumpadolFault → Type 0
+RepliesTo (Ok b) n old new fault = Replies (λ w. w ≡ b) (λ f. ⊥) n old new fault
+RepliesTo (Err e) n old new fault = Replies (λ w. ⊥) (λ f. f ≡ e) n old new fault
+
+-- done, or -1
+abbrev pub Done : ℤ → Type 0 → Type 0 → Type 0
+Done (pos n) P Q = (n ≡ 0) × P
+Done (negsuc k) P Q = (k ≡ 0) × Q

@@ -1,0 +1,7 @@
+pub mod Answers
+pub mod Causes
+pub mod Handle
+pub mod Tables
+pub mod Views
+pub mod Frames
+pub mod Parts

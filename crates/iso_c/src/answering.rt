@@ -1,0 +1,52 @@
+//! Answers into the caller's room.
+
+ghost use Rattle.std.specs.Prelude.{◌≡◌, negsuc};
+ghost use Rattle.iso_c.specs.Answers.{RepliesTo};
+ghost use Rattle.iso_c.specs.Views.{bytes_of};
+
+use crate::fault::RumpadolFault;
+
+/// Leaves a fault, and answers -1.
+pub(crate) fn refuse(reason: RumpadolFault, fault: &mut RumpadolFault) -> i64
+    ensures answer { result ≡ negsuc 0 }
+    ensures fault { fault.new ≡ reason }
+{
+    *fault = reason;
+    -1
+}
+
+/// Copies the bytes to the front of the room, and answers how many they are; -1 where the room is short.
+fn give(bytes: &[u8], room: &mut [u8], fault: &mut RumpadolFault) -> i64
+    ensures { RepliesTo (Ok bytes.now) result room.old room.new fault.new }
+{
+    let short = RumpadolFault {
+        number: 4,
+        element: 0,
+        offset: bytes.len(),
+    };
+    if room.len() < bytes.len() {
+        return refuse(short, fault);
+    }
+    match i64::try_from(bytes.len()) {
+        Ok(n) => {
+            let (front, _) = room.split_at_mut(bytes.len());
+            front.copy_from_slice(bytes);
+            n
+        }
+        Err(_) => unreachable!(),
+    }
+}
+
+/// Answers what was made, or why it wasn't.
+pub(crate) fn answer(
+    made: Result<Vec<u8>, RumpadolFault>,
+    room: &mut [u8],
+    fault: &mut RumpadolFault,
+) -> i64
+    ensures { RepliesTo (bytes_of made) result room.old room.new fault.new }
+{
+    match made {
+        Ok(bytes) => give(&bytes, room, fault),
+        Err(reason) => refuse(reason, fault),
+    }
+}

@@ -1,0 +1,73 @@
+//! A message from one table to another.
+
+ghost use Rattle.std.specs.Prelude.{◌≡◌, IfOk, IfErr};
+ghost use Rattle.iso_c.specs.Answers.{Replies};
+ghost use Rattle.iso_c.specs.Tables.{Converts, IsConvertFault, ConvertsHeld, IsHeldConvertFault};
+
+use crate::answering::answer;
+use crate::fault::RumpadolFault;
+use crate::slot::RumpadolSlot;
+use iso_table::Table;
+use iso_wire::{pack, unpack};
+use std::alloc::Global;
+
+/// The plain bytes, under the second table, of the message that the bytes spell under the first.
+fn converted(
+    alloc: Global,
+    from: &Table,
+    to: &Table,
+    bytes: &[u8],
+) -> Result<Vec<u8>, RumpadolFault>
+    ensures ok { IfOk result (λ packed. Converts from.now to.now bytes.now packed.items) }
+    ensures fault { IfErr result (IsConvertFault from.now to.now bytes.now) }
+{
+    let (message, used) = unpack(alloc, from, bytes)?;
+    if used < bytes.len() {
+        return Err(RumpadolFault {
+            number: 5,
+            element: 0,
+            offset: used,
+        });
+    }
+    Ok(pack(alloc, to, &message)?)
+}
+
+/// The same under what two slots hold.
+fn converted_by(
+    alloc: Global,
+    from: &Option<Table>,
+    to: &Option<Table>,
+    bytes: &[u8],
+) -> Result<Vec<u8>, RumpadolFault>
+    ensures ok { IfOk result (λ packed. ConvertsHeld from.now to.now bytes.now packed.items) }
+    ensures fault { IfErr result (IsHeldConvertFault from.now to.now bytes.now) }
+{
+    match (from, to) {
+        (Some(from), Some(to)) => converted(alloc, from, to, bytes),
+        _ => Err(RumpadolFault::only(2)),
+    }
+}
+
+/// Writes the message that the bytes spell under the table of one slot under that of another. Answers how many bytes
+/// were written, or -1 and a fault. The slots keep their tables.
+#[unsafe(no_mangle)]
+pub extern "C" fn rumpadol_convert(
+    alloc: Global,
+    from: &mut RumpadolSlot,
+    to: &mut RumpadolSlot,
+    bytes: &[u8],
+    out: &mut [u8],
+    fault: &mut RumpadolFault,
+) -> i64
+    ensures reply { Replies (ConvertsHeld from.old.value to.old.value bytes.now)
+        (IsHeldConvertFault from.old.value to.old.value bytes.now) result out.old out.new fault.new }
+    ensures from { from.new.value ≡ from.old.value }
+    ensures to { to.new.value ≡ to.old.value }
+{
+    let first = from.replace(None);
+    let second = to.replace(None);
+    let made = converted_by(alloc, &first, &second, bytes);
+    let _ = from.replace(first);
+    let _ = to.replace(second);
+    answer(made, out, fault)
+}

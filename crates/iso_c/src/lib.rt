@@ -1,0 +1,18 @@
+//! The codec for C: tables in slots, and messages read, written, converted and described under them.
+#![tactic(auto)]
+
+mod answering;
+mod convert;
+mod fault;
+mod frame;
+mod part;
+mod slot;
+
+pub use convert::rumpadol_convert;
+pub use fault::RumpadolFault;
+pub use frame::{rumpadol_frame, rumpadol_unframe};
+pub use part::RumpadolPart;
+pub use slot::{
+    RumpadolSlot, rumpadol_slot_built_in, rumpadol_slot_clear, rumpadol_slot_from_json,
+    rumpadol_slot_init, rumpadol_slot_size,
+};

@@ -1,0 +1,138 @@
+//! A table in memory that C gives, by its address.
+
+ghost use Rattle.std.specs.Prelude.{◌≡◌, ◌≤◌, Option, Some, None, IsSomeAnd, IfOk, IfErr};
+ghost use Rattle.iso_table.specs.Layout.{Layout};
+ghost use Rattle.iso_table.specs.Document.{IsTableOf};
+ghost use Rattle.iso_c.specs.Answers.{Done};
+ghost use Rattle.iso_c.specs.Handle.{slot, slot_at};
+ghost use Rattle.iso_c.specs.Tables.{IsBuiltIn, IsBuiltInFault, IsTableFault};
+ghost use Rattle.std.specs.Ptr.{room_at};
+ghost use types.Logic.{sem};
+
+use crate::answering::refuse;
+use crate::fault::RumpadolFault;
+use iso_table::Table;
+use std::alloc::Global;
+use std::marker::Model;
+
+/// How many bytes a slot's memory has in the header.
+const SLOT_BYTES: usize = 64;
+
+/// How many of them a table or none takes.
+const TAKEN: usize = std::mem::size_of::<Option<Table>>();
+
+/// The address of memory of C's in which a table lies, or none.
+#[repr(C)]
+pub struct RumpadolSlot {
+    at: *mut u8,
+    /// The table.
+    pub ghost value: { Option Layout },
+}
+
+impl Model for RumpadolSlot {
+    ghost also_owns = { λ s. slot_at s.at s.value };
+}
+
+impl RumpadolSlot {
+    /// Puts a table or none into the slot, and gives what was there.
+    pub(crate) fn replace(&mut self, new: Option<Table>) -> Option<Table>
+        ensures { (result ≡ self.old.value) × (self.new.value ≡ new) }
+    {
+        let at = self.at as *mut Option<Table>;
+        let old = unsafe { std::ptr::read(at) };
+        unsafe { std::ptr::write(at, new) };
+        old
+    }
+}
+
+/// No table.
+fn none() -> Option<Table>
+    ensures { result ≡ None }
+{
+    None
+}
+
+/// How many bytes a slot's memory has to have. They are aligned to 8.
+#[unsafe(no_mangle)]
+pub extern "C" fn rumpadol_slot_size() -> usize
+    ensures { result ≤ 64 }
+{
+    TAKEN
+}
+
+/// Makes an empty slot of the memory at the address: room for `rumpadol_slot_size` bytes, aligned to 8.
+#[unsafe(no_mangle)]
+pub unsafe extern "C" fn rumpadol_slot_init(at: *mut u8)
+    requires* { sem 𝓛 (room_at slot at) }
+    ensures* { sem 𝓛 (slot_at at None) }
+{
+    std::ptr::write(at as *mut Option<Table>, none());
+}
+
+/// Frees the table of the slot, if it has one, and leaves the slot empty.
+#[unsafe(no_mangle)]
+pub extern "C" fn rumpadol_slot_clear(alloc: Global, slot: &mut RumpadolSlot)
+    ensures { slot.new.value ≡ None }
+{
+    let _ = slot.replace(None);
+}
+
+/// The table of a number: 0 is the 1987 table in ASCII, 1 the one in BCD.
+fn built_in(alloc: Global, name: u32) -> Result<Table, RumpadolFault>
+    ensures ok { IfOk result (IsBuiltIn name) }
+    ensures fault { IfErr result (IsBuiltInFault name) }
+{
+    match name {
+        0 => Ok(Table::ascii87(alloc)?),
+        1 => Ok(Table::bcd87(alloc)?),
+        _ => Err(RumpadolFault::only(3)),
+    }
+}
+
+/// Puts a built-in table into the slot, in place of the one that was there: 0, or -1 and a fault, and then the slot is
+/// empty.
+#[unsafe(no_mangle)]
+pub extern "C" fn rumpadol_slot_built_in(
+    alloc: Global,
+    name: u32,
+    slot: &mut RumpadolSlot,
+    fault: &mut RumpadolFault,
+) -> i64
+    ensures { Done result (IsSomeAnd slot.new.value (IsBuiltIn name))
+        ((slot.new.value ≡ None) × IsBuiltInFault name fault.new) }
+{
+    match built_in(alloc, name) {
+        Ok(table) => {
+            let _ = slot.replace(Some(table));
+            0
+        }
+        Err(reason) => {
+            let _ = slot.replace(None);
+            refuse(reason, fault)
+        }
+    }
+}
+
+/// Checks a JSON text, and puts its table into the slot, in place of the one that was there: 0, or -1 and a fault, and
+/// then the slot is empty.
+#[unsafe(no_mangle)]
+pub extern "C" fn rumpadol_slot_from_json(
+    alloc: Global,
+    json: &[u8],
+    slot: &mut RumpadolSlot,
+    fault: &mut RumpadolFault,
+) -> i64
+    ensures { Done result (IsSomeAnd slot.new.value (IsTableOf json.now))
+        ((slot.new.value ≡ None) × IsTableFault json.now fault.new) }
+{
+    match Table::from_json(alloc, json) {
+        Ok(table) => {
+            let _ = slot.replace(Some(table));
+            0
+        }
+        Err(reason) => {
+            let _ = slot.replace(None);
+            refuse(RumpadolFault::from(reason), fault)
+        }
+    }
+}
