@@ -49,9 +49,17 @@ trailing_bytes used = at_offset 5 used
 abbrev pub no_element : ℕ → RumpadolFault
 no_element n = at_element 6 n
 
--- the part at this place lies outside the values
+-- the part, which begins at the offset, lies outside the values
 abbrev pub bad_part : ℕ → ℕ → RumpadolFault
-bad_part element place = record { number = 7; element = element; offset = place }
+bad_part element start = record { number = 7; element = element; offset = start }
+
+-- no element has the number
+abbrev pub bad_number : ℕ → RumpadolFault
+bad_number n = at_element 601 n
+
+-- so many parts are wanted
+abbrev pub short_parts : ℕ → RumpadolFault
+short_parts wanted = at_offset 10 wanted
 
 abbrev pub bad_type : RumpadolFault
 bad_type = only 8
@@ -110,5 +118,5 @@ frame_fault frame.BadDigits = only 502
 frame_fault frame.Memory = no_memory
 
 abbrev pub set_fault : SetFault → RumpadolFault
-set_fault (set.BadNumber n) = at_element 601 n
+set_fault (set.BadNumber n) = bad_number n
 set_fault set.Memory = no_memory

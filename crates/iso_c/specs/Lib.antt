@@ -5,3 +5,4 @@ pub mod Tables
 pub mod Views
 pub mod Frames
 pub mod Parts
+pub mod Unpacking

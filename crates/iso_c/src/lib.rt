@@ -7,12 +7,14 @@ mod fault;
 mod frame;
 mod part;
 mod slot;
+mod unpack;
 
 pub use convert::rumpadol_convert;
 pub use fault::RumpadolFault;
 pub use frame::{rumpadol_frame, rumpadol_unframe};
-pub use part::RumpadolPart;
+pub use part::{RumpadolMessage, RumpadolPart};
 pub use slot::{
     RumpadolSlot, rumpadol_slot_built_in, rumpadol_slot_clear, rumpadol_slot_from_json,
     rumpadol_slot_init, rumpadol_slot_size,
 };
+pub use unpack::rumpadol_unpack;

@@ -11,3 +11,15 @@ pub struct RumpadolPart {
     /// How many bytes there are.
     pub length: usize,
 }
+
+/// What a message is besides its elements.
+#[repr(C)]
+#[derive(Clone, Copy, Debug, PartialEq, Eq)]
+pub struct RumpadolMessage {
+    /// Its type: the number of four digits.
+    pub mti: u32,
+    /// How many parts it has.
+    pub parts: usize,
+    /// How many bytes its values have.
+    pub values: usize,
+}

@@ -1,0 +1,61 @@
+-- What is found is what is given.
+use Rattle.std.proofs.Common.{◌≡◌, ℕ, ◌≤◌, ℤ, pos, negsuc, List, [], ◌++◌, length, take, drop, Option, Some, None, Result, Ok, Err, refl, sym, ap, subst, ◌∙◌}
+use Rattle.std.proofs.lemmas.List.{take-append-drop}
+use Rattle.iso_table.specs.Layout.{Layout}
+use Rattle.iso_wire.specs.declared.fault.UnpackFault.{UnpackFault}
+use Rattle.iso_wire.specs.Contents.{Contents}
+use Rattle.iso_wire.specs.Reading.{message_at}
+use Rattle.iso_wire.specs.Spelling.{BeginsWith}
+use Rattle.iso_c.specs.declared.fault.RumpadolFault.{RumpadolFault}
+use Rattle.iso_c.specs.declared.part.RumpadolPart.{RumpadolPart}
+use Rattle.iso_c.specs.declared.part.RumpadolMessage.{RumpadolMessage}
+use Rattle.iso_c.specs.declared.unpack.Found.{Found}
+use Rattle.iso_c.specs.Parts.{elements_in, parts_from, values_of}
+use Rattle.iso_c.specs.Unpacking.{IsFound, IsFoundHeld, IsReadFaultHeld, Unpacked, Kept, Unpacks, Gives, GivesFound, read_fault, given_fault, room_fault}
+use Rattle.iso_c.proofs.Spreads.{Values, told, length_parts}
+
+pub within : (t : Option Layout) (b : List ℕ) (found : Found) → IsFoundHeld t b found → found.used ≤ length b
+within (Some t) b found is = is.begins.0
+within None b found is = absurd is
+
+unpacked : (t : Layout) (b : List ℕ) (found : Found) (used : ℕ) (new : RumpadolMessage) (parts : List RumpadolPart) (values : List ℕ)
+    → IsFound t b found → GivesFound found used new parts values → Unpacked t b used new parts values
+unpacked t b found used new parts values is gives =
+    let es : Values = is.m.elements in
+    let k : ℕ = length found.parts.items in
+    let n : ℕ = length found.values.items in
+    let parts_are : take k parts ≡ parts_from 0 es = gives.parts_are ∙ is.parts in
+    let values_are : take n values ≡ values_of es = gives.values_are ∙ is.values in
+    let split : values ≡ values_of es ++ drop n values = sym (take-append-drop n values) ∙ ap (λ (l : List ℕ). l ++ drop n values) values_are in
+    subst (λ (m : RumpadolMessage). Unpacked t b used m parts values) (sym gives.message) (record {
+      m = is.m;
+      begins = subst (λ (u : ℕ). BeginsWith t is.m u b) (sym gives.used_is) is.begins;
+      mti = is.mti;
+      few = gives.few;
+      room = gives.room;
+      parts_are = parts_are;
+      values_are = values_are;
+      lies = ap (elements_in values) parts_are ∙ ap (λ (l : List ℕ). elements_in l (parts_from 0 es)) split ∙ told [] es (drop n values);
+    })
+
+pub given : (t : Option Layout) (b : List ℕ) (found : Found) (z : ℤ) (old new : RumpadolMessage) (parts_old parts : List RumpadolPart) (values_old values : List ℕ) (f : RumpadolFault)
+    → IsFoundHeld t b found → Gives found z old new parts_old parts values_old values f → Unpacks t b z old new parts_old parts values_old values f
+given None b found z old new parts_old parts values_old values f is gives = absurd is
+given (Some t) b found (pos used) old new parts_old parts values_old values f is gives = unpacked t b found used new parts values is gives
+given (Some t) b found (negsuc k) old new parts_old parts values_old values f is gives =
+    let places : ℕ = length parts_old in
+    let room : ℕ = length values_old in
+    let many : length found.parts.items ≡ length is.m.elements = ap length is.parts ∙ length_parts 0 is.m.elements in
+    (gives.0, gives.1, λ ne. ap (λ (r : Result (Contents × ℕ) UnpackFault). given_fault r places room) is.read
+    ∙ sym (ap (λ (n : ℕ). room_fault n (length (values_of is.m.elements)) places room) many)
+    ∙ sym (ap (λ (l : List ℕ). room_fault (length found.parts.items) (length l) places room) is.values) ∙ gives.2)
+
+given_by : (r : Result (Contents × ℕ) UnpackFault) (places room : ℕ) (f : RumpadolFault) → read_fault r ≡ Some f → given_fault r places room ≡ Some f
+given_by (Ok x) places room f h = absurd cc
+given_by (Err e) places room f h = h
+
+pub not_read : (t : Option Layout) (b : List ℕ) (message : RumpadolMessage) (parts : List RumpadolPart) (values : List ℕ) (f : RumpadolFault)
+    → IsReadFaultHeld t b f → Unpacks t b (negsuc 0) message message parts parts values values f
+not_read (Some t) b message parts values f is =
+    (refl, record { message = refl; parts_kept = refl; values_kept = refl }, λ ne. given_by (message_at t b) (length parts) (length values) f (is ne))
+not_read None b message parts values f is = (refl, record { message = refl; parts_kept = refl; values_kept = refl }, is)

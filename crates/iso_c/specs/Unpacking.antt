@@ -1,0 +1,97 @@
+-- A message that is read into the caller's room.
+use Rattle.std.specs.Prelude.{◌≡◌, ◌≢◌, ℕ, ℤ, pos, negsuc, ◌≤◌, nat_lt, if◌then◌else◌, List, length, take, Option, Some, None, Result, Ok, Err}
+use Rattle.iso_table.specs.Layout.{Layout}
+use Rattle.iso_wire.specs.declared.fault.UnpackFault.{UnpackFault}
+use Rattle.iso_wire.specs.Contents.{Contents}
+use Rattle.iso_wire.specs.Reading.{message_at, whole}
+use Rattle.iso_wire.specs.Spelling.{BeginsWith}
+use Rattle.iso_c.specs.declared.fault.RumpadolFault.{RumpadolFault}
+use Rattle.iso_c.specs.declared.part.RumpadolPart.{RumpadolPart}
+use Rattle.iso_c.specs.declared.part.RumpadolMessage.{RumpadolMessage}
+use Rattle.iso_c.specs.declared.unpack.Found.{Found}
+use Rattle.iso_c.specs.Causes.{no_memory, empty_slot, short_parts, short_room, unpack_fault}
+use Rattle.iso_c.specs.Parts.{elements_in, parts_from, values_of}
+
+-- why bytes aren't read, unless memory ran out
+abbrev pub read_fault : {A : Type 0} → Result A UnpackFault → Option RumpadolFault
+read_fault (Ok x) = None
+read_fault (Err e) = Some (unpack_fault e)
+
+abbrev pub IsReadFault : Layout → List ℕ → RumpadolFault → Type 0
+IsReadFault t b f = f ≢ no_memory → read_fault (message_at t b) ≡ Some f
+
+-- ---- what is found before it is given
+
+-- the message that the bytes begin with, with its values end to end and their parts
+pub record IsFound (t : Layout) (b : List ℕ) (found : Found) : Type 0 where
+  pub m : Contents
+  pub begins : BeginsWith t m found.used b
+  pub read : message_at t b ≡ whole m found.used
+  pub mti : found.mti ≡ m.mti
+  pub parts : found.parts.items ≡ parts_from 0 m.elements
+  pub values : found.values.items ≡ values_of m.elements
+
+abbrev pub IsFoundHeld : Option Layout → List ℕ → Found → Type 0
+IsFoundHeld (Some t) b found = IsFound t b found
+IsFoundHeld None b found = ⊥
+
+abbrev pub IsReadFaultHeld : Option Layout → List ℕ → RumpadolFault → Type 0
+IsReadFaultHeld (Some t) b f = IsReadFault t b f
+IsReadFaultHeld None b f = f ≡ empty_slot
+
+-- ---- what is given
+
+-- the rooms begin with the parts and the values of the message, whose first bytes are so many
+pub record Unpacked (t : Layout) (b : List ℕ) (used : ℕ) (told : RumpadolMessage) (parts : List RumpadolPart) (values : List ℕ) : Type 0 where
+  pub m : Contents
+  pub begins : BeginsWith t m used b
+  pub mti : told.mti ≡ m.mti
+  pub few : told.parts ≤ length parts
+  pub room : told.values ≤ length values
+  pub parts_are : take told.parts parts ≡ parts_from 0 m.elements
+  pub values_are : take told.values values ≡ values_of m.elements
+  -- each part tells where its element's value lies
+  pub lies : elements_in values (take told.parts parts) ≡ m.elements
+
+-- the rooms as they were
+pub record Kept (old new : RumpadolMessage) (parts_old parts : List RumpadolPart) (values_old values : List ℕ) : Type 0 where
+  pub message : new ≡ old
+  pub parts_kept : parts ≡ parts_old
+  pub values_kept : values ≡ values_old
+
+-- why so many parts and bytes aren't given: more are wanted than there are places, or than there is room
+abbrev pub room_fault : ℕ → ℕ → ℕ → ℕ → Option RumpadolFault
+room_fault parts bytes places room =
+    if nat_lt places parts then Some (short_parts parts) else if nat_lt room bytes then Some (short_room bytes) else None
+
+abbrev pub given_fault : Result (Contents × ℕ) UnpackFault → ℕ → ℕ → Option RumpadolFault
+given_fault (Ok x) places room = room_fault (length x.0.elements) (length (values_of x.0.elements)) places room
+given_fault (Err e) places room = Some (unpack_fault e)
+
+abbrev pub IsGivenFault : Option Layout → List ℕ → ℕ → ℕ → RumpadolFault → Type 0
+IsGivenFault (Some t) b places room f = f ≢ no_memory → given_fault (message_at t b) places room ≡ Some f
+IsGivenFault None b places room f = f ≡ empty_slot
+
+abbrev pub UnpackedHeld : Option Layout → List ℕ → ℕ → RumpadolMessage → List RumpadolPart → List ℕ → Type 0
+UnpackedHeld (Some t) b used told parts values = Unpacked t b used told parts values
+UnpackedHeld None b used told parts values = ⊥
+
+-- how many bytes the message takes, or -1 and the first fault
+abbrev pub Unpacks : Option Layout → List ℕ → ℤ → RumpadolMessage → RumpadolMessage → List RumpadolPart → List RumpadolPart → List ℕ → List ℕ → RumpadolFault → Type 0
+Unpacks t b (pos used) old new parts_old parts values_old values f = UnpackedHeld t b used new parts values
+Unpacks t b (negsuc k) old new parts_old parts values_old values f =
+    (k ≡ 0) × Kept old new parts_old parts values_old values × IsGivenFault t b (length parts_old) (length values_old) f
+
+-- what was found is given where there is room
+pub record GivesFound (found : Found) (used : ℕ) (told : RumpadolMessage) (parts : List RumpadolPart) (values : List ℕ) : Type 0 where
+  pub used_is : used ≡ found.used
+  pub message : told ≡ record { mti = found.mti; parts = length found.parts.items; values = length found.values.items }
+  pub few : length found.parts.items ≤ length parts
+  pub room : length found.values.items ≤ length values
+  pub parts_are : take (length found.parts.items) parts ≡ found.parts.items
+  pub values_are : take (length found.values.items) values ≡ found.values.items
+
+abbrev pub Gives : Found → ℤ → RumpadolMessage → RumpadolMessage → List RumpadolPart → List RumpadolPart → List ℕ → List ℕ → RumpadolFault → Type 0
+Gives found (pos used) old new parts_old parts values_old values f = GivesFound found used new parts values
+Gives found (negsuc k) old new parts_old parts values_old values f =
+    (k ≡ 0) × Kept old new parts_old parts values_old values × (room_fault (length found.parts.items) (length found.values.items) (length parts_old) (length values_old) ≡ Some f)

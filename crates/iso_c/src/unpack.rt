@@ -1,0 +1,153 @@
+//! A message from bytes into the caller's room.
+
+ghost use Rattle.std.specs.Prelude.{◌≡◌, ◌≤◌, [], ◌∷◌, ◌++◌, length, OnOk, IfOk, IfErr};
+ghost use Rattle.iso_wire.specs.Elements.{IsAscending};
+ghost use Rattle.iso_c.specs.Parts.{part_of, parts_from, values_of};
+ghost use Rattle.iso_c.specs.Unpacking.{IsFound, IsReadFault, IsFoundHeld, IsReadFaultHeld, Unpacks, Gives};
+
+use crate::answering::refuse;
+use crate::fault::RumpadolFault;
+use crate::part::{RumpadolMessage, RumpadolPart};
+use crate::slot::RumpadolSlot;
+use iso_table::Table;
+use iso_wire::laws::well_formed;
+use iso_wire::{Message, unpack};
+use std::alloc::{AllocError, Global};
+
+/// A message that was read: its values end to end, and where each lies.
+#[derive(Debug, Drop)]
+pub struct Found {
+    mti: u16,
+    used: usize,
+    parts: Vec<RumpadolPart>,
+    values: Vec<u8>,
+}
+
+/// Adds a value behind the others, and its part.
+fn add(
+    n: u8,
+    value: &[u8],
+    parts: &mut Vec<RumpadolPart>,
+    values: &mut Vec<u8>,
+) -> Result<(), AllocError>
+    ensures parts { OnOk result (parts.new.items ≡ parts.old.items ++ part_of n (length values.old.items) (length value.now) ∷ []) }
+    ensures values { OnOk result (values.new.items ≡ values.old.items ++ value.now) }
+{
+    parts.push(RumpadolPart {
+        element: u32::from(n),
+        start: values.len(),
+        length: value.len(),
+    })?;
+    values.extend_from_slice(value)
+}
+
+/// Appends the values of a message, and their parts.
+pub(crate) fn spread(
+    message: &Message,
+    parts: &mut Vec<RumpadolPart>,
+    values: &mut Vec<u8>,
+) -> Result<(), AllocError>
+    requires parts { parts.old.items ≡ [] }
+    requires values { values.old.items ≡ [] }
+    ensures parts { OnOk result (parts.new.items ≡ parts_from 0 message.now.elements) }
+    ensures values { OnOk result (values.new.items ≡ values_of message.now.elements) }
+{
+    well_formed(message);
+    for n in 2..129 {
+        if let Some(value) = message.get(n) {
+            add(n, value, parts, values)?;
+        }
+    }
+    Ok(())
+}
+
+/// The message that the bytes begin with.
+pub(crate) fn found_under(alloc: Global, table: &Table, bytes: &[u8]) -> Result<Found, RumpadolFault>
+    ensures ok { IfOk result (IsFound table.now bytes.now) }
+    ensures fault { IfErr result (IsReadFault table.now bytes.now) }
+{
+    let (message, used) = unpack(alloc, table, bytes)?;
+    let mut parts = Vec::new(alloc);
+    let mut values = Vec::new(alloc);
+    spread(&message, &mut parts, &mut values)?;
+    Ok(Found {
+        mti: message.mti().number(),
+        used,
+        parts,
+        values,
+    })
+}
+
+/// The same under what a slot holds.
+fn found_by(alloc: Global, table: &Option<Table>, bytes: &[u8]) -> Result<Found, RumpadolFault>
+    ensures ok { IfOk result (IsFoundHeld table.now bytes.now) }
+    ensures fault { IfErr result (IsReadFaultHeld table.now bytes.now) }
+{
+    match table {
+        Some(table) => found_under(alloc, table, bytes),
+        None => Err(RumpadolFault::only(2)),
+    }
+}
+
+/// Gives what was found where there is room, and answers how many bytes the message takes.
+fn give(
+    found: &Found,
+    bytes: &[u8],
+    message: &mut RumpadolMessage,
+    parts: &mut [RumpadolPart],
+    values: &mut [u8],
+    fault: &mut RumpadolFault,
+) -> i64
+    requires { found.now.used ≤ length bytes.now }
+    ensures { Gives found.now result message.old message.new parts.old parts.new values.old values.new fault.new }
+{
+    let short = |number: u32, offset: usize| RumpadolFault {
+        number,
+        element: 0,
+        offset,
+    };
+    if parts.len() < found.parts.len() {
+        return refuse(short(10, found.parts.len()), fault);
+    }
+    if values.len() < found.values.len() {
+        return refuse(short(4, found.values.len()), fault);
+    }
+    let (places, _) = parts.split_at_mut(found.parts.len());
+    places.copy_from_slice(&found.parts);
+    let (room, _) = values.split_at_mut(found.values.len());
+    room.copy_from_slice(&found.values);
+    *message = RumpadolMessage {
+        mti: u32::from(found.mti),
+        parts: found.parts.len(),
+        values: found.values.len(),
+    };
+    let (taken, _) = bytes.split_at(found.used);
+    match i64::try_from(taken.len()) {
+        Ok(n) => n,
+        Err(_) => unreachable!(),
+    }
+}
+
+/// Reads the message that the bytes begin with under the table of a slot: its values end to end into the room, and
+/// where each lies into the parts. Answers how many bytes the message takes, or -1 and a fault.
+#[unsafe(no_mangle)]
+pub extern "C" fn rumpadol_unpack(
+    alloc: Global,
+    slot: &mut RumpadolSlot,
+    bytes: &[u8],
+    message: &mut RumpadolMessage,
+    parts: &mut [RumpadolPart],
+    values: &mut [u8],
+    fault: &mut RumpadolFault,
+) -> i64
+    ensures reply { Unpacks slot.old.value bytes.now result message.old message.new parts.old parts.new values.old values.new fault.new }
+    ensures slot { slot.new.value ≡ slot.old.value }
+{
+    let table = slot.replace(None);
+    let made = found_by(alloc, &table, bytes);
+    let _ = slot.replace(table);
+    match made {
+        Ok(found) => give(&found, bytes, message, parts, values, fault),
+        Err(reason) => refuse(reason, fault),
+    }
+}
