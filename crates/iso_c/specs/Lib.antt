@@ -6,3 +6,5 @@ pub mod Views
 pub mod Frames
 pub mod Parts
 pub mod Unpacking
+pub mod Packing
+pub mod Names

@@ -7,13 +7,13 @@ use Rattle.iso_table.specs.Layout.{Layout}
 use Rattle.iso_table.specs.Document.{IsNotJson, IsFaultOf}
 use Rattle.iso_table.specs.Edition87.{IsEdition87}
 use Rattle.iso_wire.specs.declared.fault.UnpackFault.{UnpackFault}
-use Rattle.iso_wire.specs.declared.fault.PackFault.{PackFault}
 use Rattle.iso_wire.specs.Contents.{Contents}
 use Rattle.iso_wire.specs.Reading.{message_at}
 use Rattle.iso_wire.specs.Refusal.{message_refusal}
 use Rattle.iso_wire.specs.Spelling.{Spelling, PlainSpelling}
 use Rattle.iso_c.specs.declared.fault.RumpadolFault.{RumpadolFault}
-use Rattle.iso_c.specs.Causes.{no_memory, no_such_table, empty_slot, trailing_bytes, table_fault, unpack_fault, pack_fault}
+use Rattle.iso_c.specs.Packing.{pack_refusal}
+use Rattle.iso_c.specs.Causes.{no_memory, no_such_table, empty_slot, trailing_bytes, table_fault, unpack_fault}
 
 -- 0 names the 1987 table in ASCII, 1 the one in BCD
 abbrev pub IsBuiltIn : ℕ → Layout → Type 0
@@ -36,11 +36,7 @@ IsTableFault text f = (e : TableFault) × (f ≡ table_fault e) × IsTextFault t
 abbrev pub Converts : Layout → Layout → List ℕ → List ℕ → Type 0
 Converts f t all b = (m : Contents) × Spelling f m all × PlainSpelling t m b
 
--- why a message of so many bytes isn't written under a table
-abbrev pub pack_refusal : Option PackFault → Option RumpadolFault
-pack_refusal None = None
-pack_refusal (Some e) = Some (pack_fault e)
-
+-- why what was read isn't written under a table
 abbrev pub read_refusal : Layout → List ℕ → Result (Contents × ℕ) UnpackFault → Option RumpadolFault
 read_refusal t all (Err e) = Some (unpack_fault e)
 read_refusal t all (Ok x) =

@@ -16,7 +16,7 @@ pub(crate) fn refuse(reason: RumpadolFault, fault: &mut RumpadolFault) -> i64
 }
 
 /// Copies the bytes to the front of the room, and answers how many they are; -1 where the room is short.
-fn give(bytes: &[u8], room: &mut [u8], fault: &mut RumpadolFault) -> i64
+pub(crate) fn give(bytes: &[u8], room: &mut [u8], fault: &mut RumpadolFault) -> i64
     ensures { RepliesTo (Ok bytes.now) result room.old room.new fault.new }
 {
     let short = RumpadolFault {

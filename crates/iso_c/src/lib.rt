@@ -5,6 +5,8 @@ mod answering;
 mod convert;
 mod fault;
 mod frame;
+mod names;
+mod pack;
 mod part;
 mod slot;
 mod unpack;
@@ -12,6 +14,8 @@ mod unpack;
 pub use convert::rumpadol_convert;
 pub use fault::RumpadolFault;
 pub use frame::{rumpadol_frame, rumpadol_unframe};
+pub use names::rumpadol_fault_name;
+pub use pack::rumpadol_pack;
 pub use part::{RumpadolMessage, RumpadolPart};
 pub use slot::{
     RumpadolSlot, rumpadol_slot_built_in, rumpadol_slot_clear, rumpadol_slot_from_json,

@@ -1,0 +1,51 @@
+-- A message that is written from parts and values.
+use Rattle.std.specs.Prelude.{◌≡◌, ◌≢◌, ℕ, nat_le, if◌then◌else◌, List, [], length, Option, Some, None, Result, Ok, Err}
+use Rattle.iso_table.specs.Layout.{Layout}
+use Rattle.iso_wire.specs.declared.fault.PackFault.{PackFault}
+use Rattle.iso_wire.specs.Contents.{Contents}
+use Rattle.iso_wire.specs.Refusal.{message_refusal}
+use Rattle.iso_wire.specs.Spelling.{PlainSpelling}
+use Rattle.iso_c.specs.declared.fault.RumpadolFault.{RumpadolFault}
+use Rattle.iso_c.specs.declared.part.RumpadolPart.{RumpadolPart}
+use Rattle.iso_c.specs.Causes.{no_memory, empty_slot, bad_type, pack_fault}
+use Rattle.iso_c.specs.Parts.{gathered}
+
+-- a message that is refused by its table
+abbrev pub pack_refusal : Option PackFault → Option RumpadolFault
+pack_refusal None = None
+pack_refusal (Some e) = Some (pack_fault e)
+
+-- ---- a message of a type, with the elements that parts tell of
+
+abbrev pub message_by : ℕ → Result (List (ℕ × List ℕ)) RumpadolFault → Result Contents RumpadolFault
+message_by mti (Ok es) = Ok (record { mti = mti; elements = es })
+message_by mti (Err f) = Err f
+
+-- a type of four digits, and then the parts in their order
+abbrev pub message_of : ℕ → List RumpadolPart → List ℕ → Result Contents RumpadolFault
+message_of mti parts values = if nat_le mti 9999 then message_by mti (gathered values parts []) else Err bad_type
+
+abbrev pub IsMessageFault : ℕ → List RumpadolPart → List ℕ → RumpadolFault → Type 0
+IsMessageFault mti parts values f = f ≢ no_memory → message_of mti parts values ≡ Err f
+
+-- ---- its bytes
+
+-- the plain spelling of that message
+abbrev pub Packs : Layout → Result Contents RumpadolFault → List ℕ → Type 0
+Packs t made b = (m : Contents) × (made ≡ Ok m) × PlainSpelling t m b
+
+abbrev pub packing_refusal : Layout → Result Contents RumpadolFault → Option RumpadolFault
+packing_refusal t (Ok m) = pack_refusal (message_refusal t m)
+packing_refusal t (Err f) = Some f
+
+-- the type, a part or the table refuses it, unless memory ran out
+abbrev pub IsPackingFault : Layout → Result Contents RumpadolFault → RumpadolFault → Type 0
+IsPackingFault t made f = f ≢ no_memory → packing_refusal t made ≡ Some f
+
+abbrev pub PacksHeld : Option Layout → Result Contents RumpadolFault → List ℕ → Type 0
+PacksHeld (Some t) made b = Packs t made b
+PacksHeld None made b = ⊥
+
+abbrev pub IsPackingFaultHeld : Option Layout → Result Contents RumpadolFault → RumpadolFault → Type 0
+IsPackingFaultHeld (Some t) made f = IsPackingFault t made f
+IsPackingFaultHeld None made f = f ≡ empty_slot
