@@ -8,3 +8,4 @@ pub mod Parts
 pub mod Unpacking
 pub mod Packing
 pub mod Names
+pub mod Describing

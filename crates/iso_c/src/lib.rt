@@ -3,6 +3,7 @@
 
 mod answering;
 mod convert;
+mod describe;
 mod fault;
 mod frame;
 mod names;
@@ -10,8 +11,10 @@ mod pack;
 mod part;
 mod slot;
 mod unpack;
+mod words;
 
 pub use convert::rumpadol_convert;
+pub use describe::rumpadol_describe;
 pub use fault::RumpadolFault;
 pub use frame::{rumpadol_frame, rumpadol_unframe};
 pub use names::rumpadol_fault_name;
