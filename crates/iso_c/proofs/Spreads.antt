@@ -5,18 +5,14 @@ use Rattle.std.proofs.lemmas.Bool.Decides.{nat_tests}
 use Rattle.std.proofs.lemmas.List.{append-nil, length-append, drop_at, take_at}
 use Rattle.iso_wire.specs.Elements.{value_in, IsAscending}
 use Rattle.iso_c.specs.declared.part.RumpadolPart.{RumpadolPart}
-use Rattle.iso_c.specs.Parts.{bytes_in, elements_in, values_of, part_of, parts_from}
+use Rattle.iso_c.specs.Parts.{bytes_in, elements_in, from_number, values_of, part_of, parts_from}
 
 abbrev pub Values : Type 0
 Values = List (ℕ × List ℕ)
 
 -- ---- the elements from a number on
 
-abbrev pub from_number : ℕ → Values → Values
-from_number n [] = []
-from_number n (e ∷ es) = cond (ltb e.0 n) (from_number n es) (e ∷ es)
-
-some_is : (v w : List ℕ) → Some v ≡ Some w → v ≡ w
+pub some_is : (v w : List ℕ) → Some v ≡ Some w → v ≡ w
 some_is v w e = cc
 
 from_all_by : (t : Bool) (low : ℕ) (e : ℕ × List ℕ) (es : Values) → ltb e.0 low ≡ t → low ≤ e.0 → cond t (from_number low es) (e ∷ es) ≡ e ∷ es
@@ -32,7 +28,7 @@ none_below_by : (u : Bool) (n : ℕ) (e : ℕ × List ℕ) (es : Values) → eqb
 none_below_by true n e es h lt none = absurd (let same : e.0 ≡ n = eqb-true e.0 n h in omega (arith, same, lt))
 none_below_by false n e es h lt none = none
 
-none_below : (low n : ℕ) (es : Values) → IsAscending low es → n < low → value_in es n ≡ None
+pub none_below : (low n : ℕ) (es : Values) → IsAscending low es → n < low → value_in es n ≡ None
 none_below low n [] asc lt = refl
 none_below low n (e ∷ es) asc lt =
     let over : n < e.0 = omega (arith, asc.0, lt) in

@@ -9,3 +9,4 @@ pub mod Unpacking
 pub mod Packing
 pub mod Names
 pub mod Describing
+pub mod Viewing

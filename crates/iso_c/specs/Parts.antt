@@ -16,6 +16,11 @@ element_in b p = (p.element, bytes_in b p)
 abbrev pub elements_in : List ℕ → List RumpadolPart → List (ℕ × List ℕ)
 elements_in b ps = map (element_in b) ps
 
+-- the elements from a number on, of elements in ascending order
+abbrev pub from_number : ℕ → List (ℕ × List ℕ) → List (ℕ × List ℕ)
+from_number n [] = []
+from_number n (e ∷ es) = if nat_lt e.0 n then from_number n es else e ∷ es
+
 -- ---- values that lie end to end
 
 abbrev pub values_of : List (ℕ × List ℕ) → List ℕ

@@ -11,6 +11,7 @@ mod pack;
 mod part;
 mod slot;
 mod unpack;
+mod view;
 mod words;
 
 pub use convert::rumpadol_convert;
@@ -25,3 +26,4 @@ pub use slot::{
     rumpadol_slot_init, rumpadol_slot_size,
 };
 pub use unpack::rumpadol_unpack;
+pub use view::rumpadol_view;

@@ -1,7 +1,8 @@
 use Rattle.std.proofs.Common.{◌≡◌, ◌+◌, ◌++◌, List, ℕ, sym, ap, subst, ◌∙◌, append_assoc, arith}
 use Rattle.std.proofs.lemmas.List.{append-nil}
 use Rattle.iso_c.specs.Describing.{element_line, element_lines}
-use Rattle.iso_c.proofs.Spreads.{Values, from_number, from_all, from_found, from_missing, from_end}
+use Rattle.iso_c.specs.Parts.{from_number}
+use Rattle.iso_c.proofs.Spreads.{Values, from_all, from_found, from_missing, from_end}
 use Rattle.iso_c.proofs.describe.push_elements.Goals.{in-Some+in_ok-push_element, in_default}
 use Rattle.iso_c.proofs.describe.push_elements.Goals as goal
 

@@ -1,6 +1,6 @@
 use Rattle.std.proofs.Common.{◌≡◌, ◌++◌}
 use Rattle.iso_c.specs.Describing.{element_lines}
-use Rattle.iso_c.proofs.Spreads.{from_number}
+use Rattle.iso_c.specs.Parts.{from_number}
 use Rattle.iso_c.proofs.describe.push_elements.Given as goal
 
 -- the lines so far, and then those of the elements from the number on

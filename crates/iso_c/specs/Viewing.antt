@@ -1,0 +1,44 @@
+-- The body of an element, left where it lies.
+use Rattle.std.specs.Prelude.{◌≡◌, ℕ, ℤ, pos, negsuc, ◌+◌, ◌≤◌, if◌then◌else◌, List, [], ◌∷◌, length, Option, Some, None, Result, Ok, Err}
+use Rattle.iso_parts.specs.declared.spec.FieldSpec.{FieldSpec}
+use Rattle.iso_table.specs.Layout.{Layout, row_at}
+use Rattle.iso_wire.specs.declared.fault.UnpackFault.{UnpackFault}
+use Rattle.iso_wire.specs.Contents.{Contents}
+use Rattle.iso_wire.specs.Elements.{has, value_in}
+use Rattle.iso_wire.specs.Reading.{message_at}
+use Rattle.iso_wire.specs.Viewing.{Viewed, IsViewed, front_of}
+use Rattle.iso_c.specs.declared.fault.RumpadolFault.{RumpadolFault}
+use Rattle.iso_c.specs.declared.part.RumpadolPart.{RumpadolPart}
+use Rattle.iso_c.specs.Causes.{empty_slot, no_element, unpack_fault}
+use Rattle.iso_c.specs.Parts.{bytes_in}
+
+-- how many bytes the parts take whose bodies these are
+abbrev pub sizes_of : List (Option FieldSpec) → List (ℕ × List ℕ) → ℕ
+sizes_of rows [] = 0
+sizes_of rows (w ∷ ws) = (front_of (row_at rows w.0) + length w.1) + sizes_of rows ws
+
+-- the body of element n of the message that the bytes begin with lies there
+abbrev pub IsBodyAt : Layout → List ℕ → ℕ → RumpadolPart → Type 0
+IsBodyAt t b n p =
+    (v : Viewed) × IsViewed t v b × (p.element ≡ n) × (p.start + p.length ≤ v.used) × (value_in v.wires n ≡ Some (bytes_in b p)) × (length (bytes_in b p) ≡ p.length)
+
+-- the bytes begin with no message, or with one that doesn't have the element
+abbrev pub body_fault : ℕ → Result (Contents × ℕ) UnpackFault → Option RumpadolFault
+body_fault n (Err e) = Some (unpack_fault e)
+body_fault n (Ok x) = if has x.0.elements n then None else Some (no_element n)
+
+abbrev pub IsBodyFault : Layout → List ℕ → ℕ → RumpadolFault → Type 0
+IsBodyFault t b n f = body_fault n (message_at t b) ≡ Some f
+
+abbrev pub IsBodyAtHeld : Option Layout → List ℕ → ℕ → RumpadolPart → Type 0
+IsBodyAtHeld (Some t) b n p = IsBodyAt t b n p
+IsBodyAtHeld None b n p = ⊥
+
+abbrev pub IsBodyFaultHeld : Option Layout → List ℕ → ℕ → RumpadolFault → Type 0
+IsBodyFaultHeld (Some t) b n f = IsBodyFault t b n f
+IsBodyFaultHeld None b n f = f ≡ empty_slot
+
+-- the length of the body, and where it lies; or -1 and the fault
+abbrev pub ViewsBody : Option Layout → List ℕ → ℕ → ℤ → RumpadolPart → RumpadolPart → RumpadolFault → Type 0
+ViewsBody t b n (pos size) old new f = IsBodyAtHeld t b n new × (size ≡ new.length)
+ViewsBody t b n (negsuc k) old new f = (k ≡ 0) × (new ≡ old) × IsBodyFaultHeld t b n f

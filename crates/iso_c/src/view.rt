@@ -1,0 +1,126 @@
+//! The body of an element, left where it lies.
+
+ghost use Rattle.std.specs.Prelude.{◌≡◌, ◌+◌, ◌≤◌, ℕ, length, IfOk, IfErr};
+ghost use Rattle.iso_table.specs.Layout.{row_at};
+ghost use Rattle.iso_wire.specs.Elements.{IsAscending};
+ghost use Rattle.iso_wire.specs.Viewing.{front_of};
+ghost use Rattle.iso_c.specs.Causes.{no_element};
+ghost use Rattle.iso_c.specs.Parts.{from_number};
+ghost use Rattle.iso_c.specs.Viewing.{sizes_of, IsBodyAt, IsBodyFault, IsBodyAtHeld, IsBodyFaultHeld, ViewsBody};
+
+use crate::answering::refuse;
+use crate::fault::RumpadolFault;
+use crate::part::RumpadolPart;
+use crate::slot::RumpadolSlot;
+use iso_table::Table;
+use iso_wire::{View, view};
+
+/// How many bytes an element's length takes.
+fn front_size(table: &Table, n: u8) -> usize
+    ensures { result ≡ front_of (row_at table.now.rows n) }
+{
+    match table.row(n) {
+        Some(row) => row.length.prefix_size(),
+        None => 0,
+    }
+}
+
+/// How many bytes the parts behind an element take, which are no more than the last number.
+fn size_behind(table: &Table, view: &View<'_>, n: u8, most: usize) -> usize
+    requires number { n ≤ 128 }
+    requires ascending { IsAscending 2 view.now.wires }
+    requires fits { sizes_of table.now.rows (from_number (n + 1) view.now.wires) ≤ most }
+    ensures { result ≡ sizes_of table.now.rows (from_number (n + 1) view.now.wires) }
+{
+    let mut size = 0;
+    for k in n + 1..129 {
+        if let Some(wire) = view.wire(k) {
+            size += front_size(table, k) + wire.len();
+        }
+    }
+    size
+}
+
+/// A fault of an element that the message doesn't have.
+fn missing(n: u32) -> RumpadolFault
+    ensures { result ≡ no_element n }
+{
+    RumpadolFault {
+        number: 6,
+        element: n,
+        offset: 0,
+    }
+}
+
+/// Where the body of an element lies in the bytes.
+fn body_at(table: &Table, bytes: &[u8], n: u8) -> Result<RumpadolPart, RumpadolFault>
+    requires { n ≤ 128 }
+    ensures ok { IfOk result (IsBodyAt table.now bytes.now n) }
+    ensures fault { IfErr result (IsBodyFault table.now bytes.now n) }
+{
+    let viewed = view(table, bytes)?;
+    let Some(wire) = viewed.wire(n) else {
+        return Err(missing(u32::from(n)));
+    };
+    let behind = size_behind(table, &viewed, n, viewed.used());
+    Ok(RumpadolPart {
+        element: u32::from(n),
+        start: viewed.used() - behind - wire.len(),
+        length: wire.len(),
+    })
+}
+
+/// The same of an element of any number.
+fn body_of(table: &Table, bytes: &[u8], number: u32) -> Result<RumpadolPart, RumpadolFault>
+    ensures ok { IfOk result (IsBodyAt table.now bytes.now number) }
+    ensures fault { IfErr result (IsBodyFault table.now bytes.now number) }
+{
+    if number <= 128 {
+        return body_at(table, bytes, number as u8);
+    }
+    let viewed = view(table, bytes)?;
+    Err(missing(number))
+}
+
+/// The same under what a slot holds.
+fn body_by(
+    table: &Option<Table>,
+    bytes: &[u8],
+    number: u32,
+) -> Result<RumpadolPart, RumpadolFault>
+    ensures ok { IfOk result (IsBodyAtHeld table.now bytes.now number) }
+    ensures fault { IfErr result (IsBodyFaultHeld table.now bytes.now number) }
+{
+    match table {
+        Some(table) => body_of(table, bytes, number),
+        None => Err(RumpadolFault::only(2)),
+    }
+}
+
+/// Finds the body of an element of the message that the bytes begin with, and tells where it lies: behind its length and
+/// with its padding. Answers how many bytes it has, or -1 and a fault. Copies nothing.
+#[unsafe(no_mangle)]
+pub extern "C" fn rumpadol_view(
+    slot: &mut RumpadolSlot,
+    bytes: &[u8],
+    element: u32,
+    body: &mut RumpadolPart,
+    fault: &mut RumpadolFault,
+) -> i64
+    ensures reply { ViewsBody slot.old.value bytes.now element result body.old body.new fault.new }
+    ensures slot { slot.new.value ≡ slot.old.value }
+{
+    let table = slot.replace(None);
+    let made = body_by(&table, bytes, element);
+    let _ = slot.replace(table);
+    match made {
+        Ok(part) => {
+            *body = part;
+            match i64::try_from(part.length) {
+                Ok(n) => n,
+                Err(_) => unreachable!(),
+            }
+        }
+        Err(reason) => refuse(reason, fault),
+    }
+}
