@@ -92,12 +92,14 @@ around_by true true rows low n v e w es ws b same over wired asc rest next p spl
     (p, rest, split ∙ ap (λ (x : List ℕ). p ++ (x ++ rest)) (some_is w.1 v found), size ∙ sym (ap (sizes_of rows) behind))
 around_by true false rows low n v e w es ws b same over wired asc rest next p split size found = absurd (grind (arith, nat_tests))
 around_by false true rows low n v e w es ws b same over wired asc rest next p split size found =
-    let inner : Around rows ws rest n v = next found in
-    (p ++ (w.1 ++ inner.before), inner.behind,
-    split ∙ ap (λ (x : List ℕ). p ++ (w.1 ++ x)) inner.split
-    ∙ ap (λ (x : List ℕ). p ++ x) (sym (append_assoc w.1 inner.before (v ++ inner.behind)))
-    ∙ sym (append_assoc p (w.1 ++ inner.before) (v ++ inner.behind)),
-    inner.size)
+    let inner : Around rows ws rest n v = next found in (
+      p ++ (w.1 ++ inner.before),
+      inner.behind,
+      split ∙ ap (λ (x : List ℕ). p ++ (w.1 ++ x)) inner.split
+          ∙ ap (λ (x : List ℕ). p ++ x) (sym (append_assoc w.1 inner.before (v ++ inner.behind)))
+          ∙ sym (append_assoc p (w.1 ++ inner.before) (v ++ inner.behind)),
+      inner.size,
+    )
 around_by false false rows low n v e w es ws b same over wired asc rest next p split size found =
     absurd (let lt : n < w.0 = grind (arith, nat_tests) in let none : value_in ws n ≡ None = none_below (w.0 + 1) n ws asc.3 (omega (arith, lt)) in let no : None ≡ Some v = sym none ∙ found in cc)
 
@@ -108,7 +110,7 @@ around rows low n v (e ∷ es) [] b wired asc found = absurd wired
 around rows low n v (e ∷ es) (w ∷ ws) b wired asc found =
     let rest : List ℕ = wired.1 in
     let parts = around_by (eqb w.0 n) (ltb w.0 (n + 1)) rows low n v e w es ws b refl refl wired asc rest (around rows (w.0 + 1) n v es ws rest wired.6 asc.3) (prefix wired.0.length (length e.1)) wired.5 (sizes_are rows es ws rest wired.6) found in
-    record { before = parts.0; behind = parts.1; split = parts.2; size = parts.3; }
+    record { before = parts.0; behind = parts.1; split = parts.2; size = parts.3 }
 
 -- the body lies so many bytes before the end of the message
 pub record Placed (t : Layout) (view : Viewed) (b : List ℕ) (n : ℕ) (w : List ℕ) : Type 0 where
@@ -128,11 +130,11 @@ placed t view b n w is found =
     let tail : List ℕ = w ++ a.behind in
     let after : List ℕ = drop view.used b in
     let whole : take view.used b ≡ front ++ tail =
-        spelling.bytes ∙ ap (λ (x : List ℕ). mti ++ (spelling.maps ++ x)) a.split ∙ sym (append_assoc mti spelling.maps (a.before ++ tail))
-        ∙ sym (append_assoc (mti ++ spelling.maps) a.before tail) in
+    spelling.bytes ∙ ap (λ (x : List ℕ). mti ++ (spelling.maps ++ x)) a.split ∙ sym (append_assoc mti spelling.maps (a.before ++ tail))
+    ∙ sym (append_assoc (mti ++ spelling.maps) a.before tail) in
     let all : b ≡ front ++ (w ++ (a.behind ++ after)) =
-        sym (take-append-drop view.used b) ∙ ap (λ (x : List ℕ). x ++ after) whole ∙ append_assoc front tail after
-        ∙ ap (λ (x : List ℕ). front ++ x) (append_assoc w a.behind after) in
+    sym (take-append-drop view.used b) ∙ ap (λ (x : List ℕ). x ++ after) whole ∙ append_assoc front tail after
+    ∙ ap (λ (x : List ℕ). front ++ x) (append_assoc w a.behind after) in
     let size : length (take view.used b) ≡ view.used = length-take-le view.used b is.2 in
     let sizes : length (front ++ tail) ≡ length front + length tail = length-append front tail in
     let tails : length tail ≡ length w + length a.behind = length-append w a.behind in

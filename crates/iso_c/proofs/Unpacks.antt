@@ -45,10 +45,13 @@ given (Some t) b found (pos used) old new parts_old parts values_old values f is
 given (Some t) b found (negsuc k) old new parts_old parts values_old values f is gives =
     let places : ℕ = length parts_old in
     let room : ℕ = length values_old in
-    let many : length found.parts.items ≡ length is.m.elements = ap length is.parts ∙ length_parts 0 is.m.elements in
-    (gives.0, gives.1, λ ne. ap (λ (r : Result (Contents × ℕ) UnpackFault). given_fault r places room) is.read
-    ∙ sym (ap (λ (n : ℕ). room_fault n (length (values_of is.m.elements)) places room) many)
-    ∙ sym (ap (λ (l : List ℕ). room_fault (length found.parts.items) (length l) places room) is.values) ∙ gives.2)
+    let many : length found.parts.items ≡ length is.m.elements = ap length is.parts ∙ length_parts 0 is.m.elements in (
+      gives.0,
+      gives.1,
+      λ ne. ap (λ (r : Result (Contents × ℕ) UnpackFault). given_fault r places room) is.read
+          ∙ sym (ap (λ (n : ℕ). room_fault n (length (values_of is.m.elements)) places room) many)
+          ∙ sym (ap (λ (l : List ℕ). room_fault (length found.parts.items) (length l) places room) is.values) ∙ gives.2,
+    )
 
 given_by : (r : Result (Contents × ℕ) UnpackFault) (places room : ℕ) (f : RumpadolFault) → read_fault r ≡ Some f → given_fault r places room ≡ Some f
 given_by (Ok x) places room f h = absurd cc

@@ -1,5 +1,5 @@
 -- What C keeps: memory in which a table lies, or none.
-use Rattle.std.specs.Prelude.{Option}
+use Rattle.std.specs.Prelude.{ℕ, Option}
 use denote.RattleType.{RattleType}
 use Rattle.std.specs.contracts.option.Option.{the_row as option_row}
 use base.Fml.{Fml}
@@ -7,6 +7,10 @@ use base.Fraction.{full_share}
 use denote.RawPtr.{Ptr, lies_at}
 use Rattle.iso_table.specs.Layout.{Layout}
 use Rattle.iso_table.specs.contracts.table.Table.{the_row}
+
+-- how many bytes of memory C gives: RUMPADOL_SLOT_BYTES of the header
+abbrev pub slot_bytes : ℕ
+slot_bytes = 64
 
 -- a table, or none
 abbrev pub slot : RattleType

@@ -12,7 +12,7 @@ use iso_wire::{pack, unpack};
 use std::alloc::Global;
 
 /// The plain bytes, under the second table, of the message that the bytes spell under the first.
-fn converted(
+pub(crate) fn converted(
     alloc: Global,
     from: &Table,
     to: &Table,

@@ -64,12 +64,7 @@ fn push_stars(count: usize, out: &mut Vec<u8>) -> Result<(), AllocError>
 }
 
 /// Appends what a bystander may read of a value.
-fn push_value(
-    class: CharClass,
-    n: u8,
-    value: &[u8],
-    out: &mut Vec<u8>,
-) -> Result<(), AllocError>
+fn push_value(class: CharClass, n: u8, value: &[u8], out: &mut Vec<u8>) -> Result<(), AllocError>
     ensures { OnOk result (out.new.items ≡ out.old.items ++ value_text class n value.now) }
 {
     let shown = masked(n, value);
@@ -89,12 +84,7 @@ fn class_of(table: &Table, n: u8) -> CharClass
 }
 
 /// Appends the line of an element.
-fn push_element(
-    table: &Table,
-    n: u8,
-    value: &[u8],
-    out: &mut Vec<u8>,
-) -> Result<(), AllocError>
+fn push_element(table: &Table, n: u8, value: &[u8], out: &mut Vec<u8>) -> Result<(), AllocError>
     ensures { OnOk result (out.new.items ≡ out.old.items ++ element_line table.now.rows n value.now) }
 {
     let mut number = [0; 3];
@@ -107,11 +97,7 @@ fn push_element(
 }
 
 /// Appends the lines of the elements.
-fn push_elements(
-    table: &Table,
-    message: &Message,
-    out: &mut Vec<u8>,
-) -> Result<(), AllocError>
+fn push_elements(table: &Table, message: &Message, out: &mut Vec<u8>) -> Result<(), AllocError>
     ensures { OnOk result (out.new.items ≡ out.old.items ++ element_lines table.now.rows message.now.elements) }
 {
     well_formed(message);
@@ -146,7 +132,11 @@ fn push_used(used: usize, total: usize, out: &mut Vec<u8>) -> Result<(), AllocEr
 }
 
 /// The lines of the message that the bytes begin with.
-fn described(alloc: Global, table: &Table, bytes: &[u8]) -> Result<Vec<u8>, RumpadolFault>
+pub(crate) fn described(
+    alloc: Global,
+    table: &Table,
+    bytes: &[u8],
+) -> Result<Vec<u8>, RumpadolFault>
     ensures ok { IfOk result (λ lines. Describes table.now bytes.now lines.items) }
     ensures fault { IfErr result (IsReadFault table.now bytes.now) }
 {

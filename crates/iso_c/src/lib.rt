@@ -10,6 +10,8 @@ mod names;
 mod pack;
 mod part;
 mod slot;
+#[cfg(test)]
+mod tests;
 mod unpack;
 mod view;
 mod words;

@@ -119,11 +119,7 @@ fn name_of(number: u32) -> &'static [u8]
 /// Writes the name of the fault with the number. Answers how many bytes it has, 0 where no fault has the number, or -1
 /// and a fault.
 #[unsafe(no_mangle)]
-pub extern "C" fn rumpadol_fault_name(
-    number: u32,
-    out: &mut [u8],
-    fault: &mut RumpadolFault,
-) -> i64
+pub extern "C" fn rumpadol_fault_name(number: u32, out: &mut [u8], fault: &mut RumpadolFault) -> i64
     ensures { RepliesTo (Ok (name_of number)) result out.old out.new fault.new }
 {
     give(name_of(number), out, fault)

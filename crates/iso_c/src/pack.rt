@@ -97,7 +97,7 @@ fn message_of(
 }
 
 /// Its bytes under a table.
-fn packed(
+pub(crate) fn packed(
     alloc: Global,
     table: &Table,
     mti: u32,

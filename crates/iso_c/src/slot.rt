@@ -4,7 +4,7 @@ ghost use Rattle.std.specs.Prelude.{◌≡◌, ◌≤◌, Option, Some, None, Is
 ghost use Rattle.iso_table.specs.Layout.{Layout};
 ghost use Rattle.iso_table.specs.Document.{IsTableOf};
 ghost use Rattle.iso_c.specs.Answers.{Done};
-ghost use Rattle.iso_c.specs.Handle.{slot, slot_at};
+ghost use Rattle.iso_c.specs.Handle.{slot, slot_at, slot_bytes};
 ghost use Rattle.iso_c.specs.Tables.{IsBuiltIn, IsBuiltInFault, IsTableFault};
 ghost use Rattle.std.specs.Ptr.{room_at};
 ghost use types.Logic.{sem};
@@ -15,10 +15,7 @@ use iso_table::Table;
 use std::alloc::Global;
 use std::marker::Model;
 
-/// How many bytes a slot's memory has in the header.
-const SLOT_BYTES: usize = 64;
-
-/// How many of them a table or none takes.
+/// How many bytes a table or none takes.
 const TAKEN: usize = std::mem::size_of::<Option<Table>>();
 
 /// The address of memory of C's in which a table lies, or none.
@@ -52,15 +49,15 @@ fn none() -> Option<Table>
     None
 }
 
-/// How many bytes a slot's memory has to have. They are aligned to 8.
+/// How many bytes of a slot's memory are used. They are aligned to 8.
 #[unsafe(no_mangle)]
 pub extern "C" fn rumpadol_slot_size() -> usize
-    ensures { result ≤ 64 }
+    ensures { result ≤ slot_bytes }
 {
     TAKEN
 }
 
-/// Makes an empty slot of the memory at the address: room for `rumpadol_slot_size` bytes, aligned to 8.
+/// Makes an empty slot of the memory at the address, which has room for `rumpadol_slot_size` bytes, aligned to 8.
 #[unsafe(no_mangle)]
 pub unsafe extern "C" fn rumpadol_slot_init(at: *mut u8)
     requires* { sem 𝓛 (room_at slot at) }
@@ -74,7 +71,7 @@ pub unsafe extern "C" fn rumpadol_slot_init(at: *mut u8)
 pub extern "C" fn rumpadol_slot_clear(alloc: Global, slot: &mut RumpadolSlot)
     ensures { slot.new.value ≡ None }
 {
-    let _ = slot.replace(None);
+    let _table = slot.replace(None);
 }
 
 /// The table of a number: 0 is the 1987 table in ASCII, 1 the one in BCD.

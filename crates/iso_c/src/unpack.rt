@@ -17,10 +17,10 @@ use std::alloc::{AllocError, Global};
 /// A message that was read: its values end to end, and where each lies.
 #[derive(Debug, Drop)]
 pub struct Found {
-    mti: u16,
-    used: usize,
-    parts: Vec<RumpadolPart>,
-    values: Vec<u8>,
+    pub(crate) mti: u16,
+    pub(crate) used: usize,
+    pub(crate) parts: Vec<RumpadolPart>,
+    pub(crate) values: Vec<u8>,
 }
 
 /// Adds a value behind the others, and its part.
@@ -62,7 +62,11 @@ pub(crate) fn spread(
 }
 
 /// The message that the bytes begin with.
-pub(crate) fn found_under(alloc: Global, table: &Table, bytes: &[u8]) -> Result<Found, RumpadolFault>
+pub(crate) fn found_under(
+    alloc: Global,
+    table: &Table,
+    bytes: &[u8],
+) -> Result<Found, RumpadolFault>
     ensures ok { IfOk result (IsFound table.now bytes.now) }
     ensures fault { IfErr result (IsReadFault table.now bytes.now) }
 {

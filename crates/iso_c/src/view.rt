@@ -71,7 +71,11 @@ fn body_at(table: &Table, bytes: &[u8], n: u8) -> Result<RumpadolPart, RumpadolF
 }
 
 /// The same of an element of any number.
-fn body_of(table: &Table, bytes: &[u8], number: u32) -> Result<RumpadolPart, RumpadolFault>
+pub(crate) fn body_of(
+    table: &Table,
+    bytes: &[u8],
+    number: u32,
+) -> Result<RumpadolPart, RumpadolFault>
     ensures ok { IfOk result (IsBodyAt table.now bytes.now number) }
     ensures fault { IfErr result (IsBodyFault table.now bytes.now number) }
 {
@@ -83,11 +87,7 @@ fn body_of(table: &Table, bytes: &[u8], number: u32) -> Result<RumpadolPart, Rum
 }
 
 /// The same under what a slot holds.
-fn body_by(
-    table: &Option<Table>,
-    bytes: &[u8],
-    number: u32,
-) -> Result<RumpadolPart, RumpadolFault>
+fn body_by(table: &Option<Table>, bytes: &[u8], number: u32) -> Result<RumpadolPart, RumpadolFault>
     ensures ok { IfOk result (IsBodyAtHeld table.now bytes.now number) }
     ensures fault { IfErr result (IsBodyFaultHeld table.now bytes.now number) }
 {

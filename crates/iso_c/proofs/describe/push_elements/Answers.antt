@@ -17,9 +17,9 @@ loop-n-preserved c =
     let so_far = λ (rest : Values). l.out.items ++ element_lines c.args.table.now.rows rest in
     elim c.match-get.branch [
       | in-Some+in_ok-push_element w ↦
-        rw w.out-is (rw w.in_ok-push_element.ensures
-        (append_assoc l.out.items (element_line c.args.table.now.rows l.n w.in-Some.value.now) (element_lines c.args.table.now.rows (from_number (l.n + 1) es))
-        ∙ sym (ap so_far (from_found 2 l.n w.in-Some.value.now es c.well_formed-2.ensures.ascending w.in-Some.ensures)) ∙ l.invariant))
+          rw w.out-is (rw w.in_ok-push_element.ensures
+          (append_assoc l.out.items (element_line c.args.table.now.rows l.n w.in-Some.value.now) (element_lines c.args.table.now.rows (from_number (l.n + 1) es))
+          ∙ sym (ap so_far (from_found 2 l.n w.in-Some.value.now es c.well_formed-2.ensures.ascending w.in-Some.ensures)) ∙ l.invariant))
       | in_default w ↦ rw w.out-is (ap so_far (sym (from_missing l.n es w.in_default.ensures)) ∙ l.invariant)
     ]
 

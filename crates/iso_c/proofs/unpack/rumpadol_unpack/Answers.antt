@@ -14,7 +14,7 @@ returns-in-Ok-clause-reply c =
     let same : to_z w64 (of_z w64 z) ≡ z = to_z-of_z {w = w64} (record { sfits = c.give.type_inv }) in
     let reply = λ (t : Option Layout). λ (y : ℤ). Unpacks t c.args.bytes.now y c.args.message.now c.give.new.message c.args.parts.now c.give.new.parts c.args.values.now c.give.new.values c.give.new.fault in
     let is : IsFoundHeld c.args.slot.now.value c.args.bytes.now c.in-Ok.found =
-        subst (λ (t : Option Layout). IsFoundHeld t c.args.bytes.now c.in-Ok.found) c.replace-table.ensures.0 c.in-Ok.ensures.ok in
+    subst (λ (t : Option Layout). IsFoundHeld t c.args.bytes.now c.in-Ok.found) c.replace-table.ensures.0 c.in-Ok.ensures.ok in
     subst (reply c.args.slot.now.value) (sym same)
     (given c.args.slot.now.value c.args.bytes.now c.in-Ok.found z c.args.message.now c.give.new.message c.args.parts.now c.give.new.parts c.args.values.now c.give.new.values c.give.new.fault is c.give.ensures)
 

@@ -16,10 +16,10 @@ loop-n-preserved c =
     let es : Values = c.args.message.now.elements in
     elim c.match-get.branch [
       | in-Some+in_ok-add w ↦
-        rw w.parts-is (rw w.values-is (rw w.in_ok-add.ensures.parts (rw w.in_ok-add.ensures.values
-        (spread_next l.n _ es l.parts.items l.values.items c.well_formed-2.ensures.ascending w.in-Some.ensures l.invariant))))
+          rw w.parts-is (rw w.values-is (rw w.in_ok-add.ensures.parts (rw w.in_ok-add.ensures.values
+          (spread_next l.n _ es l.parts.items l.values.items c.well_formed-2.ensures.ascending w.in-Some.ensures l.invariant))))
       | in_default w ↦
-        rw w.parts-is (rw w.values-is (spread_passed l.n es l.parts.items l.values.items w.in_default.ensures l.invariant))
+          rw w.parts-is (rw w.values-is (spread_passed l.n es l.parts.items l.values.items w.in_default.ensures l.invariant))
     ]
 
 pub returns-clause-parts : goal.returns-clause-parts

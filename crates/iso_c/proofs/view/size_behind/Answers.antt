@@ -17,11 +17,11 @@ loop-k-preserved c =
     let l = c.loop-k in
     elim c.match-wire.branch [
       | in-Some w ↦
-        let next = behind_next c.args.table.now.rows l.k w.in-Some.wire.now c.args.view.now.wires c.requires.ascending w.in-Some.ensures in
-        omega (arith, next, l.invariant, w.size-is, w.front_size.ensures)
+          let next = behind_next c.args.table.now.rows l.k w.in-Some.wire.now c.args.view.now.wires c.requires.ascending w.in-Some.ensures in
+          omega (arith, next, l.invariant, w.size-is, w.front_size.ensures)
       | in_default w ↦
-        let next = behind_passed c.args.table.now.rows l.k c.args.view.now.wires w.in_default.ensures in
-        omega (arith, next, l.invariant, w.size-is)
+          let next = behind_passed c.args.table.now.rows l.k c.args.view.now.wires w.in_default.ensures in
+          omega (arith, next, l.invariant, w.size-is)
     ]
 
 pub returns : goal.returns
