@@ -21,3 +21,4 @@ pub mod Ranges
 pub mod Extents
 pub mod PieceLaws
 pub mod WordSets
+pub mod HexDigits

@@ -1,12 +1,14 @@
 //! Reading the bitmaps at the front of some bytes.
 
-ghost use Rattle.std.specs.Prelude.{◌≡◌, ◌<◌, ◌^◌, length};
+ghost use Rattle.std.specs.Prelude.{◌≡◌, ◌<◌, ◌^◌, length, true};
 ghost use Rattle.std.specs.Int.{w64, from_be_bytes};
-ghost use Rattle.hex.specs.Hex.{decode_of};
+ghost use Rattle.std.specs.List.{list_all};
+ghost use Rattle.hex.specs.Hex.{decode_of, hex_digit_value, is_hex_digit};
 ghost use Rattle.iso_parts.specs.Bits.{map_size};
 ghost use Rattle.iso_parts.specs.BitmapReading.{ReadsMaps, word_in, word_of, second_by, maps_at};
 
 use crate::bitmap::{Bitmap, BitmapCause, BitmapCoding, BitmapFault, BitmapStep};
+use crate::encoding::are_hex_digits;
 
 /// A word from here on has its first bit set.
 const TOP: u64 = 0x8000_0000_0000_0000;
@@ -21,15 +23,41 @@ pub(crate) fn raw_word(bytes: &[u8]) -> u64
     ])
 }
 
+/// The value of a hexadecimal digit. The low four bits of a letter, of either case, are one to six.
+fn digit_value(digit: u8) -> u8
+    requires { is_hex_digit digit ≡ true }
+    ensures value { hex_digit_value digit ≡ Some result }
+    ensures small { result < 16 }
+{
+    if digit <= b'9' {
+        digit % 16
+    } else {
+        digit % 16 + 9
+    }
+}
+
+/// The word of sixteen digits.
+fn digits_word(digits: &[u8]) -> u64
+    requires sixteen { length digits.now ≡ 16 }
+    requires all { list_all is_hex_digit digits.now ≡ true }
+    ensures { word_of (decode_of digits.now) ≡ Some result }
+{
+    let mut word = [0; 8];
+    for (i, byte) in word.iter_mut().enumerate() {
+        *byte = digit_value(digits[2 * i]) * 16 + digit_value(digits[2 * i + 1]);
+    }
+    u64::from_be_bytes(word)
+}
+
 /// The word of sixteen digits, `None` where a byte is no digit.
 pub(crate) fn hex_word(bytes: &[u8]) -> Option<u64>
     requires { length bytes.now ≡ 16 }
     ensures { result ≡ word_of (decode_of bytes.now) }
 {
-    let mut word = [0; 8];
-    match hex::decode_to_slice(bytes, &mut word) {
-        Ok(()) => Some(u64::from_be_bytes(word)),
-        Err(_) => None,
+    if are_hex_digits(bytes) {
+        Some(digits_word(bytes))
+    } else {
+        None
     }
 }
 

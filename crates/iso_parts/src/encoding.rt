@@ -1,6 +1,8 @@
 //! How characters are written.
 
 ghost use Rattle.std.specs.Prelude.{◌≡◌, ◌++◌, ◌≢◌, ◌≤◌, ◌*◌, length, OnOk, OnErr};
+ghost use Rattle.std.specs.List.{list_all};
+ghost use Rattle.hex.specs.Hex.{is_hex_digit};
 ghost use Rattle.iso_parts.specs.Row.{is_coded, is_pad_byte};
 ghost use Rattle.iso_parts.specs.Part.{characters, pairs, plain, with_filler, Keeps};
 ghost use Rattle.iso_parts.specs.Reading.{AppendsRead, body_size, text_of};
@@ -46,6 +48,18 @@ fn append_bcd(text: &[u8], out: &mut Vec<u8>) -> Result<(), AllocError>
         }
         _ => append_pairs(text, out),
     }
+}
+
+/// Whether each byte is a hexadecimal digit, of either case. The loop has no early end, and no range is skipped, so that
+/// many bytes are judged at a time.
+pub(crate) fn are_hex_digits(bytes: &[u8]) -> bool
+    ensures { result ≡ list_all is_hex_digit bytes.now }
+{
+    let mut all = true;
+    for b in bytes {
+        all &= matches!(*b, b'0'..=b'9') | matches!(*b, b'A'..=b'F') | matches!(*b, b'a'..=b'f');
+    }
+    all
 }
 
 /// Writes two digits for each byte, in upper case.

@@ -2,7 +2,6 @@
 
 ghost use Rattle.std.specs.Prelude.{◌≡◌, ◌≢◌, ◌≤◌, ◌+◌, ◌*◌, ◌/◌, ℕ, List, take, drop, length, IfErr, IfOk, IfSome};
 ghost use Rattle.std.specs.List.{list_all};
-ghost use Rattle.hex.specs.Hex.{is_hex_digit};
 ghost use Rattle.iso_parts.specs.Building.{IsPart};
 ghost use Rattle.iso_parts.specs.Class.{is_digit};
 ghost use Rattle.iso_parts.specs.Row.{IsGood};
@@ -11,7 +10,7 @@ ghost use Rattle.iso_parts.specs.Part.{characters, Part};
 ghost use Rattle.iso_parts.specs.Reading.{IsJudged, Judges, IfJudged, count_at, size_at, prefix_size, body_size, value_of, body_of, part_at};
 
 use crate::class::CharClass;
-use crate::encoding::Coding;
+use crate::encoding::{Coding, are_hex_digits};
 use crate::fault::FieldFault;
 use crate::field::prefix_of;
 use crate::padding::Pad;
@@ -35,17 +34,6 @@ fn are_digits(bytes: &[u8]) -> bool
     let mut all = true;
     for b in bytes {
         all &= *b / 16 < 10 && *b % 16 < 10;
-    }
-    all
-}
-
-/// Whether each byte is a hexadecimal digit, of either case.
-fn are_hex_digits(bytes: &[u8]) -> bool
-    ensures { result ≡ list_all is_hex_digit bytes.now }
-{
-    let mut all = true;
-    for b in bytes {
-        all &= matches!(*b, b'0'..=b'9' | b'A'..=b'F' | b'a'..=b'f');
     }
     all
 }
