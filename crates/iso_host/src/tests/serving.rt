@@ -6,6 +6,7 @@ use super::frames::{
 use crate::fakes::{FewBytes, FewTaken};
 use crate::fault::{Report, ServeFault};
 use iso_issuer::{Accounts, Issuer};
+use std::alloc::Global;
 use std::test::Fail;
 
 #[test]
@@ -65,84 +66,137 @@ fn writes_a_response_at_once(rt: HostRuntime) -> Result<(), Fail> {
     Ok(())
 }
 
+/// Frames whose serving ends with a fault: how many reads and writes are made, how many bytes a write takes, the turns,
+/// and what comes of it.
+#[derive(Drop)]
+struct Ending {
+    name: &'static str,
+    sent: &'static [&'static [u8]],
+    reads: u32,
+    taken: usize,
+    writes: u32,
+    turns: u64,
+    fault: ServeFault,
+    written: &'static [&'static [u8]],
+    left: i64,
+}
+
+const ENDINGS: [Ending; 8] = [
+    Ending {
+        name: "a failing read",
+        sent: &[b"0082", PURCHASE],
+        reads: 1,
+        taken: 200,
+        writes: 9,
+        turns: 99,
+        fault: ServeFault::Read,
+        written: &[b"0090", GRANTED],
+        left: 4000,
+    },
+    Ending {
+        name: "a failing write",
+        sent: &[b"0082", PURCHASE],
+        reads: 9,
+        taken: 10,
+        writes: 1,
+        turns: 99,
+        fault: ServeFault::Write,
+        written: &[b"0090021072"],
+        left: 4000,
+    },
+    Ending {
+        name: "a writer that takes nothing",
+        sent: &[b"0082", PURCHASE],
+        reads: 9,
+        taken: 0,
+        writes: 9,
+        turns: 99,
+        fault: ServeFault::Write,
+        written: &[],
+        left: 4000,
+    },
+    Ending {
+        name: "a turn too few",
+        sent: &[b"0082", PURCHASE],
+        reads: 9,
+        taken: 200,
+        writes: 9,
+        turns: 1,
+        fault: ServeFault::TooManyTurns,
+        written: &[],
+        left: 4000,
+    },
+    Ending {
+        name: "no turn",
+        sent: &[],
+        reads: 9,
+        taken: 200,
+        writes: 9,
+        turns: 0,
+        fault: ServeFault::TooManyTurns,
+        written: &[],
+        left: 5000,
+    },
+    Ending {
+        name: "no digits",
+        sent: &[b"00A2"],
+        reads: 9,
+        taken: 200,
+        writes: 9,
+        turns: 99,
+        fault: ServeFault::BadHeader,
+        written: &[],
+        left: 5000,
+    },
+    Ending {
+        name: "a cut frame",
+        sent: &[b"00820123456789"],
+        reads: 9,
+        taken: 200,
+        writes: 9,
+        turns: 99,
+        fault: ServeFault::CutFrame,
+        written: &[],
+        left: 5000,
+    },
+    Ending {
+        name: "a cut header",
+        sent: &[b"008"],
+        reads: 9,
+        taken: 200,
+        writes: 9,
+        turns: 99,
+        fault: ServeFault::CutFrame,
+        written: &[],
+        left: 5000,
+    },
+];
+
+/// How serving the frames ends, what is written, and what is left on the account.
+fn ended(
+    alloc: Global,
+    case: &Ending,
+) -> Result<(Result<Report, ServeFault>, Vec<u8>, Option<i64>), Fail> {
+    let bytes = joined(alloc, case.sent)?;
+    let mut issuer = issuer(alloc)?;
+    let reader = FewBytes {
+        bytes: &bytes,
+        piece: 200,
+        calls: case.reads,
+    };
+    let mut writer = FewTaken::new(alloc, case.taken, case.writes, false);
+    let ended = served(alloc, &mut issuer, reader, &mut writer, case.turns)?;
+    Ok((ended, writer.taken, ledger(&issuer)?))
+}
+
 #[test]
 fn ends_where_a_stream_does(rt: HostRuntime) -> Result<(), Fail> {
-    use ServeFault::{BadHeader, CutFrame, Read, TooManyTurns, Write};
-    let alloc = rt.alloc();
-    let purchase = joined(alloc, &[b"0082", PURCHASE])?;
-    let granted = joined(alloc, &[b"0090", GRANTED])?;
-    let none: &[u8] = b"";
-    for (name, bytes, reads, taken, writes, turns, wanted, written, left) in [
-        (
-            "a failing read",
-            purchase.as_slice(),
-            1,
-            200,
-            9,
-            99,
-            Read,
-            granted.as_slice(),
-            4000,
-        ),
-        (
-            "a failing write",
-            purchase.as_slice(),
-            9,
-            10,
-            1,
-            99,
-            Write,
-            b"0090021072",
-            4000,
-        ),
-        (
-            "a writer that takes nothing",
-            purchase.as_slice(),
-            9,
-            0,
-            9,
-            99,
-            Write,
-            none,
-            4000,
-        ),
-        (
-            "a turn too few",
-            purchase.as_slice(),
-            9,
-            200,
-            9,
-            1,
-            TooManyTurns,
-            none,
-            4000,
-        ),
-        ("no turn", none, 9, 200, 9, 0, TooManyTurns, none, 5000),
-        ("no digits", b"00A2", 9, 200, 9, 99, BadHeader, none, 5000),
-        (
-            "a cut frame",
-            b"00820123456789",
-            9,
-            200,
-            9,
-            99,
-            CutFrame,
-            none,
-            5000,
-        ),
-        ("a cut header", b"008", 9, 200, 9, 99, CutFrame, none, 5000),
-    ] {
-        let mut issuer = issuer(alloc)?;
-        let reader = FewBytes {
-            bytes,
-            piece: 200,
-            calls: reads,
-        };
-        let mut writer = FewTaken::new(alloc, taken, writes, false);
-        let ended = served(alloc, &mut issuer, reader, &mut writer, turns)?;
-        assert_eq!(rt; ended, Err(wanted), "{name}");
-        assert_eq!(rt; writer.taken.as_slice(), written, "{name}");
-        assert_eq!(rt; ledger(&issuer)?, Some(left), "{name}");
+    for case in &ENDINGS {
+        let (ended, taken, left) = ended(rt.alloc(), case)?;
+        let written = joined(rt.alloc(), case.written)?;
+        assert_eq!(rt; ended, Err(case.fault), "{}", case.name);
+        assert_eq!(rt; taken.as_slice(), written.as_slice(), "{}", case.name);
+        assert_eq!(rt; left, Some(case.left), "{}", case.name);
     }
     Ok(())
 }
