@@ -6,6 +6,7 @@
 # make connections  an acquirer whose answers get lost, and peers that misbehave, at a host on a port; builds the command
 # make schedule  an acquirer whose answers get lost, and what both ends hold: SCHEDULE=examples/lost-answers.txt
 # make peers   bad peers of a host on a port, each before a good one; builds the command
+# make library  proves the library for C and what it stands on, and builds it: crates/iso_c/out/libiso_c.a
 # make check   proves what changed since the last check
 # make prove   the whole gate: every proof, must-fail edit, test and program, from nothing
 # make memory  each call that can want memory, and each command, with each of its growths refused in turn
@@ -18,14 +19,16 @@ endif
 
 COMMAND := crates/iso_cli/out/iso_cli
 BENCH := crates/iso_bench/out/iso_bench
+LIBRARY := crates/iso_c/out/libiso_c.a
 ANSWERS := crates/iso_cli/out/answers.txt
 SOURCES := $(shell find crates -name out -prune -o -type f \( -name '*.rt' -o -name '*.antt' \) -print) crates.txt
+CODEC := $(shell find crates/iso_parts crates/iso_table crates/iso_wire crates/iso_c -name out -prune -o -type f \( -name '*.rt' -o -name '*.antt' \) -print)
 SCHEDULE := examples/lost-answers.txt
 ORDERS := 900000
 SIZES := 10000 100000 900000
 ROUNDS := 100000
 
-.PHONY: run test build day replay connections peers schedule check prove memory bench loopback
+.PHONY: run test build library day replay connections peers schedule check prove memory bench loopback
 
 run:
 	@if $(MAKE) --silent --no-print-directory --question $(COMMAND); then \
@@ -38,6 +41,8 @@ test:
 	@scripts/test.sh
 
 build: $(COMMAND)
+
+library: $(LIBRARY)
 
 day: $(COMMAND)
 	@$(COMMAND) run ascii87 examples/accounts.json ascii4 < examples/day.txt > $(ANSWERS)
@@ -57,6 +62,10 @@ schedule:
 
 $(COMMAND): $(SOURCES)
 	cd crates/iso_cli && rt run < ../../examples/echo.txt > /dev/null
+	@touch $@
+
+$(LIBRARY): $(CODEC)
+	cd crates/iso_c && rt lib > /dev/null
 	@touch $@
 
 $(BENCH): $(SOURCES)

@@ -8,10 +8,11 @@ folder=$(mktemp -d)
 trap 'rm -rf "$folder"' EXIT
 trap 'exit 1' HUP INT TERM
 
-# a script and its word in each line: what the pages show, the crates that have tests, and the programs that have a stored run
+# a script and its word in each line: what the pages show, the examples in C, the crates that have tests, and the programs that have a stored run
 jobs() {
     echo scripts/recipes.sh docs
     echo scripts/elements.sh docs/ELEMENTS.md
+    echo scripts/c-examples.sh examples/c
     grep -rl --include='*.rt' '^ *#\[test\]' crates/*/src | cut -d/ -f2 | sort -u | sed 's|^|scripts/try-tests.sh |'
     ls crates/*/stdout | cut -d/ -f2 | sed 's|^|scripts/try-runs.sh |'
 }

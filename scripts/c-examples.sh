@@ -1,0 +1,70 @@
+#!/bin/sh
+# Runs the examples of a folder over the library for C, and compares what they write with examples/expected: decode.c on hex dumps,
+# also under valgrind and as another compiler makes it, and convert.py. What needs a program that isn't installed is left out, and
+# all of it where the library isn't built (make library). Prints each run that failed, and a line of counts: c-examples.sh FOLDER
+set -u
+cd "$(dirname "$0")/.." || exit 1
+
+examples=$1
+library=crates/iso_c/out/libiso_c.a
+kit=$(dirname "$(rt doc)")/c/liblibc_c.a
+folder=$(mktemp -d)
+trap 'rm -rf "$folder"' EXIT
+trap 'exit 1' HUP INT TERM
+passed=0
+failed=0
+
+# NAME EXPECTED STATUS INPUT COMMAND ..: a run, and what it must write and end with
+run() {
+    name=$1 expected=examples/expected/$2 status=$3 input=$4
+    shift 4
+    "$@" < "$input" > "$folder/told" 2>&1
+    if [ $? -eq "$status" ] && cmp -s "$folder/told" "$expected"; then
+        passed=$((passed + 1))
+    else
+        failed=$((failed + 1))
+        echo "FAILED $examples: $name"
+        diff "$expected" "$folder/told"
+    fi
+}
+
+has() {
+    command -v "$1" > /dev/null
+}
+
+# COMPILER: the program as that compiler makes it, with all warnings as errors
+compile() {
+    if "$1" -O2 -std=c11 -Wall -Wextra -Wpedantic -Werror -Iinclude -o "$folder/decode-$1" "$examples/decode.c" "$library" "$kit"; then
+        return
+    fi
+    failed=$((failed + 1))
+    echo "FAILED $examples: $1 refuses decode.c"
+    return 1
+}
+
+decode() {
+    head -c 60 "$examples/payment.hex" > "$folder/cut.hex"
+    run "payment of $1" decode 0 "$examples/payment.hex" "$folder/decode-$1" ascii87
+    run "a document of $1" decode 0 "$examples/payment.hex" "$folder/decode-$1" tables/ascii87.json
+    run "a cut dump of $1" decode-cut 1 "$folder/cut.hex" "$folder/decode-$1" ascii87
+    has valgrind || return
+    run "payment of $1 under valgrind" decode 0 "$examples/payment.hex" \
+        valgrind -q --leak-check=full --error-exitcode=9 "$folder/decode-$1" tables/ascii87.json
+    run "a cut dump of $1 under valgrind" decode-cut 1 "$folder/cut.hex" \
+        valgrind -q --leak-check=full --error-exitcode=9 "$folder/decode-$1" ascii87
+}
+
+if [ -f "$library" ] && make --silent --no-print-directory --question library; then
+    for compiler in cc clang; do
+        if has "$compiler" && compile "$compiler"; then
+            decode "$compiler"
+        fi
+    done
+    if has cc && has python3; then
+        cc -shared -o "$folder/librumpadol.so" -Wl,--whole-archive "$library" -Wl,--no-whole-archive "$kit" -Wl,-z,defs
+        run convert.py ctypes 0 /dev/null python3 "$examples/convert.py" "$folder/librumpadol.so"
+    fi
+else
+    echo "$examples: left out, since make library has not built the library" >&2
+fi
+echo "$examples: $passed runs passed, $failed failed"
