@@ -1,9 +1,10 @@
 //! A table in memory that C gives, by its address.
 
 ghost use Rattle.std.specs.Prelude.{◌≡◌, ◌≤◌, Option, Some, None, IsSomeAnd, IfOk, IfErr};
-ghost use Rattle.iso_table.specs.Layout.{Layout};
+ghost use Rattle.iso_table.specs.Layout.{Layout, IsAccepted};
 ghost use Rattle.iso_table.specs.Document.{IsTableOf};
 ghost use Rattle.iso_c.specs.Answers.{Done};
+ghost use Rattle.iso_c.specs.Causes.{no_memory};
 ghost use Rattle.iso_c.specs.Handle.{slot, slot_at, slot_bytes};
 ghost use Rattle.iso_c.specs.Tables.{IsBuiltIn, IsBuiltInFault, IsTableFault};
 ghost use Rattle.std.specs.Ptr.{room_at};
@@ -119,8 +120,11 @@ pub extern "C" fn rumpadol_slot_from_json(
     slot: &mut RumpadolSlot,
     fault: &mut RumpadolFault,
 ) -> i64
-    ensures { Done result (IsSomeAnd slot.new.value (IsTableOf json.now))
+    ensures reply { Done result (IsSomeAnd slot.new.value (IsTableOf json.now))
         ((slot.new.value ≡ None) × IsTableFault json.now fault.new) }
+    // A text that stands for a table gives it, unless memory runs out.
+    ensures only { (t : Layout) → IsAccepted t → IsTableOf json.now t
+        → Done result (slot.new.value ≡ Some t) (fault.new ≡ no_memory) }
 {
     match Table::from_json(alloc, json) {
         Ok(table) => {
