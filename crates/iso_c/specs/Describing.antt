@@ -1,5 +1,5 @@
 -- A message as lines for human eyes: its type, its elements with what a bystander may read, and how many bytes it took.
-use Rattle.std.specs.Prelude.{◌≡◌, ◌⊎◌, ℕ, ◌+◌, ◌-◌, ◌*◌, ◌/◌, ◌%◌, ◌^◌, ◌<◌, ◌≤◌, ◌==◌, nat_lt, Bool, if◌then◌else◌, List, [], ◌∷◌, ◌++◌, length, take, drop, replicate, Option, Some, None, codes}
+use Rattle.std.specs.Prelude.{◌≡◌, ◌⊎◌, ℕ, ◌+◌, ◌-◌, ◌/◌, ◌%◌, ◌^◌, ◌<◌, ◌≤◌, ◌==◌, nat_lt, if◌then◌else◌, List, [], ◌∷◌, ◌++◌, length, take, drop, replicate, Option, Some, None, codes}
 use Rattle.iso_parts.specs.declared.prefix.Digits.TheVariants.{Ascii}
 use Rattle.iso_parts.specs.declared.class.CharClass.{CharClass}
 use Rattle.iso_parts.specs.declared.class.CharClass.TheVariants as classes

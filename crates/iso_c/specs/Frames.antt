@@ -1,5 +1,5 @@
 -- Frames by the number of a header.
-use Rattle.std.specs.Prelude.{◌≡◌, ◌+◌, ℕ, zero, suc, ℤ, pos, negsuc, ◌==◌, nat_lt, ◌<◌, if◌then◌else◌, true, List, [], ◌∷◌, length, Option, Some, None}
+use Rattle.std.specs.Prelude.{◌≡◌, ◌+◌, ℕ, zero, suc, ℤ, pos, negsuc, ◌==◌, nat_lt, if◌then◌else◌, true, List, [], ◌∷◌, length, Option, Some, None}
 use Rattle.iso_wire.specs.declared.header.Header.{Header}
 use Rattle.iso_wire.specs.declared.header.Header.TheVariants.{Binary2, Ascii4, Bcd2}
 use Rattle.iso_wire.specs.declared.framing.FrameFault.TheVariants.{TooLong, BadDigits}

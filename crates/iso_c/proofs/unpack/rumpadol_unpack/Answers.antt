@@ -1,4 +1,4 @@
-use Rattle.std.proofs.Common.{◌≡◌, ℤ, ℕ, negsuc, List, Option, subst, sym, w64, to_z, of_z}
+use Rattle.std.proofs.Common.{◌≡◌, ℤ, ℕ, List, Option, subst, sym, w64, to_z, of_z}
 use Rattle.std.proofs.Math.Facts.{to_z-of_z}
 use Rattle.iso_table.specs.Layout.{Layout}
 use Rattle.iso_c.specs.Unpacking.{Unpacks, IsFoundHeld, IsReadFaultHeld}

@@ -1,4 +1,4 @@
-use Rattle.std.proofs.Common.{◌≡◌, ◌+◌, ◌-◌, ◌≤◌, List, ℕ, Some, length, take, drop, sym, ap, ◌∙◌, arith}
+use Rattle.std.proofs.Common.{◌≡◌, ◌-◌, List, ℕ, Some, length, take, drop, sym, ap, ◌∙◌, arith}
 use Rattle.iso_wire.specs.Viewing.{Viewed}
 use Rattle.iso_wire.specs.Reading.{message_at}
 use Rattle.iso_c.proofs.Bodies.{placed, viewed_ascend, body_missing}

@@ -1,7 +1,4 @@
-use Rattle.std.proofs.Common.{◌≡◌, ◌+◌, ◌*◌, ◌<◌, ◌≤◌, List, ℕ, length, arith}
-use Rattle.iso_c.specs.Parts.{from_number}
-use Rattle.iso_c.specs.Viewing.{sizes_of}
-use Rattle.iso_c.proofs.Spreads.{Values}
+use Rattle.std.proofs.Common.{◌≡◌, ◌+◌, ◌≤◌, arith}
 use Rattle.iso_c.proofs.Bodies.{behind_next, behind_passed, behind_last}
 use Rattle.iso_c.proofs.view.size_behind.Goals.{in-Some, in_default}
 use Rattle.iso_c.proofs.view.size_behind.Goals as goal
