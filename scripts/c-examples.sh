@@ -1,7 +1,8 @@
 #!/bin/sh
 # Runs the examples of a folder over the library for C, and compares what they write with examples/expected: decode.c on hex dumps,
-# also under valgrind and as another compiler makes it, and convert.py. What needs a program that isn't installed is left out, and
-# all of it where the library isn't built (make library). Prints each run that failed, and a line of counts: c-examples.sh FOLDER
+# also under valgrind and as another compiler makes it, and convert.py; and c-refusals.c, which refuses memory to each call. What
+# needs a program that isn't installed is left out, and all of it where the library isn't built (make library). Prints each run
+# that failed, and a line of counts: c-examples.sh FOLDER
 set -u
 cd "$(dirname "$0")/.." || exit 1
 
@@ -32,13 +33,15 @@ has() {
     command -v "$1" > /dev/null
 }
 
-# COMPILER: the program as that compiler makes it, with all warnings as errors
+# COMPILER SOURCE PROGRAM OPTION ..: the program as that compiler makes it, with all warnings as errors
 compile() {
-    if "$1" -O2 -std=c11 -Wall -Wextra -Wpedantic -Werror -Iinclude -o "$folder/decode-$1" "$examples/decode.c" "$library" "$kit"; then
+    compiler=$1 source=$2 program=$3
+    shift 3
+    if "$compiler" -O2 -std=c11 -Wall -Wextra -Wpedantic -Werror -Iinclude "$@" -o "$program" "$source" "$library" "$kit"; then
         return
     fi
     failed=$((failed + 1))
-    echo "FAILED $examples: $1 refuses decode.c"
+    echo "FAILED $examples: $compiler refuses $source"
     return 1
 }
 
@@ -56,10 +59,13 @@ decode() {
 
 if [ -f "$library" ] && make --silent --no-print-directory --question library; then
     for compiler in cc clang; do
-        if has "$compiler" && compile "$compiler"; then
+        if has "$compiler" && compile "$compiler" "$examples/decode.c" "$folder/decode-$compiler"; then
             decode "$compiler"
         fi
     done
+    if has cc && compile cc scripts/c-refusals.c "$folder/refusals" -Wl,--wrap=malloc,--wrap=realloc; then
+        run c-refusals.c c-refusals 0 /dev/null "$folder/refusals" tables/ascii87.json
+    fi
     if has cc && has python3; then
         cc -shared -o "$folder/librumpadol.so" -Wl,--whole-archive "$library" -Wl,--no-whole-archive "$kit" -Wl,-z,defs
         run convert.py ctypes 0 /dev/null python3 "$examples/convert.py" "$folder/librumpadol.so"
