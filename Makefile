@@ -12,6 +12,7 @@
 # make memory  each call that can want memory, and each command, with each of its growths refused in turn
 # make loopback  how long a round trip on a port takes, and the memory of a host over many connections: ROUNDS=1000 for fewer
 # make bench   how fast the streams, the codec and the issuer are: ORDERS=2000 SIZES="100 1000" for fewer orders
+# The last two print tables. Where ORDERS, SIZES and ROUNDS are as below, they write them to docs/SPEED.md too.
 
 ifeq ($(shell command -v rt 2> /dev/null),)
 $(error the Rattle toolchain is missing: no program rt on the PATH)
@@ -24,9 +25,20 @@ ANSWERS := crates/iso_cli/out/answers.txt
 SOURCES := $(shell find crates -name out -prune -o -type f \( -name '*.rt' -o -name '*.antt' \) -print) crates.txt
 CODEC := $(shell find crates/iso_parts crates/iso_table crates/iso_wire crates/iso_c -name out -prune -o -type f \( -name '*.rt' -o -name '*.antt' \) -print)
 SCHEDULE := examples/lost-answers.txt
-ORDERS := 900000
-SIZES := 10000 100000 900000
-ROUNDS := 100000
+ALL_ORDERS := 900000
+ALL_SIZES := 10000 30000 100000 300000 900000
+ALL_ROUNDS := 100000
+ORDERS := $(ALL_ORDERS)
+SIZES := $(ALL_SIZES)
+ROUNDS := $(ALL_ROUNDS)
+
+# the page that whole runs write
+ifeq ($(ORDERS) of $(SIZES),$(ALL_ORDERS) of $(ALL_SIZES))
+BENCH_PAGE := docs/SPEED.md
+endif
+ifeq ($(ROUNDS),$(ALL_ROUNDS))
+LOOPBACK_PAGE := docs/SPEED.md
+endif
 
 .PHONY: run test build library day replay connections peers schedule check prove memory bench loopback
 
@@ -83,10 +95,7 @@ memory:
 	@scripts/memory.sh command
 
 bench: $(COMMAND) $(BENCH)
-	@ORDERS=$(ORDERS) bench/streams.sh
-	@$(BENCH) codec 1000000
-	@$(BENCH) issuer $(SIZES)
-	@bench/instructions.sh $(SIZES)
+	@ORDERS=$(ORDERS) bench/figures.sh bench "$(BENCH_PAGE)" bench/turns.sh $(SIZES)
 
 loopback: $(COMMAND)
-	@ROUNDS=$(ROUNDS) bench/loopback.sh
+	@ROUNDS=$(ROUNDS) bench/figures.sh loopback "$(LOOPBACK_PAGE)" bench/loopback.sh

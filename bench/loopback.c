@@ -146,7 +146,7 @@ static void ask(int port, const char *kind, int rounds)
     }
     close(fd);
     qsort(took, rounds, sizeof *took, by_size);
-    printf("%s: rounds=%d median=%.1f us, 1 in 100 over %.1f us\n", kind, rounds, took[rounds / 2] / 1000.0,
+    printf("%s: rounds=%d median_microseconds=%.1f one_in_100_over_microseconds=%.1f\n", kind, rounds, took[rounds / 2] / 1000.0,
         took[rounds - 1 - rounds / 100] / 1000.0);
     free(took);
 }

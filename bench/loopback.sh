@@ -40,8 +40,8 @@ ended() {
     served=
 }
 
-# round trips: the bare program, then each kind of frame, and all of it again
-for turn in 1 2; do
+# round trips: the bare program, then each kind of frame, and all of it twice again
+for turn in 1 2 3; do
     port=$("$folder/loopback" port)
     "$folder/loopback" echo "$port" 1 &
     served=$!
@@ -63,4 +63,5 @@ last=$(peak)
 "$folder/loopback" load "$port" 1 0
 ended
 told=$(awk -F '[= ]' '{ frames += $2; answered += $4 } END { print "connections=" NR " frames=" frames " answered=" answered }' "$folder/told")
-echo "$told: peak_kilobytes=$first after the first connection, $last after the last"
+echo "memory after the first connection: frames=$frames peak_kilobytes=$first"
+echo "memory after the last connection: $told peak_kilobytes=$last"
