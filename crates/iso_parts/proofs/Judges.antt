@@ -87,7 +87,7 @@ any_packed s n b good coded other none bytes =
 
 -- ---- hexadecimal digits
 
-bytes_in_class : (w : List ℕ) → is_in_class classes.B w ≡ true
+pub bytes_in_class : (w : List ℕ) → is_in_class classes.B w ≡ true
 bytes_in_class [] = refl
 bytes_in_class (x ∷ xs) = all_bytes xs
   where
@@ -191,6 +191,15 @@ body_good s b n most is good =
       length_is.1 ∙ cond-false (ltb (length b) (front + size)) more (at_body (front + size) (body_read s n b)) (same_room false front size b length_is.0 body.0)
           ∙ ap (at_body (front + size)) body.2.1 ∙ ap (λ (k : ℕ). got v (front + k)) body.1,
     )
+
+-- a whole body behind a good length makes the part
+pub body_is : (s : FieldSpec) (b : List ℕ) (n : ℕ) (v : List ℕ) → count_at s b ≡ Ok (Some n) → body_size s.coding n ≤ length (drop (prefix_size s.length) b) → body_read s n b ≡ Ok v
+    → part_at s b ≡ got v (prefix_size s.length + body_size s.coding n)
+body_is s b n v is room read =
+    let front = prefix_size s.length in
+    let size = body_size s.coding n in
+    let length_is = counted s b n is in
+    length_is.1 ∙ cond-false (ltb (length b) (front + size)) more (at_body (front + size) (body_read s n b)) (same_room false front size b length_is.0 (le-ltb (length (drop front b)) size room)) ∙ ap (at_body (front + size)) read
 
 -- ---- what a function that judges has found
 

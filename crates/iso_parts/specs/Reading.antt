@@ -1,5 +1,5 @@
 -- Reading a part from the front of bytes: the length before it, and then its body.
-use Rattle.std.specs.Prelude.{◌≡◌, ◌≢◌, ℕ, ◌++◌, Option, Some, None, ◌+◌, ◌-◌, ◌*◌, ◌/◌, ◌%◌, ◌==◌, ◌&&◌, ◌||◌, nat_lt, List, [], ◌∷◌, length, take, drop, reverse, Result, Ok, Err, if◌then◌else◌}
+use Rattle.std.specs.Prelude.{◌≡◌, ◌≢◌, ℕ, ◌++◌, Bool, true, false, Option, Some, None, ◌+◌, ◌-◌, ◌*◌, ◌/◌, ◌%◌, ◌==◌, ◌&&◌, ◌||◌, nat_lt, List, [], ◌∷◌, length, take, drop, reverse, Result, Ok, Err, if◌then◌else◌}
 use Rattle.hex.specs.Hex.{decode_of}
 use Rattle.hex.specs.declared.error.FromHexError.{FromHexError}
 use Rattle.iso_parts.specs.declared.encoding.Coding.{Coding}
@@ -61,6 +61,13 @@ abbrev pub prefix_of : FieldSpec → List ℕ → Result ℕ FieldFault
 prefix_of s p = do
   n ← count_of s.length s.max p
   if nat_lt s.max n then Err LengthOver else Ok n
+
+-- whether a character is a byte
+abbrev pub is_plain : Coding → Bool
+is_plain codings.Ascii = true
+is_plain codings.Raw = true
+is_plain codings.Bcd = false
+is_plain codings.HexText = false
 
 -- how many bytes n characters take
 abbrev pub body_size : Coding → ℕ → ℕ

@@ -1,6 +1,6 @@
 //! Character classes.
 
-ghost use Rattle.std.specs.Prelude.{◌≡◌};
+ghost use Rattle.std.specs.Prelude.{◌≡◌, ◌≤◌, ◌*◌, length};
 ghost use Rattle.std.specs.List.{list_all};
 ghost use Rattle.iso_parts.specs.Class.{is_within, is_member, is_in_class};
 
@@ -25,9 +25,6 @@ pub enum CharClass {
     B,
 }
 
-/// From so many bytes on, looking for the least and the greatest is faster than judging each.
-const MANY: usize = 64;
-
 /// Whether each byte lies from `low` up to `high`. The loop has no early end, so that many bytes are looked at at a
 /// time.
 fn are_within(low: u8, high: u8, bytes: &[u8]) -> bool
@@ -43,6 +40,7 @@ fn are_within(low: u8, high: u8, bytes: &[u8]) -> bool
 }
 
 impl CharClass {
+    #[inline(always)]
     fn has(self, b: u8) -> bool
         ensures { result ≡ is_member self b }
     {
@@ -58,6 +56,7 @@ impl CharClass {
     }
 
     /// Whether each byte is of the class. The loop has no early end, so that many bytes are judged at a time.
+    #[inline(always)]
     fn has_each(self, bytes: &[u8]) -> bool
         ensures { result ≡ list_all (is_member self) bytes.now }
     {
@@ -68,14 +67,39 @@ impl CharClass {
         all
     }
 
-    /// Whether each byte is of the class: where they are many and the class is one range, the least and the greatest
-    /// byte tell.
-    fn has_all(self, bytes: &[u8]) -> bool
+    /// Whether each byte is of the class, by the first `count` bytes and the last ones, which meet or overlap: so many
+    /// bytes are judged at once.
+    #[inline(always)]
+    fn has_ends(self, count: usize, bytes: &[u8]) -> bool
+        requires within { count ≤ length bytes.now }
+        requires meet { length bytes.now ≤ 2 * count }
         ensures { result ≡ list_all (is_member self) bytes.now }
     {
-        if bytes.len() < MANY {
-            return self.has_each(bytes);
+        let (first, _) = bytes.split_at(count);
+        let (_, last) = bytes.split_at(bytes.len() - count);
+        self.has_each(first) & self.has_each(last)
+    }
+
+    /// Whether each of a few bytes is of the class.
+    #[inline(always)]
+    fn has_few(self, bytes: &[u8]) -> bool
+        requires { length bytes.now ≤ 3 }
+        ensures { result ≡ list_all (is_member self) bytes.now }
+    {
+        match bytes {
+            [] => true,
+            [a] => self.has(*a),
+            [a, b] => self.has(*a) & self.has(*b),
+            [a, b, c] => self.has(*a) & self.has(*b) & self.has(*c),
+            _ => unreachable!(),
         }
+    }
+
+    /// Whether each of many bytes is of the class: where the class is one range, the least and the greatest byte tell.
+    #[inline(never)]
+    fn has_many(self, bytes: &[u8]) -> bool
+        ensures { result ≡ list_all (is_member self) bytes.now }
+    {
         match self {
             CharClass::N | CharClass::XN => are_within(0x30, 0x39, bytes),
             CharClass::ANS => are_within(0x20, 0x7E, bytes),
@@ -84,15 +108,48 @@ impl CharClass {
         }
     }
 
-    /// Whether the bytes are a value of the class.
+    /// Whether each byte is of the class, by the shortest way for so many.
+    #[inline(always)]
+    fn has_all(self, bytes: &[u8]) -> bool
+        ensures { result ≡ list_all (is_member self) bytes.now }
+    {
+        match bytes.len() {
+            0..=3 => self.has_few(bytes),
+            4..=7 => self.has_ends(4, bytes),
+            8..=15 => self.has_ends(8, bytes),
+            16..=32 => self.has_ends(16, bytes),
+            _ => self.has_many(bytes),
+        }
+    }
+
+    /// Whether each byte is of a class of several ranges.
+    #[inline(never)]
+    fn has_all_by_ranges(self, bytes: &[u8]) -> bool
+        ensures { result ≡ list_all (is_member self) bytes.now }
+    {
+        match self {
+            CharClass::A => CharClass::A.has_all(bytes),
+            CharClass::AN => CharClass::AN.has_all(bytes),
+            CharClass::ZD => CharClass::ZD.has_all(bytes),
+            _ => self.has_many(bytes),
+        }
+    }
+
+    /// Whether the bytes are a value of the class. Each class has code of its own, in which nothing is left to choose for
+    /// a byte.
     pub(crate) fn takes(self, value: &[u8]) -> bool
         ensures { result ≡ is_in_class self value.now }
     {
-        match value {
-            [first, rest @ ..] if self == CharClass::XN => {
-                matches!(*first, b'C' | b'D') && self.has_all(rest)
-            }
-            _ => self.has_all(value),
+        match self {
+            CharClass::N => CharClass::N.has_all(value),
+            CharClass::ANS => CharClass::ANS.has_all(value),
+            CharClass::Z => CharClass::Z.has_all(value),
+            CharClass::A | CharClass::AN | CharClass::ZD => self.has_all_by_ranges(value),
+            CharClass::XN => match value {
+                [first, rest @ ..] => matches!(*first, b'C' | b'D') && CharClass::N.has_all(rest),
+                [] => true,
+            },
+            CharClass::B => true,
         }
     }
 }

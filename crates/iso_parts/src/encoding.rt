@@ -5,7 +5,7 @@ ghost use Rattle.std.specs.List.{list_all};
 ghost use Rattle.hex.specs.Hex.{is_hex_digit};
 ghost use Rattle.iso_parts.specs.Row.{is_coded, is_pad_byte};
 ghost use Rattle.iso_parts.specs.Part.{characters, pairs, plain, with_filler, Keeps};
-ghost use Rattle.iso_parts.specs.Reading.{AppendsRead, body_size, text_of};
+ghost use Rattle.iso_parts.specs.Reading.{AppendsRead, is_plain, body_size, text_of};
 
 use crate::class::CharClass;
 use crate::fault::FieldFault;
@@ -152,14 +152,23 @@ impl Coding {
         }
     }
 
+    /// Whether a character is a byte.
+    pub(crate) fn is_plain(self) -> bool
+        ensures { result ≡ is_plain self }
+    {
+        self == Coding::Ascii || self == Coding::Raw
+    }
+
     /// How many bytes so many characters take.
     pub(crate) fn body_size(self, n: u16) -> usize
         ensures { result ≡ body_size self n }
     {
-        match self {
-            Coding::Bcd => (n as usize + 1) / 2,
-            Coding::HexText => 2 * n as usize,
-            _ => n as usize,
+        if self.is_plain() {
+            n as usize
+        } else if self == Coding::Bcd {
+            (n as usize + 1) / 2
+        } else {
+            2 * n as usize
         }
     }
 

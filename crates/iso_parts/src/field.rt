@@ -10,6 +10,7 @@ ghost use Rattle.iso_parts.specs.Reading.{prefix_size, Reads, AppendsRead, Appen
 
 use crate::encoding::Coding;
 use crate::fault::FieldFault;
+use crate::judging::judge_length;
 use crate::padding::Pad;
 use crate::prefix::LONGEST_FIXED;
 use crate::spec::FieldSpec;
@@ -153,7 +154,7 @@ pub fn encode_field(spec: &FieldSpec, value: &[u8], out: &mut Vec<u8>) -> Result
 }
 
 /// The count of characters that a whole length tells.
-#[inline]
+#[inline(always)]
 pub(crate) fn prefix_of(spec: &FieldSpec, prefix: &[u8]) -> Result<u16, FieldFault>
     requires { length prefix.now ≡ prefix_size spec.now.length }
     ensures { result ≡ prefix_of spec.now prefix.now }
@@ -191,17 +192,24 @@ fn settle(spec: &FieldSpec, before: usize, out: &mut Vec<u8>) -> Result<(), Fiel
     Ok(())
 }
 
+/// Appends the value that a whole body of `n` characters tells, which are packed or hexadecimal digits.
+#[inline(never)]
+fn push_coded(spec: &FieldSpec, n: u16, body: &[u8], out: &mut Vec<u8>) -> Result<(), FieldFault>
+    ensures { AppendsRead out.old.items out.new.items result (body_of spec.now n body.now) }
+{
+    let before = out.len();
+    spec.coding.push_text(n, body, out)?;
+    settle(spec, before, out)
+}
+
 /// Appends the value that a whole body of `n` characters tells.
 fn push_body(spec: &FieldSpec, n: u16, body: &[u8], out: &mut Vec<u8>) -> Result<(), FieldFault>
     ensures { AppendsRead out.old.items out.new.items result (body_of spec.now n body.now) }
 {
-    match spec.coding {
-        Coding::Ascii | Coding::Raw => push_value(spec, body, out),
-        Coding::Bcd | Coding::HexText => {
-            let before = out.len();
-            spec.coding.push_text(n, body, out)?;
-            settle(spec, before, out)
-        }
+    if spec.coding.is_plain() {
+        push_value(spec, body, out)
+    } else {
+        push_coded(spec, n, body, out)
     }
 }
 
@@ -216,13 +224,14 @@ pub fn append_value(
     ensures exact { AppendsValue out.old.items out.new.items result (part_at spec.now bytes.now) }
     ensures room { IfOk result (λ got. IfSome got (λ used. used ≤ length bytes.now)) }
 {
+    let n = match judge_length(spec, bytes) {
+        Ok(Some(n)) => n,
+        Ok(None) => return Ok(None),
+        Err(fault) => return Err(fault),
+    };
     let front = spec.length.prefix_size();
-    if bytes.len() < front {
-        return Ok(None);
-    }
-    let (prefix, rest) = bytes.split_at(front);
-    let n = prefix_of(spec, prefix)?;
     let size = spec.coding.body_size(n);
+    let (_, rest) = bytes.split_at(front);
     if rest.len() < size {
         return Ok(None);
     }

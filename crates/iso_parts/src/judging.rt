@@ -1,13 +1,13 @@
 //! Judging fields without their values, and without memory.
 
-ghost use Rattle.std.specs.Prelude.{◌≡◌, ◌≢◌, ◌≤◌, ◌+◌, ◌*◌, ◌/◌, ℕ, List, take, drop, length, IfErr, IfOk, IfSome};
+ghost use Rattle.std.specs.Prelude.{◌≡◌, ◌≢◌, ◌≤◌, ◌+◌, ◌*◌, ◌/◌, ℕ, List, take, drop, length, IfErr, IfOk, IfSome, true, false};
 ghost use Rattle.std.specs.List.{list_all};
 ghost use Rattle.iso_parts.specs.Building.{IsPart};
 ghost use Rattle.iso_parts.specs.Class.{is_digit};
 ghost use Rattle.iso_parts.specs.Row.{IsGood};
 ghost use Rattle.iso_parts.specs.declared.fault.FieldFault.TheVariants.{Memory};
 ghost use Rattle.iso_parts.specs.Part.{characters, Part};
-ghost use Rattle.iso_parts.specs.Reading.{IsJudged, Judges, IfJudged, count_at, size_at, prefix_size, body_size, value_of, body_of, part_at};
+ghost use Rattle.iso_parts.specs.Reading.{IsJudged, Judges, IfJudged, is_plain, count_at, size_at, prefix_size, body_size, value_of, body_of, part_at};
 
 use crate::class::CharClass;
 use crate::encoding::{Coding, are_hex_digits};
@@ -151,23 +151,67 @@ fn judge_hex(spec: &FieldSpec, n: u16, body: &[u8]) -> Result<(), FieldFault>
     }
 }
 
-/// Judges a whole body of `n` characters.
+/// Judges a whole body of `n` characters that are packed or hexadecimal digits.
+#[inline(never)]
 #[tactic(auto, using(crate::proofs::Counts::padded_few))]
+fn judge_coded(spec: &FieldSpec, n: u16, body: &[u8]) -> Result<(), FieldFault>
+    requires good { IsGood spec.now }
+    requires few { n ≤ spec.now.max }
+    requires coded { is_plain spec.now.coding ≡ false }
+    requires size { length body.now ≡ body_size spec.now.coding n }
+    ensures { IsJudged result (body_of spec.now n body.now) }
+{
+    if spec.coding == Coding::Bcd {
+        judge_packed(spec, n, body)
+    } else {
+        judge_hex(spec, n, body)
+    }
+}
+
+/// Judges a whole body of `n` characters.
 fn judge_whole(spec: &FieldSpec, n: u16, body: &[u8]) -> Result<(), FieldFault>
     requires good { IsGood spec.now }
     requires few { n ≤ spec.now.max }
     requires size { length body.now ≡ body_size spec.now.coding n }
     ensures { IsJudged result (body_of spec.now n body.now) }
 {
-    match spec.coding {
-        Coding::Ascii | Coding::Raw => judge_text(spec, body),
-        Coding::Bcd => judge_packed(spec, n, body),
-        Coding::HexText => judge_hex(spec, n, body),
+    if spec.coding.is_plain() {
+        judge_text(spec, body)
+    } else {
+        judge_coded(spec, n, body)
     }
+}
+
+/// Judges the length that the bytes begin with.
+#[inline(always)]
+fn judge_prefix(spec: &FieldSpec, bytes: &[u8]) -> Result<Option<u16>, FieldFault>
+    ensures exact { result ≡ count_at spec.now bytes.now }
+    ensures few { IfOk result (λ got. IfSome got (λ n. n ≤ spec.now.max)) }
+    ensures room { IfOk result (λ got. IfSome got (λ n. prefix_size spec.now.length ≤ length bytes.now)) }
+    ensures memory { IfErr result (λ e. e ≢ Memory) }
+{
+    let front = spec.length.prefix_size();
+    if bytes.len() < front {
+        return Ok(None);
+    }
+    let (prefix, _) = bytes.split_at(front);
+    Ok(Some(prefix_of(spec, prefix)?))
+}
+
+/// What [`judge_prefix`] answers, in code of its own: rows that have a length are fewer than the others.
+#[inline(never)]
+fn judge_prefix_apart(spec: &FieldSpec, bytes: &[u8]) -> Result<Option<u16>, FieldFault>
+    ensures exact { result ≡ count_at spec.now bytes.now }
+    ensures few { IfOk result (λ got. IfSome got (λ n. n ≤ spec.now.max)) }
+    ensures room { IfOk result (λ got. IfSome got (λ n. prefix_size spec.now.length ≤ length bytes.now)) }
+    ensures memory { IfErr result (λ e. e ≢ Memory) }
+{
+    judge_prefix(spec, bytes)
 }
 
 /// Judges the length that the bytes begin with, and gives the count of characters that it tells, at most the row's
 /// maximum; `None` where bytes are missing. Without a length the count is the maximum. Takes no memory.
+#[inline(always)]
 pub fn judge_length(spec: &FieldSpec, bytes: &[u8]) -> Result<Option<u16>, FieldFault>
     ensures exact { result ≡ count_at spec.now bytes.now }
     ensures few { IfOk result (λ got. IfSome got (λ n. n ≤ spec.now.max)) }
@@ -175,14 +219,10 @@ pub fn judge_length(spec: &FieldSpec, bytes: &[u8]) -> Result<Option<u16>, Field
     ensures memory { IfErr result (λ e. e ≢ Memory) }
 {
     if spec.length == Length::Fixed {
-        return Ok(Some(spec.max));
+        Ok(Some(spec.max))
+    } else {
+        judge_prefix_apart(spec, bytes)
     }
-    let front = spec.length.prefix_size();
-    if bytes.len() < front {
-        return Ok(None);
-    }
-    let (prefix, _) = bytes.split_at(front);
-    Ok(Some(prefix_of(spec, prefix)?))
 }
 
 /// Judges the body of `n` characters that the bytes begin with, and gives how many bytes it takes; `None` where
@@ -203,19 +243,40 @@ pub fn judge_body(spec: &FieldSpec, n: u16, bytes: &[u8]) -> Result<Option<usize
     Ok(Some(size))
 }
 
-/// What [`judge_field`] answers.
-fn judged_of(spec: &FieldSpec, bytes: &[u8]) -> Result<Judged, FieldFault>
+/// Judges the part of a row without a length, where a character is a byte: only its class is to be judged.
+#[inline(always)]
+fn judge_fixed(spec: &FieldSpec, bytes: &[u8]) -> Result<Judged, FieldFault>
+    requires fixed { spec.now.length ≡ Length.Fixed }
+    requires plain { is_plain spec.now.coding ≡ true }
+    ensures exact { Judges 0 result (part_at spec.now bytes.now) }
+    ensures memory { IfErr result (λ e. e ≢ Memory) }
+    ensures room { IfJudged result (λ body used. (body ≤ used) × (used ≤ length bytes.now)) }
+{
+    let size = spec.max as usize;
+    if bytes.len() < size {
+        return Ok(Judged::More);
+    }
+    judge_text(spec, &bytes[..size])?;
+    Ok(Judged::Got {
+        body: 0,
+        used: size,
+    })
+}
+
+/// Judges the part of any row: its length, and then its body.
+#[inline(never)]
+fn judge_behind_length(spec: &FieldSpec, bytes: &[u8]) -> Result<Judged, FieldFault>
     requires { IsGood spec.now }
     ensures exact { Judges (prefix_size spec.now.length) result (part_at spec.now bytes.now) }
     ensures memory { IfErr result (λ e. e ≢ Memory) }
     ensures room { IfJudged result (λ body used. (body ≤ used) × (used ≤ length bytes.now)) }
 {
-    let front = spec.length.prefix_size();
-    let n = match judge_length(spec, bytes) {
+    let n = match judge_prefix(spec, bytes) {
         Ok(Some(n)) => n,
         Ok(None) => return Ok(Judged::More),
         Err(fault) => return Err(fault),
     };
+    let front = spec.length.prefix_size();
     let (_, rest) = bytes.split_at(front);
     match judge_body(spec, n, rest) {
         Ok(Some(size)) => Ok(Judged::Got {
@@ -224,6 +285,21 @@ fn judged_of(spec: &FieldSpec, bytes: &[u8]) -> Result<Judged, FieldFault>
         }),
         Ok(None) => Ok(Judged::More),
         Err(fault) => Err(fault),
+    }
+}
+
+/// What [`judge_field`] answers: at once where the row has no length and a character is a byte, as most rows do.
+#[inline(always)]
+fn judged_of(spec: &FieldSpec, bytes: &[u8]) -> Result<Judged, FieldFault>
+    requires { IsGood spec.now }
+    ensures exact { Judges (prefix_size spec.now.length) result (part_at spec.now bytes.now) }
+    ensures memory { IfErr result (λ e. e ≢ Memory) }
+    ensures room { IfJudged result (λ body used. (body ≤ used) × (used ≤ length bytes.now)) }
+{
+    if spec.length == Length::Fixed && spec.coding.is_plain() {
+        judge_fixed(spec, bytes)
+    } else {
+        judge_behind_length(spec, bytes)
     }
 }
 

@@ -98,6 +98,7 @@ impl Length {
     }
 
     /// The count that the bytes of a length tell; `max` where none is written.
+    #[inline(always)]
     pub(crate) fn count_of(self, max: u16, prefix: &[u8]) -> Result<u16, FieldFault>
         requires { length prefix.now ≡ prefix_size self }
         ensures { result ≡ count_of self max prefix.now }

@@ -67,6 +67,7 @@ pub fn secondary_of(table: &Table, at: usize, bytes: &[u8]) -> Result<u64, Unpac
 }
 
 /// The words of the bitmaps that the bytes begin with, and how many bytes they take.
+#[inline(always)]
 pub fn words_of(table: &Table, at: usize, bytes: &[u8]) -> Result<(u64, u64, usize), UnpackFault>
     requires { at ≤ 4 }
     ensures exact { result ≡ words_at table.now at bytes.now }

@@ -46,16 +46,16 @@ fn judge_wire(table: &Table, n: u8, at: usize, bytes: &[u8]) -> Result<(usize, u
     let Some(row) = table.row(n) else {
         return Err(UnpackFault::stop(n, at, UnpackCause::UnknownElement(n)));
     };
-    let front = row.length.prefix_size();
     let (_, rest) = bytes.split_at(at);
     match judge_field(row, rest) {
         Ok(Judged::Got { body, used }) => Ok((body, used)),
         Ok(Judged::More) => {
+            let front = row.length.prefix_size();
             let place = if rest.len() < front { at } else { at + front };
             Err(UnpackFault::stop(n, place, UnpackCause::Short))
         }
         Err(fault) => {
-            let place = at + place_of(fault, front);
+            let place = at + place_of(fault, row.length.prefix_size());
             Err(UnpackFault::stop(n, place, UnpackCause::Field(fault)))
         }
     }

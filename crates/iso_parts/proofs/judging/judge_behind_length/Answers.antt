@@ -1,7 +1,7 @@
 use Rattle.std.proofs.Common.{◌+◌, ℕ, List, sym, ap, ◌∙◌}
 use Rattle.iso_parts.specs.Reading.{got}
 use Rattle.iso_parts.proofs.Judges.{length_fails, body_fails, body_good}
-use Rattle.iso_parts.proofs.judging.judged_of.Goals as goal
+use Rattle.iso_parts.proofs.judging.judge_behind_length.Goals as goal
 
 pub returns-in-Err-clause-exact : goal.returns-in-Err-clause-exact
 returns-in-Err-clause-exact c = length_fails c.args.spec.now c.args.bytes.now c.in-Err.fault (sym c.in-Err.ensures.exact)
