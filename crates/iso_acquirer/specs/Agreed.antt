@@ -1,4 +1,5 @@
 -- What holds of both ends, and of all that is in flight between them, after every list of events.
+-- Inner: bodies and proofs cite it, and no public clause does.
 use Rattle.std.specs.Prelude.{◌≡◌, ◌≢◌, ℕ, true, List, Option, Some, option_map}
 use Rattle.std.specs.List.{AllByRecursion}
 use Rattle.iso_order.specs.declared.key.TxKey.{TxKey}

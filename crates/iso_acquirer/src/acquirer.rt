@@ -144,6 +144,7 @@ fn debit(key: TxKey, money: Money) -> Order
     requires fair { IsFair money.amount money.currency key.sent }
     ensures { result ≡ record { key = key; act = Debit money } }
 {
+    // any call on the PAN tells the proof what holds of every PAN
     let _ = money.pan.len();
     Order::new(key, Act::Debit(money)).unwrap()
 }

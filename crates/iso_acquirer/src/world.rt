@@ -108,6 +108,7 @@ impl World {
     pub fn both_agree(&self)
         ensures { BothAgree self.now }
     {
+        // the proof learns here what holds of every world
         let _ = &self.sent;
         granted_stands();
         reversals_stay();
@@ -120,6 +121,7 @@ impl World {
     pub fn books_agree(&self)
         ensures { BooksAgree self.now }
     {
+        // the proof learns here what holds of every world
         let _ = &self.sent;
         journals_grow();
         granted_stands();
@@ -235,6 +237,7 @@ impl World {
         ensures unchanged { OnErr result (self.new ≡ self.old) }
         ensures closed { StaysClosed self.old self.new }
     {
+        // the proof learns here what holds of every world
         let _ = &self.sent;
         match event {
             Event::Begin {

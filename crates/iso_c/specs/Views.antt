@@ -1,4 +1,5 @@
 -- Results whose bytes are looked at.
+-- Inner: bodies and proofs cite it, and no public clause does.
 use Rattle.std.specs.Prelude.{ℕ, List, Result, Ok, Err, Vec}
 use Rattle.iso_c.specs.declared.fault.RumpadolFault.{RumpadolFault}
 

@@ -1,4 +1,5 @@
 -- What reading a frame piece by piece takes from a reader, through a window of the bytes that were read and not yet taken.
+-- Inner: bodies and proofs cite it, and no public clause does.
 use Rattle.std.specs.Prelude.{◌≡◌, ◌≢◌, ℕ, ◌+◌, ◌*◌, ◌<◌, ◌≤◌, List, [], ◌∷◌, length, true, Option, Some, None, Result, Ok, Err}
 use Rattle.std.specs.Io.KnownBytes.{Consumes, Keeps, IsAtEnd}
 use Rattle.iso_wire.specs.declared.header.Header.{Header}

@@ -1,4 +1,5 @@
 -- What the parts of the engine do to a reader and a writer, and what they spend.
+-- Inner: bodies and proofs cite it, and no public clause does.
 use Rattle.std.specs.Prelude.{◌≡◌, ◌⊎◌, ℕ, ◌+◌, ◌<◌, ◌≤◌, List, Result, Ok, Err}
 use Rattle.std.specs.declared.option.Option.{Option}
 use Rattle.std.specs.Io.KnownBytes.{Appends}

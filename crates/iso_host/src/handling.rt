@@ -96,6 +96,7 @@ fn answer_order(issuer: &mut Issuer, order: Order) -> Result<Answer, NoMemory>
     ensures entered { OnOk result (issuer.new ≡ with_orders issuer.old (order ∷ [])) }
     ensures unchanged { OnErr result (issuer.new ≡ issuer.old) }
 {
+    // any call on the issuer tells the proof what holds of every issuer
     let _entries = issuer.len();
     match issuer.handle(order) {
         Ok(answer) => Ok(answer),
@@ -113,6 +114,7 @@ pub fn enters_nothing(issuer: &Issuer)
     ensures { with_orders issuer.now [] ≡ issuer.now }
 {
     firsts_stay();
+    // any call on the issuer tells the proof what holds of every issuer
     let _entries = issuer.len();
 }
 
@@ -204,6 +206,7 @@ fn has_frame(table: &Table, header: Header, message: &Message, answer: &Answer)
     responses_are_well_formed();
     spelled_once();
     well_formed(message);
+    // any call on the table tells the proof that its rows are good
     let _version = table.version();
 }
 

@@ -150,6 +150,7 @@ fn feed_piece(
 {
     reads_spellings();
     are_bytes(piece);
+    // any call on the table tells the proof that its rows are good
     let _version = table.version();
     match unpacker.feed(alloc, piece) {
         Ok(Fed::More) => {

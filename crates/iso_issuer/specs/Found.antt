@@ -1,4 +1,5 @@
 -- What an order finds in the journal, before it is entered.
+-- Inner: bodies and proofs cite it, and no public clause does.
 use Rattle.std.specs.Prelude.{◌≡◌, ℕ, Bool, true, false, List, Option, Some, None, option_map}
 use Rattle.std.specs.Option.{option_or}
 use Rattle.iso_order.specs.declared.act.Act.{Act}

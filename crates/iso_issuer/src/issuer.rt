@@ -129,6 +129,7 @@ impl Issuer {
         ensures unchanged { OnErr result (self.new ≡ self.old) }
     {
         // The keys are distinct, before any order is handled.
+        // the proof learns here what holds of every issuer
         let _ = &self.journal;
         let mut answers = Vec::with_capacity(alloc, orders.len())?;
         for order in orders {

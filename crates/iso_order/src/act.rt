@@ -81,6 +81,7 @@ impl Money {
     fn is_account(&self) -> bool
         ensures { result ≡ is_account self.now }
     {
+        // any call on the PAN tells the proof what holds of every PAN
         let _digits = self.pan.len();
         is_currency(&self.currency)
     }

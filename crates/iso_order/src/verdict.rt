@@ -216,6 +216,7 @@ fn account(pan: Pan, currency: [u8; 3]) -> Money
     ensures money { result ≡ record { pan = pan; amount = 0; currency = currency } }
     ensures account { is_account result ≡ true }
 {
+    // any call on the PAN tells the proof what holds of every PAN
     let _digits = pan.len();
     Money {
         pan,

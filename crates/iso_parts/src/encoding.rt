@@ -172,8 +172,9 @@ impl Coding {
         }
     }
 
-    /// Appends what stands for the characters.
-    pub(crate) fn append_text(self, text: &[u8], out: &mut Vec<u8>) -> Result<(), AllocError>
+    /// Appends what stands for the characters, which are packed or hexadecimal digits.
+    #[inline(never)]
+    fn append_coded(self, text: &[u8], out: &mut Vec<u8>) -> Result<(), AllocError>
         requires { length text.now ≤ 65535 }
         ensures ok { OnOk result (out.new.items ≡ out.old.items ++ plain self text.now) }
         ensures err { OnErr result (Keeps out.old.items out.new.items) }
@@ -182,6 +183,20 @@ impl Coding {
             Coding::Ascii | Coding::Raw => out.extend_from_slice(text),
             Coding::Bcd => append_bcd(text, out),
             Coding::HexText => append_hex(text, out),
+        }
+    }
+
+    /// Appends what stands for the characters.
+    #[inline(always)]
+    pub(crate) fn append_text(self, text: &[u8], out: &mut Vec<u8>) -> Result<(), AllocError>
+        requires { length text.now ≤ 65535 }
+        ensures ok { OnOk result (out.new.items ≡ out.old.items ++ plain self text.now) }
+        ensures err { OnErr result (Keeps out.old.items out.new.items) }
+    {
+        if self.is_plain() {
+            out.extend_from_slice(text)
+        } else {
+            self.append_coded(text, out)
         }
     }
 

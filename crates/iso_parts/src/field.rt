@@ -12,7 +12,7 @@ use crate::encoding::Coding;
 use crate::fault::FieldFault;
 use crate::judging::judge_length;
 use crate::padding::Pad;
-use crate::prefix::LONGEST_FIXED;
+use crate::prefix::{LONGEST_FIXED, LONGEST_PREFIX};
 use crate::spec::FieldSpec;
 use std::alloc::{AllocError, Global};
 use std::fmt;
@@ -94,7 +94,7 @@ fn append_filled_bcd(spec: &FieldSpec, value: &[u8], out: &mut Vec<u8>) -> Resul
     Coding::Bcd.append_text(text, out)
 }
 
-/// Room for the part of a value of so many characters.
+/// Room for the part of a value of so many characters, whatever its length and its coding.
 fn room_for(spec: &FieldSpec, count: usize) -> usize
     requires few { count ≤ longest_value }
     requires small { spec.now.max ≤ longest_value }
@@ -104,7 +104,7 @@ fn room_for(spec: &FieldSpec, count: usize) -> usize
     } else {
         spec.max as usize
     };
-    spec.length.prefix_size() + 2 * characters
+    LONGEST_PREFIX + 2 * characters
 }
 
 /// Appends the plain part of a value that fits. Where memory runs out, more than was there may stand behind it.

@@ -14,6 +14,9 @@ pub const LONGEST_VALUE: usize = 9_999;
 /// The most characters of a value of a fixed length, so also of one that is filled up.
 pub(crate) const LONGEST_FIXED: usize = 999;
 
+/// The most bytes that a length takes.
+pub(crate) const LONGEST_PREFIX: usize = 4;
+
 /// How decimal digits are written.
 #[derive(Clone, Copy, Debug, PartialEq, Eq)]
 pub enum Digits {
@@ -127,8 +130,8 @@ impl Length {
         }
     }
 
-    /// Appends the length of a value.
-    pub(crate) fn append(self, n: usize, out: &mut Vec<u8>) -> Result<(), AllocError>
+    /// Appends the digits of a length.
+    fn append_digits(self, n: usize, out: &mut Vec<u8>) -> Result<(), AllocError>
         requires { n ≤ limit self }
         ensures ok { OnOk result (out.new.items ≡ out.old.items ++ prefix self n) }
         ensures err { OnErr result (out.new.items ≡ out.old.items) }
@@ -146,5 +149,18 @@ impl Length {
             Length::LLL(Digits::Bcd) => out.extend_from_slice(&[hundreds, 16 * tens + ones]),
             Length::LLLL(digits) => append_four(digits, n, out),
         }
+    }
+
+    /// Appends the length of a value, at once where the row has none.
+    #[inline(always)]
+    pub(crate) fn append(self, n: usize, out: &mut Vec<u8>) -> Result<(), AllocError>
+        requires { n ≤ limit self }
+        ensures ok { OnOk result (out.new.items ≡ out.old.items ++ prefix self n) }
+        ensures err { OnErr result (out.new.items ≡ out.old.items) }
+    {
+        if self == Length::Fixed {
+            return Ok(());
+        }
+        self.append_digits(n, out)
     }
 }

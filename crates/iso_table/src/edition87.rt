@@ -31,61 +31,61 @@ const BLANKS: Pad = Right(0x20);
 
 /// The elements of the 1987 edition.
 const GROUPS: [Group; 55] = [
-    Group(2, 2, N, LL, 19, Unpadded),
-    Group(3, 3, N, Fixed, 6, Unpadded),
-    Group(4, 6, N, Fixed, 12, Unpadded),
-    Group(7, 7, N, Fixed, 10, Unpadded),
-    Group(8, 10, N, Fixed, 8, Unpadded),
-    Group(11, 12, N, Fixed, 6, Unpadded),
-    Group(13, 18, N, Fixed, 4, Unpadded),
-    Group(19, 24, N, Fixed, 3, Unpadded),
-    Group(25, 26, N, Fixed, 2, Unpadded),
-    Group(27, 27, N, Fixed, 1, Unpadded),
-    Group(28, 31, XN, Fixed, 9, Unpadded),
-    Group(32, 33, N, LL, 11, Unpadded),
-    Group(34, 34, ANS, LL, 28, Unpadded),
-    Group(35, 35, ZD, LL, 37, Unpadded),
-    Group(36, 36, ZD, LLL, 104, Unpadded),
-    Group(37, 37, ANS, Fixed, 12, Unpadded),
-    Group(38, 38, ANS, Fixed, 6, Unpadded),
-    Group(39, 39, AN, Fixed, 2, Unpadded),
-    Group(40, 40, AN, Fixed, 3, Unpadded),
-    Group(41, 41, ANS, Fixed, 8, BLANKS),
-    Group(42, 42, ANS, Fixed, 15, BLANKS),
-    Group(43, 43, ANS, Fixed, 40, BLANKS),
-    Group(44, 44, ANS, LL, 25, Unpadded),
-    Group(45, 45, ANS, LL, 76, Unpadded),
-    Group(46, 48, ANS, LLL, 999, Unpadded),
-    Group(49, 51, AN, Fixed, 3, Unpadded),
-    Group(52, 52, B, Fixed, 8, Unpadded),
-    Group(53, 53, N, Fixed, 16, Unpadded),
-    Group(54, 54, ANS, LLL, 120, Unpadded),
-    Group(55, 55, B, LLL, 999, Unpadded),
-    Group(56, 63, ANS, LLL, 999, Unpadded),
-    Group(64, 64, B, Fixed, 8, Unpadded),
-    Group(66, 66, N, Fixed, 1, Unpadded),
-    Group(67, 67, N, Fixed, 2, Unpadded),
-    Group(68, 70, N, Fixed, 3, Unpadded),
-    Group(71, 72, N, Fixed, 4, Unpadded),
-    Group(73, 73, N, Fixed, 6, Unpadded),
-    Group(74, 81, N, Fixed, 10, Unpadded),
-    Group(82, 85, N, Fixed, 12, Unpadded),
-    Group(86, 89, N, Fixed, 16, Unpadded),
-    Group(90, 90, N, Fixed, 42, Unpadded),
-    Group(91, 91, AN, Fixed, 1, Unpadded),
-    Group(92, 92, AN, Fixed, 2, Unpadded),
-    Group(93, 93, AN, Fixed, 5, Unpadded),
-    Group(94, 94, AN, Fixed, 7, Unpadded),
-    Group(95, 95, AN, Fixed, 42, Unpadded),
-    Group(96, 96, B, Fixed, 8, Unpadded),
-    Group(97, 97, XN, Fixed, 17, Unpadded),
-    Group(98, 98, ANS, Fixed, 25, BLANKS),
-    Group(99, 100, N, LL, 11, Unpadded),
-    Group(101, 101, ANS, LL, 17, Unpadded),
-    Group(102, 103, ANS, LL, 28, Unpadded),
-    Group(104, 104, ANS, LLL, 100, Unpadded),
-    Group(105, 127, ANS, LLL, 999, Unpadded),
-    Group(128, 128, B, Fixed, 8, Unpadded),
+    Group(2, 2, N, LL, 19, Unpadded), // primary account number (PAN)
+    Group(3, 3, N, Fixed, 6, Unpadded), // processing code
+    Group(4, 6, N, Fixed, 12, Unpadded), // amounts: transaction, settlement, cardholder billing
+    Group(7, 7, N, Fixed, 10, Unpadded), // transmission date and time
+    Group(8, 10, N, Fixed, 8, Unpadded), // cardholder billing fee, conversion rates
+    Group(11, 12, N, Fixed, 6, Unpadded), // system trace audit number, local time
+    Group(13, 18, N, Fixed, 4, Unpadded), // dates: local, expiration, settlement, conversion, capture; merchant type
+    Group(19, 24, N, Fixed, 3, Unpadded), // country codes, entry mode, card sequence number, network
+    Group(25, 26, N, Fixed, 2, Unpadded), // point of service: condition code, PIN capture code
+    Group(27, 27, N, Fixed, 1, Unpadded), // authorization identification response length
+    Group(28, 31, XN, Fixed, 9, Unpadded), // fees
+    Group(32, 33, N, LL, 11, Unpadded), // acquiring and forwarding institution
+    Group(34, 34, ANS, LL, 28, Unpadded), // PAN, extended
+    Group(35, 35, ZD, LL, 37, Unpadded), // track 2
+    Group(36, 36, ZD, LLL, 104, Unpadded), // track 3
+    Group(37, 37, ANS, Fixed, 12, Unpadded), // retrieval reference number
+    Group(38, 38, ANS, Fixed, 6, Unpadded), // authorization identification response
+    Group(39, 39, AN, Fixed, 2, Unpadded), // response code
+    Group(40, 40, AN, Fixed, 3, Unpadded), // service restriction code
+    Group(41, 41, ANS, Fixed, 8, BLANKS), // terminal
+    Group(42, 42, ANS, Fixed, 15, BLANKS), // card acceptor
+    Group(43, 43, ANS, Fixed, 40, BLANKS), // card acceptor's name and location
+    Group(44, 44, ANS, LL, 25, Unpadded), // additional response data
+    Group(45, 45, ANS, LL, 76, Unpadded), // track 1
+    Group(46, 48, ANS, LLL, 999, Unpadded), // additional data: ISO, national, private
+    Group(49, 51, AN, Fixed, 3, Unpadded), // currency codes
+    Group(52, 52, B, Fixed, 8, Unpadded), // PIN data
+    Group(53, 53, N, Fixed, 16, Unpadded), // security related control information
+    Group(54, 54, ANS, LLL, 120, Unpadded), // additional amounts
+    Group(55, 55, B, LLL, 999, Unpadded), // reserved, ISO (chip data)
+    Group(56, 63, ANS, LLL, 999, Unpadded), // reserved: ISO, national, private
+    Group(64, 64, B, Fixed, 8, Unpadded), // message authentication code
+    Group(66, 66, N, Fixed, 1, Unpadded), // settlement code
+    Group(67, 67, N, Fixed, 2, Unpadded), // extended payment code
+    Group(68, 70, N, Fixed, 3, Unpadded), // country codes, network management information code
+    Group(71, 72, N, Fixed, 4, Unpadded), // message numbers
+    Group(73, 73, N, Fixed, 6, Unpadded), // date, action
+    Group(74, 81, N, Fixed, 10, Unpadded), // numbers of credits, debits, transfers, inquiries, authorizations
+    Group(82, 85, N, Fixed, 12, Unpadded), // fees of credits and debits
+    Group(86, 89, N, Fixed, 16, Unpadded), // amounts of credits and debits
+    Group(90, 90, N, Fixed, 42, Unpadded), // original data elements
+    Group(91, 91, AN, Fixed, 1, Unpadded), // file update code
+    Group(92, 92, AN, Fixed, 2, Unpadded), // file security code
+    Group(93, 93, AN, Fixed, 5, Unpadded), // response indicator
+    Group(94, 94, AN, Fixed, 7, Unpadded), // service indicator
+    Group(95, 95, AN, Fixed, 42, Unpadded), // replacement amounts
+    Group(96, 96, B, Fixed, 8, Unpadded), // message security code
+    Group(97, 97, XN, Fixed, 17, Unpadded), // amount, net settlement
+    Group(98, 98, ANS, Fixed, 25, BLANKS), // payee
+    Group(99, 100, N, LL, 11, Unpadded), // settlement and receiving institution
+    Group(101, 101, ANS, LL, 17, Unpadded), // file name
+    Group(102, 103, ANS, LL, 28, Unpadded), // account identifications
+    Group(104, 104, ANS, LLL, 100, Unpadded), // transaction description
+    Group(105, 127, ANS, LLL, 999, Unpadded), // reserved: ISO, national, private
+    Group(128, 128, B, Fixed, 8, Unpadded), // message authentication code
 ];
 
 impl Kind {

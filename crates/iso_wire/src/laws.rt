@@ -18,6 +18,7 @@ fn of_bytes(index: &[Entry], values: &[u8])
 pub fn well_formed(message: &Message)
     ensures { WellFormed message.now }
 {
+    // any call on the message tells the proof what holds of every message
     let _mti = message.mti();
     let elements = message.parts();
     of_bytes(&elements.index, &elements.values);

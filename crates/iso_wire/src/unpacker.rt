@@ -108,6 +108,7 @@ fn take_first(
     ensures resumed { IsResumed table.now result.0 taken.new.items }
     ensures good { AreGood table.now.rows }
 {
+    // any call on the table tells the proof that its rows are good
     let _version = table.version();
     let (reached, read) = judge_from(table, Stage::Type, piece);
     if let Err(fault) = read {
@@ -140,6 +141,7 @@ fn take_next(
     ensures resumed { IsResumed table.now result.0 taken.new.items }
     ensures good { AreGood table.now.rows }
 {
+    // any call on the table tells the proof that its rows are good
     let _version = table.version();
     let before = taken.len();
     if taken.extend_from_slice(piece).is_err() {
