@@ -1,6 +1,7 @@
 //! Fields: a value as the part of a message, its length and then its body.
 
-ghost use Rattle.std.specs.Prelude.{IfOk, IfSome, drop, vec_len, ◌≡◌, ◌≢◌, ℕ, List, take, ◌+◌, ◌-◌, ◌≤◌, ◌++◌, ◌↔◌, length, replicate};
+ghost use Rattle.std.specs.Prelude.{◌≡◌, ◌≢◌, ◌≤◌, ◌↔◌, ◌+◌, ◌-◌, ◌++◌, ℕ, List, length, take, drop, replicate, vec_len};
+ghost use Rattle.std.specs.Prelude.{IfOk, IfSome};
 ghost use Rattle.std.specs.Prelude.{OnOk, OnErr, IfErr, IsTrue, None, Some};
 ghost use Rattle.iso_parts.specs.declared.fault.FieldFault.TheVariants.{Memory};
 ghost use Rattle.iso_parts.specs.declared.prefix.Length.TheVariants.{Fixed};

@@ -237,13 +237,16 @@ fn unpack_whole(
     bytes: &[u8],
 ) -> Result<(Message, usize), UnpackFault>
     ensures found { IfOk result (λ x. BeginsWith table.now x.0 x.1 bytes.now) }
-    ensures only { (m : Contents) (front rest : List ℕ) → Spelling table.now m front → bytes.now ≡ front ++ rest → Unpacks result (whole m (length front)) }
+    ensures only { (m : Contents) (front rest : List ℕ) → Spelling table.now m front → bytes.now ≡ front ++ rest
+        → Unpacks result (whole m (length front)) }
     ensures exact { Unpacks result (message_at table.now bytes.now) }
     ensures memory { IfErr result (λ e. e.cause ≡ Memory → e ≡ out_of_memory) }
     ensures stops { IfErr result (λ e. e.cause ≢ Memory → Stops table.now bytes.now e.at e.element e.cause) }
-    ensures told { (at element : ℕ) (cause : UnpackCause) → Stops table.now bytes.now at element cause → Unpacks result (halt element at cause) }
+    ensures told { (at element : ℕ) (cause : UnpackCause) → Stops table.now bytes.now at element cause
+        → Unpacks result (halt element at cause) }
     ensures refused { IfErr result (λ e. e.cause ≢ Memory → BeginsWithNone table.now bytes.now) }
-    ensures settled { IfErr result (λ e. e.cause ≢ Memory → e.cause ≢ Short → (more : List ℕ) → AreBytes more → BeginsWithNone table.now (bytes.now ++ more)) }
+    ensures settled { IfErr result (λ e. e.cause ≢ Memory → e.cause ≢ Short
+        → (more : List ℕ) → AreBytes more → BeginsWithNone table.now (bytes.now ++ more)) }
     ensures one { IsUnambiguous table.now }
 {
     reads_spellings();
@@ -284,7 +287,8 @@ impl<'t> Unpacker<'t> {
         // A fault tells where the bytes taken and then the piece stop, and why; more is wanted where they are too short;
         ensures stops { self.old.stopped ≡ None → StopsFed self.old.table (self.old.taken ++ piece.now) result }
         // and where they stop is answered.
-        ensures told { self.old.stopped ≡ None → (at element : ℕ) (cause : UnpackCause) → Stops self.old.table (self.old.taken ++ piece.now) at element cause
+        ensures told { self.old.stopped ≡ None → (at element : ℕ) (cause : UnpackCause)
+            → Stops self.old.table (self.old.taken ++ piece.now) at element cause
             → Feeds (length self.old.taken) result (halt element at cause) }
         // What is done is spelled by the first bytes, more is wanted only where none of them spells a message, and
         // a fault comes only where no continuation begins with a spelling.
@@ -312,7 +316,8 @@ impl<'t> Unpacker<'t> {
         // What is read is spelled by the first bytes.
         ensures found { IfOk result (λ x. BeginsWith self.old.table x.0 x.1 bytes.now) }
         // What the first bytes spell is read, unless memory runs out.
-        ensures only { (m : Contents) (front rest : List ℕ) → Spelling self.old.table m front → bytes.now ≡ front ++ rest → Unpacks result (whole m (length front)) }
+        ensures only { (m : Contents) (front rest : List ℕ) → Spelling self.old.table m front → bytes.now ≡ front ++ rest
+            → Unpacks result (whole m (length front)) }
         // Which fault it is, and where, unless memory ran out,
         ensures exact { Unpacks result (message_at self.old.table bytes.now) }
         // and then it tells no place.
@@ -320,7 +325,8 @@ impl<'t> Unpacker<'t> {
         // A fault tells where the bytes stop, by their whole pieces, and why,
         ensures stops { IfErr result (λ e. e.cause ≢ Memory → Stops self.old.table bytes.now e.at e.element e.cause) }
         // and where they stop is told, unless memory runs out.
-        ensures told { (at element : ℕ) (cause : UnpackCause) → Stops self.old.table bytes.now at element cause → Unpacks result (halt element at cause) }
+        ensures told { (at element : ℕ) (cause : UnpackCause) → Stops self.old.table bytes.now at element cause
+            → Unpacks result (halt element at cause) }
         // A fault comes only where the bytes begin with no spelling,
         ensures refused { IfErr result (λ e. e.cause ≢ Memory → BeginsWithNone self.old.table bytes.now) }
         // and where a whole piece is bad, no continuation begins with one either.

@@ -1,6 +1,7 @@
 //! Reading a message.
 
-ghost use Rattle.std.specs.Prelude.{◌≡◌, ◌≢◌, ℕ, ◌+◌, ◌≤◌, ◌<◌, length, List, take, drop, ◌++◌, option_map, slice_index, IfOk, IfErr, OnOk};
+ghost use Rattle.std.specs.Prelude.{◌≡◌, ◌≢◌, ℕ, ◌+◌, ◌≤◌, ◌<◌, ◌++◌, List};
+ghost use Rattle.std.specs.Prelude.{length, take, drop, option_map, slice_index, IfOk, IfErr, OnOk};
 ghost use Rattle.iso_parts.specs.Mti.{number};
 ghost use Rattle.iso_wire.specs.declared.fault.UnpackCause.{UnpackCause};
 ghost use Rattle.iso_wire.specs.declared.fault.UnpackCause.TheVariants.{Short, Memory};
@@ -225,7 +226,8 @@ pub fn unpack(alloc: Global, table: &Table, bytes: &[u8]) -> Result<(Message, us
     // What is read is spelled by the first bytes.
     ensures found { IfOk result (λ x. BeginsWith table.now x.0 x.1 bytes.now) }
     // What the first bytes spell is read, unless memory runs out.
-    ensures only { (m : Contents) (front rest : List ℕ) → Spelling table.now m front → bytes.now ≡ front ++ rest → Unpacks result (whole m (length front)) }
+    ensures only { (m : Contents) (front rest : List ℕ) → Spelling table.now m front → bytes.now ≡ front ++ rest
+        → Unpacks result (whole m (length front)) }
     // Which fault it is, and where, unless memory ran out,
     ensures exact { Unpacks result (message_at table.now bytes.now) }
     // and then it tells no place.
@@ -233,11 +235,13 @@ pub fn unpack(alloc: Global, table: &Table, bytes: &[u8]) -> Result<(Message, us
     // A fault tells where the bytes stop, by their whole pieces, and why,
     ensures stops { IfErr result (λ e. e.cause ≢ Memory → Stops table.now bytes.now e.at e.element e.cause) }
     // and where they stop is told, unless memory runs out.
-    ensures told { (at element : ℕ) (cause : UnpackCause) → Stops table.now bytes.now at element cause → Unpacks result (halt element at cause) }
+    ensures told { (at element : ℕ) (cause : UnpackCause) → Stops table.now bytes.now at element cause
+        → Unpacks result (halt element at cause) }
     // A fault comes only where the bytes begin with no spelling,
     ensures refused { IfErr result (λ e. e.cause ≢ Memory → BeginsWithNone table.now bytes.now) }
     // and where a whole piece is bad, no continuation begins with one either.
-    ensures settled { IfErr result (λ e. e.cause ≢ Memory → e.cause ≢ Short → (more : List ℕ) → AreBytes more → BeginsWithNone table.now (bytes.now ++ more)) }
+    ensures settled { IfErr result (λ e. e.cause ≢ Memory → e.cause ≢ Short
+        → (more : List ℕ) → AreBytes more → BeginsWithNone table.now (bytes.now ++ more)) }
     // No spelling begins with another, and no bytes spell two messages.
     ensures one { IsUnambiguous table.now }
 {
