@@ -10,7 +10,7 @@ cd "$(dirname "$0")/.." || exit 1
 top=$PWD
 
 # the count of the allocation that is refused: each program makes fewer
-count=400
+count=460
 
 folder=$(mktemp -d)
 trap 'rm -rf "$folder"' EXIT

@@ -1,113 +1,16 @@
 //! A message as lines for human eyes.
 
-ghost use Rattle.std.specs.Prelude.{◌≡◌, ◌<◌, ◌≤◌, ◌++◌, ◌∷◌, [], ℕ, List, length, replicate, OnOk, IfOk, IfErr};
-ghost use Rattle.iso_table.specs.Layout.{row_at};
+ghost use Rattle.std.specs.Prelude.{◌≡◌, ◌++◌, ℕ, List, OnOk, IfOk, IfErr};
 ghost use Rattle.iso_c.specs.Answers.{Replies};
-ghost use Rattle.iso_c.specs.Describing.{hex_digit, hex_of, text_of, value_text, class_by, element_line, element_lines};
-ghost use Rattle.iso_c.specs.Describing.{IsDecimal, IsUsedLine, Describes, DescribesHeld, type_line};
+ghost use Rattle.iso_c.specs.Describing.{IsDecimal, IsUsedLine, Describes, DescribesHeld};
 ghost use Rattle.iso_c.specs.Unpacking.{IsReadFault, IsReadFaultHeld};
 
 use crate::answering::answer;
 use crate::fault::RumpadolFault;
 use crate::slot::RumpadolSlot;
-use crate::words::push_type;
-use iso_parts::CharClass;
 use iso_table::Table;
-use iso_wire::laws::well_formed;
-use iso_wire::{Message, digits_of, masked, unpack, write_decimal};
+use iso_wire::{describe, digits_of, unpack, write_decimal};
 use std::alloc::{AllocError, Global};
-
-/// A hexadecimal digit in upper case.
-fn hex_digit(d: u8) -> u8
-    requires { d < 16 }
-    ensures { result ≡ hex_digit d }
-{
-    if d < 10 { b'0' + d } else { b'7' + d }
-}
-
-/// Appends two hexadecimal digits for each byte.
-fn push_hex(bytes: &[u8], out: &mut Vec<u8>) -> Result<(), AllocError>
-    ensures { OnOk result (out.new.items ≡ out.old.items ++ hex_of bytes.now) }
-{
-    for b in bytes {
-        out.extend_from_slice(&[hex_digit(*b / 16), hex_digit(*b % 16)])?;
-    }
-    Ok(())
-}
-
-/// Appends bytes as a row of the class shows them.
-fn push_text(class: CharClass, bytes: &[u8], out: &mut Vec<u8>) -> Result<(), AllocError>
-    ensures { OnOk result (out.new.items ≡ out.old.items ++ text_of class bytes.now) }
-{
-    match class {
-        CharClass::B => push_hex(bytes, out),
-        CharClass::N
-        | CharClass::A
-        | CharClass::AN
-        | CharClass::ANS
-        | CharClass::Z
-        | CharClass::ZD
-        | CharClass::XN => out.extend_from_slice(bytes),
-    }
-}
-
-/// Appends so many stars.
-fn push_stars(count: usize, out: &mut Vec<u8>) -> Result<(), AllocError>
-    ensures { OnOk result (out.new.items ≡ out.old.items ++ replicate count 42) }
-{
-    let mut left = count;
-    while left > 0 {
-        out.push(b'*')?;
-        left -= 1;
-    }
-    Ok(())
-}
-
-/// Appends what a bystander may read of a value.
-fn push_value(class: CharClass, n: u8, value: &[u8], out: &mut Vec<u8>) -> Result<(), AllocError>
-    ensures { OnOk result (out.new.items ≡ out.old.items ++ value_text class n value.now) }
-{
-    let shown = masked(n, value);
-    push_text(class, shown.front, out)?;
-    push_stars(shown.hidden, out)?;
-    push_text(class, shown.end, out)
-}
-
-/// The class of an element's row; `B` where it has none.
-fn class_of(table: &Table, n: u8) -> CharClass
-    ensures { result ≡ class_by (row_at table.now.rows n) }
-{
-    match table.row(n) {
-        Some(row) => row.class,
-        None => CharClass::B,
-    }
-}
-
-/// Appends the line of an element.
-fn push_element(table: &Table, n: u8, value: &[u8], out: &mut Vec<u8>) -> Result<(), AllocError>
-    ensures { OnOk result (out.new.items ≡ out.old.items ++ element_line table.now.rows n value.now) }
-{
-    let mut number = [0; 3];
-    write_decimal(&mut number, u64::from(n));
-    out.extend_from_slice(b"DE")?;
-    out.extend_from_slice(&number)?;
-    out.extend_from_slice(b"=")?;
-    push_value(class_of(table, n), n, value, out)?;
-    out.extend_from_slice(b"\n")
-}
-
-/// Appends the lines of the elements.
-fn push_elements(table: &Table, message: &Message, out: &mut Vec<u8>) -> Result<(), AllocError>
-    ensures { OnOk result (out.new.items ≡ out.old.items ++ element_lines table.now.rows message.now.elements) }
-{
-    well_formed(message);
-    for n in 2..129 {
-        if let Some(value) = message.get(n) {
-            push_element(table, n, value, out)?;
-        }
-    }
-    Ok(())
-}
 
 /// Appends a number in decimal.
 fn push_number(v: usize, out: &mut Vec<u8>) -> Result<(), AllocError>
@@ -141,9 +44,7 @@ pub(crate) fn described(
     ensures fault { IfErr result (IsReadFault table.now bytes.now) }
 {
     let (message, used) = unpack(alloc, table, bytes)?;
-    let mut out = Vec::new(alloc);
-    push_type(message.mti().number(), &mut out)?;
-    push_elements(table, &message, &mut out)?;
+    let mut out = describe(alloc, table, &message)?;
     push_used(used, bytes.len(), &mut out)?;
     Ok(out)
 }

@@ -14,7 +14,6 @@ mod slot;
 mod tests;
 mod unpack;
 mod view;
-mod words;
 
 pub use convert::rumpadol_convert;
 pub use describe::rumpadol_describe;

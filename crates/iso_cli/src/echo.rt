@@ -19,12 +19,7 @@ fn answer_of(alloc: Global, table: &Table, message: &Message) -> Result<Vec<u8>,
     let Verdict::Reply(code) = order_of(message) else {
         return Ok(Vec::from_slice(alloc, b"none")?);
     };
-    let answer = Answer {
-        code,
-        seq: 0,
-        shown: None,
-    };
-    let response = respond(alloc, message, &answer)?;
+    let response = respond(alloc, message, &Answer::only(code))?;
     Ok(pack(alloc, table, &response)?)
 }
 

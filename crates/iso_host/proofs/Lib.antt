@@ -1,4 +1,5 @@
 mod BodyLemmas
+mod FrameLemmas
 mod JournalLemmas
 mod OutputLemmas
 mod PieceLemmas

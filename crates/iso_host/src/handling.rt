@@ -20,7 +20,7 @@ use iso_parts::Mti;
 use iso_table::Table;
 use iso_wire::laws::{spelled_once, well_formed};
 use iso_wire::{
-    FrameFault, Header, Message, PackFault, UnpackCause, Unpacker, append_frame, pack_into,
+    Header, Message, PackFault, UnpackCause, Unpacker, append_message, close_frame, open_frame,
 };
 use std::alloc::Global;
 
@@ -43,11 +43,10 @@ pub enum Handled {
     Answered,
 }
 
-/// A response and its bytes, in memory that is kept for the next one.
+/// A response and its frame, in memory that is kept for the next one.
 #[derive(Drop)]
 pub struct Desk {
     response: Message,
-    packed: Vec<u8>,
     pub frame: Vec<u8>,
 }
 
@@ -56,7 +55,6 @@ impl Desk {
     pub fn new(alloc: Global) -> Desk {
         Desk {
             response: Message::new(alloc, NO_TYPE),
-            packed: Vec::new(alloc),
             frame: Vec::new(alloc),
         }
     }
@@ -100,11 +98,7 @@ fn answer_order(issuer: &mut Issuer, order: Order) -> Result<Answer, NoMemory>
     let _entries = issuer.len();
     match issuer.handle(order) {
         Ok(answer) => Ok(answer),
-        Err(Refused::Full) => Ok(Answer {
-            code: 96,
-            seq: 0,
-            shown: None,
-        }),
+        Err(Refused::Full) => Ok(Answer::only(96)),
         Err(Refused::Memory) => Err(NoMemory),
     }
 }
@@ -129,11 +123,7 @@ fn answer_to(issuer: &mut Issuer, message: &Message) -> Result<Option<Answer>, N
     enters_nothing(issuer);
     match order_of(message) {
         Verdict::Silent => Ok(None),
-        Verdict::Reply(code) => Ok(Some(Answer {
-            code,
-            seq: 0,
-            shown: None,
-        })),
+        Verdict::Reply(code) => Ok(Some(Answer::only(code))),
         Verdict::Order(order) => match answer_order(issuer, order) {
             Ok(answer) => Ok(Some(answer)),
             Err(fault) => Err(fault),
@@ -141,28 +131,27 @@ fn answer_to(issuer: &mut Issuer, message: &Message) -> Result<Option<Answer>, N
     }
 }
 
-/// Writes the frame of a response, in place of the bytes that were there. The table refuses none, and each header can
-/// count it.
+/// Writes the frame of a response, in place of the bytes that were there: the response behind room for its header, and
+/// then the header. The table refuses none, and each header can count it.
 fn write_frame(
     table: &Table,
     header: Header,
     response: &Message,
-    packed: &mut Vec<u8>,
-    out: &mut Vec<u8>,
+    frame: &mut Vec<u8>,
 ) -> Result<(), NoMemory>
     requires fits { message_refusal table.now response.now ≡ None }
     requires short { (bytes : List ℕ) → PlainSpelling table.now response.now bytes → length bytes ≤ 9999 }
-    ensures { OnOk result (IsFramed table.now header (Some response.now) out.new.items) }
+    ensures { OnOk result (IsFramed table.now header (Some response.now) frame.new.items) }
 {
-    match pack_into(table, response, packed) {
+    frame.clear();
+    open_frame(header, frame)?;
+    match append_message(table, response, frame) {
         Ok(()) => {}
         Err(PackFault::Memory) => return Err(NoMemory),
         Err(_) => unreachable!(),
     }
-    out.clear();
-    match append_frame(header, packed, out) {
+    match close_frame(header, frame.as_mut_slice()) {
         Ok(()) => Ok(()),
-        Err(FrameFault::Memory) => Err(NoMemory),
         Err(_) => unreachable!(),
     }
 }
@@ -184,13 +173,7 @@ fn answer_frame(
     responses_fit();
     responses_are_short();
     respond_into(message, answer, &mut desk.response)?;
-    write_frame(
-        table,
-        header,
-        &desk.response,
-        &mut desk.packed,
-        &mut desk.frame,
-    )
+    write_frame(table, header, &desk.response, &mut desk.frame)
 }
 
 /// Each response has a frame: the table doesn't refuse it, so it has a plain spelling, which each header can count.

@@ -1,4 +1,5 @@
 -- Accounts, as a document lists them.
+use Rattle.std.specs.Option.{option_or}
 use Rattle.std.proofs.Common.{◌≡◌, ℕ, ◌+◌, ◌<◌, Bool, true, false, cond, List, [], ◌∷◌, ◌++◌, length, drop, take, get_or, map, Option, Some, None, option_map, refl, sym, ap, ◌∙◌, append_assoc, add-one}
 use Rattle.std.specs.Prelude.{is_some, ◌||◌, option_and_then}
 use Rattle.std.proofs.Math.Seq.{drop-cons}
@@ -13,7 +14,7 @@ use Rattle.iso_issuer.specs.declared.balances.Balance.{Balance}
 use Rattle.iso_issuer.specs.Balances.{accounts_of, balance_at}
 use Rattle.iso_issuer.specs.declared.fault.AccountsFault.{AccountsFault}
 use Rattle.iso_issuer.specs.declared.fault.AccountsFault.TheVariants.{Twice, OutOfRange}
-use Rattle.iso_issuer.specs.Document.{listed_in, rows_in, is_listed, as_listed, is_out_of_range, row_fault, or_else, first_fault}
+use Rattle.iso_issuer.specs.Document.{listed_in, rows_in, is_listed, as_listed, is_out_of_range, row_fault, first_fault}
 use Rattle.iso_issuer.proofs.Keys.{same_pan_sym}
 
 -- ---- rows
@@ -74,11 +75,11 @@ ranged false made row h = (refl, cc)
 -- the fault of one account, or else that of the rest
 pub fault_at : (rows : List Listed) (i : ℕ) (row : Listed) (fault : Option AccountsFault) → i < length rows → row ≡ get_or rows i row
     → first_fault [] rows ≡ first_fault (take i rows) (drop i rows) → row_fault (take i rows) row ≡ fault
-    → first_fault [] rows ≡ or_else fault (first_fault (take i rows ++ row ∷ []) (drop (i + 1) rows))
+    → first_fault [] rows ≡ option_or fault (first_fault (take i rows ++ row ∷ []) (drop (i + 1) rows))
 fault_at rows i row fault lt is rest here =
     let less : drop i rows ≡ row ∷ drop (i + 1) rows =
     drop-cons rows i row lt ∙ ap (λ (k : ℕ). get_or rows i row ∷ drop k rows) (sym (add-one i)) ∙ ap (λ (r : Listed). r ∷ drop (i + 1) rows) (sym is) in
-    rest ∙ ap (first_fault (take i rows)) less ∙ ap (λ (o : Option AccountsFault). or_else o (first_fault (take i rows ++ row ∷ []) (drop (i + 1) rows))) here
+    rest ∙ ap (first_fault (take i rows)) less ∙ ap (λ (o : Option AccountsFault). option_or o (first_fault (take i rows ++ row ∷ []) (drop (i + 1) rows))) here
 
 -- the number of an earlier account
 pub fault-twice : (earlier : List Listed) (row : Listed) (i : ℕ) → is_out_of_range row.opening ≡ false → is_listed earlier row.pan ≡ true → length earlier ≡ i → row_fault earlier row ≡ Some (Twice i)

@@ -1,4 +1,5 @@
 -- The accounts that a JSON document lists. The document's shape is our own.
+use Rattle.std.specs.Option.{option_or}
 use Rattle.std.specs.Prelude.{◌≡◌, ℕ, ℤ, pos, negsuc, int_lt, ◌+◌, ◌==◌, ◌||◌, List, [], ◌∷◌, ◌++◌, length, map, Bool, false, Option, None, Some, option_map, option_and_then, Result, Ok, Err, if◌then◌else◌, codes}
 use Rattle.std.specs.List.{list_any}
 use Rattle.std.specs.Str.{IsUtf8}
@@ -6,7 +7,7 @@ use Rattle.serde_json.specs.Data.{Data, Items, no_items, item, Members, no_membe
 use Rattle.serde_json.specs.Find.{get, as_object, as_array, as_str, as_number, as_i64}
 use Rattle.serde_json.specs.Read.{read}
 use Rattle.iso_order.specs.AccountNumber.{AccountNumber}
-use Rattle.iso_order.specs.Order.{same_pan, is_currency}
+use Rattle.iso_order.specs.Order.{same_pan, currency_of}
 use Rattle.iso_order.specs.Pan.{pan_of}
 use Rattle.iso_issuer.specs.declared.account.Account.{Account}
 use Rattle.iso_issuer.specs.declared.document.Listed.{Listed}
@@ -34,10 +35,6 @@ text_at key d = option_and_then as_str (get key d)
 -- the whole number at a member, where it fits an i64
 abbrev pub number_at : List ℕ → Data → Option ℤ
 number_at key d = option_and_then (λ m. option_and_then as_i64 (as_number m)) (get key d)
-
--- three ASCII letters or digits
-abbrev pub currency_of : List ℕ → Option (List ℕ)
-currency_of text = if is_currency text then Some text else None
 
 abbrev pub listed : Option AccountNumber → Option (List ℕ) → Option ℤ → Option Listed
 listed (Some pan) (Some currency) (Some opening) = Some (record { pan = pan; currency = currency; opening = opening })
@@ -78,13 +75,9 @@ row_fault earlier row =
     else if is_listed earlier row.pan then Some (Twice (length earlier))
     else None
 
-abbrev pub or_else : Option AccountsFault → Option AccountsFault → Option AccountsFault
-or_else (Some e) next = Some e
-or_else None next = next
-
 abbrev pub first_fault : List Listed → List Listed → Option AccountsFault
 first_fault earlier [] = None
-first_fault earlier (row ∷ rows) = or_else (row_fault earlier row) (first_fault (earlier ++ row ∷ []) rows)
+first_fault earlier (row ∷ rows) = option_or (row_fault earlier row) (first_fault (earlier ++ row ∷ []) rows)
 
 -- ---- the document
 

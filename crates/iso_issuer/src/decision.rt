@@ -157,10 +157,6 @@ pub fn repeated(entry: Entry, order: Order) -> Answer
     if entry.order.is_same(&order) {
         entry.answer
     } else {
-        Answer {
-            code: 94,
-            seq: 0,
-            shown: None,
-        }
+        Answer::only(94)
     }
 }

@@ -1,18 +1,16 @@
 //! Accounts as a JSON document lists them.
 
 ghost use Rattle.std.specs.Prelude.{◌≡◌, ◌≢◌, ℕ, List, IfOk, IfErr, IsErrOf, None, Some, option_map};
-ghost use Rattle.std.specs.List.{list_all};
 ghost use Rattle.std.specs.Str.{IsUtf8};
 ghost use Rattle.serde_json.specs.Read.{read};
 ghost use Rattle.serde_json.specs.View.{view, items_view};
 ghost use Rattle.iso_order.specs.AccountNumber.{AccountNumber};
-ghost use Rattle.iso_order.specs.Order.{is_letter_or_digit};
 ghost use Rattle.iso_order.specs.Pan.{pan_of};
 ghost use Rattle.iso_issuer.specs.declared.fault.AccountsFault.TheVariants.{NotJson, Shape, Memory};
-ghost use Rattle.iso_issuer.specs.Document.{has_size, text_at, number_at, currency_of, listed_in, rows_in, document_in, IsNotJson};
+ghost use Rattle.iso_issuer.specs.Document.{has_size, text_at, number_at, listed_in, rows_in, document_in, IsNotJson};
 
 use crate::fault::AccountsFault;
-use iso_order::Pan;
+use iso_order::{Pan, currency_of};
 use serde_json::{Category, Value};
 use std::alloc::Global;
 
@@ -46,28 +44,6 @@ fn number_at(value: &Value, key: &str) -> Option<i64>
     ensures { result ≡ number_at key.now (view value.now) }
 {
     value.get(key)?.as_i64()
-}
-
-fn is_letter_or_digit(c: u8) -> bool
-    ensures { result ≡ is_letter_or_digit c }
-{
-    matches!(c, b'0'..=b'9' | b'A'..=b'Z' | b'a'..=b'z')
-}
-
-fn are_letters_or_digits(text: &[u8]) -> bool
-    ensures { result ≡ list_all is_letter_or_digit text.now }
-{
-    text.iter().all(|c| is_letter_or_digit(*c))
-}
-
-/// The currency that three letters or digits are.
-fn currency_of(text: &[u8]) -> Option<[u8; 3]>
-    ensures { result ≡ currency_of text.now }
-{
-    match text {
-        [a, b, c] if are_letters_or_digits(text) => Some([*a, *b, *c]),
-        _ => None,
-    }
 }
 
 /// Two texts are one account number only where they are one text: `01` and `1` are two.

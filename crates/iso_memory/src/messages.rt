@@ -6,9 +6,9 @@ use iso_parts::Mti;
 use iso_table::Table;
 use iso_wire::{
     Fed, FrameFault, Header, Message, PackFault, SetFault, UnpackCause, UnpackFault, Unpacker,
-    append_frame, frame, pack, pack_into, unpack,
+    append_frame, append_message, describe, describe_clear, frame, open_frame, pack, unpack,
 };
-use std::alloc::Global;
+use std::alloc::{AllocError, Global};
 
 /// Puts a value that is longer than the one before it, or than all of them.
 fn sets(alloc: Global, n: u8, value: &[u8]) -> Ended {
@@ -92,6 +92,55 @@ fn appends(alloc: Global) -> Ended {
     Ended::of(was_refused, is_right)
 }
 
+/// The lines of the purchase, with stars in its account number.
+const MASKED: &[u8] =
+    b"MTI=0200 1987 Financial Request Acquirer\nDE002=411111******1111\nDE003=000000\n\
+DE004=000000001000\nDE007=0102030405\nDE011=000007\nDE032=12345\nDE049=840\n";
+
+/// The same lines with the whole account number.
+const CLEAR: &[u8] =
+    b"MTI=0200 1987 Financial Request Acquirer\nDE002=4111111111111111\nDE003=000000\n\
+DE004=000000001000\nDE007=0102030405\nDE011=000007\nDE032=12345\nDE049=840\n";
+
+fn lines_of(
+    alloc: Global,
+    table: &Table,
+    is_clear: bool,
+    message: &Message,
+) -> Result<Vec<u8>, AllocError> {
+    if is_clear {
+        return describe_clear(alloc, table, message);
+    }
+    describe(alloc, table, message)
+}
+
+fn copies(alloc: Global) -> Ended {
+    let Some(message) = purchase(alloc, 200) else {
+        return Ended::Unready;
+    };
+    let first: Result<Message, AllocError> = message.clone();
+    let was_refused = first.is_err();
+    let told: Result<Message, AllocError> = if was_refused { message.clone() } else { first };
+    Ended::of(was_refused, matches!(&told, Ok(copy) if *copy == message))
+}
+
+/// The lines of the purchase, in full or with stars.
+fn describes(alloc: Global, is_clear: bool) -> Ended {
+    let (Ok(table), Some(message)) = (Table::ascii87(alloc), purchase(alloc, 200)) else {
+        return Ended::Unready;
+    };
+    let mut told = lines_of(alloc, &table, is_clear, &message);
+    let was_refused = told.is_err();
+    if was_refused {
+        told = lines_of(alloc, &table, is_clear, &message);
+    }
+    let want = if is_clear { CLEAR } else { MASKED };
+    Ended::of(
+        was_refused,
+        matches!(&told, Ok(lines) if lines.as_slice() == want),
+    )
+}
+
 fn packs(alloc: Global) -> Ended {
     let (Ok(table), Some(message)) = (Table::ascii87(alloc), purchase(alloc, 200)) else {
         return Ended::Unready;
@@ -105,8 +154,8 @@ fn packs(alloc: Global) -> Ended {
     Ended::of(was_refused, is_right)
 }
 
-/// Writes the purchase in place of a byte.
-fn packs_in_place(alloc: Global) -> Ended {
+/// Appends the purchase behind a byte.
+fn appends_a_message(alloc: Global) -> Ended {
     let (Ok(table), Some(message), Ok(mut out)) = (
         Table::ascii87(alloc),
         purchase(alloc, 200),
@@ -114,15 +163,19 @@ fn packs_in_place(alloc: Global) -> Ended {
     ) else {
         return Ended::Unready;
     };
-    let mut told = pack_into(&table, &message, &mut out);
+    let mut told = append_message(&table, &message, &mut out);
     let was_refused = matches!(&told, Err(PackFault::Memory));
     if was_refused {
-        if !out.is_empty() {
+        if out.as_slice() != b"\x07".as_slice() {
             return Ended::Wrong;
         }
-        told = pack_into(&table, &message, &mut out);
+        told = append_message(&table, &message, &mut out);
     }
-    Ended::of(was_refused, told.is_ok() && out.as_slice() == PURCHASE)
+    let (front, behind) = out.split_at(1.min(out.len()));
+    Ended::of(
+        was_refused,
+        told.is_ok() && front == b"\x07".as_slice() && behind == PURCHASE,
+    )
 }
 
 /// Whether a fault is want of memory, which tells no place.
@@ -234,7 +287,24 @@ fn appends_a_frame(alloc: Global) -> Ended {
     Ended::of(was_refused, is_right)
 }
 
-pub fn rows(alloc: Global) -> [(&'static str, Ended); 13] {
+/// Room for a header behind a frame.
+fn opens_a_frame(alloc: Global) -> Ended {
+    let Ok(mut out) = frame(alloc, Header::Binary2, b"0800") else {
+        return Ended::Unready;
+    };
+    let mut told = open_frame(Header::Ascii4, &mut out);
+    let was_refused = told.is_err();
+    if was_refused {
+        if out.as_slice() != b"\x00\x040800".as_slice() {
+            return Ended::Wrong;
+        }
+        told = open_frame(Header::Ascii4, &mut out);
+    }
+    let is_right = told.is_ok() && out.as_slice() == b"\x00\x040800\x00\x00\x00\x00".as_slice();
+    Ended::of(was_refused, is_right)
+}
+
+pub fn rows(alloc: Global) -> [(&'static str, Ended); 17] {
     let long = [b'7'; 300];
     [
         ("Message::set", sets(alloc, 2, &long)),
@@ -243,12 +313,16 @@ pub fn rows(alloc: Global) -> [(&'static str, Ended); 13] {
         ("Message::with_room", makes_room(alloc)),
         ("Message::start_over", starts_over(alloc)),
         ("Message::append", appends(alloc)),
+        ("Message::clone", copies(alloc)),
+        ("describe", describes(alloc, false)),
+        ("describe_clear", describes(alloc, true)),
         ("pack", packs(alloc)),
-        ("pack_into", packs_in_place(alloc)),
+        ("append_message", appends_a_message(alloc)),
         ("unpack", unpacks(alloc)),
         ("Unpacker::feed", feeds_two_pieces(alloc)),
         ("Unpacker::unpack", unpacks_between(alloc)),
         ("frame", frames(alloc)),
         ("append_frame", appends_a_frame(alloc)),
+        ("open_frame", opens_a_frame(alloc)),
     ]
 }

@@ -6,9 +6,11 @@ use crate::known::{
 };
 use iso_acquirer::{Acquirer, State, World};
 use iso_order::{Answer, Verdict, answer_of, order_of, respond, respond_into};
-use iso_parts::{Bitmap, BitmapStep, Judged, judge_field};
+use iso_parts::{Bitmap, BitmapStep, Judged, Mti, judge_field};
 use iso_table::Table;
-use iso_wire::{Framed, Header, Unpacker, pack, pack_into, unframe, unpack, view};
+use iso_wire::{
+    Framed, Header, Unpacker, append_message, close_frame, pack, unframe, unpack, view,
+};
 use std::alloc::Global;
 
 /// The bitmap of the purchase, read and written.
@@ -20,7 +22,7 @@ fn bitmaps() -> bool {
             let size = bits.write_raw(&mut raw);
             let read =
                 matches!(Bitmap::read_raw(&raw), Ok(BitmapStep::Got { bits, .. }) if bits.has(11));
-            read && (used, size, bits.highest()) == (16, 8, 49)
+            read && (used, size, bits.highest(), bits.count()) == (16, 8, 49, 7)
         }
         _ => false,
     }
@@ -53,9 +55,13 @@ fn messages(alloc: Global) -> Ended {
         Verdict::Order(order) => order.key().base == 200,
         _ => false,
     };
-    let is_same = message.equals(&message) && message.mti().is_repeat();
+    let is_same = message.equals(&message) && message == message && message.mti().is_repeat();
+    let is_typed = Mti::from_text(b"0201") == Some(message.mti());
+    let numbered = (message.get_number(4), message.get_number(5)) == (Some(1000), None);
+    let first = message.iter().next() == Some((2, b"4111111111111111".as_slice()));
     let was_there = message.unset(11) && !message.unset(11);
-    Ended::of(false, has && asks && is_same && was_there)
+    let is_told = is_typed && numbered && first;
+    Ended::of(false, has && asks && is_same && is_told && was_there)
 }
 
 /// The key and the code of a response.
@@ -70,7 +76,7 @@ fn responses(alloc: Global) -> Ended {
     Ended::of(false, told)
 }
 
-/// A view of the purchase, its frame, and an unpacker before and after.
+/// A view of the purchase, a frame that is read and one that is closed, and an unpacker before and after.
 fn views(alloc: Global) -> Ended {
     let Ok(table) = Table::ascii87(alloc) else {
         return Ended::Unready;
@@ -89,7 +95,12 @@ fn views(alloc: Global) -> Ended {
         unframe(Header::Ascii4, b"0002ab"),
         Ok(Framed::Got { used: 6, .. })
     );
-    Ended::of(false, was_empty && seen && framed && unpacker.held() == 0)
+    let mut bytes = *b"..ab";
+    let closed = close_frame(Header::Bcd2, &mut bytes).is_ok() && bytes == *b"\x00\x02ab";
+    Ended::of(
+        false,
+        was_empty && seen && framed && closed && unpacker.held() == 0,
+    )
 }
 
 /// A message that is read, and bytes that are written, in memory that has the room.
@@ -105,7 +116,8 @@ fn messages_in_place(alloc: Global) -> Ended {
         return Ended::Unready;
     };
     unpacker.reuse(read);
-    let is_written = pack_into(&table, &message, &mut bytes).is_ok()
+    bytes.clear();
+    let is_written = append_message(&table, &message, &mut bytes).is_ok()
         && bytes.as_slice() == PURCHASE;
     match unpacker.unpack(alloc, PURCHASE) {
         Ok((mut again, 82)) => {

@@ -12,7 +12,7 @@ use Rattle.iso_parts.specs.Class.{is_digit}
 use Rattle.iso_parts.specs.PartLaws.{PartLaws}
 use Rattle.iso_parts.specs.Row.{Fits}
 use Rattle.iso_table.specs.declared.edition87.Group.{Group}
-use Rattle.iso_table.specs.declared.edition87.Kind.TheVariants as kinds
+use Rattle.iso_table.specs.declared.edition87.LengthKind.TheVariants as kinds
 use Rattle.iso_table.specs.Edition87.{IsEdition87, line, none, spec_of, row87}
 use Rattle.iso_table.specs.Layout.{Layout}
 use Rattle.iso_wire.specs.Decimal.{decimal}

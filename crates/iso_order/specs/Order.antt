@@ -1,5 +1,5 @@
 -- What an order is, and which orders a message can carry.
-use Rattle.std.specs.Prelude.{ℕ, Bool, false, List, length, ◌==◌, ◌&&◌, ◌||◌, nat_le}
+use Rattle.std.specs.Prelude.{ℕ, Bool, false, List, length, ◌==◌, ◌&&◌, ◌||◌, nat_le, Option, Some, None, if◌then◌else◌}
 use Rattle.std.specs.List.{list_all}
 use Rattle.std.specs.Str.{bytes_eq}
 use Rattle.iso_order.specs.declared.key.TxKey.{TxKey}
@@ -22,6 +22,10 @@ is_letter_or_digit b = (nat_le 48 b && nat_le b 57) || (nat_le 65 b && nat_le b 
 -- three letters or digits (element 49, currency code)
 abbrev pub is_currency : List ℕ → Bool
 is_currency text = length text == 3 && list_all is_letter_or_digit text
+
+-- the currency that a text is, if it is one
+abbrev pub currency_of : List ℕ → Option (List ℕ)
+currency_of text = if is_currency text then Some text else None
 
 -- an account number and a currency (elements 2, 49)
 abbrev pub is_account : Money → Bool

@@ -1,8 +1,8 @@
 //! What an order asks.
 
-ghost use Rattle.std.specs.Prelude.{◌≡◌, Some, None, if◌then◌else◌};
+ghost use Rattle.std.specs.Prelude.{◌≡◌};
 ghost use Rattle.std.specs.List.{list_all};
-ghost use Rattle.iso_order.specs.Order.{is_letter_or_digit, is_currency, is_account, is_moved, is_hold_for, is_valid_act, same_money, same_act};
+ghost use Rattle.iso_order.specs.Order.{is_letter_or_digit, is_currency, currency_of, is_account, is_moved, is_hold_for, is_valid_act, same_money, same_act};
 
 use crate::key::TxKey;
 use crate::pan::Pan;
@@ -59,9 +59,9 @@ fn is_currency(text: &[u8]) -> bool
     text.len() == 3 && are_letters_or_digits(text)
 }
 
-/// The currency that a text is: three letters or digits.
-pub(crate) fn currency_of(text: &[u8]) -> Option<[u8; 3]>
-    ensures { result ≡ (if is_currency text.now then Some text.now else None) }
+/// The currency that a text is: three letters or digits (element 49). `None` for any other text. Takes no memory.
+pub fn currency_of(text: &[u8]) -> Option<[u8; 3]>
+    ensures { result ≡ currency_of text.now }
 {
     match text {
         [a, b, c] if are_letters_or_digits(text) => Some([*a, *b, *c]),

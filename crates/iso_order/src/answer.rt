@@ -25,3 +25,19 @@ impl Model for Answer {
 
     ghost inverse = { λ v. record { code = v.code; seq = v.seq; shown = v.shown } };
 }
+
+impl Answer {
+    ghost use Rattle.std.specs.Prelude.{◌≡◌, ◌≤◌, None};
+
+    /// A response code alone: the order has no place in the journal, and no balance is shown.
+    pub fn only(code: u8) -> Answer
+        requires { code ≤ 99 }
+        ensures { result ≡ record { code = code; seq = 0; shown = None } }
+    {
+        Answer {
+            code,
+            seq: 0,
+            shown: None,
+        }
+    }
+}

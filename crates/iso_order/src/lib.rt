@@ -17,7 +17,7 @@ mod text;
 mod told;
 mod verdict;
 
-pub use act::{Act, Money};
+pub use act::{Act, Money, currency_of};
 pub use answer::Answer;
 pub use asking::request;
 pub use iso_table::NoMemory;

@@ -1,11 +1,12 @@
 -- Words and their bits.
 use Rattle.std.proofs.Common.{◌≡◌, ◌≢◌, ℕ, ◌+◌, ◌-◌, ◌^◌, ◌<◌, ◌≤◌, Bool, true, eqb, List, ◌++◌, length, take, drop, refl, sym, ap, subst, ◌∙◌, arith, inl, inr}
 use Rattle.std.specs.Int.{bit_at, w64, to_be_bytes}
-use Rattle.std.proofs.lemmas.Nat.{from_be_bytes-to_be_bytes_8}
+use Rattle.std.specs.Int.Bits.{bit_and}
+use Rattle.std.proofs.lemmas.Nat.{and_le_l, from_be_bytes-to_be_bytes_8}
 use Rattle.std.proofs.lemmas.Bool.Decides.{nat_tests}
 use Rattle.std.specs.Int.{trailing_zeros}
 use Rattle.std.proofs.lemmas.Bool.{cases_eq}
-use Rattle.std.proofs.lemmas.Nat.Bits.{bit_at-trailing_zeros}
+use Rattle.std.proofs.lemmas.Nat.Bits.{bit_at_above, bit_at-trailing_zeros}
 use Rattle.std.proofs.lemmas.List.{take_at, drop_at, length-append}
 use Rattle.std.proofs.lemmas.Slice.{take-put_mid}
 use borrow.Rule.Slice.PartMut.{put_mid}
@@ -48,3 +49,7 @@ first_bits s w top others k low high =
 
 pub second_bits : (s : Bitmap) (k : ℕ) → 0 < k → k ≤ 64 → eqb (bit_at s.second (64 - k)) 1 ≡ second_set (contains s) k
 second_bits s k low high = let same : 128 - (64 + k) ≡ 64 - k = omega arith in grind (arith, nat_tests)
+
+-- neither a word nor a part of it has a bit above its width
+pub none_above : (word mask i : ℕ) → word < 2 ^ 64 → 64 ≤ i → bit_at (bit_and word mask) i ≡ bit_at word i
+none_above word mask i fits beyond = bit_at_above (bit_and word mask) 64 i (omega (arith, fits, and_le_l word mask)) beyond ∙ sym (bit_at_above word 64 i fits beyond)

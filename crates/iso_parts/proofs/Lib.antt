@@ -22,3 +22,6 @@ pub mod Extents
 pub mod PieceLaws
 pub mod WordSets
 pub mod HexDigits
+pub mod NumberLaws
+pub mod WalkLaws
+pub mod CountLaws

@@ -2,6 +2,7 @@ pub mod Mti
 pub mod Class
 pub mod Row
 pub mod Bits
+pub mod Numbers
 pub mod BitmapReading
 pub mod FaultNumbers
 pub mod Part

@@ -1,5 +1,8 @@
 -- Message types: four decimal digits, for version, class, function and origin (ISO 8583:1987, message type identifier).
-use Rattle.std.specs.Prelude.{ℕ, ◌+◌, ◌-◌, ◌*◌, ◌/◌, ◌%◌, ◌==◌, ◌||◌, nat_le, Bool, Option, Some, None, if◌then◌else◌}
+use Rattle.std.specs.Prelude.{ℕ, ◌+◌, ◌-◌, ◌*◌, ◌/◌, ◌%◌, ◌==◌, ◌&&◌, ◌||◌, nat_le, Bool, List, [], ◌∷◌, Option, Some, None, if◌then◌else◌}
+use Rattle.iso_parts.specs.declared.prefix.Digits.{Digits}
+use Rattle.iso_parts.specs.declared.prefix.Digits.TheVariants.{Ascii, Bcd}
+use Rattle.iso_parts.specs.Class.{is_digit}
 use Rattle.iso_parts.specs.declared.mti.Mti.{Mti}
 use Rattle.iso_parts.specs.declared.mti.MtiClass.{MtiClass}
 use Rattle.iso_parts.specs.declared.mti.MtiClass.TheVariants.{Authorization, Financial, FileAction, Reversal, Reconciliation, Administrative, FeeCollection, NetworkManagement, Reserved}
@@ -12,9 +15,20 @@ digits m = (m.version, m.class, m.function, m.origin)
 abbrev pub number : Mti → ℕ
 number m = 1000 * m.version + 100 * m.class + 10 * m.function + m.origin
 
+-- how many bytes the digits take
+abbrev pub mti_size : Digits → ℕ
+mti_size Ascii = 4
+mti_size Bcd = 2
+
 -- the digits of a number below 10000
 abbrev pub digits_of : ℕ → Option (ℕ × ℕ × ℕ × ℕ)
 digits_of n = if nat_le n 9999 then Some (n / 1000, n / 100 % 10, n / 10 % 10, n % 10) else None
+
+-- the digits that a text of four ASCII digits writes
+abbrev pub digits_in : List ℕ → Option (ℕ × ℕ × ℕ × ℕ)
+digits_in (a ∷ b ∷ c ∷ d ∷ []) =
+    if is_digit a && is_digit b && is_digit c && is_digit d then Some (a - 48, b - 48, c - 48, d - 48) else None
+digits_in other = None
 
 -- what the class digit means
 abbrev pub class_of : ℕ → MtiClass

@@ -5,6 +5,7 @@ ghost use Rattle.std.specs.Prelude.{◌≡◌, ◌≢◌, ◌+◌, ◌-◌, ◌<
 ghost use Rattle.std.specs.Prelude.{◌↔◌, ℕ, Bool, true, false, IsTrue, List, length, take, drop, OnOk, OnErr};
 
 use crate::bitmap_reading::{hex_word, raw_word, read};
+use crate::bits::{FIRST_BIT, take_bit, with_bit, without_bit};
 use crate::encoding::append_hex;
 use std::alloc::AllocError;
 use thiserror::Error;
@@ -69,16 +70,6 @@ impl BitmapCause {
     }
 }
 
-/// The word with bit `k` set.
-fn with_bit(word: u64, k: u8) -> u64
-    requires { k < 64 }
-    ensures below { (j : ℕ) → k < j → word < 2 ^ j → result < 2 ^ j }
-    ensures added { bit_at result k ≡ 1 }
-    ensures others { (i : ℕ) → i ≢ k → bit_at result i ≡ bit_at word i }
-{
-    word | 1 << k
-}
-
 impl BitmapCoding {
     ghost use Rattle.hex.specs.Hex.{IsBytes};
     ghost use Rattle.iso_parts.specs.Bits.{map_size, in_coding};
@@ -123,6 +114,7 @@ impl BitmapCoding {
 impl Bitmap {
     ghost use Rattle.iso_parts.specs.Bits.{contains, in_words, AreElements, Bitmaps, PlainBitmaps, HasAbove, IsHighest};
     ghost use Rattle.iso_parts.specs.BitmapReading.{ReadsMaps, FoundMaps, IfRead, IsRead, maps_at};
+    ghost use Rattle.iso_parts.specs.Numbers.{numbers_in, members, Takes, first_missing};
 
     /// No number.
     pub fn new() -> Bitmap
@@ -134,13 +126,20 @@ impl Bitmap {
         }
     }
 
-    /// The set of a primary and a secondary bitmap's words, the first bit of each being the most significant.
-    pub(crate) fn from_words(first: u64, second: u64) -> Bitmap
-        requires not_1 { first < 2 ^ 63 }
-        requires not_65 { second < 2 ^ 63 }
-        ensures { (n : ℕ) → contains result n ≡ in_words first second n }
+    /// The set of a primary and a secondary bitmap's words, without the primary one's first bit.
+    pub fn from_words(first: u64, second: u64) -> Bitmap
+        requires { second < 2 ^ 63 }
+        ensures members { members result ≡ numbers_in first second }
+        ensures numbers { AreElements (contains result) }
+        ensures set { first < 2 ^ 63 → (n : ℕ) → contains result n ≡ in_words first second n }
     {
-        Bitmap { first, second }
+        if first < FIRST_BIT {
+            return Bitmap { first, second };
+        }
+        Bitmap {
+            first: first - FIRST_BIT,
+            second,
+        }
     }
 
     /// Whether the number is in the set.
@@ -157,12 +156,51 @@ impl Bitmap {
         }
     }
 
-    /// Whether the set has each number that the words of a primary and a secondary bitmap tell, the first bit of a word
-    /// being the most significant.
-    pub fn has_words(&self, first: u64, second: u64) -> bool
-        ensures { IsTrue result ↔ ((n : ℕ) → in_words first second n ≡ true → contains self.now n ≡ true) }
+    /// Whether the set has each number of another.
+    fn has_all(&self, other: &Bitmap) -> bool
+        ensures { IsTrue result ↔ ((n : ℕ) → contains other.now n ≡ true → contains self.now n ≡ true) }
     {
-        first & self.first == first && second & self.second == second
+        other.first & self.first == other.first && other.second & self.second == other.second
+    }
+
+    /// The least number that isn't in another set.
+    pub fn missing_from(self, other: &Bitmap) -> Option<u8>
+        ensures { result ≡ first_missing (contains other.now) (members self) }
+    {
+        if other.has_all(&self) {
+            return None;
+        }
+        let mut rest = self;
+        while let Some(n) = rest.take_first() {
+            if !other.has(n) {
+                return Some(n);
+            }
+        }
+        None
+    }
+
+    /// Takes the least number out of the set, if it has one.
+    pub fn take_first(&mut self) -> Option<u8>
+        ensures { Takes (members self.old) (members self.new) result }
+    {
+        if self.first != 0 {
+            let (before, rest) = take_bit(self.first);
+            self.first = rest;
+            Some(before + 1)
+        } else if self.second != 0 {
+            let (before, rest) = take_bit(self.second);
+            self.second = rest;
+            Some(before + 65)
+        } else {
+            None
+        }
+    }
+
+    /// How many numbers the set has.
+    pub fn count(&self) -> usize
+        ensures { result ≡ length (members self.now) }
+    {
+        self.first.count_ones() as usize + self.second.count_ones() as usize
     }
 
     /// Puts a number into the set.
@@ -177,6 +215,21 @@ impl Bitmap {
             self.first = with_bit(self.first, 64 - n);
         } else {
             self.second = with_bit(self.second, 128 - n);
+        }
+    }
+
+    /// Takes a number out of the set.
+    pub fn unset(&mut self, n: u8)
+        requires low { 2 ≤ n }
+        requires high { n ≤ 128 }
+        requires not_65 { n ≢ 65 }
+        ensures removed { contains self.new n ≡ false }
+        ensures others { (k : ℕ) → k ≢ n → contains self.new k ≡ contains self.old k }
+    {
+        if n <= 64 {
+            self.first = without_bit(self.first, 64 - n);
+        } else {
+            self.second = without_bit(self.second, 128 - n);
         }
     }
 

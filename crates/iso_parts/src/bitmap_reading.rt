@@ -8,10 +8,8 @@ ghost use Rattle.iso_parts.specs.Bits.{map_size};
 ghost use Rattle.iso_parts.specs.BitmapReading.{ReadsMaps, word_in, word_of, second_by, maps_at};
 
 use crate::bitmap::{Bitmap, BitmapCause, BitmapCoding, BitmapFault, BitmapStep};
+use crate::bits::FIRST_BIT;
 use crate::encoding::are_hex_digits;
-
-/// A word from here on has its first bit set.
-const TOP: u64 = 0x8000_0000_0000_0000;
 
 /// The word of eight bytes.
 pub(crate) fn raw_word(bytes: &[u8]) -> u64
@@ -73,7 +71,7 @@ fn read_second(coding: BitmapCoding, first: u64, bytes: &[u8]) -> Result<BitmapS
             at,
             cause: BitmapCause::BadHex,
         }),
-        Some(second) if second < TOP => Ok(BitmapStep::Got {
+        Some(second) if second < FIRST_BIT => Ok(BitmapStep::Got {
             bits: Bitmap::from_words(first, second),
             used: at + at,
         }),
@@ -99,12 +97,12 @@ pub(crate) fn read(coding: BitmapCoding, bytes: &[u8]) -> Result<BitmapStep, Bit
             cause: BitmapCause::BadHex,
         });
     };
-    if first < TOP {
+    if first < FIRST_BIT {
         let bits = Bitmap::from_words(first, 0);
         return Ok(BitmapStep::Got { bits, used: size });
     }
     if rest.len() < size {
         return Ok(BitmapStep::More);
     }
-    read_second(coding, first - TOP, &rest[..size])
+    read_second(coding, first - FIRST_BIT, &rest[..size])
 }

@@ -160,8 +160,9 @@ impl Coding {
     }
 
     /// How many bytes so many characters take.
-    pub(crate) fn body_size(self, n: u16) -> usize
-        ensures { result ≡ body_size self n }
+    pub fn body_size(self, n: u16) -> usize
+        ensures size { result ≡ body_size self n }
+        ensures few { result ≤ 2 * n }
     {
         if self.is_plain() {
             n as usize

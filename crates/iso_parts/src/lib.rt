@@ -3,6 +3,7 @@
 
 mod bitmap;
 mod bitmap_reading;
+mod bits;
 mod building;
 mod class;
 mod encoding;
@@ -16,6 +17,7 @@ mod prefix;
 mod spec;
 
 pub use bitmap::{Bitmap, BitmapCause, BitmapCoding, BitmapFault, BitmapStep};
+pub use bits::FIRST_BIT;
 pub use building::append_judged;
 pub use class::CharClass;
 pub use encoding::Coding;

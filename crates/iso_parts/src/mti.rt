@@ -35,7 +35,7 @@ pub enum MtiClass {
 }
 
 impl Mti {
-    ghost use Rattle.iso_parts.specs.Mti.{digits, digits_of, number, class_of, base_digits, response_digits};
+    ghost use Rattle.iso_parts.specs.Mti.{digits, digits_of, digits_in, number, class_of, base_digits, response_digits};
 
     /// The type with the digits of a number, `None` above 9999.
     pub fn from_digits(n: u16) -> Option<Mti>
@@ -50,6 +50,26 @@ impl Mti {
             function: (n / 10 % 10) as u8,
             origin: (n % 10) as u8,
         })
+    }
+
+    /// The type that four ASCII digits write, `None` for any other text. Takes no memory.
+    pub fn from_text(text: &[u8]) -> Option<Mti>
+        ensures { option_map digits result ≡ digits_in text.now }
+    {
+        match text {
+            [
+                a @ b'0'..=b'9',
+                b @ b'0'..=b'9',
+                c @ b'0'..=b'9',
+                d @ b'0'..=b'9',
+            ] => Some(Mti {
+                version: *a - b'0',
+                class: *b - b'0',
+                function: *c - b'0',
+                origin: *d - b'0',
+            }),
+            _ => None,
+        }
     }
 
     /// The number that the four digits write, at most 9999.

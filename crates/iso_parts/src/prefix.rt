@@ -39,6 +39,20 @@ pub enum Length {
     LLLL(Digits),
 }
 
+impl Digits {
+    ghost use Rattle.iso_parts.specs.Mti.{mti_size};
+
+    /// How many bytes a message type takes, whose four digits are written so.
+    pub fn mti_size(self) -> usize
+        ensures { result ≡ mti_size self }
+    {
+        match self {
+            Digits::Ascii => 4,
+            Digits::Bcd => 2,
+        }
+    }
+}
+
 fn number_of(k: u8, h: u8, t: u8, o: u8) -> Result<u16, FieldFault>
     ensures { result ≡ number_of (k ∷ h ∷ t ∷ o ∷ []) }
 {
@@ -87,7 +101,8 @@ impl Length {
 
     /// How many bytes the length takes.
     pub fn prefix_size(self) -> usize
-        ensures { result ≡ prefix_size self }
+        ensures size { result ≡ prefix_size self }
+        ensures few { result ≤ 4 }
     {
         match self {
             Length::Fixed => 0,

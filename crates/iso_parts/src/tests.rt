@@ -166,6 +166,23 @@ fn message_types(rt: HostRuntime) -> Result<(), Fail> {
 }
 
 #[test]
+fn types_are_read_from_text(rt: HostRuntime) {
+    let cases: [(&str, &[u8], Option<u16>); 7] = [
+        ("the echo test", b"0800", Some(800)),
+        ("private use", b"9920", Some(9920)),
+        ("three digits", b"800", None),
+        ("five digits", b"00800", None),
+        ("a letter in place of a zero", b"O800", None),
+        ("the byte behind a nine", b"080:", None),
+        ("packed digits", b"\x08\x00", None),
+    ];
+    for (name, text, want) in cases {
+        let number = Mti::from_text(text).map(|mti| mti.number());
+        assert_eq!(rt; number, want, "{name}");
+    }
+}
+
+#[test]
 fn lengths_take_bytes(rt: HostRuntime) {
     let cases = [
         ("none", Length::Fixed, 0),

@@ -1,4 +1,5 @@
 -- What a JSON value stands for.
+use Rattle.std.specs.Option.{option_or}
 use Rattle.std.proofs.Common.{◌≡◌, ℕ, ◌+◌, ◌<◌, Bool, true, false, cond, not, IsTrue, List, [], ◌∷◌, ◌++◌, length, drop, get_or, Option, Some, None, Ok, Err, option_map, refl, sym, ap, ◌∙◌, append_assoc, add-one}
 use Rattle.std.specs.Prelude.{is_some}
 use Rattle.std.proofs.Math.Seq.{drop-cons}
@@ -13,7 +14,7 @@ use Rattle.iso_table.specs.declared.reading.Profile.{Profile}
 use Rattle.iso_table.specs.declared.fault.TableFault.{TableFault}
 use Rattle.iso_table.specs.declared.fault.TableFault.TheVariants.{NotJson, BadVersion, BadNumber, Twice}
 use Rattle.iso_table.specs.Layout.{is_version, is_element}
-use Rattle.iso_table.specs.Accepted.{Contents, Accepted, at_row, row_fault, row_of, or_else, rows_fault, first_fault}
+use Rattle.iso_table.specs.Accepted.{Contents, Accepted, at_row, row_fault, row_of, rows_fault, first_fault}
 use Rattle.iso_table.specs.Document.{◌>>=◌, row_in, rows_in, draft_in, table_in}
 use Rattle.iso_table.proofs.RowLemmas.{none_from_accepted, new_first}
 
@@ -60,7 +61,7 @@ row_is_json true true n o h = cc
 row_is_json true false n o h = spec_is_json n o h
 row_is_json false u n o h = cc
 
-or_else_json : (a b : Option TableFault) → (a ≡ Some NotJson → ⊥) → (b ≡ Some NotJson → ⊥) → or_else a b ≡ Some NotJson → ⊥
+or_else_json : (a b : Option TableFault) → (a ≡ Some NotJson → ⊥) → (b ≡ Some NotJson → ⊥) → option_or a b ≡ Some NotJson → ⊥
 or_else_json None b p q h = q h
 or_else_json (Some e) b p q h = p h
 

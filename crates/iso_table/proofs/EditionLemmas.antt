@@ -14,8 +14,8 @@ use Rattle.iso_parts.specs.declared.padding.Pad.{Pad}
 use Rattle.iso_parts.specs.declared.padding.Pad.TheVariants as pads
 use Rattle.iso_parts.specs.declared.spec.FieldSpec.{FieldSpec}
 use Rattle.iso_parts.specs.Row.{IsGood, is_good_max, is_coded, is_padded, is_pad_byte, is_good_pad}
-use Rattle.iso_table.specs.declared.edition87.Kind.{Kind}
-use Rattle.iso_table.specs.declared.edition87.Kind.TheVariants.{Fixed, LL, LLL}
+use Rattle.iso_table.specs.declared.edition87.LengthKind.{LengthKind}
+use Rattle.iso_table.specs.declared.edition87.LengthKind.TheVariants.{Fixed, LL, LLL}
 use Rattle.iso_table.specs.declared.edition87.Group.{Group}
 use Rattle.iso_table.specs.Layout.{Layout, IsAccepted, row_at, row_in, is_element}
 use Rattle.iso_table.specs.Edition87.{lines, has_number, length_of, coding_of, spec_of, row87}
@@ -35,7 +35,7 @@ coded digits.Bcd n B = refl
 coded digits.Bcd n c = refl
 
 -- whether a class takes a pad is the same at each element
-same_pad : (d : Digits) (n : ℕ) (c : CharClass) (k : Kind) (q : ℕ) → (is_padded c (length_of k d) && is_pad_byte (coding_of d n c) q) ≡ (is_padded c (length_of k d) && is_pad_byte (coding_of d 0 c) q)
+same_pad : (d : Digits) (n : ℕ) (c : CharClass) (k : LengthKind) (q : ℕ) → (is_padded c (length_of k d) && is_pad_byte (coding_of d n c) q) ≡ (is_padded c (length_of k d) && is_pad_byte (coding_of d 0 c) q)
 same_pad d n B Fixed q = refl
 same_pad d n B LL q = refl
 same_pad d n B LLL q = refl

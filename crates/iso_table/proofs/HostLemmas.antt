@@ -1,4 +1,5 @@
 -- A table is ready for a host exactly where nothing is wrong with it.
+use Rattle.std.specs.Option.{option_or}
 use Rattle.std.proofs.Common.{◌≡◌, Bool, true, false, cond, eqb, List, [], ◌∷◌, Option, Some, None, refl, arith}
 use Rattle.std.proofs.lemmas.Bool.Decides.{nat_tests}
 use Rattle.iso_parts.specs.declared.spec.FieldSpec.{FieldSpec}
@@ -6,7 +7,7 @@ use Rattle.iso_table.specs.declared.host.HostRow.{HostRow}
 use Rattle.iso_table.specs.declared.fault.HostTableFault.{HostTableFault}
 use Rattle.iso_table.specs.declared.fault.HostTableFault.TheVariants.{NoRow, RowShape}
 use Rattle.iso_table.specs.Layout.{Layout, row_at}
-use Rattle.iso_table.specs.HostReady.{is_shape, row_fault, first_of, rows_fault, host_rows, host_fault, IsHostRow, AreHostRows, IsHostReady}
+use Rattle.iso_table.specs.HostReady.{is_shape, row_fault, rows_fault, host_rows, host_fault, IsHostRow, AreHostRows, IsHostReady}
 
 none_of : (t : Bool) (e : HostTableFault) → cond t (Some e) None ≡ None → t ≡ false
 none_of true e h = absurd cc
@@ -24,7 +25,7 @@ row_none : (h : HostRow) (r : Option FieldSpec) → IsHostRow h r → row_fault 
 row_none h None good = rw good refl
 row_none h (Some s) good = rw good refl
 
-both_none : (a b : Option HostTableFault) → first_of a b ≡ None → (a ≡ None) × (b ≡ None)
+both_none : (a b : Option HostTableFault) → option_or a b ≡ None → (a ≡ None) × (b ≡ None)
 both_none None b e = (refl, e)
 both_none (Some x) b e = absurd cc
 

@@ -1,4 +1,5 @@
 -- Rows at their numbers, and what is wrong with them.
+use Rattle.std.specs.Option.{option_or}
 use Rattle.std.proofs.Common.{◌≡◌, ◌≢◌, ℕ, zero, suc, ◌+◌, ◌<◌, Bool, true, false, cond, not, eqb, IsTrue, List, [], ◌∷◌, ◌++◌, length, take, drop, get_or, replicate, Option, Some, None, refl, sym, ap, subst, ◌∙◌, add-one, arith, inl, inr}
 use Rattle.std.specs.Prelude.{is_some, slice_set}
 use Rattle.std.proofs.lemmas.Bool.{cases_eq, eq-eqb, ne_eqb, cond-true, cond-false}
@@ -13,7 +14,7 @@ use Rattle.iso_table.specs.declared.draft.Row.{Row}
 use Rattle.iso_table.specs.declared.fault.TableFault.{TableFault}
 use Rattle.iso_table.specs.declared.fault.TableFault.TheVariants.{BadNumber, Twice}
 use Rattle.iso_table.specs.Layout.{Layout, IsAccepted, row_at, is_version, is_element}
-use Rattle.iso_table.specs.Accepted.{Contents, Accepted, AreRows, OtherNumbers, HasEachOnce, row_of, at_row, row_fault, or_else, rows_fault}
+use Rattle.iso_table.specs.Accepted.{Contents, Accepted, AreRows, OtherNumbers, HasEachOnce, row_of, at_row, row_fault, rows_fault}
 
 -- ---- places
 
@@ -119,7 +120,7 @@ is_some_none : (o : Option FieldSpec) → is_some o ≡ false → o ≡ None
 is_some_none None h = refl
 is_some_none (Some s) h = absurd (cc)
 
-or_else_none : (a b : Option TableFault) → or_else a b ≡ None → (a ≡ None) × (b ≡ None)
+or_else_none : (a b : Option TableFault) → option_or a b ≡ None → (a ≡ None) × (b ≡ None)
 or_else_none None b h = (refl, h)
 or_else_none (Some e) b h = absurd (cc)
 
@@ -200,8 +201,8 @@ judged_more rows i d old total lt so_far fine judged =
     let more : take (i + 1) rows ≡ take i rows ++ r ∷ [] = take_more rows i d lt in
     let less : drop i rows ≡ r ∷ drop (i + 1) rows = drop-cons rows i d lt ∙ ap (λ (k : ℕ). r ∷ drop k rows) (sym (add-one i)) in
     let none : row_fault (is_some (row_of (take i rows) r.number)) r ≡ None = ap (λ (o : Option FieldSpec). row_fault (is_some o) r) (sym (so_far r.number)) ∙ fine in
-    let whole : or_else (row_fault (is_some (row_of (take i rows) r.number)) r) (rows_fault (take i rows ++ r ∷ []) (drop (i + 1) rows)) ≡ total = sym (ap (rows_fault (take i rows)) less) ∙ judged in
-    rw more (sym (ap (λ (o : Option TableFault). or_else o (rows_fault (take i rows ++ r ∷ []) (drop (i + 1) rows))) none) ∙ whole)
+    let whole : option_or (row_fault (is_some (row_of (take i rows) r.number)) r) (rows_fault (take i rows ++ r ∷ []) (drop (i + 1) rows)) ≡ total = sym (ap (rows_fault (take i rows)) less) ∙ judged in
+    rw more (sym (ap (λ (o : Option TableFault). option_or o (rows_fault (take i rows ++ r ∷ []) (drop (i + 1) rows))) none) ∙ whole)
 
 -- ---- a table of rows with nothing wrong
 

@@ -1,4 +1,5 @@
 -- Which tables are accepted, and what is wrong with the others.
+use Rattle.std.specs.Option.{option_or}
 use Rattle.std.specs.Prelude.{◌≡◌, ◌≢◌, ℕ, ◌==◌, Bool, not, is_some, IsTrue, if◌then◌else◌, List, [], ◌∷◌, ◌++◌, Option, Some, None}
 use Rattle.iso_parts.specs.declared.prefix.Digits.{Digits}
 use Rattle.iso_parts.specs.declared.spec.FieldSpec.{FieldSpec}
@@ -80,15 +81,10 @@ row_fault is_used r =
     else if is_used then Some (Twice r.number)
     else at_row r.number (spec_fault r.spec)
 
--- the first of two faults
-abbrev pub or_else : Option TableFault → Option TableFault → Option TableFault
-or_else None other = other
-or_else (Some e) other = Some e
-
 -- the first thing that is wrong with rows that stand behind earlier ones
 abbrev pub rows_fault : List Row → List Row → Option TableFault
 rows_fault earlier [] = None
-rows_fault earlier (r ∷ rs) = or_else (row_fault (is_some (row_of earlier r.number)) r) (rows_fault (earlier ++ r ∷ []) rs)
+rows_fault earlier (r ∷ rs) = option_or (row_fault (is_some (row_of earlier r.number)) r) (rows_fault (earlier ++ r ∷ []) rs)
 
 -- the first thing that is wrong: the version, and then row by row
 abbrev pub first_fault : Contents → Option TableFault

@@ -13,13 +13,13 @@ use Rattle.iso_parts.specs.declared.padding.Pad.TheVariants as pads
 use Rattle.iso_parts.specs.declared.spec.FieldSpec.{FieldSpec}
 use Rattle.iso_parts.specs.declared.bitmap.BitmapCoding.{BitmapCoding}
 use Rattle.iso_parts.specs.declared.bitmap.BitmapCoding.TheVariants as bitmaps
-use Rattle.iso_table.specs.declared.edition87.Kind.{Kind}
-use Rattle.iso_table.specs.declared.edition87.Kind.TheVariants.{Fixed, LL, LLL}
+use Rattle.iso_table.specs.declared.edition87.LengthKind.{LengthKind}
+use Rattle.iso_table.specs.declared.edition87.LengthKind.TheVariants.{Fixed, LL, LLL}
 use Rattle.iso_table.specs.declared.edition87.Group.{Group}
 use Rattle.iso_table.specs.Layout.{Layout, row_at}
 
 -- one line of the table below
-abbrev pub line : ℕ → ℕ → CharClass → Kind → ℕ → Pad → Group
+abbrev pub line : ℕ → ℕ → CharClass → LengthKind → ℕ → Pad → Group
 line first last class kind max pad = record { 0 = first; 1 = last; 2 = class; 3 = kind; 4 = max; 5 = pad }
 
 -- no padding
@@ -94,7 +94,7 @@ abbrev pub has_number : ℕ → Group → Bool
 has_number n g = nat_le g.0 n && nat_le n g.1
 
 -- the length, written in these digits
-abbrev pub length_of : Kind → Digits → Length
+abbrev pub length_of : LengthKind → Digits → Length
 length_of Fixed d = lengths.Fixed
 length_of LL d = lengths.LL d
 length_of LLL d = lengths.LLL d

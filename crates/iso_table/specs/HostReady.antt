@@ -1,4 +1,5 @@
 -- The rows that an issuer host needs of a table: under them every response can be written.
+use Rattle.std.specs.Option.{option_or}
 use Rattle.std.specs.Prelude.{◌≡◌, ℕ, Bool, true, false, ◌==◌, ◌&&◌, nat_le, IsTrue, if◌then◌else◌, List, [], ◌∷◌, Option, Some, None}
 use Rattle.iso_parts.specs.declared.class.CharClass.{CharClass}
 use Rattle.iso_parts.specs.declared.class.CharClass.TheVariants as classes
@@ -90,15 +91,10 @@ abbrev pub row_fault : HostRow → Option FieldSpec → Option HostTableFault
 row_fault h None = if h.1 then Some (NoRow h.0) else None
 row_fault h (Some s) = if is_shape h.2 s then None else Some (RowShape h.0)
 
--- the first of two faults
-abbrev pub first_of : Option HostTableFault → Option HostTableFault → Option HostTableFault
-first_of None other = other
-first_of (Some e) other = Some e
-
 -- the first thing that is wrong among the elements, in ascending number
 abbrev pub rows_fault : List HostRow → List (Option FieldSpec) → Option HostTableFault
 rows_fault [] rows = None
-rows_fault (h ∷ hs) rows = first_of (row_fault h (row_at rows h.0)) (rows_fault hs rows)
+rows_fault (h ∷ hs) rows = option_or (row_fault h (row_at rows h.0)) (rows_fault hs rows)
 
 -- the first thing that is wrong: the version, then the rows
 abbrev pub host_fault : Layout → Option HostTableFault

@@ -5,7 +5,7 @@ ghost use Rattle.std.specs.Prelude.{◌≡◌, ◌≤◌, ℕ, length, find, IfO
 ghost use Rattle.iso_table.specs.Layout.{row_at};
 ghost use Rattle.iso_table.specs.Edition87.{has_number, lines, length_of, coding_of, spec_of, row87, bitmap87};
 
-use self::Kind::{Fixed, LL, LLL};
+use self::LengthKind::{Fixed, LL, LLL};
 use crate::placing::PLACES;
 use iso_parts::CharClass::{AN, ANS, B, N, XN, ZD};
 use iso_parts::Pad::{None as Unpadded, Right};
@@ -13,7 +13,7 @@ use iso_parts::{BitmapCoding, CharClass, Coding, Digits, FieldSpec, Length, Pad}
 
 /// Which length stands before a value, however its digits are written.
 #[derive(Clone, Copy, Debug, PartialEq, Eq)]
-pub enum Kind {
+pub enum LengthKind {
     /// None.
     Fixed,
     /// Two digits.
@@ -24,7 +24,7 @@ pub enum Kind {
 
 /// The elements from a first to a last number, with their class, length, maximum and padding.
 #[derive(Clone, Copy, Debug, PartialEq, Eq)]
-pub struct Group(u8, u8, CharClass, Kind, u16, Pad);
+pub struct Group(u8, u8, CharClass, LengthKind, u16, Pad);
 
 /// Filled up with blanks at the end.
 const BLANKS: Pad = Right(0x20);
@@ -88,7 +88,7 @@ const GROUPS: [Group; 55] = [
     Group(128, 128, B, Fixed, 8, Unpadded), // message authentication code
 ];
 
-impl Kind {
+impl LengthKind {
     /// The length, written in these digits.
     fn length(self, digits: Digits) -> Length
         ensures { result ≡ length_of self digits }

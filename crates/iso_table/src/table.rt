@@ -19,7 +19,7 @@ use crate::fault::{HostTableFault, NoMemory, TableFault};
 use crate::host::host_rows_fault;
 use crate::placing::{is_version, known_in, placed, row_at};
 use crate::reading::{draft_of, value_of};
-use crate::sizes::{bitmap_bytes, mti_bytes, places_bytes};
+use crate::sizes::places_bytes;
 use crate::writing::document;
 use iso_parts::{Bitmap, BitmapCoding, Digits, FieldSpec};
 use std::alloc::Global;
@@ -190,7 +190,8 @@ impl Table {
     pub fn max_bytes(&self) -> u64
         ensures { result ≡ max_bytes self.now }
     {
-        mti_bytes(self.mti) + bitmap_bytes(self.bitmap) + places_bytes(&self.rows)
+        let head = self.mti.mti_size() + 2 * self.bitmap.size();
+        head as u64 + places_bytes(&self.rows)
     }
 
     /// Whether an issuer host can serve under the table: version 0, and for the elements of requests and responses

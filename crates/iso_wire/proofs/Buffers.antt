@@ -1,10 +1,9 @@
 -- Values one after another in a buffer, and the index that finds them.
-use Rattle.std.proofs.Common.{◌≡◌, ℕ, zero, suc, ◌+◌, ◌-◌, ◌<◌, ◌≤◌, Bool, true, false, ◌||◌, cond, eqb, is_some, slice_get, Some, List, [], ◌∷◌, ◌++◌, length, get_or, take, drop, refl, sym, ap, ◌∙◌, arith, All}
+use Rattle.std.proofs.Common.{◌≡◌, ℕ, zero, suc, ◌+◌, ◌-◌, ◌<◌, ◌≤◌, slice_get, Some, List, [], ◌∷◌, ◌++◌, length, get_or, take, drop, refl, sym, ap, ◌∙◌, arith}
 use Rattle.std.proofs.lemmas.List.{nil_from_length, append-nil, take-append-le, drop-append-le, take_all, take-append-drop, length-drop, length-take}
-use Rattle.std.proofs.lemmas.Bool.Decides.{nat_tests}
 use Rattle.iso_wire.specs.declared.elements.Entry.{Entry}
-use Rattle.iso_wire.specs.Elements.{value_in, has, is_number, IsAscending, IsBelow}
-use Rattle.iso_wire.specs.Entries.{bytes_in, elements_of, entry_of, has_entry}
+use Rattle.iso_wire.specs.Elements.{IsAscending, IsBelow}
+use Rattle.iso_wire.specs.Entries.{bytes_in, elements_of, entry_of}
 use Rattle.iso_wire.proofs.Orders.{Values}
 
 pub bytes_in-append : (xs ys : List Entry) → bytes_in (xs ++ ys) ≡ bytes_in xs + bytes_in ys
@@ -44,21 +43,6 @@ elements_of-close xs n from b same within =
 
 pub bytes_in-close : (xs : List Entry) (n from size : ℕ) → bytes_in xs ≡ from → from ≤ size → bytes_in (xs ++ (record { number = n; len = size - from }) ∷ []) ≡ size
 bytes_in-close xs n from size same within = bytes_in-append xs ((record { number = n; len = size - from }) ∷ []) ∙ omega arith
-
--- the index alone knows which elements are there
-has_by : (t : Bool) (b : List ℕ) (es : Values) (n : ℕ) (more_of : Bool) → has es n ≡ more_of → is_some (cond t (Some b) (value_in es n)) ≡ t || more_of
-has_by true b es n more_of same = refl
-has_by false b es n more_of same = same
-
-pub has-elements_of : (es : List Entry) (b : List ℕ) (n : ℕ) → has (elements_of es b) n ≡ has_entry es n
-has-elements_of [] b n = refl
-has-elements_of (e ∷ es) b n = has_by (eqb e.number n) (take e.len b) (elements_of es (drop e.len b)) n (has_entry es n) (has-elements_of es (drop e.len b) n)
-
--- ascending elements have good numbers
-pub numbers-good : (low : ℕ) (es : List Entry) (b : List ℕ) → 2 ≤ low → IsAscending low (elements_of es b) → All (λ e. is_number e.number ≡ true) es
-numbers-good low [] b le asc k d lt = absurd (omega arith)
-numbers-good low (e ∷ es) b le asc zero d lt = grind (arith, nat_tests)
-numbers-good low (e ∷ es) b le asc (suc k) d lt = numbers-good (e.number + 1) es (drop e.len b) (omega arith) asc.3 k d (omega arith)
 
 -- ---- a number behind the others
 

@@ -13,7 +13,8 @@ use Rattle.iso_wire.specs.declared.unpacker.Fed.TheVariants as fed
 use Rattle.iso_wire.specs.Contents.{Contents}
 use Rattle.iso_wire.specs.Faults.{out_of_memory}
 use Rattle.iso_wire.specs.Feeding.{Feeds, IsRead, Keeps, FoundFed, IsReadyAfter}
-use Rattle.iso_wire.specs.Reading.{IsFaultOf, mti_size, message_at, whole}
+use Rattle.iso_parts.specs.Mti.{mti_size}
+use Rattle.iso_wire.specs.Reading.{IsFaultOf, message_at, whole}
 use Rattle.iso_wire.specs.ReadingLaws.{IsShort, ReadsSpellings, ReadingStays}
 use Rattle.iso_wire.specs.Resuming.{end_of}
 use Rattle.iso_wire.specs.Spelling.{AreBytes, BeginsWithNone, Spelling}

@@ -5,13 +5,13 @@ pub mod Places
 pub mod Changes
 pub mod NumberLaws
 pub mod Sets
+pub mod Numbered
 pub mod Types
 pub mod ElementLaws
 pub mod WordLaws
 pub mod Messages
 pub mod Unpacks
 pub mod Built
-pub mod WalkLaws
 pub mod Loop
 pub mod Appends
 pub mod Packs
@@ -31,3 +31,4 @@ pub mod StopsHalted
 pub mod StopsParts
 pub mod StopsReading
 pub mod StopsLaws
+pub mod Decimals

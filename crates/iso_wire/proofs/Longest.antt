@@ -5,57 +5,26 @@ use Rattle.std.proofs.lemmas.Bool.{ltb-true}
 use Rattle.std.proofs.lemmas.List.Sums.{sum_by-cons}
 use Rattle.std.proofs.lemmas.List.{length-drop}
 use Rattle.iso_parts.specs.declared.spec.FieldSpec.{FieldSpec}
-use Rattle.iso_parts.specs.declared.encoding.Coding.{Coding}
-use Rattle.iso_parts.specs.declared.encoding.Coding.TheVariants as codings
-use Rattle.iso_parts.specs.declared.prefix.Digits.{Digits}
-use Rattle.iso_parts.specs.declared.prefix.Digits.TheVariants as digits
-use Rattle.iso_parts.specs.declared.prefix.Length.{Length}
-use Rattle.iso_parts.specs.declared.prefix.Length.TheVariants as lengths
 use Rattle.iso_parts.specs.declared.bitmap.BitmapCoding.{BitmapCoding}
-use Rattle.iso_parts.specs.declared.bitmap.BitmapCoding.TheVariants as bitmaps
 use Rattle.iso_parts.specs.Bits.{map_size, in_words}
 use Rattle.iso_parts.specs.BitmapReading.{word_in, top}
-use Rattle.iso_parts.specs.Reading.{Outcome, got, more, fault, prefix_size, body_size, part_at}
+use Rattle.iso_parts.specs.Reading.{Outcome, got, more, fault, part_at}
 use Rattle.iso_parts.specs.PartLaws.{PartLaws, IsUpTo}
 use Rattle.iso_table.specs.Layout.{Layout, row_at}
-use Rattle.iso_table.specs.Sizes.{mti_bytes, bitmap_bytes, prefix_bytes, body_bytes, field_bytes, place_bytes, max_bytes}
+use Rattle.iso_table.specs.Sizes.{field_bytes, place_bytes, max_bytes}
 use Rattle.iso_wire.specs.declared.fault.UnpackFault.{UnpackFault}
 use Rattle.iso_wire.specs.declared.fault.UnpackCause.TheVariants.{Short, WrongVersion, ThirdBitmap, UnknownElement, Field}
 use Rattle.iso_wire.specs.Contents.{Contents}
-use Rattle.iso_wire.specs.Numbers.{numbers, numbers_in, unknown}
-use Rattle.iso_wire.specs.Reading.{◌>>=◌, halt, mti_size, mti_of, of_version, type_at, word_by, word_at, known_by, primary_at, second_known, secondary_at, words_by, words_at, answer, value_by, elements_at, message_at, whole}
+use Rattle.iso_parts.specs.Numbers.{numbers, numbers_in}
+use Rattle.iso_wire.specs.Numbers.{unknown}
+use Rattle.iso_parts.specs.Mti.{mti_size}
+use Rattle.iso_wire.specs.Reading.{◌>>=◌, halt, mti_of, of_version, type_at, word_by, word_at, known_by, primary_at, second_known, secondary_at, words_by, words_at, answer, value_by, elements_at, message_at, whole}
 use Rattle.iso_wire.specs.ReadingLaws.{IsShort}
 use Rattle.iso_wire.specs.Feeding.{IsReady}
 use Rattle.iso_wire.proofs.NumberLaws.{one_more, no_more, no_numbers}
 use Rattle.iso_wire.proofs.Orders.{Values}
 
 -- ---- sizes
-
-mti_same : (k : Digits) → mti_bytes k ≡ mti_size k
-mti_same digits.Ascii = refl
-mti_same digits.Bcd = refl
-
-maps_same : (c : BitmapCoding) → bitmap_bytes c ≡ map_size c + map_size c
-maps_same bitmaps.Raw = refl
-maps_same bitmaps.Hex = refl
-
-prefix_same : (k : Length) → prefix_bytes k ≡ prefix_size k
-prefix_same lengths.Fixed = refl
-prefix_same (lengths.LL digits.Ascii) = refl
-prefix_same (lengths.LL digits.Bcd) = refl
-prefix_same (lengths.LLL digits.Ascii) = refl
-prefix_same (lengths.LLL digits.Bcd) = refl
-prefix_same (lengths.LLLL digits.Ascii) = refl
-prefix_same (lengths.LLLL digits.Bcd) = refl
-
-body_same : (c : Coding) (n : ℕ) → body_bytes c n ≡ body_size c n
-body_same codings.Ascii n = refl
-body_same codings.Raw n = refl
-body_same codings.Bcd n = refl
-body_same codings.HexText n = refl
-
-field_same : (s : FieldSpec) → prefix_size s.length + body_size s.coding s.max ≡ field_bytes s
-field_same s = omega (arith, prefix_same s.length, body_same s.coding s.max)
 
 -- the rows from a number on
 abbrev from_row : List (Option FieldSpec) → ℕ → ℕ
@@ -173,7 +142,7 @@ module _ (laws : PartLaws) where
   value_short : (rows : List (Option FieldSpec)) (r : Option FieldSpec) (n at later : ℕ) (ns b : List ℕ)
       → ((at : ℕ) (b : List ℕ) → IsShort (elements_at rows ns at b) → length b < later) → IsShort (value_by r n at b >>= behind_value rows n ns at b) → length b < place_bytes r + later
   value_short rows None n at later ns b rest h = absurd (let no : UnknownElement n ≡ Short = h in cc)
-  value_short rows (Some s) n at later ns b rest h = outcome_short rows s n at later ns b (part_at s b) (subst (λ (most : ℕ). IsUpTo most (length b) (part_at s b)) (field_same s) (laws.most s b)) rest h
+  value_short rows (Some s) n at later ns b rest h = outcome_short rows s n at later ns b (part_at s b) (laws.most s b) rest h
 
   elements_by : (is : Bool) (rows : List (Option FieldSpec)) (set : ℕ → Bool) (count n at : ℕ) (b : List ℕ) → set n ≡ is
       → ((at : ℕ) (b : List ℕ) → IsShort (elements_at rows (numbers set count (n + 1)) at b) → length b < from_row rows (n + 1))
@@ -198,7 +167,7 @@ module _ (laws : PartLaws) where
       let start = size + w.2 in
       let maps : w.2 ≤ map_size t.bitmap + map_size t.bitmap = words_size_by t size (drop size b) (primary_at t size (drop size b)) w read in
       elim (short_of (elements_at t.rows (numbers_in w.0 w.1) start (drop start b)) (made mti) h) [
-        | inl short ↦ omega (arith, elements_short t.rows (in_words w.0 w.1) 127 2 start (drop start b) short, length-drop start b, all_rows t.rows 2, mti_same t.mti, maps_same t.bitmap)
+        | inl short ↦ omega (arith, elements_short t.rows (in_words w.0 w.1) 127 2 start (drop start b) short, length-drop start b, all_rows t.rows 2)
         | inr x ↦ absurd x.2
       ]
 
@@ -206,7 +175,7 @@ module _ (laws : PartLaws) where
   type_then t b mti h =
       let size = mti_size t.mti in
       elim (short_of (words_at t size (drop size b)) (behind_words t b mti) h) [
-        | inl short ↦ omega (arith, words_short t size (drop size b) short, length-drop size b, mti_same t.mti, maps_same t.bitmap)
+        | inl short ↦ omega (arith, words_short t size (drop size b) short, length-drop size b)
         | inr x ↦ behind_short t b mti x.0 x.1 x.2
       ]
 
@@ -214,7 +183,7 @@ module _ (laws : PartLaws) where
   unfolding message_at
   short_is_small t b h =
       elim (short_of (type_at t b) (λ mti. words_at t (mti_size t.mti) (drop (mti_size t.mti) b) >>= behind_words t b mti) h) [
-        | inl short ↦ omega (arith, type_short t b short, mti_same t.mti)
+        | inl short ↦ omega (arith, type_short t b short)
         | inr x ↦ type_then t b x.0 x.2
       ]
 

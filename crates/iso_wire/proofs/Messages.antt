@@ -12,9 +12,11 @@ use Rattle.iso_wire.specs.declared.fault.UnpackCause.TheVariants.{Short, WrongVe
 use Rattle.iso_wire.specs.Contents.{Contents}
 use Rattle.iso_wire.specs.Elements.{has, IsAscending}
 use Rattle.iso_table.specs.Layout.{Layout, AreGood}
-use Rattle.iso_wire.specs.Numbers.{numbers_in, numbers_of}
+use Rattle.iso_parts.specs.Numbers.{numbers_in}
+use Rattle.iso_wire.specs.Numbers.{numbers_of}
 use Rattle.iso_wire.specs.Spelling.{mti_bytes, AreBytes, BeginsWith, Spelling}
-use Rattle.iso_wire.specs.Reading.{◌>>=◌, halt, mti_size, mti_of, of_version, type_at, words_at, elements_at, message_at, whole}
+use Rattle.iso_parts.specs.Mti.{mti_size}
+use Rattle.iso_wire.specs.Reading.{◌>>=◌, halt, mti_of, of_version, type_at, words_at, elements_at, message_at, whole}
 use Rattle.iso_wire.specs.ReadingLaws.{ReadsSpellings}
 use Rattle.iso_wire.proofs.Bytes.{bytes_take, bytes_drop}
 use Rattle.iso_wire.proofs.Orders.{Values}

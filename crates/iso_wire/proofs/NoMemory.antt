@@ -8,8 +8,10 @@ use Rattle.iso_parts.specs.declared.bitmap.BitmapCoding.{BitmapCoding}
 use Rattle.iso_table.specs.Layout.{Layout, row_at}
 use Rattle.iso_wire.specs.declared.fault.UnpackFault.{UnpackFault}
 use Rattle.iso_wire.specs.declared.fault.UnpackCause.TheVariants.{Short, WrongVersion, ThirdBitmap, Memory}
-use Rattle.iso_wire.specs.Numbers.{numbers_in, unknown}
-use Rattle.iso_wire.specs.Reading.{◌>>=◌, halt, mti_size, mti_of, of_version, type_at, word_by, word_at, known_by, primary_at, second_known, secondary_at, words_by, words_at, answer, value_by, value_at, elements_at, message_at, whole}
+use Rattle.iso_parts.specs.Numbers.{numbers_in}
+use Rattle.iso_wire.specs.Numbers.{unknown}
+use Rattle.iso_parts.specs.Mti.{mti_size}
+use Rattle.iso_wire.specs.Reading.{◌>>=◌, halt, mti_of, of_version, type_at, word_by, word_at, known_by, primary_at, second_known, secondary_at, words_by, words_at, answer, value_by, value_at, elements_at, message_at, whole}
 use Rattle.iso_wire.proofs.Orders.{Values}
 
 abbrev pub NoMemory : {A : Type 0} → Result A UnpackFault → Type 0

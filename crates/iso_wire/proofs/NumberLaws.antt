@@ -1,9 +1,9 @@
 -- The numbers of a set: none, one more, and which of them has no row.
-use Rattle.std.proofs.Common.{◌≡◌, ℕ, zero, suc, ◌+◌, ◌≤◌, ◌<◌, Bool, true, false, is_some, is_none, List, [], ◌∷◌, Option, Some, None, refl, sym, ap, ◌∙◌, arith, inl, inr}
-use Rattle.std.proofs.lemmas.Bool.{cases_eq}
+use Rattle.std.proofs.Common.{◌≡◌, ℕ, zero, suc, ◌+◌, ◌≤◌, ◌<◌, Bool, true, false, is_some, is_none, List, [], ◌∷◌, Option, Some, None, refl, sym, ap, ◌∙◌, arith}
 use Rattle.iso_parts.specs.declared.spec.FieldSpec.{FieldSpec}
 use Rattle.iso_table.specs.Layout.{row_at}
-use Rattle.iso_wire.specs.Numbers.{numbers, unknown}
+use Rattle.iso_parts.specs.Numbers.{numbers, first_missing}
+use Rattle.iso_wire.specs.Numbers.{unknown}
 
 pub one_more : (set : ℕ → Bool) (count n : ℕ) → set n ≡ true → numbers set (suc count) n ≡ n ∷ numbers set count (n + 1)
 unfolding numbers
@@ -34,43 +34,15 @@ pub numbers_none : (set : ℕ → Bool) (count n : ℕ) → ((k : ℕ) → n ≤
 numbers_none set zero n empty = no_numbers set n
 numbers_none set (suc count) n empty = no_more set count n (empty n (omega arith) (omega arith)) ∙ numbers_none set count (n + 1) (λ k low high. empty k (omega arith) (omega arith))
 
--- the lowest number k of a set, and the others
-pub record IsLowest (set other : ℕ → Bool) (count n k : ℕ) : Type 0 where
-  pub low : n ≤ k
-  pub high : k < n + count
-  pub here : set k ≡ true
-  pub below : (j : ℕ) → n ≤ j → j < k → set j ≡ false
-  pub none : (j : ℕ) → n ≤ j → j ≤ k → other j ≡ false
-  pub above : (j : ℕ) → k < j → j < n + count → other j ≡ set j
-
-pub numbers_lowest : (set other : ℕ → Bool) (count n k : ℕ) → IsLowest set other count n k → numbers set count n ≡ k ∷ numbers other count n
-numbers_lowest set other zero n k h = absurd (omega (arith, h.low, h.high))
-numbers_lowest set other (suc count) n k h =
-    elim (cases_eq n k) [
-      | inl same ↦
-          let here : set n ≡ true = ap set same ∙ h.here in
-          let gone : other n ≡ false = h.none n (omega arith) (omega arith) in
-          one_more set count n here
-          ∙ ap (λ (l : List ℕ). n ∷ l) (numbers_agree set other count (n + 1) (λ j low high. sym (h.above j (omega arith) (omega arith))) ∙ sym (no_more other count n gone))
-          ∙ ap (λ (m : ℕ). m ∷ numbers other (suc count) n) same
-      | inr ne ↦
-          let lt : n < k = omega (arith, h.low) in
-          let rest : IsLowest set other count (n + 1) k = record {
-            low = omega arith;
-            high = omega (arith, h.high);
-            here = h.here;
-            below = λ j low high. h.below j (omega arith) high;
-            none = λ j low high. h.none j (omega arith) high;
-            above = λ j low high. h.above j low (omega arith);
-          } in
-          no_more set count n (h.below n (omega arith) lt) ∙ numbers_lowest set other count (n + 1) k rest ∙ ap (λ (l : List ℕ). k ∷ l) (sym (no_more other count n (h.none n (omega arith) (omega arith))))
-    ]
-
 -- ---- rows
 
 some_not_none : {A : Type 0} (o : Option A) → is_some o ≡ true → is_none o ≡ false
 some_not_none None h = absurd cc
 some_not_none (Some x) h = refl
+
+none_not_some : {A : Type 0} (o : Option A) → is_some o ≡ false → is_none o ≡ true
+none_not_some None h = refl
+none_not_some (Some x) h = absurd cc
 
 pub known_next : (rows : List (Option FieldSpec)) (n : ℕ) (ns : List ℕ) → is_some (row_at rows n) ≡ true → unknown rows (n ∷ ns) ≡ unknown rows ns
 known_next rows n ns h = let e = some_not_none (row_at rows n) h in rw e refl
@@ -86,3 +58,12 @@ known_by_set false rows set count n here known rest = ap (unknown rows) (no_more
 pub all_known : (rows : List (Option FieldSpec)) (set : ℕ → Bool) (count n : ℕ) → ((k : ℕ) → n ≤ k → k < n + count → set k ≡ true → is_some (row_at rows k) ≡ true) → unknown rows (numbers set count n) ≡ None
 all_known rows set zero n known = ap (unknown rows) (no_numbers set n)
 all_known rows set (suc count) n known = known_by_set (set n) rows set count n refl known (all_known rows set count (n + 1) (λ k low high here. known k (omega arith) (omega arith) here))
+
+-- the first number that the set of those with a row lacks is the first one without a row
+missing_by : (is : Bool) (rows : List (Option FieldSpec)) (set : ℕ → Bool) (n : ℕ) (ns : List ℕ) → set n ≡ is → set n ≡ is_some (row_at rows n) → first_missing set ns ≡ unknown rows ns → first_missing set (n ∷ ns) ≡ unknown rows (n ∷ ns)
+missing_by true rows set n ns is same rest = let known = some_not_none (row_at rows n) (sym same ∙ is) in rw (is, known) rest
+missing_by false rows set n ns is same rest = let unknown = none_not_some (row_at rows n) (sym same ∙ is) in rw (is, unknown) refl
+
+pub missing_unknown : (rows : List (Option FieldSpec)) (set : ℕ → Bool) (ns : List ℕ) → ((k : ℕ) → set k ≡ is_some (row_at rows k)) → first_missing set ns ≡ unknown rows ns
+missing_unknown rows set [] same = refl
+missing_unknown rows set (n ∷ ns) same = missing_by (set n) rows set n ns refl (same n) (missing_unknown rows set ns same)

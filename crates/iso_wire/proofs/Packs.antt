@@ -1,12 +1,14 @@
 -- What is written is the plain spelling, and a message that has a spelling is not refused.
-use Rattle.std.proofs.Common.{◌≡◌, ◌≢◌, ℕ, suc, ◌/◌, ◌≤◌, ◌<◌, Bool, true, eqb, List, [], ◌∷◌, ◌++◌, length, get_or, take, drop, drop-cons, Option, Some, None, Result, Ok, Err, refl, sym, ap, ◌∙◌, append_assoc, arith}
-use Rattle.std.specs.Prelude.{IfOk, IfErr}
+use Rattle.std.specs.Option.{option_or}
+use Rattle.std.proofs.Common.{◌≡◌, ◌≢◌, ℕ, suc, ◌/◌, ◌≤◌, ◌<◌, Bool, true, eqb, List, [], ◌∷◌, ◌++◌, length, get_or, take, drop, drop-cons, Option, Some, None, Result, Ok, Err, refl, sym, ap, subst, ◌∙◌, append_assoc, arith}
+use Rattle.std.specs.Prelude.{IfErr}
 use Rattle.std.specs.List.{flat_map}
 use Rattle.std.proofs.lemmas.Bool.Decides.{nat_tests}
 use Rattle.iso_parts.specs.declared.bitmap.BitmapCoding.{BitmapCoding}
 use Rattle.iso_parts.specs.declared.bitmap.BitmapCoding.TheVariants.{Raw}
 use Rattle.iso_parts.specs.declared.spec.FieldSpec.{FieldSpec}
 use Rattle.iso_parts.specs.Bits.{PlainBitmaps}
+use Rattle.iso_parts.specs.Part.{Keeps}
 use Rattle.iso_parts.specs.Row.{refusal, Fits}
 use Rattle.iso_wire.specs.declared.elements.Entry.{Entry}
 use Rattle.iso_wire.specs.declared.fault.PackFault.{PackFault}
@@ -16,10 +18,11 @@ use Rattle.iso_wire.specs.Elements.{has, IsAscending}
 use Rattle.iso_wire.specs.Entries.{elements_of}
 use Rattle.iso_table.specs.Layout.{Layout, row_at, AreGood}
 use Rattle.iso_wire.specs.Reading.{message_at, whole}
-use Rattle.iso_wire.specs.Refusal.{refused_field, refused_by, or_else, refused, message_refusal}
+use Rattle.iso_wire.specs.Refusal.{refused_field, refused_by, refused, message_refusal}
 use Rattle.iso_wire.specs.Spelling.{AreBytes, mti_bytes, PartAs, Parts, plain_of, Spelling, PlainSpelling}
 use Rattle.iso_wire.specs.ReadingLaws.{ReadsSpellings}
-use Rattle.iso_wire.proofs.Bytes.{bytes_append}
+use Rattle.std.proofs.lemmas.List.{drop_at, take_at, take-take, length-append}
+use Rattle.iso_wire.proofs.Bytes.{bytes_append, bytes_drop}
 use Rattle.iso_wire.proofs.Messages.{maps_agree}
 use Rattle.iso_wire.proofs.Unpacks.{spelled_is_read}
 use Rattle.iso_wire.proofs.Orders.{Values}
@@ -32,7 +35,7 @@ pub refused_here : (rows : List (Option FieldSpec)) (index : List Entry) (i : �
 refused_here rows index i e rest v fault lt is h =
     let next : Entry = get_or index i e in
     ap (λ (l : List Entry). refused rows (elements_of l rest)) (drop-cons index i e lt)
-    ∙ ap (λ (o : Option PackFault). or_else o (refused rows (elements_of (drop (suc i) index) (drop next.len rest)))) (ap (refused_by (row_at rows next.number) next.number) (sym is) ∙ h)
+    ∙ ap (λ (o : Option PackFault). option_or o (refused rows (elements_of (drop (suc i) index) (drop next.len rest)))) (ap (refused_by (row_at rows next.number) next.number) (sym is) ∙ h)
 
 fits_taken : (s : FieldSpec) (v : List ℕ) → Fits s v → refusal s v ≡ None
 fits_taken s v fits = rw (fits.length, fits.class, fits.pad) refl
@@ -42,7 +45,7 @@ part_taken rows n v b part = ap (λ (r : Option FieldSpec). refused_by r n v) pa
 
 parts_taken : (rows : List (Option FieldSpec)) (es : Values) (b : List ℕ) → Parts rows es b → refused rows es ≡ None
 parts_taken rows [] b parts = refl
-parts_taken rows (e ∷ es) b parts = ap (λ (o : Option PackFault). or_else o (refused rows es)) (part_taken rows e.0 e.1 parts.0 parts.2) ∙ parts_taken rows es parts.1 parts.3
+parts_taken rows (e ∷ es) b parts = ap (λ (o : Option PackFault). option_or o (refused rows es)) (part_taken rows e.0 e.1 parts.0 parts.2) ∙ parts_taken rows es parts.1 parts.3
 
 -- a message that has a spelling is not refused
 spelled_taken : (t : Layout) (m : Contents) (b : List ℕ) → Spelling t m b → message_refusal t m ≡ None
@@ -102,13 +105,29 @@ module _ (reads : ReadsSpellings) where
   pub read_again : (t : Layout) (m : Contents) (out rest : List ℕ) → AreGood t.rows → AreBytes out → AreBytes rest → PlainSpelling t m out → message_at t (out ++ rest) ≡ whole m (length out)
   read_again t m out rest good fits others plain = spelled_is_read reads t m out rest good (bytes_append out rest fits others) plain.spelling
 
-  -- the same of what a function gives
-  pub is_read_again : {T : Type 0} (items : T → List ℕ) (t : Layout) (m : Contents) (r : Result T PackFault) → AreGood t.rows → IfOk r (λ out. AreBytes (items out)) → IfOk r (λ out. PlainSpelling t m (items out))
-      → IfOk r (λ out. (rest : List ℕ) → AreBytes rest → message_at t (items out ++ rest) ≡ whole m (length (items out)))
-  is_read_again items t m (Ok out) good fits plain = λ rest others. read_again t m (items out) rest good fits others plain
-  is_read_again items t m (Err e) good fits plain = tt
+  -- the same of what a function appends
+  pub appended_again : (t : Layout) (m : Contents) (old new : List ℕ) → AreGood t.rows → AreBytes new → (b : List ℕ) × PlainSpelling t m b × (new ≡ old ++ b)
+      → (b rest : List ℕ) → new ≡ old ++ b → AreBytes rest → message_at t (b ++ rest) ≡ whole m (length b)
+  appended_again t m old new good fits packed b rest is others =
+      let behind : drop (length old) new ≡ b = ap (drop (length old)) is ∙ drop_at old b (length old) refl in
+      let same : packed.0 ≡ b = sym (ap (drop (length old)) packed.2 ∙ drop_at old packed.0 (length old) refl) ∙ behind in
+      read_again t m b rest good (subst AreBytes behind (bytes_drop (length old) new fits)) others (subst (PlainSpelling t m) same packed.1)
 
--- three pieces, one after another
-pub three_pieces : (none one two all a b c : List ℕ) → none ≡ [] → one ≡ none ++ a → two ≡ one ++ b → all ≡ two ++ c → all ≡ a ++ (b ++ c)
-three_pieces none one two all a b c empty first second third =
-    third ∙ ap (λ (l : List ℕ). l ++ c) (second ∙ ap (λ (l : List ℕ). l ++ b) (first ∙ ap (λ (l : List ℕ). l ++ a) empty)) ∙ append_assoc a b c
+-- what begins with more than the old bytes begins with the old bytes
+Keeps-front : (old more new : List ℕ) → Keeps (old ++ more) new → Keeps old new
+Keeps-front old more new kept =
+    sym (take-take (length old) (length (old ++ more)) new (omega (arith, length-append old more))) ∙ ap (take (length old)) kept ∙ take_at old more (length old) refl
+
+-- two pieces behind what was there
+pub kept_behind : (old none one two new a b : List ℕ) → none ≡ old → one ≡ none ++ a → two ≡ one ++ b → Keeps two new → Keeps old new
+kept_behind old none one two new a b same first second kept =
+    let head : one ≡ old ++ a = first ∙ ap (λ (l : List ℕ). l ++ a) same in
+    Keeps-front old a new (subst (λ (l : List ℕ). Keeps l new) head (Keeps-front one b new (subst (λ (l : List ℕ). Keeps l new) second kept)))
+
+-- three pieces behind what was there, one after another
+pub three_pieces : (old none one two all a b c : List ℕ) → none ≡ old → one ≡ none ++ a → two ≡ one ++ b → all ≡ two ++ c → all ≡ old ++ (a ++ (b ++ c))
+three_pieces old none one two all a b c same first second third =
+    third
+    ∙ ap (λ (l : List ℕ). l ++ c) (second ∙ ap (λ (l : List ℕ). l ++ b) (first ∙ ap (λ (l : List ℕ). l ++ a) same))
+    ∙ append_assoc (old ++ a) b c
+    ∙ append_assoc old a (b ++ c)

@@ -1,4 +1,5 @@
 -- Each message that a table doesn't refuse has a plain spelling, and only one.
+use Rattle.std.specs.Option.{option_or}
 use Rattle.std.proofs.Common.{◌≡◌, ℕ, ◌/◌, Bool, true, false, cond, eqb, List, [], ◌∷◌, ◌++◌, drop, Option, Some, None, refl, sym, ap, subst, ◌∙◌}
 use Rattle.std.specs.List.{flat_map}
 use Rattle.std.proofs.lemmas.Bool.{eqb-true}
@@ -15,7 +16,7 @@ use Rattle.iso_wire.specs.declared.fault.PackFault.TheVariants.{WrongVersion}
 use Rattle.iso_wire.specs.Elements.{has}
 use Rattle.iso_wire.specs.Entries.{elements_of}
 use Rattle.iso_wire.specs.OneSpelling.{AreOfBytes, HasPlain, PlainOnce}
-use Rattle.iso_wire.specs.Refusal.{refused_field, refused_by, or_else, refused}
+use Rattle.iso_wire.specs.Refusal.{refused_field, refused_by, refused}
 use Rattle.iso_wire.specs.Spelling.{mti_bytes, plain_by, plain_of, PartAs, Parts, AreBytes}
 use Rattle.iso_wire.proofs.Bytes.{bytes_take, bytes_drop}
 use Rattle.iso_wire.proofs.Orders.{Values}
@@ -32,7 +33,7 @@ field_taken : (n : ℕ) (e : Option FieldFault) → refused_field n e ≡ None �
 field_taken n None h = refl
 field_taken n (Some e) h = absurd cc
 
-both_taken : (first rest : Option PackFault) → or_else first rest ≡ None → (first ≡ None) × (rest ≡ None)
+both_taken : (first rest : Option PackFault) → option_or first rest ≡ None → (first ≡ None) × (rest ≡ None)
 both_taken None rest h = (refl, h)
 both_taken (Some e) rest h = absurd cc
 

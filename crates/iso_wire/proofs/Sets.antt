@@ -3,7 +3,8 @@ use Rattle.std.proofs.Common.{◌≡◌, ◌≢◌, ℕ, zero, suc, ◌+◌, ◌
 use Rattle.std.proofs.lemmas.Bool.{cases_eq}
 use Rattle.std.proofs.lemmas.Bool.Decides.{nat_tests}
 use Rattle.iso_wire.specs.Elements.{has, IsAscending}
-use Rattle.iso_wire.specs.Numbers.{numbers, numbers_of}
+use Rattle.iso_parts.specs.Numbers.{numbers}
+use Rattle.iso_wire.specs.Numbers.{numbers_of}
 use Rattle.iso_wire.proofs.Orders.{Values}
 use Rattle.iso_wire.proofs.NumberLaws.{one_more, no_more, no_numbers}
 

@@ -16,10 +16,11 @@ use Rattle.iso_wire.specs.declared.fault.UnpackCause.TheVariants.{Short, Unknown
 use Rattle.iso_wire.specs.declared.judging.Stage.{Stage}
 use Rattle.iso_wire.specs.declared.judging.Stage.TheVariants as stages
 use Rattle.iso_wire.specs.declared.judging.Stopped.{Stopped}
-use Rattle.iso_wire.specs.declared.numbers.Numbers.{Numbers}
+use Rattle.iso_parts.specs.declared.bitmap.Bitmap.{Bitmap}
 use Rattle.iso_wire.specs.Contents.{Contents}
-use Rattle.iso_wire.specs.Numbers.{numbers_in}
-use Rattle.iso_wire.specs.Reading.{◌>>=◌, halt, mti_size, type_at, primary_at, secondary_at, words_by, words_at, place_of, answer, value_by, elements_at, message_at, whole}
+use Rattle.iso_parts.specs.Numbers.{numbers_in}
+use Rattle.iso_parts.specs.Mti.{mti_size}
+use Rattle.iso_wire.specs.Reading.{◌>>=◌, halt, type_at, primary_at, secondary_at, words_by, words_at, place_of, answer, value_by, elements_at, message_at, whole}
 use Rattle.iso_wire.specs.ReadingLaws.{IsShort}
 use Rattle.iso_wire.specs.Resuming.{end_of, end_of_elements, end_by, body_end, body_end_under, end_of_rest, behind_maps, second_words, ends_from, IsWithin, GoesOn, Resumes, Steps, IsResumed}
 use Rattle.iso_wire.proofs.Endings.{Stays, type_stays, primary_stays, secondary_stays}
@@ -226,11 +227,11 @@ no_row_body rows ns n count at b none = ap (λ o. body_end_under o n count at b 
 
 -- ---- from one stage to the next
 
-pub steps_then : (t : Layout) (from : Stage) (rest : Numbers) (end : ℕ) (b : List ℕ) (r : Result ℕ UnpackFault) → Steps t from b rest (Ok end) → (after : Stage) → Resumes t (stages.Elements rest end) b after r → Resumes t from b after r
+pub steps_then : (t : Layout) (from : Stage) (rest : Bitmap) (end : ℕ) (b : List ℕ) (r : Result ℕ UnpackFault) → Steps t from b rest (Ok end) → (after : Stage) → Resumes t (stages.Elements rest end) b after r → Resumes t from b after r
 steps_then t from rest end b r one after others = record { read = others.read; goes_on = λ x. one.0 x ∙ others.goes_on x; within = others.within }
 
 -- a step that begins where another stage goes on alike
-pub step_from : (t : Layout) (from mid : Stage) (rest : Numbers) (b : List ℕ) (r : Result ℕ Stopped) → GoesOn t from mid b → Steps t mid b rest r → Steps t from b rest r
+pub step_from : (t : Layout) (from mid : Stage) (rest : Bitmap) (b : List ℕ) (r : Result ℕ Stopped) → GoesOn t from mid b → Steps t mid b rest r → Steps t from b rest r
 step_from t from mid rest b (Ok end) one others = (λ x. one x ∙ others.0 x, others.1)
 step_from t from mid rest b (Err stopped) one others = record { read = others.read; goes_on = λ x. one x ∙ others.goes_on x; within = others.within }
 

@@ -12,8 +12,10 @@ use Rattle.iso_table.specs.Layout.{Layout}
 use Rattle.iso_wire.specs.declared.fault.UnpackFault.{UnpackFault}
 use Rattle.iso_wire.specs.declared.fault.UnpackCause.{UnpackCause}
 use Rattle.iso_wire.specs.declared.fault.UnpackCause.TheVariants as causes
-use Rattle.iso_wire.specs.Numbers.{numbers_in, unknown}
-use Rattle.iso_wire.specs.Reading.{◌>>=◌, halt, mti_size, mti_of, of_version, type_at, word_by, word_at, known_by, primary_at, second_known, secondary_at}
+use Rattle.iso_parts.specs.Numbers.{numbers_in}
+use Rattle.iso_wire.specs.Numbers.{unknown}
+use Rattle.iso_parts.specs.Mti.{mti_size}
+use Rattle.iso_wire.specs.Reading.{◌>>=◌, halt, mti_of, of_version, type_at, word_by, word_at, known_by, primary_at, second_known, secondary_at}
 use Rattle.iso_wire.specs.Spelling.{AreBytes}
 use Rattle.iso_wire.specs.Stops.{Piece, type, primary, secondary, owner, IsType, IsOwnType, HaveRows, IsUnknown, Halts}
 use Rattle.iso_wire.proofs.Bytes.{bytes_take}

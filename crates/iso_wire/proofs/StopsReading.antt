@@ -13,8 +13,10 @@ use Rattle.iso_table.specs.Layout.{Layout, row_at, AreGood}
 use Rattle.iso_wire.specs.declared.fault.UnpackFault.{UnpackFault}
 use Rattle.iso_wire.specs.declared.fault.UnpackCause.{UnpackCause}
 use Rattle.iso_wire.specs.Contents.{Contents}
-use Rattle.iso_wire.specs.Numbers.{numbers_in, numbers_of}
-use Rattle.iso_wire.specs.Reading.{◌>>=◌, halt, mti_size, type_at, primary_at, secondary_at, words_by, words_at, value_by, value_at, elements_at, message_at, whole}
+use Rattle.iso_parts.specs.Numbers.{numbers_in}
+use Rattle.iso_wire.specs.Numbers.{numbers_of}
+use Rattle.iso_parts.specs.Mti.{mti_size}
+use Rattle.iso_wire.specs.Reading.{◌>>=◌, halt, type_at, primary_at, secondary_at, words_by, words_at, value_by, value_at, elements_at, message_at, whole}
 use Rattle.iso_wire.specs.Spelling.{AreBytes}
 use Rattle.iso_wire.specs.Stops.{Piece, type, primary, secondary, count, body, owner, IsOwnType, below, IsBefore, CallFor, Halts, Stops}
 use Rattle.iso_wire.specs.StopsLaws.{StopsAsRead}

@@ -15,8 +15,9 @@ use Rattle.iso_wire.specs.declared.fault.UnpackFault.{UnpackFault}
 use Rattle.std.specs.Prelude.{IfOk, IfErr}
 use Rattle.iso_wire.specs.declared.fault.UnpackCause.TheVariants.{Short, Memory}
 use Rattle.iso_wire.specs.Contents.{Contents}
-use Rattle.iso_wire.specs.Numbers.{numbers_in}
-use Rattle.iso_wire.specs.Reading.{◌>>=◌, mti_size, type_at, words_at, value_at, elements_at, IsFaultOf, message_at, whole}
+use Rattle.iso_parts.specs.Numbers.{numbers_in}
+use Rattle.iso_parts.specs.Mti.{mti_size}
+use Rattle.iso_wire.specs.Reading.{◌>>=◌, type_at, words_at, value_at, elements_at, IsFaultOf, message_at, whole}
 use Rattle.iso_wire.specs.ReadingLaws.{ReadsSpellings, ReadingStays}
 use Rattle.iso_wire.specs.Spelling.{mti_bytes, AreBytes, BeginsWithNone, PartAs, Parts}
 use Rattle.iso_wire.specs.Viewing.{Viewed, wire_at, wires_at, view_at, Wired, Views, ViewsSpelled, IsViewed}

@@ -1,6 +1,6 @@
 -- Finding the bodies of elements one after the other, as a loop does, and looking one up.
-use Rattle.std.proofs.Common.{◌≡◌, ℕ, zero, suc, ◌+◌, ◌-◌, ◌*◌, ◌≤◌, ◌<◌, ◌&&◌, Bool, true, false, eqb, leb, List, [], ◌∷◌, ◌++◌, length, take, drop, set, Option, Some, None, Result, Ok, Err, refl, sym, ap, subst, ◌∙◌, append_assoc, arith, inl, inr}
-use Rattle.std.proofs.lemmas.Bool.{cases_eq, cond-true, cond-false, and_parts, leb-true, le-leb}
+use Rattle.std.proofs.Common.{◌≡◌, ℕ, zero, suc, ◌+◌, ◌-◌, ◌*◌, ◌≤◌, ◌<◌, Bool, true, false, eqb, leb, List, [], ◌∷◌, ◌++◌, length, take, drop, set, Option, Some, None, Result, Ok, Err, refl, sym, ap, subst, ◌∙◌, append_assoc, arith, inl, inr}
+use Rattle.std.proofs.lemmas.Bool.{cases_eq, cond-true, cond-false, and_parts, leb-true}
 use Rattle.std.proofs.lemmas.Bool.Decides.{nat_tests}
 use Rattle.std.proofs.lemmas.List.{drop-drop, append-nil, get_or-set_same, get_or-set_other}
 use Rattle.iso_parts.specs.declared.spec.FieldSpec.{FieldSpec}
@@ -9,19 +9,19 @@ use Rattle.iso_parts.specs.declared.encoding.Coding.TheVariants as codings
 use Rattle.iso_parts.specs.declared.prefix.Digits.TheVariants as digits
 use Rattle.iso_parts.specs.declared.prefix.Length.{Length}
 use Rattle.iso_parts.specs.declared.prefix.Length.TheVariants as lengths
-use Rattle.iso_parts.specs.Bits.{in_words}
+use Rattle.iso_parts.specs.Bits.{in_words, contains, AreElements}
 use Rattle.iso_parts.specs.PartLaws.{PartLaws, IsUpTo}
 use Rattle.iso_parts.specs.Reading.{got, prefix_size, body_size, part_at}
 use Rattle.iso_parts.specs.Row.{IsGood, limit, longest_value}
 use Rattle.iso_table.specs.Layout.{row_at}
-use Rattle.iso_wire.specs.declared.bodies.Spot.{Spot}
+use Rattle.iso_wire.specs.declared.bodies.Bodies.{Bodies}
 use Rattle.iso_wire.specs.declared.fault.UnpackFault.{UnpackFault}
-use Rattle.iso_wire.specs.declared.numbers.Numbers.{Numbers}
+use Rattle.iso_parts.specs.declared.bitmap.Bitmap.{Bitmap}
 use Rattle.iso_wire.specs.Elements.{value_in}
-use Rattle.iso_wire.specs.Numbers.{numbers}
+use Rattle.iso_parts.specs.Numbers.{numbers}
 use Rattle.iso_wire.specs.Reading.{◌>>=◌, value_at}
-use Rattle.iso_wire.specs.Viewing.{bytes_at, longest_part, no_spot, spot_at, wire_of, wires_in, IsWithin, AreWithin, front_of, wire_at, wires_at}
-use Rattle.iso_wire.specs.Walk.{left, is_left}
+use Rattle.iso_wire.specs.Viewing.{longest_part, start_at, size_at, body_in, wire_of, wires_in, IsWithin, AreWithin, front_of, wire_at, wires_at}
+use Rattle.iso_parts.specs.Numbers.{members}
 use Rattle.iso_wire.proofs.Loop.{with_front}
 use Rattle.iso_wire.proofs.NumberLaws.{one_more, no_more, no_numbers}
 use Rattle.iso_wire.proofs.Orders.{Values}
@@ -74,7 +74,7 @@ numbers_ascend : (set : ℕ → Bool) (count n : ℕ) → n + count ≡ 129 → 
 numbers_ascend set zero n whole = subst (Ascends n) (sym (no_numbers set n)) tt
 numbers_ascend set (suc count) n whole = ascend_by (set n) set count n refl whole (numbers_ascend set count (n + 1) (omega arith))
 
-pub left_ascend : (walk : Numbers) → Ascends 2 (left walk)
+pub left_ascend : (walk : Bitmap) → Ascends 2 (members walk)
 left_ascend walk = numbers_ascend (in_words walk.first walk.second) 127 2 (omega arith)
 
 below_more : (low high : ℕ) (ns : List ℕ) → low ≤ high → AreBelow low ns → AreBelow high ns
@@ -85,43 +85,55 @@ below_next : (n : ℕ) (done : List ℕ) → AreBelow n done → AreBelow (n + 1
 below_next n [] h = (omega arith, tt)
 below_next n (k ∷ done) h = (omega (arith, h.0), below_next n done h.1)
 
--- ---- spots
+-- ---- where bodies lie
 
--- a spot that is put at a number leaves those of the numbers below
-wires_stay : (b : List ℕ) (spots : List Spot) (done : List ℕ) (n : ℕ) (p : Spot) → AreBelow n done → wires_in b (set spots n p) done ≡ wires_in b spots done
-wires_stay b spots [] n p below = refl
-wires_stay b spots (k ∷ done) n p below =
-    let same : spot_at (set spots n p) k ≡ spot_at spots k = get_or-set_other spots n k p no_spot (λ e. omega (arith, below.0)) in
-    ap (λ (q : Spot). (k, bytes_at b q) ∷ wires_in b (set spots n p) done) same ∙ ap (λ (l : Values). wire_of b spots k ∷ l) (wires_stay b spots done n p below.1)
+-- a body's place is put at a number
+abbrev pub with_body : Bodies → ℕ → ℕ → ℕ → Bodies
+with_body bodies n start size = record { starts = set bodies.starts n start; sizes = set bodies.sizes n size }
 
-within_stay : (size : ℕ) (spots : List Spot) (done : List ℕ) (n : ℕ) (p : Spot) → AreBelow n done → AreWithin size spots done → AreWithin size (set spots n p) done
-within_stay size spots [] n p below h = tt
-within_stay size spots (k ∷ done) n p below h =
-    let same : spot_at spots k ≡ spot_at (set spots n p) k = sym (get_or-set_other spots n k p no_spot (λ e. omega (arith, below.0))) in
-    (subst (IsWithin size) same h.0, within_stay size spots done n p below.1 h.1)
+-- which leaves those of the numbers below
+start_stays : (bodies : Bodies) (n k start size : ℕ) → k < n → start_at (with_body bodies n start size) k ≡ start_at bodies k
+start_stays bodies n k start size less = get_or-set_other bodies.starts n k start 0 (λ e. omega (arith, less))
 
-wires_append : (b : List ℕ) (spots : List Spot) (done : List ℕ) (n : ℕ) → wires_in b spots (done ++ n ∷ []) ≡ wires_in b spots done ++ wire_of b spots n ∷ []
-wires_append b spots [] n = refl
-wires_append b spots (k ∷ done) n = ap (λ (l : Values). wire_of b spots k ∷ l) (wires_append b spots done n)
+size_stays : (bodies : Bodies) (n k start size : ℕ) → k < n → size_at (with_body bodies n start size) k ≡ size_at bodies k
+size_stays bodies n k start size less = get_or-set_other bodies.sizes n k size 0 (λ e. omega (arith, less))
 
-within_append : (size : ℕ) (spots : List Spot) (done : List ℕ) (n : ℕ) → AreWithin size spots done → IsWithin size (spot_at spots n) → AreWithin size spots (done ++ n ∷ [])
-within_append size spots [] n h le = (le, tt)
-within_append size spots (k ∷ done) n h le = (h.0, within_append size spots done n h.1 le)
+wires_stay : (b : List ℕ) (bodies : Bodies) (done : List ℕ) (n start size : ℕ) → AreBelow n done → wires_in b (with_body bodies n start size) done ≡ wires_in b bodies done
+wires_stay b bodies [] n start size below = refl
+wires_stay b bodies (k ∷ done) n start size below =
+    let front = start_stays bodies n k start size below.0 in
+    let many = size_stays bodies n k start size below.0 in
+    ap (λ (i : ℕ). (k, take i (drop (start_at (with_body bodies n start size) k) b)) ∷ wires_in b (with_body bodies n start size) done) many
+    ∙ ap (λ (i : ℕ). (k, take (size_at bodies k) (drop i b)) ∷ wires_in b (with_body bodies n start size) done) front
+    ∙ ap (λ (l : Values). wire_of b bodies k ∷ l) (wires_stay b bodies done n start size below.1)
+
+within_stay : (all : ℕ) (bodies : Bodies) (done : List ℕ) (n start size : ℕ) → AreBelow n done → AreWithin all bodies done → AreWithin all (with_body bodies n start size) done
+within_stay all bodies [] n start size below h = tt
+within_stay all bodies (k ∷ done) n start size below h =
+    (omega (arith, h.0, start_stays bodies n k start size below.0, size_stays bodies n k start size below.0), within_stay all bodies done n start size below.1 h.1)
+
+wires_append : (b : List ℕ) (bodies : Bodies) (done : List ℕ) (n : ℕ) → wires_in b bodies (done ++ n ∷ []) ≡ wires_in b bodies done ++ wire_of b bodies n ∷ []
+wires_append b bodies [] n = refl
+wires_append b bodies (k ∷ done) n = ap (λ (l : Values). wire_of b bodies k ∷ l) (wires_append b bodies done n)
+
+within_append : (all : ℕ) (bodies : Bodies) (done : List ℕ) (n : ℕ) → AreWithin all bodies done → IsWithin all bodies n → AreWithin all bodies (done ++ n ∷ [])
+within_append all bodies [] n h le = (le, tt)
+within_append all bodies (k ∷ done) n h le = (h.0, within_append all bodies done n h.1 le)
 
 -- ---- the loop
 
 -- the numbers that were done, and what holds of them and of those to come
-pub record Found (rows : List (Option FieldSpec)) (b : List ℕ) (spots : List Spot) (old ns : List ℕ) (at : ℕ) (total : Result (Values × ℕ) UnpackFault) : Type 0 where
+pub record Found (rows : List (Option FieldSpec)) (b : List ℕ) (bodies : Bodies) (old ns : List ℕ) (at : ℕ) (total : Result (Values × ℕ) UnpackFault) : Type 0 where
   pub done : List ℕ
   pub next : ℕ
   pub numbers : done ++ ns ≡ old
   pub below : AreBelow next done
   pub above : Ascends next ns
-  pub read : with_front (wires_in b spots done) (wires_at rows ns at (drop at b)) ≡ total
-  pub within : AreWithin (length b) spots done
+  pub read : with_front (wires_in b bodies done) (wires_at rows ns at (drop at b)) ≡ total
+  pub within : AreWithin (length b) bodies done
 
-pub found_first : (rows : List (Option FieldSpec)) (b : List ℕ) (spots : List Spot) (old : List ℕ) (at : ℕ) (total : Result (Values × ℕ) UnpackFault) → Ascends 2 old → wires_at rows old at (drop at b) ≡ total → Found rows b spots old old at total
-found_first rows b spots old at total asc is = record {
+pub found_first : (rows : List (Option FieldSpec)) (b : List ℕ) (bodies : Bodies) (old : List ℕ) (at : ℕ) (total : Result (Values × ℕ) UnpackFault) → Ascends 2 old → wires_at rows old at (drop at b) ≡ total → Found rows b bodies old old at total
+found_first rows b bodies old at total asc is = record {
   done = [];
   next = 2;
   numbers = refl;
@@ -135,20 +147,20 @@ found_first rows b spots old at total asc is = record {
     nothing (Ok x) = refl
     nothing (Err e) = refl
 
-pub found_next : (rows : List (Option FieldSpec)) (b : List ℕ) (spots : List Spot) (old ns rest v : List ℕ) (n at body used : ℕ) (p : Spot) (total : Result (Values × ℕ) UnpackFault) → Found rows b spots old ns at total
-    → ns ≡ n ∷ rest → length spots ≡ 129 → body ≡ front_of (row_at rows n) → value_at rows n at (drop at b) ≡ Ok (v, used) → p ≡ record { start = at + body; end = at + used } → body ≤ used → at + used ≤ length b
-    → Found rows b (set spots n p) old rest (at + used) total
-found_next rows b spots old ns rest v n at body used p total h is room front read place inner last =
+pub found_next : (rows : List (Option FieldSpec)) (b : List ℕ) (bodies : Bodies) (old ns rest v : List ℕ) (n at body used start size : ℕ) (total : Result (Values × ℕ) UnpackFault) → Found rows b bodies old ns at total
+    → ns ≡ n ∷ rest → length bodies.starts ≡ 129 → length bodies.sizes ≡ 129 → body ≡ front_of (row_at rows n) → value_at rows n at (drop at b) ≡ Ok (v, used) → start ≡ at + body → size ≡ used - body → body ≤ used → at + used ≤ length b
+    → Found rows b (with_body bodies n start size) old rest (at + used) total
+found_next rows b bodies old ns rest v n at body used start size total h is starts sizes front read begins many inner last =
     let above : Ascends h.next (n ∷ rest) = subst (Ascends h.next) is h.above in
     let below : AreBelow n h.done = below_more h.next n h.done above.0 h.below in
-    let there : spot_at (set spots n p) n ≡ p = get_or-set_same spots n p no_spot (omega (arith, above.1)) in
-    let len : at + used - (at + body) ≡ used - body = omega arith in
-    let wire : wire_of b (set spots n p) n ≡ (n, wire_at (row_at rows n) (drop at b) used) =
-    ap (λ (q : Spot). (n, bytes_at b q)) (there ∙ place) ∙ ap (λ (k : ℕ). (n, take k (drop (at + body) b))) len
+    let new : Bodies = with_body bodies n start size in
+    let new_start : start_at new n ≡ start = get_or-set_same bodies.starts n start 0 (omega (arith, above.1)) in
+    let new_size : size_at new n ≡ size = get_or-set_same bodies.sizes n size 0 (omega (arith, above.1)) in
+    let wire : wire_of b new n ≡ (n, wire_at (row_at rows n) (drop at b) used) =
+    ap (λ (k : ℕ). (n, take k (drop (start_at new n) b))) (new_size ∙ many) ∙ ap (λ (k : ℕ). (n, take (used - body) (drop k b))) (new_start ∙ begins)
     ∙ ap (λ (l : List ℕ). (n, take (used - body) l)) (sym (drop-drop body at b)) ∙ ap (λ (k : ℕ). (n, take (used - k) (drop k (drop at b)))) front in
-    let wires : wires_in b (set spots n p) (h.done ++ n ∷ []) ≡ wires_in b spots h.done ++ (n, wire_at (row_at rows n) (drop at b) used) ∷ [] =
-    wires_append b (set spots n p) h.done n ∙ ap (λ (l : Values). l ++ wire_of b (set spots n p) n ∷ []) (wires_stay b spots h.done n p below) ∙ ap (λ (e : ℕ × List ℕ). wires_in b spots h.done ++ e ∷ []) wire in
-    let inside : IsWithin (length b) (spot_at (set spots n p) n) = subst (IsWithin (length b)) (sym (there ∙ place)) (omega (arith, inner), last) in
+    let wires : wires_in b new (h.done ++ n ∷ []) ≡ wires_in b bodies h.done ++ (n, wire_at (row_at rows n) (drop at b) used) ∷ [] =
+    wires_append b new h.done n ∙ ap (λ (l : Values). l ++ wire_of b new n ∷ []) (wires_stay b bodies h.done n start size below) ∙ ap (λ (e : ℕ × List ℕ). wires_in b bodies h.done ++ e ∷ []) wire in
     record {
       done = h.done ++ n ∷ [];
       next = n + 1;
@@ -156,105 +168,86 @@ found_next rows b spots old ns rest v n at body used p total h is room front rea
       below = below_next n h.done below;
       above = above.2;
       read = ap (λ (l : Values). with_front l (wires_at rows rest (at + used) (drop (at + used) b))) wires
-          ∙ ap (λ (l : List ℕ). with_front (wires_in b spots h.done ++ (n, wire_at (row_at rows n) (drop at b) used) ∷ []) (wires_at rows rest (at + used) l)) (sym (drop-drop used at b))
-          ∙ goes_on rows (wires_in b spots h.done) ns rest n at (drop at b) (v, used) total is read h.read;
-      within = within_append (length b) (set spots n p) h.done n (within_stay (length b) spots h.done n p below h.within) inside;
+          ∙ ap (λ (l : List ℕ). with_front (wires_in b bodies h.done ++ (n, wire_at (row_at rows n) (drop at b) used) ∷ []) (wires_at rows rest (at + used) l)) (sym (drop-drop used at b))
+          ∙ goes_on rows (wires_in b bodies h.done) ns rest n at (drop at b) (v, used) total is read h.read;
+      within = within_append (length b) new h.done n (within_stay (length b) bodies h.done n start size below h.within) (omega (arith, new_start, new_size, begins, many, inner, last));
     }
 
-pub found_all : (rows : List (Option FieldSpec)) (b : List ℕ) (spots : List Spot) (old ns : List ℕ) (at : ℕ) (total : Result (Values × ℕ) UnpackFault) → Found rows b spots old ns at total → ns ≡ [] → (total ≡ Ok (wires_in b spots old, at)) × AreWithin (length b) spots old
-found_all rows b spots old ns at total h none =
+pub found_all : (rows : List (Option FieldSpec)) (b : List ℕ) (bodies : Bodies) (old ns : List ℕ) (at : ℕ) (total : Result (Values × ℕ) UnpackFault) → Found rows b bodies old ns at total → ns ≡ [] → (total ≡ Ok (wires_in b bodies old, at)) × AreWithin (length b) bodies old
+found_all rows b bodies old ns at total h none =
     let all : h.done ≡ old = sym (append-nil h.done) ∙ ap (λ (l : List ℕ). h.done ++ l) (sym none) ∙ h.numbers in
-    (wires_end rows (wires_in b spots h.done) ns at (drop at b) total none h.read ∙ ap (λ (l : List ℕ). Ok (wires_in b spots l, at)) all, subst (AreWithin (length b) spots) all h.within)
+    (wires_end rows (wires_in b bodies h.done) ns at (drop at b) total none h.read ∙ ap (λ (l : List ℕ). Ok (wires_in b bodies l, at)) all, subst (AreWithin (length b) bodies) all h.within)
 
 -- ---- the body of one element
 
-body_by : (is : Bool) (b : List ℕ) (spots : List Spot) (set : ℕ → Bool) (count n k : ℕ) → set n ≡ is → n ≤ k → k < n + suc count → set k ≡ true
-    → (n + 1 ≤ k → k < n + 1 + count → value_in (wires_in b spots (numbers set count (n + 1))) k ≡ Some (bytes_at b (spot_at spots k))) → value_in (wires_in b spots (numbers set (suc count) n)) k ≡ Some (bytes_at b (spot_at spots k))
-body_by false b spots set count n k is low high here rest =
+body_by : (is : Bool) (b : List ℕ) (bodies : Bodies) (set : ℕ → Bool) (count n k : ℕ) → set n ≡ is → n ≤ k → k < n + suc count → set k ≡ true
+    → (n + 1 ≤ k → k < n + 1 + count → value_in (wires_in b bodies (numbers set count (n + 1))) k ≡ Some (body_in b bodies k)) → value_in (wires_in b bodies (numbers set (suc count) n)) k ≡ Some (body_in b bodies k)
+body_by false b bodies set count n k is low high here rest =
     elim (cases_eq n k) [
       | inl same ↦ absurd (let both : true ≡ false = sym here ∙ ap set (sym same) ∙ is in cc)
-      | inr other ↦ ap (λ (l : List ℕ). value_in (wires_in b spots l) k) (no_more set count n is) ∙ rest (omega arith) (omega arith)
+      | inr other ↦ ap (λ (l : List ℕ). value_in (wires_in b bodies l) k) (no_more set count n is) ∙ rest (omega arith) (omega arith)
     ]
-body_by true b spots set count n k is low high here rest =
+body_by true b bodies set count n k is low high here rest =
     elim (cases_eq n k) [
       | inl same ↦
           let t : eqb n k ≡ true = grind (arith, nat_tests) in
-          ap (λ (l : List ℕ). value_in (wires_in b spots l) k) (one_more set count n is) ∙ cond-true (eqb n k) (Some (bytes_at b (spot_at spots n))) (value_in (wires_in b spots (numbers set count (n + 1))) k) t
-          ∙ ap (λ (m : ℕ). Some (bytes_at b (spot_at spots m))) same
+          ap (λ (l : List ℕ). value_in (wires_in b bodies l) k) (one_more set count n is) ∙ cond-true (eqb n k) (Some (body_in b bodies n)) (value_in (wires_in b bodies (numbers set count (n + 1))) k) t
+          ∙ ap (λ (m : ℕ). Some (body_in b bodies m)) same
       | inr other ↦
           let t : eqb n k ≡ false = grind (arith, nat_tests) in
-          ap (λ (l : List ℕ). value_in (wires_in b spots l) k) (one_more set count n is) ∙ cond-false (eqb n k) (Some (bytes_at b (spot_at spots n))) (value_in (wires_in b spots (numbers set count (n + 1))) k) t
+          ap (λ (l : List ℕ). value_in (wires_in b bodies l) k) (one_more set count n is) ∙ cond-false (eqb n k) (Some (body_in b bodies n)) (value_in (wires_in b bodies (numbers set count (n + 1))) k) t
           ∙ rest (omega arith) (omega arith)
     ]
 
-body_there : (b : List ℕ) (spots : List Spot) (set : ℕ → Bool) (count n k : ℕ) → n ≤ k → k < n + count → set k ≡ true → value_in (wires_in b spots (numbers set count n)) k ≡ Some (bytes_at b (spot_at spots k))
-body_there b spots set zero n k low high here = absurd (omega arith)
-body_there b spots set (suc count) n k low high here = body_by (set n) b spots set count n k refl low high here (λ low high. body_there b spots set count (n + 1) k low high here)
+body_there : (b : List ℕ) (bodies : Bodies) (set : ℕ → Bool) (count n k : ℕ) → n ≤ k → k < n + count → set k ≡ true → value_in (wires_in b bodies (numbers set count n)) k ≡ Some (body_in b bodies k)
+body_there b bodies set zero n k low high here = absurd (omega arith)
+body_there b bodies set (suc count) n k low high here = body_by (set n) b bodies set count n k refl low high here (λ low high. body_there b bodies set count (n + 1) k low high here)
 
-none_by : (is : Bool) (b : List ℕ) (spots : List Spot) (set : ℕ → Bool) (count n k : ℕ) → set n ≡ is → (n ≤ k → k < n + suc count → set k ≡ true → ⊥)
-    → value_in (wires_in b spots (numbers set count (n + 1))) k ≡ None → value_in (wires_in b spots (numbers set (suc count) n)) k ≡ None
-none_by false b spots set count n k is absent rest = ap (λ (l : List ℕ). value_in (wires_in b spots l) k) (no_more set count n is) ∙ rest
-none_by true b spots set count n k is absent rest =
+none_by : (is : Bool) (b : List ℕ) (bodies : Bodies) (set : ℕ → Bool) (count n k : ℕ) → set n ≡ is → (n ≤ k → k < n + suc count → set k ≡ true → ⊥)
+    → value_in (wires_in b bodies (numbers set count (n + 1))) k ≡ None → value_in (wires_in b bodies (numbers set (suc count) n)) k ≡ None
+none_by false b bodies set count n k is absent rest = ap (λ (l : List ℕ). value_in (wires_in b bodies l) k) (no_more set count n is) ∙ rest
+none_by true b bodies set count n k is absent rest =
     elim (cases_eq n k) [
       | inl same ↦ absurd (absent (omega arith) (omega arith) (ap set (sym same) ∙ is))
       | inr other ↦
           let t : eqb n k ≡ false = grind (arith, nat_tests) in
-          ap (λ (l : List ℕ). value_in (wires_in b spots l) k) (one_more set count n is) ∙ cond-false (eqb n k) (Some (bytes_at b (spot_at spots n))) (value_in (wires_in b spots (numbers set count (n + 1))) k) t
+          ap (λ (l : List ℕ). value_in (wires_in b bodies l) k) (one_more set count n is) ∙ cond-false (eqb n k) (Some (body_in b bodies n)) (value_in (wires_in b bodies (numbers set count (n + 1))) k) t
           ∙ rest
     ]
 
-body_absent : (b : List ℕ) (spots : List Spot) (set : ℕ → Bool) (count n k : ℕ) → (n ≤ k → k < n + count → set k ≡ true → ⊥) → value_in (wires_in b spots (numbers set count n)) k ≡ None
-body_absent b spots set zero n k absent = ap (λ (l : List ℕ). value_in (wires_in b spots l) k) (no_numbers set n)
-body_absent b spots set (suc count) n k absent = none_by (set n) b spots set count n k refl absent (body_absent b spots set count (n + 1) k (λ low high. absent (omega arith) (omega arith)))
+body_absent : (b : List ℕ) (bodies : Bodies) (set : ℕ → Bool) (count n k : ℕ) → (n ≤ k → k < n + count → set k ≡ true → ⊥) → value_in (wires_in b bodies (numbers set count n)) k ≡ None
+body_absent b bodies set zero n k absent = ap (λ (l : List ℕ). value_in (wires_in b bodies l) k) (no_numbers set n)
+body_absent b bodies set (suc count) n k absent = none_by (set n) b bodies set count n k refl absent (body_absent b bodies set count (n + 1) k (λ low high. absent (omega arith) (omega arith)))
 
-within_by : (is : Bool) (size : ℕ) (spots : List Spot) (set : ℕ → Bool) (count n k : ℕ) → set n ≡ is → set k ≡ true → n ≤ k → AreWithin size spots (numbers set (suc count) n)
-    → (n + 1 ≤ k → AreWithin size spots (numbers set count (n + 1)) → IsWithin size (spot_at spots k)) → IsWithin size (spot_at spots k)
-within_by false size spots set count n k is here low h rest =
+within_by : (is : Bool) (size : ℕ) (bodies : Bodies) (set : ℕ → Bool) (count n k : ℕ) → set n ≡ is → set k ≡ true → n ≤ k → AreWithin size bodies (numbers set (suc count) n)
+    → (n + 1 ≤ k → AreWithin size bodies (numbers set count (n + 1)) → IsWithin size bodies k) → IsWithin size bodies k
+within_by false size bodies set count n k is here low h rest =
     elim (cases_eq n k) [
       | inl same ↦ absurd (let both : true ≡ false = sym here ∙ ap set (sym same) ∙ is in cc)
-      | inr other ↦ rest (omega arith) (subst (AreWithin size spots) (no_more set count n is) h)
+      | inr other ↦ rest (omega arith) (subst (AreWithin size bodies) (no_more set count n is) h)
     ]
-within_by true size spots set count n k is here low h rest =
-    let all : AreWithin size spots (n ∷ numbers set count (n + 1)) = subst (AreWithin size spots) (one_more set count n is) h in
+within_by true size bodies set count n k is here low h rest =
+    let all : AreWithin size bodies (n ∷ numbers set count (n + 1)) = subst (AreWithin size bodies) (one_more set count n is) h in
     elim (cases_eq n k) [
-      | inl same ↦ subst (λ (m : ℕ). IsWithin size (spot_at spots m)) same all.0
+      | inl same ↦ subst (λ (m : ℕ). IsWithin size bodies m) same all.0
       | inr other ↦ rest (omega arith) all.1
     ]
 
-within_there : (size : ℕ) (spots : List Spot) (set : ℕ → Bool) (count n k : ℕ) → n ≤ k → k < n + count → set k ≡ true → AreWithin size spots (numbers set count n) → IsWithin size (spot_at spots k)
-within_there size spots set zero n k low high here h = absurd (omega arith)
-within_there size spots set (suc count) n k low high here h = within_by (set n) size spots set count n k refl here low h (λ low all. within_there size spots set count (n + 1) k low (omega arith) here all)
+within_there : (size : ℕ) (bodies : Bodies) (set : ℕ → Bool) (count n k : ℕ) → n ≤ k → k < n + count → set k ≡ true → AreWithin size bodies (numbers set count n) → IsWithin size bodies k
+within_there size bodies set zero n k low high here h = absurd (omega arith)
+within_there size bodies set (suc count) n k low high here h = within_by (set n) size bodies set count n k refl here low h (λ low all. within_there size bodies set count (n + 1) k low (omega arith) here all)
 
--- what the test of a number says
-record IsLeft (walk : Numbers) (k : ℕ) : Type 0 where
-  pub low : 2 ≤ k
-  pub high : k ≤ 128
-  pub there : in_words walk.first walk.second k ≡ true
+pub set_body : (set : Bitmap) (b : List ℕ) (bodies : Bodies) (k : ℕ) → AreElements (contains set) → contains set k ≡ true → value_in (wires_in b bodies (members set)) k ≡ Some (body_in b bodies k)
+set_body set b bodies k elements is = let there = elements k is in body_there b bodies (in_words set.first set.second) 127 2 k there.0 (omega (arith, there.1)) is
 
-left_is : (walk : Numbers) (k : ℕ) → is_left walk k ≡ true → IsLeft walk k
-left_is walk k is =
-    let both = and_parts (leb 2 k && leb k 128) (in_words walk.first walk.second k) is in
-    let range = and_parts (leb 2 k) (leb k 128) both.0 in
-    record { low = leb-true 2 k range.0; high = leb-true k 128 range.1; there = both.1 }
+pub set_within : (set : Bitmap) (size : ℕ) (bodies : Bodies) (k : ℕ) → AreElements (contains set) → contains set k ≡ true → AreWithin size bodies (members set) → IsWithin size bodies k
+set_within set size bodies k elements is h = let there = elements k is in within_there size bodies (in_words set.first set.second) 127 2 k there.0 (omega (arith, there.1)) is h
 
-pub left_body : (walk : Numbers) (b : List ℕ) (spots : List Spot) (k : ℕ) → is_left walk k ≡ true → value_in (wires_in b spots (left walk)) k ≡ Some (bytes_at b (spot_at spots k))
-left_body walk b spots k is = let there = left_is walk k is in body_there b spots (in_words walk.first walk.second) 127 2 k there.low (omega (arith, there.high)) there.there
+pub set_few : (set : Bitmap) (k : ℕ) → AreElements (contains set) → contains set k ≡ true → k ≤ 128
+set_few set k elements is = (elements k is).1
 
-pub left_within : (walk : Numbers) (size : ℕ) (spots : List Spot) (k : ℕ) → is_left walk k ≡ true → AreWithin size spots (left walk) → IsWithin size (spot_at spots k)
-left_within walk size spots k is h = let there = left_is walk k is in within_there size spots (in_words walk.first walk.second) 127 2 k there.low (omega (arith, there.high)) there.there h
-
-pub left_few : (walk : Numbers) (k : ℕ) → is_left walk k ≡ true → k ≤ 128
-left_few walk k is = (left_is walk k is).high
-
-all_three : (x y z : Bool) → x ≡ true → y ≡ true → z ≡ true → (x && y && z) ≡ true
-all_three x y z first second third = rw (first, second, third) refl
-
-pub left_absent : (walk : Numbers) (b : List ℕ) (spots : List Spot) (k : ℕ) → is_left walk k ≡ false → value_in (wires_in b spots (left walk)) k ≡ None
-left_absent walk b spots k is =
-    body_absent b spots (in_words walk.first walk.second) 127 2 k (λ low high there.
-    let all : is_left walk k ≡ true = all_three (leb 2 k) (leb k 128) (in_words walk.first walk.second k) (le-leb 2 k low) (le-leb k 128 (omega arith)) there in
-    let both : true ≡ false = sym all ∙ is in
-    cc)
+pub set_absent : (set : Bitmap) (b : List ℕ) (bodies : Bodies) (k : ℕ) → contains set k ≡ false → value_in (wires_in b bodies (members set)) k ≡ None
+set_absent set b bodies k is = body_absent b bodies (in_words set.first set.second) 127 2 k (λ low high there. let both : true ≡ false = sym there ∙ is in cc)
 
 -- ---- there are at most 127 numbers
 
@@ -266,7 +259,7 @@ pub few_numbers : (set : ℕ → Bool) (count n : ℕ) → length (numbers set c
 few_numbers set zero n = omega (arith, ap length (no_numbers set n))
 few_numbers set (suc count) n = few_by (set n) set count n refl (few_numbers set count (n + 1))
 
-pub few_left : (walk : Numbers) → length (left walk) ≤ 127
+pub few_left : (walk : Bitmap) → length (members walk) ≤ 127
 few_left walk = few_numbers (in_words walk.first walk.second) 127 2
 
 -- ---- the longest part

@@ -13,7 +13,8 @@ use Rattle.iso_parts.specs.MapLaws.{MapLaws, has_bit}
 use Rattle.iso_wire.specs.declared.fault.UnpackFault.{UnpackFault}
 use Rattle.iso_wire.specs.declared.fault.UnpackCause.TheVariants.{Short, ThirdBitmap}
 use Rattle.iso_table.specs.Layout.{Layout, row_at}
-use Rattle.iso_wire.specs.Numbers.{numbers_in, unknown}
+use Rattle.iso_parts.specs.Numbers.{numbers_in}
+use Rattle.iso_wire.specs.Numbers.{unknown}
 use Rattle.iso_wire.specs.Reading.{◌>>=◌, halt, word_by, word_at, known_by, primary_at, second_known, secondary_at, words_by, words_at}
 use Rattle.iso_wire.specs.Spelling.{AreBytes}
 use Rattle.iso_wire.proofs.Bytes.{bytes_take, bytes_drop}

@@ -1,9 +1,11 @@
 -- Elements whose values lie in one buffer, with an index that says how long each is.
-use Rattle.std.specs.Prelude.{◌≡◌, ℕ, suc, ◌+◌, ◌<◌, ◌≤◌, ◌==◌, ◌||◌, nat_lt, Bool, false, if◌then◌else◌, List, [], ◌∷◌, ◌++◌, length, take, drop, Some, None}
+use Rattle.std.specs.Prelude.{◌≡◌, ◌≢◌, ℕ, suc, ◌+◌, ◌<◌, ◌≤◌, ◌==◌, nat_lt, true, if◌then◌else◌, List, [], ◌∷◌, ◌++◌, length, take, drop, Some, None}
 use Rattle.iso_wire.specs.declared.elements.Entry.{Entry}
 use Rattle.iso_wire.specs.declared.elements.Place.{Place}
 use Rattle.iso_wire.specs.declared.elements.Elements.{Elements}
-use Rattle.iso_wire.specs.Elements.{IsBelow}
+use Rattle.iso_parts.specs.declared.bitmap.Bitmap.{Bitmap}
+use Rattle.iso_parts.specs.Bits.{contains}
+use Rattle.iso_wire.specs.Elements.{has, IsBelow}
 
 -- the entry of a value
 abbrev pub entry_of : ℕ → List ℕ → Entry
@@ -26,6 +28,14 @@ views x = elements_of x.index.items x.values.items
 abbrev pub IsWhole : Elements → Type 0
 IsWhole x = bytes_in x.index.items ≡ length x.values.items
 
+-- the set has the numbers of the elements, and no other
+abbrev pub IsNumbered : Elements → Type 0
+IsNumbered x = (k : ℕ) → contains x.numbers k ≡ has (views x) k
+
+-- the new set has the number n beside those of the old one
+abbrev pub Adds : Bitmap → Bitmap → ℕ → Type 0
+Adds old new n = (contains new n ≡ true) × ((k : ℕ) → k ≢ n → contains new k ≡ contains old k)
+
 -- these entries and these bytes
 pub record IsMadeOf (x : Elements) (es : List Entry) (b : List ℕ) : Type 0 where
   pub index : x.index.items ≡ es
@@ -34,11 +44,6 @@ pub record IsMadeOf (x : Elements) (es : List Entry) (b : List ℕ) : Type 0 whe
 -- the same entries and the same bytes
 abbrev pub IsSame : Elements → Elements → Type 0
 IsSame old new = IsMadeOf new old.index.items old.values.items
-
--- whether the index has the number
-abbrev pub has_entry : List Entry → ℕ → Bool
-has_entry [] n = false
-has_entry (e ∷ es) n = e.number == n || has_entry es n
 
 -- a place, seen from one entry further to the front
 abbrev pub behind : Entry → Place → Place

@@ -3,7 +3,6 @@ pub mod Decimal
 pub mod Elements
 pub mod Entries
 pub mod Numbers
-pub mod Walk
 pub mod Spelling
 pub mod Refusal
 pub mod OneSpelling
@@ -18,3 +17,5 @@ pub mod Viewing
 pub mod FaultNumbers
 pub mod Masking
 pub mod StopsLaws
+pub mod Equality
+pub mod Describing

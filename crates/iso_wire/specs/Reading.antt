@@ -12,7 +12,7 @@ use Rattle.iso_parts.specs.declared.fault.FieldFault.{FieldFault}
 use Rattle.iso_parts.specs.declared.fault.FieldFault.TheVariants as fields
 use Rattle.iso_parts.specs.Class.{is_digit}
 use Rattle.iso_parts.specs.Bits.{map_size}
-use Rattle.iso_parts.specs.Mti.{number}
+use Rattle.iso_parts.specs.Mti.{mti_size, number}
 use Rattle.iso_parts.specs.BitmapReading.{word_in, top}
 use Rattle.iso_parts.specs.Reading.{Outcome, got, more, fault, prefix_size, part_at}
 use Rattle.iso_wire.specs.declared.fault.UnpackFault.{UnpackFault}
@@ -21,7 +21,8 @@ use Rattle.iso_wire.specs.declared.fault.UnpackCause.TheVariants.{Short, BadMti,
 use Rattle.iso_wire.specs.Contents.{Contents}
 use Rattle.iso_wire.specs.Faults.{out_of_memory}
 use Rattle.iso_table.specs.Layout.{Layout, row_at}
-use Rattle.iso_wire.specs.Numbers.{numbers_in, unknown}
+use Rattle.iso_parts.specs.Numbers.{numbers_in}
+use Rattle.iso_wire.specs.Numbers.{unknown}
 
 infixl 10 ◌>>=◌
 abbrev pub ◌>>=◌ : {A B : Type 0} → Result A UnpackFault → (A → Result B UnpackFault) → Result B UnpackFault
@@ -33,10 +34,6 @@ abbrev pub halt : {A : Type 0} → ℕ → ℕ → UnpackCause → Result A Unpa
 halt element at cause = Err (record { at = at; element = element; cause = cause })
 
 -- ---- the message type
-
-abbrev pub mti_size : Digits → ℕ
-mti_size digits.Ascii = 4
-mti_size digits.Bcd = 2
 
 abbrev pub four_digits : ℕ → ℕ → ℕ → ℕ → Option ℕ
 four_digits a b c d =

@@ -1,4 +1,5 @@
 -- Why a message has no spelling under a table.
+use Rattle.std.specs.Option.{option_or}
 use Rattle.std.specs.Prelude.{ℕ, ◌/◌, ◌==◌, if◌then◌else◌, List, [], ◌∷◌, Option, Some, None}
 use Rattle.iso_parts.specs.declared.spec.FieldSpec.{FieldSpec}
 use Rattle.iso_parts.specs.declared.fault.FieldFault.{FieldFault}
@@ -24,14 +25,10 @@ abbrev pub refused_by : Option FieldSpec → ℕ → List ℕ → Option PackFau
 refused_by None n v = Some (NoRow n)
 refused_by (Some s) n v = refused_field n (refusal s v)
 
-abbrev pub or_else : Option PackFault → Option PackFault → Option PackFault
-or_else None other = other
-or_else (Some e) other = Some e
-
 -- the first refusal among the elements
 abbrev pub refused : List (Option FieldSpec) → List (ℕ × List ℕ) → Option PackFault
 refused rows [] = None
-refused rows (e ∷ es) = or_else (refused_by (row_at rows e.0) e.0 e.1) (refused rows es)
+refused rows (e ∷ es) = option_or (refused_by (row_at rows e.0) e.0 e.1) (refused rows es)
 
 -- why a message is refused: the version first, then its elements in ascending order
 abbrev pub message_refusal : Layout → Contents → Option PackFault

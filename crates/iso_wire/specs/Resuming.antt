@@ -10,11 +10,12 @@ use Rattle.iso_wire.specs.declared.fault.UnpackCause.TheVariants.{Short, Unknown
 use Rattle.iso_wire.specs.declared.judging.Stage.{Stage}
 use Rattle.iso_wire.specs.declared.judging.Stage.TheVariants as stages
 use Rattle.iso_wire.specs.declared.judging.Stopped.{Stopped}
-use Rattle.iso_wire.specs.declared.numbers.Numbers.{Numbers}
+use Rattle.iso_parts.specs.declared.bitmap.Bitmap.{Bitmap}
 use Rattle.iso_table.specs.Layout.{Layout, row_at}
-use Rattle.iso_wire.specs.Numbers.{numbers_in}
-use Rattle.iso_wire.specs.Reading.{◌>>=◌, halt, mti_size, secondary_at, words_at, elements_at, message_at}
-use Rattle.iso_wire.specs.Walk.{left}
+use Rattle.iso_parts.specs.Numbers.{numbers_in}
+use Rattle.iso_parts.specs.Mti.{mti_size}
+use Rattle.iso_wire.specs.Reading.{◌>>=◌, halt, secondary_at, words_at, elements_at, message_at}
+use Rattle.iso_parts.specs.Numbers.{members}
 
 -- where what was read ends, without what it was
 abbrev pub end_of : {A : Type 0} → Result (A × ℕ) UnpackFault → Result ℕ UnpackFault
@@ -59,8 +60,8 @@ abbrev pub ends_from : Layout → Stage → List ℕ → Result ℕ UnpackFault
 ends_from t stages.Type b = end_of (message_at t b)
 ends_from t stages.Primary b = words_at t (mti_size t.mti) (drop (mti_size t.mti) b) >>= behind_maps t b
 ends_from t (stages.Secondary first) b = second_words t first b >>= behind_maps t b
-ends_from t (stages.Elements rest at) b = end_of_elements t.rows (left rest) at b
-ends_from t (stages.Body n count rest at) b = end_of_rest t.rows n count (left rest) at b
+ends_from t (stages.Elements rest at) b = end_of_elements t.rows (members rest) at b
+ends_from t (stages.Body n count rest at) b = end_of_rest t.rows n count (members rest) at b
 
 -- the bytes reach up to the stage's piece, and the count of a body is one that its row takes
 abbrev pub IsWithin : Layout → Stage → List ℕ → Type 0
@@ -81,7 +82,7 @@ pub record Resumes (t : Layout) (from : Stage) (b : List ℕ) (to : Stage) (answ
   pub within : IsWithin t to b
 
 -- judging came behind a part, where the other elements go on; or it stopped within the part
-abbrev pub Steps : Layout → Stage → List ℕ → Numbers → Result ℕ Stopped → Type 0
+abbrev pub Steps : Layout → Stage → List ℕ → Bitmap → Result ℕ Stopped → Type 0
 Steps t from b rest (Ok end) = GoesOn t from (stages.Elements rest end) b × (end ≤ length b)
 Steps t from b rest (Err stopped) = Resumes t from b stopped.stage (Err stopped.fault)
 

@@ -11,7 +11,7 @@ use Rattle.iso_table.specs.Layout.{Layout, row_at}
 use Rattle.iso_wire.specs.declared.fault.UnpackCause.{UnpackCause}
 use Rattle.iso_wire.specs.declared.fault.UnpackCause.TheVariants.{Short, BadMti, WrongVersion, BadHex, ThirdBitmap, UnknownElement, Field}
 use Rattle.iso_wire.specs.Elements.{has, IsAscending}
-use Rattle.iso_wire.specs.Reading.{mti_size}
+use Rattle.iso_parts.specs.Mti.{mti_size}
 use Rattle.iso_wire.specs.Spelling.{mti_bytes, Parts}
 
 -- ---- the pieces of a message

@@ -5,11 +5,12 @@ use Rattle.iso_parts.specs.declared.spec.FieldSpec.{FieldSpec}
 use Rattle.iso_parts.specs.Part.{Body, prefix}
 use Rattle.iso_parts.specs.Reading.{prefix_size}
 use Rattle.iso_parts.specs.Row.{longest_value}
-use Rattle.iso_wire.specs.declared.bodies.Spot.{Spot}
+use Rattle.iso_wire.specs.declared.bodies.Bodies.{Bodies}
 use Rattle.iso_wire.specs.declared.fault.UnpackFault.{UnpackFault}
 use Rattle.iso_wire.specs.Contents.{Contents}
-use Rattle.iso_wire.specs.Numbers.{numbers_in}
-use Rattle.iso_wire.specs.Reading.{◌>>=◌, mti_size, type_at, words_at, value_at, whole}
+use Rattle.iso_parts.specs.Numbers.{numbers_in}
+use Rattle.iso_parts.specs.Mti.{mti_size}
+use Rattle.iso_wire.specs.Reading.{◌>>=◌, type_at, words_at, value_at, whole}
 use Rattle.iso_wire.specs.Spelling.{Spelling}
 use Rattle.iso_table.specs.Layout.{Layout, row_at}
 
@@ -19,33 +20,34 @@ pub record Viewed : Type 0 where
   pub used : ℕ
   pub wires : List (ℕ × List ℕ)
 
--- ---- where the bodies lie, from an offset up to another
+-- ---- where the bodies lie, by their numbers
 
-abbrev pub bytes_at : List ℕ → Spot → List ℕ
-bytes_at b spot = take (spot.end - spot.start) (drop spot.start b)
+-- where the body with a number begins, and how many bytes it is
+abbrev pub start_at : Bodies → ℕ → ℕ
+start_at bodies n = slice_index_or bodies.starts n 0
 
-abbrev pub no_spot : Spot
-no_spot = record { start = 0; end = 0 }
+abbrev pub size_at : Bodies → ℕ → ℕ
+size_at bodies n = slice_index_or bodies.sizes n 0
 
--- the spot of a number
-abbrev pub spot_at : List Spot → ℕ → Spot
-spot_at spots n = slice_index_or spots n no_spot
+-- the bytes of that body
+abbrev pub body_in : List ℕ → Bodies → ℕ → List ℕ
+body_in b bodies n = take (size_at bodies n) (drop (start_at bodies n) b)
 
--- the bodies that the spots find in bytes for elements with the numbers
-abbrev pub wire_of : List ℕ → List Spot → ℕ → ℕ × List ℕ
-wire_of b spots n = (n, bytes_at b (spot_at spots n))
+-- the bodies in bytes for elements with the numbers
+abbrev pub wire_of : List ℕ → Bodies → ℕ → ℕ × List ℕ
+wire_of b bodies n = (n, body_in b bodies n)
 
-abbrev pub wires_in : List ℕ → List Spot → List ℕ → List (ℕ × List ℕ)
-wires_in b spots ns = map (wire_of b spots) ns
+abbrev pub wires_in : List ℕ → Bodies → List ℕ → List (ℕ × List ℕ)
+wires_in b bodies ns = map (wire_of b bodies) ns
 
--- a spot lies within so many bytes
-abbrev pub IsWithin : ℕ → Spot → Type 0
-IsWithin size spot = (spot.start ≤ spot.end) × (spot.end ≤ size)
+-- the body with a number lies within so many bytes
+abbrev pub IsWithin : ℕ → Bodies → ℕ → Type 0
+IsWithin size bodies n = start_at bodies n + size_at bodies n ≤ size
 
--- each of those spots does
-abbrev pub AreWithin : ℕ → List Spot → List ℕ → Type 0
-AreWithin size spots [] = Unit {0}
-AreWithin size spots (n ∷ ns) = IsWithin size (spot_at spots n) × AreWithin size spots ns
+-- each of those bodies does
+abbrev pub AreWithin : ℕ → Bodies → List ℕ → Type 0
+AreWithin size bodies [] = Unit {0}
+AreWithin size bodies (n ∷ ns) = IsWithin size bodies n × AreWithin size bodies ns
 
 -- ---- reading the bodies
 
@@ -83,10 +85,10 @@ abbrev pub JudgesWire : Option FieldSpec → Result (ℕ × ℕ) UnpackFault →
 JudgesWire row (Ok x) read = (x.0 ≡ front_of row) × ((value : List ℕ) × (read ≡ Ok (value, x.1)))
 JudgesWire row (Err e) read = read ≡ Err e
 
--- the spots find the bodies that reading gives
-abbrev pub FindsBodies : List ℕ → List Spot → List ℕ → Result ℕ UnpackFault → Result (List (ℕ × List ℕ) × ℕ) UnpackFault → Type 0
-FindsBodies b spots ns (Ok end) read = read ≡ Ok (wires_in b spots ns, end)
-FindsBodies b spots ns (Err e) read = read ≡ Err e
+-- the bodies are found that reading gives
+abbrev pub FindsBodies : List ℕ → Bodies → List ℕ → Result ℕ UnpackFault → Result (List (ℕ × List ℕ) × ℕ) UnpackFault → Type 0
+FindsBodies b bodies ns (Ok end) read = read ≡ Ok (wires_in b bodies ns, end)
+FindsBodies b bodies ns (Err e) read = read ≡ Err e
 
 -- ---- what it means for spellings
 

@@ -2,16 +2,14 @@
 
 ghost use Rattle.std.specs.Prelude.{◌≡◌, ◌≢◌, ◌≤◌, ◌<◌, ◌^◌, length, IfOk, IfErr};
 ghost use Rattle.iso_parts.specs.Bits.{map_size};
+ghost use Rattle.iso_parts.specs.Numbers.{numbers_in};
+ghost use Rattle.iso_wire.specs.Numbers.{unknown};
 ghost use Rattle.iso_wire.specs.declared.fault.UnpackCause.TheVariants.{Memory};
 ghost use Rattle.iso_wire.specs.Reading.{word_at, known_by, primary_at, secondary_at, words_at};
 
 use crate::fault::{UnpackCause, UnpackFault};
-use crate::numbers::Numbers;
-use iso_parts::BitmapCoding;
+use iso_parts::{Bitmap, BitmapCoding, FIRST_BIT};
 use iso_table::Table;
-
-/// A word from here on has its first bit set.
-const TOP: u64 = 0x8000_0000_0000_0000;
 
 /// The word of the bitmap that the bytes begin with.
 fn word_of(coding: BitmapCoding, element: u8, at: usize, bytes: &[u8]) -> Result<u64, UnpackFault>
@@ -28,6 +26,14 @@ fn word_of(coding: BitmapCoding, element: u8, at: usize, bytes: &[u8]) -> Result
         Some(word) => Ok(word),
         None => Err(UnpackFault::stop(element, at, UnpackCause::BadHex)),
     }
+}
+
+/// The first of the numbers that the words tell and that has no row.
+fn unknown_of(table: &Table, first: u64, second: u64) -> Option<u8>
+    requires { second < 2 ^ 63 }
+    ensures { result ≡ unknown table.now.rows (numbers_in first second) }
+{
+    Bitmap::from_words(first, second).missing_from(&table.known())
 }
 
 /// The word, unless a number has no row.
@@ -48,7 +54,7 @@ pub fn primary_of(table: &Table, at: usize, bytes: &[u8]) -> Result<u64, UnpackF
     ensures no_memory { IfErr result (λ e. e.cause ≢ Memory) }
 {
     let word = word_of(table.bitmap(), 0, at, bytes)?;
-    known_word(0, at, word, Numbers::of(word, 0).unknown_under(table))
+    known_word(0, at, word, unknown_of(table, word, 0))
 }
 
 /// The word of the secondary bitmap.
@@ -59,8 +65,8 @@ pub fn secondary_of(table: &Table, at: usize, bytes: &[u8]) -> Result<u64, Unpac
     ensures low { IfOk result (λ word. word < 2 ^ 63) }
 {
     let word = word_of(table.bitmap(), 1, at, bytes)?;
-    if word < TOP {
-        known_word(1, at, word, Numbers::of(0, word).unknown_under(table))
+    if word < FIRST_BIT {
+        known_word(1, at, word, unknown_of(table, 0, word))
     } else {
         Err(UnpackFault::stop(1, at, UnpackCause::ThirdBitmap))
     }
@@ -78,7 +84,7 @@ pub fn words_of(table: &Table, at: usize, bytes: &[u8]) -> Result<(u64, u64, usi
 {
     let size = table.bitmap().size();
     let first = primary_of(table, at, bytes)?;
-    if first < TOP {
+    if first < FIRST_BIT {
         return Ok((first, 0, size));
     }
     let (_, rest) = bytes.split_at(size);

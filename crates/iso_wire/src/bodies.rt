@@ -5,34 +5,25 @@ ghost use Rattle.iso_parts.specs.Mti.{number};
 ghost use Rattle.iso_table.specs.Layout.{row_at, AreGood};
 ghost use Rattle.iso_wire.specs.Elements.{value_in};
 ghost use Rattle.iso_wire.specs.Reading.{value_at};
-ghost use Rattle.iso_wire.specs.Walk.{left};
-ghost use Rattle.iso_wire.specs.Viewing.{bytes_at, longest_part, wires_in, IsWithin, AreWithin, wires_at, view_at, JudgesWire, FindsBodies};
+ghost use Rattle.iso_parts.specs.Numbers.{members};
+ghost use Rattle.iso_wire.specs.Viewing.{longest_part, wires_in, IsWithin, AreWithin, wires_at, view_at, JudgesWire, FindsBodies};
 
 use crate::bitmaps::words_of;
 use crate::fault::{UnpackCause, UnpackFault};
-use crate::numbers::Numbers;
-use crate::unpacking::{mti_size, place_of, type_of};
-use iso_parts::{Judged, Mti, judge_field};
+use crate::unpacking::{place_of, type_of};
+use iso_parts::{Bitmap, Judged, Mti, judge_field};
 use iso_table::Table;
 use std::fmt;
 use std::marker::Model;
 
-/// One spot for each number up to 128.
-const SPOTS: usize = 129;
+/// Each number up to 128 has a place.
+const PLACES: usize = 129;
 
-/// Where a body lies in the bytes: from `start` up to `end`.
+/// Where the bodies of elements lie in the bytes, by their numbers: where each begins, and how many bytes it is.
 #[derive(Clone, Copy, Debug)]
-struct Spot {
-    start: u32,
-    end: u32,
-}
-
-/// The bytes that lie at a spot.
-fn bytes_at(bytes: &[u8], spot: Spot) -> &[u8]
-    requires { IsWithin (length bytes.now) spot }
-    ensures { result.now ≡ bytes_at bytes.now spot }
-{
-    &bytes[spot.start as usize..spot.end as usize]
+struct Bodies {
+    starts: [u32; PLACES],
+    sizes: [u16; PLACES],
 }
 
 /// Judges the part of element `n`, which begins at `at`: where its body begins in it, and how many bytes it takes.
@@ -64,39 +55,37 @@ fn judge_wire(table: &Table, n: u8, at: usize, bytes: &[u8]) -> Result<(usize, u
 /// Finds the bodies of the elements with these numbers, whose parts begin at `start`, and gives the offset behind them.
 fn find_bodies(
     table: &Table,
-    numbers: Numbers,
+    numbers: Bitmap,
     start: usize,
     bytes: &[u8],
-    spots: &mut [Spot],
+    bodies: &mut Bodies,
 ) -> Result<usize, UnpackFault>
     requires early { start ≤ 36 }
     requires within { start ≤ length bytes.now }
-    requires room { length spots.old ≡ 129 }
-    ensures exact { FindsBodies bytes.now spots.new (left numbers) result (wires_at table.now.rows (left numbers) start (drop start bytes.now)) }
-    ensures within { IfOk result (λ end. AreWithin (length bytes.now) spots.new (left numbers)) }
+    ensures exact { FindsBodies bytes.now bodies.new (members numbers) result (wires_at table.now.rows (members numbers) start (drop start bytes.now)) }
+    ensures within { IfOk result (λ end. AreWithin (length bytes.now) bodies.new (members numbers)) }
 {
     let mut rest = numbers;
     let mut at = start;
-    while let Some(n) = rest.next() {
+    while let Some(n) = rest.take_first() {
         let (body, used) = judge_wire(table, n, at, bytes)?;
-        spots[n as usize] = Spot {
-            start: (at + body) as u32,
-            end: (at + used) as u32,
-        };
+        bodies.starts[n as usize] = (at + body) as u32;
+        bodies.sizes[n as usize] = (used - body) as u16;
         at += used;
     }
     Ok(at)
 }
 
 /// The body of an element, if its number is there.
-fn body_of<'a>(numbers: Numbers, spots: &[Spot], bytes: &'a [u8], n: u8) -> Option<&'a [u8]>
-    requires room { length spots.now ≡ 129 }
-    requires within { AreWithin (length bytes.now) spots.now (left numbers) }
-    ensures { MatchOption result (value_in (wires_in bytes.now spots.now (left numbers)) n ≡ None)
-        (λ v. value_in (wires_in bytes.now spots.now (left numbers)) n ≡ Some v.now) }
+fn body_of<'a>(numbers: Bitmap, bodies: &Bodies, bytes: &'a [u8], n: u8) -> Option<&'a [u8]>
+    requires within { AreWithin (length bytes.now) bodies.now (members numbers) }
+    ensures { MatchOption result (value_in (wires_in bytes.now bodies.now (members numbers)) n ≡ None)
+        (λ v. value_in (wires_in bytes.now bodies.now (members numbers)) n ≡ Some v.now) }
 {
     if numbers.has(n) {
-        Some(bytes_at(bytes, spots[n as usize]))
+        let start = bodies.starts[n as usize] as usize;
+        let size = bodies.sizes[n as usize] as usize;
+        Some(&bytes[start..start + size])
     } else {
         None
     }
@@ -108,21 +97,21 @@ pub struct View<'a> {
     mti: Mti,
     used: usize,
     bytes: &'a [u8],
-    numbers: Numbers,
-    spots: [Spot; SPOTS],
+    numbers: Bitmap,
+    bodies: Bodies,
 }
 
 impl<'a> Model for View<'a> {
     ghost use Rattle.std.specs.Prelude.{◌≤◌, length};
     ghost use Rattle.iso_parts.specs.Mti.{number};
     ghost use Rattle.iso_wire.specs.Viewing.{Viewed, wires_in, AreWithin};
-    ghost use Rattle.iso_wire.specs.Walk.{left};
+    ghost use Rattle.iso_parts.specs.Numbers.{members};
 
     ghost Value = { Viewed };
 
-    ghost view = { λ v. record { mti = number v.mti; used = v.used; wires = wires_in v.bytes.now v.spots (left v.numbers) } };
+    ghost view = { λ v. record { mti = number v.mti; used = v.used; wires = wires_in v.bytes.now v.bodies (members v.numbers) } };
 
-    ghost invariant = { λ v. AreWithin (length v.bytes.now) v.spots (left v.numbers) };
+    ghost invariant = { λ v. AreWithin (length v.bytes.now) v.bodies (members v.numbers) };
 }
 
 /// Shows the type and how many bytes the message takes, and none of them.
@@ -156,7 +145,7 @@ impl<'a> View<'a> {
         ensures { MatchOption result (value_in self.now.wires n ≡ None)
             (λ v. value_in self.now.wires n ≡ Some v.now) }
     {
-        body_of(self.numbers, &self.spots, self.bytes, n)
+        body_of(self.numbers, &self.bodies, self.bytes, n)
     }
 }
 
@@ -166,17 +155,20 @@ pub fn view_of<'a>(table: &Table, bytes: &'a [u8]) -> Result<View<'a>, UnpackFau
     ensures good { AreGood table.now.rows }
 {
     let mti = type_of(table, bytes)?;
-    let size = mti_size(table.mti());
+    let size = table.mti().mti_size();
     let (_, rest) = bytes.split_at(size);
     let (first, second, used) = words_of(table, size, rest)?;
-    let numbers = Numbers::of(first, second);
-    let mut spots = [Spot { start: 0, end: 0 }; SPOTS];
-    let end = find_bodies(table, numbers, size + used, bytes, &mut spots)?;
+    let numbers = Bitmap::from_words(first, second);
+    let mut bodies = Bodies {
+        starts: [0; PLACES],
+        sizes: [0; PLACES],
+    };
+    let end = find_bodies(table, numbers, size + used, bytes, &mut bodies)?;
     Ok(View {
         mti,
         used: end,
         bytes,
         numbers,
-        spots,
+        bodies,
     })
 }

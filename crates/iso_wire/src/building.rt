@@ -2,18 +2,18 @@
 
 ghost use Rattle.std.specs.Prelude.{◌≡◌, ◌+◌, ◌≤◌, drop, length, IfOk, OnOk};
 ghost use Rattle.iso_table.specs.Layout.{AreGood};
-ghost use Rattle.iso_wire.specs.Entries.{views, IsWhole};
+ghost use Rattle.iso_wire.specs.Entries.{views, IsWhole, IsNumbered};
 ghost use Rattle.iso_wire.specs.Feeding.{IsRead};
 ghost use Rattle.iso_wire.specs.Reading.{AppendsElement, Gives, Unpacks, value_at, elements_at, message_at};
-ghost use Rattle.iso_wire.specs.Walk.{left};
+ghost use Rattle.iso_parts.specs.Bits.{contains, AreElements};
+ghost use Rattle.iso_parts.specs.Numbers.{members};
 
 use crate::bitmaps::words_of;
 use crate::elements::Elements;
 use crate::fault::UnpackFault;
 use crate::message::Message;
-use crate::numbers::Numbers;
-use crate::unpacking::{mti_size, type_of};
-use iso_parts::{LONGEST_VALUE, append_judged};
+use crate::unpacking::type_of;
+use iso_parts::{Bitmap, LONGEST_VALUE, append_judged};
 use iso_table::Table;
 use std::alloc::Global;
 
@@ -46,14 +46,16 @@ fn append_element(
 fn elements_of(
     alloc: Global,
     table: &Table,
-    numbers: Numbers,
+    numbers: Bitmap,
     start: usize,
     bytes: &[u8],
 ) -> Result<(Elements, usize), UnpackFault>
     requires within { start ≤ length bytes.now }
-    requires read { IsRead (elements_at table.now.rows (left numbers) start (drop start bytes.now)) }
-    ensures exact { Gives (λ x. (views x.0, x.1)) result (elements_at table.now.rows (left numbers) start (drop start bytes.now)) }
+    requires elements { AreElements (contains numbers) }
+    requires read { IsRead (elements_at table.now.rows (members numbers) start (drop start bytes.now)) }
+    ensures exact { Gives (λ x. (views x.0, x.1)) result (elements_at table.now.rows (members numbers) start (drop start bytes.now)) }
     ensures whole { IfOk result (λ x. IsWhole x.0) }
+    ensures numbered { IfOk result (λ x. IsNumbered x.0) }
 {
     let count = numbers.count();
     let room = count
@@ -62,10 +64,11 @@ fn elements_of(
     let mut elements = Elements::with_room(alloc, count, room)?;
     let mut rest = numbers;
     let mut at = start;
-    while let Some(n) = rest.next() {
+    while let Some(n) = rest.take_first() {
         let used = append_element(table, n, at, bytes, &mut elements)?;
         at += used;
     }
+    elements.numbers = numbers;
     Ok((elements, at))
 }
 
@@ -81,10 +84,10 @@ pub(crate) fn build_judged(
     ensures good { AreGood table.now.rows }
 {
     let mti = type_of(table, bytes)?;
-    let size = mti_size(table.mti());
+    let size = table.mti().mti_size();
     let (_, rest) = bytes.split_at(size);
     let (first, second, used) = words_of(table, size, rest)?;
-    let numbers = Numbers::of(first, second);
+    let numbers = Bitmap::from_words(first, second);
     let (elements, end) = elements_of(alloc, table, numbers, size + used, bytes)?;
     Ok((Message::from_elements(mti, elements), end))
 }

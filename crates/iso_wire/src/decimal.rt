@@ -1,7 +1,9 @@
 //! Numbers in decimal.
 
-ghost use Rattle.std.specs.Prelude.{◌≡◌, ◌-◌, ◌^◌, ◌<◌, ◌≤◌, ◌⊎◌, length};
-ghost use Rattle.iso_wire.specs.Decimal.{decimal};
+ghost use Rattle.std.specs.Prelude.{◌≡◌, ◌-◌, ◌^◌, ◌<◌, ◌≤◌, ◌⊎◌, true, length};
+ghost use Rattle.std.specs.List.{list_all};
+ghost use Rattle.iso_parts.specs.Class.{is_digit};
+ghost use Rattle.iso_wire.specs.Decimal.{decimal, are_digits, number, number_in};
 
 /// How many decimal digits the number has: one for 0. Takes no memory.
 pub fn digits_of(v: u64) -> u8
@@ -26,5 +28,48 @@ pub fn write_decimal(out: &mut [u8], v: u64)
         at -= 1;
         out[at] = b'0' + (rest % 10) as u8;
         rest /= 10;
+    }
+}
+
+fn is_digit(byte: u8) -> bool
+    ensures { result ≡ is_digit byte }
+{
+    matches!(byte, b'0'..=b'9')
+}
+
+fn all_digits(text: &[u8]) -> bool
+    ensures { result ≡ list_all is_digit text.now }
+{
+    text.iter().all(|byte| is_digit(*byte))
+}
+
+/// Whether these are from `least` to `most` digits.
+fn are_digits(text: &[u8], least: usize, most: usize) -> bool
+    ensures { result ≡ are_digits least most text.now }
+{
+    least <= text.len() && text.len() <= most && all_digits(text)
+}
+
+/// The number of a text of digits.
+fn number(text: &[u8]) -> u64
+    requires digits { list_all is_digit text.now ≡ true }
+    requires few { length text.now ≤ 19 }
+    ensures { result ≡ number text.now }
+{
+    let mut so_far = 0;
+    for byte in text {
+        so_far = 10 * so_far + (*byte - b'0') as u64;
+    }
+    so_far
+}
+
+/// The number of a text of 1 to 19 digits, `None` for any other text.
+pub(crate) fn read_decimal(text: &[u8]) -> Option<u64>
+    ensures { result ≡ number_in 1 19 text.now }
+{
+    if are_digits(text, 1, 19) {
+        Some(number(text))
+    } else {
+        None
     }
 }

@@ -3,9 +3,8 @@
 ghost use Rattle.std.specs.Prelude.{◌≡◌, ◌+◌, ◌-◌, ◌^◌, ◌<◌, ◌≤◌, ◌↔◌, ◌++◌, ◌∷◌, []};
 ghost use Rattle.std.specs.Prelude.{ℕ, All, length, take, drop, insert, slice_get};
 ghost use Rattle.std.specs.Prelude.{slice_set, vec_len, vec_capacity, IsTrue, true, IfOk, OnOk, OnErr, MatchOption, Some, None};
-ghost use Rattle.iso_parts.specs.Bits.{contains};
 ghost use Rattle.iso_wire.specs.Elements.{value_in, has, is_number, IsAscending, IsBelow, put, without};
-ghost use Rattle.iso_wire.specs.Entries.{bytes_in, elements_of, place_in, has_entry, views, entry_of, IsWhole, IsMadeOf, IsSame, Holds, Lacks};
+ghost use Rattle.iso_wire.specs.Entries.{bytes_in, elements_of, place_in, views, entry_of, IsWhole, IsNumbered, Adds, IsMadeOf, IsSame, Holds, Lacks};
 
 use iso_parts::Bitmap;
 use std::alloc::{AllocError, Global};
@@ -28,11 +27,12 @@ pub struct Place {
     pub len: Option<usize>,
 }
 
-/// Elements in ascending order: the bytes of their values, and who has how many of them.
+/// Elements in ascending order: the bytes of their values, who has how many of them, and the set of their numbers.
 #[derive(Drop)]
 pub struct Elements {
     pub values: Vec<u8>,
     pub index: Vec<Entry>,
+    pub numbers: Bitmap,
 }
 
 /// Finds the place of an element.
@@ -70,18 +70,6 @@ fn is_behind(index: &[Entry], n: u8) -> bool
         Some(last) => last.number < n,
         None => true,
     }
-}
-
-/// The numbers of the elements.
-pub fn numbers_of(index: &[Entry]) -> Bitmap
-    requires { All (λ e. is_number e.number ≡ true) index.now }
-    ensures { (k : ℕ) → contains result k ≡ has_entry index.now k }
-{
-    let mut numbers = Bitmap::new();
-    for entry in index {
-        numbers.set(entry.number);
-    }
-    numbers
 }
 
 /// Of the bytes from `start` on, the first `count` go behind the others.
@@ -133,10 +121,12 @@ impl Elements {
     pub fn new(alloc: Global) -> Elements
         ensures none { views result ≡ [] }
         ensures whole { IsWhole result }
+        ensures numbered { IsNumbered result }
     {
         Elements {
             values: Vec::new(alloc),
             index: Vec::new(alloc),
+            numbers: Bitmap::new(),
         }
     }
 
@@ -144,24 +134,42 @@ impl Elements {
     pub fn with_room(alloc: Global, elements: usize, bytes: usize) -> Result<Elements, AllocError>
         ensures none { IfOk result (λ made. views made ≡ []) }
         ensures whole { IfOk result IsWhole }
+        ensures numbered { IfOk result IsNumbered }
         ensures index_room { IfOk result (λ made. elements ≤ vec_capacity made.index) }
         ensures values_room { IfOk result (λ made. bytes ≤ vec_capacity made.values) }
     {
         let values = Vec::with_capacity(alloc, bytes)?;
         let index = Vec::with_capacity(alloc, elements)?;
-        Ok(Elements { values, index })
+        let numbers = Bitmap::new();
+        Ok(Elements {
+            values,
+            index,
+            numbers,
+        })
     }
 
     /// Drops all elements and makes room for some. The memory that was there is kept, and is enough where it has the room.
     pub fn start_over(&mut self, elements: usize, bytes: usize) -> Result<(), AllocError>
         ensures none { views self.new ≡ [] }
         ensures whole { IsWhole self.new }
+        ensures numbered { IsNumbered self.new }
     {
         self.values.clear();
         self.index.clear();
+        self.numbers = Bitmap::new();
         self.values.reserve(bytes)?;
         self.index.reserve(elements)?;
         Ok(())
+    }
+
+    /// Finds the place of an element among the others.
+    fn find_within(&self, n: u8) -> Place
+        requires { IsWhole self.now }
+        ensures there { (k : ℕ) → result.len ≡ Some k
+            → Holds n k self.now.index.items self.now.values.items result }
+        ensures lacking { result.len ≡ None → Lacks n self.now.index.items self.now.values.items result }
+    {
+        place_of(&self.index, n)
     }
 
     /// Finds the place of an element: at once where it stands behind the others.
@@ -179,24 +187,29 @@ impl Elements {
                 len: None,
             };
         }
-        place_of(&self.index, n)
+        self.find_within(n)
     }
 
-    /// The value of an element.
+    /// The value of an element, if it is there: the set of numbers tells this at once.
     pub fn get(&self, n: u8) -> Option<&[u8]>
         requires whole { IsWhole self.now }
         requires ascending { IsAscending 2 (views self.now) }
+        requires numbered { IsNumbered self.now }
         ensures { MatchOption result (value_in (views self.now) n ≡ None)
             (λ v. value_in (views self.now) n ≡ Some v.now) }
     {
-        let place = self.find(n);
+        if !self.numbers.has(n) {
+            return None;
+        }
+        let place = self.find_within(n);
         match place.len {
             Some(len) => Some(&self.values[place.start..place.start + len]),
             None => None,
         }
     }
 
-    /// Makes the bytes of the buffer from `from` on the value of an element behind the others.
+    /// Makes the bytes of the buffer from `from` on the value of an element behind the others. Whoever reads all elements of
+    /// a message knows the set of their numbers, and puts it there at the end.
     pub fn close(&mut self, n: u8, from: usize) -> Result<(), AllocError>
         requires before { bytes_in self.old.index.items ≡ from }
         requires within { from ≤ length self.old.values.items }
@@ -204,6 +217,7 @@ impl Elements {
             ++ (n, drop from self.old.values.items) ∷ []) }
         ensures whole { OnOk result (IsWhole self.new) }
         ensures err { OnErr result (IsSame self.old self.new) }
+        ensures kept { self.new.numbers ≡ self.old.numbers }
     {
         let len = self.values.len() - from;
         self.index.push(Entry { number: n, len })?;
@@ -214,15 +228,19 @@ impl Elements {
     fn insert(&mut self, at: usize, start: usize, n: u8, value: &[u8]) -> Result<(), AllocError>
         requires place { at ≤ length self.old.index.items }
         requires within { start ≤ length self.old.values.items }
+        requires number { is_number n ≡ true }
         ensures ok { OnOk result (IsMadeOf self.new (insert self.old.index.items at (entry_of n value.now))
             (take start self.old.values.items ++ (value.now ++ drop start self.old.values.items))) }
         ensures err { OnErr result (IsSame self.old self.new) }
+        ensures numbers { OnOk result (Adds self.old.numbers self.new.numbers n) }
+        ensures kept { OnErr result (self.new.numbers ≡ self.old.numbers) }
     {
         self.index.reserve(1)?;
         self.values.reserve(value.len())?;
         paste(&mut self.values, start, value);
         let len = value.len();
         self.index.insert(at, Entry { number: n, len }).unwrap();
+        self.numbers.set(n);
         Ok(())
     }
 
@@ -240,6 +258,7 @@ impl Elements {
         ensures ok { OnOk result (IsMadeOf self.new (slice_set self.old.index.items at (entry_of n value.now))
             (take start self.old.values.items ++ (value.now ++ drop (start + len) self.old.values.items))) }
         ensures err { OnErr result (IsSame self.old self.new) }
+        ensures kept { self.new.numbers ≡ self.old.numbers }
     {
         self.values.reserve(value.len().saturating_sub(len))?;
         cut(&mut self.values, start, len);
@@ -251,15 +270,21 @@ impl Elements {
 
     /// Adds an element behind the others.
     pub fn append(&mut self, n: u8, value: &[u8]) -> Result<(), AllocError>
+        requires number { is_number n ≡ true }
         requires whole { IsWhole self.old }
+        requires numbered { IsNumbered self.old }
         ensures ok { OnOk result (views self.new ≡ views self.old ++ (n, value.now) ∷ []) }
         ensures whole { IsWhole self.new }
+        ensures numbered { IsNumbered self.new }
         ensures err { OnErr result (IsSame self.old self.new) }
     {
         let from = self.values.len();
         self.values.extend_from_slice(value)?;
         match self.close(n, from) {
-            Ok(()) => Ok(()),
+            Ok(()) => {
+                self.numbers.set(n);
+                Ok(())
+            }
             Err(fault) => {
                 self.values.truncate(from);
                 Err(fault)
@@ -269,10 +294,13 @@ impl Elements {
 
     /// Puts a value at its number, in place of the one that was there.
     pub fn put(&mut self, n: u8, value: &[u8]) -> Result<(), AllocError>
+        requires number { is_number n ≡ true }
         requires whole { IsWhole self.old }
         requires ascending { IsAscending 2 (views self.old) }
+        requires numbered { IsNumbered self.old }
         ensures ok { OnOk result (views self.new ≡ put n value.now (views self.old)) }
         ensures whole { IsWhole self.new }
+        ensures numbered { IsNumbered self.new }
         ensures err { OnErr result (IsSame self.old self.new) }
     {
         let place = self.find(n);
@@ -286,15 +314,21 @@ impl Elements {
     pub fn remove(&mut self, n: u8) -> bool
         requires whole { IsWhole self.old }
         requires ascending { IsAscending 2 (views self.old) }
+        requires numbered { IsNumbered self.old }
         ensures found { result ≡ has (views self.old) n }
         ensures left { views self.new ≡ without n (views self.old) }
         ensures whole { IsWhole self.new }
+        ensures numbered { IsNumbered self.new }
     {
-        let place = self.find(n);
+        if !self.numbers.has(n) {
+            return false;
+        }
+        let place = self.find_within(n);
         match place.len {
             Some(len) => {
                 self.index.remove(place.at);
                 cut(&mut self.values, place.start, len);
+                self.numbers.unset(n);
                 true
             }
             None => false,

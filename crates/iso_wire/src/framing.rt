@@ -1,6 +1,6 @@
 //! Frames: a header that counts the body, and the body.
 
-ghost use Rattle.std.specs.Prelude.{◌≡◌, ◌↔◌, ◌+◌, ◌<◌, ◌≤◌, [], ◌∷◌, ◌++◌};
+ghost use Rattle.std.specs.Prelude.{◌≡◌, ◌↔◌, ◌+◌, ◌<◌, ◌≤◌, [], ◌∷◌, ◌++◌, drop, replicate};
 ghost use Rattle.std.specs.Prelude.{ℕ, List, length, IfOk, OnOk, OnErr, IsErrOf, IsOkUnless, true};
 ghost use Rattle.iso_wire.specs.declared.framing.FrameFault.TheVariants as faults;
 ghost use Rattle.iso_wire.specs.Frame.{largest, header_size, frame_of, Frames, frame_at, Unframes, AnswersFront, TellsLength, IsGot, is_bad_header};
@@ -79,9 +79,12 @@ pub fn append_frame(header: Header, body: &[u8], out: &mut Vec<u8>) -> Result<()
     if body.len() > header.limit() {
         return Err(FrameFault::TooLong);
     }
-    out.reserve(header.size() + body.len())?;
-    header.append(body.len(), out)?;
-    out.extend_from_slice(body)?;
+    let start = out.len();
+    out.resize(start + header.size() + body.len(), 0)?;
+    let (_, frame) = out.as_mut_slice().split_at_mut(start);
+    let (front, room) = frame.split_at_mut(header.size());
+    header.write(body.len(), front);
+    room.copy_from_slice(body);
     Ok(())
 }
 
@@ -96,6 +99,36 @@ pub fn frame(alloc: Global, header: Header, body: &[u8]) -> Result<Vec<u8>, Fram
     let mut out = Vec::new(alloc);
     append_frame(header, body, &mut out)?;
     Ok(out)
+}
+
+/// Appends room for a header, which is zeros. A body is then written behind it, and [`close_frame`] makes both a frame.
+/// Without memory nothing is changed.
+pub fn open_frame(header: Header, out: &mut Vec<u8>) -> Result<(), AllocError>
+    ensures ok { OnOk result (out.new.items ≡ out.old.items ++ replicate (header_size header) 0) }
+    ensures err { OnErr result (out.new.items ≡ out.old.items) }
+{
+    out.resize(out.len() + header.size(), 0)
+}
+
+/// Makes a frame of the room for a header and the body behind it: writes the header that counts the body into that room,
+/// whatever it holds. Takes no memory, and the body stays where it is. On a fault nothing is changed.
+///
+/// The only fault is `TooLong`.
+pub fn close_frame(header: Header, frame: &mut [u8]) -> Result<(), FrameFault>
+    // The header's room is there.
+    requires { header_size header ≤ length frame.old }
+    ensures ok { OnOk result (frame.new ≡ frame_of header (drop (header_size header) frame.old)) }
+    ensures err { OnErr result (frame.new ≡ frame.old) }
+    ensures too_long { IsErrOf result faults.TooLong ↔ (header_size header + largest header < length frame.old) }
+    ensures memory { IsOkUnless result faults.TooLong }
+{
+    let (front, body) = frame.split_at_mut(header.size());
+    let size = body.len();
+    if size > header.limit() {
+        return Err(FrameFault::TooLong);
+    }
+    header.write(size, front);
+    Ok(())
 }
 
 /// The length of the body that the header at the front of the input counts, and `None` where the input ends inside that

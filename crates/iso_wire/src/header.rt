@@ -1,10 +1,8 @@
 //! The header of a frame.
 
-ghost use Rattle.std.specs.Prelude.{◌≡◌, ◌≤◌, ◌++◌, length, vec_capacity, OnOk, OnErr};
+ghost use Rattle.std.specs.Prelude.{◌≡◌, ◌≤◌, length};
 ghost use Rattle.iso_wire.specs.Reading.{four_digits};
 ghost use Rattle.iso_wire.specs.Frame.{largest, header_size, header_of, length_in};
-
-use std::alloc::AllocError;
 
 /// How a frame counts its body. The header's own bytes don't count.
 #[derive(Clone, Copy, Debug, PartialEq, Eq)]
@@ -70,23 +68,22 @@ impl Header {
         }
     }
 
-    /// Appends the header of a body of `n` bytes.
-    pub(crate) fn append(self, n: usize, out: &mut Vec<u8>) -> Result<(), AllocError>
-        requires { n ≤ largest self }
-        ensures ok { OnOk result (out.new.items ≡ out.old.items ++ header_of self n) }
-        ensures err { OnErr result (out.new.items ≡ out.old.items) }
-        ensures capacity { vec_capacity out.old ≤ vec_capacity out.new }
+    /// Writes the header of a body of `n` bytes into room of its size.
+    pub(crate) fn write(self, n: usize, room: &mut [u8])
+        requires fits { n ≤ largest self }
+        requires size { length room.old ≡ header_size self }
+        ensures { room.new ≡ header_of self n }
     {
         let (a, b, c, d) = (n / 1000, n / 100 % 10, n / 10 % 10, n % 10);
         match self {
-            Header::Binary2 => out.extend_from_slice(&[(n / 256) as u8, (n % 256) as u8]),
-            Header::Ascii4 => out.extend_from_slice(&[
+            Header::Binary2 => room.copy_from_slice(&[(n / 256) as u8, (n % 256) as u8]),
+            Header::Ascii4 => room.copy_from_slice(&[
                 b'0' + a as u8,
                 b'0' + b as u8,
                 b'0' + c as u8,
                 b'0' + d as u8,
             ]),
-            Header::Bcd2 => out.extend_from_slice(&[(16 * a + b) as u8, (16 * c + d) as u8]),
+            Header::Bcd2 => room.copy_from_slice(&[(16 * a + b) as u8, (16 * c + d) as u8]),
         }
     }
 }

@@ -4,19 +4,15 @@ ghost use Rattle.std.specs.Prelude.{◌≡◌, ◌≤◌, ◌+◌, ◌∷◌, �
 ghost use Rattle.iso_parts.specs.Bits.{map_size};
 ghost use Rattle.iso_parts.specs.Row.{IsGood};
 ghost use Rattle.iso_table.specs.Layout.{AreGood, row_at};
-ghost use Rattle.iso_wire.specs.Reading.{mti_size};
+ghost use Rattle.iso_parts.specs.Mti.{mti_size};
 ghost use Rattle.iso_wire.specs.Resuming.{IsWithin, Resumes, Steps, body_end};
-ghost use Rattle.iso_wire.specs.Walk.{left};
+ghost use Rattle.iso_parts.specs.Numbers.{members};
 
 use crate::bitmaps::{primary_of, secondary_of};
 use crate::fault::{UnpackCause, UnpackFault};
-use crate::numbers::Numbers;
-use crate::unpacking::{mti_size, type_of};
-use iso_parts::{FieldSpec, judge_body, judge_length};
+use crate::unpacking::type_of;
+use iso_parts::{Bitmap, FIRST_BIT, FieldSpec, judge_body, judge_length};
 use iso_table::Table;
-
-/// A word from here on has its first bit set.
-const TOP: u64 = 0x8000_0000_0000_0000;
 
 /// The piece from which judging goes on, since it isn't whole yet.
 #[derive(Clone, Copy, Debug)]
@@ -29,14 +25,14 @@ pub enum Stage {
     Secondary(u64),
     /// The length of the first of these elements, which begins at the offset.
     Elements {
-        rest: Numbers,
+        rest: Bitmap,
         at: usize,
     },
     /// The body of element `n`, of `count` characters, which begins at the offset; the others follow.
     Body {
         n: u8,
         count: u16,
-        rest: Numbers,
+        rest: Bitmap,
         at: usize,
     },
 }
@@ -76,7 +72,7 @@ fn judge_value(
     table: &Table,
     n: u8,
     count: u16,
-    rest: Numbers,
+    rest: Bitmap,
     at: usize,
     bytes: &[u8],
 ) -> Result<usize, Stopped>
@@ -98,12 +94,12 @@ fn judge_value(
 fn judge_part(
     table: &Table,
     n: u8,
-    from: Numbers,
-    rest: Numbers,
+    from: Bitmap,
+    rest: Bitmap,
     at: usize,
     bytes: &[u8],
 ) -> Result<usize, Stopped>
-    requires first { left from ≡ n ∷ left rest }
+    requires first { members from ≡ n ∷ members rest }
     requires within { at ≤ length bytes.now }
     ensures { Steps table.now (Stage.Elements from at) bytes.now rest result }
 {
@@ -131,7 +127,7 @@ fn judge_part(
 /// Judges the elements with these numbers, whose parts begin at `start`.
 fn judge_elements(
     table: &Table,
-    numbers: Numbers,
+    numbers: Bitmap,
     start: usize,
     bytes: &[u8],
 ) -> (Stage, Result<usize, UnpackFault>)
@@ -141,7 +137,7 @@ fn judge_elements(
     let mut walk = numbers;
     let mut rest = numbers;
     let mut at = start;
-    while let Some(n) = walk.next() {
+    while let Some(n) = walk.take_first() {
         match judge_part(table, n, rest, walk, at, bytes) {
             Ok(end) => {
                 at = end;
@@ -158,7 +154,7 @@ fn judge_rest(
     table: &Table,
     n: u8,
     count: u16,
-    rest: Numbers,
+    rest: Bitmap,
     at: usize,
     bytes: &[u8],
 ) -> (Stage, Result<usize, UnpackFault>)
@@ -176,14 +172,14 @@ fn judge_secondary(table: &Table, first: u64, bytes: &[u8]) -> (Stage, Result<us
     requires { mti_size table.now.mti + map_size table.now.bitmap ≤ length bytes.now }
     ensures { Resumes table.now (Stage.Secondary first) bytes.now result.0 result.1 }
 {
-    let start = mti_size(table.mti());
+    let start = table.mti().mti_size();
     let size = table.bitmap().size();
     let (_, maps) = bytes.split_at(start);
     let (_, rest) = maps.split_at(size);
     match secondary_of(table, start + size, rest) {
         Ok(second) => judge_elements(
             table,
-            Numbers::of(first, second),
+            Bitmap::from_words(first, second),
             start + (size + size),
             bytes,
         ),
@@ -196,14 +192,14 @@ fn judge_primary(table: &Table, bytes: &[u8]) -> (Stage, Result<usize, UnpackFau
     requires { mti_size table.now.mti ≤ length bytes.now }
     ensures { Resumes table.now Stage.Primary bytes.now result.0 result.1 }
 {
-    let start = mti_size(table.mti());
+    let start = table.mti().mti_size();
     let (_, maps) = bytes.split_at(start);
     match primary_of(table, start, maps) {
         Ok(first) => {
-            if first < TOP {
+            if first < FIRST_BIT {
                 judge_elements(
                     table,
-                    Numbers::of(first, 0),
+                    Bitmap::from_words(first, 0),
                     start + table.bitmap().size(),
                     bytes,
                 )

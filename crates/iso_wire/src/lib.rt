@@ -6,30 +6,36 @@ mod bitmaps;
 mod bodies;
 mod building;
 mod decimal;
+mod describing;
 mod elements;
 mod fault;
 mod framing;
 mod header;
+mod iteration;
 mod judging;
 pub mod laws;
 mod masking;
 mod message;
-mod numbers;
 mod packing;
 #[cfg(test)]
 mod tests;
 mod unpacker;
 mod unpacking;
 mod viewing;
+mod words;
 
 pub use bodies::View;
 pub use decimal::{digits_of, write_decimal};
+pub use describing::{describe, describe_clear};
 pub use fault::{PackFault, SetFault, UnpackCause, UnpackFault};
-pub use framing::{FrameFault, Framed, append_frame, body_length, frame, unframe};
+pub use framing::{
+    FrameFault, Framed, append_frame, body_length, close_frame, frame, open_frame, unframe,
+};
 pub use header::Header;
+pub use iteration::Iter;
 pub use masking::{Shown, masked};
 pub use message::Message;
-pub use packing::{pack, pack_into};
+pub use packing::{append_message, pack};
 pub use unpacker::{Fed, Unpacker};
 pub use unpacking::unpack;
 pub use viewing::view;

@@ -6,12 +6,16 @@ ghost use Rattle.std.specs.Prelude.{MatchOption, Some, None};
 ghost use Rattle.iso_parts.specs.Bits.{contains};
 ghost use Rattle.iso_parts.specs.Mti.{number};
 ghost use Rattle.iso_wire.specs.Contents.{Contents};
-ghost use Rattle.iso_wire.specs.Decimal.{decimal};
+ghost use Rattle.iso_wire.specs.Decimal.{decimal, number_at};
 ghost use Rattle.iso_wire.specs.Elements.{value_in, has, is_number, IsBelow, put, without};
+ghost use Rattle.iso_wire.specs.Entries.{IsSame};
+ghost use Rattle.iso_wire.specs.Equality.{same_contents, same_contents_equiv};
+ghost use Rattle.std.specs.Cmp.{partial_equiv_from_equiv};
 
-use crate::decimal::write_decimal;
-use crate::elements::{Elements, numbers_of};
+use crate::decimal::{read_decimal, write_decimal};
+use crate::elements::Elements;
 use crate::fault::SetFault;
+use crate::iteration::Iter;
 use crate::masking::masked;
 use iso_parts::{Bitmap, Mti};
 use std::alloc::{AllocError, Global};
@@ -33,25 +37,68 @@ impl Model for Message {
 
     ghost use Rattle.iso_parts.specs.Mti.{number};
     ghost use Rattle.iso_wire.specs.Elements.{IsAscending};
-    ghost use Rattle.iso_wire.specs.Entries.{views, IsWhole};
+    ghost use Rattle.iso_wire.specs.Entries.{views, IsWhole, IsNumbered};
 
     ghost view = { λ m. record { mti = number m.mti; elements = views m.elements } };
 
-    ghost invariant = { λ m. IsWhole m.elements × IsAscending 2 (views m.elements) };
+    ghost invariant = { λ m. IsWhole m.elements × IsAscending 2 (views m.elements) × IsNumbered m.elements };
 }
 
 impl fmt::Debug for Message {
     fn fmt<W: fmt::Write>(&self, f: &mut fmt::Formatter<W>) -> fmt::Result {
         let number = self.mti().number();
         write!(f, "Message {{ mti: {number:04}")?;
-        for n in 2..=128 {
-            if let Some(value) = self.get(n) {
-                let shown = masked(n, value);
-                write!(f, ", {n}: {shown}")?;
-            }
+        for (n, value) in self.iter() {
+            let shown = masked(n, value);
+            write!(f, ", {n}: {shown}")?;
         }
         write!(f, " }}")
     }
+}
+
+/// The same elements, in memory of their own.
+fn copy_of(elements: &Elements) -> Result<Elements, AllocError>
+    ensures same { IfOk result (λ copy. IsSame elements.now copy) }
+    ensures numbers { IfOk result (λ copy. copy.numbers ≡ elements.now.numbers) }
+{
+    let alloc = *elements.values.allocator();
+    let values = Vec::from_slice(alloc, &elements.values)?;
+    let index = Vec::from_slice(alloc, &elements.index)?;
+    Ok(Elements {
+        values,
+        index,
+        numbers: elements.numbers,
+    })
+}
+
+impl Clone for Message {
+    ghost is_clone = { λ m copy. copy ≡ m };
+
+    fn clone(&self) -> Result<Message, AllocError> {
+        let elements = copy_of(&self.elements)?;
+        Ok(Message {
+            mti: self.mti,
+            elements,
+        })
+    }
+}
+
+impl PartialEq for Message {
+    ghost eq = { same_contents };
+
+    ghost laws = { partial_equiv_from_equiv same_contents_equiv };
+
+    fn eq(&self, other: &Message) -> bool
+        ensures same { result ≡ same_contents self.now other.now }
+        // The answer of `equals`.
+        ensures equal { IsTrue result ↔ (self.now ≡ other.now) }
+    {
+        self.equals(other)
+    }
+}
+
+impl Eq for Message {
+    ghost laws = { same_contents_equiv };
 }
 
 /// Whether an element may have the number: 2 to 128, but for 65.
@@ -63,7 +110,7 @@ fn is_element(n: u8) -> bool
 
 impl Message {
     ghost use Rattle.iso_wire.specs.Elements.{IsAscending};
-    ghost use Rattle.iso_wire.specs.Entries.{views, IsWhole};
+    ghost use Rattle.iso_wire.specs.Entries.{views, IsWhole, IsNumbered};
 
     /// A message of that type with no elements. Takes no memory.
     pub fn new(alloc: Global, mti: Mti) -> Message
@@ -102,6 +149,7 @@ impl Message {
     pub(crate) fn from_elements(mti: Mti, elements: Elements) -> Message
         requires whole { IsWhole elements }
         requires ascending { IsAscending 2 (views elements) }
+        requires numbered { IsNumbered elements }
         ensures { result ≡ record { mti = number mti; elements = views elements } }
     {
         Message { mti, elements }
@@ -127,6 +175,15 @@ impl Message {
             (λ v. value_in self.now.elements n ≡ Some v.now) }
     {
         self.elements.get(n)
+    }
+
+    /// The number that the value of an element writes in 1 to 19 decimal digits; leading zeros don't count. `None` where
+    /// the message hasn't the element, or its value is anything else. Takes no memory.
+    pub fn get_number(&self, n: u8) -> Option<u64>
+        ensures { result ≡ number_at self.now.elements n }
+    {
+        let value = self.get(n)?;
+        read_decimal(value)
     }
 
     /// Puts a value at its number, in place of the one that was there.
@@ -181,7 +238,14 @@ impl Message {
     pub fn elements(&self) -> Bitmap
         ensures { (k : ℕ) → contains result k ≡ has self.now.elements k }
     {
-        numbers_of(&self.elements.index)
+        self.elements.numbers
+    }
+
+    /// The elements in ascending order, each by its number and its value. Takes no memory.
+    pub fn iter(&self) -> Iter<'_>
+        ensures { result ≡ self.now.elements }
+    {
+        Iter::of(&self.elements)
     }
 
     /// Whether the other message has the same type and the same elements. Takes no memory.

@@ -1,9 +1,10 @@
 //! Writing a message.
 
-ghost use Rattle.std.specs.Prelude.{◌≡◌, ◌≢◌, ℕ, ◌++◌, ◌<◌, List, [], length, slice_index, OnOk, OnErr, IfOk, IfErr, None, Some};
+ghost use Rattle.std.specs.Prelude.{◌≡◌, ◌≢◌, ℕ, ◌++◌, ◌<◌, List, length, slice_index, OnOk, OnErr, IfOk, IfErr, None, Some};
 ghost use Rattle.std.specs.List.{flat_map};
 ghost use Rattle.iso_wire.specs.declared.fault.PackFault.TheVariants as pack;
 ghost use Rattle.iso_wire.specs.Entries.{bytes_in, elements_of, views, IsWhole};
+ghost use Rattle.iso_parts.specs.Part.{Keeps};
 ghost use Rattle.iso_table.specs.Layout.{row_at, AreGood};
 ghost use Rattle.iso_wire.specs.Reading.{message_at, whole};
 ghost use Rattle.iso_wire.specs.Refusal.{as_pack, refused_by, refused, message_refusal};
@@ -41,6 +42,7 @@ fn append_part(table: &Table, n: u8, value: &[u8], out: &mut Vec<u8>) -> Result<
     ensures spelled { OnOk result (PartAs table.now.rows n value.now (plain_of table.now.rows (n, value.now))) }
     ensures fits { OnOk result (refused_by (row_at table.now.rows n) n value.now ≡ None) }
     ensures fault { IfErr result (λ e. e ≢ pack.Memory → refused_by (row_at table.now.rows n) n value.now ≡ Some e) }
+    ensures unchanged { OnErr result (out.new.items ≡ out.old.items) }
 {
     let Some(row) = table.row(n) else {
         return Err(PackFault::NoRow(n));
@@ -64,6 +66,7 @@ fn append_elements(
         (flat_map (plain_of table.now.rows) (elements_of index.now values.now))) }
     ensures fits { OnOk result (refused table.now.rows (elements_of index.now values.now) ≡ None) }
     ensures fault { IfErr result (λ e. e ≢ pack.Memory → refused table.now.rows (elements_of index.now values.now) ≡ Some e) }
+    ensures kept { OnErr result (Keeps out.old.items out.new.items) }
 {
     let mut rest = values;
     for entry in index {
@@ -81,6 +84,7 @@ fn append_parts(table: &Table, elements: &Elements, out: &mut Vec<u8>) -> Result
     ensures spelled { OnOk result (Parts table.now.rows (views elements.now) (flat_map (plain_of table.now.rows) (views elements.now))) }
     ensures fits { OnOk result (refused table.now.rows (views elements.now) ≡ None) }
     ensures fault { IfErr result (λ e. e ≢ pack.Memory → refused table.now.rows (views elements.now) ≡ Some e) }
+    ensures kept { OnErr result (Keeps out.old.items out.new.items) }
     // Each item is a byte.
     ensures bytes { AreBytes out.new.items }
 {
@@ -90,7 +94,8 @@ fn append_parts(table: &Table, elements: &Elements, out: &mut Vec<u8>) -> Result
 /// Appends the four digits of a message type.
 fn append_mti(digits: Digits, n: u16, out: &mut Vec<u8>) -> Result<(), AllocError>
     requires { n < 10000 }
-    ensures { OnOk result (out.new.items ≡ out.old.items ++ mti_bytes digits n) }
+    ensures ok { OnOk result (out.new.items ≡ out.old.items ++ mti_bytes digits n) }
+    ensures unchanged { OnErr result (out.new.items ≡ out.old.items) }
 {
     let (a, b, c, d) = (
         (n / 1000) as u8,
@@ -104,21 +109,21 @@ fn append_mti(digits: Digits, n: u16, out: &mut Vec<u8>) -> Result<(), AllocErro
     }
 }
 
-/// Drops the bytes that were there, and makes room for the plain spelling of the elements.
+/// Makes room for the plain spelling of the elements, behind the bytes that are there.
 fn make_room(elements: &Elements, out: &mut Vec<u8>) -> Result<(), AllocError>
-    ensures { OnOk result (out.new.items ≡ []) }
+    ensures { out.new.items ≡ out.old.items }
 {
     let prefixes = elements.index.len().saturating_mul(LONGEST_PREFIX);
     let bodies = elements.values.len().saturating_mul(2);
-    out.clear();
     out.reserve(LONGEST_HEAD.saturating_add(prefixes).saturating_add(bodies))
 }
 
-/// Writes the plain spelling of a message in place of the bytes that were there.
-fn write_spelling(table: &Table, message: &Message, out: &mut Vec<u8>) -> Result<(), PackFault>
-    ensures packed { OnOk result (PlainSpelling table.now message.now out.new.items) }
+/// Appends the plain spelling of a message. After a fault a part of it may be there.
+fn append_spelling(table: &Table, message: &Message, out: &mut Vec<u8>) -> Result<(), PackFault>
+    ensures packed { OnOk result ((b : List ℕ) × PlainSpelling table.now message.now b × (out.new.items ≡ out.old.items ++ b)) }
     ensures accepted { OnOk result (message_refusal table.now message.now ≡ None) }
     ensures fault { IfErr result (λ e. e ≢ pack.Memory → message_refusal table.now message.now ≡ Some e) }
+    ensures kept { OnErr result (Keeps out.old.items out.new.items) }
     // Each item is a byte.
     ensures bytes { OnOk result (AreBytes out.new.items) }
     ensures good { AreGood table.now.rows }
@@ -136,45 +141,30 @@ fn write_spelling(table: &Table, message: &Message, out: &mut Vec<u8>) -> Result
     Ok(())
 }
 
-/// Writes a message as [`pack`] does, in place of the bytes that were there, whose memory is kept. After a fault no byte
-/// is left.
-pub fn pack_into(table: &Table, message: &Message, out: &mut Vec<u8>) -> Result<(), PackFault>
-    // What is written is the plain spelling of the message.
-    ensures packed { OnOk result (PlainSpelling table.now message.now out.new.items) }
+/// Appends a message as [`pack`] writes it, behind the bytes that are there. Its room is made at once, by the bytes of its
+/// values; padding alone may want more. After a fault the buffer holds the bytes that it held before.
+pub fn append_message(table: &Table, message: &Message, out: &mut Vec<u8>) -> Result<(), PackFault>
+    // What is appended is the plain spelling of the message.
+    ensures packed { OnOk result ((b : List ℕ) × PlainSpelling table.now message.now b × (out.new.items ≡ out.old.items ++ b)) }
     ensures accepted { OnOk result (message_refusal table.now message.now ≡ None) }
-    // A message that has a spelling is written, unless memory runs out.
+    // A message that has a spelling is appended, unless memory runs out.
     ensures only { (b : List ℕ) → Spelling table.now message.now b → IfErr result (λ e. e ≡ pack.Memory) }
     // Which fault it is, unless memory ran out.
     ensures fault { IfErr result (λ e. e ≢ pack.Memory → message_refusal table.now message.now ≡ Some e) }
-    // After a fault nothing is left.
-    ensures none { OnErr result (out.new.items ≡ []) }
-    // Whatever bytes follow it, what is written reads as the message, and no byte more.
-    ensures again { OnOk result ((rest : List ℕ) → AreBytes rest
-        → message_at table.now (out.new.items ++ rest) ≡ whole message.now (length out.new.items)) }
+    // After a fault nothing is appended.
+    ensures unchanged { OnErr result (out.new.items ≡ out.old.items) }
+    // Whatever bytes follow it, what is appended reads as the message, and no byte more.
+    ensures again { OnOk result ((b rest : List ℕ) → out.new.items ≡ out.old.items ++ b → AreBytes rest
+        → message_at table.now (b ++ rest) ≡ whole message.now (length b)) }
 {
     reads_spellings();
-    match write_spelling(table, message, out) {
+    let start = out.len();
+    match append_spelling(table, message, out) {
         Ok(()) => Ok(()),
         Err(fault) => {
-            out.clear();
+            out.truncate(start);
             Err(fault)
         }
-    }
-}
-
-/// The plain spelling of a message.
-fn plain_spelling(alloc: Global, table: &Table, message: &Message) -> Result<Vec<u8>, PackFault>
-    ensures packed { IfOk result (λ out. PlainSpelling table.now message.now out.items) }
-    ensures accepted { OnOk result (message_refusal table.now message.now ≡ None) }
-    ensures fault { IfErr result (λ e. e ≢ pack.Memory → message_refusal table.now message.now ≡ Some e) }
-    // Each item is a byte.
-    ensures bytes { IfOk result (λ out. AreBytes out.items) }
-    ensures good { AreGood table.now.rows }
-{
-    let mut out = Vec::new(alloc);
-    match write_spelling(table, message, &mut out) {
-        Ok(()) => Ok(out),
-        Err(fault) => Err(fault),
     }
 }
 
@@ -194,6 +184,9 @@ pub fn pack(alloc: Global, table: &Table, message: &Message) -> Result<Vec<u8>, 
     ensures again { IfOk result (λ out. (rest : List ℕ) → AreBytes rest →
         message_at table.now (out.items ++ rest) ≡ whole message.now (length out.items)) }
 {
-    reads_spellings();
-    plain_spelling(alloc, table, message)
+    let mut out = Vec::new(alloc);
+    match append_message(table, message, &mut out) {
+        Ok(()) => Ok(out),
+        Err(fault) => Err(fault),
+    }
 }

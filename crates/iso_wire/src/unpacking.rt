@@ -7,49 +7,25 @@ ghost use Rattle.iso_wire.specs.declared.fault.UnpackCause.{UnpackCause};
 ghost use Rattle.iso_wire.specs.declared.fault.UnpackCause.TheVariants.{Short, Memory};
 ghost use Rattle.iso_wire.specs.Contents.{Contents};
 ghost use Rattle.iso_wire.specs.Elements.{IsAscending};
-ghost use Rattle.iso_wire.specs.Entries.{views, IsWhole};
+ghost use Rattle.iso_wire.specs.Entries.{views, IsWhole, IsNumbered};
 ghost use Rattle.iso_wire.specs.Faults.{out_of_memory};
 ghost use Rattle.iso_table.specs.Layout.{AreGood};
-ghost use Rattle.iso_wire.specs.Reading.{Gives, ReadsInto, AppendsPart, AppendsElement, place_of, value_at, elements_at, four_digits, halt, mti_size};
+ghost use Rattle.iso_parts.specs.Mti.{mti_size};
+ghost use Rattle.iso_wire.specs.Reading.{Gives, ReadsInto, AppendsPart, AppendsElement, place_of, value_at, elements_at, halt};
 ghost use Rattle.iso_wire.specs.Reading.{mti_of, type_at, message_at, Unpacks, whole};
 ghost use Rattle.iso_wire.specs.Spelling.{Spelling, AreBytes, BeginsWith, BeginsWithNone, IsUnambiguous};
 ghost use Rattle.iso_wire.specs.Stops.{Stops};
-ghost use Rattle.iso_wire.specs.Walk.{left};
+ghost use Rattle.iso_parts.specs.Bits.{contains, AreElements};
+ghost use Rattle.iso_parts.specs.Numbers.{members};
 
 use crate::bitmaps::words_of;
 use crate::elements::Elements;
 use crate::fault::{UnpackCause, UnpackFault};
 use crate::laws::{reads_spellings, stops};
 use crate::message::Message;
-use crate::numbers::Numbers;
-use iso_parts::{Digits, FieldFault, FieldSpec, LONGEST_VALUE, Mti, append_value};
+use iso_parts::{Bitmap, Digits, FieldFault, FieldSpec, LONGEST_VALUE, Mti, append_value};
 use iso_table::Table;
 use std::alloc::Global;
-
-/// The type of four digits.
-fn four_digits(a: u8, b: u8, c: u8, d: u8) -> Option<Mti>
-    ensures { option_map number result ≡ four_digits a b c d }
-{
-    match (a, b, c, d) {
-        (b'0'..=b'9', b'0'..=b'9', b'0'..=b'9', b'0'..=b'9') => Some(Mti {
-            version: a - b'0',
-            class: b - b'0',
-            function: c - b'0',
-            origin: d - b'0',
-        }),
-        _ => None,
-    }
-}
-
-/// How many bytes a message type takes.
-pub(crate) fn mti_size(digits: Digits) -> usize
-    ensures { result ≡ mti_size digits }
-{
-    match digits {
-        Digits::Ascii => 4,
-        Digits::Bcd => 2,
-    }
-}
 
 /// The type that the bytes of one tell.
 fn mti_of(digits: Digits, bytes: &[u8]) -> Option<Mti>
@@ -57,13 +33,13 @@ fn mti_of(digits: Digits, bytes: &[u8]) -> Option<Mti>
     ensures { option_map number result ≡ mti_of digits bytes.now }
 {
     match (digits, bytes) {
-        (Digits::Ascii, [a, b, c, d]) => four_digits(*a, *b, *c, *d),
-        (Digits::Bcd, [x, y]) => four_digits(
+        (Digits::Ascii, _) => Mti::from_text(bytes),
+        (Digits::Bcd, [x, y]) => Mti::from_text(&[
             b'0' + *x / 16,
             b'0' + *x % 16,
             b'0' + *y / 16,
             b'0' + *y % 16,
-        ),
+        ]),
         _ => unreachable!(),
     }
 }
@@ -76,7 +52,7 @@ pub(crate) fn type_of(table: &Table, bytes: &[u8]) -> Result<Mti, UnpackFault>
     ensures good { AreGood table.now.rows }
 {
     let version = table.version();
-    let size = mti_size(table.mti());
+    let size = table.mti().mti_size();
     if bytes.len() < size {
         return Err(UnpackFault::stop(0, 0, UnpackCause::Short));
     }
@@ -158,14 +134,16 @@ fn append_element(
 /// the offset behind them. The room for them is taken once: a part has at most two characters a byte.
 fn read_elements(
     table: &Table,
-    numbers: Numbers,
+    numbers: Bitmap,
     start: usize,
     bytes: &[u8],
     elements: &mut Elements,
 ) -> Result<usize, UnpackFault>
-    requires { start ≤ length bytes.now }
-    ensures exact { Gives (λ end. (views elements.new, end)) result (elements_at table.now.rows (left numbers) start (drop start bytes.now)) }
+    requires within { start ≤ length bytes.now }
+    requires elements { AreElements (contains numbers) }
+    ensures exact { Gives (λ end. (views elements.new, end)) result (elements_at table.now.rows (members numbers) start (drop start bytes.now)) }
     ensures whole { OnOk result (IsWhole elements.new) }
+    ensures numbered { OnOk result (IsNumbered elements.new) }
 {
     let count = numbers.count();
     let room = count
@@ -174,10 +152,11 @@ fn read_elements(
     elements.start_over(count, room)?;
     let mut rest = numbers;
     let mut at = start;
-    while let Some(n) = rest.next() {
+    while let Some(n) = rest.take_first() {
         let used = append_element(table, n, at, bytes, elements)?;
         at += used;
     }
+    elements.numbers = numbers;
     Ok(at)
 }
 
@@ -192,13 +171,14 @@ pub(crate) fn read_message(
     ensures exact { ReadsInto (views elements.new) result (message_at table.now bytes.now) }
     ensures whole { OnOk result (IsWhole elements.new) }
     ensures ascending { OnOk result (IsAscending 2 (views elements.new)) }
+    ensures numbered { OnOk result (IsNumbered elements.new) }
     ensures good { AreGood table.now.rows }
 {
     let mti = type_of(table, bytes)?;
-    let size = mti_size(table.mti());
+    let size = table.mti().mti_size();
     let (_, rest) = bytes.split_at(size);
     let (first, second, used) = words_of(table, size, rest)?;
-    let numbers = Numbers::of(first, second);
+    let numbers = Bitmap::from_words(first, second);
     let end = read_elements(table, numbers, size + used, bytes, elements)?;
     Ok((mti, end))
 }
@@ -217,7 +197,7 @@ pub(crate) fn message_of(
     Ok((Message::from_elements(mti, elements), end))
 }
 
-/// Reads the message that the bytes begin with, and says how many bytes it takes; bytes behind it are left.
+/// Reads the message that the bytes begin with, and says how many bytes it takes; bytes behind it are members.
 ///
 /// The bytes are read piece by piece: the message type, the primary bitmap, the secondary one, and for each element
 /// its length and its body. Each piece is judged when it is whole, and the first one that is not good or not whole

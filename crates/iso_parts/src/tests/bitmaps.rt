@@ -14,43 +14,48 @@ fn set_of(numbers: &[u8]) -> Bitmap {
 }
 
 #[test]
-fn sets_have_the_numbers_of_words(rt: HostRuntime) {
-    let set = set_of(&[2, 7, 64, 66, 70]);
-    for (name, first, second, has) in [
-        ("none", 0, 0, true),
+fn sets_are_made_from_words(rt: HostRuntime) {
+    for (name, first, second, numbers) in [
+        ("none", 0, 0, [].as_slice()),
         (
-            "all of them",
-            0x4200_0000_0000_0001,
-            0x4400_0000_0000_0000,
-            true,
-        ),
-        (
-            "one of each",
-            0x0200_0000_0000_0000,
-            0x0400_0000_0000_0000,
-            true,
-        ),
-        ("a low one that is missing", 0x4600_0000_0000_0000, 0, false),
-        (
-            "a high one that is missing",
-            0,
+            "without the first bit of the first word",
+            0xC200_0000_0000_0001,
             0x4400_0000_0000_0001,
-            false,
+            &[2, 7, 64, 66, 70, 128],
         ),
-        (
-            "the first bit of the first word",
-            0x8000_0000_0000_0000,
-            0,
-            false,
-        ),
-        (
-            "the first bit of the second word",
-            0,
-            0x8000_0000_0000_0000,
-            false,
-        ),
+        ("the first word alone", 0x0200_0000_0000_0000, 0, &[7]),
+        ("the second word alone", 0, 0x0400_0000_0000_0000, &[70]),
     ] {
-        assert_eq!(rt; set.has_words(first, second), has, "{name}");
+        let mut set = Bitmap::from_words(first, second);
+        assert_eq!(rt; set, set_of(numbers), "{name}");
+        assert_eq!(rt; set.count(), numbers.len(), "{name}");
+        let mut others = set;
+        for n in numbers {
+            if (2..=128).contains(n) && *n != 65 {
+                others.unset(*n);
+                assert!(rt; !others.has(*n), "{name}");
+            }
+        }
+        assert_eq!(rt; others, Bitmap::new(), "{name}");
+        for n in numbers {
+            assert_eq!(rt; set.take_first(), Some(*n), "{name}");
+        }
+        assert_eq!(rt; set.take_first(), None, "{name}");
+    }
+}
+
+#[test]
+fn the_least_missing_number_is_told(rt: HostRuntime) {
+    let set = set_of(&[2, 7, 64, 66, 70]);
+    for (name, numbers, missing) in [
+        ("of none", [].as_slice(), None),
+        ("of all of them", &[2, 7, 64, 66, 70], None),
+        ("of one of each", &[7, 70], None),
+        ("a low one", &[2, 6, 7, 63], Some(6)),
+        ("a high one", &[2, 67, 70, 128], Some(67)),
+    ] {
+        let found = set_of(numbers).missing_from(&set);
+        assert_eq!(rt; found, missing, "{name}");
     }
 }
 

@@ -4,7 +4,18 @@ use super::*;
 use crate::FrameFault::{BadDigits, TooLong};
 use crate::Framed::{Got, More};
 use crate::Header::{Ascii4, Bcd2, Binary2};
-use crate::{FrameFault, Framed, Header, append_frame, body_length, frame, unframe};
+use crate::{
+    FrameFault, Framed, Header, append_frame, body_length, close_frame, frame, open_frame, unframe,
+};
+
+/// The frame of a body that is written behind room for its header.
+fn closed(alloc: Global, header: Header, body: &[u8]) -> Result<Vec<u8>, FrameFault> {
+    let mut out = Vec::new(alloc);
+    open_frame(header, &mut out)?;
+    out.extend_from_slice(body)?;
+    close_frame(header, out.as_mut_slice())?;
+    Ok(out)
+}
 
 #[test]
 fn bodies_are_framed(rt: HostRuntime) -> Result<(), Fail> {
@@ -33,6 +44,8 @@ fn bodies_are_framed(rt: HostRuntime) -> Result<(), Fail> {
     for (name, header, body, want) in cases {
         let made = frame(rt.alloc(), header, body)?;
         assert_eq!(rt; made.as_slice(), want, "{name}");
+        let made = closed(rt.alloc(), header, body)?;
+        assert_eq!(rt; made.as_slice(), want, "{name}, closed");
         let read = unframe(header, &made);
         assert_eq!(rt;
             read,
@@ -155,6 +168,17 @@ fn frames_are_appended(rt: HostRuntime) -> Result<(), Fail> {
     let long = vec![in rt.alloc(); b'x'; 10_000]?;
     assert_eq!(rt; append_frame(Ascii4, &long, &mut out), Err(TooLong));
     assert_eq!(rt; out.as_slice(), b"ab0001c".as_slice());
+    Ok(())
+}
+
+#[test]
+fn a_frame_that_is_too_long_stays_open(rt: HostRuntime) -> Result<(), Fail> {
+    let mut bytes = vec![in rt.alloc(); b'x'; 10_004]?;
+    assert_eq!(rt; close_frame(Ascii4, bytes.as_mut_slice()), Err(TooLong));
+    assert!(rt; bytes.iter().all(|b| *b == b'x'));
+    // a header of two bytes counts the other 10,002
+    assert_eq!(rt; close_frame(Binary2, bytes.as_mut_slice()), Ok(()));
+    assert!(rt; bytes.starts_with(b"\x27\x12xx"));
     Ok(())
 }
 

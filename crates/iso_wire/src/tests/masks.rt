@@ -1,7 +1,7 @@
 //! What is printed of values.
 
 use super::*;
-use crate::{Framed, masked};
+use crate::{Framed, describe, describe_clear, masked};
 
 #[test]
 fn values_are_masked(rt: HostRuntime) -> Result<(), Fail> {
@@ -74,6 +74,50 @@ fn messages_are_printed_masked(rt: HostRuntime) -> Result<(), Fail> {
         let message = message(rt.alloc(), mti, elements)?;
         let text = format!(in rt.alloc(); "{message:?}")?;
         assert_eq!(rt; text.as_str(), want, "{name}");
+    }
+    Ok(())
+}
+
+#[test]
+fn messages_are_described(rt: HostRuntime) -> Result<(), Fail> {
+    let table = Table::ascii87(rt.alloc())?;
+    let cases: [(&str, u16, &[(u8, &[u8])], &[u8], &[u8]); 3] = [
+        (
+            "an echo test",
+            800,
+            &[(7, b"0102030405"), (11, b"000001"), (70, b"301")],
+            b"MTI=0800 1987 NetworkManagement Request Acquirer\n\
+            DE007=0102030405\nDE011=000001\nDE070=301\n",
+            b"MTI=0800 1987 NetworkManagement Request Acquirer\n\
+            DE007=0102030405\nDE011=000001\nDE070=301\n",
+        ),
+        (
+            "an account number, PIN data and a MAC",
+            421,
+            &[
+                (2, b"4111111111111111"),
+                (52, b"\x01\x23\x45\x67\x89\xAB\xCD\xEF"),
+                (64, b"\x00\x01\x0A\x0F\xF0\xFE\xFF\x10"),
+            ],
+            b"MTI=0421 1987 Reversal Advice AcquirerRepeat\n\
+            DE002=411111******1111\nDE052=********\nDE064=00010A0FF0FEFF10\n",
+            b"MTI=0421 1987 Reversal Advice AcquirerRepeat\n\
+            DE002=4111111111111111\nDE052=0123456789ABCDEF\nDE064=00010A0FF0FEFF10\n",
+        ),
+        (
+            "digits without a meaning",
+            9956,
+            &[],
+            b"MTI=9956 Private Reserved(9) Reserved(5) Reserved(6)\n",
+            b"MTI=9956 Private Reserved(9) Reserved(5) Reserved(6)\n",
+        ),
+    ];
+    for (name, mti, elements, want, clear) in cases {
+        let message = message(rt.alloc(), mti, elements)?;
+        let lines = describe(rt.alloc(), &table, &message)?;
+        assert_eq!(rt; lines.as_slice(), want, "{name}");
+        let lines = describe_clear(rt.alloc(), &table, &message)?;
+        assert_eq!(rt; lines.as_slice(), clear, "{name}, in full");
     }
     Ok(())
 }

@@ -98,6 +98,30 @@ fn numbers(rt: HostRuntime) -> Result<(), Fail> {
 }
 
 #[test]
+fn numbers_are_read(rt: HostRuntime) -> Result<(), Fail> {
+    let cases: [(&str, u8, &[u8], Option<u64>); 8] = [
+        ("another element", 12, b"000007", None),
+        ("zeros in front", 11, b"000007", Some(7)),
+        ("one digit", 11, b"0", Some(0)),
+        (
+            "nineteen digits",
+            11,
+            b"9999999999999999999",
+            Some(9_999_999_999_999_999_999),
+        ),
+        ("twenty digits", 11, b"00000000000000000007", None),
+        ("no digit", 11, b"", None),
+        ("a letter in place of a zero", 11, b"1O00", None),
+        ("a sign", 11, b"-7", None),
+    ];
+    for (name, n, value, want) in cases {
+        let made = message(rt.alloc(), 100, &[(n, value)])?;
+        assert_eq!(rt; made.get_number(11), want, "{name}");
+    }
+    Ok(())
+}
+
+#[test]
 fn digits(rt: HostRuntime) {
     let cases = [
         ("none but a zero", 0, 1),
@@ -131,7 +155,36 @@ fn equality(rt: HostRuntime) -> Result<(), Fail> {
     for (name, mti, elements, want) in cases {
         let other = message(rt.alloc(), mti, elements)?;
         assert_eq!(rt; first.equals(&other), want, "{name}");
+        assert_eq!(rt; first == other, want, "{name}, by the operator");
     }
+    Ok(())
+}
+
+#[test]
+fn copies(rt: HostRuntime) -> Result<(), Fail> {
+    let mut made = message(
+        rt.alloc(),
+        201,
+        &[(2, b"4111111111111111"), (11, b"000007")],
+    )?;
+    let copy = made.clone()?;
+    assert!(rt; copy == made);
+    made.set(11, b"000008")?;
+    assert!(rt; copy != made, "a copy has memory of its own");
+    assert_eq!(rt; copy.get(11), Some(b"000007".as_slice()));
+    Ok(())
+}
+
+#[test]
+fn elements_come_in_ascending_order(rt: HostRuntime) -> Result<(), Fail> {
+    let elements: [(u8, &[u8]); 4] = [(70, b"301"), (7, b"0102030405"), (128, b"x"), (11, b"")];
+    let made = message(rt.alloc(), 800, &elements)?;
+    let want: [(u8, &[u8]); 4] = [(7, b"0102030405"), (11, b""), (70, b"301"), (128, b"x")];
+    let mut left = made.iter();
+    for element in want {
+        assert_eq!(rt; left.next(), Some(element));
+    }
+    assert_eq!(rt; left.next(), None);
     Ok(())
 }
 

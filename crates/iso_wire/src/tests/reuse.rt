@@ -93,22 +93,24 @@ fn reading_a_whole_message_leaves_the_pieces_of_another(rt: HostRuntime) -> Resu
 }
 
 #[test]
-fn a_message_is_written_over_another(rt: HostRuntime) -> Result<(), Fail> {
+fn messages_are_appended(rt: HostRuntime) -> Result<(), Fail> {
     let alloc = rt.alloc();
     let table = ascii(alloc)?;
-    let mut out = Vec::new(alloc);
+    let mut out = vec![in alloc; b'a', b'b']?;
     for case in &ascii_cases() {
         let name = case.name;
         let (message, _) = unpack(alloc, &table, case.bytes)?;
-        pack_into(&table, &message, &mut out)?;
-        assert_eq!(rt; out.as_slice(), case.plain, "{name}");
+        append_message(&table, &message, &mut out)?;
+        assert_eq!(rt; out.strip_prefix(b"ab"), Some(case.plain), "{name}");
+        // the next one is written over it
+        out.truncate(2);
     }
-    let refused = message(alloc, 800, &[(12, b"010203")])?;
+    let refused = message(alloc, 800, &[(11, b"000001"), (12, b"010203")])?;
     assert_eq!(rt;
-        pack_into(&table, &refused, &mut out).err(),
+        append_message(&table, &refused, &mut out).err(),
         Some(PackFault::NoRow(12))
     );
-    assert_eq!(rt; out.as_slice(), b"".as_slice());
+    assert_eq!(rt; out.as_slice(), b"ab".as_slice());
     Ok(())
 }
 

@@ -1,16 +1,9 @@
-use Rattle.std.proofs.Common.{◌≤◌, ℕ, length, refl, arith}
-use Rattle.iso_wire.specs.declared.header.Header.{Header}
-use Rattle.iso_wire.specs.declared.header.Header.TheVariants.{Binary2, Ascii4, Bcd2}
-use Rattle.iso_wire.specs.Frame.{frame_of, largest}
+use Rattle.std.proofs.Common.{length, refl}
+use Rattle.iso_wire.specs.Frame.{frame_of}
 use Rattle.iso_order.specs.Fitting.{IsServed}
 use Rattle.iso_order.specs.Response.{response}
+use Rattle.iso_host.proofs.FrameLemmas.{short_fits}
 use Rattle.iso_host.proofs.handling.has_frame.Goals as goal
-
--- each header can count 9,999 bytes
-short_fits : (h : Header) (n : ℕ) → n ≤ 9999 → n ≤ largest h
-short_fits Binary2 n short = omega arith
-short_fits Ascii4 n short = short
-short_fits Bcd2 n short = short
 
 pub returns : goal.returns
 returns c =

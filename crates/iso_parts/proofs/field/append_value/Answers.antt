@@ -12,8 +12,8 @@ returns-in-Ok-clause-exact c =
     let b : List ℕ = c.args.bytes.now in
     let n = c.in-Ok-Some.n in
     let length_read = rw c.in-Ok-Some.field-0-is at c.in-Ok-Some.ensures.exact in
-    let read = rw (c.split_at.ensures.back, c.prefix_size-front.ensures, c.body_size-size.ensures) at c.in-Ok.ensures in
-    let rest : c.split_at.result.1.now ≡ drop (prefix_size s.length) b = c.split_at.ensures.back ∙ ap (λ (k : ℕ). drop k b) c.prefix_size-front.ensures in
-    let room : body_size s.coding n ≤ length (drop (prefix_size s.length) b) = omega (arith, c.if-rest-size.false, c.body_size-size.ensures, ap length rest) in
+    let read = rw (c.split_at.ensures.back, c.prefix_size-front.ensures.size, c.body_size-size.ensures.size) at c.in-Ok.ensures in
+    let rest : c.split_at.result.1.now ≡ drop (prefix_size s.length) b = c.split_at.ensures.back ∙ ap (λ (k : ℕ). drop k b) c.prefix_size-front.ensures.size in
+    let room : body_size s.coding n ≤ length (drop (prefix_size s.length) b) = omega (arith, c.if-rest-size.false, c.body_size-size.ensures.size, ap length rest) in
     let part = body_is s b n read.0 (sym length_read) room read.1 in
-    (read.0, part ∙ ap₂ (λ (k m : ℕ). got read.0 (k + m)) (sym c.prefix_size-front.ensures) (sym c.body_size-size.ensures), read.2)
+    (read.0, part ∙ ap₂ (λ (k m : ℕ). got read.0 (k + m)) (sym c.prefix_size-front.ensures.size) (sym c.body_size-size.ensures.size), read.2)

@@ -1,14 +1,15 @@
 use Rattle.std.proofs.Common.{length, ap, arith, refl, rules}
-use Rattle.iso_wire.specs.Walk.{left}
+use Rattle.iso_parts.specs.Numbers.{members}
 use Rattle.iso_wire.proofs.Wires.{found_first, found_next, few_left, left_ascend}
 use Rattle.iso_wire.proofs.bodies.find_bodies.Goals as goal
 
 pub loop-n-init : goal.loop-n-init
 loop-n-init c = record {
-  found = found_first c.args.table.now.rows c.args.bytes.now c.args.spots.now (left c.args.numbers) c.args.start _ (left_ascend c.args.numbers) refl;
+  found = found_first c.args.table.now.rows c.args.bytes.now c.args.bodies.now (members c.args.numbers) c.args.start _ (left_ascend c.args.numbers) refl;
   room = c.requires.within;
   few = omega (arith, c.requires.early, few_left c.args.numbers);
-  spots = c.requires.room;
+  starts = search rules;
+  sizes = search rules;
 }
 
 pub loop-n-preserved : goal.loop-n-preserved
@@ -17,8 +18,9 @@ loop-n-preserved c =
     let read = c.in_ok-body.ensures.exact in
     let fewer = ap length c.in-Some.ensures in
     record {
-      found = found_next c.args.table.now.rows c.args.bytes.now l.spots (left c.args.numbers) (left l.rest) (left c.next.new.self) read.1.0 c.in-Some.n l.at c.in_ok-body.body c.in_ok-body.used _ _ l.invariant.found c.in-Some.ensures l.invariant.spots read.0 read.1.1 refl c.in_ok-body.ensures.room.0 c.in_ok-body.ensures.room.1;
+      found = found_next c.args.table.now.rows c.args.bytes.now l.bodies (members c.args.numbers) (members l.rest) (members c.take_first.new.self) read.1.0 c.in-Some.n l.at c.in_ok-body.body c.in_ok-body.used _ _ _ l.invariant.found c.in-Some.ensures l.invariant.starts l.invariant.sizes read.0 read.1.1 refl refl c.in_ok-body.ensures.room.0 c.in_ok-body.ensures.room.1;
       room = c.in_ok-body.ensures.room.1;
       few = omega (arith, fewer, l.invariant.few, c.in_ok-body.ensures.few);
-      spots = search rules;
+      starts = search rules;
+      sizes = search rules;
     }

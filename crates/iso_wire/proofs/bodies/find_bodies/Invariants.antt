@@ -1,16 +1,17 @@
 use Rattle.std.proofs.Common.{◌≡◌, ◌≤◌, ◌+◌, ◌*◌, length, drop}
 use Rattle.iso_wire.specs.Viewing.{longest_part, wires_at}
-use Rattle.iso_wire.specs.Walk.{left}
+use Rattle.iso_parts.specs.Numbers.{members}
 use Rattle.iso_wire.proofs.Wires.{Found}
 use Rattle.iso_wire.proofs.bodies.find_bodies.Given as goal
 
 abbrev pub invariant-loop-n : goal.invariant-loop-n
 invariant-loop-n l = record {
-  found : Found l.table.rows l.bytes l.spots (left l.fn.numbers) (left l.rest) l.at (wires_at l.table.rows (left l.fn.numbers) l.start (drop l.start l.bytes));
+  found : Found l.table.rows l.bytes l.bodies (members l.fn.numbers) (members l.rest) l.at (wires_at l.table.rows (members l.fn.numbers) l.start (drop l.start l.bytes));
   room : l.at ≤ length l.bytes;
-  few : l.at + longest_part * length (left l.rest) ≤ 36 + longest_part * 127;
-  spots : length l.spots ≡ 129;
+  few : l.at + longest_part * length (members l.rest) ≤ 36 + longest_part * 127;
+  starts : length l.bodies.starts ≡ 129;
+  sizes : length l.bodies.sizes ≡ 129;
 }
 
 abbrev pub decreases-loop-n : goal.decreases-loop-n
-decreases-loop-n l = length (left l.rest)
+decreases-loop-n l = length (members l.rest)

@@ -1,7 +1,7 @@
 use Rattle.std.proofs.Common.{ℕ, List, Err, ◌+◌, sym, ap, ◌∙◌, refl}
 use Rattle.iso_parts.specs.Reading.{prefix_size}
 use Rattle.iso_wire.specs.declared.judging.Stage.TheVariants as stages
-use Rattle.iso_wire.specs.Walk.{left}
+use Rattle.iso_parts.specs.Numbers.{members}
 use Rattle.iso_wire.proofs.Stages.{length_goes_on, length_ends, step_from}
 use Rattle.iso_wire.proofs.judging.judge_part.Goals as goal
 
@@ -12,8 +12,8 @@ returns-in-Ok-Some c =
     let b : List ℕ = c.args.bytes.now in
     let place : ℕ = c.args.at + prefix_size s.length in
     let read = rw (c.in-Ok-Some.field-0-is, c.split_at.ensures.back) at c.in-Ok-Some.ensures.exact in
-    let on = length_goes_on c.parts.ensures t.rows s (left c.args.from) (left c.args.rest) c.args.n c.in-Ok-Some.count c.args.at b c.requires.first (sym c.in-Some.ensures.row) (sym read) c.requires.within in
-    let step = rw c.prefix_size-front.ensures at c.judge_value.ensures in
+    let on = length_goes_on c.parts.ensures t.rows s (members c.args.from) (members c.args.rest) c.args.n c.in-Ok-Some.count c.args.at b c.requires.first (sym c.in-Some.ensures.row) (sym read) c.requires.within in
+    let step = rw c.prefix_size-front.ensures.size at c.judge_value.ensures in
     step_from t (stages.Elements c.args.from c.args.at) (stages.Body c.args.n c.in-Ok-Some.count c.args.rest place) c.args.rest b c.judge_value.result on step
 
 pub returns-in-Err : goal.returns-in-Err
@@ -23,7 +23,7 @@ returns-in-Err c =
     let b : List ℕ = c.args.bytes.now in
     let read = rw c.split_at.ensures.back at c.in-Err.ensures.exact in
     record {
-      read = length_ends c.parts.ensures t.rows s (left c.args.from) (left c.args.rest) c.args.n c.args.at b c.in-Err.fault c.requires.first (sym c.in-Some.ensures.row) (sym read) ∙ ap Err (sym c.stop-fault-in-Err.ensures);
+      read = length_ends c.parts.ensures t.rows s (members c.args.from) (members c.args.rest) c.args.n c.args.at b c.in-Err.fault c.requires.first (sym c.in-Some.ensures.row) (sym read) ∙ ap Err (sym c.stop-fault-in-Err.ensures);
       goes_on = λ x. refl;
       within = c.requires.within;
     }

@@ -1,8 +1,10 @@
 use Rattle.std.proofs.Common.{drop}
 use Rattle.std.proofs.lemmas.List.{drop-drop}
 use Rattle.iso_wire.specs.Entries.{views}
-use Rattle.iso_wire.specs.Walk.{left}
-use Rattle.iso_wire.proofs.Loop.{goes_on}
+use Rattle.iso_parts.specs.Numbers.{members}
+use Rattle.iso_wire.proofs.ElementLaws.{numbers_read}
+use Rattle.iso_wire.proofs.Loop.{goes_on, is_done}
+use Rattle.iso_wire.proofs.Numbered.{numbered_members}
 use Rattle.iso_wire.proofs.unpacking.read_elements.Goals as goal
 
 pub loop-n-preserved : goal.loop-n-preserved
@@ -12,7 +14,15 @@ loop-n-preserved c =
     let used = c.in_ok-used.used in
     let behind = drop-drop used at c.args.bytes.now in
     rw (read.2, ← behind) (record {
-      read = goes_on c.args.table.now.rows (views c.loop-n.elements) (left c.loop-n.rest) (left c.next.new.self) c.in-Some.n at (drop at c.args.bytes.now) (read.0, used) _ c.in-Some.ensures read.1 c.loop-n.invariant.read;
+      read = goes_on c.args.table.now.rows (views c.loop-n.elements) (members c.loop-n.rest) (members c.take_first.new.self) c.in-Some.n at (drop at c.args.bytes.now) (read.0, used) _ c.in-Some.ensures read.1 c.loop-n.invariant.read;
       room = c.in_ok-used.ensures.room;
       whole = c.in_ok-used.ensures.whole;
     })
+
+pub returns-clause-numbered : goal.returns-clause-numbered
+returns-clause-numbered c =
+    let rows = c.args.table.now.rows in
+    let numbers = c.args.numbers in
+    let es = views c.loop-n.elements in
+    let total = is_done rows es (members c.loop-n.rest) c.loop-n.at (drop c.loop-n.at c.args.bytes.now) _ c.in_default.ensures c.loop-n.invariant.read in
+    numbered_members numbers es c.requires.elements (numbers_read rows (members numbers) c.args.start (drop c.args.start c.args.bytes.now) es c.loop-n.at total)

@@ -1,16 +1,16 @@
 use Rattle.std.proofs.Common.{◌≡◌, ◌≤◌, length, drop}
 use Rattle.iso_wire.specs.Entries.{views, IsWhole}
 use Rattle.iso_wire.specs.Reading.{elements_at}
-use Rattle.iso_wire.specs.Walk.{left}
+use Rattle.iso_parts.specs.Numbers.{members}
 use Rattle.iso_wire.proofs.Loop.{with_front}
 use Rattle.iso_wire.proofs.unpacking.read_elements.Given as goal
 
 abbrev pub invariant-loop-n : goal.invariant-loop-n
 invariant-loop-n l = record {
-  read : with_front (views l.elements) (elements_at l.table.rows (left l.rest) l.at (drop l.at l.bytes)) ≡ elements_at l.table.rows (left l.fn.numbers) l.start (drop l.start l.bytes);
+  read : with_front (views l.elements) (elements_at l.table.rows (members l.rest) l.at (drop l.at l.bytes)) ≡ elements_at l.table.rows (members l.fn.numbers) l.start (drop l.start l.bytes);
   room : l.at ≤ length l.bytes;
   whole : IsWhole l.elements;
 }
 
 abbrev pub decreases-loop-n : goal.decreases-loop-n
-decreases-loop-n l = length (left l.rest)
+decreases-loop-n l = length (members l.rest)

@@ -10,4 +10,5 @@ invariant_of-self c =
       either_end c.append.result c.append.ensures.ok c.append.ensures.err
           (λ done. rw done (IsAscending-push 2 c.args.n c.args.value.now _ good.0 good.1 good.2 below c.self.invariant.1))
           (λ kept. rw (kept.index, kept.values) c.self.invariant.1),
+      c.append.ensures.numbered,
     )

@@ -1,7 +1,0 @@
-use Rattle.std.proofs.Common.{◌≡◌, ◌++◌, drop}
-use Rattle.iso_c.specs.Describing.{hex_of}
-use Rattle.iso_c.proofs.describe.push_hex.Given as goal
-
--- the digits so far, and then those of the rest
-abbrev pub invariant-loop-b : goal.invariant-loop-b
-invariant-loop-b l = l.out.items ++ hex_of (drop l.b-index l.bytes) ≡ l.initial.out.items ++ hex_of l.bytes

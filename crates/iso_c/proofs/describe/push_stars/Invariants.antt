@@ -1,9 +1,0 @@
-use Rattle.std.proofs.Common.{◌≡◌, ◌++◌, replicate}
-use Rattle.iso_c.proofs.describe.push_stars.Given as goal
-
--- the stars so far, and then the others
-abbrev pub invariant-loop-left : goal.invariant-loop-left
-invariant-loop-left l = l.out.items ++ replicate l.left 42 ≡ l.initial.out.items ++ replicate l.fn.count 42
-
-abbrev pub decreases-loop-left : goal.decreases-loop-left
-decreases-loop-left l = l.left

@@ -1,0 +1,31 @@
+-- The numbers of a bitmap's elements, in ascending order (ISO 8583:1987, primary and secondary bitmap).
+-- Public promise: numbers_in, members, Takes, first_missing. Inner: numbers, IsTaken.
+use Rattle.std.specs.Prelude.{◌≡◌, ℕ, zero, suc, ◌+◌, ◌-◌, ◌<◌, ◌≤◌, ◌^◌, Bool, not, if◌then◌else◌, List, [], ◌∷◌, find, Option, Some, None}
+use Rattle.iso_parts.specs.declared.bitmap.Bitmap.{Bitmap}
+use Rattle.iso_parts.specs.Bits.{in_words}
+
+-- of count numbers from n on, those in the set
+unfoldable pub numbers : (ℕ → Bool) → ℕ → ℕ → List ℕ
+numbers set zero n = []
+numbers set (suc count) n = if set n then n ∷ numbers set count (n + 1) else numbers set count (n + 1)
+
+-- the numbers of elements, 2 to 128, that a primary and a secondary bitmap's words tell
+abbrev pub numbers_in : ℕ → ℕ → List ℕ
+numbers_in first second = numbers (in_words first second) 127 2
+
+-- the numbers of a set
+abbrev pub members : Bitmap → List ℕ
+members s = numbers_in s.first s.second
+
+-- the first of the numbers, if there is one, and the others
+abbrev pub Takes : List ℕ → List ℕ → Option ℕ → Type 0
+Takes old new None = old ≡ []
+Takes old new (Some n) = old ≡ n ∷ new
+
+-- the first of the numbers that isn't in the set
+abbrev pub first_missing : (ℕ → Bool) → List ℕ → Option ℕ
+first_missing set ns = find (λ n. not (set n)) ns
+
+-- the first bit of a word, behind so many others, was taken out of it
+abbrev pub IsTaken : ℕ → ℕ → ℕ → Type 0
+IsTaken old new before = (i : ℕ) × (before + suc i ≡ 64) × (2 ^ i ≤ old) × (old < 2 ^ suc i) × (new ≡ old - 2 ^ i)

@@ -1,0 +1,37 @@
+//! The bits of a bitmap's word, the first of which is the most significant one.
+
+ghost use Rattle.std.specs.Int.{bit_at};
+ghost use Rattle.std.specs.Prelude.{◌≡◌, ◌≢◌, ◌<◌, ◌≤◌, ◌^◌, ℕ};
+ghost use Rattle.iso_parts.specs.Numbers.{IsTaken};
+
+/// The first bit of a word. In a primary bitmap it tells that a secondary one follows; it is none of an element.
+pub const FIRST_BIT: u64 = 0x8000_0000_0000_0000;
+
+/// Takes the first bit that is set out of a word: how many bits stand before it, and the word without it.
+pub(crate) fn take_bit(word: u64) -> (u8, u64)
+    requires { word ≢ 0 }
+    ensures { IsTaken word result.1 result.0 }
+{
+    let before = word.leading_zeros();
+    (before as u8, word - (1 << (63 - before)))
+}
+
+/// The word with bit `k` set.
+pub(crate) fn with_bit(word: u64, k: u8) -> u64
+    requires { k < 64 }
+    ensures below { (j : ℕ) → k < j → word < 2 ^ j → result < 2 ^ j }
+    ensures added { bit_at result k ≡ 1 }
+    ensures others { (i : ℕ) → i ≢ k → bit_at result i ≡ bit_at word i }
+{
+    word | 1 << k
+}
+
+/// The word without bit `k`.
+pub(crate) fn without_bit(word: u64, k: u8) -> u64
+    requires { k < 64 }
+    ensures below { result ≤ word }
+    ensures removed { bit_at result k ≡ 0 }
+    ensures others { (i : ℕ) → i ≢ k → bit_at result i ≡ bit_at word i }
+{
+    word & !(1 << k)
+}

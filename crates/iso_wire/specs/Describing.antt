@@ -1,0 +1,109 @@
+-- A message as lines for human eyes: its type with the words for its digits, and each element.
+use Rattle.std.specs.Prelude.{ℕ, ◌+◌, ◌-◌, ◌/◌, ◌%◌, ◌==◌, nat_lt, Bool, if◌then◌else◌, List, [], ◌∷◌, ◌++◌, length, take, drop, replicate, Option, Some, None, codes}
+use Rattle.iso_parts.specs.declared.prefix.Digits.TheVariants.{Ascii}
+use Rattle.iso_parts.specs.declared.class.CharClass.{CharClass}
+use Rattle.iso_parts.specs.declared.class.CharClass.TheVariants as classes
+use Rattle.iso_parts.specs.declared.spec.FieldSpec.{FieldSpec}
+use Rattle.iso_table.specs.Layout.{Layout, row_at}
+use Rattle.iso_wire.specs.Contents.{Contents}
+use Rattle.iso_wire.specs.Decimal.{decimal}
+use Rattle.iso_wire.specs.Masking.{shown_front, shown_end}
+use Rattle.iso_wire.specs.Spelling.{mti_bytes}
+
+-- ---- the type
+
+-- a digit without a meaning
+abbrev pub reserved : ℕ → List ℕ
+reserved d = codes "Reserved(" ++ (48 + d) ∷ 41 ∷ []
+
+-- a word, or that the digit is reserved where there is none
+abbrev pub word_or : ℕ → List ℕ → List ℕ
+word_or d [] = reserved d
+word_or d (c ∷ word) = c ∷ word
+
+unfoldable pub version_word : ℕ → List ℕ
+version_word d =
+    if d == 0 then codes "1987"
+    else if d == 1 then codes "1993"
+    else if d == 2 then codes "2003"
+    else if d == 9 then codes "Private"
+    else reserved d
+
+unfoldable pub class_word : ℕ → List ℕ
+class_word d =
+    if d == 1 then codes "Authorization"
+    else if d == 2 then codes "Financial"
+    else if d == 3 then codes "FileAction"
+    else if d == 4 then codes "Reversal"
+    else if d == 5 then codes "Reconciliation"
+    else if d == 6 then codes "Administrative"
+    else if d == 7 then codes "FeeCollection"
+    else if d == 8 then codes "NetworkManagement"
+    else reserved d
+
+unfoldable pub function_word : ℕ → List ℕ
+function_word d =
+    if d == 0 then codes "Request"
+    else if d == 1 then codes "Response"
+    else if d == 2 then codes "Advice"
+    else if d == 3 then codes "AdviceResponse"
+    else reserved d
+
+unfoldable pub origin_word : ℕ → List ℕ
+origin_word d =
+    if d == 0 then codes "Acquirer"
+    else if d == 1 then codes "AcquirerRepeat"
+    else if d == 2 then codes "Issuer"
+    else if d == 3 then codes "IssuerRepeat"
+    else if d == 4 then codes "Other"
+    else if d == 5 then codes "OtherRepeat"
+    else reserved d
+
+-- the four digits, and the word of each
+abbrev pub type_line : ℕ → List ℕ
+type_line n =
+    codes "MTI=" ++ mti_bytes Ascii n ++ 32 ∷ version_word (n / 1000) ++ 32 ∷ class_word (n / 100 % 10) ++ 32 ∷ function_word (n / 10 % 10) ++ 32 ∷ origin_word (n % 10) ++ 10 ∷ []
+
+-- ---- an element
+
+-- a hexadecimal digit in upper case
+abbrev pub hex_digit : ℕ → ℕ
+hex_digit d = if nat_lt d 10 then 48 + d else 55 + d
+
+abbrev pub hex_of : List ℕ → List ℕ
+hex_of [] = []
+hex_of (b ∷ bs) = hex_digit (b / 16) ∷ hex_digit (b % 16) ∷ hex_of bs
+
+-- bytes of class B as hexadecimal digits, any others as they are
+abbrev pub text_of : CharClass → List ℕ → List ℕ
+text_of classes.B b = hex_of b
+text_of class b = b
+
+-- the class of a row; B where there is none
+abbrev pub class_by : Option FieldSpec → CharClass
+class_by None = classes.B
+class_by (Some s) = s.class
+
+-- what is shown of a value at its front, a star for each byte that is hidden, and what is shown at its end
+abbrev pub value_text : CharClass → ℕ → List ℕ → List ℕ
+value_text class n v =
+    let front : ℕ = shown_front n (length v) in
+    let end : ℕ = shown_end n (length v) in
+    text_of class (take front v) ++ (replicate (length v - front - end) 42 ++ text_of class (drop (length v - end) v))
+
+-- the whole value, or what a bystander may read of it
+abbrev pub shown_text : Bool → CharClass → ℕ → List ℕ → List ℕ
+shown_text is_clear class n v = if is_clear then text_of class v else value_text class n v
+
+abbrev pub element_line : Bool → List (Option FieldSpec) → ℕ → List ℕ → List ℕ
+element_line is_clear rows n v = codes "DE" ++ (decimal 3 n ++ (61 ∷ shown_text is_clear (class_by (row_at rows n)) n v ++ 10 ∷ []))
+
+abbrev pub element_lines : Bool → List (Option FieldSpec) → List (ℕ × List ℕ) → List ℕ
+element_lines is_clear rows [] = []
+element_lines is_clear rows (e ∷ es) = element_line is_clear rows e.0 e.1 ++ element_lines is_clear rows es
+
+-- ---- the lines
+
+-- the line of the type, and those of the elements
+abbrev pub description : Bool → Layout → Contents → List ℕ
+description is_clear t m = type_line m.mti ++ element_lines is_clear t.rows m.elements
