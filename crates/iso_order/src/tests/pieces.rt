@@ -18,8 +18,8 @@ fn take_piece(
             // the unpacker keeps what there is of the message: the next piece goes on from here
             Fed::More => return Ok(()),
             Fed::Done { message, used } => {
-                messages.push(message)?;
                 rest = &rest[used..];
+                messages.push(message)?;
             }
         }
     }
