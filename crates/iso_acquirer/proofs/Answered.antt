@@ -8,7 +8,7 @@ use Rattle.iso_order.specs.Outcome.{Outcome}
 use Rattle.iso_order.specs.Order.{Instruction}
 use Rattle.iso_issuer.specs.declared.journal.Entry.{Entry}
 use Rattle.iso_issuer.specs.Effect.{is_key}
-use Rattle.iso_issuer.specs.Journal.{entry_at, undone, is_reversed}
+use Rattle.iso_issuer.specs.Journal.{entry_at, undone_key, is_reversed}
 use Rattle.iso_issuer.specs.Laws.{WhollyIsReversed}
 use Rattle.iso_acquirer.specs.declared.event.Given.{Given}
 use Rattle.iso_acquirer.specs.declared.slot.Slot.{Slot}
@@ -16,7 +16,7 @@ use Rattle.iso_acquirer.specs.declared.slot.Role.{Role}
 use Rattle.iso_acquirer.specs.declared.slot.Role.TheVariants.{Transaction, Reversal}
 use Rattle.iso_acquirer.specs.declared.slot.Stage.{Stage}
 use Rattle.iso_acquirer.specs.declared.slot.Stage.TheVariants.{Asked, Undoing, Granted, Denied, Undone}
-use Rattle.iso_acquirer.specs.Slots.{slot_at, undo_of, stage_after, stage_undone, answered, answered_in, answered_at}
+use Rattle.iso_acquirer.specs.Slots.{slot_at, undo_of, stage_after, stage_undone, slots_after_answer, slots_after_answer_in, slots_after_answer_at}
 use Rattle.iso_acquirer.specs.Agreed.{answer_at, code_at, IsHeld, IsReversal, IsRole, IsAgreed}
 use Rattle.iso_acquirer.proofs.Keys.{same_key_is, same_key_self, same_number, some_is}
 use Rattle.iso_acquirer.proofs.Numbered.{found}
@@ -97,12 +97,12 @@ module _ (wholly : WhollyIsReversed) (id : ℕ) (slots : List Slot) (sent : List
       let original : h.original ≡ t = some_is h.original t (sym h.found ∙ there) in
       let key_is : h.original.order.key ≡ t.order.key = ap (λ (x : Slot). x.order.key) original in
       let place : t.order.key.stan ≡ n = (found slots 1 n t w.numbered there).0 in
-      let names : is_key (undone entry.0.order.act) t.order.key ≡ true =
-      ap (λ (o : Instruction). is_key (undone o.act) t.order.key) (sym same) ∙ ap (λ act. is_key (undone act) t.order.key) h.names ∙ ap (λ k. same_key k t.order.key) key_is ∙ same_key_self t.order.key in
+      let names : is_key (undone_key entry.0.order.act) t.order.key ≡ true =
+      ap (λ (o : Instruction). is_key (undone_key o.act) t.order.key) (sym same) ∙ ap (λ act. is_key (undone_key act) t.order.key) h.names ∙ ap (λ k. same_key k t.order.key) key_is ∙ same_key_self t.order.key in
       wholly entries t.order.key key entry.0 (all_wholly id slots sent given entries w n t stage there place role) entry.1 names
 
   by_role : (s : Slot) (role : Role) → slot_at slots key.stan ≡ Some s → s.order.key ≡ key → s.role ≡ role → IsRole entries slots s.order role →
-      IsAgreed id (answered_in slots key.stan a.code role) sent given entries
+      IsAgreed id (slots_after_answer_in slots key.stan a.code role) sent given entries
   by_role s (Transaction stage) here is role h =
       agreed-changed id slots sent given entries (stage_after a.code) key.stan w
       (λ t from u there held undo. after-undo a.code from ∙ undo)
@@ -116,13 +116,13 @@ module _ (wholly : WhollyIsReversed) (id : ℕ) (slots : List Slot) (sent : List
       (λ t from there held g. held-undone entries t.order.key a.code from (entered-undo s n t from here is h there held) g)
       (λ t from u there held undo. (transaction_at id slots sent given entries w n t from there held).undone u (sym (undone-undo a.code from) ∙ undo))
 
-  by_test : (s : Slot) (b : Bool) → slot_at slots key.stan ≡ Some s → same_key s.order.key key ≡ b → IsAgreed id (cond b (answered_in slots key.stan a.code s.role) slots) sent given entries
+  by_test : (s : Slot) (b : Bool) → slot_at slots key.stan ≡ Some s → same_key s.order.key key ≡ b → IsAgreed id (cond b (slots_after_answer_in slots key.stan a.code s.role) slots) sent given entries
   by_test s true here e = by_role s s.role here (same_key_is s.order.key key e) refl (w.slots_hold key.stan s here).role
   by_test s false here e = w
 
-  pub agreed-answered : IsAgreed id (answered slots key a.code) sent given entries
+  pub agreed-answered : IsAgreed id (slots_after_answer slots key a.code) sent given entries
   agreed-answered = by_slot (slot_at slots key.stan) refl
     where
-      by_slot : (f : Option Slot) → slot_at slots key.stan ≡ f → IsAgreed id (answered_at slots key a.code f) sent given entries
+      by_slot : (f : Option Slot) → slot_at slots key.stan ≡ f → IsAgreed id (slots_after_answer_at slots key a.code f) sent given entries
       by_slot None e = w
       by_slot (Some s) e = by_test s (same_key s.order.key key) e refl

@@ -13,7 +13,7 @@ use Rattle.iso_acquirer.specs.declared.slot.Slot.{Slot}
 use Rattle.iso_acquirer.specs.declared.slot.Role.{Role}
 use Rattle.iso_acquirer.specs.declared.slot.Role.TheVariants.{Transaction, Reversal}
 use Rattle.iso_acquirer.specs.declared.slot.Stage.TheVariants.{Asked, Undoing}
-use Rattle.iso_acquirer.specs.Slots.{AreNumbered, slot_at, order_at, undo_of, on_stage, stepped, changed, transaction_of, reversal_for, begun, reversing}
+use Rattle.iso_acquirer.specs.Slots.{AreNumbered, slot_at, order_at, undo_of, on_stage, slot_at_stage, slots_at_stage, transaction_of, reversal_for, slots_with, reversing}
 use Rattle.iso_acquirer.specs.Agreed.{answer_at, IsRole, IsSlot, IsKnown, IsAgreed}
 use Rattle.iso_acquirer.proofs.Keys.{some_is, none_is_not, number_self}
 use Rattle.iso_acquirer.proofs.Lists.{all-push, all-weaker, find-more}
@@ -97,9 +97,9 @@ agreed-made id slots sent given entries s numbered old_hold known sent_known giv
 -- a transaction begins
 pub agreed-begun : (id : ℕ) (slots : List Slot) (sent : List Instruction) (given : List Given) (entries : List Entry) (o : Instruction) (m : Money) →
     IsAgreed id slots sent given entries → o.key.stan ≡ length slots + 1 → o.key.acquirer ≡ id → o.key.base ≡ 200 → o.act ≡ Debit m →
-    IsAgreed id (begun slots o) (sent ++ o ∷ []) given entries
+    IsAgreed id (slots_with slots o) (sent ++ o ∷ []) given entries
 agreed-begun id slots sent given entries o m w next own base act =
-    agreed-sent id (begun slots o) sent given entries o
+    agreed-sent id (slots_with slots o) sent given entries o
     (agreed-made id slots sent given entries (transaction_of o) w.numbered
     (λ n s here. let old = w.slots_hold n s here in record { own = old.own; role = role-more entries slots (transaction_of o) s.order s.role old.role })
     w.entries_known w.sent_known w.given_kept next
@@ -112,7 +112,7 @@ module _ (id : ℕ) (slots : List Slot) (sent : List Instruction) (given : List 
     (w : IsAgreed id slots sent given entries) (here : slot_at slots stan ≡ Some s) (role : s.role ≡ Transaction (Asked n))
     (next : u.key.stan ≡ length slots + 1) (own : u.key.acquirer ≡ id) (names : u.act ≡ Undo s.order.key 0) where
   abbrev marked : List Slot
-  marked = changed (λ _. Undoing u) stan slots
+  marked = slots_at_stage (λ _. Undoing u) stan slots
 
   keeps : KeepsUndo slots (λ _. Undoing u) stan
   keeps x stage v there is undo =
@@ -157,7 +157,7 @@ module _ (id : ℕ) (slots : List Slot) (sent : List Instruction) (given : List 
       let back = changed-back (λ _. Undoing u) stan slots k t there in
       subst (IsSlot id entries (reversing slots stan u)) back.2 (by_test back.0 back.1 (back.0.order.key.stan == stan))
     where
-      by_test : (x : Slot) → slot_at slots k ≡ Some x → (b : Bool) → IsSlot id entries (reversing slots stan u) (cond b (stepped (λ _. Undoing u) x) x)
+      by_test : (x : Slot) → slot_at slots k ≡ Some x → (b : Bool) → IsSlot id entries (reversing slots stan u) (cond b (slot_at_stage (λ _. Undoing u) x) x)
       by_test x at true = let old = w.slots_hold k x at in record { own = old.own; role = role_marked x x.role old.role }
       by_test x at false = let old = w.slots_hold k x at in record { own = old.own; role = role_other x x.role old.role }
 
@@ -169,10 +169,10 @@ module _ (id : ℕ) (slots : List Slot) (sent : List Instruction) (given : List 
       (record {
         own = own;
         role = record {
-          original = stepped (λ _. Undoing u) s;
+          original = slot_at_stage (λ _. Undoing u) s;
           stage = Undoing u;
-          found = slot-more marked (reversal_for stan u) stan (stepped (λ _. Undoing u) s)
-              (changed-found (λ _. Undoing u) stan slots stan s here ∙ ap (λ b. Some (cond b (stepped (λ _. Undoing u) s) s)) (number_self s.order.key.stan stan (found slots 1 stan s w.numbered here).0));
+          found = slot-more marked (reversal_for stan u) stan (slot_at_stage (λ _. Undoing u) s)
+              (changed-found (λ _. Undoing u) stan slots stan s here ∙ ap (λ b. Some (cond b (slot_at_stage (λ _. Undoing u) s) s)) (number_self s.order.key.stan stan (found slots 1 stan s w.numbered here).0));
           transaction = ap (on_stage (λ _. Undoing u)) role;
           kept = refl;
           names = names;

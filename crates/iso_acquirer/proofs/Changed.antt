@@ -9,7 +9,7 @@ use Rattle.iso_acquirer.specs.declared.slot.Slot.{Slot}
 use Rattle.iso_acquirer.specs.declared.slot.Role.{Role}
 use Rattle.iso_acquirer.specs.declared.slot.Role.TheVariants.{Transaction, Reversal}
 use Rattle.iso_acquirer.specs.declared.slot.Stage.{Stage}
-use Rattle.iso_acquirer.specs.Slots.{AreNumbered, slot_at, order_at, undo_of, on_stage, stepped, changed}
+use Rattle.iso_acquirer.specs.Slots.{AreNumbered, slot_at, order_at, undo_of, on_stage, slot_at_stage, slots_at_stage}
 use Rattle.iso_acquirer.specs.Agreed.{IsHeld, IsReversal, IsRole, IsSlot, IsKnown, IsAgreed}
 use Rattle.iso_acquirer.proofs.Keys.{same_number, some_is}
 use Rattle.iso_acquirer.proofs.Lists.{all-weaker}
@@ -17,14 +17,14 @@ use Rattle.iso_acquirer.proofs.Numbered.{found, numbered-changed}
 
 -- what is kept after a change
 abbrev pub changed_slot : (Stage → Stage) → ℕ → Slot → Slot
-changed_slot step stan s = if s.order.key.stan == stan then stepped step s else s
+changed_slot step stan s = if s.order.key.stan == stan then slot_at_stage step s else s
 
-pub slot-changed : (step : Stage → Stage) (stan : ℕ) (slots : List Slot) (n : ℕ) → slot_at (changed step stan slots) n ≡ option_map (changed_slot step stan) (slot_at slots n)
+pub slot-changed : (step : Stage → Stage) (stan : ℕ) (slots : List Slot) (n : ℕ) → slot_at (slots_at_stage step stan slots) n ≡ option_map (changed_slot step stan) (slot_at slots n)
 slot-changed step stan [] n = refl
 slot-changed step stan (s ∷ ss) n = by_tests (s.order.key.stan == stan) (s.order.key.stan == n) refl refl (slot-changed step stan ss n)
   where
-    by_tests : (b c : Bool) → (s.order.key.stan == stan) ≡ b → (s.order.key.stan == n) ≡ c → slot_at (changed step stan ss) n ≡ option_map (changed_slot step stan) (slot_at ss n) →
-        cond ((cond b (stepped step s) s).order.key.stan == n) (Some (cond b (stepped step s) s)) (slot_at (changed step stan ss) n) ≡ option_map (changed_slot step stan) (cond c (Some s) (slot_at ss n))
+    by_tests : (b c : Bool) → (s.order.key.stan == stan) ≡ b → (s.order.key.stan == n) ≡ c → slot_at (slots_at_stage step stan ss) n ≡ option_map (changed_slot step stan) (slot_at ss n) →
+        cond ((cond b (slot_at_stage step s) s).order.key.stan == n) (Some (cond b (slot_at_stage step s) s)) (slot_at (slots_at_stage step stan ss) n) ≡ option_map (changed_slot step stan) (cond c (Some s) (slot_at ss n))
     by_tests true true e f rest = rw (f, e) refl
     by_tests true false e f rest = rw f rest
     by_tests false true e f rest = rw (f, e) refl
@@ -37,14 +37,14 @@ KeepsUndo slots step stan = (s : Slot) (stage : Stage) (u : Instruction) → slo
 changed-order : (step : Stage → Stage) (stan : ℕ) (s : Slot) → (changed_slot step stan s).order ≡ s.order
 changed-order step stan s = go (s.order.key.stan == stan)
   where
-    go : (b : Bool) → (cond b (stepped step s) s).order ≡ s.order
+    go : (b : Bool) → (cond b (slot_at_stage step s) s).order ≡ s.order
     go true = refl
     go false = refl
 
-pub changed-found : (step : Stage → Stage) (stan : ℕ) (slots : List Slot) (n : ℕ) (s : Slot) → slot_at slots n ≡ Some s → slot_at (changed step stan slots) n ≡ Some (changed_slot step stan s)
+pub changed-found : (step : Stage → Stage) (stan : ℕ) (slots : List Slot) (n : ℕ) (s : Slot) → slot_at slots n ≡ Some s → slot_at (slots_at_stage step stan slots) n ≡ Some (changed_slot step stan s)
 changed-found step stan slots n s h = slot-changed step stan slots n ∙ ap (option_map (changed_slot step stan)) h
 
-pub changed-back : (step : Stage → Stage) (stan : ℕ) (slots : List Slot) (n : ℕ) (t : Slot) → slot_at (changed step stan slots) n ≡ Some t →
+pub changed-back : (step : Stage → Stage) (stan : ℕ) (slots : List Slot) (n : ℕ) (t : Slot) → slot_at (slots_at_stage step stan slots) n ≡ Some t →
     (s : Slot) × (slot_at slots n ≡ Some s) × (changed_slot step stan s ≡ t)
 changed-back step stan slots n t h = go (slot_at slots n) refl (sym (slot-changed step stan slots n) ∙ h)
   where
@@ -52,7 +52,7 @@ changed-back step stan slots n t h = go (slot_at slots n) refl (sym (slot-change
     go None e g = cc
     go (Some s) e g = (s, e, some_is _ t g)
 
-pub order-changed : (step : Stage → Stage) (stan : ℕ) (slots : List Slot) (n : ℕ) → order_at (changed step stan slots) n ≡ order_at slots n
+pub order-changed : (step : Stage → Stage) (stan : ℕ) (slots : List Slot) (n : ℕ) → order_at (slots_at_stage step stan slots) n ≡ order_at slots n
 order-changed step stan slots n = ap (option_map (λ s. s.order)) (slot-changed step stan slots n) ∙ go (slot_at slots n)
   where
     go : (f : Option Slot) → option_map (λ s. s.order) (option_map (changed_slot step stan) f) ≡ option_map (λ s. s.order) f
@@ -60,28 +60,28 @@ order-changed step stan slots n = ap (option_map (λ s. s.order)) (slot-changed 
     go (Some s) = ap Some (changed-order step stan s)
 
 -- what is sent, entered and kept is known as before
-pub known-changed : (id : ℕ) (step : Stage → Stage) (stan : ℕ) (slots : List Slot) (entries : List Entry) → AllByRecursion (IsKnown id slots) entries → AllByRecursion (IsKnown id (changed step stan slots)) entries
+pub known-changed : (id : ℕ) (step : Stage → Stage) (stan : ℕ) (slots : List Slot) (entries : List Entry) → AllByRecursion (IsKnown id slots) entries → AllByRecursion (IsKnown id (slots_at_stage step stan slots)) entries
 known-changed id step stan slots entries all =
-    all-weaker (IsKnown id slots) (IsKnown id (changed step stan slots)) entries
+    all-weaker (IsKnown id slots) (IsKnown id (slots_at_stage step stan slots)) entries
     (λ e known. record { valid = known.valid; own = λ o. order-changed step stan slots e.order.key.stan ∙ known.own o }) all
 
 pub sent-changed : (step : Stage → Stage) (stan : ℕ) (slots : List Slot) (sent : List Instruction) → AllByRecursion (λ o. order_at slots o.key.stan ≡ Some o) sent →
-    AllByRecursion (λ o. order_at (changed step stan slots) o.key.stan ≡ Some o) sent
+    AllByRecursion (λ o. order_at (slots_at_stage step stan slots) o.key.stan ≡ Some o) sent
 sent-changed step stan slots sent all =
-    all-weaker (λ (o : Instruction). order_at slots o.key.stan ≡ Some o) (λ (o : Instruction). order_at (changed step stan slots) o.key.stan ≡ Some o) sent
+    all-weaker (λ (o : Instruction). order_at slots o.key.stan ≡ Some o) (λ (o : Instruction). order_at (slots_at_stage step stan slots) o.key.stan ≡ Some o) sent
     (λ o known. order-changed step stan slots o.key.stan ∙ known) all
 
 -- a reversal stays that of its transaction
-pub reversal-changed : (step : Stage → Stage) (stan : ℕ) (slots : List Slot) (n : ℕ) (o : Instruction) → AreNumbered 1 slots → KeepsUndo slots step stan → IsReversal slots n o → IsReversal (changed step stan slots) n o
+pub reversal-changed : (step : Stage → Stage) (stan : ℕ) (slots : List Slot) (n : ℕ) (o : Instruction) → AreNumbered 1 slots → KeepsUndo slots step stan → IsReversal slots n o → IsReversal (slots_at_stage step stan slots) n o
 reversal-changed step stan slots n o numbered keeps u = by_test (u.original.order.key.stan == stan) refl
   where
-    by_test : (b : Bool) → (u.original.order.key.stan == stan) ≡ b → IsReversal (changed step stan slots) n o
+    by_test : (b : Bool) → (u.original.order.key.stan == stan) ≡ b → IsReversal (slots_at_stage step stan slots) n o
     by_test true e =
         let at : n ≡ stan = sym (found slots 1 n u.original numbered u.found).0 ∙ same_number u.original.order.key.stan stan e in
         record {
-          original = stepped step u.original;
+          original = slot_at_stage step u.original;
           stage = step u.stage;
-          found = changed-found step stan slots n u.original u.found ∙ ap (λ b. Some (cond b (stepped step u.original) u.original)) e;
+          found = changed-found step stan slots n u.original u.found ∙ ap (λ b. Some (cond b (slot_at_stage step u.original) u.original)) e;
           transaction = ap (on_stage step) u.transaction;
           kept = keeps u.original u.stage o (ap (slot_at slots) (sym at) ∙ u.found) u.transaction u.kept;
           names = u.names;
@@ -89,7 +89,7 @@ reversal-changed step stan slots n o numbered keeps u = by_test (u.original.orde
     by_test false e = record {
       original = u.original;
       stage = u.stage;
-      found = changed-found step stan slots n u.original u.found ∙ ap (λ b. Some (cond b (stepped step u.original) u.original)) e;
+      found = changed-found step stan slots n u.original u.found ∙ ap (λ b. Some (cond b (slot_at_stage step u.original) u.original)) e;
       transaction = u.transaction;
       kept = u.kept;
       names = u.names;
@@ -100,7 +100,7 @@ module _ (id : ℕ) (slots : List Slot) (sent : List Instruction) (given : List 
     (w : IsAgreed id slots sent given entries) (keeps : KeepsUndo slots step stan)
     (holds : (s : Slot) (stage : Stage) → slot_at slots stan ≡ Some s → s.role ≡ Transaction stage → IsHeld entries s.order.key stage → IsHeld entries s.order.key (step stage))
     (undone : (s : Slot) (stage : Stage) (u : Instruction) → slot_at slots stan ≡ Some s → s.role ≡ Transaction stage → undo_of (step stage) ≡ Some u → order_at slots u.key.stan ≡ Some u) where
-  stepped-role : (s : Slot) → slot_at slots stan ≡ Some s → (role : Role) → s.role ≡ role → IsRole entries slots s.order role → IsRole entries (changed step stan slots) s.order (on_stage step role)
+  stepped-role : (s : Slot) → slot_at slots stan ≡ Some s → (role : Role) → s.role ≡ role → IsRole entries slots s.order role → IsRole entries (slots_at_stage step stan slots) s.order (on_stage step role)
   stepped-role s here (Transaction stage) is h = record {
     base = h.base;
     money = h.money;
@@ -110,7 +110,7 @@ module _ (id : ℕ) (slots : List Slot) (sent : List Instruction) (given : List 
   }
   stepped-role s here (Reversal n) is h = reversal-changed step stan slots n s.order w.numbered keeps h
 
-  other-role : (o : Instruction) (role : Role) → IsRole entries slots o role → IsRole entries (changed step stan slots) o role
+  other-role : (o : Instruction) (role : Role) → IsRole entries slots o role → IsRole entries (slots_at_stage step stan slots) o role
   other-role o (Transaction stage) h = record {
     base = h.base;
     money = h.money;
@@ -120,19 +120,19 @@ module _ (id : ℕ) (slots : List Slot) (sent : List Instruction) (given : List 
   }
   other-role o (Reversal n) h = reversal-changed step stan slots n o w.numbered keeps h
 
-  slot-stays : (n : ℕ) (s : Slot) → slot_at slots n ≡ Some s → (b : Bool) → (s.order.key.stan == stan) ≡ b → IsSlot id entries (changed step stan slots) (cond b (stepped step s) s)
+  slot-stays : (n : ℕ) (s : Slot) → slot_at slots n ≡ Some s → (b : Bool) → (s.order.key.stan == stan) ≡ b → IsSlot id entries (slots_at_stage step stan slots) (cond b (slot_at_stage step s) s)
   slot-stays n s here true e =
       let old = w.slots_hold n s here in
       let at : n ≡ stan = sym (found slots 1 n s w.numbered here).0 ∙ same_number s.order.key.stan stan e in
       record { own = old.own; role = stepped-role s (ap (slot_at slots) (sym at) ∙ here) s.role refl old.role }
   slot-stays n s here false e = let old = w.slots_hold n s here in record { own = old.own; role = other-role s.order s.role old.role }
 
-  pub slots-changed : (n : ℕ) (t : Slot) → slot_at (changed step stan slots) n ≡ Some t → IsSlot id entries (changed step stan slots) t
+  pub slots-changed : (n : ℕ) (t : Slot) → slot_at (slots_at_stage step stan slots) n ≡ Some t → IsSlot id entries (slots_at_stage step stan slots) t
   slots-changed n t there =
       let back = changed-back step stan slots n t there in
-      subst (IsSlot id entries (changed step stan slots)) back.2 (slot-stays n back.0 back.1 (back.0.order.key.stan == stan) refl)
+      subst (IsSlot id entries (slots_at_stage step stan slots)) back.2 (slot-stays n back.0 back.1 (back.0.order.key.stan == stan) refl)
 
-  pub agreed-changed : IsAgreed id (changed step stan slots) sent given entries
+  pub agreed-changed : IsAgreed id (slots_at_stage step stan slots) sent given entries
   agreed-changed = record {
     numbered = numbered-changed step stan slots 1 w.numbered;
     slots_hold = slots-changed;

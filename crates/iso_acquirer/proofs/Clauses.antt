@@ -11,7 +11,7 @@ use Rattle.iso_order.specs.Order.{Instruction}
 use Rattle.iso_issuer.specs.declared.account.Account.{Account}
 use Rattle.iso_issuer.specs.declared.journal.Entry.{Entry}
 use Rattle.iso_issuer.specs.Effect.{effect_of, effect_by, is_key}
-use Rattle.iso_issuer.specs.Journal.{entry_at, left_at, left_by, undone}
+use Rattle.iso_issuer.specs.Journal.{entry_at, left_at, left_by, undone_key}
 use Rattle.iso_issuer.specs.Decision.{journal_of}
 use Rattle.iso_issuer.specs.Laws.{GrantedStands, DeclinedFalls, NoneReverses, NoneIsNone, AllReverseWholly, NeverStands, StandsNoMore, ReversedNeverStands}
 use Rattle.iso_acquirer.specs.declared.event.Given.{Given}
@@ -38,7 +38,7 @@ found_known P (x ∷ xs) k e all h = by_test (same_key x.order.key k) refl h (fo
     by_test false t here rest = rest here
 
 -- what reverses a key is a reversal of it
-reverses : (k : TxKey) (a : Act) → is_key (undone a) k ≡ true → a ≡ Undo k (left_by a)
+reverses : (k : TxKey) (a : Act) → is_key (undone_key a) k ≡ true → a ≡ Undo k (left_by a)
 reverses k (Undo o left) h = ap (λ q. Undo q left) (same_key_is o k h)
 reverses k (Debit m) h = cc
 reverses k (Credit m) h = cc
@@ -88,7 +88,7 @@ module _ (id : ℕ) (slots : List Slot) (sent : List Instruction) (given : List 
 
   -- an entered reversal of a transaction is the one that the acquirer made, and leaves nothing
   pub own_reversal : (n : ℕ) (s : Slot) (stage : Stage) → slot_at slots n ≡ Some s → s.order.key.stan ≡ n → s.role ≡ Transaction stage →
-      (r : Entry) → IsKnown id slots r → is_key (undone r.order.act) s.order.key ≡ true → (left_by r.order.act ≡ 0) × (undo_of stage ≡ Some r.order)
+      (r : Entry) → IsKnown id slots r → is_key (undone_key r.order.act) s.order.key ≡ true → (left_by r.order.act ≡ 0) × (undo_of stage ≡ Some r.order)
   own_reversal n s stage here place role r known is =
       let act = reverses s.order.key r.order.act is in
       let own : r.order.key.acquirer ≡ id = sym (undo-acquirer r.order s.order.key (left_by r.order.act) known.valid act) ∙ (w.slots_hold n s here).own in
@@ -100,7 +100,7 @@ module _ (id : ℕ) (slots : List Slot) (sent : List Instruction) (given : List 
           absurd (debit_not_undo held.money s.order.key (left_by r.order.act) (sym held.debit ∙ ap (λ (o : Instruction). o.act) same ∙ reverses s.order.key r.order.act is))
       by_role x same (Reversal stan) held =
           let act : r.order.act ≡ Undo held.original.order.key 0 = ap (λ (o : Instruction). o.act) (sym same) ∙ held.names in
-          let key : s.order.key ≡ held.original.order.key = some_is s.order.key held.original.order.key (ap undone (sym (reverses s.order.key r.order.act is) ∙ act)) in
+          let key : s.order.key ≡ held.original.order.key = some_is s.order.key held.original.order.key (ap undone_key (sym (reverses s.order.key r.order.act is) ∙ act)) in
           let at : n ≡ stan = sym place ∙ ap (λ (k : TxKey). k.stan) key ∙ (found slots 1 stan held.original w.numbered held.found).0 in
           let one : s ≡ held.original = some_is s held.original (sym here ∙ ap (slot_at slots) at ∙ held.found) in
           let stages : stage ≡ held.stage = same_stage stage held.stage (sym role ∙ ap (λ (x : Slot). x.role) one ∙ held.transaction) in
@@ -109,16 +109,16 @@ module _ (id : ℕ) (slots : List Slot) (sent : List Instruction) (given : List 
   -- no entered order reverses a transaction that has no reversal
   pub none_reverses : (n : ℕ) (s : Slot) (stage : Stage) → slot_at slots n ≡ Some s → s.order.key.stan ≡ n → s.role ≡ Transaction stage → undo_of stage ≡ None → NoneReverses entries s.order.key
   none_reverses n s stage here place role none =
-      all-weaker (IsKnown id slots) (λ r. is_key (undone r.order.act) s.order.key ≡ false) entries (λ r known. by_test r known (is_key (undone r.order.act) s.order.key) refl) w.entries_known
+      all-weaker (IsKnown id slots) (λ r. is_key (undone_key r.order.act) s.order.key ≡ false) entries (λ r known. by_test r known (is_key (undone_key r.order.act) s.order.key) refl) w.entries_known
     where
-      by_test : (r : Entry) → IsKnown id slots r → (b : Bool) → is_key (undone r.order.act) s.order.key ≡ b → b ≡ false
+      by_test : (r : Entry) → IsKnown id slots r → (b : Bool) → is_key (undone_key r.order.act) s.order.key ≡ b → b ≡ false
       by_test r known false t = refl
       by_test r known true t = absurd (none_is_not r.order (sym none ∙ (own_reversal n s stage here place role r known t).1))
 
   -- each entered reversal of a transaction leaves nothing
   pub all_wholly : (n : ℕ) (s : Slot) (stage : Stage) → slot_at slots n ≡ Some s → s.order.key.stan ≡ n → s.role ≡ Transaction stage → AllReverseWholly entries s.order.key
   all_wholly n s stage here place role =
-      all-weaker (IsKnown id slots) (λ r. is_key (undone r.order.act) s.order.key ≡ true → left_by r.order.act ≡ 0) entries
+      all-weaker (IsKnown id slots) (λ r. is_key (undone_key r.order.act) s.order.key ≡ true → left_by r.order.act ≡ 0) entries
       (λ r known t. (own_reversal n s stage here place role r known t).0) w.entries_known
 
   module _ (none_is_none : NoneIsNone) where

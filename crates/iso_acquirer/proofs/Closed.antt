@@ -15,8 +15,8 @@ use Rattle.iso_acquirer.specs.declared.slot.Role.TheVariants.{Transaction, Rever
 use Rattle.iso_acquirer.specs.declared.slot.Stage.{Stage}
 use Rattle.iso_acquirer.specs.declared.slot.Stage.TheVariants.{Asked, Undoing, Granted, Denied, Undone}
 use Rattle.iso_acquirer.specs.declared.state.State.{State}
-use Rattle.iso_acquirer.specs.Slots.{AreNumbered, slot_at, state_by, state_in, state_of, on_stage, stepped, changed, reversal_for, stage_after, stage_undone, answered, answered_in, answered_at, reversal_of, reversing, timed_out, timed_out_at, timed_out_in, timed_out_by}
-use Rattle.iso_acquirer.specs.World.{World, IsMade, IsRan, IsStep, refused_in}
+use Rattle.iso_acquirer.specs.Slots.{AreNumbered, slot_at, state_by, state_in, state_of, on_stage, slot_at_stage, slots_at_stage, reversal_for, stage_after, stage_undone, slots_after_answer, slots_after_answer_in, slots_after_answer_at, reversal_of, reversing, timeout, timeout_at, timeout_in, timeout_by}
+use Rattle.iso_acquirer.specs.World.{World, IsMade, IsRan, IsStep, refusal_count}
 use Rattle.iso_acquirer.specs.Agreed.{IsSound}
 use Rattle.iso_acquirer.specs.Agreement.{is_closed, StaysClosed}
 use Rattle.iso_acquirer.proofs.Keys.{same_number, some_is}
@@ -41,7 +41,7 @@ stays-pushed slots t stan state told closed = by_slot (slot_at slots stan) refl 
     by_slot (Some s) e told = ap (option_and_then (λ (s : Slot). state_in s.role)) (slot-more slots t stan s e) ∙ told
 
 stays-changed : (step : Stage → Stage) (m : ℕ) (slots : List Slot) → AreNumbered 1 slots →
-    ((s : Slot) (stage : Stage) → slot_at slots m ≡ Some s → s.role ≡ Transaction stage → is_closed (state_by stage) ≡ true → state_by (step stage) ≡ state_by stage) → StaysIn slots (changed step m slots)
+    ((s : Slot) (stage : Stage) → slot_at slots m ≡ Some s → s.role ≡ Transaction stage → is_closed (state_by stage) ≡ true → state_by (step stage) ≡ state_by stage) → StaysIn slots (slots_at_stage step m slots)
 stays-changed step m slots numbered keeps stan state told closed = by_slot (slot_at slots stan) refl told
   where
     by_role : (s : Slot) → slot_at slots m ≡ Some s → (role : Role) → s.role ≡ role → state_in role ≡ Some state → state_in (on_stage step role) ≡ Some state
@@ -50,13 +50,13 @@ stays-changed step m slots numbered keeps stan state told closed = by_slot (slot
         ap Some (keeps s stage here role final) ∙ told
     by_role s here (Reversal k) role told = cc
 
-    by_test : (s : Slot) → slot_at slots stan ≡ Some s → (b : Bool) → (s.order.key.stan == m) ≡ b → state_in s.role ≡ Some state → state_in (cond b (stepped step s) s).role ≡ Some state
+    by_test : (s : Slot) → slot_at slots stan ≡ Some s → (b : Bool) → (s.order.key.stan == m) ≡ b → state_in s.role ≡ Some state → state_in (cond b (slot_at_stage step s) s).role ≡ Some state
     by_test s here true e told =
         let at : stan ≡ m = sym (found slots 1 stan s numbered here).0 ∙ same_number s.order.key.stan m e in
         by_role s (ap (slot_at slots) (sym at) ∙ here) s.role refl told
     by_test s here false e told = told
 
-    by_slot : (f : Option Slot) → slot_at slots stan ≡ f → option_and_then (λ s. state_in s.role) f ≡ Some state → state_of (changed step m slots) stan ≡ Some state
+    by_slot : (f : Option Slot) → slot_at slots stan ≡ f → option_and_then (λ s. state_in s.role) f ≡ Some state → state_of (slots_at_stage step m slots) stan ≡ Some state
     by_slot None e told = cc
     by_slot (Some s) e told = ap (option_and_then (λ (s : Slot). state_in s.role)) (changed-found step m slots stan s e) ∙ by_test s e (s.order.key.stan == m) refl told
 
@@ -75,24 +75,24 @@ undone-stays code Granted h = refl
 undone-stays code (Denied c) h = refl
 undone-stays code (Undone u) h = refl
 
-stays-answered : (slots : List Slot) (key : TxKey) (code : ℕ) → AreNumbered 1 slots → StaysIn slots (answered slots key code)
+stays-answered : (slots : List Slot) (key : TxKey) (code : ℕ) → AreNumbered 1 slots → StaysIn slots (slots_after_answer slots key code)
 stays-answered slots key code numbered = by_slot (slot_at slots key.stan)
   where
-    by_role : (role : Role) → StaysIn slots (answered_in slots key.stan code role)
+    by_role : (role : Role) → StaysIn slots (slots_after_answer_in slots key.stan code role)
     by_role (Transaction stage) = stays-changed (stage_after code) key.stan slots numbered (λ s from here is closed. after-stays code from closed)
     by_role (Reversal k) = stays-changed (stage_undone code) k slots numbered (λ s from here is closed. undone-stays code from closed)
 
-    by_test : (s : Slot) (b : Bool) → StaysIn slots (cond b (answered_in slots key.stan code s.role) slots)
+    by_test : (s : Slot) (b : Bool) → StaysIn slots (cond b (slots_after_answer_in slots key.stan code s.role) slots)
     by_test s true = by_role s.role
     by_test s false = stays-same slots
 
-    by_slot : (f : Option Slot) → StaysIn slots (answered_at slots key code f)
+    by_slot : (f : Option Slot) → StaysIn slots (slots_after_answer_at slots key code f)
     by_slot None = stays-same slots
     by_slot (Some s) = by_test s (same_key s.order.key key)
 
 module _ (slots : List Slot) (numbered : AreNumbered 1 slots) where
   -- what is asked isn't closed
-  open-stays : (new : Stage) (s : Slot) (n : ℕ) → slot_at slots s.order.key.stan ≡ Some s → s.role ≡ Transaction (Asked n) → StaysIn slots (changed (λ _. new) s.order.key.stan slots)
+  open-stays : (new : Stage) (s : Slot) (n : ℕ) → slot_at slots s.order.key.stan ≡ Some s → s.role ≡ Transaction (Asked n) → StaysIn slots (slots_at_stage (λ _. new) s.order.key.stan slots)
   open-stays new s n here role =
       stays-changed (λ _. new) s.order.key.stan slots numbered
       (λ x stage there is closed.
@@ -102,16 +102,16 @@ module _ (slots : List Slot) (numbered : AreNumbered 1 slots) where
       never_true : false ≡ true → ⊥
       never_true h = cc
 
-  asked-stays : (s : Slot) (stage : Stage) → slot_at slots s.order.key.stan ≡ Some s → s.role ≡ Transaction stage → (r : Instruction × List Slot) → timed_out_by slots s.order stage ≡ Ok r → StaysIn slots r.1
+  asked-stays : (s : Slot) (stage : Stage) → slot_at slots s.order.key.stan ≡ Some s → s.role ≡ Transaction stage → (r : Instruction × List Slot) → timeout_by slots s.order stage ≡ Ok r → StaysIn slots r.1
   asked-stays s (Asked n) here role r e = by_tests (n == 1) (nat_lt (length slots) 999999) e
     where
       by_tests : (b t : Bool) →
-          ◌≡◌ {A = Result (Instruction × List Slot) AcqFault} (cond b (Ok (s.order, changed (λ _. Asked 2) s.order.key.stan slots))
+          ◌≡◌ {A = Result (Instruction × List Slot) AcqFault} (cond b (Ok (s.order, slots_at_stage (λ _. Asked 2) s.order.key.stan slots))
           (cond t (Ok (reversal_of slots s.order, reversing slots s.order.key.stan (reversal_of slots s.order))) (Err NoMoreTrace))) (Ok r) → StaysIn slots r.1
-      by_tests true t h = subst (λ (r : Instruction × List Slot). StaysIn slots r.1) (ok_is (s.order, changed (λ _. Asked 2) s.order.key.stan slots) r h) (open-stays (Asked 2) s n here role)
+      by_tests true t h = subst (λ (r : Instruction × List Slot). StaysIn slots r.1) (ok_is (s.order, slots_at_stage (λ _. Asked 2) s.order.key.stan slots) r h) (open-stays (Asked 2) s n here role)
       by_tests false true h =
           subst (λ (r : Instruction × List Slot). StaysIn slots r.1) (ok_is (reversal_of slots s.order, reversing slots s.order.key.stan (reversal_of slots s.order)) r h)
-          (λ stan state told closed. stays-pushed (changed (λ _. Undoing (reversal_of slots s.order)) s.order.key.stan slots) (reversal_for s.order.key.stan (reversal_of slots s.order)) stan state
+          (λ stan state told closed. stays-pushed (slots_at_stage (λ _. Undoing (reversal_of slots s.order)) s.order.key.stan slots) (reversal_for s.order.key.stan (reversal_of slots s.order)) stan state
           (open-stays (Undoing (reversal_of slots s.order)) s n here role stan state told closed) closed)
       by_tests false false h = absurd (err_not NoMoreTrace r h)
   asked-stays s (Undoing u) here role r e = subst (λ (r : Instruction × List Slot). StaysIn slots r.1) (ok_is (u, slots) r e) (stays-same slots)
@@ -119,14 +119,14 @@ module _ (slots : List Slot) (numbered : AreNumbered 1 slots) where
   asked-stays s (Denied c) here role r e = absurd (err_not Closed r e)
   asked-stays s (Undone u) here role r e = absurd (err_not Closed r e)
 
-  stays-asked : (stan : ℕ) (r : Instruction × List Slot) → timed_out slots stan ≡ Ok r → StaysIn slots r.1
+  stays-asked : (stan : ℕ) (r : Instruction × List Slot) → timeout slots stan ≡ Ok r → StaysIn slots r.1
   stays-asked stan r e = by_slot (slot_at slots stan) refl e
     where
-      by_role : (s : Slot) (role : Role) → slot_at slots stan ≡ Some s → s.role ≡ role → timed_out_in slots s.order role ≡ Ok r → StaysIn slots r.1
+      by_role : (s : Slot) (role : Role) → slot_at slots stan ≡ Some s → s.role ≡ role → timeout_in slots s.order role ≡ Ok r → StaysIn slots r.1
       by_role s (Transaction stage) here role h = asked-stays s stage (ap (slot_at slots) (found slots 1 stan s numbered here).0 ∙ here) role r h
       by_role s (Reversal k) here role h = absurd (err_not NoSuch r h)
 
-      by_slot : (f : Option Slot) → slot_at slots stan ≡ f → timed_out_at slots f ≡ Ok r → StaysIn slots r.1
+      by_slot : (f : Option Slot) → slot_at slots stan ≡ f → timeout_at slots f ≡ Ok r → StaysIn slots r.1
       by_slot None here h = absurd (err_not NoSuch r h)
       by_slot (Some s) here h = by_role s s.role here refl h
 
@@ -146,8 +146,8 @@ stays old new event (Ok u) sound made refused = stays-made old new event sound m
 stays old new event (Err e) sound made refused = subst (λ (w : World). StaysClosed old w) (sym refused) (stays-same old.acquirer.slots)
 
 -- a run goes on by one event
-pub ran-push : (old mid new : World) (es : List Event) (n : ℕ) (e : Event) (f : Option StepFault) → IsRan old es n mid → IsStep mid e new f → IsRan old (es ++ e ∷ []) (n + refused_in f) new
+pub ran-push : (old mid new : World) (es : List Event) (n : ℕ) (e : Event) (f : Option StepFault) → IsRan old es n mid → IsStep mid e new f → IsRan old (es ++ e ∷ []) (n + refusal_count f) new
 ran-push old mid new [] n e f ran step =
     (new, f, 0, subst (λ (w : World). IsStep w e new f) ran.1 step, (refl, refl), omega (arith, ran.0))
 ran-push old mid new (x ∷ xs) n e f (w, g, m, first, ran, count) step =
-    (w, g, m + refused_in f, first, ran-push w mid new xs m e f ran step, omega (arith, count))
+    (w, g, m + refusal_count f, first, ran-push w mid new xs m e f ran step, omega (arith, count))

@@ -8,7 +8,7 @@ use Rattle.iso_order.specs.Order.{Instruction, is_valid}
 use Rattle.iso_issuer.specs.declared.journal.Entry.{Entry}
 use Rattle.iso_issuer.specs.Journal.{entry_at, is_entered, HasDistinctKeys}
 use Rattle.iso_issuer.specs.Decision.{new_entry, reply}
-use Rattle.iso_issuer.specs.Books.{Books, journal, entering}
+use Rattle.iso_issuer.specs.Books.{Books, journal, books_with}
 use Rattle.iso_issuer.specs.Laws.{JournalsGrow, KnownChangesNothing, NewComesLast, RepliesAreKept, ReversedStays}
 use Rattle.iso_acquirer.specs.declared.event.Given.{Given}
 use Rattle.iso_acquirer.specs.declared.slot.Slot.{Slot}
@@ -70,23 +70,23 @@ agreed-more stay id slots sent given entries e w known = record {
 
 module _ (stay : ReversedStays) (grow : JournalsGrow) (known_stays : KnownChangesNothing) (new_last : NewComesLast)
     (id : ℕ) (slots : List Slot) (sent : List Instruction) (given : List Given) (b : Books) (o : Instruction) (w : IsAgreed id slots sent given (journal b)) (distinct : HasDistinctKeys b.orders) where
-  on-known : is_entered b.orders o.key ≡ true → journal (entering b o) ≡ journal b
+  on-known : is_entered b.orders o.key ≡ true → journal (books_with b o) ≡ journal b
   on-known e = ap journal (known_stays b o distinct e)
 
-  on-new : is_entered b.orders o.key ≡ false → journal (entering b o) ≡ journal b ++ new_entry b.accounts (journal b) o ∷ []
+  on-new : is_entered b.orders o.key ≡ false → journal (books_with b o) ≡ journal b ++ new_entry b.accounts (journal b) o ∷ []
   on-new e = ap journal (new_last b o distinct e) ∙ grow b.accounts b.orders o
 
   -- an order enters that is new or was there, one of the acquirer's own or one of others
-  pub agreed-entering : is_valid o ≡ true → (o.key.acquirer ≡ id → order_at slots o.key.stan ≡ Some o) → IsAgreed id slots sent given (journal (entering b o))
+  pub agreed-entering : is_valid o ≡ true → (o.key.acquirer ≡ id → order_at slots o.key.stan ≡ Some o) → IsAgreed id slots sent given (journal (books_with b o))
   agreed-entering valid own = go (is_entered b.orders o.key) refl
     where
-      go : (t : Bool) → is_entered b.orders o.key ≡ t → IsAgreed id slots sent given (journal (entering b o))
+      go : (t : Bool) → is_entered b.orders o.key ≡ t → IsAgreed id slots sent given (journal (books_with b o))
       go true e = subst (IsAgreed id slots sent given) (sym (on-known e)) w
       go false e = subst (IsAgreed id slots sent given) (sym (on-new e))
           (agreed-more stay id slots sent given (journal b) (new_entry b.accounts (journal b) o) w (record { valid = valid; own = own }))
 
   -- the reply to one of the acquirer's orders is the answer that is kept of it
-  reply-kept : RepliesAreKept → order_at slots o.key.stan ≡ Some o → answer_at (journal (entering b o)) o.key ≡ Some (reply b.accounts (journal b) o)
+  reply-kept : RepliesAreKept → order_at slots o.key.stan ≡ Some o → answer_at (journal (books_with b o)) o.key ≡ Some (reply b.accounts (journal b) o)
   reply-kept kept made = ap (option_map (λ e. e.answer)) (kept b o distinct own-entry)
     where
       own-entry : (e : Entry) → entry_at (journal b) o.key ≡ Some e → e.order ≡ o
@@ -97,7 +97,7 @@ module _ (stay : ReversedStays) (grow : JournalsGrow) (known_stays : KnownChange
 
   -- one of the acquirer's orders is delivered, and its answer given
   pub agreed-delivered : RepliesAreKept → is_valid o ≡ true → order_at slots o.key.stan ≡ Some o →
-      IsAgreed id slots sent (given ++ record { key = o.key; answer = reply b.accounts (journal b) o } ∷ []) (journal (entering b o))
+      IsAgreed id slots sent (given ++ record { key = o.key; answer = reply b.accounts (journal b) o } ∷ []) (journal (books_with b o))
   agreed-delivered kept valid made =
       let after = agreed-entering valid (λ _. made) in
       record {
@@ -105,5 +105,5 @@ module _ (stay : ReversedStays) (grow : JournalsGrow) (known_stays : KnownChange
         slots_hold = after.slots_hold;
         entries_known = after.entries_known;
         sent_known = after.sent_known;
-        given_kept = all-push (λ (g : Given). answer_at (journal (entering b o)) g.key ≡ Some g.answer) given (record { key = o.key; answer = reply b.accounts (journal b) o }) after.given_kept (reply-kept kept made);
+        given_kept = all-push (λ (g : Given). answer_at (journal (books_with b o)) g.key ≡ Some g.answer) given (record { key = o.key; answer = reply b.accounts (journal b) o }) after.given_kept (reply-kept kept made);
       }

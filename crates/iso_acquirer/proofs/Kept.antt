@@ -9,14 +9,14 @@ use Rattle.iso_acquirer.specs.declared.slot.Role.{Role}
 use Rattle.iso_acquirer.specs.declared.slot.Role.TheVariants.{Transaction, Reversal}
 use Rattle.iso_acquirer.specs.declared.slot.Stage.{Stage}
 use Rattle.iso_acquirer.specs.declared.slot.Stage.TheVariants.{Asked, Undoing, Granted, Denied, Undone}
-use Rattle.iso_acquirer.specs.Slots.{AreNumbered, slot_at, may_reverse, to_reverse, waiting, on_stage, changed, transaction_of, reversal_for, begun, reversing, stage_after, stage_undone, IsRequest, IsKept}
+use Rattle.iso_acquirer.specs.Slots.{AreNumbered, slot_at, may_reverse, to_reverse, waiting, on_stage, slots_at_stage, transaction_of, reversal_for, slots_with, reversing, stage_after, stage_undone, IsRequest, IsKept}
 use Rattle.iso_acquirer.proofs.Lists.{all-push}
 use Rattle.iso_acquirer.proofs.Numbered.{summed, numbered-changed, numbered-push, length-changed, all-changed, all-found}
 
 abbrev AreRequests : List Slot → Type 0
 AreRequests slots = AllByRecursion (λ s. IsRequest s.role s.order) slots
 
-requests-changed : (step : Stage → Stage) (m : ℕ) (slots : List Slot) → AreRequests slots → AreRequests (changed step m slots)
+requests-changed : (step : Stage → Stage) (m : ℕ) (slots : List Slot) → AreRequests slots → AreRequests (slots_at_stage step m slots)
 requests-changed step m slots all = all-changed (λ s. IsRequest s.role s.order) step m slots (λ s is. by_role s.role s.order is) all
   where
     by_role : (r : Role) (o : Instruction) → IsRequest r o → IsRequest (on_stage step r) o
@@ -33,7 +33,7 @@ request-found slots m s all there one = by_role s.role (all-found (λ s. IsReque
 
 -- a transaction is begun
 pub kept-begun : (id : ℕ) (slots : List Slot) (w len cap len_after cap_after : ℕ) (o : Instruction) → IsKept id slots w len cap →
-    o.key.stan ≡ length slots + 1 → o.key.base ≡ 200 → length slots < 999999 → len_after + (w + 1) ≤ cap_after → IsKept id (begun slots o) (w + 1) len_after cap_after
+    o.key.stan ≡ length slots + 1 → o.key.base ≡ 200 → length slots < 999999 → len_after + (w + 1) ≤ cap_after → IsKept id (slots_with slots o) (w + 1) len_after cap_after
 kept-begun id slots w len cap len_after cap_after o kept next base few room = record {
   id_fits = kept.id_fits;
   numbered = numbered-push slots (transaction_of o) 1 kept.numbered (omega (arith, next));
@@ -45,14 +45,14 @@ kept-begun id slots w len cap len_after cap_after o kept next base few room = re
 
 -- one change changes how many reversals may still be made
 open-sum : (slots : List Slot) (m : ℕ) (s : Slot) (step : Stage → Stage) → AreNumbered 1 slots → slot_at slots m ≡ Some s →
-    waiting (changed step m slots) + to_reverse s.role ≡ waiting slots + to_reverse (on_stage step s.role)
+    waiting (slots_at_stage step m slots) + to_reverse s.role ≡ waiting slots + to_reverse (on_stage step s.role)
 open-sum slots m s step h there = summed (λ (s : Slot). to_reverse s.role) step slots 1 m s h there
 
 -- a transaction comes to a stage
 pub kept-brought : (id : ℕ) (slots : List Slot) (w len cap len_after cap_after m before after : ℕ) (s : Slot) (from stage : Stage) → IsKept id slots w len cap →
     slot_at slots m ≡ Some s → s.role ≡ Transaction from → before ≡ to_reverse s.role → after ≡ may_reverse stage → after ≤ before → before ≤ w →
     len_after ≡ len → cap_after ≡ cap →
-    IsKept id (changed (λ _. stage) m slots) (w - before + after) len_after cap_after
+    IsKept id (slots_at_stage (λ _. stage) m slots) (w - before + after) len_after cap_after
 kept-brought id slots w len cap len_after cap_after m before after s from stage kept there role was is less enough same_len same_cap = record {
   id_fits = kept.id_fits;
   numbered = numbered-changed (λ _. stage) m slots 1 kept.numbered;
@@ -77,7 +77,7 @@ pub kept-reversing : (id : ℕ) (slots : List Slot) (w len cap len_after cap_aft
     slot_at slots m ≡ Some s → to_reverse s.role ≡ 1 → u.key.stan ≡ length slots + 1 → length slots < 999999 →
     len_after ≡ len + 1 → cap_after ≡ cap → IsKept id (reversing slots m u) (w - 1) len_after cap_after
 kept-reversing id slots w len cap len_after cap_after m s u kept there one next few same_len same_cap =
-    let after = changed (λ _. Undoing u) m slots in
+    let after = slots_at_stage (λ _. Undoing u) m slots in
     let length_after : length after ≡ length slots = length-changed (λ _. Undoing u) m slots in
     let enough : 1 ≤ w = open-counted id slots w len cap m 1 s kept there (sym one) in
     record {

@@ -8,7 +8,7 @@ use Rattle.iso_order.specs.declared.act.Act.TheVariants.{Debit, Undo}
 use Rattle.iso_order.specs.declared.act.Money.{Money}
 use Rattle.iso_order.specs.AccountNumber.{is_pan}
 use Rattle.iso_order.specs.Key.{class_of, is_valid_key}
-use Rattle.iso_order.specs.Order.{Instruction, is_account, is_currency, is_moved, is_payment, is_valid, is_valid_act}
+use Rattle.iso_order.specs.Order.{Instruction, is_account, is_currency, has_amount, is_payment, is_valid, is_valid_act}
 use Rattle.iso_acquirer.specs.Slots.{IsFair}
 use Rattle.iso_acquirer.proofs.Keys.{both, both_true, number_self}
 
@@ -37,8 +37,8 @@ at_most a b h = grind (arith, nat_tests)
 debit-valid : (key : TxKey) (m : Money) → is_valid_key key ≡ true → key.base ≡ 200 → IsFair m.amount m.currency key.sent → is_pan m.pan ≡ true → is_valid (record { key = key; act = Debit m }) ≡ true
 unfolding is_valid
 debit-valid key m valid base fair pan =
-    both_true (is_valid_key key) (is_payment key && is_moved m) valid
-    (both_true (is_payment key) (is_moved m) (payment_of key base)
+    both_true (is_valid_key key) (is_payment key && has_amount m) valid
+    (both_true (is_payment key) (has_amount m) (payment_of key base)
     (both_true (is_account m && nat_le 1 m.amount) (nat_le m.amount 999999999999)
     (both_true (is_account m) (nat_le 1 m.amount) (both_true (is_pan m.pan) (is_currency m.currency) pan fair.currency_fits) (at_most 1 m.amount fair.least))
     (at_most m.amount 999999999999 fair.most)))

@@ -6,7 +6,7 @@ use Rattle.std.proofs.lemmas.List.Sums.{sum_by-cons}
 use Rattle.iso_acquirer.specs.declared.slot.Slot.{Slot}
 use Rattle.iso_acquirer.specs.declared.slot.Role.TheVariants.{Reversal}
 use Rattle.iso_acquirer.specs.declared.slot.Stage.{Stage}
-use Rattle.iso_acquirer.specs.Slots.{AreNumbered, slot_at, changed, stepped}
+use Rattle.iso_acquirer.specs.Slots.{AreNumbered, slot_at, slots_at_stage, slot_at_stage}
 use Rattle.iso_acquirer.proofs.Keys.{same_number, number_self, other_number, some_is}
 
 -- below the first number there is nothing
@@ -34,53 +34,53 @@ above (s ∷ ss) n m h more =
     ap (λ b. cond b (Some s) (slot_at ss m)) apart ∙ above ss (n + 1) m h.1 (omega arith)
 
 -- a change of what isn't there
-pub unchanged : (step : Stage → Stage) (slots : List Slot) (m : ℕ) → slot_at slots m ≡ None → changed step m slots ≡ slots
+pub unchanged : (step : Stage → Stage) (slots : List Slot) (m : ℕ) → slot_at slots m ≡ None → slots_at_stage step m slots ≡ slots
 unchanged step [] m h = refl
 unchanged step (s ∷ ss) m h = by_test (s.order.key.stan == m) h (unchanged step ss m)
   where
-    by_test : (b : Bool) → cond b (Some s) (slot_at ss m) ≡ None → (slot_at ss m ≡ None → changed step m ss ≡ ss) → cond b (stepped step s) s ∷ changed step m ss ≡ s ∷ ss
+    by_test : (b : Bool) → cond b (Some s) (slot_at ss m) ≡ None → (slot_at ss m ≡ None → slots_at_stage step m ss ≡ ss) → cond b (slot_at_stage step s) s ∷ slots_at_stage step m ss ≡ s ∷ ss
     by_test true e rest = cc
     by_test false e rest = ap (λ xs. s ∷ xs) (rest e)
 
 -- to write at the place of a trace number is to change what is kept there
-pub written : (step : Stage → Stage) (slots : List Slot) (n i m : ℕ) (s x : Slot) → AreNumbered n slots → m ≡ n + i → slot_at slots m ≡ Some s → stepped step s ≡ x →
-    slice_set slots i x ≡ changed step m slots
+pub written : (step : Stage → Stage) (slots : List Slot) (n i m : ℕ) (s x : Slot) → AreNumbered n slots → m ≡ n + i → slot_at slots m ≡ Some s → slot_at_stage step s ≡ x →
+    slice_set slots i x ≡ slots_at_stage step m slots
 written step [] n i m s x h is there new = cc
 written step (y ∷ ys) n zero m s x h is there new =
     let here : (y.order.key.stan == m) ≡ true = number_self y.order.key.stan m (omega (arith, h.0)) in
     let same : y ≡ s = some_is y s (sym (ap (λ b. cond b (Some y) (slot_at ys m)) here) ∙ there) in
-    let rest : changed step m ys ≡ ys = unchanged step ys m (below ys (n + 1) m h.1 (omega arith)) in
-    let first : cond (y.order.key.stan == m) (stepped step y) y ≡ x = ap (λ b. cond b (stepped step y) y) here ∙ ap (stepped step) same ∙ new in
-    sym (ap (λ z. z ∷ changed step m ys) first ∙ ap (λ zs. x ∷ zs) rest)
+    let rest : slots_at_stage step m ys ≡ ys = unchanged step ys m (below ys (n + 1) m h.1 (omega arith)) in
+    let first : cond (y.order.key.stan == m) (slot_at_stage step y) y ≡ x = ap (λ b. cond b (slot_at_stage step y) y) here ∙ ap (slot_at_stage step) same ∙ new in
+    sym (ap (λ z. z ∷ slots_at_stage step m ys) first ∙ ap (λ zs. x ∷ zs) rest)
 written step (y ∷ ys) n (suc i) m s x h is there new =
     let apart : (y.order.key.stan == m) ≡ false = other_number y.order.key.stan m (λ e. omega (arith, h.0, e)) in
     let found : slot_at ys m ≡ Some s = sym (ap (λ b. cond b (Some y) (slot_at ys m)) apart) ∙ there in
-    let first : cond (y.order.key.stan == m) (stepped step y) y ≡ y = ap (λ b. cond b (stepped step y) y) apart in
-    ap (λ zs. y ∷ zs) (written step ys (n + 1) i m s x h.1 (omega arith) found new) ∙ sym (ap (λ z. z ∷ changed step m ys) first)
+    let first : cond (y.order.key.stan == m) (slot_at_stage step y) y ≡ y = ap (λ b. cond b (slot_at_stage step y) y) apart in
+    ap (λ zs. y ∷ zs) (written step ys (n + 1) i m s x h.1 (omega arith) found new) ∙ sym (ap (λ z. z ∷ slots_at_stage step m ys) first)
 
 -- one change changes a sum by one element
 pub summed : (g : Slot → ℕ) (step : Stage → Stage) (slots : List Slot) (n m : ℕ) (s : Slot) → AreNumbered n slots → slot_at slots m ≡ Some s →
-    sum_by g (changed step m slots) + g s ≡ sum_by g slots + g (stepped step s)
+    sum_by g (slots_at_stage step m slots) + g s ≡ sum_by g slots + g (slot_at_stage step s)
 summed g step [] n m s h there = cc
 summed g step (y ∷ ys) n m s h there = by_test (y.order.key.stan == m) refl there (summed g step ys (n + 1) m s h.1)
   where
     by_test : (b : Bool) → (y.order.key.stan == m) ≡ b → cond b (Some y) (slot_at ys m) ≡ Some s →
-        (slot_at ys m ≡ Some s → sum_by g (changed step m ys) + g s ≡ sum_by g ys + g (stepped step s)) →
-        sum_by g (cond b (stepped step y) y ∷ changed step m ys) + g s ≡ sum_by g (y ∷ ys) + g (stepped step s)
+        (slot_at ys m ≡ Some s → sum_by g (slots_at_stage step m ys) + g s ≡ sum_by g ys + g (slot_at_stage step s)) →
+        sum_by g (cond b (slot_at_stage step y) y ∷ slots_at_stage step m ys) + g s ≡ sum_by g (y ∷ ys) + g (slot_at_stage step s)
     by_test true e found rest =
         let same : y ≡ s = some_is y s found in
         let at : y.order.key.stan ≡ m = same_number y.order.key.stan m e in
-        let others : changed step m ys ≡ ys = unchanged step ys m (below ys (n + 1) m h.1 (omega (arith, h.0))) in
-        rw (others, same) (omega (arith, sum_by-cons g (stepped step s) ys, sum_by-cons g s ys))
+        let others : slots_at_stage step m ys ≡ ys = unchanged step ys m (below ys (n + 1) m h.1 (omega (arith, h.0))) in
+        rw (others, same) (omega (arith, sum_by-cons g (slot_at_stage step s) ys, sum_by-cons g s ys))
     by_test false e found rest =
-        omega (arith, rest found, sum_by-cons g y (changed step m ys), sum_by-cons g y ys)
+        omega (arith, rest found, sum_by-cons g y (slots_at_stage step m ys), sum_by-cons g y ys)
 
 -- changes keep the numbers
-pub numbered-changed : (step : Stage → Stage) (m : ℕ) (slots : List Slot) (n : ℕ) → AreNumbered n slots → AreNumbered n (changed step m slots)
+pub numbered-changed : (step : Stage → Stage) (m : ℕ) (slots : List Slot) (n : ℕ) → AreNumbered n slots → AreNumbered n (slots_at_stage step m slots)
 numbered-changed step m [] n h = tt
 numbered-changed step m (s ∷ ss) n h = (by_test (s.order.key.stan == m), numbered-changed step m ss (n + 1) h.1)
   where
-    by_test : (b : Bool) → (cond b (stepped step s) s).order.key.stan ≡ n
+    by_test : (b : Bool) → (cond b (slot_at_stage step s) s).order.key.stan ≡ n
     by_test true = h.0
     by_test false = h.0
 
@@ -89,7 +89,7 @@ pub numbered-push : (slots : List Slot) (s : Slot) (n : ℕ) → AreNumbered n s
 numbered-push [] s n h is = (omega (arith, is), tt)
 numbered-push (x ∷ xs) s n h is = (h.0, numbered-push xs s (n + 1) h.1 (omega (arith, is)))
 
-pub length-changed : (step : Stage → Stage) (m : ℕ) (slots : List Slot) → length (changed step m slots) ≡ length slots
+pub length-changed : (step : Stage → Stage) (m : ℕ) (slots : List Slot) → length (slots_at_stage step m slots) ≡ length slots
 length-changed step m [] = refl
 length-changed step m (s ∷ ss) = ap suc (length-changed step m ss)
 
@@ -111,19 +111,19 @@ found_own slots m h None is = tt
 found_own slots m h (Some s) is = ap (slot_at slots) (found slots 1 m s h (sym is)).0 ∙ sym is
 
 -- a reversal doesn't change
-pub reversal-stays : (step : Stage → Stage) (slots : List Slot) (n m k : ℕ) (s : Slot) → AreNumbered n slots → slot_at slots m ≡ Some s → s.role ≡ Reversal k → changed step m slots ≡ slots
+pub reversal-stays : (step : Stage → Stage) (slots : List Slot) (n m k : ℕ) (s : Slot) → AreNumbered n slots → slot_at slots m ≡ Some s → s.role ≡ Reversal k → slots_at_stage step m slots ≡ slots
 reversal-stays step [] n m k s h there is = cc
 reversal-stays step (y ∷ ys) n m k s h there is = by_test (y.order.key.stan == m) refl there (λ later. reversal-stays step ys (n + 1) m k s h.1 later is)
   where
-    plain : (x : Slot) → x.role ≡ Reversal k → stepped step x ≡ x
+    plain : (x : Slot) → x.role ≡ Reversal k → slot_at_stage step x ≡ x
     plain x r = rw r refl
 
-    by_test : (b : Bool) → (y.order.key.stan == m) ≡ b → cond b (Some y) (slot_at ys m) ≡ Some s → (slot_at ys m ≡ Some s → changed step m ys ≡ ys) →
-        cond b (stepped step y) y ∷ changed step m ys ≡ y ∷ ys
+    by_test : (b : Bool) → (y.order.key.stan == m) ≡ b → cond b (Some y) (slot_at ys m) ≡ Some s → (slot_at ys m ≡ Some s → slots_at_stage step m ys ≡ ys) →
+        cond b (slot_at_stage step y) y ∷ slots_at_stage step m ys ≡ y ∷ ys
     by_test true e here rest =
         let at : y.order.key.stan ≡ m = same_number y.order.key.stan m e in
         let role : y.role ≡ Reversal k = ap (λ (x : Slot). x.role) (some_is y s here) ∙ is in
-        ap (λ x. x ∷ changed step m ys) (plain y role) ∙ ap (λ xs. y ∷ xs) (unchanged step ys m (below ys (n + 1) m h.1 (omega (arith, h.0, at))))
+        ap (λ x. x ∷ slots_at_stage step m ys) (plain y role) ∙ ap (λ xs. y ∷ xs) (unchanged step ys m (below ys (n + 1) m h.1 (omega (arith, h.0, at))))
     by_test false e here rest = ap (λ xs. y ∷ xs) (rest here)
 
 -- ---- what holds of all
@@ -136,10 +136,10 @@ all-found P (y ∷ ys) m s all there = by_test (y.order.key.stan == m) there (al
     by_test true here rest = subst P (some_is y s here) all.0
     by_test false here rest = rest here
 
-pub all-changed : (P : Slot → Type 0) (step : Stage → Stage) (m : ℕ) (slots : List Slot) → ((s : Slot) → P s → P (stepped step s)) → AllByRecursion P slots → AllByRecursion P (changed step m slots)
+pub all-changed : (P : Slot → Type 0) (step : Stage → Stage) (m : ℕ) (slots : List Slot) → ((s : Slot) → P s → P (slot_at_stage step s)) → AllByRecursion P slots → AllByRecursion P (slots_at_stage step m slots)
 all-changed P step m [] each all = tt
 all-changed P step m (s ∷ ss) each all = (by_test (s.order.key.stan == m), all-changed P step m ss each all.1)
   where
-    by_test : (b : Bool) → P (cond b (stepped step s) s)
+    by_test : (b : Bool) → P (cond b (slot_at_stage step s) s)
     by_test true = each s all.0
     by_test false = all.0

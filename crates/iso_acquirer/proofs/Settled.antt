@@ -26,7 +26,7 @@ use Rattle.iso_acquirer.specs.declared.slot.Stage.TheVariants.{Asked, Undoing, G
 use Rattle.iso_acquirer.specs.Slots.{slot_at, state_by, state_in}
 use Rattle.iso_acquirer.specs.World.{World}
 use Rattle.iso_acquirer.specs.Agreed.{IsTransaction, IsRole, IsKnown, IsSound}
-use Rattle.iso_acquirer.specs.Agreement.{is_closed, is_approved, debited, approved, IsSettled, BooksAgree}
+use Rattle.iso_acquirer.specs.Agreement.{is_closed, is_approved, debit_amount, approved_total, IsSettled, BooksAgree}
 use Rattle.iso_acquirer.proofs.Keys.{some_is}
 use Rattle.iso_acquirer.proofs.Lists.{all-weaker}
 use Rattle.iso_acquirer.proofs.Numbered.{found}
@@ -36,7 +36,7 @@ use Rattle.iso_acquirer.proofs.Sums.{sum-all, sum-none, all-map, all-slots, all-
 
 -- what the acquirer's books count of an order
 abbrev approved_in : AccountNumber → Slot → ℕ
-approved_in pan s = cond (is_approved (state_in s.role)) (debited pan s.order.act) 0
+approved_in pan s = cond (is_approved (state_in s.role)) (debit_amount pan s.order.act) 0
 
 zero_cond : (b : Bool) (n : ℕ) → n ≡ 0 → cond b n 0 ≡ 0
 zero_cond true n h = h
@@ -100,7 +100,7 @@ module _ (of_orders : EntriesAreOfOrders) (entered_has : EnteredHasEntry) (weigh
   of_fallen e s m here same act base at stands_never off =
       of_debit e s m 0 here same act base
       (nothing (journal w.issuer) e (never_now w.issuer.accounts w.issuer.orders s.order.key e stands_never sound.distinct (ap (λ (o : Instruction). entry_at (journal w.issuer) o.key) same ∙ at)))
-      (zero_cond (same_pan m.pan pan) 0 refl ∙ sym (ap (λ b. cond b (debited pan s.order.act) 0) off))
+      (zero_cond (same_pan m.pan pan) 0 refl ∙ sym (ap (λ b. cond b (debit_amount pan s.order.act) 0) off))
 
   of_stage : (e : Entry) (s : Slot) → entry_at (journal w.issuer) e.order.key ≡ Some e → slot_at w.acquirer.slots e.order.key.stan ≡ Some s → s.order ≡ e.order →
       (stage : Stage) → s.role ≡ Transaction stage → is_closed (state_by stage) ≡ true → IsTransaction (journal w.issuer) w.acquirer.slots s.order stage → Counts w pan e
@@ -114,7 +114,7 @@ module _ (of_orders : EntriesAreOfOrders) (entered_has : EnteredHasEntry) (weigh
       let two : class_of g.entry.order.key ≡ 2 = class_two g.entry.order.key (ap (λ (o : Instruction). o.key.base) g.same ∙ t.base) in
       of_debit e s t.money t.money.amount here same t.debit t.base
       (ap (weight (journal w.issuer)) (sym entry) ∙ weighs (journal w.issuer) g.entry two (debit_effect g.entry.order t.money act_is) g.granted g.free ∙ ap amount_of (debit_taken g.entry.order t.money act_is two))
-      (sym (ap (λ r. cond (is_approved (state_in r)) (debited pan s.order.act) 0) role ∙ ap (debited pan) t.debit))
+      (sym (ap (λ r. cond (is_approved (state_in r)) (debit_amount pan s.order.act) 0) role ∙ ap (debit_amount pan) t.debit))
   of_stage e s at here same (Denied c) role closed t =
       of_fallen e s t.money here same t.debit t.base at
       (declined-never w.acquirer.id w.acquirer.slots w.sent w.given w.issuer.accounts w.issuer.orders sound.agreed no_more falls e.order.key.stan s c here role) (ap (λ r. is_approved (state_in r)) role)
@@ -130,7 +130,7 @@ module _ (of_orders : EntriesAreOfOrders) (entered_has : EnteredHasEntry) (weigh
   of_role e s at here same (Reversal k) role t =
       let none : effect_of e.order ≡ None = ap (effect_by e.order.key) (ap (λ (o : Instruction). o.act) (sym same) ∙ t.names) in
       record {
-        taken = ap (λ f. share Taken pan f (weight (journal w.issuer) e)) none ∙ sym (ap (slot_sum (approved_in pan)) here ∙ ap (λ r. cond (is_approved (state_in r)) (debited pan s.order.act) 0) role);
+        taken = ap (λ f. share Taken pan f (weight (journal w.issuer) e)) none ∙ sym (ap (slot_sum (approved_in pan)) here ∙ ap (λ r. cond (is_approved (state_in r)) (debit_amount pan s.order.act) 0) role);
         given = ap (λ f. share Given pan f (weight (journal w.issuer) e)) none;
         held = ap (λ f. share Held pan f (weight (journal w.issuer) e)) none;
       }
@@ -143,17 +143,17 @@ module _ (of_orders : EntriesAreOfOrders) (entered_has : EnteredHasEntry) (weigh
 
   -- what is approved is entered
   entered_amount : (s : Slot) → (role : Role) → s.role ≡ role → IsRole (journal w.issuer) w.acquirer.slots s.order role →
-      cond (is_entered (map (λ e. e.order) (journal w.issuer)) s.order.key) (cond (is_approved (state_in role)) (debited pan s.order.act) 0) 0 ≡ cond (is_approved (state_in role)) (debited pan s.order.act) 0
+      cond (is_entered (map (λ e. e.order) (journal w.issuer)) s.order.key) (cond (is_approved (state_in role)) (debit_amount pan s.order.act) 0) 0 ≡ cond (is_approved (state_in role)) (debit_amount pan s.order.act) 0
   entered_amount s (Transaction Granted) role t =
       let kept = kept_entry (journal w.issuer) s.order.key 0 t.held in
-      ap (λ b. cond b (debited pan s.order.act) 0) (ap (λ os. is_entered os s.order.key) orders_are ∙ entered_has w.issuer.accounts w.issuer.orders s.order.key ∙ ap is_some kept.1)
+      ap (λ b. cond b (debit_amount pan s.order.act) 0) (ap (λ os. is_entered os s.order.key) orders_are ∙ entered_has w.issuer.accounts w.issuer.orders s.order.key ∙ ap is_some kept.1)
   entered_amount s (Transaction (Asked n)) role t = zero_cond _ 0 refl
   entered_amount s (Transaction (Undoing u)) role t = zero_cond _ 0 refl
   entered_amount s (Transaction (Denied c)) role t = zero_cond _ 0 refl
   entered_amount s (Transaction (Undone u)) role t = zero_cond _ 0 refl
   entered_amount s (Reversal k) role t = zero_cond _ 0 refl
 
-  taken_is : total Taken pan (journal w.issuer) ≡ approved pan w.acquirer.slots
+  taken_is : total Taken pan (journal w.issuer) ≡ approved_total pan w.acquirer.slots
   taken_is =
       sum-all (λ (e : Entry). share Taken pan (effect_of e.order) (weight (journal w.issuer) e)) (λ (e : Entry). at_slot w.acquirer.slots (approved_in pan) e.order.key.stan) (journal w.issuer)
       (all-weaker (Counts w pan) (λ (e : Entry). share Taken pan (effect_of e.order) (weight (journal w.issuer) e) ≡ at_slot w.acquirer.slots (approved_in pan) e.order.key.stan) (journal w.issuer) (λ e c. c.taken) each_counts)
@@ -176,12 +176,12 @@ pub books-agree : EntriesAreOfOrders → EnteredHasEntry → GrantedWeighsAll �
 books-agree of_orders entered_has weighs falls nothing none_is_none no_more never w sound settled a = (
   on_ledger,
   ap (λ z. z -ℤ pos (total Held a.pan (journal w.issuer))) on_ledger
-      ∙ ap (λ n. a.opening -ℤ pos (approved a.pan w.acquirer.slots) -ℤ pos n) (held_is of_orders entered_has weighs falls nothing none_is_none no_more never w sound settled a.pan)
-      ∙ plain_too a.opening (approved a.pan w.acquirer.slots),
+      ∙ ap (λ n. a.opening -ℤ pos (approved_total a.pan w.acquirer.slots) -ℤ pos n) (held_is of_orders entered_has weighs falls nothing none_is_none no_more never w sound settled a.pan)
+      ∙ plain_too a.opening (approved_total a.pan w.acquirer.slots),
 )
   where
-    on_ledger : ledger (journal w.issuer) a ≡ a.opening -ℤ pos (approved a.pan w.acquirer.slots)
+    on_ledger : ledger (journal w.issuer) a ≡ a.opening -ℤ pos (approved_total a.pan w.acquirer.slots)
     on_ledger =
         ap (λ n. a.opening +ℤ pos n -ℤ pos (total Taken a.pan (journal w.issuer))) (given_is of_orders entered_has weighs falls nothing none_is_none no_more never w sound settled a.pan)
         ∙ ap (λ n. a.opening +ℤ pos 0 -ℤ pos n) (taken_is of_orders entered_has weighs falls nothing none_is_none no_more never w sound settled a.pan)
-        ∙ plain a.opening (approved a.pan w.acquirer.slots)
+        ∙ plain a.opening (approved_total a.pan w.acquirer.slots)

@@ -11,7 +11,7 @@ use Rattle.iso_acquirer.specs.declared.slot.Role.{Role}
 use Rattle.iso_acquirer.specs.declared.slot.Role.TheVariants.{Transaction, Reversal}
 use Rattle.iso_acquirer.specs.declared.slot.Stage.{Stage}
 use Rattle.iso_acquirer.specs.declared.slot.Stage.TheVariants.{Asked, Undoing, Granted, Denied, Undone}
-use Rattle.iso_acquirer.specs.Slots.{slot_at, undo_of, changed, timed_out, timed_out_at, timed_out_in, timed_out_by, reversal_of, reversing}
+use Rattle.iso_acquirer.specs.Slots.{slot_at, undo_of, slots_at_stage, timeout, timeout_at, timeout_in, timeout_by, reversal_of, reversing}
 use Rattle.iso_acquirer.specs.Agreed.{IsAgreed}
 use Rattle.iso_acquirer.proofs.Keys.{some_is, none_is_not}
 use Rattle.iso_acquirer.proofs.Numbered.{found}
@@ -30,21 +30,21 @@ module _ (id : ℕ) (slots : List Slot) (sent : List Instruction) (given : List 
   abbrev IsSent : Instruction × List Slot → Type 0
   IsSent r = IsAgreed id r.1 (sent ++ r.0 ∷ []) given entries
 
-  again : (s : Slot) (n : ℕ) → slot_at slots s.order.key.stan ≡ Some s → s.role ≡ Transaction (Asked n) → IsSent (s.order, changed (λ _. Asked 2) s.order.key.stan slots)
+  again : (s : Slot) (n : ℕ) → slot_at slots s.order.key.stan ≡ Some s → s.role ≡ Transaction (Asked n) → IsSent (s.order, slots_at_stage (λ _. Asked 2) s.order.key.stan slots)
   again s n here role =
-      agreed-sent id (changed (λ _. Asked 2) s.order.key.stan slots) sent given entries s.order
+      agreed-sent id (slots_at_stage (λ _. Asked 2) s.order.key.stan slots) sent given entries s.order
       (agreed-changed id slots sent given entries (λ _. Asked 2) s.order.key.stan w
       (λ x stage v there is undo. absurd (none_is_not v (ap undo_of (same_stage (Asked n) stage (sym role ∙ ap (λ (y : Slot). y.role) (some_is s x (sym here ∙ there)) ∙ is)) ∙ undo)))
       (λ x stage there is h. tt) (λ x stage v there is undo. absurd (none_is_not v undo)))
       (order-changed (λ _. Asked 2) s.order.key.stan slots s.order.key.stan ∙ ap (option_map (λ (x : Slot). x.order)) here)
 
-  asked-by : (s : Slot) (stage : Stage) → slot_at slots s.order.key.stan ≡ Some s → s.role ≡ Transaction stage → (r : Instruction × List Slot) → timed_out_by slots s.order stage ≡ Ok r → IsSent r
+  asked-by : (s : Slot) (stage : Stage) → slot_at slots s.order.key.stan ≡ Some s → s.role ≡ Transaction stage → (r : Instruction × List Slot) → timeout_by slots s.order stage ≡ Ok r → IsSent r
   asked-by s (Asked n) here role r e = by_tests (n == 1) (nat_lt (length slots) 999999) e
     where
       by_tests : (b t : Bool) →
-          ◌≡◌ {A = Result (Instruction × List Slot) AcqFault} (cond b (Ok (s.order, changed (λ _. Asked 2) s.order.key.stan slots))
+          ◌≡◌ {A = Result (Instruction × List Slot) AcqFault} (cond b (Ok (s.order, slots_at_stage (λ _. Asked 2) s.order.key.stan slots))
           (cond t (Ok (reversal_of slots s.order, reversing slots s.order.key.stan (reversal_of slots s.order))) (Err NoMoreTrace))) (Ok r) → IsSent r
-      by_tests true t h = subst IsSent (ok_is (s.order, changed (λ _. Asked 2) s.order.key.stan slots) r h) (again s n here role)
+      by_tests true t h = subst IsSent (ok_is (s.order, slots_at_stage (λ _. Asked 2) s.order.key.stan slots) r h) (again s n here role)
       by_tests false true h =
           subst IsSent (ok_is (reversal_of slots s.order, reversing slots s.order.key.stan (reversal_of slots s.order)) r h)
           (agreed-reversing id slots sent given entries s.order.key.stan n s (reversal_of slots s.order) w here role refl (w.slots_hold s.order.key.stan s here).own refl)
@@ -55,13 +55,13 @@ module _ (id : ℕ) (slots : List Slot) (sent : List Instruction) (given : List 
   asked-by s (Denied c) here role r e = absurd (err_not Closed r e)
   asked-by s (Undone u) here role r e = absurd (err_not Closed r e)
 
-  asked-in : (stan : ℕ) (s : Slot) (role : Role) → slot_at slots stan ≡ Some s → s.role ≡ role → (r : Instruction × List Slot) → timed_out_in slots s.order role ≡ Ok r → IsSent r
+  asked-in : (stan : ℕ) (s : Slot) (role : Role) → slot_at slots stan ≡ Some s → s.role ≡ role → (r : Instruction × List Slot) → timeout_in slots s.order role ≡ Ok r → IsSent r
   asked-in stan s (Transaction stage) here role r e = asked-by s stage (ap (slot_at slots) (found slots 1 stan s w.numbered here).0 ∙ here) role r e
   asked-in stan s (Reversal k) here role r e = absurd (err_not NoSuch r e)
 
-  pub agreed-asked : (stan : ℕ) (r : Instruction × List Slot) → timed_out slots stan ≡ Ok r → IsAgreed id r.1 (sent ++ r.0 ∷ []) given entries
+  pub agreed-asked : (stan : ℕ) (r : Instruction × List Slot) → timeout slots stan ≡ Ok r → IsAgreed id r.1 (sent ++ r.0 ∷ []) given entries
   agreed-asked stan r e = by_slot (slot_at slots stan) refl e
     where
-      by_slot : (f : Option Slot) → slot_at slots stan ≡ f → timed_out_at slots f ≡ Ok r → IsSent r
+      by_slot : (f : Option Slot) → slot_at slots stan ≡ f → timeout_at slots f ≡ Ok r → IsSent r
       by_slot None here h = absurd (err_not NoSuch r h)
       by_slot (Some s) here h = asked-in stan s s.role here refl r h

@@ -60,12 +60,12 @@ StaysClosed old new =
 -- ---- the books
 
 -- the amount of a debit of the account, else 0
-abbrev pub debited : AccountNumber → Act → ℕ
-debited pan (Debit m) = if same_pan m.pan pan then m.amount else 0
-debited pan (Credit m) = 0
-debited pan (Inquiry m) = 0
-debited pan (Undo original left) = 0
-debited pan (Complete m hold) = 0
+abbrev pub debit_amount : AccountNumber → Act → ℕ
+debit_amount pan (Debit m) = if same_pan m.pan pan then m.amount else 0
+debit_amount pan (Credit m) = 0
+debit_amount pan (Inquiry m) = 0
+debit_amount pan (Undo original left) = 0
+debit_amount pan (Complete m hold) = 0
 
 abbrev pub is_approved : Option State → Bool
 is_approved (Some Approved) = true
@@ -76,8 +76,8 @@ is_approved (Some Reversed) = false
 is_approved None = false
 
 -- the amounts of the approved debits of the account, added up
-abbrev pub approved : AccountNumber → List Slot → ℕ
-approved pan slots = sum_by (λ s. if is_approved (state_in s.role) then debited pan s.order.act else 0) slots
+abbrev pub approved_total : AccountNumber → List Slot → ℕ
+approved_total pan slots = sum_by (λ s. if is_approved (state_in s.role) then debit_amount pan s.order.act else 0) slots
 
 -- all transactions are closed, and no order of others is entered
 pub record IsSettled (w : World) : Type 0 where
@@ -88,5 +88,5 @@ pub record IsSettled (w : World) : Type 0 where
 abbrev pub BooksAgree : World → Type 0
 BooksAgree w =
     IsSettled w → (a : Account) →
-    (ledger (journal w.issuer) a ≡ a.opening -ℤ pos (approved a.pan w.acquirer.slots))
-    × (available (journal w.issuer) a ≡ a.opening -ℤ pos (approved a.pan w.acquirer.slots))
+    (ledger (journal w.issuer) a ≡ a.opening -ℤ pos (approved_total a.pan w.acquirer.slots))
+    × (available (journal w.issuer) a ≡ a.opening -ℤ pos (approved_total a.pan w.acquirer.slots))

@@ -83,12 +83,12 @@ abbrev pub on_stage : (Stage → Stage) → Role → Role
 on_stage step (Transaction stage) = Transaction (step stage)
 on_stage step (Reversal stan) = Reversal stan
 
-abbrev pub stepped : (Stage → Stage) → Slot → Slot
-stepped step s = record { order = s.order; role = on_stage step s.role }
+abbrev pub slot_at_stage : (Stage → Stage) → Slot → Slot
+slot_at_stage step s = record { order = s.order; role = on_stage step s.role }
 
 -- the transaction of that trace number comes to another stage
-abbrev pub changed : (Stage → Stage) → ℕ → List Slot → List Slot
-changed step stan slots = map (λ s. if s.order.key.stan == stan then stepped step s else s) slots
+abbrev pub slots_at_stage : (Stage → Stage) → ℕ → List Slot → List Slot
+slots_at_stage step stan slots = map (λ s. if s.order.key.stan == stan then slot_at_stage step s else s) slots
 
 -- an order that is made and sent for the first time
 abbrev pub transaction_of : Instruction → Slot
@@ -108,8 +108,8 @@ debit_of p pan amount currency sent = record {
 }
 
 -- a transaction is begun
-abbrev pub begun : List Slot → Instruction → List Slot
-begun slots o = slots ++ transaction_of o ∷ []
+abbrev pub slots_with : List Slot → Instruction → List Slot
+slots_with slots o = slots ++ transaction_of o ∷ []
 
 -- what the caller gives: 1 to twelve nines (element 4), three letters or digits (element 49), ten digits (element 7)
 pub record IsFair (amount : ℕ) (currency : List ℕ) (sent : ℕ) : Type 0 where
@@ -129,29 +129,29 @@ reversal_of slots o = record {
 
 -- the transaction is reversed, by an order that is made
 abbrev pub reversing : List Slot → ℕ → Instruction → List Slot
-reversing slots stan undo = changed (λ _. Undoing undo) stan slots ++ reversal_for stan undo ∷ []
+reversing slots stan undo = slots_at_stage (λ _. Undoing undo) stan slots ++ reversal_for stan undo ∷ []
 
 -- the order that is sent, and what is kept: the order again, after the second time its reversal, and then that again
-abbrev pub timed_out_by : List Slot → Instruction → Stage → Result (Instruction × List Slot) AcqFault
-timed_out_by slots o (Asked n) =
-    if n == 1 then Ok (o, changed (λ _. Asked 2) o.key.stan slots)
+abbrev pub timeout_by : List Slot → Instruction → Stage → Result (Instruction × List Slot) AcqFault
+timeout_by slots o (Asked n) =
+    if n == 1 then Ok (o, slots_at_stage (λ _. Asked 2) o.key.stan slots)
     else if nat_lt (length slots) 999999 then Ok (reversal_of slots o, reversing slots o.key.stan (reversal_of slots o))
     else Err NoMoreTrace
-timed_out_by slots o (Undoing u) = Ok (u, slots)
-timed_out_by slots o Granted = Err Closed
-timed_out_by slots o (Denied c) = Err Closed
-timed_out_by slots o (Undone u) = Err Closed
+timeout_by slots o (Undoing u) = Ok (u, slots)
+timeout_by slots o Granted = Err Closed
+timeout_by slots o (Denied c) = Err Closed
+timeout_by slots o (Undone u) = Err Closed
 
-abbrev pub timed_out_in : List Slot → Instruction → Role → Result (Instruction × List Slot) AcqFault
-timed_out_in slots o (Transaction stage) = timed_out_by slots o stage
-timed_out_in slots o (Reversal stan) = Err NoSuch
+abbrev pub timeout_in : List Slot → Instruction → Role → Result (Instruction × List Slot) AcqFault
+timeout_in slots o (Transaction stage) = timeout_by slots o stage
+timeout_in slots o (Reversal stan) = Err NoSuch
 
-abbrev pub timed_out_at : List Slot → Option Slot → Result (Instruction × List Slot) AcqFault
-timed_out_at slots None = Err NoSuch
-timed_out_at slots (Some s) = timed_out_in slots s.order s.role
+abbrev pub timeout_at : List Slot → Option Slot → Result (Instruction × List Slot) AcqFault
+timeout_at slots None = Err NoSuch
+timeout_at slots (Some s) = timeout_in slots s.order s.role
 
-abbrev pub timed_out : List Slot → ℕ → Result (Instruction × List Slot) AcqFault
-timed_out slots stan = timed_out_at slots (slot_at slots stan)
+abbrev pub timeout : List Slot → ℕ → Result (Instruction × List Slot) AcqFault
+timeout slots stan = timeout_at slots (slot_at slots stan)
 
 -- ---- answer
 
@@ -172,17 +172,17 @@ stage_undone code (Denied c) = Denied c
 stage_undone code (Undone u) = Undone u
 
 -- an answer comes: to a transaction's order, or to the reversal of a transaction
-abbrev pub answered_in : List Slot → ℕ → ℕ → Role → List Slot
-answered_in slots stan code (Transaction stage) = changed (stage_after code) stan slots
-answered_in slots stan code (Reversal original) = changed (stage_undone code) original slots
+abbrev pub slots_after_answer_in : List Slot → ℕ → ℕ → Role → List Slot
+slots_after_answer_in slots stan code (Transaction stage) = slots_at_stage (stage_after code) stan slots
+slots_after_answer_in slots stan code (Reversal original) = slots_at_stage (stage_undone code) original slots
 
-abbrev pub answered_at : List Slot → TxKey → ℕ → Option Slot → List Slot
-answered_at slots key code None = slots
-answered_at slots key code (Some s) = if same_key s.order.key key then answered_in slots key.stan code s.role else slots
+abbrev pub slots_after_answer_at : List Slot → TxKey → ℕ → Option Slot → List Slot
+slots_after_answer_at slots key code None = slots
+slots_after_answer_at slots key code (Some s) = if same_key s.order.key key then slots_after_answer_in slots key.stan code s.role else slots
 
 -- an answer to any other key changes nothing
-abbrev pub answered : List Slot → TxKey → ℕ → List Slot
-answered slots key code = answered_at slots key code (slot_at slots key.stan)
+abbrev pub slots_after_answer : List Slot → TxKey → ℕ → List Slot
+slots_after_answer slots key code = slots_after_answer_at slots key code (slot_at slots key.stan)
 
 -- ---- how it is kept
 

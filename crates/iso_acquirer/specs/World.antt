@@ -4,7 +4,7 @@ use Rattle.iso_order.specs.Order.{Instruction}
 use Rattle.iso_issuer.specs.declared.fault.Refused.{Refused}
 use Rattle.iso_issuer.specs.declared.fault.Refused.TheVariants.{Full, Memory}
 use Rattle.iso_issuer.specs.Decision.{reply}
-use Rattle.iso_issuer.specs.Books.{Books, journal, entering, IsFullFor, IsRoomFor}
+use Rattle.iso_issuer.specs.Books.{Books, journal, books_with, IsFullFor, IsRoomFor}
 use Rattle.iso_acquirer.specs.declared.event.Event.{Event}
 use Rattle.iso_acquirer.specs.declared.event.Event.TheVariants.{Begin, Timeout, Deliver, Answer, Other}
 use Rattle.iso_acquirer.specs.declared.event.Given.{Given}
@@ -12,7 +12,7 @@ use Rattle.iso_acquirer.specs.declared.fault.AcqFault.TheVariants as acquirer
 use Rattle.iso_acquirer.specs.declared.fault.StepFault.{StepFault}
 use Rattle.iso_acquirer.specs.declared.fault.StepFault.TheVariants as fault
 use Rattle.iso_acquirer.specs.declared.slot.Slot.{Slot}
-use Rattle.iso_acquirer.specs.Slots.{Party, begun, debit_of, IsFair, timed_out, answered}
+use Rattle.iso_acquirer.specs.Slots.{Party, slots_with, debit_of, IsFair, timeout, slots_after_answer}
 
 -- the acquirer and the issuer, with all that was ever sent and given
 pub record World : Type 0 where
@@ -24,8 +24,8 @@ pub record World : Type 0 where
 -- ---- what an event makes of them
 
 -- the acquirer sends an order, and keeps these slots
-abbrev pub sending : World → Instruction × List Slot → World
-sending w (o, slots) = record {
+abbrev pub with_sent : World → Instruction × List Slot → World
+with_sent w (o, slots) = record {
   acquirer = record { id = w.acquirer.id; slots = slots };
   sent = w.sent ++ o ∷ [];
   given = w.given;
@@ -33,58 +33,58 @@ sending w (o, slots) = record {
 }
 
 -- the issuer gets a sent order, and its answer is given
-abbrev pub delivered : World → Instruction → World
-delivered w o = record {
+abbrev pub with_delivery : World → Instruction → World
+with_delivery w o = record {
   acquirer = w.acquirer;
   sent = w.sent;
   given = w.given ++ record { key = o.key; answer = reply w.issuer.accounts (journal w.issuer) o } ∷ [];
-  issuer = entering w.issuer o;
+  issuer = books_with w.issuer o;
 }
 
 -- the acquirer gets a given answer
-abbrev pub told : World → Given → World
-told w g = record {
-  acquirer = record { id = w.acquirer.id; slots = answered w.acquirer.slots g.key g.answer.code };
+abbrev pub with_answer : World → Given → World
+with_answer w g = record {
+  acquirer = record { id = w.acquirer.id; slots = slots_after_answer w.acquirer.slots g.key g.answer.code };
   sent = w.sent;
   given = w.given;
   issuer = w.issuer;
 }
 
 -- the issuer gets an order of another acquirer
-abbrev pub other : World → Instruction → World
-other w o = record { acquirer = w.acquirer; sent = w.sent; given = w.given; issuer = entering w.issuer o }
+abbrev pub with_other_order : World → Instruction → World
+with_other_order w o = record { acquirer = w.acquirer; sent = w.sent; given = w.given; issuer = books_with w.issuer o }
 
 -- ---- an event that is made
 
 -- the acquirer had a trace number left, and sends a new debit
 pub record IsBegun (old : World) (o : Instruction) (new : World) : Type 0 where
   pub left : length old.acquirer.slots < 999999
-  pub after : new ≡ sending old (o, begun old.acquirer.slots o)
+  pub after : new ≡ with_sent old (o, slots_with old.acquirer.slots o)
 
 -- the acquirer sends what it sends where no answer came in time
 pub record IsAsked (old : World) (stan : ℕ) (new : World) : Type 0 where
   pub asked : Instruction × List Slot
-  pub found : timed_out old.acquirer.slots stan ≡ Ok asked
-  pub after : new ≡ sending old asked
+  pub found : timeout old.acquirer.slots stan ≡ Ok asked
+  pub after : new ≡ with_sent old asked
 
 -- an order was sent at that place, and the issuer has its key or room for it
 pub record IsDelivered (old : World) (place : ℕ) (new : World) : Type 0 where
   pub order : Instruction
   pub found : slice_get old.sent place ≡ Some order
   pub room : IsFullFor old.issuer order.key → ⊥
-  pub after : new ≡ delivered old order
+  pub after : new ≡ with_delivery old order
 
 -- an answer was given at that place
 pub record IsTold (old : World) (place : ℕ) (new : World) : Type 0 where
   pub answer : Given
   pub found : slice_get old.given place ≡ Some answer
-  pub after : new ≡ told old answer
+  pub after : new ≡ with_answer old answer
 
 -- the order is of another acquirer, and the issuer has its key or room for it
 pub record IsOther (old : World) (o : Instruction) (new : World) : Type 0 where
   pub others_own : o.key.acquirer ≢ old.acquirer.id
   pub room : IsFullFor old.issuer o.key → ⊥
-  pub after : new ≡ other old o
+  pub after : new ≡ with_other_order old o
 
 abbrev pub IsMade : World → Event → World → Type 0
 IsMade old (Begin pan amount currency sent) new = IsBegun old (debit_of old.acquirer pan amount currency sent) new
@@ -110,7 +110,7 @@ IsNotBegun old (fault.Issuer e) = ⊥
 
 -- the acquirer refuses, or memory ran out
 abbrev pub IsNotAsked : World → ℕ → StepFault → Type 0
-IsNotAsked old stan (fault.Acquirer e) = timed_out old.acquirer.slots stan ≡ Err e
+IsNotAsked old stan (fault.Acquirer e) = timeout old.acquirer.slots stan ≡ Err e
 IsNotAsked old stan fault.Memory = Unit {0}
 IsNotAsked old stan fault.NoSuch = ⊥
 IsNotAsked old stan fault.OwnKey = ⊥
@@ -162,11 +162,11 @@ abbrev pub IsStep : World → Event → World → Option StepFault → Type 0
 IsStep old event new None = IsMade old event new
 IsStep old event new (Some e) = IsNotMade old event e × (new ≡ old)
 
-abbrev pub refused_in : Option StepFault → ℕ
-refused_in None = 0
-refused_in (Some e) = 1
+abbrev pub refusal_count : Option StepFault → ℕ
+refusal_count None = 0
+refusal_count (Some e) = 1
 
 -- the steps in order, and the number of refusals
 abbrev pub IsRan : World → List Event → ℕ → World → Type 0
 IsRan old [] n new = (n ≡ 0) × (new ≡ old)
-IsRan old (e ∷ es) n new = (mid : World) × (f : Option StepFault) × (m : ℕ) × IsStep old e mid f × IsRan mid es m new × (n ≡ refused_in f + m)
+IsRan old (e ∷ es) n new = (mid : World) × (f : Option StepFault) × (m : ℕ) × IsStep old e mid f × IsRan mid es m new × (n ≡ refusal_count f + m)

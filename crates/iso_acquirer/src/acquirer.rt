@@ -6,9 +6,9 @@ ghost use Rattle.iso_order.specs.Key.{is_valid_key, same_key};
 ghost use Rattle.iso_order.specs.declared.act.Act.TheVariants.{Debit};
 ghost use Rattle.iso_acquirer.specs.declared.fault.AcqFault.TheVariants.{NoMoreTrace, Memory};
 ghost use Rattle.iso_acquirer.specs.declared.slot.Role.TheVariants.{Transaction};
-ghost use Rattle.iso_acquirer.specs.Slots.{AreNumbered, slot_at, state_by, state_of, may_reverse, to_reverse, on_stage, changed, begun};
-ghost use Rattle.iso_acquirer.specs.Slots.{debit_of, IsFair, IsRequest, reversal_of, reversing, timed_out, timed_out_by, answered_in};
-ghost use Rattle.iso_acquirer.specs.Slots.{stage_after, stage_undone, answered};
+ghost use Rattle.iso_acquirer.specs.Slots.{AreNumbered, slot_at, state_by, state_of, may_reverse, to_reverse, on_stage, slots_at_stage, slots_with};
+ghost use Rattle.iso_acquirer.specs.Slots.{debit_of, IsFair, IsRequest, reversal_of, reversing, timeout, timeout_by, slots_after_answer_in};
+ghost use Rattle.iso_acquirer.specs.Slots.{stage_after, stage_undone, slots_after_answer};
 
 use crate::fault::AcqFault;
 use crate::slot::{Role, Slot, Stage};
@@ -60,7 +60,7 @@ fn slot_at(slots: &[Slot], stan: u32) -> Option<Slot>
 fn put(slots: &mut [Slot], slot: &Slot, stage: Stage)
     requires numbered { AreNumbered 1 slots.old }
     requires there { slot_at slots.old slot.now.order.key.stan ≡ Some slot.now }
-    ensures { (step : Stage → Stage) → on_stage step slot.now.role ≡ Transaction stage → slots.new ≡ changed step slot.now.order.key.stan slots.old }
+    ensures { (step : Stage → Stage) → on_stage step slot.now.role ≡ Transaction stage → slots.new ≡ slots_at_stage step slot.now.order.key.stan slots.old }
 {
     let place = slot.order.key().stan as usize - 1;
     slots[place] = Slot {
@@ -212,7 +212,7 @@ impl Acquirer {
     ) -> Result<Order, AcqFault>
         requires { IsFair amount currency sent }
         ensures order { IfOk result (λ order. order ≡ debit_of self.old pan amount currency sent) }
-        ensures begun { OnOk result (self.new ≡ record self.old { slots = begun self.old.slots (debit_of self.old pan amount currency sent) }) }
+        ensures begun { OnOk result (self.new ≡ record self.old { slots = slots_with self.old.slots (debit_of self.old pan amount currency sent) }) }
         ensures few { OnOk result (length self.old.slots < 999999) }
 
         // It has used all trace numbers, or memory ran out.
@@ -251,7 +251,7 @@ impl Acquirer {
         requires fewer { may_reverse stage ≤ to_reverse slot.now.role }
         requires transaction { (before : Stage) × (slot.now.role ≡ Transaction before) }
         ensures { (step : Stage → Stage) → on_stage step slot.now.role ≡ Transaction stage →
-            self.new ≡ record self.old { slots = changed step slot.now.order.key.stan self.old.slots } }
+            self.new ≡ record self.old { slots = slots_at_stage step slot.now.order.key.stan self.old.slots } }
     {
         let before = to_reverse(&slot.role);
         let after = may_reverse(&stage);
@@ -287,11 +287,11 @@ impl Acquirer {
     /// The order to send where no answer came in time to the transaction of that trace number: the transaction's own
     /// order a second time, then its reversal, a message 0420, and that same reversal again and again. Takes no memory.
     pub fn timeout(&mut self, stan: u32) -> Result<Order, AcqFault>
-        ensures ok { IfOk result (λ order. timed_out self.old.slots stan ≡ Ok (order, self.new.slots)) }
+        ensures ok { IfOk result (λ order. timeout self.old.slots stan ≡ Ok (order, self.new.slots)) }
         ensures own { self.new.id ≡ self.old.id }
 
         // No such transaction, it is closed, or all trace numbers are used.
-        ensures fault { IfErr result (λ e. timed_out self.old.slots stan ≡ Err e) }
+        ensures fault { IfErr result (λ e. timeout self.old.slots stan ≡ Err e) }
         ensures unchanged { OnErr result (self.new ≡ self.old) }
     {
         let Some(slot) = slot_at(&self.slots, stan) else {
@@ -307,9 +307,9 @@ impl Acquirer {
     fn timed_out(&mut self, slot: &Slot, stage: Stage) -> Result<Order, AcqFault>
         requires there { slot_at self.old.slots slot.now.order.key.stan ≡ Some slot.now }
         requires transaction { slot.now.role ≡ Transaction stage }
-        ensures ok { IfOk result (λ order. timed_out_by self.old.slots slot.now.order stage ≡ Ok (order, self.new.slots)) }
+        ensures ok { IfOk result (λ order. timeout_by self.old.slots slot.now.order stage ≡ Ok (order, self.new.slots)) }
         ensures own { self.new.id ≡ self.old.id }
-        ensures fault { IfErr result (λ e. timed_out_by self.old.slots slot.now.order stage ≡ Err e) }
+        ensures fault { IfErr result (λ e. timeout_by self.old.slots slot.now.order stage ≡ Err e) }
         ensures unchanged { OnErr result (self.new ≡ self.old) }
     {
         match stage {
@@ -330,7 +330,7 @@ impl Acquirer {
     /// 0 approves, 94 and 96 leave it open, and any other code declines; to the reversal of one that is being reversed,
     /// 0 closes it. Any other answer changes nothing. Takes no memory.
     pub fn answer(&mut self, key: TxKey, code: u8)
-        ensures { self.new ≡ record self.old { slots = answered self.old.slots key code } }
+        ensures { self.new ≡ record self.old { slots = slots_after_answer self.old.slots key code } }
     {
         let Some(slot) = slot_at(&self.slots, key.stan) else {
             return;
@@ -342,7 +342,7 @@ impl Acquirer {
 
     fn answer_to(&mut self, slot: &Slot, code: u8)
         requires there { slot_at self.old.slots slot.now.order.key.stan ≡ Some slot.now }
-        ensures { self.new ≡ record self.old { slots = answered_in self.old.slots slot.now.order.key.stan code slot.now.role } }
+        ensures { self.new ≡ record self.old { slots = slots_after_answer_in self.old.slots slot.now.order.key.stan code slot.now.role } }
     {
         match slot.role {
             Role::Transaction(stage) => self.bring(slot, stage_after(stage, code)),
@@ -352,7 +352,7 @@ impl Acquirer {
 
     /// Takes an answer to the reversal of the transaction of that trace number.
     fn undo_answered(&mut self, original: u32, code: u8)
-        ensures { self.new ≡ record self.old { slots = changed (stage_undone code) original self.old.slots } }
+        ensures { self.new ≡ record self.old { slots = slots_at_stage (stage_undone code) original self.old.slots } }
     {
         let Some(slot) = slot_at(&self.slots, original) else {
             return;

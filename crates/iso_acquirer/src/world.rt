@@ -2,9 +2,9 @@
 
 ghost use Rattle.std.specs.Prelude.{◌≡◌, Option, All, length, ◌<◌, [], OnOk, OnErr, IfErr, slice_get};
 ghost use Rattle.iso_acquirer.specs.declared.fault.StepFault;
-ghost use Rattle.iso_acquirer.specs.Slots.{debit_of, IsFair, answered};
+ghost use Rattle.iso_acquirer.specs.Slots.{debit_of, IsFair, slots_after_answer};
 ghost use Rattle.iso_acquirer.specs.World.{World as Both, IsDelivered, IsNotDelivered, IsTold, IsNotTold, IsOther, IsNotOther, IsBegun};
-ghost use Rattle.iso_acquirer.specs.World.{IsNotBegun, IsAsked, IsNotAsked, IsFairEvent, IsMade, IsNotMade, IsStep, IsRan, refused_in};
+ghost use Rattle.iso_acquirer.specs.World.{IsNotBegun, IsAsked, IsNotAsked, IsFairEvent, IsMade, IsNotMade, IsStep, IsRan, refusal_count};
 ghost use Rattle.iso_acquirer.specs.Agreement.{BothAgree, StaysClosed, BooksAgree};
 
 use crate::acquirer::Acquirer;
@@ -53,7 +53,7 @@ fn given_at(given: &[Given], place: usize) -> Option<Given>
 
 /// Hands a given answer to the acquirer.
 fn tell(acquirer: &mut Acquirer, given: &Given)
-    ensures { acquirer.new ≡ record { id = acquirer.old.id; slots = answered acquirer.old.slots given.now.key given.now.answer.code } }
+    ensures { acquirer.new ≡ record { id = acquirer.old.id; slots = slots_after_answer acquirer.old.slots given.now.key given.now.answer.code } }
 {
     acquirer.answer(given.key, given.answer.code);
 }
@@ -256,7 +256,7 @@ impl World {
     /// How often an event is refused: once or not at all.
     fn refusals(&mut self, event: Event) -> u32
         requires { IsFairEvent event }
-        ensures step { (f : Option StepFault) × IsStep self.old event self.new f × (result ≡ refused_in f) }
+        ensures step { (f : Option StepFault) × IsStep self.old event self.new f × (result ≡ refusal_count f) }
         ensures closed { StaysClosed self.old self.new }
     {
         match self.step(event) {

@@ -14,7 +14,8 @@ use Rattle.iso_wire.specs.Elements.{value_in, has, IsAscending}
 use Rattle.iso_wire.specs.Spelling.{Spelling, mti_bytes}
 use Rattle.iso_wire.specs.Contents.{Contents}
 use Rattle.iso_wire.specs.declared.fault.UnpackFault.{UnpackFault}
-use Rattle.iso_wire.specs.Viewing.{Viewed, Views, IsViewed, Wired, front_of}
+use Rattle.iso_wire.specs.Bodies.{front_of}
+use Rattle.iso_wire.specs.Viewing.{Viewed, Views, IsViewed, Wired}
 use Rattle.iso_c.specs.declared.fault.RumpadolFault.{RumpadolFault}
 use Rattle.iso_c.specs.Causes.{no_element}
 use Rattle.iso_c.specs.Parts.{from_number}

@@ -1,4 +1,5 @@
 -- A message that is written from parts and values.
+-- Inner, for bodies and proofs: `IsMessageFault`.
 use Rattle.std.specs.Prelude.{◌≡◌, ◌≢◌, ℕ, nat_le, if◌then◌else◌, List, [], Option, Some, None, Result, Ok, Err}
 use Rattle.iso_table.specs.Layout.{Layout}
 use Rattle.iso_wire.specs.declared.fault.PackFault.{PackFault}
@@ -8,7 +9,7 @@ use Rattle.iso_wire.specs.Spelling.{PlainSpelling}
 use Rattle.iso_c.specs.declared.fault.RumpadolFault.{RumpadolFault}
 use Rattle.iso_c.specs.declared.part.RumpadolPart.{RumpadolPart}
 use Rattle.iso_c.specs.Causes.{no_memory, empty_slot, bad_type, pack_fault}
-use Rattle.iso_c.specs.Parts.{gathered}
+use Rattle.iso_c.specs.Parts.{elements_or_fault}
 
 -- a message that is refused by its table
 abbrev pub pack_refusal : Option PackFault → Option RumpadolFault
@@ -23,7 +24,7 @@ message_by mti (Err f) = Err f
 
 -- a type of four digits, and then the parts in their order
 abbrev pub message_of : ℕ → List RumpadolPart → List ℕ → Result Contents RumpadolFault
-message_of mti parts values = if nat_le mti 9999 then message_by mti (gathered values parts []) else Err bad_type
+message_of mti parts values = if nat_le mti 9999 then message_by mti (elements_or_fault values parts []) else Err bad_type
 
 abbrev pub IsMessageFault : ℕ → List RumpadolPart → List ℕ → RumpadolFault → Type 0
 IsMessageFault mti parts values f = f ≢ no_memory → message_of mti parts values ≡ Err f

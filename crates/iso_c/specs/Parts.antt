@@ -1,4 +1,5 @@
 -- Values that lie in bytes, and parts that tell where.
+-- Inner, for bodies and proofs: `from_number`.
 use Rattle.std.specs.Prelude.{ℕ, ◌+◌, ◌-◌, ◌&&◌, nat_le, nat_lt, Bool, if◌then◌else◌, List, [], ◌∷◌, ◌++◌, length, take, drop, map, Option, Some, None, Result, Ok, Err}
 use Rattle.iso_wire.specs.Elements.{is_number, put}
 use Rattle.iso_c.specs.declared.fault.RumpadolFault.{RumpadolFault}
@@ -52,6 +53,6 @@ unless_refused None r = r
 unless_refused (Some f) r = Err f
 
 -- elements, and then those of the parts, each in place of an earlier one of its number; or the first part's fault
-abbrev pub gathered : List ℕ → List RumpadolPart → List (ℕ × List ℕ) → Result (List (ℕ × List ℕ)) RumpadolFault
-gathered b [] es = Ok es
-gathered b (p ∷ ps) es = unless_refused (part_refusal (length b) p) (gathered b ps (put p.element (bytes_in b p) es))
+abbrev pub elements_or_fault : List ℕ → List RumpadolPart → List (ℕ × List ℕ) → Result (List (ℕ × List ℕ)) RumpadolFault
+elements_or_fault b [] es = Ok es
+elements_or_fault b (p ∷ ps) es = unless_refused (part_refusal (length b) p) (elements_or_fault b ps (put p.element (bytes_in b p) es))

@@ -1,4 +1,5 @@
 -- The body of an element, left where it lies.
+-- Inner, for bodies and proofs: `sizes_of`.
 use Rattle.std.specs.Prelude.{◌≡◌, ℕ, ℤ, pos, negsuc, ◌+◌, ◌≤◌, if◌then◌else◌, List, [], ◌∷◌, length, Option, Some, None, Result, Ok, Err}
 use Rattle.iso_parts.specs.declared.spec.FieldSpec.{FieldSpec}
 use Rattle.iso_table.specs.Layout.{Layout, row_at}
@@ -6,7 +7,8 @@ use Rattle.iso_wire.specs.declared.fault.UnpackFault.{UnpackFault}
 use Rattle.iso_wire.specs.Contents.{Contents}
 use Rattle.iso_wire.specs.Elements.{has, value_in}
 use Rattle.iso_wire.specs.Reading.{message_at}
-use Rattle.iso_wire.specs.Viewing.{Viewed, IsViewed, front_of}
+use Rattle.iso_wire.specs.Bodies.{front_of}
+use Rattle.iso_wire.specs.Viewing.{Viewed, IsViewed}
 use Rattle.iso_c.specs.declared.fault.RumpadolFault.{RumpadolFault}
 use Rattle.iso_c.specs.declared.part.RumpadolPart.{RumpadolPart}
 use Rattle.iso_c.specs.Causes.{empty_slot, no_element, unpack_fault}

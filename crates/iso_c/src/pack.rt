@@ -5,7 +5,7 @@ ghost use Rattle.iso_parts.specs.Mti.{number};
 ghost use Rattle.iso_wire.specs.Elements.{put};
 ghost use Rattle.iso_c.specs.Answers.{Replies};
 ghost use Rattle.iso_c.specs.Causes.{no_memory};
-ghost use Rattle.iso_c.specs.Parts.{bytes_in, gathered, is_within, part_refusal};
+ghost use Rattle.iso_c.specs.Parts.{bytes_in, elements_or_fault, is_within, part_refusal};
 ghost use Rattle.iso_c.specs.Packing.{message_of, IsMessageFault, Packs, IsPackingFault, PacksHeld, IsPackingFaultHeld};
 
 use crate::answering::answer;
@@ -55,9 +55,9 @@ fn put_parts(
     parts: &[RumpadolPart],
     values: &[u8],
 ) -> Result<(), RumpadolFault>
-    ensures ok { OnOk result (gathered values.now parts.now message.old.elements ≡ Ok message.new.elements) }
+    ensures ok { OnOk result (elements_or_fault values.now parts.now message.old.elements ≡ Ok message.new.elements) }
     ensures mti { OnOk result (message.new.mti ≡ message.old.mti) }
-    ensures fault { IfErr result (λ e. e ≢ no_memory → gathered values.now parts.now message.old.elements ≡ Err e) }
+    ensures fault { IfErr result (λ e. e ≢ no_memory → elements_or_fault values.now parts.now message.old.elements ≡ Err e) }
 {
     for part in parts {
         if let Err(fault) = put_part(message, part, values) {

@@ -3,7 +3,7 @@
 ghost use Rattle.std.specs.Prelude.{◌≡◌, ◌+◌, ◌≤◌, ℕ, length, IfOk, IfErr};
 ghost use Rattle.iso_table.specs.Layout.{row_at};
 ghost use Rattle.iso_wire.specs.Elements.{IsAscending};
-ghost use Rattle.iso_wire.specs.Viewing.{front_of};
+ghost use Rattle.iso_wire.specs.Bodies.{front_of};
 ghost use Rattle.iso_c.specs.Causes.{no_element};
 ghost use Rattle.iso_c.specs.Parts.{from_number};
 ghost use Rattle.iso_c.specs.Viewing.{sizes_of, IsBodyAt, IsBodyFault, IsBodyAtHeld, IsBodyFaultHeld, ViewsBody};

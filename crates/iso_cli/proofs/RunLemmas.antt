@@ -12,7 +12,7 @@ use Rattle.iso_issuer.specs.declared.account.Account.{Account}
 use Rattle.iso_issuer.specs.Books.{Books}
 use Rattle.iso_issuer.specs.Document.{ListsAccounts}
 use Rattle.iso_host.specs.Served.{Served}
-use Rattle.iso_cli.specs.Runs.{Runs, RunsOver, opened}
+use Rattle.iso_cli.specs.Runs.{Runs, RunsOver, fresh_books}
 use Rattle.iso_cli.specs.Tables.{IsNamed}
 use Rattle.iso_cli.proofs.InputLemmas.{consumed_all, known_all}
 
@@ -20,7 +20,7 @@ use Rattle.iso_cli.proofs.InputLemmas.{consumed_all, known_all}
 pub runs_over : (file : List ℕ → Option (List ℕ)) (table accounts : List ℕ) (t : Layout) (listed : List Account) (h : Header)
     (unread left held written : Option (List ℕ)) (new : Books) (bodies : List (List ℕ)) (rest : List ℕ) →
     IsNamed file table t → IsHostReady t → IfSome (file accounts) (λ text. ListsAccounts text listed) →
-    Served t h unread left held written (opened listed) new bodies rest → rest ≡ [] → IsAtEnd left →
+    Served t h unread left held written (fresh_books listed) new bodies rest → rest ≡ [] → IsAtEnd left →
     RunsOver file table accounts h unread held written
 runs_over file table accounts t listed h unread left held written new bodies rest named ready lists served none end =
     known_all unread (frames_of h bodies ++ rest)

@@ -1,4 +1,5 @@
 -- What the words of a command line ask.
+-- Inner, for bodies and proofs: `is_codec`, `AsksNoCodec`, `AsksNoRun`.
 use Rattle.std.specs.Prelude.{◌≡◌, ◌⊎◌, ◌==◌, not, IsTrue, Bool, true, false, ℕ, List, [], ◌∷◌, codes}
 use Rattle.iso_wire.specs.declared.header.Header.{Header}
 use Rattle.iso_wire.specs.declared.header.Header.TheVariants.{Binary2, Ascii4, Bcd2}

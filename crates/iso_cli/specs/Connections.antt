@@ -1,4 +1,5 @@
 -- A host on a port: what it serves with, and what its connections leave.
+-- Inner, for bodies and proofs: `IsConnection`.
 use Rattle.std.specs.Prelude.{◌≡◌, ◌≢◌, ◌⊎◌, ◌≤◌, ℕ, List, [], ◌∷◌, ◌++◌, length, flat_map, All, Option, IfSome, unwrap_or, codes, decimal, Result, Ok, Err}
 use Rattle.std.specs.Io.KnownBytes.{Appends}
 use Rattle.iso_table.specs.Layout.{Layout}
@@ -14,7 +15,7 @@ use Rattle.iso_host.specs.Served.{Reports}
 use Rattle.iso_cli.specs.declared.prepare.Serving.{Serving}
 use Rattle.iso_cli.specs.declared.listening.Listening.{Listening}
 use Rattle.iso_cli.specs.Listening.{AsksServe}
-use Rattle.iso_cli.specs.Runs.{opened}
+use Rattle.iso_cli.specs.Runs.{fresh_books}
 use Rattle.iso_cli.specs.Stops.{line_of, stop_of_serving}
 use Rattle.iso_cli.specs.Tables.{IsNamed}
 
@@ -29,7 +30,7 @@ pub record Prepares (words : List (List ℕ)) (file : List ℕ → Option (List 
   pub ready : IsHostReady serving.table
   pub listed : List Account
   pub lists : IfSome (file asked.accounts.now) (λ text. ListsAccounts text listed)
-  pub issuer : serving.issuer ≡ opened listed
+  pub issuer : serving.issuer ≡ fresh_books listed
 
 -- ---- one connection
 

@@ -13,15 +13,15 @@ use Rattle.iso_cli.specs.Asks.{header_name}
 use Rattle.iso_cli.specs.Tables.{IsNamed}
 
 -- these accounts, with an empty journal
-abbrev pub opened : List Account → Books
-opened accounts = record { accounts = accounts; limit = 999999; orders = [] }
+abbrev pub fresh_books : List Account → Books
+fresh_books accounts = record { accounts = accounts; limit = 999999; orders = [] }
 
 -- the input is whole frames, and the bytes are the output for their bodies, under a table that is ready for a host
 pub record Runs (t : Layout) (accounts : List Account) (h : Header) (all b : List ℕ) : Type 0 where
   pub ready : IsHostReady t
   pub bodies : List (List ℕ)
   pub frames : Frames h bodies all
-  pub output : IsOutput t h (opened accounts) bodies b
+  pub output : IsOutput t h (fresh_books accounts) bodies b
 
 -- what was appended is that, for the table and the accounts that are named
 abbrev pub RunsOver : (List ℕ → Option (List ℕ)) → List ℕ → List ℕ → Header → Option (List ℕ) → Option (List ℕ) → Option (List ℕ) → Type 0

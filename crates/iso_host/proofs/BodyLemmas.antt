@@ -1,16 +1,20 @@
 -- The message that a whole body is, what the body spells, and what its pieces tell of it.
 use Rattle.std.proofs.Common.{◌≡◌, ◌≢◌, ℕ, zero, suc, ◌+◌, ◌≤◌, Bool, true, false, cond, eqb, List, [], ◌∷◌, ◌++◌, length, length-append, append-nil, take, Some, None, Result, Ok, Err, refl, sym, ap, ◌∙◌, subst, arith}
 use Rattle.std.proofs.Math.Seq.{take-length}
+use Rattle.std.specs.Prelude.{IfOk, OnErr}
 use Rattle.std.proofs.lemmas.Bool.{eqb-true, eq-eqb}
 use Rattle.iso_wire.specs.declared.fault.UnpackFault.{UnpackFault}
 use Rattle.iso_table.specs.Layout.{Layout, AreGood}
 use Rattle.iso_wire.specs.Contents.{Contents}
+use Rattle.iso_wire.specs.Feeding.{Feeding}
 use Rattle.iso_wire.specs.Reading.{message_at, whole}
 use Rattle.iso_wire.specs.declared.fault.UnpackCause.TheVariants.{Short}
 use Rattle.iso_wire.specs.ReadingLaws.{IsShort, ReadingStays, ReadsSpellings}
 use Rattle.iso_wire.specs.Spelling.{AreBytes, Spelling}
 use Rattle.iso_host.specs.Asking.{whole_by, message_in, BodiesAreSpellings}
-use Rattle.iso_host.specs.Bodies.{IsRest}
+use Rattle.iso_host.specs.Bodies.{IsRest, Tells}
+use Rattle.iso_host.specs.declared.intake.Told.{Told}
+use Rattle.iso_host.specs.declared.intake.Told.TheVariants as told
 
 -- what is read takes the whole body
 takes_all : (size : ℕ) (r : Result (Contents × ℕ) UnpackFault) (m : Contents) → whole_by size r ≡ Some m → r ≡ whole m size
@@ -90,3 +94,9 @@ no_other taken piece rest used true room is short e =
     short refl (omega (arith, e, length-append (taken ++ piece) rest, length-append taken piece, ap length is))
 no_other taken piece rest used false room is short e =
     omega (arith, e, length-append (taken ++ piece) rest, length-append taken piece, is, room)
+
+-- a piece leaves the table as it was
+pub same_table : (E : Type 0) (old new : Feeding) (bytes : List ℕ) (is_last : Bool) (result : Result Told E) → IfOk result (Tells old.table bytes is_last new) → OnErr result (new ≡ old) → new.table ≡ old.table
+same_table E old new bytes is_last (Ok told.Unfinished) tells unchanged = ap (λ (f : Feeding). f.table) tells.1
+same_table E old new bytes is_last (Ok (told.Known message)) tells unchanged = ap (λ (f : Feeding). f.table) tells.2
+same_table E old new bytes is_last (Err e) tells unchanged = ap (λ (f : Feeding). f.table) unchanged

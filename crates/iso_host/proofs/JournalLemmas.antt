@@ -6,7 +6,7 @@ use Rattle.iso_issuer.specs.Books.{Books}
 use Rattle.iso_issuer.specs.Journal.{firsts}
 use Rattle.iso_issuer.specs.Laws.{FirstsGoOn}
 use Rattle.iso_host.specs.Asking.{asked_of, orders_in, orders_of}
-use Rattle.iso_host.specs.Entering.{books_after, entered, with_orders, BodiesGoOn, StaysWithout}
+use Rattle.iso_host.specs.Entering.{books_after, books_after_body, with_orders, BodiesGoOn, StaysWithout}
 
 orders_of_more : (t : Layout) (bodies : List (List ℕ)) (body : List ℕ) → orders_of t (bodies ++ body ∷ []) ≡ orders_of t bodies ++ orders_in (asked_of t body)
 orders_of_more t [] body = append-nil (orders_in (asked_of t body))
@@ -15,7 +15,7 @@ orders_of_more t (x ∷ xs) body =
     ∙ sym (append_assoc (orders_in (asked_of t x)) (orders_of t xs) (orders_in (asked_of t body)))
 
 -- what was kept for the earlier bodies stands for all of them
-pub books_more : FirstsGoOn → (t : Layout) (books : Books) (bodies : List (List ℕ)) (body : List ℕ) → books_after t books (bodies ++ body ∷ []) ≡ entered t (books_after t books bodies) body
+pub books_more : FirstsGoOn → (t : Layout) (books : Books) (bodies : List (List ℕ)) (body : List ℕ) → books_after t books (bodies ++ body ∷ []) ≡ books_after_body t (books_after t books bodies) body
 unfolding books_after
 books_more go_on t books bodies body =
     ap (λ (l : List Instruction). record books { orders = l })

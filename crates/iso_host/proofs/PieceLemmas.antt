@@ -13,7 +13,7 @@ use Rattle.iso_wire.specs.Spelling.{AreBytes}
 use Rattle.iso_host.proofs.Running.{SoFar, BodySoFar}
 use Rattle.iso_host.proofs.WindowLemmas.{passes, took_more}
 use Rattle.iso_host.specs.Asking.{message_in}
-use Rattle.iso_host.specs.Bodies.{IsRest, holding}
+use Rattle.iso_host.specs.Bodies.{IsRest, unpacker_holding}
 use Rattle.iso_host.specs.Counts.{Counts}
 use Rattle.iso_host.specs.Pieces.{EndsInside, Refills, TakesBytes, Draws, EndsReads}
 use Rattle.iso_host.specs.Serving.{Spends}
@@ -144,12 +144,12 @@ pub refill_ends : (b c : Option (List ℕ)) (wanted : ℕ) (window : List ℕ) (
 refill_ends b c wanted window left e kept more none = ([], Consumes-kept b b c [] (Consumes-nil b) kept, λ other. (omega (arith, more), none.0, none.1))
 
 -- the loop goes on
-pub body_more : (t : Layout) (u : Feeding) (a b c : Option (List ℕ)) (bytes : List ℕ) (wanted size : ℕ) → Consumes a b bytes → length bytes + wanted ≡ size → Keeps b c → u ≡ holding t bytes → AreBytes bytes
+pub body_more : (t : Layout) (u : Feeding) (a b c : Option (List ℕ)) (bytes : List ℕ) (wanted size : ℕ) → Consumes a b bytes → length bytes + wanted ≡ size → Keeps b c → u ≡ unpacker_holding t bytes → AreBytes bytes
     → BodySoFar t u a c wanted size
 body_more t u a b c bytes wanted size taken sum kept holds are =
     let held : bytes ≡ u.taken = sym (ap (λ (f : Feeding). f.taken) holds) in
     record {
-      holds = subst (λ (l : List ℕ). u ≡ holding t l) held holds;
+      holds = subst (λ (l : List ℕ). u ≡ unpacker_holding t l) held holds;
       bytes = subst AreBytes held are;
       taken = subst (Consumes a c) held (Consumes-kept a b c bytes taken kept);
       sum = subst (λ (l : List ℕ). length l + wanted ≡ size) held sum;

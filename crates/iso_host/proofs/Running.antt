@@ -7,7 +7,7 @@ use Rattle.iso_wire.specs.declared.header.Header.{Header}
 use Rattle.iso_wire.specs.Feeding.{Feeding}
 use Rattle.iso_wire.specs.Spelling.{AreBytes}
 use Rattle.iso_issuer.specs.Books.{Books}
-use Rattle.iso_host.specs.Bodies.{holding}
+use Rattle.iso_host.specs.Bodies.{unpacker_holding}
 use Rattle.iso_host.specs.Counts.{Counts}
 use Rattle.iso_host.specs.Served.{Served, Reports}
 use Rattle.iso_host.specs.declared.fault.Report.{Report}
@@ -33,7 +33,7 @@ pub record SoFar (old new : Option (List ℕ)) (wanted size : ℕ) : Type 0 wher
 
 -- and the unpacker holds them
 pub record BodySoFar (t : Layout) (unpacker : Feeding) (old new : Option (List ℕ)) (wanted size : ℕ) : Type 0 where
-  pub holds : unpacker ≡ holding t unpacker.taken
+  pub holds : unpacker ≡ unpacker_holding t unpacker.taken
   pub bytes : AreBytes unpacker.taken
   pub taken : Consumes old new unpacker.taken
   pub sum : length unpacker.taken + wanted ≡ size

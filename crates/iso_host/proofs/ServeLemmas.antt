@@ -17,7 +17,7 @@ use Rattle.iso_host.proofs.OutputLemmas.{frames_more, AllFit_more, output_none, 
 use Rattle.iso_host.proofs.Running.{Going, Running}
 use Rattle.iso_host.specs.Asking.{message_in, asked_of, count_asked, is_answered, is_silent, is_unreadable}
 use Rattle.iso_host.specs.Counts.{Counts}
-use Rattle.iso_host.specs.Entering.{books_after, entered, with_orders}
+use Rattle.iso_host.specs.Entering.{books_after, books_after_body, with_orders}
 use Rattle.iso_host.specs.Output.{IsAnswer, IsAnswerTo, IsOutput}
 use Rattle.iso_host.specs.Pieces.{EndsInside}
 use Rattle.iso_host.specs.Served.{Served, Outcome, Cut, Reports, ReportsOneMore, one_more}
@@ -67,8 +67,8 @@ module _ (t : Layout) (h : Header) (unread held : Option (List ℕ)) (old : Book
 
   module _ (go_on : FirstsGoOn) (pending written : Option (List ℕ)) (mid : Books) (bodies : List (List ℕ)) (served : Served t h unread pending held written old mid bodies []) where
     -- the journal goes on by the body's order
-    entered_more : (new : Books) (body : List ℕ) → new ≡ entered t mid body → new ≡ books_after t old (bodies ++ body ∷ [])
-    entered_more new body enters = enters ∙ ap (λ (b : Books). entered t b body) served.books ∙ sym (books_more go_on t old bodies body)
+    entered_more : (new : Books) (body : List ℕ) → new ≡ books_after_body t mid body → new ≡ books_after t old (bodies ++ body ∷ [])
+    entered_more new body enters = enters ∙ ap (λ (b : Books). books_after_body t b body) served.books ∙ sym (books_more go_on t old bodies body)
 
     -- the frame is the next one
     read_more : (next : Option (List ℕ)) (body : List ℕ) → Consumes pending next (frame_of h body) → Consumes unread next (frames_of h (bodies ++ body ∷ []) ++ [])
@@ -103,7 +103,7 @@ module _ (t : Layout) (h : Header) (unread held : Option (List ℕ)) (old : Book
 
     -- one more body is handled, and of its answer nothing or a part is written
     stopped_after : (left after : Option (List ℕ)) (window : List ℕ) (new : Books) (body : List ℕ) → Consumes pending (prepend_known window left) (frame_of h body) → length body ≤ largest h
-        → new ≡ entered t mid body → (answer : List ℕ) → IsAnswer t h mid body answer → WritesSome written after answer → Cut t h unread left held after old new
+        → new ≡ books_after_body t mid body → (answer : List ℕ) → IsAnswer t h mid body answer → WritesSome written after answer → Cut t h unread left held after old new
     stopped_after left after window new body taken fits enters answer is some = (
       bodies ++ body ∷ [],
       window,

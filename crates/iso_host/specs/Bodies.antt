@@ -14,12 +14,12 @@ use Rattle.iso_host.specs.Pieces.{EndsInside, TakesBytes, Draws, EndsReads}
 use Rattle.iso_host.specs.declared.fault.ServeFault.{ServeFault}
 use Rattle.iso_host.specs.declared.reading.Next.{Next}
 use Rattle.iso_host.specs.declared.reading.Next.TheVariants as next
-use Rattle.iso_host.specs.declared.reading.Told.{Told}
-use Rattle.iso_host.specs.declared.reading.Told.TheVariants as told
+use Rattle.iso_host.specs.declared.intake.Told.{Told}
+use Rattle.iso_host.specs.declared.intake.Told.TheVariants as told
 
 -- an unpacker of the table that holds these bytes of a message
-abbrev pub holding : Layout → List ℕ → Feeding
-holding t bytes = record { table = t; taken = bytes; stopped = None }
+abbrev pub unpacker_holding : Layout → List ℕ → Feeding
+unpacker_holding t bytes = record { table = t; taken = bytes; stopped = None }
 
 -- the bytes behind a piece: none where it is the last, else some
 abbrev pub IsRest : Bool → List ℕ → Type 0
@@ -32,9 +32,9 @@ IsSpelled t message = IfSome message (λ m. (bytes : List ℕ) × Spelling t m b
 
 -- these bytes at the front of a body tell what the body is, whatever stands behind them; or they are not all of it
 abbrev pub Tells : Layout → List ℕ → Bool → Feeding → Told → Type 0
-Tells t bytes is_last new told.Unfinished = (is_last ≡ false) × (new ≡ holding t bytes) × AreBytes bytes
+Tells t bytes is_last new told.Unfinished = (is_last ≡ false) × (new ≡ unpacker_holding t bytes) × AreBytes bytes
 Tells t bytes is_last new (told.Known message) =
-    ((rest : List ℕ) → IsRest is_last rest → message_in t (bytes ++ rest) ≡ message) × IsSpelled t message × (new ≡ holding t [])
+    ((rest : List ℕ) → IsRest is_last rest → message_in t (bytes ++ rest) ≡ message) × IsSpelled t message × (new ≡ unpacker_holding t [])
 
 -- a body of so many bytes is taken, and its message is given; or the frame doesn't come to its end
 abbrev pub ReadsBody :

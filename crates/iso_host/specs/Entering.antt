@@ -1,4 +1,5 @@
 -- The journal while bodies are handled: the first order of each key, up to the limit.
+-- Inner, for bodies and proofs: `entered_by`, `books_after_body`.
 use Rattle.std.specs.Prelude.{◌≡◌, ℕ, Bool, not, ◌&&◌, nat_le, List, [], ◌++◌, length, take, Option, option_map}
 use Rattle.iso_table.specs.Layout.{Layout}
 use Rattle.iso_wire.specs.Contents.{Contents}
@@ -22,8 +23,8 @@ abbrev pub entered_by : Books → Option Contents → Books
 entered_by books message = with_orders books (orders_in (option_map verdict message))
 
 -- the books once this body is handled
-abbrev pub entered : Layout → Books → List ℕ → Books
-entered t books body = with_orders books (orders_in (asked_of t body))
+abbrev pub books_after_body : Layout → Books → List ℕ → Books
+books_after_body t books body = with_orders books (orders_in (asked_of t body))
 
 -- no bodies leave the books as they are
 abbrev pub StaysWithout : Books → Type 0

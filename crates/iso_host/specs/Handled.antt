@@ -5,12 +5,19 @@ use Rattle.iso_table.specs.Layout.{Layout}
 use Rattle.iso_wire.specs.declared.header.Header.{Header}
 use Rattle.iso_wire.specs.Contents.{Contents}
 use Rattle.iso_order.specs.Verdict.{verdict}
+use Rattle.iso_order.specs.declared.verdict.Verdict.{Verdict}
 use Rattle.iso_issuer.specs.Books.{Books}
 use Rattle.iso_host.specs.declared.handling.Handled.{Handled}
 use Rattle.iso_host.specs.declared.handling.Handled.TheVariants.{Unreadable, Silent, Answered}
 use Rattle.iso_host.specs.Asking.{is_unreadable, is_silent, is_answered}
 use Rattle.iso_host.specs.Entering.{entered_by}
 use Rattle.iso_host.specs.Output.{IsAnswerTo}
+
+-- a body that asks this is handled so
+abbrev pub IsOfKind : Option Verdict → Handled → Type 0
+IsOfKind asked Unreadable = IsTrue (is_unreadable asked)
+IsOfKind asked Silent = IsTrue (is_silent asked)
+IsOfKind asked Answered = IsTrue (is_answered asked)
 
 -- the kind of the body whose message this is, and what is written for it: these bytes, where it is answered
 abbrev pub Handles : Layout → Header → Books → Option Contents → List ℕ → Handled → Type 0

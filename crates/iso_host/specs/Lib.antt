@@ -2,6 +2,7 @@ pub mod Asking
 pub mod Bodies
 pub mod Counted
 pub mod Counts
+pub mod Desk
 pub mod Entering
 pub mod FaultNumbers
 pub mod Handled

@@ -31,7 +31,7 @@ impl Model for Tally {
 }
 
 impl Tally {
-    ghost use Rattle.iso_host.specs.Counted.{counted};
+    ghost use Rattle.iso_host.specs.Counted.{counts_after};
 
     /// No call yet.
     pub fn new() -> Tally
@@ -42,7 +42,7 @@ impl Tally {
 
     /// The calls so far, and then this one.
     pub fn then(&self, _call: &Call) -> Tally
-        ensures { result.counts ≡ counted self.now.counts _call.now }
+        ensures { result.counts ≡ counts_after self.now.counts _call.now }
     {
         Tally {}
     }

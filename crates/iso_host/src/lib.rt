@@ -11,10 +11,12 @@
 #![tactic(auto)]
 
 mod counting;
+mod desk;
 #[cfg(test)]
 mod fakes;
 mod fault;
 mod handling;
+mod intake;
 pub mod laws;
 mod reading;
 mod serving;

@@ -1,21 +1,17 @@
 //! One frame, taken piece by piece from a reader through a window.
 
-ghost use Rattle.std.specs.Prelude.{◌≡◌, ◌++◌, [], None, IfOk, OnOk};
+ghost use Rattle.std.specs.Prelude.{◌≡◌, [], IfOk, OnOk};
 ghost use Rattle.std.specs.Io.KnownBytes.{prepend_known};
-ghost use Rattle.iso_wire.specs.Spelling.{AreBytes};
-ghost use Rattle.iso_host.specs.Bodies.{IsSpelled, ReadsBody, ReadsFrame, SpendsOnFrame, Tells, holding};
+ghost use Rattle.iso_host.specs.Bodies.{IsSpelled, ReadsBody, ReadsFrame, SpendsOnFrame, unpacker_holding};
 ghost use Rattle.iso_host.specs.Pieces.{TakesByte, TakesBytes, TakesHeader, SpendsOnHeader, SpendsOnReads};
 ghost use Rattle.iso_host.specs.Serving.{TakesTurns};
 
 use crate::fault::ServeFault;
-use crate::handling::whole_message;
+use crate::intake::{Intake, Told};
 use crate::streams::Inlet;
 use crate::window::Window;
-use iso_order::NoMemory;
-use iso_table::Table;
-use iso_wire::laws::{reads_spellings, splits_once};
-use iso_wire::{Fed, Header, Message, UnpackCause, Unpacker, body_length};
-use std::alloc::Global;
+use iso_wire::laws::splits_once;
+use iso_wire::{Header, Message, body_length};
 
 /// What stands next in the input.
 #[derive(Drop)]
@@ -24,15 +20,6 @@ pub enum Next {
     End,
     /// A frame, whose body is one whole message, or none.
     Body(Option<Message>),
-}
-
-/// What the first bytes of a body tell of it.
-#[derive(Drop)]
-enum Told {
-    /// They may begin a message: further ones are wanted.
-    Unfinished,
-    /// The body is one whole message, or none, whatever follows.
-    Known(Option<Message>),
 }
 
 /// Takes the next byte.
@@ -130,76 +117,27 @@ fn pass_over<R: Inlet>(
     }
 }
 
-/// The items of a slice of bytes are bytes.
-fn are_bytes(bytes: &[u8])
-    ensures { AreBytes bytes.now }
-{}
-
-/// Feeds the next bytes of a body to the unpacker. Once they tell what the body is, the unpacker stands at the start of
-/// a message again.
-fn feed_piece(
-    alloc: Global,
-    table: &Table,
-    unpacker: &mut Unpacker<'_>,
-    piece: &[u8],
-    is_last: bool,
-) -> Result<Told, NoMemory>
-    requires holds { unpacker.old ≡ holding table.now unpacker.old.taken }
-    requires bytes { AreBytes unpacker.old.taken }
-    ensures { IfOk result (Tells table.now (unpacker.old.taken ++ piece.now) is_last unpacker.new) }
-{
-    reads_spellings();
-    are_bytes(piece);
-    // any call on the table tells the proof that its rows are good
-    let _version = table.version();
-    match unpacker.feed(alloc, piece) {
-        Ok(Fed::More) => {
-            if !is_last {
-                return Ok(Told::Unfinished);
-            }
-            unpacker.reset();
-            Ok(Told::Known(None))
-        }
-        Ok(Fed::Done { message, used }) => {
-            if is_last && used == piece.len() {
-                Ok(Told::Known(Some(message)))
-            } else {
-                Ok(Told::Known(None))
-            }
-        }
-        Err(fault) => match fault.cause {
-            UnpackCause::Memory => Err(NoMemory),
-            _ => {
-                unpacker.reset();
-                Ok(Told::Known(None))
-            }
-        },
-    }
-}
-
 /// Takes a body that isn't all in the window: it is read as its bytes come.
 fn read_pieces<R: Inlet>(
-    alloc: Global,
-    table: &Table,
-    unpacker: &mut Unpacker<'_>,
+    intake: &mut Intake<'_>,
     size: usize,
     window: &mut Window,
     reader: &mut R,
     left: &mut u64,
 ) -> Result<Option<Message>, ServeFault>
-    requires { unpacker.old ≡ holding table.now [] }
-    ensures bytes { ReadsBody table.now (prepend_known window.old (R.remaining reader.old)) (prepend_known window.new (R.remaining reader.new))
+    requires { intake.old ≡ unpacker_holding intake.old.table [] }
+    ensures bytes { ReadsBody intake.old.table (prepend_known window.old (R.remaining reader.old)) (prepend_known window.new (R.remaining reader.new))
         window.new (R.remaining reader.new) size result }
     ensures turns { TakesTurns (R.counts reader.old) (R.counts reader.new) left.old left.new }
     ensures spent { SpendsOnReads (R.counts reader.old) (R.counts reader.new) left.old left.new window.old window.new size result }
-    ensures held { OnOk result (unpacker.new ≡ holding table.now []) }
-    ensures read { IfOk result (IsSpelled table.now) }
+    ensures held { OnOk result (intake.new ≡ unpacker_holding intake.old.table []) }
+    ensures read { IfOk result (IsSpelled intake.old.table) }
 {
     let mut wanted = size;
     'pieces: loop {
         let here = window.bytes().len().min(wanted);
         let piece = &window.bytes()[..here];
-        let told = feed_piece(alloc, table, unpacker, piece, here == wanted);
+        let told = intake.feed(piece, here == wanted);
         window.pass(here);
         wanted -= here;
         match told {
@@ -220,26 +158,24 @@ fn read_pieces<R: Inlet>(
 
 /// Takes a body of so many bytes, and gives the message that it is, if it is one. In the window it is read where it lies.
 fn read_body<R: Inlet>(
-    alloc: Global,
-    table: &Table,
-    unpacker: &mut Unpacker<'_>,
+    intake: &mut Intake<'_>,
     size: usize,
     window: &mut Window,
     reader: &mut R,
     left: &mut u64,
 ) -> Result<Option<Message>, ServeFault>
-    requires { unpacker.old ≡ holding table.now [] }
-    ensures bytes { ReadsBody table.now (prepend_known window.old (R.remaining reader.old)) (prepend_known window.new (R.remaining reader.new))
+    requires { intake.old ≡ unpacker_holding intake.old.table [] }
+    ensures bytes { ReadsBody intake.old.table (prepend_known window.old (R.remaining reader.old)) (prepend_known window.new (R.remaining reader.new))
         window.new (R.remaining reader.new) size result }
     ensures turns { TakesTurns (R.counts reader.old) (R.counts reader.new) left.old left.new }
     ensures spent { SpendsOnReads (R.counts reader.old) (R.counts reader.new) left.old left.new window.old window.new size result }
-    ensures held { OnOk result (unpacker.new ≡ holding table.now []) }
-    ensures read { IfOk result (IsSpelled table.now) }
+    ensures held { OnOk result (intake.new ≡ unpacker_holding intake.old.table []) }
+    ensures read { IfOk result (IsSpelled intake.old.table) }
 {
     if window.bytes().len() < size {
-        return read_pieces(alloc, table, unpacker, size, window, reader, left);
+        return read_pieces(intake, size, window, reader, left);
     }
-    let read = whole_message(alloc, unpacker, &window.bytes()[..size]);
+    let read = intake.read(&window.bytes()[..size]);
     window.pass(size);
     match read {
         Ok(message) => Ok(message),
@@ -247,23 +183,21 @@ fn read_body<R: Inlet>(
     }
 }
 
-/// Takes the next frame, and gives the message that its body is, if it is one. The unpacker stands at the start of a
+/// Takes the next frame, and gives the message that its body is, if it is one. The intake stands at the start of a
 /// message before and after it.
 pub fn read_frame<R: Inlet>(
-    alloc: Global,
-    table: &Table,
     header: Header,
-    unpacker: &mut Unpacker<'_>,
+    intake: &mut Intake<'_>,
     window: &mut Window,
     reader: &mut R,
     left: &mut u64,
 ) -> Result<Next, ServeFault>
-    requires { unpacker.old ≡ holding table.now [] }
-    ensures bytes { ReadsFrame table.now header (prepend_known window.old (R.remaining reader.old)) (prepend_known window.new (R.remaining reader.new))
+    requires { intake.old ≡ unpacker_holding intake.old.table [] }
+    ensures bytes { ReadsFrame intake.old.table header (prepend_known window.old (R.remaining reader.old)) (prepend_known window.new (R.remaining reader.new))
         window.new (R.remaining reader.new) result }
     ensures turns { TakesTurns (R.counts reader.old) (R.counts reader.new) left.old left.new }
     ensures spent { SpendsOnFrame (R.counts reader.old) (R.counts reader.new) left.old left.new window.old window.new result }
-    ensures held { OnOk result (unpacker.new ≡ holding table.now []) }
+    ensures held { OnOk result (intake.new ≡ unpacker_holding intake.old.table []) }
 {
     splits_once();
     let size = match read_header(header, window, reader, left) {
@@ -271,7 +205,7 @@ pub fn read_frame<R: Inlet>(
         Ok(None) => return Ok(Next::End),
         Ok(Some(size)) => size,
     };
-    match read_body(alloc, table, unpacker, size, window, reader, left) {
+    match read_body(intake, size, window, reader, left) {
         Ok(message) => Ok(Next::Body(message)),
         Err(fault) => Err(fault),
     }

@@ -1,14 +1,19 @@
 //! The engine: frames from a reader, and the frames of their responses to a writer.
-ghost use Rattle.std.specs.Prelude.{◌≡◌, ℕ, List, IfSome, OnOk, option_map};
+ghost use Rattle.std.specs.Prelude.{◌≡◌, ℕ, List, IfOk, IfSome, OnOk, Option, option_map};
 ghost use Rattle.iso_table.specs.HostReady.{IsHostReady};
 ghost use Rattle.iso_wire.specs.Spelling.{Spelling};
 ghost use Rattle.iso_order.specs.Verdict.{verdict};
+ghost use Rattle.iso_order.specs.declared.verdict.Verdict.{Verdict};
+ghost use Rattle.iso_host.specs.Desk.{IsSameDesk};
+ghost use Rattle.iso_host.specs.Handled.{IsOfKind};
 ghost use Rattle.iso_host.specs.Served.{Outcome, Cause, Flushes, IsFlushed, ReportsOneMore, WithinTurns};
 ghost use Rattle.iso_host.specs.Serving.{AnswersInto, SpendsOnWrite, TakesTurns};
 ghost use Rattle.iso_host.specs.Writing.{WritesFront};
 
+use crate::desk::Desk;
 use crate::fault::{Report, ServeFault};
-use crate::handling::{Desk, Handled, enters_nothing, handle_message};
+use crate::handling::{Handled, enters_nothing, handle_message};
+use crate::intake::Intake;
 use crate::reading::{Next, read_frame};
 use crate::streams::{Inlet, Outlet};
 use crate::window::Window;
@@ -16,7 +21,7 @@ use iso_issuer::Issuer;
 use iso_issuer::laws::firsts_go_on;
 use iso_table::Table;
 use iso_wire::laws::splits_once;
-use iso_wire::{Header, Message, Unpacker};
+use iso_wire::{Header, Message};
 use std::alloc::Global;
 
 /// The report before the first frame.
@@ -51,44 +56,52 @@ fn write_whole<W: Outlet>(writer: &mut W, bytes: &[u8], left: &mut u64) -> Resul
     }
 }
 
-/// Handles the message that a body is, or none, and writes its answer. After `Memory` nothing was written.
+/// Handles the message that a body is, or none, writes its answer, and tells what came of it. After `Memory` nothing was
+/// written.
 fn answer_message<W: Outlet>(
-    table: &Table,
-    header: Header,
     issuer: &mut Issuer,
     message: &Option<Message>,
-    desk: &mut Desk,
+    desk: &mut Desk<'_>,
     writer: &mut W,
     left: &mut u64,
-    report: &mut Report,
-) -> Result<(), ServeFault>
-    requires ready { IsHostReady table.now }
-    requires read { IfSome message.now (λ m. (bytes : List ℕ) × Spelling table.now m bytes) }
-    ensures answered { AnswersInto table.now header issuer.old issuer.new message.now (W.contents writer.old) (W.contents writer.new) result }
+) -> Result<Handled, ServeFault>
+    requires ready { IsHostReady desk.old.table }
+    requires read { IfSome message.now (λ m. (bytes : List ℕ) × Spelling desk.old.table m bytes) }
+    ensures answered { AnswersInto desk.old.table desk.old.header issuer.old issuer.new message.now (W.contents writer.old) (W.contents writer.new) result }
     ensures turns { TakesTurns (W.counts writer.old) (W.counts writer.new) left.old left.new }
     ensures spent { SpendsOnWrite (W.counts writer.old) (W.counts writer.new) left.old left.new result }
     ensures flushed { OnOk result (IsFlushed (W.counts writer.old) (W.counts writer.new)) }
-    ensures report { OnOk result (ReportsOneMore report.old report.new (option_map verdict message.now)) }
+    ensures kind { IfOk result (IsOfKind (option_map verdict message.now)) }
+    ensures kept { IsSameDesk desk.old desk.new }
 {
-    let Ok(handled) = handle_message(table, header, issuer, message, desk) else {
+    let Ok(handled) = handle_message(issuer, message, desk) else {
         return Err(ServeFault::Memory);
     };
+    match handled {
+        Handled::Unreadable | Handled::Silent => {}
+        Handled::Answered => {
+            if let Err(fault) = write_whole(writer, desk.frame(), left) {
+                return Err(fault);
+            }
+        }
+    }
+    Ok(handled)
+}
+
+/// Counts a frame by what came of its body.
+fn count_frame(report: &mut Report, handled: Handled)
+    ensures { (asked : Option Verdict) → IsOfKind asked handled → ReportsOneMore report.old report.new asked }
+{
     report.frames = report.frames.saturating_add(1);
     match handled {
         Handled::Unreadable => {
             report.unreadable = report.unreadable.saturating_add(1);
-            Ok(())
         }
         Handled::Silent => {
             report.silent = report.silent.saturating_add(1);
-            Ok(())
         }
         Handled::Answered => {
-            if let Err(fault) = write_whole(writer, &desk.frame, left) {
-                return Err(fault);
-            }
             report.answered = report.answered.saturating_add(1);
-            Ok(())
         }
     }
 }
@@ -131,38 +144,23 @@ pub fn serve<R: Inlet, W: Outlet>(
     let mut left = turns;
     let mut report = NO_FRAMES;
     let mut window = Window::new();
-    let mut unpacker = Unpacker::new(alloc, table);
-    let mut desk = Desk::new(alloc);
+    let mut intake = Intake::new(alloc, table);
+    let mut desk = Desk::new(alloc, table, header);
     'frames: loop {
-        let read = read_frame(
-            alloc,
-            table,
-            header,
-            &mut unpacker,
-            &mut window,
-            reader,
-            &mut left,
-        );
+        let read = read_frame(header, &mut intake, &mut window, reader, &mut left);
         let message = match read {
             Err(fault) => return Err(fault),
             Ok(Next::End) => return Ok(report),
             Ok(Next::Body(message)) => message,
         };
-        let answered = answer_message(
-            table,
-            header,
-            issuer,
-            &message,
-            &mut desk,
-            writer,
-            &mut left,
-            &mut report,
-        );
-        if let Err(fault) = answered {
-            return Err(fault);
-        }
+        let answered = answer_message(issuer, &message, &mut desk, writer, &mut left);
+        let handled = match answered {
+            Err(failed) => return Err(failed),
+            Ok(handled) => handled,
+        };
+        count_frame(&mut report, handled);
         if let Some(message) = message {
-            unpacker.reuse(message);
+            intake.reuse(message);
         }
     }
 }

@@ -18,10 +18,10 @@ use Rattle.iso_issuer.specs.declared.effect.Side.{Side}
 use Rattle.iso_issuer.specs.declared.effect.Side.TheVariants.{Given, Taken, Held}
 use Rattle.iso_issuer.specs.declared.journal.Entry.{Entry}
 use Rattle.iso_issuer.specs.Account.{account_of}
-use Rattle.iso_issuer.specs.Effect.{effect_of, amount_of, is_key, ends, same_side, side_of, takes}
-use Rattle.iso_issuer.specs.Journal.{undone, left_by, left_at, is_nothing, is_reversed, smaller, counts_with, is_counted, is_completed, is_ended, weight}
+use Rattle.iso_issuer.specs.Effect.{effect_of, amount_of, is_key, is_end_of, same_side, side_of, takes}
+use Rattle.iso_issuer.specs.Journal.{undone_key, left_by, left_at, is_nothing, is_reversed, smaller_of, counts_with, is_counted, is_completed, is_ended, weight}
 use Rattle.iso_issuer.specs.Balance.{share, total, ledger, available}
-use Rattle.iso_issuer.specs.Decision.{account_code, code_of, new_entry, entered, journal_of}
+use Rattle.iso_issuer.specs.Decision.{account_code, code_of, new_entry, entries_after, journal_of}
 use Rattle.iso_issuer.specs.Laws.{NoneShort, AreReordered}
 use Rattle.iso_issuer.proofs.Places.{found-map}
 use Rattle.iso_issuer.proofs.GoesOn.{entered-begins, orders-of}
@@ -31,7 +31,7 @@ use Rattle.iso_issuer.proofs.Standing.{nothing-stays}
 
 -- an order that reverses this key
 abbrev names : TxKey → Instruction → Bool
-names key o = is_key (undone o.act) key
+names key o = is_key (undone_key o.act) key
 
 -- what the first one leaves
 abbrev left_in : List Instruction → TxKey → Option ℕ
@@ -55,7 +55,7 @@ abbrev counts_in : List Account → List Instruction → Instruction → Bool
 counts_in accounts orders o = is_good accounts o.act && not (is_nothing (left_in orders o.key))
 
 abbrev completed_in : List Account → List Instruction → TxKey → AccountNumber → Bool
-completed_in accounts orders key pan = list_any (λ c. counts_in accounts orders c && ends key pan (effect_of c)) orders
+completed_in accounts orders key pan = list_any (λ c. counts_in accounts orders c && is_end_of key pan (effect_of c)) orders
 
 abbrev ended_in : List Account → List Instruction → TxKey → Option Effect → Bool
 ended_in accounts orders key None = false
@@ -63,7 +63,7 @@ ended_in accounts orders key (Some f) = same_side f.side Held && completed_in ac
 
 abbrev weight_in : List Account → List Instruction → Instruction → ℕ
 weight_in accounts orders o =
-    cond (counts_in accounts orders o && not (ended_in accounts orders o.key (effect_of o))) (smaller (amount_of (effect_of o)) (left_in orders o.key)) 0
+    cond (counts_in accounts orders o && not (ended_in accounts orders o.key (effect_of o))) (smaller_of (amount_of (effect_of o)) (left_in orders o.key)) 0
 
 -- ---- an entry counts where its order does
 
@@ -76,7 +76,7 @@ debit_good : (before : List Entry) (key : TxKey) (m : Money) (f : Option Account
     (account_code before (record { key = key; act = Debit m }) m f == 0) ≡ on_account m f
 debit_good before key m None long = refl
 debit_good before key m (Some a) long =
-    by_code (same_currency a.currency m.currency) (takes (side_of key) && (function_of key == 0) && int_lt (available before a) (pos (smaller m.amount (left_at before key)))) long
+    by_code (same_currency a.currency m.currency) (takes (side_of key) && (function_of key == 0) && int_lt (available before a) (pos (smaller_of m.amount (left_at before key)))) long
 
 credit_good : (before : List Entry) (key : TxKey) (m : Money) (f : Option Account) → account_code before (record { key = key; act = Credit m }) m f ≢ 51 →
     (account_code before (record { key = key; act = Credit m }) m f == 0) ≡ on_account m f
@@ -87,7 +87,7 @@ complete_good : (before : List Entry) (key : TxKey) (m : Money) (hold : TxKey) (
     (account_code before (record { key = key; act = Complete m hold }) m f == 0) ≡ on_account m f
 complete_good before key m hold None long = refl
 complete_good before key m hold (Some a) long =
-    by_code (same_currency a.currency m.currency) ((function_of key == 0) && int_lt (available before a) (pos (smaller m.amount (left_at before key)))) long
+    by_code (same_currency a.currency m.currency) ((function_of key == 0) && int_lt (available before a) (pos (smaller_of m.amount (left_at before key)))) long
 
 and_off : (b : Bool) → b && false ≡ false
 and_off true = refl
@@ -134,9 +134,9 @@ abbrev Counts : List Account → (TxKey → Option ℕ) → Entry → Type 0
 Counts accounts left e = counts_with (left e.order.key) e ≡ is_good accounts e.order.act && not (is_nothing (left e.order.key))
 
 each_counts : (accounts : List Account) (left : TxKey → Option ℕ) (before : List Entry) (os : List Instruction) →
-    ((k : TxKey) → is_reversed (entered accounts before os) k ≡ true → is_nothing (left k) ≡ true) →
-    AllByRecursion (λ e. e.answer.code ≢ 51) (entered accounts before os) → AllByRecursion (Counts accounts left) before →
-    AllByRecursion (Counts accounts left) (entered accounts before os)
+    ((k : TxKey) → is_reversed (entries_after accounts before os) k ≡ true → is_nothing (left k) ≡ true) →
+    AllByRecursion (λ e. e.answer.code ≢ 51) (entries_after accounts before os) → AllByRecursion (Counts accounts left) before →
+    AllByRecursion (Counts accounts left) (entries_after accounts before os)
 each_counts accounts left before [] later long all = all
 each_counts accounts left before (o ∷ os) later long all =
     let es = before ++ new_entry accounts before o ∷ [] in
@@ -189,12 +189,12 @@ module _ (accounts : List Account) (orders : List Instruction) (long : NoneShort
 
   completed : (key : TxKey) (pan : AccountNumber) → is_completed (journal_of accounts orders) key pan ≡ completed_in accounts orders key pan
   completed key pan =
-      any-all (λ (c : Entry). is_counted (journal_of accounts orders) c && ends key pan (effect_of c.order)) (λ (c : Entry). counts_in accounts orders c.order && ends key pan (effect_of c.order)) (journal_of accounts orders)
+      any-all (λ (c : Entry). is_counted (journal_of accounts orders) c && is_end_of key pan (effect_of c.order)) (λ (c : Entry). counts_in accounts orders c.order && is_end_of key pan (effect_of c.order)) (journal_of accounts orders)
       (all-weaker (λ (e : Entry). is_counted (journal_of accounts orders) e ≡ counts_in accounts orders e.order)
-      (λ (c : Entry). is_counted (journal_of accounts orders) c && ends key pan (effect_of c.order) ≡ counts_in accounts orders c.order && ends key pan (effect_of c.order)) (journal_of accounts orders)
-      (λ c h. ap (λ b. b && ends key pan (effect_of c.order)) h) counted)
-      ∙ any-mapped (λ (c : Instruction). counts_in accounts orders c && ends key pan (effect_of c)) (λ (e : Entry). e.order) (journal_of accounts orders)
-      ∙ ap (list_any (λ (c : Instruction). counts_in accounts orders c && ends key pan (effect_of c))) (orders-of accounts orders)
+      (λ (c : Entry). is_counted (journal_of accounts orders) c && is_end_of key pan (effect_of c.order) ≡ counts_in accounts orders c.order && is_end_of key pan (effect_of c.order)) (journal_of accounts orders)
+      (λ c h. ap (λ b. b && is_end_of key pan (effect_of c.order)) h) counted)
+      ∙ any-mapped (λ (c : Instruction). counts_in accounts orders c && is_end_of key pan (effect_of c)) (λ (e : Entry). e.order) (journal_of accounts orders)
+      ∙ ap (list_any (λ (c : Instruction). counts_in accounts orders c && is_end_of key pan (effect_of c))) (orders-of accounts orders)
 
   ended : (key : TxKey) (f : Option Effect) → is_ended (journal_of accounts orders) key f ≡ ended_in accounts orders key f
   ended key None = refl
@@ -202,9 +202,9 @@ module _ (accounts : List Account) (orders : List Instruction) (long : NoneShort
 
   weighed : (e : Entry) → is_counted (journal_of accounts orders) e ≡ counts_in accounts orders e.order → weight (journal_of accounts orders) e ≡ weight_in accounts orders e.order
   weighed e h =
-      ap (λ b. cond (b && not (is_ended (journal_of accounts orders) e.order.key (effect_of e.order))) (smaller (amount_of (effect_of e.order)) (left_at (journal_of accounts orders) e.order.key)) 0) h
-      ∙ ap (λ b. cond (counts_in accounts orders e.order && not b) (smaller (amount_of (effect_of e.order)) (left_at (journal_of accounts orders) e.order.key)) 0) (ended e.order.key (effect_of e.order))
-      ∙ ap (λ n. cond (counts_in accounts orders e.order && not (ended_in accounts orders e.order.key (effect_of e.order))) (smaller (amount_of (effect_of e.order)) n) 0) (left-of e.order.key)
+      ap (λ b. cond (b && not (is_ended (journal_of accounts orders) e.order.key (effect_of e.order))) (smaller_of (amount_of (effect_of e.order)) (left_at (journal_of accounts orders) e.order.key)) 0) h
+      ∙ ap (λ b. cond (counts_in accounts orders e.order && not b) (smaller_of (amount_of (effect_of e.order)) (left_at (journal_of accounts orders) e.order.key)) 0) (ended e.order.key (effect_of e.order))
+      ∙ ap (λ n. cond (counts_in accounts orders e.order && not (ended_in accounts orders e.order.key (effect_of e.order))) (smaller_of (amount_of (effect_of e.order)) n) 0) (left-of e.order.key)
 
   total-of : (side : Side) (pan : AccountNumber) → total side pan (journal_of accounts orders) ≡ sum_by (λ o. share side pan (effect_of o) (weight_in accounts orders o)) orders
   total-of side pan =
@@ -261,10 +261,10 @@ module _ (accounts : List Account) (xs ys : List Instruction) (are : AreReordere
 
   completed-same : (key : TxKey) (pan : AccountNumber) → completed_in accounts ys key pan ≡ completed_in accounts xs key pan
   completed-same key pan =
-      sym (list_any-IsPermutation (λ (c : Instruction). counts_in accounts ys c && ends key pan (effect_of c)) xs ys are.same)
-      ∙ any-all (λ (c : Instruction). counts_in accounts ys c && ends key pan (effect_of c)) (λ (c : Instruction). counts_in accounts xs c && ends key pan (effect_of c)) xs
-      (every (λ (c : Instruction). counts_in accounts ys c && ends key pan (effect_of c) ≡ counts_in accounts xs c && ends key pan (effect_of c)) xs
-      (λ c. ap (λ b. b && ends key pan (effect_of c)) (counts-same c)))
+      sym (list_any-IsPermutation (λ (c : Instruction). counts_in accounts ys c && is_end_of key pan (effect_of c)) xs ys are.same)
+      ∙ any-all (λ (c : Instruction). counts_in accounts ys c && is_end_of key pan (effect_of c)) (λ (c : Instruction). counts_in accounts xs c && is_end_of key pan (effect_of c)) xs
+      (every (λ (c : Instruction). counts_in accounts ys c && is_end_of key pan (effect_of c) ≡ counts_in accounts xs c && is_end_of key pan (effect_of c)) xs
+      (λ c. ap (λ b. b && is_end_of key pan (effect_of c)) (counts-same c)))
 
   ended-same : (key : TxKey) (f : Option Effect) → ended_in accounts ys key f ≡ ended_in accounts xs key f
   ended-same key None = refl
@@ -272,9 +272,9 @@ module _ (accounts : List Account) (xs ys : List Instruction) (are : AreReordere
 
   weight-same : (o : Instruction) → weight_in accounts ys o ≡ weight_in accounts xs o
   weight-same o =
-      ap (λ b. cond (b && not (ended_in accounts ys o.key (effect_of o))) (smaller (amount_of (effect_of o)) (left_in ys o.key)) 0) (counts-same o)
-      ∙ ap (λ b. cond (counts_in accounts xs o && not b) (smaller (amount_of (effect_of o)) (left_in ys o.key)) 0) (ended-same o.key (effect_of o))
-      ∙ ap (λ n. cond (counts_in accounts xs o && not (ended_in accounts xs o.key (effect_of o))) (smaller (amount_of (effect_of o)) n) 0) (left-same o.key)
+      ap (λ b. cond (b && not (ended_in accounts ys o.key (effect_of o))) (smaller_of (amount_of (effect_of o)) (left_in ys o.key)) 0) (counts-same o)
+      ∙ ap (λ b. cond (counts_in accounts xs o && not b) (smaller_of (amount_of (effect_of o)) (left_in ys o.key)) 0) (ended-same o.key (effect_of o))
+      ∙ ap (λ n. cond (counts_in accounts xs o && not (ended_in accounts xs o.key (effect_of o))) (smaller_of (amount_of (effect_of o)) n) 0) (left-same o.key)
 
   total-same : (side : Side) (pan : AccountNumber) → total side pan (journal_of accounts ys) ≡ total side pan (journal_of accounts xs)
   total-same side pan =

@@ -16,7 +16,7 @@ use Rattle.iso_issuer.specs.declared.balances.Balance.{Balance}
 use Rattle.iso_issuer.specs.declared.journal.Entry.{Entry}
 use Rattle.iso_issuer.specs.Account.{account_of}
 use Rattle.iso_issuer.specs.Effect.{is_key}
-use Rattle.iso_issuer.specs.Journal.{entry_at, undone, left_by, left_at, reversal_of}
+use Rattle.iso_issuer.specs.Journal.{entry_at, undone_key, left_by, left_at, reversal_of}
 use Rattle.iso_issuer.specs.Balances.{accounts_of, balance_at}
 use Rattle.iso_issuer.specs.Index.{key_cmp, place_of, pan_cmp, row_of}
 use Rattle.iso_issuer.proofs.Keys.{same_key_is, same_pan_is}
@@ -53,13 +53,13 @@ place_of-none entries k none = none_from (λ x. same_key x.order.key k) 0 entrie
 
 -- the first reversal of a key, after one entry more
 pub reversal-push : (es : List Entry) (e : Entry) (k : TxKey) →
-    reversal_of (es ++ e ∷ []) k ≡ option_or (reversal_of es k) (cond (is_key (undone e.order.act) k) (Some e) None)
-reversal-push es e k = find-append (λ (r : Entry). is_key (undone r.order.act) k) es (e ∷ [])
+    reversal_of (es ++ e ∷ []) k ≡ option_or (reversal_of es k) (cond (is_key (undone_key e.order.act) k) (Some e) None)
+reversal-push es e k = find-append (λ (r : Entry). is_key (undone_key r.order.act) k) es (e ∷ [])
 
 -- what the first reversal of a key leaves, after one entry more
 pub left-push : (es : List Entry) (e : Entry) (k : TxKey) →
-    left_at (es ++ e ∷ []) k ≡ option_or (left_at es k) (cond (is_key (undone e.order.act) k) (Some (left_by e.order.act)) None)
-left-push es e k = ap (option_map (λ (r : Entry). left_by r.order.act)) (reversal-push es e k) ∙ either (reversal_of es k) (is_key (undone e.order.act) k)
+    left_at (es ++ e ∷ []) k ≡ option_or (left_at es k) (cond (is_key (undone_key e.order.act) k) (Some (left_by e.order.act)) None)
+left-push es e k = ap (option_map (λ (r : Entry). left_by r.order.act)) (reversal-push es e k) ∙ either (reversal_of es k) (is_key (undone_key e.order.act) k)
   where
     either : (o : Option Entry) (b : Bool) → option_map (λ (r : Entry). left_by r.order.act) (option_or o (cond b (Some e) None))
         ≡ option_or (option_map (λ (r : Entry). left_by r.order.act) o) (cond b (Some (left_by e.order.act)) None)
@@ -68,7 +68,7 @@ left-push es e k = ap (option_map (λ (r : Entry). left_by r.order.act)) (revers
     either (Some x) b = refl
 
 -- an entry that names another key leaves it
-pub left-kept : (es : List Entry) (e : Entry) (k : TxKey) → is_key (undone e.order.act) k ≡ false → left_at (es ++ e ∷ []) k ≡ left_at es k
+pub left-kept : (es : List Entry) (e : Entry) (k : TxKey) → is_key (undone_key e.order.act) k ≡ false → left_at (es ++ e ∷ []) k ≡ left_at es k
 left-kept es e k other =
     left-push es e k ∙ ap (λ b. option_or (left_at es k) (cond b (Some (left_by e.order.act)) None)) other ∙ or_none (left_at es k)
   where

@@ -6,7 +6,7 @@ use Rattle.iso_order.specs.declared.key.TxKey.{TxKey}
 use Rattle.iso_order.specs.declared.act.Act.TheVariants.{Complete}
 use Rattle.iso_order.specs.declared.act.Money.{Money}
 use Rattle.iso_order.specs.Key.{class_of, function_of, is_valid_key, same_key}
-use Rattle.iso_order.specs.Order.{Instruction, is_hold_for, is_moved, is_valid_act, is_valid}
+use Rattle.iso_order.specs.Order.{Instruction, is_hold_for, has_amount, is_valid_act, is_valid}
 use Rattle.iso_issuer.proofs.Keys.{same_key_is}
 
 act_of : (o : Instruction) → IsTrue (is_valid o) → is_valid_act o.key o.act ≡ true
@@ -15,8 +15,8 @@ act_of o h = (and_parts (is_valid_key o.key) (is_valid_act o.key o.act) h).1
 
 classes_of : (key hold : TxKey) (m : Money) → is_valid_act key (Complete m hold) ≡ true → (class_of hold ≡ 1) × (class_of key ≡ 2)
 classes_of key hold m h =
-    let ends = and_parts (class_of key == 2 && function_of key == 2 && is_moved m) (is_hold_for key hold) h in
-    let money = and_parts (class_of key == 2 && function_of key == 2) (is_moved m) ends.0 in
+    let ends = and_parts (class_of key == 2 && function_of key == 2 && has_amount m) (is_hold_for key hold) h in
+    let money = and_parts (class_of key == 2 && function_of key == 2) (has_amount m) ends.0 in
     let two = and_parts (class_of key == 2) (function_of key == 2) money.0 in
     let own = and_parts (is_valid_key hold && class_of hold == 1) (hold.acquirer == key.acquirer) ends.1 in
     let class = and_parts (is_valid_key hold) (class_of hold == 1) own.0 in

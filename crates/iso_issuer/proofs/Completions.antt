@@ -11,8 +11,8 @@ use Rattle.iso_order.specs.AccountNumber.{AccountNumber}
 use Rattle.iso_order.specs.Order.{same_pan}
 use Rattle.iso_issuer.specs.declared.effect.Effect.{Effect}
 use Rattle.iso_issuer.specs.declared.journal.Entry.{Entry}
-use Rattle.iso_issuer.specs.Effect.{effect_of, effect_by, is_key, ended_by, ends}
-use Rattle.iso_issuer.specs.Journal.{entry_at, undone, effect_at, reversed_by, ended_key, counts_with, is_counted, is_completed, HasDistinctKeys}
+use Rattle.iso_issuer.specs.Effect.{effect_of, effect_by, is_key, ended_by, is_end_of}
+use Rattle.iso_issuer.specs.Journal.{entry_at, undone_key, effect_at, reversed_by, ended_key, counts_with, is_counted, is_completed, HasDistinctKeys}
 use Rattle.iso_issuer.specs.Index.{bit, completions}
 use Rattle.iso_issuer.proofs.ByKey.{left-kept}
 use Rattle.iso_issuer.proofs.Touched.{at, sum-entered}
@@ -47,26 +47,26 @@ passed-most p (x ∷ xs) = omega (arith, sum_by-cons (λ x. bit (p x)) x xs, mos
     most false = omega arith
 
 -- an entry that another doesn't reverse goes on to count
-pub counted-kept : (es : List Entry) (e x : Entry) → is_key (undone e.order.act) x.order.key ≡ false → is_counted (es ++ e ∷ []) x ≡ is_counted es x
+pub counted-kept : (es : List Entry) (e x : Entry) → is_key (undone_key e.order.act) x.order.key ≡ false → is_counted (es ++ e ∷ []) x ≡ is_counted es x
 counted-kept es e x other = ap (λ l. counts_with l x) (left-kept es e x.order.key other)
 
 -- the law: the number of completions grows by the new entry, and by the one that it reverses, after less before
 pub completions-entered : (es : List Entry) (e : Entry) (key : TxKey) (pan : AccountNumber) → HasDistinctKeys (map (λ e. e.order) es) →
-    completions (es ++ e ∷ []) key pan + at (λ c. bit (is_counted es c && ends key pan (effect_of c.order))) (reversed_by es e.order)
-    ≡ completions es key pan + bit (is_counted (es ++ e ∷ []) e && ends key pan (effect_of e.order))
-    + at (λ c. bit (is_counted (es ++ e ∷ []) c && ends key pan (effect_of c.order))) (reversed_by es e.order)
+    completions (es ++ e ∷ []) key pan + at (λ c. bit (is_counted es c && is_end_of key pan (effect_of c.order))) (reversed_by es e.order)
+    ≡ completions es key pan + bit (is_counted (es ++ e ∷ []) e && is_end_of key pan (effect_of e.order))
+    + at (λ c. bit (is_counted (es ++ e ∷ []) c && is_end_of key pan (effect_of c.order))) (reversed_by es e.order)
 completions-entered es e key pan distinct =
-    sum-entered (λ c. bit (is_counted es c && ends key pan (effect_of c.order))) (λ c. bit (is_counted (es ++ e ∷ []) c && ends key pan (effect_of c.order)))
-    (undone e.order.act) es e distinct (λ x other. ap (λ b. bit (b && ends key pan (effect_of x.order))) (sym (counted-kept es e x other)))
+    sum-entered (λ c. bit (is_counted es c && is_end_of key pan (effect_of c.order))) (λ c. bit (is_counted (es ++ e ∷ []) c && is_end_of key pan (effect_of c.order)))
+    (undone_key e.order.act) es e distinct (λ x other. ap (λ b. bit (b && is_end_of key pan (effect_of x.order))) (sym (counted-kept es e x other)))
 
 -- ---- a hold that an order doesn't touch
 
-ends-not : (f : Option Effect) (key : TxKey) (pan : AccountNumber) → is_key (ended_by f) key ≡ false → ends key pan f ≡ false
+ends-not : (f : Option Effect) (key : TxKey) (pan : AccountNumber) → is_key (ended_by f) key ≡ false → is_end_of key pan f ≡ false
 ends-not None key pan h = refl
 ends-not (Some f) key pan h = ap (λ b. b && same_pan f.pan pan) h
 
-neither : (es : List Entry) (k : TxKey) (act : Act) (key : TxKey) → is_key (option_or (ended_by (effect_by k act)) (ended_by (effect_at (option_and_then (entry_at es) (undone act))))) key ≡ false →
-    (is_key (ended_by (effect_by k act)) key ≡ false) × (is_key (ended_by (effect_at (option_and_then (entry_at es) (undone act)))) key ≡ false)
+neither : (es : List Entry) (k : TxKey) (act : Act) (key : TxKey) → is_key (option_or (ended_by (effect_by k act)) (ended_by (effect_at (option_and_then (entry_at es) (undone_key act))))) key ≡ false →
+    (is_key (ended_by (effect_by k act)) key ≡ false) × (is_key (ended_by (effect_at (option_and_then (entry_at es) (undone_key act)))) key ≡ false)
 neither es k (Debit m) key h = (refl, refl)
 neither es k (Credit m) key h = (refl, refl)
 neither es k (Inquiry m) key h = (refl, refl)
@@ -81,18 +81,18 @@ no_bit : (b c : Bool) → c ≡ false → bit (b && c) ≡ 0
 no_bit b c h = ap (λ c. bit (b && c)) h ∙ ap bit (and_off b)
 
 no_at : (j : List Entry) (key : TxKey) (pan : AccountNumber) (o : Option Entry) → is_key (ended_by (effect_at o)) key ≡ false →
-    at (λ c. bit (is_counted j c && ends key pan (effect_of c.order))) o ≡ 0
+    at (λ c. bit (is_counted j c && is_end_of key pan (effect_of c.order))) o ≡ 0
 no_at j key pan None h = refl
-no_at j key pan (Some r) h = no_bit (is_counted j r) (ends key pan (effect_of r.order)) (ends-not (effect_of r.order) key pan h)
+no_at j key pan (Some r) h = no_bit (is_counted j r) (is_end_of key pan (effect_of r.order)) (ends-not (effect_of r.order) key pan h)
 
 -- a hold of another key is completed as before
 pub completed-kept : (es : List Entry) (e : Entry) (key : TxKey) (pan : AccountNumber) → HasDistinctKeys (map (λ e. e.order) es) →
     is_key (ended_key es e.order) key ≡ false → is_completed (es ++ e ∷ []) key pan ≡ is_completed es key pan
 completed-kept es e key pan distinct other =
     let apart = neither es e.order.key e.order.act key other in
-    let own : bit (is_counted (es ++ e ∷ []) e && ends key pan (effect_of e.order)) ≡ 0 = no_bit _ _ (ends-not (effect_of e.order) key pan apart.0) in
+    let own : bit (is_counted (es ++ e ∷ []) e && is_end_of key pan (effect_of e.order)) ≡ 0 = no_bit _ _ (ends-not (effect_of e.order) key pan apart.0) in
     let before = no_at es key pan (reversed_by es e.order) apart.1 in
     let after = no_at (es ++ e ∷ []) key pan (reversed_by es e.order) apart.1 in
     let same : completions (es ++ e ∷ []) key pan ≡ completions es key pan = omega (arith, completions-entered es e key pan distinct, own, before, after) in
-    any-counted (λ c. is_counted (es ++ e ∷ []) c && ends key pan (effect_of c.order)) (es ++ e ∷ [])
-    ∙ ap (λ n. not (n == 0)) same ∙ sym (any-counted (λ c. is_counted es c && ends key pan (effect_of c.order)) es)
+    any-counted (λ c. is_counted (es ++ e ∷ []) c && is_end_of key pan (effect_of c.order)) (es ++ e ∷ [])
+    ∙ ap (λ n. not (n == 0)) same ∙ sym (any-counted (λ c. is_counted es c && is_end_of key pan (effect_of c.order)) es)

@@ -21,8 +21,8 @@ use Rattle.iso_order.specs.declared.act.Act.{Act}
 use Rattle.iso_order.specs.declared.act.Act.TheVariants.{Debit, Credit, Inquiry, Undo, Complete}
 use Rattle.iso_issuer.specs.declared.effect.Effect.{Effect}
 use Rattle.iso_issuer.specs.declared.journal.Entry.{Entry}
-use Rattle.iso_issuer.specs.Effect.{effect_of, effect_by, is_key, ends}
-use Rattle.iso_issuer.specs.Journal.{entry_at, undone, left_by, left_at, reversed_by, counts_with, is_counted, HasDistinctKeys}
+use Rattle.iso_issuer.specs.Effect.{effect_of, effect_by, is_key, is_end_of}
+use Rattle.iso_issuer.specs.Journal.{entry_at, undone_key, left_by, left_at, reversed_by, counts_with, is_counted, HasDistinctKeys}
 use Rattle.iso_issuer.proofs.ByKey.{key_tied, pan_tied, left-push}
 use Rattle.iso_issuer.proofs.Touched.{at, found-key}
 use Rattle.iso_issuer.proofs.Completions.{counted-kept, completions-entered, passed-most}
@@ -92,7 +92,7 @@ no_bit true = refl
 no_bit false = refl
 
 -- the hold that an effect ends is the one that it is counted for
-mark-hold : (f : Option Effect) (key : TxKey) (pan : AccountNumber) → mark_at (hold_by f) key pan ≡ bit (ends key pan f)
+mark-hold : (f : Option Effect) (key : TxKey) (pan : AccountNumber) → mark_at (hold_by f) key pan ≡ bit (is_end_of key pan f)
 mark-hold None key pan = refl
 mark-hold (Some f) key pan = by_end f.ends
   where
@@ -100,8 +100,8 @@ mark-hold (Some f) key pan = by_end f.ends
     by_end None = refl
     by_end (Some k) = refl
 
-added-mark : (k : TxKey) (act : Act) (b c : Bool) (key : TxKey) (pan : AccountNumber) → (undone act ≡ None → c ≡ b) →
-    mark_at (cond b (hold_by (effect_by k act)) None) key pan ≡ bit (c && ends key pan (effect_by k act))
+added-mark : (k : TxKey) (act : Act) (b c : Bool) (key : TxKey) (pan : AccountNumber) → (undone_key act ≡ None → c ≡ b) →
+    mark_at (cond b (hold_by (effect_by k act)) None) key pan ≡ bit (c && is_end_of key pan (effect_by k act))
 added-mark k (Debit m) b c key pan same = none_marked b key pan ∙ sym (no_bit c)
 added-mark k (Credit m) b c key pan same = none_marked b key pan ∙ sym (no_bit c)
 added-mark k (Inquiry m) b c key pan same = none_marked b key pan ∙ sym (no_bit c)
@@ -114,9 +114,9 @@ added-mark k (Complete m hold) b c key pan same = by_test b ∙ ap (λ t. bit (t
 
 -- what a reversal drops is what its entry counted for and counts for no more
 dropped-mark : (l : Option ℕ) (left : ℕ) (r : Entry) (key : TxKey) (pan : AccountNumber) →
-    mark_at (dropped_of l left r) key pan + bit (counts_with (option_or l (Some left)) r && ends key pan (effect_of r.order)) ≡ bit (counts_with l r && ends key pan (effect_of r.order))
+    mark_at (dropped_of l left r) key pan + bit (counts_with (option_or l (Some left)) r && is_end_of key pan (effect_of r.order)) ≡ bit (counts_with l r && is_end_of key pan (effect_of r.order))
 dropped-mark (Some n) left r key pan = omega arith
-dropped-mark None left r key pan = by_tests (is_some (effect_of r.order) && (r.answer.code == 0)) (left == 0) (ends key pan (effect_of r.order)) (mark-hold (effect_of r.order) key pan)
+dropped-mark None left r key pan = by_tests (is_some (effect_of r.order) && (r.answer.code == 0)) (left == 0) (is_end_of key pan (effect_of r.order)) (mark-hold (effect_of r.order) key pan)
   where
     by_tests : (b z e : Bool) → mark_at (hold_by (effect_of r.order)) key pan ≡ bit e →
         mark_at (cond (b && not false && z) (hold_by (effect_of r.order)) None) key pan + bit ((b && not z) && e) ≡ bit ((b && not false) && e)
@@ -126,31 +126,31 @@ dropped-mark None left r key pan = by_tests (is_some (effect_of r.order) && (r.a
 
 reversed-mark : (es : List Entry) (e : Entry) (original : TxKey) (left : ℕ) (key : TxKey) (pan : AccountNumber) → e.order.act ≡ Undo original left →
     (o : Option Entry) → entry_at es original ≡ o →
-    mark_at (dropped_at es original left o) key pan + at (λ c. bit (is_counted (es ++ e ∷ []) c && ends key pan (effect_of c.order))) o
-    ≡ at (λ c. bit (is_counted es c && ends key pan (effect_of c.order))) o
+    mark_at (dropped_at es original left o) key pan + at (λ c. bit (is_counted (es ++ e ∷ []) c && is_end_of key pan (effect_of c.order))) o
+    ≡ at (λ c. bit (is_counted es c && is_end_of key pan (effect_of c.order))) o
 reversed-mark es e original left key pan act None found = refl
 reversed-mark es e original left key pan act (Some r) found =
     let same : same_key original r.order.key ≡ true = found-key es original r found in
     let is : original ≡ r.order.key = same_key_is original r.order.key same in
     let after : left_at (es ++ e ∷ []) r.order.key ≡ option_or (left_at es r.order.key) (Some left) =
-    left-push es e r.order.key ∙ ap (λ a. option_or (left_at es r.order.key) (cond (is_key (undone a) r.order.key) (Some (left_by a)) None)) act
+    left-push es e r.order.key ∙ ap (λ a. option_or (left_at es r.order.key) (cond (is_key (undone_key a) r.order.key) (Some (left_by a)) None)) act
     ∙ ap (λ b. option_or (left_at es r.order.key) (cond b (Some left) None)) same in
-    ap (λ k. mark_at (dropped_of (left_at es k) left r) key pan + bit (is_counted (es ++ e ∷ []) r && ends key pan (effect_of r.order))) is
-    ∙ ap (λ l. mark_at (dropped_of (left_at es r.order.key) left r) key pan + bit (counts_with l r && ends key pan (effect_of r.order))) after
+    ap (λ k. mark_at (dropped_of (left_at es k) left r) key pan + bit (is_counted (es ++ e ∷ []) r && is_end_of key pan (effect_of r.order))) is
+    ∙ ap (λ l. mark_at (dropped_of (left_at es r.order.key) left r) key pan + bit (counts_with l r && is_end_of key pan (effect_of r.order))) after
     ∙ dropped-mark (left_at es r.order.key) left r key pan
 
 -- what a new entry adds, and what it drops
 record Marks (es : List Entry) (e : Entry) (key : TxKey) (pan : AccountNumber) : Type 0 where
-  dropped : mark_at (dropped_by es e.order.act) key pan + at (λ c. bit (is_counted (es ++ e ∷ []) c && ends key pan (effect_of c.order))) (reversed_by es e.order)
-      ≡ at (λ c. bit (is_counted es c && ends key pan (effect_of c.order))) (reversed_by es e.order)
+  dropped : mark_at (dropped_by es e.order.act) key pan + at (λ c. bit (is_counted (es ++ e ∷ []) c && is_end_of key pan (effect_of c.order))) (reversed_by es e.order)
+      ≡ at (λ c. bit (is_counted es c && is_end_of key pan (effect_of c.order))) (reversed_by es e.order)
   apart : (mark_at (dropped_by es e.order.act) key pan ≡ 0) ⊎ (mark_at (added_by es e) key pan ≡ 0)
 
 marks : (es : List Entry) (e : Entry) (key : TxKey) (pan : AccountNumber) → Marks es e key pan
 marks es e key pan = by_act e.order.act refl
   where
     goal : Act → Type 0
-    goal act = (mark_at (dropped_by es act) key pan + at (λ c. bit (is_counted (es ++ e ∷ []) c && ends key pan (effect_of c.order))) (option_and_then (entry_at es) (undone act))
-        ≡ at (λ c. bit (is_counted es c && ends key pan (effect_of c.order))) (option_and_then (entry_at es) (undone act)))
+    goal act = (mark_at (dropped_by es act) key pan + at (λ c. bit (is_counted (es ++ e ∷ []) c && is_end_of key pan (effect_of c.order))) (option_and_then (entry_at es) (undone_key act))
+        ≡ at (λ c. bit (is_counted es c && is_end_of key pan (effect_of c.order))) (option_and_then (entry_at es) (undone_key act)))
         × ((mark_at (dropped_by es act) key pan ≡ 0) ⊎ (mark_at (cond (is_counted es e) (hold_by (effect_by e.order.key act)) None) key pan ≡ 0))
 
     told : (act : Act) → e.order.act ≡ act → goal act
@@ -170,7 +170,7 @@ pub counts-entered : (es : List Entry) (e : Entry) (key : TxKey) (pan : AccountN
     completions es key pan - mark_at (dropped_by es e.order.act) key pan + mark_at (added_by es e) key pan ≡ completions (es ++ e ∷ []) key pan
 counts-entered es e key pan distinct =
     let m = marks es e key pan in
-    let added : mark_at (added_by es e) key pan ≡ bit (is_counted (es ++ e ∷ []) e && ends key pan (effect_of e.order)) =
+    let added : mark_at (added_by es e) key pan ≡ bit (is_counted (es ++ e ∷ []) e && is_end_of key pan (effect_of e.order)) =
     added-mark e.order.key e.order.act (is_counted es e) (is_counted (es ++ e ∷ []) e) key pan (λ none. counted-kept es e e (ap (λ k. is_key k e.order.key) none)) in
     either (completions es key pan) (completions (es ++ e ∷ []) key pan) _ _ _ _ _ (completions-entered es e key pan distinct) m.dropped added m.apart
   where
@@ -182,7 +182,7 @@ counts-entered es e key pan distinct =
 pub few-counted : (es : List Entry) (o : Option Hold) (counts : BTreeMap Hold ℕ) → AreCounts counts es → length es < 999999 → IfSome o (λ h. count_at counts h.key h.pan < 1000000)
 few-counted es None counts are few = tt
 few-counted es (Some h) counts are few =
-    omega (arith, are h.key h.pan, passed-most (λ (c : Entry). is_counted es c && ends h.key h.pan (effect_of c.order)) es)
+    omega (arith, are h.key h.pan, passed-most (λ (c : Entry). is_counted es c && is_end_of h.key h.pan (effect_of c.order)) es)
 
 -- what is found under a key is part of a sum
 at-most : (f : Entry → ℕ) (k : Option TxKey) (es : List Entry) → at f (option_and_then (entry_at es) k) ≤ sum_by f es
@@ -201,7 +201,7 @@ counted-dropped es e None counts are is = tt
 counted-dropped es e (Some h) counts are is =
     let m = marks es e h.key h.pan in
     let own : mark_at (dropped_by es e.order.act) h.key h.pan ≡ 1 = ap (λ o. mark_at o h.key h.pan) (sym is) ∙ ap bit (same_hold h) in
-    omega (arith, own, m.dropped, are h.key h.pan, at-most (λ (c : Entry). bit (is_counted es c && ends h.key h.pan (effect_of c.order))) (undone e.order.act) es)
+    omega (arith, own, m.dropped, are h.key h.pan, at-most (λ (c : Entry). bit (is_counted es c && is_end_of h.key h.pan (effect_of c.order))) (undone_key e.order.act) es)
   where
     same_hold : (h : Hold) → (same_key h.key h.key && same_pan h.pan h.pan) ≡ true
     same_hold h = grind (arith, common_steps)

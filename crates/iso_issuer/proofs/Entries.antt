@@ -8,19 +8,19 @@ use Rattle.iso_order.specs.Order.{Instruction}
 use Rattle.iso_issuer.specs.declared.account.Account.{Account}
 use Rattle.iso_issuer.specs.declared.journal.Entry.{Entry}
 use Rattle.iso_issuer.specs.Journal.{is_entered, entry_at}
-use Rattle.iso_issuer.specs.Decision.{entered, new_entry}
+use Rattle.iso_issuer.specs.Decision.{entries_after, new_entry}
 use Rattle.iso_issuer.specs.Books.{IsKept}
 use Rattle.iso_issuer.proofs.Firsts.{distinct-push}
 
 -- an order more is one entry more, decided on those before it
 pub entered-push : (accounts : List Account) (before : List Entry) (os : List Instruction) (o : Instruction) →
-    entered accounts before (os ++ o ∷ []) ≡ entered accounts before os ++ new_entry accounts (entered accounts before os) o ∷ []
+    entries_after accounts before (os ++ o ∷ []) ≡ entries_after accounts before os ++ new_entry accounts (entries_after accounts before os) o ∷ []
 entered-push accounts before [] o = refl
 entered-push accounts before (p ∷ ps) o = entered-push accounts (before ++ new_entry accounts before p ∷ []) ps o
 
 -- the entries are of the orders
 pub orders-entered : (accounts : List Account) (before : List Entry) (os : List Instruction) →
-    map (λ e. e.order) (entered accounts before os) ≡ map (λ e. e.order) before ++ os
+    map (λ e. e.order) (entries_after accounts before os) ≡ map (λ e. e.order) before ++ os
 orders-entered accounts before [] = sym (append-nil _)
 orders-entered accounts before (o ∷ os) =
     orders-entered accounts (before ++ new_entry accounts before o ∷ []) os

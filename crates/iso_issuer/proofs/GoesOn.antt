@@ -11,8 +11,8 @@ use Rattle.iso_order.specs.Outcome.{Outcome}
 use Rattle.iso_issuer.specs.declared.account.Account.{Account}
 use Rattle.iso_issuer.specs.declared.journal.Entry.{Entry}
 use Rattle.iso_issuer.specs.Journal.{firsts, is_entered, entry_at, HasDistinctKeys}
-use Rattle.iso_issuer.specs.Decision.{entered, new_entry, journal_of, repeated, reply, reply_by}
-use Rattle.iso_issuer.specs.Books.{Books, journal, entering, IsFullFor}
+use Rattle.iso_issuer.specs.Decision.{entries_after, new_entry, journal_of, repeat_answer, reply, reply_by}
+use Rattle.iso_issuer.specs.Books.{Books, journal, books_with, IsFullFor}
 use Rattle.iso_issuer.specs.Laws.{books_after}
 use Rattle.iso_issuer.proofs.Keys.{same_key_is, same_key_self}
 use Rattle.iso_issuer.proofs.Firsts.{is_other, firsts-new, firsts-known, firsts-distinct, distinct-push}
@@ -37,12 +37,12 @@ find-last t (y ∷ xs) x none here = by_test (t y) none (find-last t xs x)
     by_test true e rest = cc
     by_test false e rest = rest e here
 
-entered-append : (accounts : List Account) (es : List Entry) (os ps : List Instruction) → entered accounts es (os ++ ps) ≡ entered accounts (entered accounts es os) ps
+entered-append : (accounts : List Account) (es : List Entry) (os ps : List Instruction) → entries_after accounts es (os ++ ps) ≡ entries_after accounts (entries_after accounts es os) ps
 entered-append accounts es [] ps = refl
 entered-append accounts es (o ∷ os) ps = entered-append accounts (es ++ new_entry accounts es o ∷ []) os ps
 
 -- entering orders leaves the entries that there are in front
-pub entered-begins : (accounts : List Account) (es : List Entry) (os : List Instruction) → (more : List Entry) × (entered accounts es os ≡ es ++ more)
+pub entered-begins : (accounts : List Account) (es : List Entry) (os : List Instruction) → (more : List Entry) × (entries_after accounts es os ≡ es ++ more)
 entered-begins accounts es [] = ([], sym (append-nil es))
 entered-begins accounts es (o ∷ os) =
     let rest = entered-begins accounts (es ++ new_entry accounts es o ∷ []) os in
@@ -90,11 +90,11 @@ kept-begin limit xs ys distinct few =
 
 -- the reply to an order whose key has an entry, in a journal that goes on
 reply-stays : (accounts : List Account) (orders more : List Instruction) (o : Instruction) (e : Entry) → entry_at (journal_of accounts orders) o.key ≡ Some e
-    → reply accounts (journal_of accounts (orders ++ more)) o ≡ repeated e o
+    → reply accounts (journal_of accounts (orders ++ more)) o ≡ repeat_answer e o
 reply-stays accounts orders more o e found = ap (reply_by accounts (journal_of accounts (orders ++ more)) o) (answers-kept accounts orders more o.key e found)
 
 reply-after : (b : Books) (o : Instruction) (since : List Instruction) (e : Entry) → HasDistinctKeys b.orders → length b.orders ≤ b.limit
-    → entry_at (journal b) o.key ≡ Some e → reply b.accounts (journal (books_after b since)) o ≡ repeated e o
+    → entry_at (journal b) o.key ≡ Some e → reply b.accounts (journal (books_after b since)) o ≡ repeat_answer e o
 reply-after b o since e distinct few found =
     let kept = kept-begin b.limit b.orders since distinct few in
     ap (λ (l : List Instruction). reply b.accounts (journal_of b.accounts l) o) kept.1 ∙ reply-stays b.accounts b.orders kept.0 o e found
@@ -114,7 +114,7 @@ unknown accounts orders k none =
 abbrev pub SameSelf : Type 0
 SameSelf = (o : Instruction) → same_order o o ≡ true
 
-again : (e : Entry) (o : Instruction) → e.order ≡ o → SameSelf → repeated e o ≡ e.answer
+again : (e : Entry) (o : Instruction) → e.order ≡ o → SameSelf → repeat_answer e o ≡ e.answer
 again e o same self =
     let told : same_order e.order o ≡ true = ap (λ (x : Instruction). same_order x o) same ∙ self o in
     ap (λ (b : Bool). cond b e.answer (record { code = 94; seq = 0; shown = None })) told
@@ -165,13 +165,13 @@ known orders o distinct there = firsts-known orders o there ∙ firsts-distinct 
 new : (orders : List Instruction) (o : Instruction) → HasDistinctKeys orders → is_entered orders o.key ≡ false → firsts (orders ++ o ∷ []) ≡ orders ++ o ∷ []
 new orders o distinct none = firsts-new orders o none ∙ ap (λ (l : List Instruction). l ++ o ∷ []) (firsts-distinct orders distinct)
 
-pub entering-known : (b : Books) (o : Instruction) → HasDistinctKeys b.orders → is_entered b.orders o.key ≡ true → entering b o ≡ b
+pub entering-known : (b : Books) (o : Instruction) → HasDistinctKeys b.orders → is_entered b.orders o.key ≡ true → books_with b o ≡ b
 entering-known b o distinct there = ap (λ (l : List Instruction). record b { orders = l }) (known b.orders o distinct there)
 
-pub entering-new : (b : Books) (o : Instruction) → HasDistinctKeys b.orders → is_entered b.orders o.key ≡ false → entering b o ≡ record b { orders = b.orders ++ o ∷ [] }
+pub entering-new : (b : Books) (o : Instruction) → HasDistinctKeys b.orders → is_entered b.orders o.key ≡ false → books_with b o ≡ record b { orders = b.orders ++ o ∷ [] }
 entering-new b o distinct none = ap (λ (l : List Instruction). record b { orders = l }) (new b.orders o distinct none)
 
-pub entering-distinct : (b : Books) (o : Instruction) → HasDistinctKeys b.orders → HasDistinctKeys (entering b o).orders
+pub entering-distinct : (b : Books) (o : Instruction) → HasDistinctKeys b.orders → HasDistinctKeys (books_with b o).orders
 entering-distinct b o distinct = by_test (is_entered b.orders o.key) refl
   where
     by_test : (t : Bool) → is_entered b.orders o.key ≡ t → HasDistinctKeys (firsts (b.orders ++ o ∷ []))
@@ -192,7 +192,7 @@ new-found j e none = find-last (λ (x : Entry). same_key x.order.key e.order.key
 
 -- the reply to an order that is new, or that was entered as it is
 pub replies-kept : SameSelf → (b : Books) (o : Instruction) → HasDistinctKeys b.orders → ((e : Entry) → entry_at (journal b) o.key ≡ Some e → e.order ≡ o) →
-    entry_at (journal (entering b o)) o.key ≡ Some (record { order = o; answer = reply b.accounts (journal b) o })
+    entry_at (journal (books_with b o)) o.key ≡ Some (record { order = o; answer = reply b.accounts (journal b) o })
 replies-kept self b o distinct as_it_is = by_entry (entry_at (journal b) o.key) refl
   where
     at : List Instruction → Option Entry

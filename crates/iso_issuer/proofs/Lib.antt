@@ -19,6 +19,5 @@ pub mod Sums
 pub mod Summed
 pub mod Room
 pub mod Runs
-mod Members
 mod Documents
 mod Texts

@@ -8,7 +8,7 @@ use Rattle.iso_issuer.specs.declared.fault.Refused.{Refused}
 use Rattle.iso_issuer.specs.declared.fault.Refused.TheVariants.{Full, Memory}
 use Rattle.iso_issuer.specs.Journal.{firsts, is_entered}
 use Rattle.iso_issuer.specs.Decision.{reply}
-use Rattle.iso_issuer.specs.Books.{Books, IsFullFor, IsRoomFor, IsReply, IsRun, left_by, entering, journal, answered_of}
+use Rattle.iso_issuer.specs.Books.{Books, IsFullFor, IsRoomFor, IsReply, IsRun, left_by, books_with, journal, answered_of}
 use Rattle.iso_issuer.proofs.Firsts.{firsts-known, firsts-new, firsts-skip}
 
 -- a run goes on by one order
@@ -22,7 +22,7 @@ run-push b mid (p ∷ ps) [] o r run fits = elim run [ ]
 -- what the clauses of `handle` say, as one fact
 pub handled : (old new : Books) (o : Instruction) (r : Result Outcome Refused) →
     ((r ≡ Err Full) ↔ IsFullFor old o.key) → (r ≡ Err Memory → IsRoomFor old o.key) →
-    IfOk r (λ a. a ≡ reply old.accounts (journal old) o) → OnOk r (new ≡ entering old o) → OnErr r (new ≡ old) →
+    IfOk r (λ a. a ≡ reply old.accounts (journal old) o) → OnOk r (new ≡ books_with old o) → OnErr r (new ≡ old) →
     IsReply old o r × (new ≡ left_by old o r)
 handled old new o (Ok a) full memory answer entered refused = ((answer, λ h. apart a (full.1 h)), entered)
   where
@@ -38,9 +38,9 @@ run-after b new [] [] distinct run = ap (λ x. x.orders) run ∙ sym (ap firsts 
 run-after b new [] (r ∷ rs) distinct run = elim run [ ]
 run-after b new (o ∷ os) [] distinct run = elim run [ ]
 run-after b new (o ∷ os) (Err e ∷ rs) distinct run = run-after b new os rs distinct run.1
-run-after b new (o ∷ os) (Ok a ∷ rs) distinct run = by_key (is_entered b.orders o.key) refl (λ d. run-after (entering b o) new os rs d run.1)
+run-after b new (o ∷ os) (Ok a ∷ rs) distinct run = by_key (is_entered b.orders o.key) refl (λ d. run-after (books_with b o) new os rs d run.1)
   where
-    by_key : (t : Bool) → is_entered b.orders o.key ≡ t → (firsts (entering b o).orders ≡ (entering b o).orders → new.orders ≡ firsts ((entering b o).orders ++ answered_of os rs)) →
+    by_key : (t : Bool) → is_entered b.orders o.key ≡ t → (firsts (books_with b o).orders ≡ (books_with b o).orders → new.orders ≡ firsts ((books_with b o).orders ++ answered_of os rs)) →
         new.orders ≡ firsts (b.orders ++ o ∷ answered_of os rs)
     by_key true e rest =
         let same : firsts (b.orders ++ o ∷ []) ≡ b.orders = firsts-known b.orders o e ∙ distinct in

@@ -13,10 +13,10 @@ use Rattle.iso_issuer.specs.declared.effect.Effect.{Effect}
 use Rattle.iso_issuer.specs.declared.found.Touched.{Touched}
 use Rattle.iso_issuer.specs.declared.found.Found.{Found}
 use Rattle.iso_issuer.specs.Effect.{effect_by, is_key}
-use Rattle.iso_issuer.specs.Journal.{entry_at, undone, left_by, left_at, weight, weight_at, reversed_by, released_by, ended_key}
+use Rattle.iso_issuer.specs.Journal.{entry_at, undone_key, left_by, left_at, weight, weight_at, reversed_by, released_by, ended_key}
 use Rattle.iso_issuer.specs.Index.{dropped_of, dropped_at, dropped_by}
 use Rattle.iso_issuer.specs.Decision.{money_of}
-use Rattle.iso_issuer.specs.Found.{touched_at, entry_in, weight_in, leaves, IsFoundFor, WasFoundFor}
+use Rattle.iso_issuer.specs.Found.{touched_at, entry_in, weight_in, amount_left, IsFoundFor, WasFoundFor}
 use Rattle.iso_issuer.proofs.ByKey.{left-push, left-kept}
 use Rattle.iso_issuer.proofs.Keys.{same_key_is}
 use Rattle.iso_issuer.proofs.Sums.{AreApart}
@@ -25,7 +25,7 @@ use Rattle.iso_issuer.proofs.Touched.{found-key}
 -- ---- which acts are no reversal
 
 -- what is about money
-pub money-kept : (act : Act) (m : Money) → Some m ≡ money_of act → undone act ≡ None
+pub money-kept : (act : Act) (m : Money) → Some m ≡ money_of act → undone_key act ≡ None
 money-kept (Debit m) n h = refl
 money-kept (Credit m) n h = refl
 money-kept (Inquiry m) n h = refl
@@ -33,7 +33,7 @@ money-kept (Undo original left) n h = cc
 money-kept (Complete m hold) n h = refl
 
 -- what has an effect
-pub effect-kept : (k : TxKey) (act : Act) → is_some (effect_by k act) ≡ true → undone act ≡ None
+pub effect-kept : (k : TxKey) (act : Act) → is_some (effect_by k act) ≡ true → undone_key act ≡ None
 effect-kept k (Debit m) h = refl
 effect-kept k (Credit m) h = refl
 effect-kept k (Inquiry m) h = refl
@@ -86,15 +86,15 @@ pub dropped-touched : (es : List Entry) (o : Instruction) (original : TxKey) (le
     dropped_of t.left left t.entry ≡ dropped_by es o.act
 dropped-touched es o original left t act found =
     touched-of (λ t. dropped_of t.left left t.entry ≡ dropped_at es original left (entry_at es original)) es (entry_at es original) t
-    (ap (λ a. touched_at es (option_and_then (entry_at es) (undone a))) (sym act) ∙ sym found)
+    (ap (λ a. touched_at es (option_and_then (entry_at es) (undone_key a))) (sym act) ∙ sym found)
     (λ e h. ap (λ k. dropped_of (left_at es k) left e) (sym (same_key_is original e.order.key (found-key es original e h))) ∙ ap (dropped_at es original left) (sym h))
     ∙ ap (dropped_by es) (sym act)
 
 -- a reversal leaves what it leaves of the entry that it names, unless an earlier one did
-left-leaves : (es : List Entry) (e : Entry) (k : TxKey) → is_key (undone e.order.act) k ≡ true → option_or (left_at es k) (leaves e.order.act) ≡ left_at (es ++ e ∷ []) k
+left-leaves : (es : List Entry) (e : Entry) (k : TxKey) → is_key (undone_key e.order.act) k ≡ true → option_or (left_at es k) (amount_left e.order.act) ≡ left_at (es ++ e ∷ []) k
 left-leaves es e k named = by_act e.order.act named ∙ sym (left-push es e k)
   where
-    by_act : (a : Act) → is_key (undone a) k ≡ true → option_or (left_at es k) (leaves a) ≡ option_or (left_at es k) (cond (is_key (undone a) k) (Some (left_by a)) None)
+    by_act : (a : Act) → is_key (undone_key a) k ≡ true → option_or (left_at es k) (amount_left a) ≡ option_or (left_at es k) (cond (is_key (undone_key a) k) (Some (left_by a)) None)
     by_act (Debit m) h = cc
     by_act (Credit m) h = cc
     by_act (Inquiry m) h = cc
@@ -106,8 +106,8 @@ pub found-entered : (es : List Entry) (e : Entry) (found : Found) → IsFoundFor
 found-entered es e found is apart = record {
   own = λ none. is.own none ∙ sym (left-kept es e e.order.key (ap (λ k. is_key k e.order.key) none));
   reversed = λ t h.
-      touched-of (λ t. option_or t.left (leaves e.order.act) ≡ left_at (es ++ e ∷ []) t.entry.order.key) es (reversed_by es e.order) t (sym is.reversed ∙ h)
-      (λ r there. left-leaves es e r.order.key (found-under es (undone e.order.act) r there));
+      touched-of (λ t. option_or t.left (amount_left e.order.act) ≡ left_at (es ++ e ∷ []) t.entry.order.key) es (reversed_by es e.order) t (sym is.reversed ∙ h)
+      (λ r there. left-leaves es e r.order.key (found-under es (undone_key e.order.act) r there));
   released = λ t h.
       touched-of (λ t. t.left ≡ left_at (es ++ e ∷ []) t.entry.order.key) es (released_by es e.order) t (sym is.released ∙ h)
       (λ r there. sym (left-kept es e r.order.key (apart r.order.key (found-under es (ended_key es e.order) r there))));

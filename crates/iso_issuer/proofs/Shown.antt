@@ -13,7 +13,7 @@ use Rattle.iso_issuer.specs.declared.account.Account.{Account}
 use Rattle.iso_issuer.specs.declared.journal.Entry.{Entry}
 use Rattle.iso_issuer.specs.Account.{account_of}
 use Rattle.iso_issuer.specs.Balance.{available}
-use Rattle.iso_issuer.specs.Decision.{is_wide, account_code, code_of, new_answer, new_entry, entered, journal_of, repeated, reply_by, reply}
+use Rattle.iso_issuer.specs.Decision.{is_wide, account_code, code_of, new_answer, new_entry, entries_after, journal_of, repeat_answer, reply_by, reply}
 use Rattle.iso_issuer.specs.Journal.{is_reversed, entry_at}
 use Rattle.iso_issuer.specs.Shown.{is_shown_for}
 
@@ -67,7 +67,7 @@ shown_push : (es : List Entry) (e : Entry) → AreShown es → is_shown_for e.or
 shown_push [] e shown here = (here, tt)
 shown_push (x ∷ xs) e shown here = (shown.0, shown_push xs e shown.1 here)
 
-shown_entered : (accounts : List Account) (before : List Entry) (os : List Instruction) → AreShown before → AreShown (entered accounts before os)
+shown_entered : (accounts : List Account) (before : List Entry) (os : List Instruction) → AreShown before → AreShown (entries_after accounts before os)
 shown_entered accounts before [] shown = shown
 shown_entered accounts before (o ∷ os) shown =
     shown_entered accounts (before ++ new_entry accounts before o ∷ []) os (shown_push before (new_entry accounts before o) shown (new_shown accounts before o))
@@ -90,7 +90,7 @@ second true q h = h
 second false q h = cc
 
 repeated_by : (e : Entry) (o : Instruction) (t : Bool) → same_order e.order o ≡ t → is_shown_for e.order.act e.answer.shown ≡ true
-    → is_shown_for o.act (repeated e o).shown ≡ true
+    → is_shown_for o.act (repeat_answer e o).shown ≡ true
 repeated_by e o true same here =
     rw same (shown_along e.order.act o.act e.answer.shown (inquiry_same e.order.act o.act (second (same_key e.order.key o.key) (same_act e.order.act o.act) same)) here)
 repeated_by e o false other here = rw other refl

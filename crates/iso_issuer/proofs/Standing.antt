@@ -11,7 +11,7 @@ use Rattle.iso_issuer.specs.declared.account.Account.{Account}
 use Rattle.iso_issuer.specs.declared.effect.Side.TheVariants.{Taken, Held}
 use Rattle.iso_issuer.specs.declared.journal.Entry.{Entry}
 use Rattle.iso_issuer.specs.Effect.{effect_of, effect_by, amount_of, is_key, same_side}
-use Rattle.iso_issuer.specs.Journal.{entry_at, undone, left_by, left_at, reversal_of, is_nothing, is_reversed, smaller, is_counted, is_completed, is_ended, stands, weight}
+use Rattle.iso_issuer.specs.Journal.{entry_at, undone_key, left_by, left_at, reversal_of, is_nothing, is_reversed, smaller_of, is_counted, is_completed, is_ended, stands, weight}
 use Rattle.iso_issuer.specs.Decision.{journal_of}
 use Rattle.iso_issuer.specs.Laws.{NoneReverses, AllReverseWholly, NeverStands}
 use Rattle.iso_issuer.proofs.GoesOn.{find-more, journal-begins, answers-kept, key-found}
@@ -45,8 +45,8 @@ granted-stands j e two moves granted none =
 pub granted-weighs : (j : List Entry) (e : Entry) → class_of e.order.key ≡ 2 → is_some (effect_of e.order) ≡ true → e.answer.code ≡ 0 → left_at j e.order.key ≡ None →
     weight j e ≡ amount_of (effect_of e.order)
 granted-weighs j e two moves granted none =
-    ap (λ b. cond b (smaller (amount_of (effect_of e.order)) (left_at j e.order.key)) 0) (granted-stands j e two moves granted none)
-    ∙ ap (smaller (amount_of (effect_of e.order))) none
+    ap (λ b. cond b (smaller_of (amount_of (effect_of e.order)) (left_at j e.order.key)) 0) (granted-stands j e two moves granted none)
+    ∙ ap (smaller_of (amount_of (effect_of e.order))) none
 
 -- what doesn't count doesn't stand
 fallen : (j : List Entry) (e : Entry) → is_counted j e ≡ false → stands j e ≡ false
@@ -68,7 +68,7 @@ reversed-falls j e reversed =
     fallen j e (and_off (is_some (effect_of e.order) && (e.answer.code == 0)) (not (is_reversed j e.order.key)) (ap not reversed))
 
 pub fallen-weighs : (j : List Entry) (e : Entry) → stands j e ≡ false → weight j e ≡ 0
-fallen-weighs j e off = ap (λ b. cond b (smaller (amount_of (effect_of e.order)) (left_at j e.order.key)) 0) off
+fallen-weighs j e off = ap (λ b. cond b (smaller_of (amount_of (effect_of e.order)) (left_at j e.order.key)) 0) off
 
 -- ---- which keys are reversed
 
@@ -77,7 +77,7 @@ left-stays j more key left h = by_found (reversal_of j key) refl h
   where
     by_found : (o : Option Entry) → reversal_of j key ≡ o → option_map (λ r. left_by r.order.act) o ≡ Some left → left_at (j ++ more) key ≡ Some left
     by_found None none h = cc
-    by_found (Some r) found h = ap (option_map (λ (r : Entry). left_by r.order.act)) (find-more (λ (r : Entry). is_key (undone r.order.act) key) j more r found) ∙ h
+    by_found (Some r) found h = ap (option_map (λ (r : Entry). left_by r.order.act)) (find-more (λ (r : Entry). is_key (undone_key r.order.act) key) j more r found) ∙ h
 
 pub none-left : (j : List Entry) (key : TxKey) → NoneReverses j key → left_at j key ≡ None
 none-left [] key none = refl
@@ -85,28 +85,28 @@ none-left (e ∷ es) key none = ap (λ b. option_map (λ (r : Entry). left_by r.
 
 pub none-stays : (j more : List Entry) (key : TxKey) → left_at j key ≡ None → NoneReverses more key → left_at (j ++ more) key ≡ None
 none-stays [] more key h none = none-left more key none
-none-stays (e ∷ es) more key h none = by_test (is_key (undone e.order.act) key) h (λ rest. none-stays es more key rest none)
+none-stays (e ∷ es) more key h none = by_test (is_key (undone_key e.order.act) key) h (λ rest. none-stays es more key rest none)
   where
     by_test : (b : Bool) → option_map (λ (r : Entry). left_by r.order.act) (cond b (Some e) (reversal_of es key)) ≡ None → (left_at es key ≡ None → left_at (es ++ more) key ≡ None) →
         option_map (λ (r : Entry). left_by r.order.act) (cond b (Some e) (reversal_of (es ++ more) key)) ≡ None
     by_test true h rest = cc
     by_test false h rest = rest h
 
-pub wholly-reversed : (j : List Entry) (key at : TxKey) (r : Entry) → AllReverseWholly j key → entry_at j at ≡ Some r → is_key (undone r.order.act) key ≡ true → is_reversed j key ≡ true
+pub wholly-reversed : (j : List Entry) (key at : TxKey) (r : Entry) → AllReverseWholly j key → entry_at j at ≡ Some r → is_key (undone_key r.order.act) key ≡ true → is_reversed j key ≡ true
 wholly-reversed [] key at r all found names = cc
 wholly-reversed (e ∷ es) key at r all found names =
-    by_test (is_key (undone e.order.act) key) refl (same_key e.order.key at) found (λ rest. wholly-reversed es key at r all.1 rest names)
+    by_test (is_key (undone_key e.order.act) key) refl (same_key e.order.key at) found (λ rest. wholly-reversed es key at r all.1 rest names)
   where
     leaves : Option Entry → Bool
     leaves o = is_nothing (option_map (λ (r : Entry). left_by r.order.act) o)
 
-    by_test : (b : Bool) → is_key (undone e.order.act) key ≡ b → (t : Bool) → cond t (Some e) (entry_at es at) ≡ Some r →
+    by_test : (b : Bool) → is_key (undone_key e.order.act) key ≡ b → (t : Bool) → cond t (Some e) (entry_at es at) ≡ Some r →
         (entry_at es at ≡ Some r → is_reversed es key ≡ true) → leaves (cond b (Some e) (reversal_of es key)) ≡ true
     by_test true here t found rest = ap (λ n. n == 0) (all.0 here)
     by_test false away false found rest = rest found
     by_test false away true found rest =
         let same : e ≡ r = cc in
-        let told : false ≡ true = sym away ∙ ap (λ (x : Entry). is_key (undone x.order.act) key) same ∙ names in
+        let told : false ≡ true = sym away ∙ ap (λ (x : Entry). is_key (undone_key x.order.act) key) same ∙ names in
         cc
 
 -- ---- what never stands again

@@ -16,7 +16,7 @@ use Rattle.iso_order.specs.Outcome.{Outcome}
 use Rattle.iso_issuer.specs.declared.index.Index.{Index}
 use Rattle.iso_issuer.specs.declared.journal.Entry.{Entry}
 use Rattle.iso_issuer.specs.Effect.{is_key}
-use Rattle.iso_issuer.specs.Journal.{entry_at, undone, left_by, HasDistinctKeys}
+use Rattle.iso_issuer.specs.Journal.{entry_at, undone_key, left_by, HasDistinctKeys}
 use Rattle.iso_issuer.specs.Index.{key_cmp, count_at, mark_at, added_by, dropped_by, entries_from, AreStored, IsIndexOf, AnswersAlike}
 use Rattle.iso_issuer.proofs.ByKey.{place_of-push, left-push}
 use Rattle.iso_issuer.proofs.Counts.{counts-entered}
@@ -115,7 +115,7 @@ entries-entered os cs s t o a same seq put =
 -- the index, once it has what an entry changes
 pub index-entered : (es : List Entry) (e : Entry) (old new : Index) (place : ℕ) → IsIndexOf old es → entry_at es e.order.key ≡ None → HasDistinctKeys (map (λ e. e.order) es) → place ≡ length es →
     ((q : TxKey) → tree.get key_cmp new.places q ≡ cond (same_key e.order.key q) (Some place) (tree.get key_cmp old.places q)) →
-    ((q : TxKey) → tree.get key_cmp new.lefts q ≡ option_or (tree.get key_cmp old.lefts q) (cond (is_key (undone e.order.act) q) (Some (left_by e.order.act)) None)) →
+    ((q : TxKey) → tree.get key_cmp new.lefts q ≡ option_or (tree.get key_cmp old.lefts q) (cond (is_key (undone_key e.order.act) q) (Some (left_by e.order.act)) None)) →
     ((q : TxKey) (pan : AccountNumber) → count_at new.counts q pan ≡ count_at old.counts q pan - mark_at (dropped_by es e.order.act) q pan + mark_at (added_by es e) q pan) →
     IsIndexOf new (es ++ e ∷ [])
 index-entered es e old new place is fresh distinct last places lefts counts = record {
@@ -123,7 +123,7 @@ index-entered es e old new place is fresh distinct last places lefts counts = re
       places q ∙ ap (λ p. cond (same_key e.order.key q) (Some p) (tree.get key_cmp old.places q)) last
       ∙ ap (cond (same_key e.order.key q) (Some (length es))) (is.places q) ∙ sym (place_of-push es e q fresh);
   lefts = λ q.
-      lefts q ∙ ap (λ o. option_or o (cond (is_key (undone e.order.act) q) (Some (left_by e.order.act)) None)) (is.lefts q) ∙ sym (left-push es e q);
+      lefts q ∙ ap (λ o. option_or o (cond (is_key (undone_key e.order.act) q) (Some (left_by e.order.act)) None)) (is.lefts q) ∙ sym (left-push es e q);
   counts = λ q pan.
       counts q pan ∙ ap (λ n. n - mark_at (dropped_by es e.order.act) q pan + mark_at (added_by es e) q pan) (is.counts q pan) ∙ counts-entered es e q pan distinct;
 }

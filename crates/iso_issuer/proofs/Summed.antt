@@ -14,7 +14,7 @@ use Rattle.iso_issuer.specs.declared.effect.Side.TheVariants.{Given, Taken, Held
 use Rattle.iso_issuer.specs.Effect.{effect_of, same_side}
 use Rattle.iso_issuer.specs.Journal.{weight, weight_at, effect_at, reversed_by, released_by, HasDistinctKeys}
 use Rattle.iso_issuer.specs.Balance.{ledger, available, ledger_share, available_share}
-use Rattle.iso_issuer.specs.Balances.{accounts_of, added, balance_at, opened, posted, moved, ledger_grown, available_grown, on_ledger, on_available}
+use Rattle.iso_issuer.specs.Balances.{accounts_of, balance_with, balance_at, opening_balance, balance_after, balance_by_weights, ledger_grown, available_grown, on_ledger, on_available}
 use Rattle.iso_issuer.specs.Index.{balance_on, AreSums, IsSummed}
 use Rattle.iso_issuer.specs.declared.change.Change.{Change}
 use Rattle.iso_issuer.proofs.Places.{found-map}
@@ -50,13 +50,13 @@ available-of entries balances pan sums =
 
 -- ---- at first, and after one entry more
 
-opened_is : (a : Account) → balance_on [] a ≡ opened a
+opened_is : (a : Account) → balance_on [] a ≡ opening_balance a
 opened_is a =
     let on : ledger [] a ≡ a.opening = omega (arith, ints) in
     let free : available [] a ≡ a.opening = omega (arith, ints) in
     cc
 
-opened_are : (accounts : List Account) → map (balance_on []) accounts ≡ map opened accounts
+opened_are : (accounts : List Account) → map (balance_on []) accounts ≡ map opening_balance accounts
 opened_are [] = refl
 opened_are (a ∷ later) =
     let head = opened_is a in
@@ -64,7 +64,7 @@ opened_are (a ∷ later) =
     cc
 
 -- before any order each balance is the opening amount
-pub summed-first : (accounts : List Account) (balances : List Balance) → accounts_of balances ≡ accounts → balances ≡ map opened accounts → IsSummed [] balances
+pub summed-first : (accounts : List Account) (balances : List Balance) → accounts_of balances ≡ accounts → balances ≡ map opening_balance accounts → IsSummed [] balances
 summed-first accounts balances of is = record {
   sums = is ∙ sym (opened_are accounts) ∙ ap (map (balance_on [])) (sym of);
   near = rw is (near-opened accounts);
@@ -75,7 +75,7 @@ rebuilt : (a : Account) (l v l' v' : ℤ) → l' ≡ l → v' ≡ v →
 rebuilt a l v l' v' on free = cc
 
 moved_is : (t : Bool) (c : Change) (b : Balance) (dl dv : ℤ) → cond t c.ledger (pos 0) ≡ dl → cond t c.available (pos 0) ≡ dv →
-    cond t (added c b) b ≡ record { account = b.account; ledger = b.ledger +ℤ dl; available = b.available +ℤ dv }
+    cond t (balance_with c b) b ≡ record { account = b.account; ledger = b.ledger +ℤ dl; available = b.available +ℤ dv }
 moved_is true c b dl dv on free = cc
 moved_is false c b dl dv on free =
     let same : b.ledger +ℤ dl ≡ b.ledger = omega (arith, ints, on) in
@@ -115,10 +115,10 @@ grown-available f pan before after = by_test f.side (same_pan f.pan pan)
 pub posted-moved : (c : Change) (f : Option Effect) (before after : ℕ) →
     ((pan : AccountNumber) → on_ledger (Some c) pan ≡ ledger_share pan f after -ℤ ledger_share pan f before) →
     ((pan : AccountNumber) → on_available (Some c) pan ≡ available_share pan f after -ℤ available_share pan f before) →
-    (balances : List Balance) → map (posted c) balances ≡ map (moved f before after) balances
+    (balances : List Balance) → map (balance_after c) balances ≡ map (balance_by_weights f before after) balances
 posted-moved c f before after on free [] = refl
 posted-moved c f before after on free (b ∷ later) =
-    let head : posted c b ≡ moved f before after b =
+    let head : balance_after c b ≡ balance_by_weights f before after b =
     moved_is (same_pan c.pan b.account.pan) c b _ _ (on b.account.pan) (free b.account.pan) in
     let tail = posted-moved c f before after on free later in
     cc
@@ -127,14 +127,14 @@ posted-moved c f before after on free (b ∷ later) =
 pub kept-moved : (f : Option Effect) (before after : ℕ) →
     ((pan : AccountNumber) → pos 0 ≡ ledger_share pan f after -ℤ ledger_share pan f before) →
     ((pan : AccountNumber) → pos 0 ≡ available_share pan f after -ℤ available_share pan f before) →
-    (balances : List Balance) → balances ≡ map (moved f before after) balances
+    (balances : List Balance) → balances ≡ map (balance_by_weights f before after) balances
 kept-moved f before after on free [] = refl
 kept-moved f before after on free (b ∷ later) =
     let same : b.ledger +ℤ (ledger_share b.account.pan f after -ℤ ledger_share b.account.pan f before) ≡ b.ledger =
     ap (λ z. b.ledger +ℤ z) (sym (on b.account.pan)) ∙ zero_more b.ledger in
     let left : b.available +ℤ (available_share b.account.pan f after -ℤ available_share b.account.pan f before) ≡ b.available =
     ap (λ z. b.available +ℤ z) (sym (free b.account.pan)) ∙ zero_more b.available in
-    ap (λ x. x ∷ later) (rebuilt b.account _ _ _ _ same left) ∙ ap (λ bs. moved f before after b ∷ bs) (kept-moved f before after on free later)
+    ap (λ x. x ∷ later) (rebuilt b.account _ _ _ _ same left) ∙ ap (λ bs. balance_by_weights f before after b ∷ bs) (kept-moved f before after on free later)
   where
     zero_more : (z : ℤ) → z +ℤ pos 0 ≡ z
     zero_more z = omega (arith, ints)
@@ -142,9 +142,9 @@ kept-moved f before after on free (b ∷ later) =
 -- the balances, after an entry, the one that it reverses, and the hold that it ends or gives back
 abbrev pub settled : List Entry → Entry → Balance → Balance
 settled es e b =
-    moved (effect_at (released_by es e.order)) (weight_at es (released_by es e.order)) (weight_at (es ++ e ∷ []) (released_by es e.order))
-    (moved (effect_at (reversed_by es e.order)) (weight_at es (reversed_by es e.order)) (weight_at (es ++ e ∷ []) (reversed_by es e.order))
-    (moved (effect_of e.order) 0 (weight (es ++ e ∷ []) e) b))
+    balance_by_weights (effect_at (released_by es e.order)) (weight_at es (released_by es e.order)) (weight_at (es ++ e ∷ []) (released_by es e.order))
+    (balance_by_weights (effect_at (reversed_by es e.order)) (weight_at es (reversed_by es e.order)) (weight_at (es ++ e ∷ []) (reversed_by es e.order))
+    (balance_by_weights (effect_of e.order) 0 (weight (es ++ e ∷ []) e) b))
 
 settled_are : (es : List Entry) (e : Entry) → HasDistinctKeys (map (λ e. e.order) es) → AreApart es e.order → (accounts : List Account) →
     map (settled es e) (map (balance_on es) accounts) ≡ map (balance_on (es ++ e ∷ [])) accounts
@@ -160,9 +160,9 @@ accounts-settled es e [] = refl
 accounts-settled es e (b ∷ later) = ap (λ xs. b.account ∷ xs) (accounts-settled es e later)
 
 pub settled-thrice : (es : List Entry) (e : Entry) (balances : List Balance) →
-    map (moved (effect_at (released_by es e.order)) (weight_at es (released_by es e.order)) (weight_at (es ++ e ∷ []) (released_by es e.order)))
-    (map (moved (effect_at (reversed_by es e.order)) (weight_at es (reversed_by es e.order)) (weight_at (es ++ e ∷ []) (reversed_by es e.order)))
-    (map (moved (effect_of e.order) 0 (weight (es ++ e ∷ []) e)) balances)) ≡ map (settled es e) balances
+    map (balance_by_weights (effect_at (released_by es e.order)) (weight_at es (released_by es e.order)) (weight_at (es ++ e ∷ []) (released_by es e.order)))
+    (map (balance_by_weights (effect_at (reversed_by es e.order)) (weight_at es (reversed_by es e.order)) (weight_at (es ++ e ∷ []) (reversed_by es e.order)))
+    (map (balance_by_weights (effect_of e.order) 0 (weight (es ++ e ∷ []) e)) balances)) ≡ map (settled es e) balances
 settled-thrice es e [] = refl
 settled-thrice es e (b ∷ later) = ap (λ bs. settled es e b ∷ bs) (settled-thrice es e later)
 

@@ -11,7 +11,7 @@ use Rattle.iso_issuer.specs.declared.effect.Side.{Side}
 use Rattle.iso_issuer.specs.declared.effect.Side.TheVariants.{Given, Taken, Held}
 use Rattle.iso_issuer.specs.declared.journal.Entry.{Entry}
 use Rattle.iso_issuer.specs.Effect.{effect_of, amount_of, is_on, is_key, same_side}
-use Rattle.iso_issuer.specs.Journal.{left_at, smaller, undone, counts_with, is_ended, weight, weight_at, effect_at, reversed_by, released_by, ended_key, HasDistinctKeys}
+use Rattle.iso_issuer.specs.Journal.{left_at, smaller_of, undone_key, counts_with, is_ended, weight, weight_at, effect_at, reversed_by, released_by, ended_key, HasDistinctKeys}
 use Rattle.iso_issuer.specs.Balance.{share, total, ledger, available, ledger_share, available_share}
 use Rattle.iso_issuer.proofs.ByKey.{left-kept}
 use Rattle.iso_issuer.proofs.Touched.{at, sum-entered-two}
@@ -27,16 +27,16 @@ ended-kept es e key (Some f) distinct other = ap (λ b. same_side f.side Held &&
 
 -- an entry that an order doesn't touch keeps its weight
 pub weight-kept : (es : List Entry) (e x : Entry) → HasDistinctKeys (map (λ e. e.order) es) →
-    is_key (undone e.order.act) x.order.key ≡ false → is_key (ended_key es e.order) x.order.key ≡ false → weight (es ++ e ∷ []) x ≡ weight es x
+    is_key (undone_key e.order.act) x.order.key ≡ false → is_key (ended_key es e.order) x.order.key ≡ false → weight (es ++ e ∷ []) x ≡ weight es x
 weight-kept es e x distinct other apart =
-    ap (λ o. cond (counts_with o x && not (is_ended (es ++ e ∷ []) x.order.key (effect_of x.order))) (smaller (amount_of (effect_of x.order)) o) 0)
+    ap (λ o. cond (counts_with o x && not (is_ended (es ++ e ∷ []) x.order.key (effect_of x.order))) (smaller_of (amount_of (effect_of x.order)) o) 0)
     (left-kept es e x.order.key other)
-    ∙ ap (λ b. cond (counts_with (left_at es x.order.key) x && not b) (smaller (amount_of (effect_of x.order)) (left_at es x.order.key)) 0)
+    ∙ ap (λ b. cond (counts_with (left_at es x.order.key) x && not b) (smaller_of (amount_of (effect_of x.order)) (left_at es x.order.key)) 0)
     (ended-kept es e x.order.key (effect_of x.order) distinct apart)
 
 -- the keys that an order touches are two
 abbrev pub AreApart : List Entry → Instruction → Type 0
-AreApart es o = (q : TxKey) → is_key (ended_key es o) q ≡ true → is_key (undone o.act) q ≡ false
+AreApart es o = (q : TxKey) → is_key (ended_key es o) q ≡ true → is_key (undone_key o.act) q ≡ false
 
 -- the law: a sum grows by the weight of the new entry, and by the weight after less the weight before of the one that it reverses
 -- and of the hold that it ends or gives back
@@ -49,7 +49,7 @@ pub total-entered : (side : Side) (pan : AccountNumber) (es : List Entry) (e : E
     + share side pan (effect_at (released_by es e.order)) (weight_at (es ++ e ∷ []) (released_by es e.order))
 total-entered side pan es e distinct apart =
     let both = sum-entered-two (λ x. share side pan (effect_of x.order) (weight es x)) (λ x. share side pan (effect_of x.order) (weight (es ++ e ∷ []) x))
-    (undone e.order.act) (ended_key es e.order) es e distinct apart
+    (undone_key e.order.act) (ended_key es e.order) es e distinct apart
     (λ x other away. ap (share side pan (effect_of x.order)) (sym (weight-kept es e x distinct other away))) in
     let r = each es (reversed_by es e.order) in
     let s = each (es ++ e ∷ []) (reversed_by es e.order) in

@@ -1,4 +1,5 @@
 -- What is on an account: sums over the whole journal.
+-- Inner, for bodies and proofs: `ledger_share`, `available_share`.
 use Rattle.std.specs.Prelude.{ℕ, ℤ, pos, ◌+ℤ◌, ◌-ℤ◌, List, sum_by, Option, if◌then◌else◌}
 use Rattle.iso_order.specs.AccountNumber.{AccountNumber}
 use Rattle.iso_issuer.specs.declared.account.Account.{Account}

@@ -1,4 +1,5 @@
 -- Balances of accounts, and changes of them.
+-- Inner, for bodies and proofs: `balance_at`, `balance_with`, `balance_after`, `on_ledger`, `on_available`, `ledger_grown`, `available_grown`, `balance_by_weights`.
 use Rattle.std.specs.Prelude.{ℕ, ℤ, pos, ◌+ℤ◌, ◌-ℤ◌, ◌≤ℤ◌, ◌+◌, ◌*◌, List, Option, None, Some, find, map, if◌then◌else◌}
 use Rattle.iso_order.specs.AccountNumber.{AccountNumber}
 use Rattle.iso_order.specs.Order.{same_pan}
@@ -19,16 +20,16 @@ abbrev pub balance_at : List Balance → AccountNumber → Option Balance
 balance_at balances pan = find (λ b. same_pan b.account.pan pan) balances
 
 -- an account as it is at first
-abbrev pub opened : Account → Balance
-opened a = record { account = a; ledger = a.opening; available = a.opening }
+abbrev pub opening_balance : Account → Balance
+opening_balance a = record { account = a; ledger = a.opening; available = a.opening }
 
 -- a balance with the amounts of a change added
-abbrev pub added : Change → Balance → Balance
-added c b = record { account = b.account; ledger = b.ledger +ℤ c.ledger; available = b.available +ℤ c.available }
+abbrev pub balance_with : Change → Balance → Balance
+balance_with c b = record { account = b.account; ledger = b.ledger +ℤ c.ledger; available = b.available +ℤ c.available }
 
 -- a balance after a change, which is of one account
-abbrev pub posted : Change → Balance → Balance
-posted c b = if same_pan c.pan b.account.pan then added c b else b
+abbrev pub balance_after : Change → Balance → Balance
+balance_after c b = if same_pan c.pan b.account.pan then balance_with c b else b
 
 -- what a change adds to the ledger of this number
 abbrev pub on_ledger : Option Change → AccountNumber → ℤ
@@ -53,8 +54,8 @@ available_grown Taken z = pos 0 -ℤ z
 available_grown Held z = pos 0 -ℤ z
 
 -- a balance after the weight of an entry went from one to another
-abbrev pub moved : Option Effect → ℕ → ℕ → Balance → Balance
-moved f before after b =
+abbrev pub balance_by_weights : Option Effect → ℕ → ℕ → Balance → Balance
+balance_by_weights f before after b =
     record {
       account = b.account;
       ledger = b.ledger +ℤ (ledger_share b.account.pan f after -ℤ ledger_share b.account.pan f before);

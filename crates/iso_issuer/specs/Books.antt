@@ -38,8 +38,8 @@ pub record IsRoomFor (b : Books) (key : TxKey) : Type 0 where
   pub new : is_entered b.orders key ≡ false
 
 -- the books with an order more, unless its key is there
-abbrev pub entering : Books → Instruction → Books
-entering b o = record { accounts = b.accounts; limit = b.limit; orders = firsts (b.orders ++ o ∷ []) }
+abbrev pub books_with : Books → Instruction → Books
+books_with b o = record { accounts = b.accounts; limit = b.limit; orders = firsts (b.orders ++ o ∷ []) }
 
 -- what an order may be answered
 abbrev pub IsReply : Books → Instruction → Result Outcome Refused → Type 0
@@ -49,7 +49,7 @@ IsReply b o (Err Memory) = IsRoomFor b o.key
 
 -- what an order and its answer leave: a refusal changes nothing
 abbrev pub left_by : Books → Instruction → Result Outcome Refused → Books
-left_by b o (Ok answer) = entering b o
+left_by b o (Ok answer) = books_with b o
 left_by b o (Err refused) = b
 
 -- each order of the list has the answer that it may have after those before it

@@ -12,7 +12,7 @@ use Rattle.iso_issuer.specs.declared.journal.Entry.{Entry}
 use Rattle.iso_issuer.specs.declared.effect.Effect.{Effect}
 use Rattle.iso_issuer.specs.Account.{account_of}
 use Rattle.iso_issuer.specs.Effect.{effect_of, takes}
-use Rattle.iso_issuer.specs.Journal.{is_reversed, left_at, smaller, entry_at}
+use Rattle.iso_issuer.specs.Journal.{is_reversed, left_at, smaller_of, entry_at}
 use Rattle.iso_issuer.specs.Balance.{available}
 
 -- ---- the code of a new order, on the entries before it
@@ -24,7 +24,7 @@ is_wide z = int_lt (pos 999999999999) z || int_lt z (negsuc 999999999998)
 -- on its account: an inquiry has 96 where it can't be shown, a debit that is a request 51 where what is left of it is over the available amount
 abbrev pub amount_code : List Entry → TxKey → Option Effect → Account → ℕ
 amount_code before key None a = if is_wide (available before a) then 96 else 0
-amount_code before key (Some f) a = if takes f.side && (function_of key == 0) && int_lt (available before a) (pos (smaller f.amount (left_at before key))) then 51 else 0
+amount_code before key (Some f) a = if takes f.side && (function_of key == 0) && int_lt (available before a) (pos (smaller_of f.amount (left_at before key))) then 51 else 0
 
 -- 14 without an account, 12 in another currency
 abbrev pub account_code : List Entry → Instruction → Money → Option Account → ℕ
@@ -75,22 +75,22 @@ abbrev pub new_entry : List Account → List Entry → Instruction → Entry
 new_entry accounts before o = record { order = o; answer = new_answer accounts before o }
 
 -- the entries after these orders, each decided on the entries before it
-abbrev pub entered : List Account → List Entry → List Instruction → List Entry
-entered accounts before [] = before
-entered accounts before (o ∷ os) = entered accounts (before ++ new_entry accounts before o ∷ []) os
+abbrev pub entries_after : List Account → List Entry → List Instruction → List Entry
+entries_after accounts before [] = before
+entries_after accounts before (o ∷ os) = entries_after accounts (before ++ new_entry accounts before o ∷ []) os
 
 abbrev pub journal_of : List Account → List Instruction → List Entry
-journal_of accounts orders = entered accounts [] orders
+journal_of accounts orders = entries_after accounts [] orders
 
 -- ---- the reply to any order
 
 -- the first answer again, or 94 to another order of that key
-abbrev pub repeated : Entry → Instruction → Outcome
-repeated e o = if same_order e.order o then e.answer else record { code = 94; seq = 0; shown = None }
+abbrev pub repeat_answer : Entry → Instruction → Outcome
+repeat_answer e o = if same_order e.order o then e.answer else record { code = 94; seq = 0; shown = None }
 
 abbrev pub reply_by : List Account → List Entry → Instruction → Option Entry → Outcome
 reply_by accounts journal o None = new_answer accounts journal o
-reply_by accounts journal o (Some e) = repeated e o
+reply_by accounts journal o (Some e) = repeat_answer e o
 
 -- that of the entry of its key, where there is one, else a new answer
 abbrev pub reply : List Account → List Entry → Instruction → Outcome

@@ -3,9 +3,10 @@ use Rattle.std.specs.Option.{option_or}
 use Rattle.std.specs.Prelude.{◌≡◌, ℕ, ℤ, pos, negsuc, int_lt, ◌+◌, ◌==◌, ◌||◌, List, [], ◌∷◌, ◌++◌, length, map, Bool, false, Option, None, Some, option_map, option_and_then, Result, Ok, Err, if◌then◌else◌, codes}
 use Rattle.std.specs.List.{list_any}
 use Rattle.std.specs.Str.{IsUtf8}
-use Rattle.serde_json.specs.Data.{Data, Items, no_items, item, Members, no_members, member}
-use Rattle.serde_json.specs.Find.{get, as_object, as_array, as_str, as_number, as_i64}
+use Rattle.serde_json.specs.Data.{Data, Items, no_items, item}
+use Rattle.serde_json.specs.Find.{get, as_array, as_number, as_i64}
 use Rattle.serde_json.specs.Read.{read}
+use Rattle.iso_table.specs.Members.{has_size, text_at}
 use Rattle.iso_order.specs.AccountNumber.{AccountNumber}
 use Rattle.iso_order.specs.Order.{same_pan, currency_of}
 use Rattle.iso_order.specs.Pan.{pan_of}
@@ -16,37 +17,21 @@ use Rattle.iso_issuer.specs.declared.fault.AccountsFault.TheVariants.{Shape, Twi
 
 -- ---- the shape
 
-abbrev pub member_count : Members → ℕ
-member_count no_members = 0
-member_count (member k d ms) = member_count ms + 1
-
-abbrev pub counts_to : ℕ → Option Members → Bool
-counts_to n None = false
-counts_to n (Some ms) = member_count ms == n
-
--- an object of so many members
-abbrev pub has_size : ℕ → Data → Bool
-has_size n d = counts_to n (as_object d)
-
--- the text at a member
-abbrev pub text_at : List ℕ → Data → Option (List ℕ)
-text_at key d = option_and_then as_str (get key d)
-
 -- the whole number at a member, where it fits an i64
 abbrev pub number_at : List ℕ → Data → Option ℤ
 number_at key d = option_and_then (λ m. option_and_then as_i64 (as_number m)) (get key d)
 
-abbrev pub listed : Option AccountNumber → Option (List ℕ) → Option ℤ → Option Listed
-listed (Some pan) (Some currency) (Some opening) = Some (record { pan = pan; currency = currency; opening = opening })
-listed (Some pan) (Some currency) None = None
-listed (Some pan) None opening = None
-listed None currency opening = None
+abbrev pub listed_of : Option AccountNumber → Option (List ℕ) → Option ℤ → Option Listed
+listed_of (Some pan) (Some currency) (Some opening) = Some (record { pan = pan; currency = currency; opening = opening })
+listed_of (Some pan) (Some currency) None = None
+listed_of (Some pan) None opening = None
+listed_of None currency opening = None
 
 -- an object of `pan`, `currency` and `opening`, and of no other member
 abbrev pub listed_in : Data → Option Listed
 listed_in d =
     if has_size 3 d then
-    listed (option_and_then pan_of (text_at (codes "pan") d)) (option_and_then currency_of (text_at (codes "currency") d)) (number_at (codes "opening") d)
+    listed_of (option_and_then pan_of (text_at (codes "pan") d)) (option_and_then currency_of (text_at (codes "currency") d)) (number_at (codes "opening") d)
     else None
 
 -- the accounts of an array, each of them one
@@ -85,13 +70,13 @@ abbrev pub unless : List Listed → Option AccountsFault → Result (List Listed
 unless rows None = Ok rows
 unless rows (Some e) = Err e
 
-abbrev pub judged : Option (List Listed) → Result (List Listed) AccountsFault
-judged None = Err Shape
-judged (Some rows) = unless rows (first_fault [] rows)
+abbrev pub list_or_fault : Option (List Listed) → Result (List Listed) AccountsFault
+list_or_fault None = Err Shape
+list_or_fault (Some rows) = unless rows (first_fault [] rows)
 
 -- the accounts of a value, or the first fault
 abbrev pub accounts_in : Data → Result (List Listed) AccountsFault
-accounts_in d = judged (document_in d)
+accounts_in d = list_or_fault (document_in d)
 
 -- an account as a document lists it
 abbrev pub as_listed : Account → Listed

@@ -1,4 +1,5 @@
 -- What an order does to its account, as long as it stands.
+-- Inner, for bodies and proofs: `ended_by`.
 use Rattle.std.specs.Prelude.{ℕ, Bool, true, false, ◌==◌, ◌&&◌, Option, Some, None, if◌then◌else◌}
 use Rattle.iso_order.specs.declared.key.TxKey.{TxKey}
 use Rattle.iso_order.specs.declared.act.Act.{Act}
@@ -53,9 +54,9 @@ ended_by None = None
 ended_by (Some f) = f.ends
 
 -- an effect that ends the hold of this key on this account
-abbrev pub ends : TxKey → AccountNumber → Option Effect → Bool
-ends key pan None = false
-ends key pan (Some f) = is_key f.ends key && same_pan f.pan pan
+abbrev pub is_end_of : TxKey → AccountNumber → Option Effect → Bool
+is_end_of key pan None = false
+is_end_of key pan (Some f) = is_key f.ends key && same_pan f.pan pan
 
 -- an effect on this account, this way
 abbrev pub is_on : Side → AccountNumber → Option Effect → Bool

@@ -14,7 +14,7 @@ use Rattle.iso_issuer.specs.declared.balances.Row.{Row}
 use Rattle.iso_issuer.specs.Balances.{accounts_of, balance_at}
 use Rattle.iso_issuer.specs.Index.{row_of}
 use Rattle.iso_issuer.specs.Decision.{money_of}
-use Rattle.iso_issuer.specs.Journal.{undone, left_at, weight, reversed_by, released_by}
+use Rattle.iso_issuer.specs.Journal.{undone_key, left_at, weight, reversed_by, released_by}
 
 -- an entry, what the first reversal of it leaves, and its weight
 abbrev pub touched_at : List Entry → Option Entry → Option Touched
@@ -22,16 +22,16 @@ touched_at journal None = None
 touched_at journal (Some e) = Some (record { entry = e; left = left_at journal e.order.key; weight = weight journal e })
 
 -- it may reverse an entry or end a hold
-abbrev pub touches : Act → Bool
-touches (Undo original left) = true
-touches (Complete m hold) = true
-touches (Debit m) = false
-touches (Credit m) = false
-touches (Inquiry m) = false
+abbrev pub is_of_earlier : Act → Bool
+is_of_earlier (Undo original left) = true
+is_of_earlier (Complete m hold) = true
+is_of_earlier (Debit m) = false
+is_of_earlier (Credit m) = false
+is_of_earlier (Inquiry m) = false
 
 -- what the first reversal of its key leaves, the entry that it reverses, and the hold that it ends or gives back
 pub record IsFoundFor (journal : List Entry) (o : Instruction) (found : Found) : Type 0 where
-  pub own : undone o.act ≡ None → found.left ≡ left_at journal o.key
+  pub own : undone_key o.act ≡ None → found.left ≡ left_at journal o.key
   pub reversed : found.reversed ≡ touched_at journal (reversed_by journal o)
   pub released : found.released ≡ touched_at journal (released_by journal o)
 
@@ -45,17 +45,17 @@ weight_in None = 0
 weight_in (Some t) = t.weight
 
 -- what an act leaves of the entry that it reverses
-abbrev pub leaves : Act → Option ℕ
-leaves (Undo original left) = Some left
-leaves (Debit m) = None
-leaves (Credit m) = None
-leaves (Inquiry m) = None
-leaves (Complete m hold) = None
+abbrev pub amount_left : Act → Option ℕ
+amount_left (Undo original left) = Some left
+amount_left (Debit m) = None
+amount_left (Credit m) = None
+amount_left (Inquiry m) = None
+amount_left (Complete m hold) = None
 
 -- what was found, once the order is entered: of what it reverses it leaves so much, unless an earlier one did
 pub record WasFoundFor (journal : List Entry) (o : Instruction) (found : Found) : Type 0 where
-  pub own : undone o.act ≡ None → found.left ≡ left_at journal o.key
-  pub reversed : (t : Touched) → found.reversed ≡ Some t → option_or t.left (leaves o.act) ≡ left_at journal t.entry.order.key
+  pub own : undone_key o.act ≡ None → found.left ≡ left_at journal o.key
+  pub reversed : (t : Touched) → found.reversed ≡ Some t → option_or t.left (amount_left o.act) ≡ left_at journal t.entry.order.key
   pub released : (t : Touched) → found.released ≡ Some t → t.left ≡ left_at journal t.entry.order.key
 
 -- the balance of the account that an order is about, and its place

@@ -16,7 +16,7 @@ use Rattle.iso_order.specs.Order.{Instruction}
 use Rattle.iso_issuer.specs.declared.index.Index.{Index}
 use Rattle.iso_issuer.specs.declared.journal.Entry.{Entry}
 use Rattle.iso_issuer.specs.Journal.{left_at, entry_at, is_counted, counts_with}
-use Rattle.iso_issuer.specs.Effect.{effect_of, ends}
+use Rattle.iso_issuer.specs.Effect.{effect_of, is_end_of}
 use Rattle.iso_issuer.specs.declared.effect.Effect.{Effect}
 use Rattle.iso_issuer.specs.declared.effect.Hold.{Hold}
 use Rattle.iso_order.specs.declared.act.Act.{Act}
@@ -57,7 +57,7 @@ bit b = if b then 1 else 0
 
 -- how many entries that count complete the hold of this key on this account
 abbrev pub completions : List Entry → TxKey → AccountNumber → ℕ
-completions entries key pan = sum_by (λ c. bit (is_counted entries c && ends key pan (effect_of c.order))) entries
+completions entries key pan = sum_by (λ c. bit (is_counted entries c && is_end_of key pan (effect_of c.order))) entries
 
 abbrev pub or_zero : Option ℕ → ℕ
 or_zero None = 0

@@ -1,4 +1,5 @@
 -- The journal: which orders are entered, which entries stand, and for how much.
+-- Inner, for bodies and proofs: `effect_at`, `weight_at`, `reversed_by`, `ended_key`, `released_by`.
 use Rattle.std.specs.Prelude.{◌≡◌, ℕ, Bool, false, not, is_some, List, [], ◌∷◌, ◌==◌, ◌&&◌, find, filter, Option, Some, None, option_map, min, option_and_then, if◌then◌else◌}
 use Rattle.std.specs.List.{list_any}
 use Rattle.std.specs.Option.{option_or}
@@ -11,7 +12,7 @@ use Rattle.iso_order.specs.Order.{Instruction}
 use Rattle.iso_issuer.specs.declared.journal.Entry.{Entry}
 use Rattle.iso_issuer.specs.declared.effect.Effect.{Effect}
 use Rattle.iso_issuer.specs.declared.effect.Side.TheVariants.{Held}
-use Rattle.iso_issuer.specs.Effect.{effect_of, amount_of, is_key, ended_by, ends, same_side}
+use Rattle.iso_issuer.specs.Effect.{effect_of, amount_of, is_key, ended_by, is_end_of, same_side}
 
 -- ---- orders
 
@@ -36,12 +37,12 @@ abbrev pub entry_at : List Entry → TxKey → Option Entry
 entry_at journal key = find (λ e. same_key e.order.key key) journal
 
 -- the key that a reversal names
-abbrev pub undone : Act → Option TxKey
-undone (Undo original left) = Some original
-undone (Debit m) = None
-undone (Credit m) = None
-undone (Inquiry m) = None
-undone (Complete m hold) = None
+abbrev pub undone_key : Act → Option TxKey
+undone_key (Undo original left) = Some original
+undone_key (Debit m) = None
+undone_key (Credit m) = None
+undone_key (Inquiry m) = None
+undone_key (Complete m hold) = None
 
 -- what a reversal leaves
 abbrev pub left_by : Act → ℕ
@@ -53,7 +54,7 @@ left_by (Complete m hold) = 0
 
 -- the first entry that reverses this key, where there is one
 abbrev pub reversal_of : List Entry → TxKey → Option Entry
-reversal_of journal key = find (λ r. is_key (undone r.order.act) key) journal
+reversal_of journal key = find (λ r. is_key (undone_key r.order.act) key) journal
 
 -- what the first reversal of this key leaves, where there is one; later ones change nothing (our own rule)
 abbrev pub left_at : List Entry → TxKey → Option ℕ
@@ -68,9 +69,9 @@ abbrev pub is_reversed : List Entry → TxKey → Bool
 is_reversed journal key = is_nothing (left_at journal key)
 
 -- the smaller of an amount and what is left of it
-abbrev pub smaller : ℕ → Option ℕ → ℕ
-smaller amount None = amount
-smaller amount (Some left) = min amount left
+abbrev pub smaller_of : ℕ → Option ℕ → ℕ
+smaller_of amount None = amount
+smaller_of amount (Some left) = min amount left
 
 -- a debit, a credit or a completion that was granted, of which something is left
 abbrev pub counts_with : Option ℕ → Entry → Bool
@@ -82,7 +83,7 @@ is_counted journal e = counts_with (left_at journal e.order.key) e
 
 -- some entry that counts completes the hold of this key on this account
 abbrev pub is_completed : List Entry → TxKey → AccountNumber → Bool
-is_completed journal key pan = list_any (λ c. is_counted journal c && ends key pan (effect_of c.order)) journal
+is_completed journal key pan = list_any (λ c. is_counted journal c && is_end_of key pan (effect_of c.order)) journal
 
 -- a hold that is completed, earlier or later
 abbrev pub is_ended : List Entry → TxKey → Option Effect → Bool
@@ -95,7 +96,7 @@ stands journal e = is_counted journal e && not (is_ended journal e.order.key (ef
 
 -- what is left of the amount of an entry that stands, else 0
 abbrev pub weight : List Entry → Entry → ℕ
-weight journal e = if stands journal e then smaller (amount_of (effect_of e.order)) (left_at journal e.order.key) else 0
+weight journal e = if stands journal e then smaller_of (amount_of (effect_of e.order)) (left_at journal e.order.key) else 0
 
 -- ---- what an order may change
 
@@ -111,7 +112,7 @@ weight_at journal (Some e) = weight journal e
 
 -- the entry that an order reverses, where there is one
 abbrev pub reversed_by : List Entry → Instruction → Option Entry
-reversed_by journal o = option_and_then (entry_at journal) (undone o.act)
+reversed_by journal o = option_and_then (entry_at journal) (undone_key o.act)
 
 -- the key of the hold that an order ends, or that it gives back by reversing what ended it
 abbrev pub ended_key : List Entry → Instruction → Option TxKey

@@ -10,9 +10,9 @@ use Rattle.iso_issuer.specs.declared.account.Account.{Account}
 use Rattle.iso_issuer.specs.declared.journal.Entry.{Entry}
 use Rattle.iso_issuer.specs.Balance.{ledger, available}
 use Rattle.iso_issuer.specs.Effect.{effect_of, amount_of, is_key}
-use Rattle.iso_issuer.specs.Journal.{firsts, is_entered, entry_at, undone, left_by, left_at, is_reversed, stands, weight, HasDistinctKeys}
+use Rattle.iso_issuer.specs.Journal.{firsts, is_entered, entry_at, undone_key, left_by, left_at, is_reversed, stands, weight, HasDistinctKeys}
 use Rattle.iso_issuer.specs.Decision.{new_entry, journal_of, reply}
-use Rattle.iso_issuer.specs.Books.{Books, journal, entering, IsFullFor}
+use Rattle.iso_issuer.specs.Books.{Books, journal, books_with, IsFullFor}
 
 -- ---- the first order of each key, up to a limit
 
@@ -89,23 +89,23 @@ NewIsFound = (journal : List Entry) (e : Entry) → entry_at journal e.order.key
 
 -- an order whose key is there changes no books
 abbrev pub KnownChangesNothing : Type 0
-KnownChangesNothing = (b : Books) (o : Instruction) → HasDistinctKeys b.orders → is_entered b.orders o.key ≡ true → entering b o ≡ b
+KnownChangesNothing = (b : Books) (o : Instruction) → HasDistinctKeys b.orders → is_entered b.orders o.key ≡ true → books_with b o ≡ b
 
 -- one whose key is new comes last
 abbrev pub NewComesLast : Type 0
 NewComesLast =
     (b : Books) (o : Instruction) → HasDistinctKeys b.orders → is_entered b.orders o.key ≡ false →
-    entering b o ≡ record b { orders = b.orders ++ o ∷ [] }
+    books_with b o ≡ record b { orders = b.orders ++ o ∷ [] }
 
 -- either way the keys stay distinct
 abbrev pub KeysStayDistinct : Type 0
-KeysStayDistinct = (b : Books) (o : Instruction) → HasDistinctKeys b.orders → HasDistinctKeys (entering b o).orders
+KeysStayDistinct = (b : Books) (o : Instruction) → HasDistinctKeys b.orders → HasDistinctKeys (books_with b o).orders
 
 -- the key of an order that is new, or that was entered as it is, has an entry with the reply to the order
 abbrev pub RepliesAreKept : Type 0
 RepliesAreKept =
     (b : Books) (o : Instruction) → HasDistinctKeys b.orders → ((e : Entry) → entry_at (journal b) o.key ≡ Some e → e.order ≡ o) →
-    entry_at (journal (entering b o)) o.key ≡ Some (record { order = o; answer = reply b.accounts (journal b) o })
+    entry_at (journal (books_with b o)) o.key ≡ Some (record { order = o; answer = reply b.accounts (journal b) o })
 
 -- ---- which entries stand
 
@@ -147,7 +147,7 @@ ReversedStays = (journal more : List Entry) (key : TxKey) → is_reversed journa
 
 -- no entry reverses the key
 abbrev pub NoneReverses : List Entry → TxKey → Type 0
-NoneReverses journal key = AllByRecursion (λ r. is_key (undone r.order.act) key ≡ false) journal
+NoneReverses journal key = AllByRecursion (λ r. is_key (undone_key r.order.act) key ≡ false) journal
 
 -- a key that no entry reverses has no reversal
 abbrev pub NoneIsNone : Type 0
@@ -159,13 +159,13 @@ NoneStaysNone = (journal more : List Entry) (key : TxKey) → left_at journal ke
 
 -- each entry that reverses the key leaves nothing
 abbrev pub AllReverseWholly : List Entry → TxKey → Type 0
-AllReverseWholly journal key = AllByRecursion (λ r. is_key (undone r.order.act) key ≡ true → left_by r.order.act ≡ 0) journal
+AllReverseWholly journal key = AllByRecursion (λ r. is_key (undone_key r.order.act) key ≡ true → left_by r.order.act ≡ 0) journal
 
 -- where an entry reverses the key, and each that does leaves nothing, the key is wholly reversed
 abbrev pub WhollyIsReversed : Type 0
 WhollyIsReversed =
     (journal : List Entry) (key : TxKey) (at : TxKey) (r : Entry) →
-    AllReverseWholly journal key → entry_at journal at ≡ Some r → is_key (undone r.order.act) key ≡ true → is_reversed journal key ≡ true
+    AllReverseWholly journal key → entry_at journal at ≡ Some r → is_key (undone_key r.order.act) key ≡ true → is_reversed journal key ≡ true
 
 -- ---- what never stands again
 
@@ -202,7 +202,7 @@ NoneShort accounts orders = AllByRecursion (λ e. e.answer.code ≢ 51) (journal
 
 -- no two orders reverse one key
 abbrev pub IsReversedOnce : List Instruction → Type 0
-IsReversedOnce orders = (key : TxKey) → count_by (λ o. is_key (undone o.act) key) orders ≤ 1
+IsReversedOnce orders = (key : TxKey) → count_by (λ o. is_key (undone_key o.act) key) orders ≤ 1
 
 -- two lists of the same orders, in neither of which one is declined with 51, and no two of which reverse one key
 pub record AreReordered (accounts : List Account) (xs ys : List Instruction) : Type 0 where

@@ -3,7 +3,7 @@
 ghost use Rattle.std.specs.Prelude.{◌≡◌, ◌≢◌, IfOk, IfErr, IsErrOf, None, Some, map, [], option_map, if◌then◌else◌};
 ghost use Rattle.iso_issuer.specs.declared.fault.AccountsFault.TheVariants.{NotJson, Shape, Memory};
 ghost use Rattle.iso_issuer.specs.Account.{HasDistinctNumbers};
-ghost use Rattle.iso_issuer.specs.Balances.{accounts_of, opened};
+ghost use Rattle.iso_issuer.specs.Balances.{accounts_of, opening_balance};
 ghost use Rattle.iso_issuer.specs.Document.{is_out_of_range, first_fault, as_listed, IsNotJson, ListsAccounts, HasFault};
 
 use crate::account::Account;
@@ -23,13 +23,13 @@ pub struct Accounts {
 impl Model for Accounts {
     ghost use Rattle.std.specs.Prelude.{◌≡◌, List, map};
     ghost use Rattle.iso_issuer.specs.declared.account.Account.{Account};
-    ghost use Rattle.iso_issuer.specs.Balances.{accounts_of, opened};
+    ghost use Rattle.iso_issuer.specs.Balances.{accounts_of, opening_balance};
 
     ghost Value = { List Account };
 
     ghost view = { λ a. accounts_of a.balances };
 
-    ghost invariant = { λ a. a.balances ≡ map opened (accounts_of a.balances) };
+    ghost invariant = { λ a. a.balances ≡ map opening_balance (accounts_of a.balances) };
 }
 
 /// The most that an account may hold at first, in minor units, either way.
@@ -57,7 +57,7 @@ fn in_range(row: Listed) -> Option<Account>
 /// The listed accounts as they are at first, each of which is in range and has a number of its own.
 fn judged(alloc: Global, listed: &[Listed]) -> Result<Balances, AccountsFault>
     ensures ok { IfOk result (λ balances. map as_listed (accounts_of balances) ≡ listed.now) }
-    ensures opened { IfOk result (λ balances. balances ≡ map opened (accounts_of balances)) }
+    ensures opened { IfOk result (λ balances. balances ≡ map opening_balance (accounts_of balances)) }
     ensures none { IfOk result (λ _. first_fault [] listed.now ≡ None) }
     ensures fault { IfErr result (λ e. e ≢ Memory → first_fault [] listed.now ≡ Some e) }
     ensures json { IsErrOf result AccountsFault.NotJson → ⊥ }
@@ -94,7 +94,7 @@ impl Accounts {
     /// The balances of the accounts, as they are at first.
     pub(crate) fn into_balances(self) -> Balances
         ensures accounts { accounts_of result ≡ self }
-        ensures opened { result ≡ map opened self }
+        ensures opened { result ≡ map opening_balance self }
     {
         self.balances
     }

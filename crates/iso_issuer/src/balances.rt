@@ -2,7 +2,7 @@
 
 ghost use Rattle.std.specs.Prelude.{◌≡◌, ◌++◌, ◌∷◌, [], None, OnOk, OnErr, All, map, option_map};
 ghost use Rattle.iso_issuer.specs.Index.{row_of};
-ghost use Rattle.iso_issuer.specs.Balances.{accounts_of, added, balance_at, opened, posted, IsNear};
+ghost use Rattle.iso_issuer.specs.Balances.{accounts_of, balance_with, balance_at, opening_balance, balance_after, IsNear};
 
 use crate::account::Account;
 use crate::change::Change;
@@ -53,7 +53,7 @@ impl Model for Balances {
 
 /// The balance of an account at first.
 fn opened(account: Account) -> Balance
-    ensures { result ≡ opened account }
+    ensures { result ≡ opening_balance account }
 {
     let opening = account.opening;
     Balance {
@@ -66,7 +66,7 @@ fn opened(account: Account) -> Balance
 /// A balance with a change added.
 fn changed(balance: Balance, change: Change) -> Balance
     requires { IsNear 2999999 balance }
-    ensures { result ≡ added change balance }
+    ensures { result ≡ balance_with change balance }
 {
     Balance {
         account: balance.account,
@@ -89,7 +89,7 @@ impl Balances {
     /// Opens an account of a new number.
     pub fn open(&mut self, account: Account) -> Result<(), AllocError>
         requires new { balance_at self.old account.pan ≡ None }
-        ensures ok { OnOk result (self.new ≡ self.old ++ opened account ∷ []) }
+        ensures ok { OnOk result (self.new ≡ self.old ++ opening_balance account ∷ []) }
         ensures unchanged { OnErr result (self.new ≡ self.old) }
     {
         self.rows.reserve(1)?;
@@ -128,7 +128,7 @@ impl Balances {
     pub fn post(&mut self, change: Change, place: Option<usize>)
         requires near { All (IsNear 2999999) self.old }
         requires place { place ≡ row_of (accounts_of self.old) change.pan }
-        ensures { self.new ≡ map (posted change) self.old }
+        ensures { self.new ≡ map (balance_after change) self.old }
     {
         if let Some(place) = place {
             self.rows[place] = changed(self.rows[place], change);

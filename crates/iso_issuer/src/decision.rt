@@ -7,9 +7,9 @@ ghost use Rattle.iso_issuer.specs.declared.journal.Entry.{Entry};
 ghost use Rattle.iso_issuer.specs.Found.{IsRowFor};
 ghost use Rattle.iso_issuer.specs.Balances.{accounts_of};
 ghost use Rattle.iso_issuer.specs.Effect.{effect_of};
-ghost use Rattle.iso_issuer.specs.Journal.{left_at, undone};
+ghost use Rattle.iso_issuer.specs.Journal.{left_at, undone_key};
 ghost use Rattle.iso_issuer.specs.Index.{AreSums, balance_on};
-ghost use Rattle.iso_issuer.specs.Decision.{is_wide, amount_code, account_code, money_of, code_of, shown_by, new_answer, repeated};
+ghost use Rattle.iso_issuer.specs.Decision.{is_wide, amount_code, account_code, money_of, code_of, shown_by, new_answer, repeat_answer};
 
 use crate::balances::{Balance, Balances, Row};
 use crate::effect::effect_of;
@@ -105,7 +105,7 @@ pub fn place_in(row: &Option<Row>) -> Option<usize>
 /// The code of a new order, of whose key the first reversal leaves so much.
 fn code_of(row: &Option<Row>, order: Order, left: Option<u64>) -> u8
     ensures value { (entries : List Entry) → (balances : List Balance) → AreSums entries balances → IsRowFor balances order row.now
-        → (undone order.act ≡ None → left ≡ left_at entries order.key) → result ≡ code_of (accounts_of balances) entries order }
+        → (undone_key order.act ≡ None → left ≡ left_at entries order.key) → result ≡ code_of (accounts_of balances) entries order }
     ensures small { result ≤ 99 }
 {
     match money_of(order) {
@@ -134,7 +134,7 @@ fn shown_by(row: &Option<Row>, order: Order) -> Option<i64>
 /// The answer to a new order, of whose key the first reversal leaves so much.
 pub fn new_answer(journal: &Journal, row: &Option<Row>, order: Order, left: Option<u64>) -> Answer
     requires few { length journal.now < 999999 }
-    requires left { undone order.act ≡ None → left ≡ left_at journal.now order.key }
+    requires left { undone_key order.act ≡ None → left ≡ left_at journal.now order.key }
     ensures { (balances : List Balance) → AreSums journal.now balances → IsRowFor balances order row.now
         → result ≡ new_answer (accounts_of balances) journal.now order }
 {
@@ -152,7 +152,7 @@ pub fn new_answer(journal: &Journal, row: &Option<Row>, order: Order, left: Opti
 
 /// The answer to an order whose key has an entry: the first answer again, or 94 to another order.
 pub fn repeated(entry: Entry, order: Order) -> Answer
-    ensures { result ≡ repeated entry order }
+    ensures { result ≡ repeat_answer entry order }
 {
     if entry.order.is_same(&order) {
         entry.answer

@@ -7,10 +7,11 @@ ghost use Rattle.serde_json.specs.View.{view, items_view};
 ghost use Rattle.iso_order.specs.AccountNumber.{AccountNumber};
 ghost use Rattle.iso_order.specs.Pan.{pan_of};
 ghost use Rattle.iso_issuer.specs.declared.fault.AccountsFault.TheVariants.{NotJson, Shape, Memory};
-ghost use Rattle.iso_issuer.specs.Document.{has_size, text_at, number_at, listed_in, rows_in, document_in, IsNotJson};
+ghost use Rattle.iso_issuer.specs.Document.{number_at, listed_in, rows_in, document_in, IsNotJson};
 
 use crate::fault::AccountsFault;
 use iso_order::{Pan, currency_of};
+use iso_table::members::{has_members, text_at};
 use serde_json::{Category, Value};
 use std::alloc::Global;
 
@@ -20,23 +21,6 @@ pub struct Listed {
     pub pan: Pan,
     pub currency: [u8; 3],
     pub opening: i64,
-}
-
-/// Whether a JSON value is an object of so many members.
-fn has_members(value: &Value, size: usize) -> bool
-    ensures { result ≡ has_size size (view value.now) }
-{
-    match value.as_object() {
-        Some(members) => members.len() == size,
-        None => false,
-    }
-}
-
-/// The text at a member.
-fn text_at<'a>(value: &'a Value, key: &str) -> Option<&'a str>
-    ensures { option_map (λ text. text.now) result ≡ text_at key.now (view value.now) }
-{
-    value.get(key)?.as_str()
 }
 
 /// The whole number at a member.

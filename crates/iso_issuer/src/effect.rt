@@ -3,7 +3,7 @@
 ghost use Rattle.std.specs.Prelude.{◌≡◌, ◌≤◌, true, None, IfSome};
 ghost use Rattle.iso_order.specs.declared.key.TxKey.{TxKey};
 ghost use Rattle.iso_order.specs.Key.{class_of};
-ghost use Rattle.iso_issuer.specs.Journal.{undone};
+ghost use Rattle.iso_issuer.specs.Journal.{undone_key};
 ghost use Rattle.iso_issuer.specs.Index.{hold_by};
 ghost use Rattle.iso_issuer.specs.Effect.{amount_of, effect_of, ended_by, is_key, side_of, takes};
 
@@ -102,7 +102,7 @@ pub fn amount_of(effect: Option<Effect>) -> u64
 pub fn effect_of(order: Order) -> Option<Effect>
     ensures value { result ≡ effect_of order }
     ensures small { IfSome result (λ f. f.amount ≤ 999999999999) }
-    ensures own { IfSome result (λ f. undone order.act ≡ None) }
+    ensures own { IfSome result (λ f. undone_key order.act ≡ None) }
     // What ends a hold is of class 2, and a hold of class 1.
     ensures ends { (q : TxKey) → is_key (ended_by result) q ≡ true → (class_of q ≡ 1) × (class_of order.key ≡ 2) }
 {

@@ -7,7 +7,7 @@ ghost use Rattle.std.specs.BTreeMap as tree;
 ghost use Rattle.std.specs.Option.{option_or};
 ghost use Rattle.iso_order.specs.Key.{same_key};
 ghost use Rattle.iso_issuer.specs.Index.{key_cmp, count_at, mark_at, IsIndexOf, AnswersAlike};
-ghost use Rattle.iso_issuer.specs.Journal.{undone, left_by};
+ghost use Rattle.iso_issuer.specs.Journal.{undone_key, left_by};
 
 use crate::effect::Hold;
 use iso_order::{Act, Order, TxKey};
@@ -58,7 +58,7 @@ fn release(counts: &mut BTreeMap<Hold, u64>, hold: Hold)
 /// Keeps what a reversal leaves of the key that it names, where it is the first to name it.
 fn keep_left(lefts: &mut BTreeMap<TxKey, u64>, order: Order) -> Result<(), AllocError>
     ensures ok { OnOk result ((key : TxKey) → tree.get key_cmp lefts.new key
-        ≡ option_or (tree.get key_cmp lefts.old key) (if is_key (undone order.act) key then Some (left_by order.act) else None)) }
+        ≡ option_or (tree.get key_cmp lefts.old key) (if is_key (undone_key order.act) key then Some (left_by order.act) else None)) }
     ensures unchanged { OnErr result ((key : TxKey) → tree.get key_cmp lefts.new key ≡ tree.get key_cmp lefts.old key) }
 {
     match order.act() {
@@ -81,11 +81,11 @@ fn keep(
     added: Option<Hold>,
     dropped: Option<Hold>,
 ) -> Result<(), AllocError>
-    requires apart { IfSome added (λ h. (undone order.act ≡ None) × (dropped ≡ None)) }
+    requires apart { IfSome added (λ h. (undone_key order.act ≡ None) × (dropped ≡ None)) }
     requires few { IfSome added (λ h. count_at counts.old h.key h.pan < 1000000) }
     requires counted { IfSome dropped (λ h. 1 ≤ count_at counts.old h.key h.pan) }
     ensures lefts { OnOk result ((key : TxKey) → tree.get key_cmp lefts.new key
-        ≡ option_or (tree.get key_cmp lefts.old key) (if is_key (undone order.act) key then Some (left_by order.act) else None)) }
+        ≡ option_or (tree.get key_cmp lefts.old key) (if is_key (undone_key order.act) key then Some (left_by order.act) else None)) }
     ensures counts { OnOk result ((key : TxKey) → (pan : AccountNumber) → count_at counts.new key pan
         ≡ count_at counts.old key pan - mark_at dropped key pan + mark_at added key pan) }
     ensures lefts_kept { OnErr result ((key : TxKey) → tree.get key_cmp lefts.new key ≡ tree.get key_cmp lefts.old key) }
@@ -145,13 +145,13 @@ impl Index {
         dropped: Option<Hold>,
     ) -> Result<(), AllocError>
         requires new { tree.get key_cmp self.old.places order.key ≡ None }
-        requires apart { IfSome added (λ h. (undone order.act ≡ None) × (dropped ≡ None)) }
+        requires apart { IfSome added (λ h. (undone_key order.act ≡ None) × (dropped ≡ None)) }
         requires few { IfSome added (λ h. count_at self.old.counts h.key h.pan < 1000000) }
         requires counted { IfSome dropped (λ h. 1 ≤ count_at self.old.counts h.key h.pan) }
         ensures places { OnOk result ((key : TxKey) → tree.get key_cmp self.new.places key
             ≡ (if same_key order.key key then Some place else tree.get key_cmp self.old.places key)) }
         ensures lefts { OnOk result ((key : TxKey) → tree.get key_cmp self.new.lefts key
-            ≡ option_or (tree.get key_cmp self.old.lefts key) (if is_key (undone order.act) key then Some (left_by order.act) else None)) }
+            ≡ option_or (tree.get key_cmp self.old.lefts key) (if is_key (undone_key order.act) key then Some (left_by order.act) else None)) }
         ensures counts { OnOk result ((key : TxKey) → (pan : AccountNumber) → count_at self.new.counts key pan
             ≡ count_at self.old.counts key pan - mark_at dropped key pan + mark_at added key pan) }
         ensures unchanged { OnErr result (AnswersAlike self.new self.old) }

@@ -1,14 +1,14 @@
 //! The journal: the orders that were entered, each with the answer that it was given.
 
 ghost use Rattle.iso_issuer.specs.Effect.{is_key, effect_of};
-ghost use Rattle.iso_issuer.specs.Found.{touched_at, touches, weight_in, IsFoundFor};
+ghost use Rattle.iso_issuer.specs.Found.{touched_at, is_of_earlier, weight_in, IsFoundFor};
 ghost use Rattle.iso_issuer.specs.declared.journal.Entry.{Entry};
 ghost use Rattle.std.specs.Prelude.{◌≡◌, ◌≤◌, ◌<◌, ◌+◌, ◌==◌, ◌++◌, ◌∷◌, [], if◌then◌else◌};
 ghost use Rattle.std.specs.Prelude.{ℕ, List, is_some, true, false, map, None, OnOk, OnErr, length};
 ghost use Rattle.std.specs.BTreeMap as tree;
 ghost use Rattle.std.specs.Ordering.{nat_cmp};
 ghost use Rattle.iso_issuer.specs.Index.{added_by, dropped_of, dropped_by};
-ghost use Rattle.iso_issuer.specs.Journal.{entry_at, undone, left_at, is_nothing, smaller, counts_with, is_completed, is_ended, weight};
+ghost use Rattle.iso_issuer.specs.Journal.{entry_at, undone_key, left_at, is_nothing, smaller_of, counts_with, is_completed, is_ended, weight};
 ghost use Rattle.iso_issuer.specs.Journal.{reversed_by, ended_key, released_by, HasDistinctKeys};
 
 use crate::effect::{Effect, Hold, Side, amount_of, effect_of, ended_by, hold_by};
@@ -51,7 +51,7 @@ impl Model for Journal {
 
 /// The key that a reversal names.
 fn undone(order: Order) -> Option<TxKey>
-    ensures { result ≡ undone order.act }
+    ensures { result ≡ undone_key order.act }
 {
     match order.act() {
         Act::Undo { original, .. } => Some(original),
@@ -61,7 +61,7 @@ fn undone(order: Order) -> Option<TxKey>
 
 /// Whether an order may reverse an entry or end a hold.
 fn touches(order: Order) -> bool
-    ensures { result ≡ touches order.act }
+    ensures { result ≡ is_of_earlier order.act }
 {
     match order.act() {
         Act::Undo { .. } | Act::Complete { .. } => true,
@@ -81,7 +81,7 @@ pub fn is_nothing(left: Option<u64>) -> bool
 
 /// The smaller of an amount and what is left of it.
 pub fn smaller(amount: u64, left: Option<u64>) -> u64
-    ensures value { result ≡ smaller amount left }
+    ensures value { result ≡ smaller_of amount left }
     ensures small { result ≤ amount }
 {
     match left {
@@ -115,7 +115,7 @@ fn dropped_of(before: Option<u64>, left: u64, reversed: &Entry) -> Option<Hold>
 
 /// The hold that an entry completes of which so much is left.
 fn added_by(left: Option<u64>, entry: &Entry) -> Option<Hold>
-    ensures { (es : List Entry) → (undone entry.now.order.act ≡ None → left ≡ left_at es entry.now.order.key) → result ≡ added_by es entry.now }
+    ensures { (es : List Entry) → (undone_key entry.now.order.act ≡ None → left ≡ left_at es entry.now.order.key) → result ≡ added_by es entry.now }
 {
     match hold_by(effect_of(entry.order)) {
         Some(hold) => {
@@ -264,7 +264,7 @@ impl Journal {
     fn ended_key(&self, order: Order, reversed: &Option<Entry>) -> Option<TxKey>
         requires { reversed.now ≡ reversed_by self.now order }
         ensures value { result ≡ ended_key self.now order }
-        ensures apart { (q : TxKey) → is_key result q ≡ true → is_key (undone order.act) q ≡ false }
+        ensures apart { (q : TxKey) → is_key result q ≡ true → is_key (undone_key order.act) q ≡ false }
     {
         match ended_by(effect_of(order)) {
             Some(hold) => Some(hold),
@@ -279,7 +279,7 @@ impl Journal {
     fn released_by(&self, order: Order, reversed: &Option<Entry>) -> Option<Entry>
         requires { reversed.now ≡ reversed_by self.now order }
         ensures value { result ≡ released_by self.now order }
-        ensures apart { (q : TxKey) → is_key (ended_key self.now order) q ≡ true → is_key (undone order.act) q ≡ false }
+        ensures apart { (q : TxKey) → is_key (ended_key self.now order) q ≡ true → is_key (undone_key order.act) q ≡ false }
     {
         match self.ended_key(order, reversed) {
             Some(hold) => self.get(hold),
@@ -289,7 +289,7 @@ impl Journal {
 
     /// What the first reversal of the key of an order leaves, unless the order is a reversal.
     fn own_left(&self, order: Order) -> Option<u64>
-        ensures { undone order.act ≡ None → result ≡ left_at self.now order.key }
+        ensures { undone_key order.act ≡ None → result ≡ left_at self.now order.key }
     {
         match undone(order) {
             Some(_) => None,
@@ -302,7 +302,7 @@ impl Journal {
         ensures found { IsFoundFor self.now order result }
         ensures reversed { weight_in result.reversed ≤ 999999999999 }
         ensures released { weight_in result.released ≤ 999999999999 }
-        ensures apart { (q : TxKey) → is_key (ended_key self.now order) q ≡ true → is_key (undone order.act) q ≡ false }
+        ensures apart { (q : TxKey) → is_key (ended_key self.now order) q ≡ true → is_key (undone_key order.act) q ≡ false }
     {
         if !touches(order) {
             return Found {

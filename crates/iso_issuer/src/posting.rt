@@ -6,12 +6,12 @@ ghost use Rattle.iso_order.specs.AccountNumber.{AccountNumber};
 ghost use Rattle.iso_issuer.specs.Effect.{effect_of};
 ghost use Rattle.iso_issuer.specs.declared.found.Touched.{Touched};
 ghost use Rattle.iso_issuer.specs.Journal.{effect_at, left_at, weight, weight_at};
-ghost use Rattle.iso_issuer.specs.Found.{entry_in, weight_in, leaves, WasFoundFor};
+ghost use Rattle.iso_issuer.specs.Found.{entry_in, weight_in, amount_left, WasFoundFor};
 ghost use Rattle.iso_issuer.specs.Range.{IsAmount};
 ghost use Rattle.iso_issuer.specs.Balance.{ledger_share, available_share};
 ghost use Rattle.iso_issuer.specs.declared.effect.Effect.{Effect};
 ghost use Rattle.iso_issuer.specs.Index.{row_of};
-ghost use Rattle.iso_issuer.specs.Balances.{accounts_of, ledger_grown, available_grown, moved, on_ledger, on_available, IsNear};
+ghost use Rattle.iso_issuer.specs.Balances.{accounts_of, ledger_grown, available_grown, balance_by_weights, on_ledger, on_available, IsNear};
 
 use crate::balances::Balances;
 use crate::change::Change;
@@ -66,7 +66,7 @@ fn post_at(balances: &mut Balances, entry: Entry, before: u64, after: u64, place
     requires before { before ≤ 999999999999 }
     requires after { after ≤ 999999999999 }
     requires place { (f : Effect) → effect_of entry.order ≡ Some f → place ≡ row_of (accounts_of balances.old) f.pan }
-    ensures moved { balances.new ≡ map (moved (effect_of entry.order) before after) balances.old }
+    ensures moved { balances.new ≡ map (balance_by_weights (effect_of entry.order) before after) balances.old }
     ensures near { (n : ℕ) → All (IsNear n) balances.old → All (IsNear (n + 1)) balances.new }
 {
     if let Some(change) = change_of(entry, before, after) {
@@ -95,7 +95,7 @@ fn post_touched(
     requires near { All (IsNear 2999999) balances.old }
     requires before { weight_in touched.now ≤ 999999999999 }
     requires left { (t : Touched) → touched.now ≡ Some t → option_or t.left leaves ≡ left_at journal.now t.entry.order.key }
-    ensures moved { balances.new ≡ map (moved (effect_at (entry_in touched.now)) (weight_in touched.now)
+    ensures moved { balances.new ≡ map (balance_by_weights (effect_at (entry_in touched.now)) (weight_in touched.now)
         (weight_at journal.now (entry_in touched.now))) balances.old }
     ensures near { (n : ℕ) → All (IsNear n) balances.old → All (IsNear (n + 1)) balances.new }
 {
@@ -108,7 +108,7 @@ fn post_touched(
 
 /// What an order leaves of the entry that it reverses.
 fn leaves(order: Order) -> Option<u64>
-    ensures { result ≡ leaves order.act }
+    ensures { result ≡ amount_left order.act }
 {
     match order.act() {
         Act::Undo { left, .. } => Some(left),
@@ -131,11 +131,11 @@ pub fn settle(
     requires reversed { weight_in found.now.reversed ≤ 999999999999 }
     requires released { weight_in found.now.released ≤ 999999999999 }
     ensures moved { balances.new
-        ≡ map (moved (effect_at (entry_in found.now.released)) (weight_in found.now.released)
+        ≡ map (balance_by_weights (effect_at (entry_in found.now.released)) (weight_in found.now.released)
         (weight_at journal.now (entry_in found.now.released)))
-        (map (moved (effect_at (entry_in found.now.reversed)) (weight_in found.now.reversed)
+        (map (balance_by_weights (effect_at (entry_in found.now.reversed)) (weight_in found.now.reversed)
         (weight_at journal.now (entry_in found.now.reversed)))
-        (map (moved (effect_of entry.order) 0 (weight journal.now entry)) balances.old)) }
+        (map (balance_by_weights (effect_of entry.order) 0 (weight journal.now entry)) balances.old)) }
     ensures near { (n : ℕ) → All (IsNear n) balances.old → All (IsNear (n + 3)) balances.new }
 {
     let own = journal.weight(&entry, found.left);

@@ -1,9 +1,11 @@
 use super::*;
+use asking::*;
 use iso_order::{Act, Answer, Money, Order, Pan, TxKey};
 use std::alloc::Global;
 use std::process::Abort;
 use std::test::*;
 
+mod asking;
 mod days;
 mod documents;
 mod faults;
@@ -28,47 +30,31 @@ fn pan(text: &[u8]) -> Result<Pan, Fail> {
     Ok(Pan::from_digits(text).ok_or("1 to 19 digits")?)
 }
 
-fn account() -> Result<Pan, Fail> {
-    pan(b"4111111111111111")
+/// A code, and the ledger and what is available after it.
+type Played = (u8, OnAccount);
+
+/// Hands what is asked to an issuer.
+fn play_one(issuer: &mut Issuer, asked: Ask) -> Result<Played, Fail> {
+    let (code, _, _) = reply_to(issuer, asked)??;
+    Ok((code, balances(issuer)?))
 }
 
-/// An amount of currency 840, on the account.
-fn money(amount: u64) -> Result<Money, Fail> {
-    Ok(Money {
-        pan: account()?,
-        amount,
-        currency: *b"840",
-    })
-}
+/// What is asked, its code, and the ledger and what is available after it.
+type Row = (Ask, u8, i64, i64);
 
-fn order(base: u16, stan: u32, act: Act) -> Result<Order, Fail> {
-    Ok(Order::new(key(base, stan), act).ok_or("what a message can carry")?)
-}
-
-fn debit(base: u16, stan: u32, amount: u64) -> Result<Order, Fail> {
-    order(base, stan, Act::Debit(money(amount)?))
-}
-
-fn undo(stan: u32, base: u16, original: u32, left: u64) -> Result<Order, Fail> {
-    order(
-        420,
-        stan,
-        Act::Undo {
-            original: key(base, original),
-            left,
-        },
-    )
-}
-
-/// Handles each order, and compares its code, the ledger and what is available.
-fn play(rt: &impl Abort, issuer: &mut Issuer, rows: &[(Order, u8, i64, i64)]) -> Result<(), Fail> {
-    for (order, code, ledger, available) in rows {
-        let answer = issuer.handle(*order)?;
-        assert_eq!(rt; answer.code, *code, "{order:?}");
-        assert_eq!(rt; issuer.ledger(account()?), Some(*ledger), "{order:?}");
-        assert_eq!(rt; issuer.available(account()?), Some(*available), "{order:?}");
+/// Hands each row to an issuer, and compares its code, the ledger and what is available.
+fn play_on(rt: &impl Abort, issuer: &mut Issuer, rows: &[Row]) -> Result<(), Fail> {
+    for (asked, code, ledger, available) in rows {
+        let expected = (*code, (Some(*ledger), Some(*available)));
+        assert_eq!(rt; play_one(issuer, *asked)?, expected, "{:?}", asked.key);
     }
     Ok(())
+}
+
+/// Hands the rows to an issuer that never was asked before.
+fn play(rt: &impl Abort, alloc: Global, opening: i64, rows: &[Row]) -> Result<(), Fail> {
+    let mut issuer = issuer(alloc, opening, 100)?;
+    play_on(rt, &mut issuer, rows)
 }
 
 /// An issuer of the account alone.
@@ -82,57 +68,120 @@ fn issuer(alloc: Global, opening: i64, limit: u32) -> Result<Issuer, Fail> {
     Ok(Issuer::new(accounts, limit))
 }
 
+/// How many orders were entered, and the ledger and what is available.
+type Books = (u32, OnAccount);
+
+/// Hands new orders to an issuer of this limit, then others, whose answers may be refusals, and compares what is
+/// told of each and what is in the books at the end.
+fn play_up_to(
+    rt: &impl Abort,
+    alloc: Global,
+    limit: u32,
+    new: &[(Ask, Reply)],
+    others: &[(Ask, Result<Reply, Refused>)],
+    books: Books,
+) -> Result<(), Fail> {
+    let mut issuer = issuer(alloc, 100, limit)?;
+    compare_new(rt, &mut issuer, new)?;
+    compare_replies(rt, &mut issuer, others)?;
+    compare_books(rt, &issuer, books)
+}
+
+/// Hands new orders to an issuer, and compares their answers.
+fn compare_new(rt: &impl Abort, issuer: &mut Issuer, rows: &[(Ask, Reply)]) -> Result<(), Fail> {
+    for (asked, told) in rows {
+        assert_eq!(rt; reply_to(issuer, *asked)??, *told, "{:?}", asked.key);
+    }
+    Ok(())
+}
+
+/// Compares how many orders were entered, and what is on the account.
+fn compare_books(rt: &impl Abort, issuer: &Issuer, books: Books) -> Result<(), Fail> {
+    assert_eq!(rt; (entries(issuer), balances(issuer)?), books);
+    Ok(())
+}
+
+/// Hands orders to an issuer, and compares their answers and refusals.
+fn compare_replies(
+    rt: &impl Abort,
+    issuer: &mut Issuer,
+    rows: &[(Ask, Result<Reply, Refused>)],
+) -> Result<(), Fail> {
+    for (asked, told) in rows {
+        assert_eq!(rt; reply_to(issuer, *asked)?, *told, "{:?}", asked.key);
+    }
+    Ok(())
+}
+
 #[test]
 fn limit_of_one(rt: HostRuntime) -> Result<(), Fail> {
-    let (first, second) = (debit(200, 1, 10)?, debit(200, 2, 10)?);
-    let mut one = issuer(rt.alloc(), 100, 1)?;
-    let answer = one.handle(first)?;
-    assert_eq!(rt; one.handle(second), Err(Refused::Full));
-    assert_eq!(rt; one.handle(first), Ok(answer));
-    assert_eq!(rt; (one.len(), one.ledger(account()?)), (1, Some(90)));
-    Ok(())
+    let new = [(debit(200, 1, 10), (0, 1, None))];
+    let others = [
+        (debit(200, 2, 10), Err(Refused::Full)),
+        (debit(200, 1, 10), Ok((0, 1, None))),
+    ];
+    let books = (1, (Some(90), Some(90)));
+    play_up_to(&rt, rt.alloc(), 1, &new, &others, books)
 }
 
 #[test]
 fn limit_of_two(rt: HostRuntime) -> Result<(), Fail> {
-    let (first, second) = (debit(200, 1, 10)?, debit(200, 2, 10)?);
-    let third = debit(200, 3, 10)?;
-    let mut two = issuer(rt.alloc(), 100, 2)?;
-    let answer = two.handle(first)?;
-    assert_eq!(rt; two.handle(second)?.seq, 2);
-    assert_eq!(rt; two.handle(third), Err(Refused::Full));
-    assert_eq!(rt; two.handle(first), Ok(answer));
-    assert_eq!(rt; (two.len(), two.available(account()?)), (2, Some(80)));
-    Ok(())
+    let new = [
+        (debit(200, 1, 10), (0, 1, None)),
+        (debit(200, 2, 10), (0, 2, None)),
+    ];
+    let others = [
+        (debit(200, 3, 10), Err(Refused::Full)),
+        (debit(200, 1, 10), Ok((0, 1, None))),
+    ];
+    let books = (2, (Some(80), Some(80)));
+    play_up_to(&rt, rt.alloc(), 2, &new, &others, books)
 }
 
 #[test]
 fn greatest_limit(rt: HostRuntime) -> Result<(), Fail> {
-    let mut most = issuer(rt.alloc(), 100, 999_999)?;
-    assert_eq!(rt; most.handle(debit(200, 3, 10)?)?.seq, 1);
-    assert_eq!(rt; most.len(), 1);
-    Ok(())
+    let new = [(debit(200, 3, 10), (0, 1, None))];
+    let books = (1, (Some(90), Some(90)));
+    play_up_to(&rt, rt.alloc(), 999_999, &new, &[], books)
 }
 
-#[test]
-fn runs(rt: HostRuntime) -> Result<(), Fail> {
-    let mut issuer = issuer(rt.alloc(), 5000, 1)?;
-    let purchase = debit(200, 7, 1000)?;
-    let other = debit(200, 8, 1000)?;
-    let answers = issuer.run(rt.alloc(), &[purchase, purchase, other])?;
+/// The answers to a list of orders.
+fn run_of(
+    alloc: Global,
+    issuer: &mut Issuer,
+    orders: &[Order],
+) -> Result<Vec<Result<Answer, Refused>>, Fail> {
+    Ok(issuer.run(alloc, orders)?)
+}
+
+/// Compares the answers to a purchase, to its repeat and to another one, where the journal takes one order.
+fn compare_run(rt: &impl Abort, answers: &[Result<Answer, Refused>]) {
     let answer = Answer {
         code: 0,
         seq: 1,
         shown: None,
     };
     // Where memory runs out (`rt try --test --fail-alloc N`), the next delivery is the first that is entered.
-    let first = match answers.as_slice() {
+    let first = match answers {
         [Err(Refused::Memory), ..] => Err(Refused::Memory),
         _ => Ok(answer),
     };
     let expected = [first, Ok(answer), Err(Refused::Full)];
-    assert_eq!(rt; answers.as_slice(), expected.as_slice());
-    assert_eq!(rt; issuer.len(), 1);
-    assert_eq!(rt; issuer.ledger(account()?), Some(4000));
+    assert_eq!(rt; answers, expected.as_slice());
+}
+
+/// Hands a purchase, its repeat and another one to an issuer as one list.
+fn run_three(rt: &impl Abort, alloc: Global, issuer: &mut Issuer) -> Result<(), Fail> {
+    let purchase = order(debit(200, 7, 1000))?;
+    let other = order(debit(200, 8, 1000))?;
+    let answers = run_of(alloc, issuer, &[purchase, purchase, other])?;
+    compare_run(rt, &answers);
     Ok(())
+}
+
+#[test]
+fn runs(rt: HostRuntime) -> Result<(), Fail> {
+    let mut issuer = issuer(rt.alloc(), 5000, 1)?;
+    run_three(&rt, rt.alloc(), &mut issuer)?;
+    compare_books(&rt, &issuer, (1, (Some(4000), Some(4000))))
 }

@@ -3,7 +3,7 @@
 use crate::ended::Ended;
 use iso_parts::{
     Bitmap, BitmapCoding, CharClass, Coding, Digits, FieldFault, FieldSpec, Judged, Length, Pad,
-    Step, append_judged, append_value, decode_field, encode_field, judge_field,
+    Step, decode_field, decode_judged, decode_value, encode_field, judge_field,
 };
 use std::alloc::Global;
 
@@ -75,27 +75,27 @@ fn decodes(alloc: Global, spec: &FieldSpec, bytes: &[u8], wanted: &[u8], size: u
 }
 
 /// The value that the bytes tell, behind a byte.
-fn appends_a_value(alloc: Global, bytes: &[u8], wanted: &[u8]) -> Ended {
+fn decodes_a_value(alloc: Global, bytes: &[u8], wanted: &[u8]) -> Ended {
     let Some(mut out) = begun(alloc) else {
         return Ended::Unready;
     };
     if ACCOUNT.good().is_err() {
         return Ended::Wrong;
     }
-    let mut told = append_value(&ACCOUNT, bytes, &mut out);
+    let mut told = decode_value(&ACCOUNT, bytes, &mut out);
     let was_refused = told == Err(FieldFault::Memory);
     if was_refused {
         if out.as_slice() != b"\x07".as_slice() {
             return Ended::Wrong;
         }
-        told = append_value(&ACCOUNT, bytes, &mut out);
+        told = decode_value(&ACCOUNT, bytes, &mut out);
     }
     let is_right = told == Ok(Some(bytes.len())) && out.as_slice() == wanted;
     Ended::of(was_refused, is_right)
 }
 
 /// The value of a part that is judged good, behind a byte.
-fn appends_judged(alloc: Global, spec: &FieldSpec, bytes: &[u8], wanted: &[u8]) -> Ended {
+fn decodes_judged(alloc: Global, spec: &FieldSpec, bytes: &[u8], wanted: &[u8]) -> Ended {
     let Some(mut out) = begun(alloc) else {
         return Ended::Unready;
     };
@@ -105,13 +105,13 @@ fn appends_judged(alloc: Global, spec: &FieldSpec, bytes: &[u8], wanted: &[u8]) 
     let Ok(Judged::Got { .. }) = judge_field(spec, bytes) else {
         return Ended::Wrong;
     };
-    let mut told = append_judged(spec, bytes, &mut out);
+    let mut told = decode_judged(spec, bytes, &mut out);
     let was_refused = told.is_err();
     if was_refused {
         if out.as_slice() != b"\x07".as_slice() {
             return Ended::Wrong;
         }
-        told = append_judged(spec, bytes, &mut out);
+        told = decode_judged(spec, bytes, &mut out);
     }
     let is_right = matches!(&told, Ok(used) if *used == bytes.len()) && out.as_slice() == wanted;
     Ended::of(was_refused, is_right)
@@ -157,16 +157,16 @@ pub fn rows(alloc: Global) -> [(&'static str, Ended); 10] {
             decodes(alloc, &TRACK, b"\x03\x04\xd1", b"4=1", 3),
         ),
         (
-            "append_value",
-            appends_a_value(alloc, account, b"\x07378282246310005"),
+            "decode_value",
+            decodes_a_value(alloc, account, b"\x07378282246310005"),
         ),
         (
-            "append_judged",
-            appends_judged(alloc, &ACCOUNT, account, b"\x07378282246310005"),
+            "decode_judged",
+            decodes_judged(alloc, &ACCOUNT, account, b"\x07378282246310005"),
         ),
         (
-            "append_judged",
-            appends_judged(alloc, &PADDED, b"000012", b"\x0712"),
+            "decode_judged",
+            decodes_judged(alloc, &PADDED, b"000012", b"\x0712"),
         ),
         ("Bitmap::append", appends_a_bitmap(alloc)),
     ]

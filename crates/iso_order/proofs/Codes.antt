@@ -2,7 +2,7 @@
 use Rattle.std.proofs.Common.{◌≤◌, Bool, true, false, List, [], ◌∷◌, ◌++◌, arith, if◌then◌else◌}
 use Rattle.iso_wire.specs.Contents.{Contents}
 use Rattle.iso_order.specs.declared.verdict.Verdict.{Verdict}
-use Rattle.iso_order.specs.Verdict.{first_of, answered_lines, network_lines, key_lines, reversal_lines, completion_lines, account_lines, act_lines, amount_lines, credited, verdict, IfReply}
+use Rattle.iso_order.specs.Verdict.{first_of, answered_lines, network_lines, key_lines, reversal_lines, completion_lines, account_lines, act_lines, amount_lines, credit_verdict, verdict, IfReply}
 
 abbrev IsSmall : Verdict → Type 0
 IsSmall v = IfReply v (λ code. code ≤ 99)
@@ -15,13 +15,13 @@ AreSmall-append : (a b : List (Bool × Verdict)) → AreSmall a → AreSmall b �
 AreSmall-append [] b x y = y
 AreSmall-append (line ∷ a) b x y = (x.0, AreSmall-append a b x.1 y)
 
-first_by : (t : Bool) (v other : Verdict) → IsSmall v → IsSmall other → IsSmall (if t then v else other)
-first_by true v other x y = x
-first_by false v other x y = y
+primary_by : (t : Bool) (v other : Verdict) → IsSmall v → IsSmall other → IsSmall (if t then v else other)
+primary_by true v other x y = x
+primary_by false v other x y = y
 
 first_small : (lines : List (Bool × Verdict)) (last : Verdict) → AreSmall lines → IsSmall last → IsSmall (first_of lines last)
 first_small [] last x y = y
-first_small (line ∷ lines) last x y = first_by line.0 line.1 (first_of lines last) x.0 (first_small lines last x.1 y)
+first_small (line ∷ lines) last x y = primary_by line.0 line.1 (first_of lines last) x.0 (first_small lines last x.1 y)
 
 pub verdict_small : (m : Contents) → IfReply (verdict m) (λ code. code ≤ 99)
 unfolding verdict
@@ -45,4 +45,4 @@ verdict_small m =
     let b6 : AreSmall (answered_lines m ++ network_lines m ++ key_lines m ++ reversal_lines m ++ completion_lines m ++ account_lines m) = AreSmall-append (answered_lines m ++ network_lines m ++ key_lines m ++ reversal_lines m ++ completion_lines m) (account_lines m) b5 a6 in
     let b7 : AreSmall (answered_lines m ++ network_lines m ++ key_lines m ++ reversal_lines m ++ completion_lines m ++ account_lines m ++ act_lines m) = AreSmall-append (answered_lines m ++ network_lines m ++ key_lines m ++ reversal_lines m ++ completion_lines m ++ account_lines m) (act_lines m) b6 a7 in
     let b8 : AreSmall (answered_lines m ++ network_lines m ++ key_lines m ++ reversal_lines m ++ completion_lines m ++ account_lines m ++ act_lines m ++ amount_lines m) = AreSmall-append (answered_lines m ++ network_lines m ++ key_lines m ++ reversal_lines m ++ completion_lines m ++ account_lines m ++ act_lines m) (amount_lines m) b7 a8 in
-    first_small (answered_lines m ++ network_lines m ++ key_lines m ++ reversal_lines m ++ completion_lines m ++ account_lines m ++ act_lines m ++ amount_lines m) (credited m) b8 tt
+    first_small (answered_lines m ++ network_lines m ++ key_lines m ++ reversal_lines m ++ completion_lines m ++ account_lines m ++ act_lines m ++ amount_lines m) (credit_verdict m) b8 tt

@@ -12,7 +12,7 @@ use Rattle.iso_order.specs.declared.verdict.Verdict.TheVariants.{Order}
 use Rattle.iso_order.specs.Fields.{version, class, function, origin, asks, text, has_key, key_of, money_of, original_mti, is_original, is_own, original_of, completes, hold_of, is_replacement, left_of, kind}
 use Rattle.iso_order.specs.Order.{is_currency}
 use Rattle.iso_order.specs.Text.{are_digits, number}
-use Rattle.iso_order.specs.Verdict.{first_of, network_lines, key_lines, reversal_lines, completion_lines, account_lines, act_lines, amount_lines, credited, asked, debited_by, verdict}
+use Rattle.iso_order.specs.Verdict.{first_of, network_lines, key_lines, reversal_lines, completion_lines, account_lines, act_lines, amount_lines, credit_verdict, order_verdict, debited_by, verdict}
 use Rattle.iso_order.proofs.Table.{is_answered, not_network, with_key, not_reversal, is_replaced, with_original, with_account}
 
 -- ---- messages of a key
@@ -26,16 +26,16 @@ pub record Keyed (m : Contents) (k : TxKey) : Type 0 where
 
 -- the whole table of a message of class 1, 2 or 4 that has a key
 keyed-verdict : (m : Contents) (k : TxKey) → Keyed m k → (class m == 8) ≡ false → (class m == 1 || class m == 2 || class m == 4) ≡ true
-    → verdict m ≡ first_of (reversal_lines m ++ completion_lines m ++ account_lines m ++ act_lines m ++ amount_lines m) (credited m)
+    → verdict m ≡ first_of (reversal_lines m ++ completion_lines m ++ account_lines m ++ act_lines m ++ amount_lines m) (credit_verdict m)
 unfolding verdict
 keyed-verdict m k keyed other served =
     let rest = reversal_lines m ++ completion_lines m ++ account_lines m ++ act_lines m ++ amount_lines m in
-    is_answered m (network_lines m ++ key_lines m ++ rest) (credited m) keyed.answered keyed.origin
-    ∙ not_network m (key_lines m ++ rest) (credited m) other
-    ∙ with_key m rest (credited m) served keyed.named
+    is_answered m (network_lines m ++ key_lines m ++ rest) (credit_verdict m) keyed.answered keyed.origin
+    ∙ not_network m (key_lines m ++ rest) (credit_verdict m) other
+    ∙ with_key m rest (credit_verdict m) served keyed.named
 
 -- what is asked under the key
-asked-order : (m : Contents) (k : TxKey) (a act : Act) → key_of m ≡ k → a ≡ act → asked m a ≡ Order (record { key = k; act = act })
+asked-order : (m : Contents) (k : TxKey) (a act : Act) → key_of m ≡ k → a ≡ act → order_verdict m a ≡ Order (record { key = k; act = act })
 asked-order m k a act key same = rw (key, same) refl
 
 pub reversal-verdict : (m : Contents) (k original : TxKey) (left : ℕ) → Keyed m k → class m ≡ 4 → is_replacement m ≡ true → are_digits 42 42 (text m 90) ≡ true
@@ -44,8 +44,8 @@ reversal-verdict m k original left keyed four replaced digits type own named lea
     let rest = completion_lines m ++ account_lines m ++ act_lines m ++ amount_lines m in
     let is4 = eq-eqb (class m) 4 four in
     keyed-verdict m k keyed (rw four refl) (rw four refl)
-    ∙ is_replaced m rest (credited m) replaced
-    ∙ with_original m rest (credited m) is4 digits type own
+    ∙ is_replaced m rest (credit_verdict m) replaced
+    ∙ with_original m rest (credit_verdict m) is4 digits type own
     ∙ asked-order m k (Undo (original_of m) (left_of m)) (Undo original left) keyed.key (rw (named, leaves) refl)
 
 -- ---- payments
@@ -72,14 +72,14 @@ not_others : (n : ℕ) → (n == 1 || n == 2) ≡ true → ((n == 8) ≡ false) 
 not_others n h = (grind (arith, nat_tests), grind (arith, nat_tests), grind (arith, nat_tests))
 
 -- the lines on the processing code and the amount
-paying-verdict : (m : Contents) (k : TxKey) (money : Money) (code : ℕ) → Paying m k money code → verdict m ≡ first_of (act_lines m ++ amount_lines m) (credited m)
+paying-verdict : (m : Contents) (k : TxKey) (money : Money) (code : ℕ) → Paying m k money code → verdict m ≡ first_of (act_lines m ++ amount_lines m) (credit_verdict m)
 paying-verdict m k money code p =
     let classes = not_others (class m) p.payment in
     let rest = act_lines m ++ amount_lines m in
     keyed-verdict m k p.keyed classes.0 classes.2
-    ∙ not_reversal m (completion_lines m ++ account_lines m ++ rest) (credited m) classes.1
-    ∙ p.completing (account_lines m ++ rest) (credited m)
-    ∙ with_account m rest (credited m) p.account p.coded p.currency
+    ∙ not_reversal m (completion_lines m ++ account_lines m ++ rest) (credit_verdict m) classes.1
+    ∙ p.completing (account_lines m ++ rest) (credit_verdict m)
+    ∙ with_account m rest (credit_verdict m) p.account p.coded p.currency
 
 pub debit-verdict : (m : Contents) (k : TxKey) (money : Money) (hold : Option TxKey) → Paying m k money 0 → Moving m money → hold_of m ≡ hold → verdict m ≡ Order (record { key = k; act = debited_by money hold })
 debit-verdict m k money hold p moving named =

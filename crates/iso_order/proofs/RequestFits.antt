@@ -11,7 +11,7 @@ use Rattle.iso_parts.specs.declared.spec.FieldSpec.{FieldSpec}
 use Rattle.iso_parts.specs.Class.{is_digit}
 use Rattle.iso_parts.specs.PartLaws.{PartLaws}
 use Rattle.iso_parts.specs.Row.{Fits}
-use Rattle.iso_table.specs.declared.edition87.Group.{Group}
+use Rattle.iso_table.specs.declared.edition87.Line.{Line}
 use Rattle.iso_table.specs.declared.edition87.LengthKind.TheVariants as kinds
 use Rattle.iso_table.specs.Edition87.{IsEdition87, line, none, spec_of, row87}
 use Rattle.iso_table.specs.Layout.{Layout}
@@ -27,8 +27,8 @@ use Rattle.iso_order.specs.declared.key.TxKey.{TxKey}
 use Rattle.iso_order.specs.AccountNumber.{AccountNumber, is_pan}
 use Rattle.iso_order.specs.Key.{class_of, function_of}
 use Rattle.iso_order.specs.Listing.{elements_at}
-use Rattle.iso_order.specs.Order.{Instruction, is_letter_or_digit, is_currency, is_account, is_moved, is_payment, is_hold_for, is_valid_act}
-use Rattle.iso_order.specs.Request.{RequestsFit, RequestsAreWellFormed, money_in, processing_code, moved_by, named_by, left_by, account_number, acquirer_code, original_data, replacement_amounts, no_fee, requested, request}
+use Rattle.iso_order.specs.Order.{Instruction, is_letter_or_digit, is_currency, is_account, has_amount, is_payment, is_hold_for, is_valid_act}
+use Rattle.iso_order.specs.Request.{RequestsFit, RequestsAreWellFormed, money_in, processing_code, moved_amount, named_by, partial_left, account_number, acquirer_code, original_data, replacement_amounts, no_fee, request_value, request}
 use Rattle.iso_order.proofs.Decimals.{are_digits-acquirer}
 use Rattle.iso_order.proofs.Digits.{are_digits-most}
 use Rattle.iso_order.proofs.Fits.{IsTaken, refused-at}
@@ -38,19 +38,19 @@ use Rattle.iso_order.proofs.Valid.{key_facts, moved-account, valid-parts}
 use Rattle.iso_order.proofs.WellFormed.{bytes-none, bytes-more, bytes-decimal, bytes-at, ascending-at}
 
 -- no other number has a value in a request
-pub request-listed : (o : Instruction) → request o ≡ record { mti = o.key.base; elements = elements_at (requested o.key o.act) (2 ∷ 3 ∷ 4 ∷ 7 ∷ 11 ∷ 32 ∷ 49 ∷ 90 ∷ 95 ∷ []) }
+pub request-listed : (o : Instruction) → request o ≡ record { mti = o.key.base; elements = elements_at (request_value o.key o.act) (2 ∷ 3 ∷ 4 ∷ 7 ∷ 11 ∷ 32 ∷ 49 ∷ 90 ∷ 95 ∷ []) }
 unfolding request
 request-listed o = refl
 
 -- ---- the money of a valid order
 
 pub money-account : (key : TxKey) (act : Act) → is_valid_act key act ≡ true → IfSome (money_in act) (λ m. is_account m ≡ true)
-money-account key (Debit m) h = moved-account m (and_parts (is_payment key) (is_moved m) h).1
-money-account key (Credit m) h = moved-account m (and_parts (class_of key == 2) (is_moved m) h).1
+money-account key (Debit m) h = moved-account m (and_parts (is_payment key) (has_amount m) h).1
+money-account key (Credit m) h = moved-account m (and_parts (class_of key == 2) (has_amount m) h).1
 money-account key (Inquiry m) h = (and_parts (is_payment key && function_of key == 0 && m.amount == 0) (is_account m) h).1
 money-account key (Undo k left) h = tt
 money-account key (Complete m hold) h =
-    moved-account m (and_parts (class_of key == 2 && function_of key == 2) (is_moved m) (and_parts (class_of key == 2 && function_of key == 2 && is_moved m) (is_hold_for key hold) h).0).1
+    moved-account m (and_parts (class_of key == 2 && function_of key == 2) (has_amount m) (and_parts (class_of key == 2 && function_of key == 2 && has_amount m) (is_hold_for key hold) h).0).1
 
 -- ---- each element
 
@@ -71,24 +71,24 @@ by_number false false false false false false false false false v2 v3 v4 v7 v11 
 
 -- what holds of the value of each element, if it is there
 record Each (key : TxKey) (act : Act) (P : ℕ → List ℕ → Type 0) : Type 0 where
-  account : IfSome (requested key act 2) (P 2)
-  code : IfSome (requested key act 3) (P 3)
-  amount : IfSome (requested key act 4) (P 4)
+  account : IfSome (request_value key act 2) (P 2)
+  code : IfSome (request_value key act 3) (P 3)
+  amount : IfSome (request_value key act 4) (P 4)
   sent : P 7 (decimal 10 key.sent)
   stan : P 11 (decimal 6 key.stan)
   acquirer : P 32 (acquirer_code key.acquirer)
-  currency : IfSome (requested key act 49) (P 49)
-  original : IfSome (requested key act 90) (P 90)
-  replacement : IfSome (requested key act 95) (P 95)
+  currency : IfSome (request_value key act 49) (P 49)
+  original : IfSome (request_value key act 90) (P 90)
+  replacement : IfSome (request_value key act 95) (P 95)
 
-each-requested : (key : TxKey) (act : Act) (P : ℕ → List ℕ → Type 0) → Each key act P → (n : ℕ) → IfSome (requested key act n) (P n)
+each-requested : (key : TxKey) (act : Act) (P : ℕ → List ℕ → Type 0) → Each key act P → (n : ℕ) → IfSome (request_value key act n) (P n)
 each-requested key act P each n =
     let at = λ (k : ℕ) (v : Option (List ℕ)) (here : IfSome v (P k)) (is : (n == k) ≡ true). subst (λ (j : ℕ). IfSome v (P j)) (sym (eqb-true n k is)) here in
     by_number (n == 2) (n == 3) (n == 4) (n == 7) (n == 11) (n == 32) (n == 49) (n == 90) (n == 95)
-    (requested key act 2) (requested key act 3) (requested key act 4) (requested key act 7) (requested key act 11) (requested key act 32) (requested key act 49) (requested key act 90) (requested key act 95) (P n)
-    (at 2 (requested key act 2) each.account) (at 3 (requested key act 3) each.code) (at 4 (requested key act 4) each.amount)
-    (at 7 (requested key act 7) each.sent) (at 11 (requested key act 11) each.stan) (at 32 (requested key act 32) each.acquirer)
-    (at 49 (requested key act 49) each.currency) (at 90 (requested key act 90) each.original) (at 95 (requested key act 95) each.replacement)
+    (request_value key act 2) (request_value key act 3) (request_value key act 4) (request_value key act 7) (request_value key act 11) (request_value key act 32) (request_value key act 49) (request_value key act 90) (request_value key act 95) (P n)
+    (at 2 (request_value key act 2) each.account) (at 3 (request_value key act 3) each.code) (at 4 (request_value key act 4) each.amount)
+    (at 7 (request_value key act 7) each.sent) (at 11 (request_value key act 11) each.stan) (at 32 (request_value key act 32) each.acquirer)
+    (at 49 (request_value key act 49) each.currency) (at 90 (request_value key act 90) each.original) (at 95 (request_value key act 95) each.replacement)
 
 -- ---- what each value is
 
@@ -126,7 +126,7 @@ replacement-codes left =
 
 module _ (laws : PartLaws) (d : Digits) (t : Layout) (edition : IsEdition87 d t) where
   -- a value is taken where it fits the row of its line
-  taken-by : (n : ℕ) (l : Group) (v : List ℕ) → row87 d n ≡ Some (spec_of d n l) → Fits (spec_of d n l) v → IsTaken t.rows n v
+  taken-by : (n : ℕ) (l : Line) (v : List ℕ) → row87 d n ≡ Some (spec_of d n l) → Fits (spec_of d n l) v → IsTaken t.rows n v
   taken-by n l v row fits =
       ap (λ (r : Option FieldSpec). refused_by r n v) (edition.rows n ∙ row) ∙ ap (refused_field n) ((laws.fits (spec_of d n l) v).0 fits)
 
@@ -157,13 +157,13 @@ module _ (laws : PartLaws) (d : Digits) (t : Layout) (edition : IsEdition87 d t)
         account = some-money account_number (money_in act) (IsTaken t.rows 2) good
             (λ m account. counted-taken 2 19 (account_number m) refl (omega (arith, length-decimal m.pan.len m.pan.digits, few_digits m.pan (account-facts m account).0)) (list_all-decimal m.pan.len m.pan.digits));
         code = some-map (decimal 6) (processing_code act) (IsTaken t.rows 3) (λ v. number-taken 3 6 v refl);
-        amount = some-map (decimal 12) (moved_by act) (IsTaken t.rows 4) (λ v. number-taken 4 12 v refl);
+        amount = some-map (decimal 12) (moved_amount act) (IsTaken t.rows 4) (λ v. number-taken 4 12 v refl);
         sent = number-taken 7 10 key.sent refl;
         stan = number-taken 11 6 key.stan refl;
         acquirer = counted-taken 32 11 (acquirer_code key.acquirer) refl (are_digits-most 1 11 (acquirer_code key.acquirer) (are_digits-acquirer key.acquirer)) (acquirer-all key.acquirer);
         currency = some-money (λ (m : Money). m.currency) (money_in act) (IsTaken t.rows 49) good (λ m account. let facts = account-facts m account in code-taken 49 3 m.currency refl facts.1 facts.2);
         original = some-map original_data (named_by act) (IsTaken t.rows 90) (λ k. fixed-taken 90 42 (original_data k) refl refl (original-digits k));
-        replacement = some-map replacement_amounts (left_by act) (IsTaken t.rows 95) (λ left. code-taken 95 42 (replacement_amounts left) refl refl (replacement-codes left));
+        replacement = some-map replacement_amounts (partial_left act) (IsTaken t.rows 95) (λ left. code-taken 95 42 (replacement_amounts left) refl refl (replacement-codes left));
       }
 
 numbers : List ℕ
@@ -173,7 +173,7 @@ pub requests_fit_lem : PartLaws → RequestsFit
 unfolding numbers
 requests_fit_lem laws o h d t edition =
     let parts = valid-parts o h in
-    let value = requested o.key o.act in
+    let value = request_value o.key o.act in
     let facts = key_facts o.key parts.0 in
     let version : (o.key.base / 1000 == t.version) ≡ true = eq-eqb (o.key.base / 1000) t.version (facts.version ∙ sym edition.version) in
     let each = each-requested o.key o.act (IsTaken t.rows) (each-taken laws d t edition o.key o.act (money-account o.key o.act parts.1)) in
@@ -196,20 +196,20 @@ each-bytes key act good =
     record {
       account = some-map account_number (money_in act) AreBytes (λ m. bytes-decimal m.pan.len m.pan.digits);
       code = some-map (decimal 6) (processing_code act) AreBytes (λ v. bytes-decimal 6 v);
-      amount = some-map (decimal 12) (moved_by act) AreBytes (λ v. bytes-decimal 12 v);
+      amount = some-map (decimal 12) (moved_amount act) AreBytes (λ v. bytes-decimal 12 v);
       sent = bytes-decimal 10 key.sent;
       stan = bytes-decimal 6 key.stan;
       acquirer = bytes-digits (acquirer_code key.acquirer) (acquirer-all key.acquirer);
       currency = some-money (λ (m : Money). m.currency) (money_in act) AreBytes good (λ m account. bytes-codes m.currency (account-facts m account).2);
       original = some-map original_data (named_by act) AreBytes (λ k. bytes-digits (original_data k) (original-digits k));
-      replacement = some-map replacement_amounts (left_by act) AreBytes (λ left. bytes-codes (replacement_amounts left) (replacement-codes left));
+      replacement = some-map replacement_amounts (partial_left act) AreBytes (λ left. bytes-codes (replacement_amounts left) (replacement-codes left));
     }
 
 pub requests_well_formed_lem : RequestsAreWellFormed
 unfolding numbers
 requests_well_formed_lem o h =
     let parts = valid-parts o h in
-    let value = requested o.key o.act in
+    let value = request_value o.key o.act in
     let facts = key_facts o.key parts.0 in
     subst WellFormed (sym (request-listed o))
     (record {

@@ -17,8 +17,8 @@ use Rattle.iso_order.specs.declared.verdict.Verdict.TheVariants.{Order}
 use Rattle.iso_order.specs.AccountNumber.{AccountNumber, is_pan}
 use Rattle.iso_order.specs.Fields.{class, function, asks, base_of, text, part, original_mti, is_original, is_own, original_of, completes, is_hold, hold_of, is_replacement, left_of}
 use Rattle.iso_order.specs.Key.{class_of, function_of, is_valid_key}
-use Rattle.iso_order.specs.Order.{is_currency, is_account, is_moved, is_payment, is_hold_for, is_valid_act}
-use Rattle.iso_order.specs.Request.{RequestsAsk, money_in, processing_code, moved_by, named_by, account_number, acquirer_code, original_data, replacement_amounts, requested, request}
+use Rattle.iso_order.specs.Order.{is_currency, is_account, has_amount, is_payment, is_hold_for, is_valid_act}
+use Rattle.iso_order.specs.Request.{RequestsAsk, money_in, processing_code, moved_amount, named_by, account_number, acquirer_code, original_data, replacement_amounts, request_value, request}
 use Rattle.iso_order.specs.Text.{is_digit, are_digits, number}
 use Rattle.iso_order.specs.Verdict.{first_of, completion_lines, verdict}
 use Rattle.iso_order.proofs.Ascending.{value_in-from}
@@ -52,11 +52,11 @@ module _ (key : TxKey) (act : Act) (valid : is_valid_key key ≡ true) where
   unfolding request
   mti-is = refl
 
-  pub value-is : (n : ℕ) → 2 ≤ n → n ≤ 128 → value_in m.elements n ≡ requested key act n
+  pub value-is : (n : ℕ) → 2 ≤ n → n ≤ 128 → value_in m.elements n ≡ request_value key act n
   unfolding request
-  value-is n low high = value_in-from (requested key act) 2 127 n low (omega arith)
+  value-is n low high = value_in-from (request_value key act) 2 127 n low (omega arith)
 
-  text-is : (n : ℕ) → 2 ≤ n → n ≤ 128 → text m n ≡ unwrap_or (requested key act n) []
+  text-is : (n : ℕ) → 2 ≤ n → n ≤ 128 → text m n ≡ unwrap_or (request_value key act n) []
   text-is n low high = ap (λ (v : Option (List ℕ)). unwrap_or v []) (value-is n low high)
 
   sent-text : text m 7 ≡ decimal 10 key.sent
@@ -119,7 +119,7 @@ module _ (key : TxKey) (act : Act) (valid : is_valid_key key ≡ true) where
         completing = completing;
       }
 
-  moving : (money : Money) → moved_by act ≡ Some money.amount → is_moved money ≡ true → Moving m money
+  moving : (money : Money) → moved_amount act ≡ Some money.amount → has_amount money ≡ true → Moving m money
   moving money moves good =
       let most = and_parts (is_account money && nat_le 1 money.amount) (nat_le money.amount 999999999999) good in
       let least = and_parts (is_account money) (nat_le 1 money.amount) most.0 in
@@ -215,7 +215,7 @@ other_function n h = grind (arith, nat_tests)
 asks-act : (key : TxKey) (act : Act) (valid : is_valid_key key ≡ true) → is_valid_act key act ≡ true → verdict (m key act valid) ≡ Order (record { key = key; act = act })
 asks-act key (Debit money) valid h =
     let act = Debit money in
-    let parts = and_parts (is_payment key) (is_moved money) h in
+    let parts = and_parts (is_payment key) (has_amount money) h in
     let account = moved-account money parts.1 in
     let plain = not_naming key act valid refl in
     let none : hold_of (m key act valid) ≡ None = rw plain refl in
@@ -224,7 +224,7 @@ asks-act key (Debit money) valid h =
     (moving key act valid money refl parts.1) none
 asks-act key (Credit money) valid h =
     let act = Credit money in
-    let parts = and_parts (class_of key == 2) (is_moved money) h in
+    let parts = and_parts (class_of key == 2) (has_amount money) h in
     let account = moved-account money parts.1 in
     let plain = not_naming key act valid refl in
     let two = eqb-true (class_of key) 2 parts.0 in
@@ -256,8 +256,8 @@ asks-act key (Undo original left) valid h =
     (named-key key act valid original refl first.1 own) leaves.1
 asks-act key (Complete money hold) valid h =
     let act = Complete money hold in
-    let parts = and_parts (class_of key == 2 && function_of key == 2 && is_moved money) (is_hold_for key hold) h in
-    let front = and_parts (class_of key == 2 && function_of key == 2) (is_moved money) parts.0 in
+    let parts = and_parts (class_of key == 2 && function_of key == 2 && has_amount money) (is_hold_for key hold) h in
+    let front = and_parts (class_of key == 2 && function_of key == 2) (has_amount money) parts.0 in
     let first = and_parts (class_of key == 2) (function_of key == 2) front.0 in
     let two = eqb-true (class_of key) 2 first.0 in
     let advice = eqb-true (function_of key) 2 first.1 in

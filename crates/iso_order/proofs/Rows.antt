@@ -127,6 +127,6 @@ amount_fits s v shape size codes =
     }
 
 -- a needed row refuses no value that fits each row of its shape
-pub row_taken : PartLaws → (h : HostRow) (r : Option FieldSpec) (v : List ℕ) → h.1 ≡ true → IsHostRow h r → ((s : FieldSpec) → is_shape h.2 s ≡ true → Fits s v) → refused_by r h.0 v ≡ None
+pub row_taken : PartLaws → (h : HostRow) (r : Option FieldSpec) (v : List ℕ) → h.needed ≡ true → IsHostRow h r → ((s : FieldSpec) → is_shape h.shape s ≡ true → Fits s v) → refused_by r h.number v ≡ None
 row_taken laws h None v needed row fits = absurd (let both : true ≡ false = sym needed ∙ row in cc)
-row_taken laws h (Some s) v needed row fits = ap (refused_field h.0) ((laws.fits s v).0 (fits s row))
+row_taken laws h (Some s) v needed row fits = ap (refused_field h.number) ((laws.fits s v).0 (fits s row))

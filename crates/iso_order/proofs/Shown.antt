@@ -10,7 +10,7 @@ use Rattle.iso_order.specs.Fields.{text}
 use Rattle.iso_order.specs.Order.{is_currency, is_letter_or_digit}
 use Rattle.iso_order.specs.Response.{asks_balance, is_showable}
 use Rattle.iso_order.specs.Text.{are_digits}
-use Rattle.iso_order.specs.Verdict.{first_of, answered_lines, network_lines, key_lines, reversal_lines, completion_lines, act_lines, amount_lines, credited, verdict}
+use Rattle.iso_order.specs.Verdict.{first_of, answered_lines, network_lines, key_lines, reversal_lines, completion_lines, act_lines, amount_lines, credit_verdict, verdict}
 
 abbrev Lines : Type 0
 Lines = List (Bool × Verdict)
@@ -41,8 +41,8 @@ asks_balance-currency m h =
     let digits = are_digits 1 19 (text m 2) && are_digits 6 6 (text m 3) in
     let fields : Bool × Verdict = (not (digits && is_currency (text m 49)), Reply 30) in
     let front = answered_lines m ++ network_lines m ++ key_lines m ++ reversal_lines m ++ completion_lines m in
-    let behind = behind_lines front (fields ∷ (act_lines m ++ amount_lines m)) (credited m) refl h in
-    let refused = (refused_by (not (digits && is_currency (text m 49))) (Reply 30) (first_of (act_lines m ++ amount_lines m) (credited m)) behind refl).0 in
+    let behind = behind_lines front (fields ∷ (act_lines m ++ amount_lines m)) (credit_verdict m) refl h in
+    let refused = (refused_by (not (digits && is_currency (text m 49))) (Reply 30) (first_of (act_lines m ++ amount_lines m) (credit_verdict m)) behind refl).0 in
     (and_parts digits (is_currency (text m 49)) (not_false (digits && is_currency (text m 49)) refused)).1
 
 pub shown-currency : (m : Contents) (s : Option ℤ) (z : ℤ) → s ≡ Some z → is_showable m s ≡ true → length (text m 49) ≡ 3

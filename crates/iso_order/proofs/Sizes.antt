@@ -60,7 +60,7 @@ is_narrow_by shapes.Amounts number = number == 54
 is_narrow_by (shapes.AnyUpTo n) number = nat_le n 99
 
 abbrev is_narrow : HostRow → Bool
-is_narrow h = is_narrow_by h.2 h.0
+is_narrow h = is_narrow_by h.shape h.number
 
 same_few : (max n : ℕ) → (max == n) ≡ true → nat_le n 99 ≡ true → max ≤ 99
 same_few max n same few = grind (arith, nat_tests)
@@ -88,27 +88,27 @@ accepted_by : (n : ℕ) (e : Option FieldFault) → refused_field n e ≡ None �
 accepted_by n None h = refl
 accepted_by n (Some e) h = absurd cc
 
-value_short : PartLaws → (h : HostRow) (r : Option FieldSpec) (v : List ℕ) → is_narrow h ≡ true → IsHostRow h r → refused_by r h.0 v ≡ None → ((h.0 == 54) ≡ true → length v ≡ 20) → length (plain_by r v) ≤ 202
+value_short : PartLaws → (h : HostRow) (r : Option FieldSpec) (v : List ℕ) → is_narrow h ≡ true → IsHostRow h r → refused_by r h.number v ≡ None → ((h.number == 54) ≡ true → length v ≡ 20) → length (plain_by r v) ≤ 202
 value_short laws h None v narrow row taken amount = omega arith
 value_short laws h (Some s) v narrow row taken amount =
-    shape_short laws h.2 h.0 s v narrow row ((laws.fits s v).1 (accepted_by h.0 (refusal s v) taken)) amount
+    shape_short laws h.shape h.number s v narrow row ((laws.fits s v).1 (accepted_by h.number (refusal s v) taken)) amount
 
 -- ---- the elements
 
-entry_short : PartLaws → (rows : List (Option FieldSpec)) (h : HostRow) (o : Option (List ℕ)) (es : Values) (most : ℕ) → is_narrow h ≡ true → IsHostRow h (row_at rows h.0) → IfSome o (IsTaken rows h.0) → ((h.0 == 54) ≡ true → IfSome o (λ v. length v ≡ 20))
-    → length (flat_map (plain_of rows) es) ≤ most → length (flat_map (plain_of rows) (entry h.0 o ++ es)) ≤ 202 + most
+entry_short : PartLaws → (rows : List (Option FieldSpec)) (h : HostRow) (o : Option (List ℕ)) (es : Values) (most : ℕ) → is_narrow h ≡ true → IsHostRow h (row_at rows h.number) → IfSome o (IsTaken rows h.number) → ((h.number == 54) ≡ true → IfSome o (λ v. length v ≡ 20))
+    → length (flat_map (plain_of rows) es) ≤ most → length (flat_map (plain_of rows) (entry h.number o ++ es)) ≤ 202 + most
 entry_short laws rows h (Some v) es most narrow row taken amount rest =
-    let here = value_short laws h (row_at rows h.0) v narrow row taken amount in
-    omega (arith, length-append (plain_of rows (h.0, v)) (flat_map (plain_of rows) es))
+    let here = value_short laws h (row_at rows h.number) v narrow row taken amount in
+    omega (arith, length-append (plain_of rows (h.number, v)) (flat_map (plain_of rows) es))
 entry_short laws rows h None es most narrow row taken amount rest = omega arith
 
 elements_short : PartLaws → (rows : List (Option FieldSpec)) (value : ℕ → Option (List ℕ)) (hs : List HostRow) → list_all is_narrow hs ≡ true → AreHostRows hs rows → ((n : ℕ) → IfSome (value n) (IsTaken rows n)) → ((n : ℕ) → (n == 54) ≡ true → IfSome (value n) (λ v. length v ≡ 20))
-    → length (flat_map (plain_of rows) (elements_at value (map (λ (h : HostRow). h.0) hs))) ≤ 202 * length hs
+    → length (flat_map (plain_of rows) (elements_at value (map (λ (h : HostRow). h.number) hs))) ≤ 202 * length hs
 elements_short laws rows value [] narrow good taken amount = omega arith
 elements_short laws rows value (h ∷ hs) narrow good taken amount =
     let both = and_parts (is_narrow h) (list_all is_narrow hs) narrow in
     let rest = elements_short laws rows value hs both.1 good.1 taken amount in
-    let whole = entry_short laws rows h (value h.0) (elements_at value (map (λ (k : HostRow). k.0) hs)) (202 * length hs) both.0 good.0 (taken h.0) (amount h.0) rest in
+    let whole = entry_short laws rows h (value h.number) (elements_at value (map (λ (k : HostRow). k.number) hs)) (202 * length hs) both.0 good.0 (taken h.number) (amount h.number) rest in
     omega arith
 
 -- what is shown has twenty characters
@@ -128,13 +128,13 @@ type_short digits.Bcd n = omega arith
 pub responses_short_lem : PartLaws → MapLaws → ResponsesAreShort
 responses_short_lem laws map_laws t m a out s plain =
     let value = element m a in
-    let listed : (response m a).elements ≡ elements_at value (map (λ (h : HostRow). h.0) host_rows) = ap (λ (made : Contents). made.elements) (response-listed m a) in
+    let listed : (response m a).elements ≡ elements_at value (map (λ (h : HostRow). h.number) host_rows) = ap (λ (made : Contents). made.elements) (response-listed m a) in
     let maps = plain.spelling.maps in
     let parts = plain.spelling.parts in
     let bytes = ap length plain.spelling.bytes in
     let kind = type_short t.mti (response m a).mti in
     let bitmaps = map_laws.short t.bitmap _ maps plain.bitmaps in
-    let written : length parts ≡ length (flat_map (plain_of t.rows) (elements_at value (map (λ (h : HostRow). h.0) host_rows))) = ap length (plain.parts ∙ ap (flat_map (plain_of t.rows)) listed) in
+    let written : length parts ≡ length (flat_map (plain_of t.rows) (elements_at value (map (λ (h : HostRow). h.number) host_rows))) = ap length (plain.parts ∙ ap (flat_map (plain_of t.rows)) listed) in
     let elements = elements_short laws t.rows value host_rows refl s.ready.rows (element_taken laws t m a s) (amount_twenty m a s.shown) in
     let front = length-append (mti_bytes t.mti (response m a).mti) (maps ++ parts) in
     let behind = length-append maps parts in

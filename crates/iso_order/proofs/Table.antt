@@ -11,7 +11,7 @@ use Rattle.iso_order.specs.AccountNumber.{AccountNumber}
 use Rattle.iso_order.specs.Pan.{pan_of}
 use Rattle.iso_order.specs.Text.{are_digits, number}
 use Rattle.std.proofs.lemmas.Bool.Decides.{nat_tests}
-use Rattle.iso_order.specs.Verdict.{first_of, answered_lines, network_lines, key_lines, reversal_lines, original_lines, completion_lines, account_lines, asked}
+use Rattle.iso_order.specs.Verdict.{first_of, answered_lines, network_lines, key_lines, reversal_lines, original_lines, completion_lines, account_lines, order_verdict}
 
 module _ (m : Contents) (lines : List (Bool × Verdict)) (last : Verdict) where
   pub not_reversal : (class m == 4) ≡ false → first_of (reversal_lines m ++ lines) last ≡ first_of lines last
@@ -44,7 +44,7 @@ module _ (m : Contents) (lines : List (Bool × Verdict)) (last : Verdict) where
   pub of_another_acquirer : (class m == 4) ≡ true → are_digits 42 42 (text m 90) ≡ true → is_original (original_mti m) ≡ true → is_own m ≡ false → first_of (original_lines m ++ lines) last ≡ Reply 12
   of_another_acquirer h d o a = rw (h, d, o, a) refl
 
-  pub with_original : (class m == 4) ≡ true → are_digits 42 42 (text m 90) ≡ true → is_original (original_mti m) ≡ true → is_own m ≡ true → first_of (original_lines m ++ lines) last ≡ asked m (Undo (original_of m) (left_of m))
+  pub with_original : (class m == 4) ≡ true → are_digits 42 42 (text m 90) ≡ true → is_original (original_mti m) ≡ true → is_own m ≡ true → first_of (original_lines m ++ lines) last ≡ order_verdict m (Undo (original_of m) (left_of m))
   with_original h d o a = rw (h, d, o, a) refl
 
   pub not_completing : completes m ≡ false → first_of (completion_lines m ++ lines) last ≡ first_of lines last

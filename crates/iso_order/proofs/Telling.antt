@@ -14,7 +14,7 @@ use Rattle.iso_order.specs.Outcome.{Outcome}
 use Rattle.iso_order.specs.Response.{response, response_mti, element}
 use Rattle.iso_order.specs.Text.{are_digits, number}
 use Rattle.iso_order.specs.Told.{ResponsesTell, told_of, is_answer, answered_base, answered_key}
-use Rattle.iso_order.specs.Verdict.{first_of, answered_lines, network_lines, key_lines, reversal_lines, completion_lines, account_lines, act_lines, amount_lines, credited, verdict, IfOrder}
+use Rattle.iso_order.specs.Verdict.{first_of, answered_lines, network_lines, key_lines, reversal_lines, completion_lines, account_lines, act_lines, amount_lines, credit_verdict, verdict, IfOrder}
 use Rattle.iso_order.proofs.Ascending.{response-each}
 use Rattle.iso_order.proofs.Decimals.{number-decimal, are_digits-decimal}
 use Rattle.iso_order.proofs.Shown.{not_false}
@@ -49,7 +49,7 @@ ordered : (m : Contents) → is_order (verdict m) ≡ true → Ordered m
 unfolding verdict
 ordered m h =
     let rest = reversal_lines m ++ completion_lines m ++ account_lines m ++ act_lines m ++ amount_lines m in
-    let last = credited m in
+    let last = credit_verdict m in
     let first = passed (not (version m == 0 && asks (function m)), Silent) ((nat_lt 5 (origin m), Reply 12) ∷ (network_lines m ++ key_lines m ++ rest)) last refl h in
     let second = passed (nat_lt 5 (origin m), Reply 12) (network_lines m ++ key_lines m ++ rest) last refl first.1 in
     let third = passed (class m == 8 && not (are_digits 3 3 (text m 70)), Reply 30) ((class m == 8 && (number (text m 70) == 1 || number (text m 70) == 2 || number (text m 70) == 301), Reply 0) ∷ (key_lines m ++ rest)) last refl second.1 in
@@ -84,7 +84,7 @@ first_under k (line ∷ lines) last x y = under_by k line.0 line.1 (first_of lin
 verdict-key : (m : Contents) → IsUnder (key_of m) (verdict m)
 unfolding verdict
 verdict-key m =
-    first_under (key_of m) (answered_lines m ++ network_lines m ++ key_lines m ++ reversal_lines m ++ completion_lines m ++ account_lines m ++ act_lines m ++ amount_lines m) (credited m)
+    first_under (key_of m) (answered_lines m ++ network_lines m ++ key_lines m ++ reversal_lines m ++ completion_lines m ++ account_lines m ++ act_lines m ++ amount_lines m) (credit_verdict m)
     (tt, (tt, (tt, (tt, (tt, (tt, (tt, (tt, (tt, (tt, (refl, (tt, (tt, (tt, (tt, (tt, (tt, (refl, (tt, (tt, (refl, tt)))))))))))))))))))))
     refl
 

@@ -10,22 +10,22 @@ use Rattle.std.specs.Prelude.{IsTrue, IfSome, is_some, Option, Some, None, ◌==
 use Rattle.iso_order.specs.Fields.{asks, base_of, is_hold, is_original}
 use Rattle.iso_order.specs.Key.{class_of, function_of, is_valid_key}
 use Rattle.iso_order.specs.Verdict.{debited_by}
-use Rattle.iso_order.specs.Order.{Instruction, is_account, is_moved, is_payment, is_hold_for, is_valid_act, is_valid, amount_of}
+use Rattle.iso_order.specs.Order.{Instruction, is_account, has_amount, is_payment, is_hold_for, is_valid_act, is_valid, amount_of}
 
-moved-bound : (m : Money) → is_moved m ≡ true → m.amount < 1000000000000
+moved-bound : (m : Money) → has_amount m ≡ true → m.amount < 1000000000000
 moved-bound m h = let most = (and_parts (is_account m && nat_le 1 m.amount) (nat_le m.amount 999999999999) h).1 in grind (arith, nat_tests)
 
 -- the amount of a valid order has at most twelve digits
 pub amount-bound : (key : TxKey) (act : Act) → is_valid_act key act ≡ true → amount_of act < 1000000000000
-amount-bound key (Debit m) h = moved-bound m (and_parts (is_payment key) (is_moved m) h).1
-amount-bound key (Credit m) h = moved-bound m (and_parts (class_of key == 2) (is_moved m) h).1
+amount-bound key (Debit m) h = moved-bound m (and_parts (is_payment key) (has_amount m) h).1
+amount-bound key (Credit m) h = moved-bound m (and_parts (class_of key == 2) (has_amount m) h).1
 amount-bound key (Inquiry m) h = let zero_amount = (and_parts (is_payment key && function_of key == 0) (m.amount == 0) (and_parts (is_payment key && function_of key == 0 && m.amount == 0) (is_account m) h).0).1 in grind (arith, nat_tests)
 amount-bound key (Undo k left) h =
     let most = (and_parts (class_of key == 4 && is_valid_key k && is_payment k && k.acquirer == key.acquirer) (nat_le left 999999999999) h).1 in
     grind (arith, nat_tests)
 amount-bound key (Complete m hold) h =
-    let money = and_parts (class_of key == 2 && function_of key == 2 && is_moved m) (is_hold_for key hold) h in
-    moved-bound m (and_parts (class_of key == 2 && function_of key == 2) (is_moved m) money.0).1
+    let money = and_parts (class_of key == 2 && function_of key == 2 && has_amount m) (is_hold_for key hold) h in
+    moved-bound m (and_parts (class_of key == 2 && function_of key == 2) (has_amount m) money.0).1
 
 -- the amount of an order has at most twelve digits
 pub valid-bound : (o : Instruction) → IsTrue (is_valid o) → amount_of o.act < 1000000000000
@@ -113,7 +113,7 @@ module _ (key named : TxKey) (mti : ℕ) (valid : is_valid_key key ≡ true) (ba
       both_true (is_valid_key named && class_of named == 1) (named.acquirer == key.acquirer) (both_true (is_valid_key named) (class_of named == 1) good authorization) own
 
 module _ (key : TxKey) (m : Money) (valid : is_valid_key key ≡ true) (account : is_account m ≡ true) where
-  moved : 1 ≤ m.amount → m.amount ≤ 999999999999 → is_moved m ≡ true
+  moved : 1 ≤ m.amount → m.amount ≤ 999999999999 → has_amount m ≡ true
   moved least most =
       both_true (is_account m && nat_le 1 m.amount) (nat_le m.amount 999999999999)
       (both_true (is_account m) (nat_le 1 m.amount) account (le-leb 1 m.amount least)) (le-leb m.amount 999999999999 most)
@@ -121,19 +121,19 @@ module _ (key : TxKey) (m : Money) (valid : is_valid_key key ≡ true) (account 
   pub debit-valid : is_payment key ≡ true → 1 ≤ m.amount → m.amount ≤ 999999999999 → IsTrue (is_valid (record { key = key; act = Debit m }))
   unfolding is_valid
   debit-valid payment least most =
-      both_true (is_valid_key key) _ valid (both_true (is_payment key) (is_moved m) payment (moved least most))
+      both_true (is_valid_key key) _ valid (both_true (is_payment key) (has_amount m) payment (moved least most))
 
   pub credit-valid : class_of key ≡ 2 → 1 ≤ m.amount → m.amount ≤ 999999999999 → IsTrue (is_valid (record { key = key; act = Credit m }))
   unfolding is_valid
   credit-valid two least most =
-      both_true (is_valid_key key) _ valid (both_true (class_of key == 2) (is_moved m) (eq-eqb (class_of key) 2 two) (moved least most))
+      both_true (is_valid_key key) _ valid (both_true (class_of key == 2) (has_amount m) (eq-eqb (class_of key) 2 two) (moved least most))
 
   pub completion-valid : (hold : TxKey) → class_of key ≡ 2 → function_of key ≡ 2 → is_hold_for key hold ≡ true → 1 ≤ m.amount → m.amount ≤ 999999999999 → IsTrue (is_valid (record { key = key; act = Complete m hold }))
   unfolding is_valid
   completion-valid hold two advice named least most =
       both_true (is_valid_key key) _ valid
-      (both_true (class_of key == 2 && function_of key == 2 && is_moved m) (is_hold_for key hold)
-      (both_true (class_of key == 2 && function_of key == 2) (is_moved m)
+      (both_true (class_of key == 2 && function_of key == 2 && has_amount m) (is_hold_for key hold)
+      (both_true (class_of key == 2 && function_of key == 2) (has_amount m)
       (both_true (class_of key == 2) (function_of key == 2) (eq-eqb (class_of key) 2 two) (eq-eqb (function_of key) 2 advice)) (moved least most)) named)
 
   -- a debit, or the completion of a hold of its own
@@ -185,7 +185,7 @@ key_facts k h =
     }
 
 -- what is moved is moved on an account
-pub moved-account : (m : Money) → is_moved m ≡ true → is_account m ≡ true
+pub moved-account : (m : Money) → has_amount m ≡ true → is_account m ≡ true
 moved-account m h =
     let most = and_parts (is_account m && nat_le 1 m.amount) (nat_le m.amount 999999999999) h in
     (and_parts (is_account m) (nat_le 1 m.amount) most.0).0

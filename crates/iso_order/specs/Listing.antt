@@ -1,4 +1,5 @@
 -- The elements of a message, listed by their numbers.
+-- Inner, for bodies and proofs: `elements_at`, `ascend`.
 use Rattle.std.specs.Prelude.{ℕ, zero, suc, ◌+◌, Bool, true, ◌&&◌, nat_le, List, [], ◌∷◌, ◌++◌, Option, Some, None}
 
 -- an element where it has a value

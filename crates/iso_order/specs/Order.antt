@@ -32,8 +32,8 @@ abbrev pub is_account : Money → Bool
 is_account m = is_pan m.pan && is_currency m.currency
 
 -- an amount from 1 to twelve nines (element 4)
-abbrev pub is_moved : Money → Bool
-is_moved m = is_account m && nat_le 1 m.amount && nat_le m.amount 999999999999
+abbrev pub has_amount : Money → Bool
+has_amount m = is_account m && nat_le 1 m.amount && nat_le m.amount 999999999999
 
 -- class 1 or 2
 abbrev pub is_payment : TxKey → Bool
@@ -45,14 +45,14 @@ is_hold_for key hold = is_valid_key hold && class_of hold == 1 && hold.acquirer 
 
 -- what a message with the key can ask
 abbrev pub is_valid_act : TxKey → Act → Bool
-is_valid_act key (Debit m) = is_payment key && is_moved m
-is_valid_act key (Credit m) = class_of key == 2 && is_moved m
+is_valid_act key (Debit m) = is_payment key && has_amount m
+is_valid_act key (Credit m) = class_of key == 2 && has_amount m
 is_valid_act key (Inquiry m) = is_payment key && function_of key == 0 && m.amount == 0 && is_account m
 is_valid_act key (Undo original left) =
     class_of key == 4 && is_valid_key original && is_payment original && original.acquirer == key.acquirer
     && nat_le left 999999999999
 is_valid_act key (Complete m hold) =
-    class_of key == 2 && function_of key == 2 && is_moved m && is_hold_for key hold
+    class_of key == 2 && function_of key == 2 && has_amount m && is_hold_for key hold
 
 -- an order that a message can carry
 unfoldable pub is_valid : Instruction → Bool

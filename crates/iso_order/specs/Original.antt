@@ -4,5 +4,5 @@ use Rattle.iso_order.specs.declared.original.Original.{Original}
 use Rattle.iso_order.specs.Fields.{is_own, original_mti, original_of}
 
 -- its message type, its key under the message's own acquirer, and whether it names that acquirer or none
-abbrev pub named : Contents → Original
-named m = record { mti = original_mti m; key = original_of m; is_own = is_own m }
+abbrev pub named_original : Contents → Original
+named_original m = record { mti = original_mti m; key = original_of m; is_own = is_own m }

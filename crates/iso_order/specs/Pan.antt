@@ -9,11 +9,11 @@ abbrev pub pan_of : List ℕ → Option AccountNumber
 pan_of text = option_map (λ n. record { digits = n; len = length text }) (number_in 1 19 text)
 
 -- an asterisk for each digit, but for the first six and the last four of 13 or more
-abbrev pub hidden : List ℕ → List ℕ
-hidden digits =
+abbrev pub masked_digits : List ℕ → List ℕ
+masked_digits digits =
     if nat_lt (length digits) 13 then replicate (length digits) 42
     else take 6 digits ++ (replicate (length digits - 10) 42 ++ drop (length digits - 4) digits)
 
 -- the account number as a log shows it
-abbrev pub masked : AccountNumber → List ℕ
-masked p = hidden (decimal p.len p.digits)
+abbrev pub masked_number : AccountNumber → List ℕ
+masked_number p = masked_digits (decimal p.len p.digits)

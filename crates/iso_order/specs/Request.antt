@@ -35,12 +35,12 @@ processing_code (Undo k left) = None
 processing_code (Complete m hold) = Some 0
 
 -- the amount that is moved: an inquiry moves none (element 4, amount, transaction)
-abbrev pub moved_by : Act → Option ℕ
-moved_by (Debit m) = Some m.amount
-moved_by (Credit m) = Some m.amount
-moved_by (Inquiry m) = None
-moved_by (Undo k left) = None
-moved_by (Complete m hold) = Some m.amount
+abbrev pub moved_amount : Act → Option ℕ
+moved_amount (Debit m) = Some m.amount
+moved_amount (Credit m) = Some m.amount
+moved_amount (Inquiry m) = None
+moved_amount (Undo k left) = None
+moved_amount (Complete m hold) = Some m.amount
 
 -- the transaction that is reversed, or the hold that is completed
 abbrev pub named_by : Act → Option TxKey
@@ -51,12 +51,12 @@ named_by (Undo k left) = Some k
 named_by (Complete m hold) = Some hold
 
 -- what a reversal leaves, where it leaves a part
-abbrev pub left_by : Act → Option ℕ
-left_by (Debit m) = None
-left_by (Credit m) = None
-left_by (Inquiry m) = None
-left_by (Undo k left) = if left == 0 then None else Some left
-left_by (Complete m hold) = None
+abbrev pub partial_left : Act → Option ℕ
+partial_left (Debit m) = None
+partial_left (Credit m) = None
+partial_left (Inquiry m) = None
+partial_left (Undo k left) = if left == 0 then None else Some left
+partial_left (Complete m hold) = None
 
 -- ---- values
 
@@ -89,22 +89,22 @@ replacement_amounts left = decimal 12 left ++ decimal 12 0 ++ no_fee ++ no_fee
 -- ---- the message
 
 -- the value of an element of the request for an act under a key, if it has it
-abbrev pub requested : TxKey → Act → ℕ → Option (List ℕ)
-requested key act n =
+abbrev pub request_value : TxKey → Act → ℕ → Option (List ℕ)
+request_value key act n =
     if n == 2 then option_map account_number (money_in act)
     else if n == 3 then option_map (decimal 6) (processing_code act)
-    else if n == 4 then option_map (decimal 12) (moved_by act)
+    else if n == 4 then option_map (decimal 12) (moved_amount act)
     else if n == 7 then Some (decimal 10 key.sent)
     else if n == 11 then Some (decimal 6 key.stan)
     else if n == 32 then Some (acquirer_code key.acquirer)
     else if n == 49 then option_map (λ m. m.currency) (money_in act)
     else if n == 90 then option_map original_data (named_by act)
-    else if n == 95 then option_map replacement_amounts (left_by act)
+    else if n == 95 then option_map replacement_amounts (partial_left act)
     else None
 
 -- the request: under the key's message type, of all numbers from 2 to 128 the elements that have a value
 unfoldable pub request : Instruction → Contents
-request o = record { mti = o.key.base; elements = elements_from (requested o.key o.act) 2 127 }
+request o = record { mti = o.key.base; elements = elements_from (request_value o.key o.act) 2 127 }
 
 -- ---- what it keeps
 

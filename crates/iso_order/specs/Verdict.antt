@@ -17,8 +17,8 @@ first_of [] last = last
 first_of (line ∷ lines) last = if line.0 then line.1 else first_of lines last
 
 -- what is asked under the message's key
-abbrev pub asked : Contents → Act → Verdict
-asked m act = Order (record { key = key_of m; act = act })
+abbrev pub order_verdict : Contents → Act → Verdict
+order_verdict m act = Order (record { key = key_of m; act = act })
 
 -- ---- the lines of the table
 
@@ -49,7 +49,7 @@ original_lines m =
     (class m == 4 && not (are_digits 42 42 (text m 90)), Reply 30)
     ∷ (class m == 4 && not (is_original (original_mti m)), Reply 12)
     ∷ (class m == 4 && not (is_own m), Reply 12)
-    ∷ (class m == 4, asked m (Undo (original_of m) (left_of m)))
+    ∷ (class m == 4, order_verdict m (Undo (original_of m) (left_of m)))
     ∷ []
 
 -- class 4: what the reversal leaves (element 95, replacement amounts)
@@ -75,7 +75,7 @@ abbrev pub act_lines : Contents → List (Bool × Verdict)
 act_lines m =
     (not (is_debit (kind m) || is_credit (kind m) || is_inquiry (kind m)), Reply 12)
     ∷ ((is_credit (kind m) && (class m == 1 || completes m)) || (is_inquiry (kind m) && function m == 2), Reply 12)
-    ∷ (is_inquiry (kind m), asked m (Inquiry (money_of m 0)))
+    ∷ (is_inquiry (kind m), order_verdict m (Inquiry (money_of m 0)))
     ∷ []
 
 -- a debit, or the completion of a hold
@@ -88,17 +88,17 @@ abbrev pub amount_lines : Contents → List (Bool × Verdict)
 amount_lines m =
     (not (are_digits 12 12 (text m 4)), Reply 30)
     ∷ (number (text m 4) == 0, Reply 13)
-    ∷ (is_debit (kind m), asked m (debited_by (money_of m (number (text m 4))) (hold_of m)))
+    ∷ (is_debit (kind m), order_verdict m (debited_by (money_of m (number (text m 4))) (hold_of m)))
     ∷ []
 
 -- the last line: a credit
-abbrev pub credited : Contents → Verdict
-credited m = asked m (Credit (money_of m (number (text m 4))))
+abbrev pub credit_verdict : Contents → Verdict
+credit_verdict m = order_verdict m (Credit (money_of m (number (text m 4))))
 
 -- the whole table
 unfoldable pub verdict : Contents → Verdict
 verdict m =
-    first_of (answered_lines m ++ network_lines m ++ key_lines m ++ reversal_lines m ++ completion_lines m ++ account_lines m ++ act_lines m ++ amount_lines m) (credited m)
+    first_of (answered_lines m ++ network_lines m ++ key_lines m ++ reversal_lines m ++ completion_lines m ++ account_lines m ++ act_lines m ++ amount_lines m) (credit_verdict m)
 
 -- ---- what an order of a verdict keeps
 

@@ -2,7 +2,7 @@
 
 ghost use Rattle.std.specs.Prelude.{◌≡◌};
 ghost use Rattle.std.specs.List.{list_all};
-ghost use Rattle.iso_order.specs.Order.{is_letter_or_digit, is_currency, currency_of, is_account, is_moved, is_hold_for, is_valid_act, same_money, same_act};
+ghost use Rattle.iso_order.specs.Order.{is_letter_or_digit, is_currency, currency_of, is_account, has_amount, is_hold_for, is_valid_act, same_money, same_act};
 
 use crate::key::TxKey;
 use crate::pan::Pan;
@@ -95,7 +95,7 @@ impl Money {
 
     /// Whether it is an amount that can be moved: 1 to 999,999,999,999.
     fn is_moved(&self) -> bool
-        ensures { result ≡ is_moved self.now }
+        ensures { result ≡ has_amount self.now }
     {
         self.is_account() && 1 <= self.amount && self.amount <= 999_999_999_999
     }

@@ -3,13 +3,13 @@
 
 mod act;
 mod answer;
-mod asking;
 mod fields;
 mod key;
 pub mod laws;
 mod order;
 mod original;
 mod pan;
+mod requests;
 mod response;
 #[cfg(test)]
 mod tests;
@@ -19,11 +19,11 @@ mod verdict;
 
 pub use act::{Act, Money, currency_of};
 pub use answer::Answer;
-pub use asking::request;
 pub use iso_table::NoMemory;
 pub use key::TxKey;
 pub use order::Order;
 pub use pan::Pan;
+pub use requests::request;
 pub use response::{respond, respond_into};
 pub use told::{Told, answer_of};
 pub use verdict::{Verdict, order_of};

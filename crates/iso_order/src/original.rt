@@ -4,7 +4,7 @@ ghost use Rattle.std.specs.Prelude.{◌≡◌, ◌≤◌, ◌++◌, List, Bool, 
 ghost use Rattle.iso_order.specs.Fields.{class, function, text, key_of, is_original, is_hold, completes, hold_of};
 ghost use Rattle.iso_order.specs.Key.{class_of, function_of, is_valid_key};
 ghost use Rattle.iso_order.specs.Order.{is_hold_for};
-ghost use Rattle.iso_order.specs.Original.{named};
+ghost use Rattle.iso_order.specs.Original.{named_original};
 ghost use Rattle.iso_order.specs.Text.{are_digits};
 ghost use Rattle.iso_order.specs.Verdict.{first_of, completion_lines};
 ghost use Rattle.iso_order.specs.declared.verdict.Verdict.{Verdict};
@@ -29,7 +29,7 @@ pub(crate) struct Original {
 /// The transaction that element 90 names, where it has its 42 digits.
 pub(crate) fn original_of(message: &Message, key: &TxKey) -> Option<Original>
     requires { key.now ≡ key_of message.now }
-    ensures value { result ≡ (if are_digits 42 42 (text message.now 90) then Some (named message.now) else None) }
+    ensures value { result ≡ (if are_digits 42 42 (text message.now 90) then Some (named_original message.now) else None) }
     ensures stan { IfSome result (λ o. o.key.stan ≤ 999999) }
     ensures sent { IfSome result (λ o. o.key.sent ≤ 9999999999) }
 {

@@ -1,7 +1,7 @@
 //! Account numbers.
 
 ghost use Rattle.std.specs.Prelude.{◌≡◌, true, Some};
-ghost use Rattle.iso_order.specs.Pan.{hidden, masked, pan_of};
+ghost use Rattle.iso_order.specs.Pan.{masked_digits, masked_number, pan_of};
 
 use crate::text::number_of;
 use iso_wire::write_decimal;
@@ -61,7 +61,7 @@ impl Pan {
 
 /// Hides digits of an account number: of 13 or more all but the first six and the last four, of fewer all.
 fn hide(digits: &mut [u8])
-    ensures { digits.new ≡ hidden digits.old }
+    ensures { digits.new ≡ masked_digits digits.old }
 {
     let len = digits.len();
     if len < 13 {
@@ -74,7 +74,7 @@ fn hide(digits: &mut [u8])
 /// Shows no account number in clear: of 13 or more digits the first six and the last four, and `*` for each other
 /// digit. Takes no memory.
 impl fmt::Debug for Pan {
-    ghost debug_output = { λ p. Some (masked p) };
+    ghost debug_output = { λ p. Some (masked_number p) };
 
     fn fmt<W: fmt::Write>(&self, f: &mut fmt::Formatter<W>) -> fmt::Result {
         let mut text = [0; 19];

@@ -9,7 +9,7 @@ ghost use Rattle.iso_order.specs.Key.{class_of, function_of, is_valid_key};
 ghost use Rattle.iso_order.specs.Order.{is_valid, is_hold_for, is_account, is_currency, is_payment};
 ghost use Rattle.iso_order.specs.Text.{are_digits};
 ghost use Rattle.iso_order.specs.Verdict.{first_of, network_lines, key_lines, original_lines, reversal_lines, completion_lines};
-ghost use Rattle.iso_order.specs.Verdict.{account_lines, act_lines, amount_lines, debited_by, credited, verdict, IfReply, IfOrder};
+ghost use Rattle.iso_order.specs.Verdict.{account_lines, act_lines, amount_lines, debited_by, credit_verdict, verdict, IfReply, IfOrder};
 ghost use Rattle.iso_order.specs.Verdict.{IfAnswered};
 
 use crate::act::{Act, Money, currency_of};
@@ -156,7 +156,7 @@ fn moved(message: &Message, key: &TxKey, hold: Option<TxKey>, code: u64, money: 
     requires class { is_payment key.now ≡ true }
     requires credit { is_debit code ≡ false → class_of key.now ≡ 2 }
     requires account { is_account money ≡ true }
-    ensures verdict { result ≡ first_of (amount_lines message.now) (credited message.now) }
+    ensures verdict { result ≡ first_of (amount_lines message.now) (credit_verdict message.now) }
     ensures valid { IfOrder result (λ o. IsTrue (is_valid o)) }
     ensures key { IfOrder result (λ o. o.key ≡ key_of message.now) }
 {
@@ -191,7 +191,7 @@ fn asked(message: &Message, key: &TxKey, hold: Option<TxKey>, code: u64, money: 
     requires function { function_of key.now ≡ function message.now }
     requires account { is_account money ≡ true }
     ensures verdict { result
-        ≡ first_of (act_lines message.now ++ amount_lines message.now) (credited message.now) }
+        ≡ first_of (act_lines message.now ++ amount_lines message.now) (credit_verdict message.now) }
     ensures valid { IfOrder result (λ o. IsTrue (is_valid o)) }
     ensures key { IfOrder result (λ o. o.key ≡ key_of message.now) }
 {
@@ -235,7 +235,7 @@ fn account_asked(message: &Message, key: &TxKey, hold: Option<TxKey>) -> Verdict
     requires class { class_of key.now ≡ class message.now }
     requires function { function_of key.now ≡ function message.now }
     ensures verdict { result ≡ first_of (account_lines message.now ++ act_lines message.now
-        ++ amount_lines message.now) (credited message.now) }
+        ++ amount_lines message.now) (credit_verdict message.now) }
     ensures valid { IfOrder result (λ o. IsTrue (is_valid o)) }
     ensures key { IfOrder result (λ o. o.key ≡ key_of message.now) }
 {
@@ -260,7 +260,7 @@ fn payment(message: &Message, key: &TxKey) -> Verdict
     requires class { class_of key.now ≡ class message.now }
     requires function { function_of key.now ≡ function message.now }
     ensures verdict { result ≡ first_of (completion_lines message.now ++ account_lines message.now
-        ++ act_lines message.now ++ amount_lines message.now) (credited message.now) }
+        ++ act_lines message.now ++ amount_lines message.now) (credit_verdict message.now) }
     ensures valid { IfOrder result (λ o. IsTrue (is_valid o)) }
     ensures key { IfOrder result (λ o. o.key ≡ key_of message.now) }
 {
@@ -278,7 +278,7 @@ fn keyed(message: &Message, digit: u8) -> Verdict
     requires class { digit ≡ class message.now }
     requires served { (digit ≡ 1) ⊎ (digit ≡ 2) ⊎ (digit ≡ 4) }
     ensures verdict { result ≡ first_of (key_lines message.now ++ reversal_lines message.now
-        ++ completion_lines message.now ++ account_lines message.now ++ act_lines message.now ++ amount_lines message.now) (credited message.now) }
+        ++ completion_lines message.now ++ account_lines message.now ++ act_lines message.now ++ amount_lines message.now) (credit_verdict message.now) }
     ensures valid { IfOrder result (λ o. IsTrue (is_valid o)) }
     ensures key { IfOrder result (λ o. o.key ≡ key_of message.now) }
 {

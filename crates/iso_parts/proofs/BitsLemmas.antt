@@ -12,7 +12,7 @@ use Rattle.std.proofs.lemmas.Slice.{take-put_mid}
 use borrow.Rule.Slice.PartMut.{put_mid}
 use Rattle.iso_parts.specs.declared.bitmap.Bitmap.{Bitmap}
 use Rattle.iso_parts.specs.declared.bitmap.BitmapCoding.TheVariants.{Raw}
-use Rattle.iso_parts.specs.Bits.{Bits, Two, HasAbove, contains, first_set, second_set}
+use Rattle.iso_parts.specs.Bits.{Bits, Two, HasAbove, contains, primary_bits, secondary_bits}
 
 pub Bits-to_be_bytes : (set : ℕ → Bool) (w : ℕ) → w < 2 ^ 64 → ((k : ℕ) → 0 < k → k ≤ 64 → eqb (bit_at w (64 - k)) 1 ≡ set k) → Bits set (to_be_bytes w64 w)
 Bits-to_be_bytes set w lt h = record { eight = refl; bit = λ k low high. ap (λ (n : ℕ). eqb (bit_at n (64 - k)) 1) (from_be_bytes-to_be_bytes_8 w lt) ∙ h k low high }
@@ -21,33 +21,33 @@ Bits-to_be_bytes set w lt h = record { eight = refl; bit = λ k low high. ap (λ
 two_words : (a b rest : List ℕ) → length a ≡ 8 → length b ≡ 8 → take 16 (put_mid 8 8 (a ++ rest) b) ≡ a ++ b
 two_words a b rest la lb = take-put_mid 8 8 (a ++ rest) b 16 (omega arith) (omega (arith, length-append a rest)) ∙ ap (λ (l : List ℕ). l ++ b) (take_at a rest 8 la)
 
-pub Two-words : (set : ℕ → Bool) (a b rest : List ℕ) → Bits (first_set true set) a → Bits (second_set set) b → Two Raw set (take 16 (put_mid 8 8 (a ++ rest) b))
-Two-words set a b rest first second =
-    let whole = two_words a b rest first.eight second.eight in
-    let front : take 8 (take 16 (put_mid 8 8 (a ++ rest) b)) ≡ a = ap (take 8) whole ∙ take_at a b 8 first.eight in
-    let back : drop 8 (take 16 (put_mid 8 8 (a ++ rest) b)) ≡ b = ap (drop 8) whole ∙ drop_at a b 8 first.eight in
+pub Two-words : (set : ℕ → Bool) (a b rest : List ℕ) → Bits (primary_bits true set) a → Bits (secondary_bits set) b → Two Raw set (take 16 (put_mid 8 8 (a ++ rest) b))
+Two-words set a b rest primary secondary =
+    let whole = two_words a b rest primary.eight secondary.eight in
+    let front : take 8 (take 16 (put_mid 8 8 (a ++ rest) b)) ≡ a = ap (take 8) whole ∙ take_at a b 8 primary.eight in
+    let back : drop 8 (take 16 (put_mid 8 8 (a ++ rest) b)) ≡ b = ap (drop 8) whole ∙ drop_at a b 8 primary.eight in
     record {
-      first = subst (λ (l : List ℕ). Bits (first_set true set) l) (sym front) first;
-      second = subst (λ (l : List ℕ). Bits (second_set set) l) (sym back) second;
+      primary = subst (λ (l : List ℕ). Bits (primary_bits true set) l) (sym front) primary;
+      secondary = subst (λ (l : List ℕ). Bits (secondary_bits set) l) (sym back) secondary;
     }
 
 -- a second word that is not 0 has a bit
-pub HasAbove-second : (s : Bitmap) → s.second ≢ 0 → HasAbove (contains s)
-HasAbove-second s other =
-    let t = bit_at-trailing_zeros w64 s.second (omega arith) (omega (arith, s.not_65)) in
-    let k = 128 - trailing_zeros w64 s.second in
-    let same : 128 - k ≡ trailing_zeros w64 s.second = omega (arith, t.0) in
-    let one : bit_at s.second (128 - k) ≡ 1 = ap (bit_at s.second) same ∙ t.1 in
+pub HasAbove-secondary : (s : Bitmap) → s.secondary ≢ 0 → HasAbove (contains s)
+HasAbove-secondary s other =
+    let t = bit_at-trailing_zeros w64 s.secondary (omega arith) (omega (arith, s.not_65)) in
+    let k = 128 - trailing_zeros w64 s.secondary in
+    let same : 128 - k ≡ trailing_zeros w64 s.secondary = omega (arith, t.0) in
+    let one : bit_at s.secondary (128 - k) ≡ 1 = ap (bit_at s.secondary) same ∙ t.1 in
     (k, omega (arith, t.0), omega arith, grind (arith, nat_tests, one, t.0))
 
-pub first_bits : (s : Bitmap) (w : ℕ) → bit_at w 63 ≡ 1 → ((i : ℕ) → i ≢ 63 → bit_at w i ≡ bit_at s.first i) → (k : ℕ) → 0 < k → k ≤ 64 → eqb (bit_at w (64 - k)) 1 ≡ first_set true (contains s) k
+pub first_bits : (s : Bitmap) (w : ℕ) → bit_at w 63 ≡ 1 → ((i : ℕ) → i ≢ 63 → bit_at w i ≡ bit_at s.primary i) → (k : ℕ) → 0 < k → k ≤ 64 → eqb (bit_at w (64 - k)) 1 ≡ primary_bits true (contains s) k
 first_bits s w top others k low high =
     elim (cases_eq k 1) [
       | inl e ↦ rw e (ap (λ (n : ℕ). eqb n 1) top)
       | inr ne ↦ let other = others (64 - k) (λ e. ne (omega arith)) in grind (arith, nat_tests)
     ]
 
-pub second_bits : (s : Bitmap) (k : ℕ) → 0 < k → k ≤ 64 → eqb (bit_at s.second (64 - k)) 1 ≡ second_set (contains s) k
+pub second_bits : (s : Bitmap) (k : ℕ) → 0 < k → k ≤ 64 → eqb (bit_at s.secondary (64 - k)) 1 ≡ secondary_bits (contains s) k
 second_bits s k low high = let same : 128 - (64 + k) ≡ 64 - k = omega arith in grind (arith, nat_tests)
 
 -- neither a word nor a part of it has a bit above its width

@@ -1,5 +1,5 @@
 -- How many characters of a value are written.
-use Rattle.std.proofs.Common.{◌≡◌, ◌≢◌, subst, ℕ, zero, suc, ◌+◌, ◌-◌, ◌≤◌, true, cond, eqb, leb, List, ◌++◌, length, replicate, refl, ap, ◌∙◌, arith}
+use Rattle.std.proofs.Common.{◌≡◌, ℕ, zero, suc, ◌+◌, ◌-◌, ◌≤◌, true, cond, eqb, leb, List, ◌++◌, length, replicate, refl, ap, ◌∙◌, arith}
 use Rattle.std.proofs.lemmas.Bool.{and_parts, eqb-true}
 use Rattle.std.proofs.lemmas.Bool.Decides.{nat_tests}
 use Rattle.std.proofs.lemmas.List.{length-append}
@@ -59,12 +59,3 @@ counts s v good fits = counts_by_pad s s.pad v good.pad fits.length
 -- the greatest count has a prefix
 pub max_small : (s : FieldSpec) → IsGood s → s.max ≤ limit s.length
 max_small s good = grind (arith, nat_tests, good.max)
-
-fixed_by_pad : (s : FieldSpec) (pad : Pad) → is_good_pad s pad ≡ true → pad ≢ pads.None → s.length ≡ lengths.Fixed
-fixed_by_pad s pads.None good some = absurd (some refl)
-fixed_by_pad s (pads.Left p) good some = padded_is_fixed s.class s.length (and_parts _ _ good).0
-fixed_by_pad s (pads.Right p) good some = padded_is_fixed s.class s.length (and_parts _ _ good).0
-
--- a value is filled up to the most characters of a fixed length
-pub padded_few : (s : FieldSpec) → IsGood s → s.pad ≢ pads.None → s.max ≤ limit lengths.Fixed
-padded_few s good some = subst (λ (k : Length). s.max ≤ limit k) (fixed_by_pad s s.pad good.pad some) (max_small s good)

@@ -1,9 +1,10 @@
 -- Judging a body, and what is judged good is a part.
-use Rattle.std.proofs.Common.{◌≡◌, ◌≢◌, ℕ, zero, suc, ◌+◌, ◌*◌, ◌/◌, ◌%◌, ◌≤◌, ◌<◌, Bool, true, false, cond, ltb, List, [], ◌∷◌, length, take, drop, get_or, Some, None, Result, Ok, Err, refl, ap, subst, ◌∙◌, arith}
+use Rattle.std.proofs.Common.{◌≡◌, ◌≢◌, ℕ, zero, suc, ◌+◌, ◌*◌, ◌/◌, ◌%◌, ◌≤◌, ◌<◌, Bool, true, false, cond, ltb, eqb, List, [], ◌∷◌, length, take, drop, reverse, get_or, Some, None, Result, Ok, Err, refl, ap, subst, ◌∙◌, arith}
 use Rattle.std.specs.List.{list_all}
 use Rattle.std.proofs.lemmas.Bool.Decides.{nat_tests}
 use Rattle.std.proofs.lemmas.Bool.{and_parts, cond-true, cond-false, ltb-true, ltb-false, lt-ltb, le-ltb}
-use Rattle.std.proofs.lemmas.List.{length-drop}
+use Rattle.std.proofs.lemmas.List.{length-drop, reverse-append}
+use Rattle.std.proofs.lemmas.List.Folds.{list_all-append}
 use Rattle.std.proofs.lemmas.List.Sums.{AllPass-from_list_all, list_all-from_AllPass}
 use Rattle.hex.specs.Hex.{decode_of, is_hex_digit}
 use Rattle.hex.specs.declared.error.FromHexError.{FromHexError}
@@ -22,7 +23,7 @@ use Rattle.iso_parts.specs.declared.judging.Judged.TheVariants as judgements
 use Rattle.iso_parts.specs.Class.{is_digit, is_within, is_in_class}
 use Rattle.iso_parts.specs.Row.{IsGood, is_coded}
 use Rattle.iso_parts.specs.Part.{characters, Part}
-use Rattle.iso_parts.specs.Reading.{◌>>=◌, or_bad_hex, text_of, unpadded, value_of, body_of, prefix_size, prefix_of, body_size, some_count, count_at, some_size, size_at, got, more, fault, at_prefix, at_body, part_at, Judges, IfJudged}
+use Rattle.iso_parts.specs.Reading.{◌>>=◌, or_bad_hex, text_of, without_front, unpadded, value_of, body_of, prefix_size, prefix_of, body_size, some_count, count_at, some_size, size_at, got, more, fault, at_prefix, at_body, part_at, Judges, IfJudged}
 use Rattle.iso_parts.proofs.Takes.{part_takes}
 use Rattle.iso_parts.proofs.Texts.{has_nibbles}
 
@@ -34,15 +35,15 @@ digits_in_class : (w : List ℕ) → is_in_class classes.N w ≡ list_all is_dig
 digits_in_class [] = refl
 digits_in_class (x ∷ xs) = refl
 
-class_of_digits : (c : CharClass) (p : Pad) (w : List ℕ) → c ≡ classes.N → p ≡ pads.None → is_in_class c (unpadded p w) ≡ list_all is_digit w
-class_of_digits c p w is none = ap (λ (d : CharClass). is_in_class d (unpadded p w)) is ∙ ap (λ (q : Pad). is_in_class classes.N (unpadded q w)) none ∙ digits_in_class w
+class_of_digits : (c : CharClass) (w : List ℕ) → c ≡ classes.N → is_in_class c w ≡ list_all is_digit w
+class_of_digits c w is = ap (λ (d : CharClass). is_in_class d w) is ∙ digits_in_class w
 
--- digits without padding
-pub digits_judged : (s : FieldSpec) (w : List ℕ) → s.class ≡ classes.N → s.pad ≡ pads.None → list_all is_digit w ≡ true → value_of s w ≡ Ok (unpadded s.pad w)
-digits_judged s w is none h = value_is s w (class_of_digits s.class s.pad w is none ∙ h)
+-- digits behind their padding
+pub digits_judged : (s : FieldSpec) (w : List ℕ) → s.class ≡ classes.N → list_all is_digit (unpadded s.pad w) ≡ true → value_of s w ≡ Ok (unpadded s.pad w)
+digits_judged s w is h = value_is s w (class_of_digits s.class (unpadded s.pad w) is ∙ h)
 
-pub digits_refused : (s : FieldSpec) (w : List ℕ) → s.class ≡ classes.N → s.pad ≡ pads.None → list_all is_digit w ≡ false → value_of s w ≡ Err NotInClass
-digits_refused s w is none h = ap (λ (t : Bool). cond t (Ok (unpadded s.pad w)) (Err NotInClass)) (class_of_digits s.class s.pad w is none ∙ h)
+pub digits_refused : (s : FieldSpec) (w : List ℕ) → s.class ≡ classes.N → list_all is_digit (unpadded s.pad w) ≡ false → value_of s w ≡ Err NotInClass
+digits_refused s w is h = ap (λ (t : Bool). cond t (Ok (unpadded s.pad w)) (Err NotInClass)) (class_of_digits s.class (unpadded s.pad w) is ∙ h)
 
 -- ---- packed characters of any nibble
 
@@ -74,16 +75,36 @@ nibbles_in_class : (w : List ℕ) → has_nibbles w ≡ true → is_in_class cla
 nibbles_in_class [] all = refl
 nibbles_in_class (x ∷ xs) all = all
 
--- without padding any nibbles are a value
-pub any_packed : (s : FieldSpec) (n : ℕ) (b : List ℕ) → IsGood s → s.coding ≡ codings.Bcd → s.class ≢ classes.N → s.pad ≡ pads.None → ((i : ℕ) → get_or b i 0 < 256)
+nibbles_reversed : (w : List ℕ) → has_nibbles w ≡ true → has_nibbles (reverse w) ≡ true
+nibbles_reversed [] all = refl
+nibbles_reversed (x ∷ xs) all =
+    let both = and_parts (is_within 48 63 x) (has_nibbles xs) all in
+    ap has_nibbles (reverse-append (x ∷ []) xs) ∙ list_all-append (is_within 48 63) (reverse xs) (x ∷ []) ∙ rw (nibbles_reversed xs both.1, both.0) refl
+
+stripped_by : (t : Bool) (a b : List ℕ) → has_nibbles a ≡ true → has_nibbles b ≡ true → has_nibbles (cond t a b) ≡ true
+stripped_by true a b first second = first
+stripped_by false a b first second = second
+
+nibbles_stripped : (p : ℕ) (w : List ℕ) → has_nibbles w ≡ true → has_nibbles (without_front p w) ≡ true
+nibbles_stripped p [] all = refl
+nibbles_stripped p (x ∷ xs) all =
+    let rest = nibbles_stripped p xs (and_parts (is_within 48 63 x) (has_nibbles xs) all).1 in
+    stripped_by (eqb x p) (without_front p xs) (x ∷ xs) rest all
+
+nibbles_unpadded : (p : Pad) (w : List ℕ) → has_nibbles w ≡ true → has_nibbles (unpadded p w) ≡ true
+nibbles_unpadded pads.None w all = all
+nibbles_unpadded (pads.Left p) w all = nibbles_stripped p w all
+nibbles_unpadded (pads.Right p) w all = nibbles_reversed (without_front p (reverse w)) (nibbles_stripped p (reverse w) (nibbles_reversed w all))
+
+-- any nibbles are a value
+pub any_packed : (s : FieldSpec) (n : ℕ) (b : List ℕ) → IsGood s → s.coding ≡ codings.Bcd → s.class ≢ classes.N → ((i : ℕ) → get_or b i 0 < 256)
     → value_of s (drop n (characters b)) ≡ Ok (unpadded s.pad (drop n (characters b)))
-any_packed s n b good coded other none bytes =
+any_packed s n b good coded other bytes =
     let w : List ℕ = drop n (characters b) in
     let is : s.class ≡ classes.Z = class_of_packed s.class (subst (λ (c : Coding). is_coded c s.class ≡ true) coded good.coding) other in
     value_is s w (
     ap (λ (c : CharClass). is_in_class c (unpadded s.pad w)) is
-    ∙ ap (λ (p : Pad). is_in_class classes.Z (unpadded p w)) none
-    ∙ nibbles_in_class w (nibbles_behind n (characters b) (characters_nibbles b bytes)))
+    ∙ nibbles_in_class (unpadded s.pad w) (nibbles_unpadded s.pad w (nibbles_behind n (characters b) (characters_nibbles b bytes))))
 
 -- ---- hexadecimal digits
 

@@ -12,6 +12,7 @@ pub mod BitmapLaws
 pub mod Highest
 pub mod Buffers
 pub mod Plain
+pub mod Pairs
 pub mod Stable
 pub mod PlainBitmaps
 pub mod SetBitmaps
@@ -25,3 +26,4 @@ pub mod HexDigits
 pub mod NumberLaws
 pub mod WalkLaws
 pub mod CountLaws
+pub mod Nibbles

@@ -5,7 +5,7 @@ use Rattle.hex.specs.Hex.{decode_of, encode_with, encode_upper, upper_digits, Is
 use Rattle.hex.proofs.HexLemmas.{decode_of-encode_upper, length-encode_with}
 use Rattle.iso_parts.specs.declared.bitmap.BitmapCoding.{BitmapCoding}
 use Rattle.iso_parts.specs.declared.bitmap.BitmapCoding.TheVariants.{Raw, Hex}
-use Rattle.iso_parts.specs.Bits.{Bits, BitsIn, first_set, second_set, Bitmaps, in_coding}
+use Rattle.iso_parts.specs.Bits.{Bits, BitsIn, primary_bits, secondary_bits, Bitmaps, in_coding}
 use Rattle.iso_parts.proofs.BitmapLaws.{bytes_take, bytes_drop}
 
 encode_with-append : (t xs ys : List ℕ) → encode_with t (xs ++ ys) ≡ encode_with t xs ++ encode_with t ys
@@ -25,12 +25,12 @@ plain_maps Raw two set raw fits maps = maps
 plain_maps Hex true set raw fits maps =
     let front : List ℕ = encode_upper (take 8 raw) in
     let back : List ℕ = encode_upper (drop 8 raw) in
-    let size : length front ≡ 16 = omega (arith, length-encode_with upper_digits (take 8 raw), maps.first.eight) in
+    let size : length front ≡ 16 = omega (arith, length-encode_with upper_digits (take 8 raw), maps.primary.eight) in
     record {
-      first = hex_bits (first_set true set) (take 8 raw) (take 16 (encode_upper raw)) (bytes_take 8 raw fits) maps.first (ap (take 16) (hex_split raw) ∙ take_at front back 16 size);
-      second = hex_bits (second_set set) (drop 8 raw) (drop 16 (encode_upper raw)) (bytes_drop 8 raw fits) maps.second (ap (drop 16) (hex_split raw) ∙ drop_at front back 16 size);
+      primary = hex_bits (primary_bits true set) (take 8 raw) (take 16 (encode_upper raw)) (bytes_take 8 raw fits) maps.primary (ap (take 16) (hex_split raw) ∙ take_at front back 16 size);
+      secondary = hex_bits (secondary_bits set) (drop 8 raw) (drop 16 (encode_upper raw)) (bytes_drop 8 raw fits) maps.secondary (ap (drop 16) (hex_split raw) ∙ drop_at front back 16 size);
     }
 plain_maps Hex false set raw fits maps = record {
-  first = hex_bits (first_set false set) raw (encode_upper raw) fits maps.first refl;
+  primary = hex_bits (primary_bits false set) raw (encode_upper raw) fits maps.primary refl;
   none = maps.none;
 }

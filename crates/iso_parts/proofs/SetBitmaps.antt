@@ -9,7 +9,7 @@ use Rattle.std.proofs.lemmas.Nat.Bits.{bit_at-lt, bit_at-suc, bit_at_lowest, sam
 use Rattle.hex.specs.Hex.{IsBytes}
 use Rattle.iso_parts.specs.declared.bitmap.BitmapCoding.{BitmapCoding}
 use Rattle.iso_parts.specs.declared.bitmap.BitmapCoding.TheVariants.{Raw}
-use Rattle.iso_parts.specs.Bits.{Bits, HasAbove, first_set, second_set, Bitmaps, in_coding, PlainBitmaps}
+use Rattle.iso_parts.specs.Bits.{Bits, HasAbove, primary_bits, secondary_bits, Bitmaps, in_coding, PlainBitmaps}
 use Rattle.iso_parts.proofs.BitmapLaws.{bytes_take, bytes_drop}
 use Rattle.iso_parts.proofs.BitsLemmas.{Bits-to_be_bytes}
 use Rattle.iso_parts.proofs.PlainBitmaps.{plain_maps}
@@ -112,15 +112,15 @@ plain_in c two set raw fits maps needed = (
 
 plain_by : (c : BitmapCoding) (set : ℕ → Bool) → HasAbove set ⊎ ((k : ℕ) → 64 < k → k ≤ 128 → set k ≡ false) → (b : List ℕ) × PlainBitmaps c set b
 plain_by c set (inl above) =
-    let front : List ℕ = bytes_of (first_set true set) in
-    let back : List ℕ = bytes_of (second_set set) in
-    plain_in c true set (front ++ back) (fit_both front back (fit_of (first_set true set)) (fit_of (second_set set)))
+    let front : List ℕ = bytes_of (primary_bits true set) in
+    let back : List ℕ = bytes_of (secondary_bits set) in
+    plain_in c true set (front ++ back) (fit_both front back (fit_of (primary_bits true set)) (fit_of (secondary_bits set)))
     (record {
-      first = subst (λ (l : List ℕ). Bits (first_set true set) l) (sym (take_at front back 8 refl)) (bits_of (first_set true set));
-      second = subst (λ (l : List ℕ). Bits (second_set set) l) (sym (drop_at front back 8 refl)) (bits_of (second_set set));
+      primary = subst (λ (l : List ℕ). Bits (primary_bits true set) l) (sym (take_at front back 8 refl)) (bits_of (primary_bits true set));
+      secondary = subst (λ (l : List ℕ). Bits (secondary_bits set) l) (sym (drop_at front back 8 refl)) (bits_of (secondary_bits set));
     })
     (λ is. above)
-plain_by c set (inr none) = plain_in c false set (bytes_of (first_set false set)) (fit_of (first_set false set)) (record { first = bits_of (first_set false set); none = none }) (λ is. absurd cc)
+plain_by c set (inr none) = plain_in c false set (bytes_of (primary_bits false set)) (fit_of (primary_bits false set)) (record { primary = bits_of (primary_bits false set); none = none }) (λ is. absurd cc)
 
 pub has_plain_maps : (c : BitmapCoding) (set : ℕ → Bool) → (b : List ℕ) × PlainBitmaps c set b
 has_plain_maps c set = plain_by c set (above_or_none set 64 (omega arith))
@@ -149,12 +149,12 @@ no_above set above none = let e : true ≡ false = sym above.3 ∙ none above.0 
 raw_once : (two more : Bool) (set : ℕ → Bool) (a b : List ℕ) → IsBytes a → IsBytes b → (two ≡ true → HasAbove set) → (more ≡ true → HasAbove set) → Bitmaps Raw two set a → Bitmaps Raw more set b → a ≡ b
 raw_once true true set a b fits others above needed one other =
     sym (take-append-drop 8 a)
-    ∙ ap (λ (l : List ℕ). l ++ drop 8 a) (bits_once (first_set true set) (take 8 a) (take 8 b) (bytes_take 8 a fits) (bytes_take 8 b others) one.first other.first)
-    ∙ ap (λ (l : List ℕ). take 8 b ++ l) (bits_once (second_set set) (drop 8 a) (drop 8 b) (bytes_drop 8 a fits) (bytes_drop 8 b others) one.second other.second)
+    ∙ ap (λ (l : List ℕ). l ++ drop 8 a) (bits_once (primary_bits true set) (take 8 a) (take 8 b) (bytes_take 8 a fits) (bytes_take 8 b others) one.primary other.primary)
+    ∙ ap (λ (l : List ℕ). take 8 b ++ l) (bits_once (secondary_bits set) (drop 8 a) (drop 8 b) (bytes_drop 8 a fits) (bytes_drop 8 b others) one.secondary other.secondary)
     ∙ take-append-drop 8 b
 raw_once true false set a b fits others above needed one other = absurd (no_above set (above refl) other.none)
 raw_once false true set a b fits others above needed one other = absurd (no_above set (needed refl) one.none)
-raw_once false false set a b fits others above needed one other = bits_once (first_set false set) a b fits others one.first other.first
+raw_once false false set a b fits others above needed one other = bits_once (primary_bits false set) a b fits others one.primary other.primary
 
 pub plain_maps_once : (c : BitmapCoding) (set : ℕ → Bool) (a b : List ℕ) → PlainBitmaps c set a → PlainBitmaps c set b → a ≡ b
 plain_maps_once c set a b one other =

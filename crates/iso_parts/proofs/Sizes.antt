@@ -72,8 +72,8 @@ padded_most s v fits = with_pads_most s.pad v s.max (most_by (is_exact s.length 
 -- ---- bitmaps
 
 raw_most : (two : Bool) (set : ℕ → Bool) (raw : List ℕ) → Bitmaps Raw two set raw → length raw ≤ 16
-raw_most true set raw maps = let second = maps.second.eight in omega (arith, length-drop 8 raw)
-raw_most false set raw maps = let first = maps.first.eight in omega arith
+raw_most true set raw maps = let back = maps.secondary.eight in omega (arith, length-drop 8 raw)
+raw_most false set raw maps = let front = maps.primary.eight in omega arith
 
 in_coding_most : (c : BitmapCoding) (raw : List ℕ) → length raw ≤ 16 → length (in_coding c raw) ≤ 32
 in_coding_most Raw raw few = omega arith

@@ -13,9 +13,9 @@ use Rattle.iso_parts.specs.Part.{characters, with_filler, Stands, pairs, plain}
 use Rattle.iso_parts.specs.Reading.{behind_filler, or_bad_hex, text_of, body_size}
 use Rattle.iso_parts.proofs.Prefixes.{chosen_ok}
 
-length-characters : (b : List ℕ) → length (characters b) ≡ 2 * length b
-length-characters [] = refl
-length-characters (x ∷ xs) = let rest = length-characters xs in omega arith
+pub length_characters : (b : List ℕ) → length (characters b) ≡ 2 * length b
+length_characters [] = refl
+length_characters (x ∷ xs) = let rest = length_characters xs in omega arith
 
 behind : (f : ℕ) (w : List ℕ) → (f ≡ 48) ⊎ (f ≡ 63) → behind_filler (f ∷ w) ≡ Ok w
 behind f w (inl e) = rw e refl
@@ -52,7 +52,7 @@ size_again codings.Ascii b w h = ap length h
 size_again codings.Raw b w h = ap length h
 size_again codings.HexText b w h = (decode_of-ok b w h).2
 size_again codings.Bcd b w h =
-    let len : 2 * length b ≡ length (with_filler h.0 w) = sym (length-characters b) ∙ ap length h.2 in
+    let len : 2 * length b ≡ length (with_filler h.0 w) = sym (length_characters b) ∙ ap length h.2 in
     grind (arith, nat_tests)
 
 -- what is read is what the body stands for
@@ -72,7 +72,7 @@ text_takes codings.HexText n b w len h =
     record { stands = same; count = omega (arith, (decode_of-ok b w same).2) }
 text_takes codings.Bcd n b w len h =
     let got = bcd_takes (eqb (n % 2) 1) (characters b) w h in
-    let counted : 2 * length b ≡ length (cond (eqb (n % 2) 1) (got.0 ∷ w) w) = sym (length-characters b) ∙ ap length got.2 in
+    let counted : 2 * length b ≡ length (cond (eqb (n % 2) 1) (got.0 ∷ w) w) = sym (length_characters b) ∙ ap length got.2 in
     let count : length w ≡ n = grind (arith, nat_tests) in
     record { stands = (got.0, got.1, rw count got.2); count = count }
 

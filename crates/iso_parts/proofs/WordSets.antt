@@ -19,38 +19,38 @@ word_within : (a b : ℕ) → a < 2 ^ 64 → ((i : ℕ) → i < 64 → bit_at a 
 word_within a b small all = same_from_bits_below 64 (bit_and a b) a (omega (arith, small, and_le_l a b)) small (λ i lt. bit_at_and a b i ∙ min-eq_left (all i lt))
 
 -- the numbers of two words are among those of two others, if the bits are
-pub words_within : (first second f s : ℕ) → bit_and first f ≡ first → bit_and second s ≡ second → (n : ℕ) → in_words first second n ≡ true → in_words f s n ≡ true
-words_within first second f s one two n is =
-    let low = bit_within first f (64 - n) one in
-    let high = bit_within second s (128 - n) two in
+pub words_within : (primary secondary f s : ℕ) → bit_and primary f ≡ primary → bit_and secondary s ≡ secondary → (n : ℕ) → in_words primary secondary n ≡ true → in_words f s n ≡ true
+words_within primary secondary f s one two n is =
+    let low = bit_within primary f (64 - n) one in
+    let high = bit_within secondary s (128 - n) two in
     let a = bit_at-lt f (64 - n) in
     let b = bit_at-lt s (128 - n) in
     grind (arith, nat_tests)
 
-pub first_within : (first second f s : ℕ) → first < 2 ^ 64 → ((n : ℕ) → in_words first second n ≡ true → in_words f s n ≡ true) → bit_and first f ≡ first
-first_within first second f s small all =
-    word_within first f small (λ i lt.
+pub first_within : (primary secondary f s : ℕ) → primary < 2 ^ 64 → ((n : ℕ) → in_words primary secondary n ≡ true → in_words f s n ≡ true) → bit_and primary f ≡ primary
+first_within primary secondary f s small all =
+    word_within primary f small (λ i lt.
     let here = all (64 - i) in
     let place : 64 - (64 - i) ≡ i = omega arith in
-    let a = bit_at-lt first i in
-    elim (cases_lt 0 (bit_at first i)) [
+    let a = bit_at-lt primary i in
+    elim (cases_lt 0 (bit_at primary i)) [
       | inl set ↦
-          let one : in_words first second (64 - i) ≡ true = rw place (grind (arith, nat_tests)) in
+          let one : in_words primary secondary (64 - i) ≡ true = rw place (grind (arith, nat_tests)) in
           let other = here one in
           let at : bit_at f (64 - (64 - i)) ≡ bit_at f i = ap (bit_at f) place in
           grind (arith, nat_tests)
       | inr none ↦ omega arith
     ])
 
-pub second_within : (first second f s : ℕ) → second < 2 ^ 64 → ((n : ℕ) → in_words first second n ≡ true → in_words f s n ≡ true) → bit_and second s ≡ second
-second_within first second f s small all =
-    word_within second s small (λ i lt.
+pub second_within : (primary secondary f s : ℕ) → secondary < 2 ^ 64 → ((n : ℕ) → in_words primary secondary n ≡ true → in_words f s n ≡ true) → bit_and secondary s ≡ secondary
+second_within primary secondary f s small all =
+    word_within secondary s small (λ i lt.
     let here = all (128 - i) in
     let place : 128 - (128 - i) ≡ i = omega arith in
-    let a = bit_at-lt second i in
-    elim (cases_lt 0 (bit_at second i)) [
+    let a = bit_at-lt secondary i in
+    elim (cases_lt 0 (bit_at secondary i)) [
       | inl set ↦
-          let one : in_words first second (128 - i) ≡ true = rw place (grind (arith, nat_tests)) in
+          let one : in_words primary secondary (128 - i) ≡ true = rw place (grind (arith, nat_tests)) in
           let other = here one in
           let at : bit_at s (128 - (128 - i)) ≡ bit_at s i = ap (bit_at s) place in
           grind (arith, nat_tests)

@@ -37,32 +37,32 @@ pub data Maps : Type 0 where
   fault : ℕ → BitmapCause → Maps
 
 -- the secondary bitmap behind the primary one
-abbrev pub second_by : BitmapCoding → ℕ → Option ℕ → Maps
-second_by c first None = fault (map_size c) BadHex
-second_by c first (Some second) =
-    if nat_lt second top then got first second (map_size c + map_size c) else fault (map_size c) ThirdBitmap
+abbrev pub secondary_by : BitmapCoding → ℕ → Option ℕ → Maps
+secondary_by c primary None = fault (map_size c) BadHex
+secondary_by c primary (Some secondary) =
+    if nat_lt secondary top then got primary secondary (map_size c + map_size c) else fault (map_size c) ThirdBitmap
 
 -- the primary bitmap, and the secondary one where its first bit says so
-abbrev pub first_by : BitmapCoding → List ℕ → Option ℕ → Maps
-first_by c b None = fault 0 BadHex
-first_by c b (Some first) =
-    if nat_lt first top then got first 0 (map_size c)
+abbrev pub primary_by : BitmapCoding → List ℕ → Option ℕ → Maps
+primary_by c b None = fault 0 BadHex
+primary_by c b (Some primary) =
+    if nat_lt primary top then got primary 0 (map_size c)
     else if nat_lt (length b) (map_size c + map_size c) then more
-    else second_by c (first - top) (word_in c (take (map_size c) (drop (map_size c) b)))
+    else secondary_by c (primary - top) (word_in c (take (map_size c) (drop (map_size c) b)))
 
 abbrev pub maps_at : BitmapCoding → List ℕ → Maps
-maps_at c b = if nat_lt (length b) (map_size c) then more else first_by c b (word_in c (take (map_size c) b))
+maps_at c b = if nat_lt (length b) (map_size c) then more else primary_by c b (word_in c (take (map_size c) b))
 
 -- ---- what functions answer
 
 -- reading gives two words, without the first bit of either: they have the numbers of the set
 pub record GotMaps (set : ℕ → Bool) (used : ℕ) (o : Maps) : Type 0 where
-  pub first : ℕ
-  pub second : ℕ
-  pub read : o ≡ got first second used
-  pub not_1 : first < 2 ^ 63
-  pub not_65 : second < 2 ^ 63
-  pub numbers : (n : ℕ) → set n ≡ in_words first second n
+  pub primary : ℕ
+  pub secondary : ℕ
+  pub read : o ≡ got primary secondary used
+  pub not_1 : primary < 2 ^ 63
+  pub not_65 : secondary < 2 ^ 63
+  pub numbers : (n : ℕ) → set n ≡ in_words primary secondary n
 
 -- the answer is what reading gives
 abbrev pub ReadsMaps : Result BitmapStep BitmapFault → Maps → Type 0

@@ -10,13 +10,13 @@ use Rattle.iso_parts.specs.declared.bitmap.BitmapCoding.TheVariants.{Raw, Hex}
 
 -- whether the number is in the set that two words keep
 abbrev pub in_words : ℕ → ℕ → ℕ → Bool
-in_words first second n =
-    if nat_le n 64 then bit_at first (64 - n) == 1
-    else nat_le n 128 && bit_at second (128 - n) == 1
+in_words primary secondary n =
+    if nat_le n 64 then bit_at primary (64 - n) == 1
+    else nat_le n 128 && bit_at secondary (128 - n) == 1
 
 -- whether the number is in the set
 abbrev pub contains : Bitmap → ℕ → Bool
-contains s n = in_words s.first s.second n
+contains s n = in_words s.primary s.secondary n
 
 -- each number of the set is that of an element: 2 to 64, 66 to 128
 abbrev pub AreElements : (ℕ → Bool) → Type 0
@@ -54,21 +54,21 @@ BitsIn Hex set b = (raw : List ℕ) × (decode_of b ≡ Ok raw) × Bits set raw
 -- ---- the primary bitmap, and the secondary one where it follows
 
 -- the primary bitmap, whose bit 1 says whether a secondary one follows
-abbrev pub first_set : Bool → (ℕ → Bool) → ℕ → Bool
-first_set second set k = if k == 1 then second else set k
+abbrev pub primary_bits : Bool → (ℕ → Bool) → ℕ → Bool
+primary_bits secondary set k = if k == 1 then secondary else set k
 
 -- the secondary bitmap
-abbrev pub second_set : (ℕ → Bool) → ℕ → Bool
-second_set set k = set (64 + k)
+abbrev pub secondary_bits : (ℕ → Bool) → ℕ → Bool
+secondary_bits set k = set (64 + k)
 
 -- the bytes are the two bitmaps of the set
 pub record Two (c : BitmapCoding) (set : ℕ → Bool) (b : List ℕ) : Type 0 where
-  pub first : BitsIn c (first_set true set) (take (map_size c) b)
-  pub second : BitsIn c (second_set set) (drop (map_size c) b)
+  pub primary : BitsIn c (primary_bits true set) (take (map_size c) b)
+  pub secondary : BitsIn c (secondary_bits set) (drop (map_size c) b)
 
 -- the bytes are the only bitmap of the set
 pub record One (c : BitmapCoding) (set : ℕ → Bool) (b : List ℕ) : Type 0 where
-  pub first : BitsIn c (first_set false set) b
+  pub primary : BitsIn c (primary_bits false set) b
   pub none : (k : ℕ) → 64 < k → k ≤ 128 → set k ≡ false
 
 -- the bytes are the bitmaps of the set, two of them or one

@@ -1,4 +1,5 @@
 -- Building the value of a part that was judged good.
+-- Inner, for bodies and proofs: `IsTold`, `Builds`.
 use Rattle.std.specs.Prelude.{◌≡◌, ℕ, ◌++◌, List, Result, Ok, Err}
 use Rattle.iso_parts.specs.declared.fault.FieldFault.{FieldFault}
 use Rattle.iso_parts.specs.Part.{Keeps}

@@ -1,5 +1,5 @@
 -- The numbers of a bitmap's elements, in ascending order (ISO 8583:1987, primary and secondary bitmap).
--- Public promise: numbers_in, members, Takes, first_missing. Inner: numbers, IsTaken.
+-- Public promise: numbers_in, members, members_below, Takes, first_missing. Inner: numbers, IsTaken.
 use Rattle.std.specs.Prelude.{◌≡◌, ℕ, zero, suc, ◌+◌, ◌-◌, ◌<◌, ◌≤◌, ◌^◌, Bool, not, if◌then◌else◌, List, [], ◌∷◌, find, Option, Some, None}
 use Rattle.iso_parts.specs.declared.bitmap.Bitmap.{Bitmap}
 use Rattle.iso_parts.specs.Bits.{in_words}
@@ -11,11 +11,15 @@ numbers set (suc count) n = if set n then n ∷ numbers set count (n + 1) else n
 
 -- the numbers of elements, 2 to 128, that a primary and a secondary bitmap's words tell
 abbrev pub numbers_in : ℕ → ℕ → List ℕ
-numbers_in first second = numbers (in_words first second) 127 2
+numbers_in primary secondary = numbers (in_words primary secondary) 127 2
 
 -- the numbers of a set
 abbrev pub members : Bitmap → List ℕ
-members s = numbers_in s.first s.second
+members s = numbers_in s.primary s.secondary
+
+-- the numbers of a set that are below n
+abbrev pub members_below : Bitmap → ℕ → List ℕ
+members_below s n = numbers (in_words s.primary s.secondary) (n - 2) 2
 
 -- the first of the numbers, if there is one, and the others
 abbrev pub Takes : List ℕ → List ℕ → Option ℕ → Type 0

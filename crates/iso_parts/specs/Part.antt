@@ -1,4 +1,5 @@
 -- How a value is written: the bytes of its body, and the length before them.
+-- Inner, for bodies and proofs: `Keeps`.
 use Rattle.std.specs.Prelude.{◌≡◌, ℕ, take, ◌+◌, ◌-◌, ◌*◌, ◌/◌, ◌%◌, ◌==◌, List, [], ◌∷◌, ◌++◌, length, replicate, Ok, if◌then◌else◌, ◌⊎◌}
 use Rattle.std.specs.List.{flat_map}
 use Rattle.hex.specs.Hex.{decode_of, encode_upper}

@@ -1,4 +1,5 @@
 -- Reading a part from the front of bytes: the length before it, and then its body.
+-- Inner, for bodies and proofs: `is_plain`, `Gives`, `Decodes`, `IsJudged`.
 use Rattle.std.specs.Prelude.{◌≡◌, ◌≢◌, ℕ, ◌++◌, Bool, true, false, Option, Some, None, ◌+◌, ◌-◌, ◌*◌, ◌/◌, ◌%◌, ◌==◌, ◌&&◌, ◌||◌, nat_lt, List, [], ◌∷◌, length, take, drop, reverse, Result, Ok, Err, if◌then◌else◌}
 use Rattle.hex.specs.Hex.{decode_of}
 use Rattle.hex.specs.declared.error.FromHexError.{FromHexError}
@@ -143,15 +144,15 @@ Gives view (Ok x) read = read ≡ Ok (view x)
 Gives view (Err e) read = e ≢ Memory → read ≡ Err e
 
 -- a function appended what reading gives, unless memory ran out; on a fault what was there still stands in front
-abbrev pub AppendsRead : List ℕ → List ℕ → Result Unit FieldFault → Result (List ℕ) FieldFault → Type 0
-AppendsRead old new (Ok u) read = (text : List ℕ) × (read ≡ Ok text) × (new ≡ old ++ text)
-AppendsRead old new (Err e) read = (e ≢ Memory → read ≡ Err e) × Keeps old new
+abbrev pub Decodes : List ℕ → List ℕ → Result Unit FieldFault → Result (List ℕ) FieldFault → Type 0
+Decodes old new (Ok u) read = (text : List ℕ) × (read ≡ Ok text) × (new ≡ old ++ text)
+Decodes old new (Err e) read = (e ≢ Memory → read ≡ Err e) × Keeps old new
 
 -- a function appended the value of the part at the front, and says how many bytes it takes; or what else was read, and nothing was changed
-abbrev pub AppendsValue : List ℕ → List ℕ → Result (Option ℕ) FieldFault → Outcome → Type 0
-AppendsValue old new (Ok (Some used)) o = (value : List ℕ) × (o ≡ got value used) × (new ≡ old ++ value)
-AppendsValue old new (Ok None) o = (o ≡ more) × (new ≡ old)
-AppendsValue old new (Err e) o = (e ≢ Memory → o ≡ fault e) × (new ≡ old)
+abbrev pub DecodesValue : List ℕ → List ℕ → Result (Option ℕ) FieldFault → Outcome → Type 0
+DecodesValue old new (Ok (Some used)) o = (value : List ℕ) × (o ≡ got value used) × (new ≡ old ++ value)
+DecodesValue old new (Ok None) o = (o ≡ more) × (new ≡ old)
+DecodesValue old new (Err e) o = (e ≢ Memory → o ≡ fault e) × (new ≡ old)
 
 abbrev pub Reads : Result Step FieldFault → Outcome → Type 0
 Reads (Ok (steps.Got value used)) o = o ≡ got value.items used

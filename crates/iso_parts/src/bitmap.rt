@@ -5,18 +5,18 @@ ghost use Rattle.std.specs.Prelude.{◌≡◌, ◌≢◌, ◌+◌, ◌-◌, ◌<
 ghost use Rattle.std.specs.Prelude.{◌↔◌, ℕ, Bool, true, false, IsTrue, List, length, take, drop, OnOk, OnErr};
 
 use crate::bitmap_reading::{hex_word, raw_word, read};
-use crate::bits::{FIRST_BIT, take_bit, with_bit, without_bit};
-use crate::encoding::append_hex;
+use crate::bits::{FIRST_BIT, bits_before, take_bit, with_bit, without_bit};
+use crate::encoding::encode_hex;
 use std::alloc::AllocError;
 use thiserror::Error;
 
 /// A set of element numbers: 2 to 64 and 66 to 128.
 #[derive(Clone, Copy, Debug, PartialEq, Eq)]
 pub struct Bitmap {
-    first: u64,
-    second: u64,
-    ghost not_1: { first < 2 ^ 63 },
-    ghost not_65: { second < 2 ^ 63 },
+    primary: u64,
+    secondary: u64,
+    ghost not_1: { primary < 2 ^ 63 },
+    ghost not_65: { secondary < 2 ^ 63 },
 }
 
 /// How a bitmap is written.
@@ -95,7 +95,7 @@ impl BitmapCoding {
     {
         match self {
             BitmapCoding::Raw => out.extend_from_slice(maps),
-            BitmapCoding::Hex => append_hex(maps, out),
+            BitmapCoding::Hex => encode_hex(maps, out),
         }
     }
 
@@ -114,31 +114,31 @@ impl BitmapCoding {
 impl Bitmap {
     ghost use Rattle.iso_parts.specs.Bits.{contains, in_words, AreElements, Bitmaps, PlainBitmaps, HasAbove, IsHighest};
     ghost use Rattle.iso_parts.specs.BitmapReading.{ReadsMaps, FoundMaps, IfRead, IsRead, maps_at};
-    ghost use Rattle.iso_parts.specs.Numbers.{numbers_in, members, Takes, first_missing};
+    ghost use Rattle.iso_parts.specs.Numbers.{numbers_in, members, members_below, Takes, first_missing};
 
     /// No number.
     pub fn new() -> Bitmap
         ensures { (n : ℕ) → contains result n ≡ false }
     {
         Bitmap {
-            first: 0,
-            second: 0,
+            primary: 0,
+            secondary: 0,
         }
     }
 
     /// The set of a primary and a secondary bitmap's words, without the primary one's first bit.
-    pub fn from_words(first: u64, second: u64) -> Bitmap
-        requires { second < 2 ^ 63 }
-        ensures members { members result ≡ numbers_in first second }
+    pub fn from_words(primary: u64, secondary: u64) -> Bitmap
+        requires { secondary < 2 ^ 63 }
+        ensures members { members result ≡ numbers_in primary secondary }
         ensures numbers { AreElements (contains result) }
-        ensures set { first < 2 ^ 63 → (n : ℕ) → contains result n ≡ in_words first second n }
+        ensures set { primary < 2 ^ 63 → (n : ℕ) → contains result n ≡ in_words primary secondary n }
     {
-        if first < FIRST_BIT {
-            return Bitmap { first, second };
+        if primary < FIRST_BIT {
+            return Bitmap { primary, secondary };
         }
         Bitmap {
-            first: first - FIRST_BIT,
-            second,
+            primary: primary - FIRST_BIT,
+            secondary,
         }
     }
 
@@ -150,8 +150,8 @@ impl Bitmap {
         ensures numbers { AreElements (contains self.now) }
     {
         match n {
-            1..=64 => self.first >> (64 - n) & 1 == 1,
-            65..=128 => self.second >> (128 - n) & 1 == 1,
+            1..=64 => self.primary >> (64 - n) & 1 == 1,
+            65..=128 => self.secondary >> (128 - n) & 1 == 1,
             _ => false,
         }
     }
@@ -160,7 +160,15 @@ impl Bitmap {
     fn has_all(&self, other: &Bitmap) -> bool
         ensures { IsTrue result ↔ ((n : ℕ) → contains other.now n ≡ true → contains self.now n ≡ true) }
     {
-        other.first & self.first == other.first && other.second & self.second == other.second
+        other.primary & self.primary == other.primary
+            && other.secondary & self.secondary == other.secondary
+    }
+
+    /// Whether the sets have the same numbers.
+    pub fn equals(&self, other: &Bitmap) -> bool
+        ensures { IsTrue result ↔ ((n : ℕ) → contains self.now n ≡ contains other.now n) }
+    {
+        self.has_all(other) && other.has_all(self)
     }
 
     /// The least number that isn't in another set.
@@ -183,13 +191,13 @@ impl Bitmap {
     pub fn take_first(&mut self) -> Option<u8>
         ensures { Takes (members self.old) (members self.new) result }
     {
-        if self.first != 0 {
-            let (before, rest) = take_bit(self.first);
-            self.first = rest;
+        if self.primary != 0 {
+            let (before, rest) = take_bit(self.primary);
+            self.primary = rest;
             Some(before + 1)
-        } else if self.second != 0 {
-            let (before, rest) = take_bit(self.second);
-            self.second = rest;
+        } else if self.secondary != 0 {
+            let (before, rest) = take_bit(self.secondary);
+            self.secondary = rest;
             Some(before + 65)
         } else {
             None
@@ -200,7 +208,19 @@ impl Bitmap {
     pub fn count(&self) -> usize
         ensures { result ≡ length (members self.now) }
     {
-        self.first.count_ones() as usize + self.second.count_ones() as usize
+        self.primary.count_ones() as usize + self.secondary.count_ones() as usize
+    }
+
+    /// How many numbers of the set are below the number of an element.
+    pub fn count_below(&self, n: u8) -> usize
+        requires low { 2 ≤ n }
+        requires high { n ≤ 128 }
+        ensures { result ≡ length (members_below self.now n) }
+    {
+        if n <= 64 {
+            return bits_before(self.primary, 64 - n);
+        }
+        self.primary.count_ones() as usize + bits_before(self.secondary, 128 - n)
     }
 
     /// Puts a number into the set.
@@ -212,9 +232,9 @@ impl Bitmap {
         ensures others { (k : ℕ) → k ≢ n → contains self.new k ≡ contains self.old k }
     {
         if n <= 64 {
-            self.first = with_bit(self.first, 64 - n);
+            self.primary = with_bit(self.primary, 64 - n);
         } else {
-            self.second = with_bit(self.second, 128 - n);
+            self.secondary = with_bit(self.secondary, 128 - n);
         }
     }
 
@@ -227,9 +247,9 @@ impl Bitmap {
         ensures others { (k : ℕ) → k ≢ n → contains self.new k ≡ contains self.old k }
     {
         if n <= 64 {
-            self.first = without_bit(self.first, 64 - n);
+            self.primary = without_bit(self.primary, 64 - n);
         } else {
-            self.second = without_bit(self.second, 128 - n);
+            self.secondary = without_bit(self.secondary, 128 - n);
         }
     }
 
@@ -237,10 +257,10 @@ impl Bitmap {
     pub fn highest(&self) -> u8
         ensures { IsHighest (contains self.now) result }
     {
-        if self.second != 0 {
-            128 - self.second.trailing_zeros() as u8
-        } else if self.first != 0 {
-            64 - self.first.trailing_zeros() as u8
+        if self.secondary != 0 {
+            128 - self.secondary.trailing_zeros() as u8
+        } else if self.primary != 0 {
+            64 - self.primary.trailing_zeros() as u8
         } else {
             0
         }
@@ -253,12 +273,12 @@ impl Bitmap {
         ensures bytes { Bitmaps BitmapCoding.Raw (result == 16) (contains self.now) (take result out.new) }
         ensures rest { drop result out.new ≡ drop result out.old }
     {
-        if self.second == 0 {
-            out[..8].copy_from_slice(&self.first.to_be_bytes());
+        if self.secondary == 0 {
+            out[..8].copy_from_slice(&self.primary.to_be_bytes());
             return 8;
         }
-        out[..8].copy_from_slice(&with_bit(self.first, 63).to_be_bytes());
-        out[8..].copy_from_slice(&self.second.to_be_bytes());
+        out[..8].copy_from_slice(&with_bit(self.primary, 63).to_be_bytes());
+        out[8..].copy_from_slice(&self.secondary.to_be_bytes());
         16
     }
 

@@ -5,7 +5,7 @@ ghost use Rattle.std.specs.Int.{w64, from_be_bytes};
 ghost use Rattle.std.specs.List.{list_all};
 ghost use Rattle.hex.specs.Hex.{decode_of, hex_digit_value, is_hex_digit};
 ghost use Rattle.iso_parts.specs.Bits.{map_size};
-ghost use Rattle.iso_parts.specs.BitmapReading.{ReadsMaps, word_in, word_of, second_by, maps_at};
+ghost use Rattle.iso_parts.specs.BitmapReading.{ReadsMaps, word_in, word_of, secondary_by, maps_at};
 
 use crate::bitmap::{Bitmap, BitmapCause, BitmapCoding, BitmapFault, BitmapStep};
 use crate::bits::FIRST_BIT;
@@ -60,10 +60,14 @@ pub(crate) fn hex_word(bytes: &[u8]) -> Option<u64>
 }
 
 /// The set of the primary bitmap's word, without its first bit, and a whole secondary bitmap.
-fn read_second(coding: BitmapCoding, first: u64, bytes: &[u8]) -> Result<BitmapStep, BitmapFault>
-    requires small { first < 2 ^ 63 }
+fn read_secondary(
+    coding: BitmapCoding,
+    primary: u64,
+    bytes: &[u8],
+) -> Result<BitmapStep, BitmapFault>
+    requires small { primary < 2 ^ 63 }
     requires whole { length bytes.now ≡ map_size coding }
-    ensures { ReadsMaps result (second_by coding first (word_in coding bytes.now)) }
+    ensures { ReadsMaps result (secondary_by coding primary (word_in coding bytes.now)) }
 {
     let at = coding.size();
     match coding.word(bytes) {
@@ -71,8 +75,8 @@ fn read_second(coding: BitmapCoding, first: u64, bytes: &[u8]) -> Result<BitmapS
             at,
             cause: BitmapCause::BadHex,
         }),
-        Some(second) if second < FIRST_BIT => Ok(BitmapStep::Got {
-            bits: Bitmap::from_words(first, second),
+        Some(secondary) if secondary < FIRST_BIT => Ok(BitmapStep::Got {
+            bits: Bitmap::from_words(primary, secondary),
             used: at + at,
         }),
         Some(_) => Err(BitmapFault {
@@ -91,18 +95,18 @@ pub(crate) fn read(coding: BitmapCoding, bytes: &[u8]) -> Result<BitmapStep, Bit
         return Ok(BitmapStep::More);
     }
     let (front, rest) = bytes.split_at(size);
-    let Some(first) = coding.word(front) else {
+    let Some(primary) = coding.word(front) else {
         return Err(BitmapFault {
             at: 0,
             cause: BitmapCause::BadHex,
         });
     };
-    if first < FIRST_BIT {
-        let bits = Bitmap::from_words(first, 0);
+    if primary < FIRST_BIT {
+        let bits = Bitmap::from_words(primary, 0);
         return Ok(BitmapStep::Got { bits, used: size });
     }
     if rest.len() < size {
         return Ok(BitmapStep::More);
     }
-    read_second(coding, first - FIRST_BIT, &rest[..size])
+    read_secondary(coding, primary - FIRST_BIT, &rest[..size])
 }

@@ -1,7 +1,7 @@
 //! The bits of a bitmap's word, the first of which is the most significant one.
 
 ghost use Rattle.std.specs.Int.{bit_at};
-ghost use Rattle.std.specs.Prelude.{◌≡◌, ◌≢◌, ◌<◌, ◌≤◌, ◌^◌, ℕ};
+ghost use Rattle.std.specs.Prelude.{◌≡◌, ◌≢◌, ◌/◌, ◌<◌, ◌≤◌, ◌^◌, ℕ, count_ones};
 ghost use Rattle.iso_parts.specs.Numbers.{IsTaken};
 
 /// The first bit of a word. In a primary bitmap it tells that a secondary one follows; it is none of an element.
@@ -14,6 +14,14 @@ pub(crate) fn take_bit(word: u64) -> (u8, u64)
 {
     let before = word.leading_zeros();
     (before as u8, word - (1 << (63 - before)))
+}
+
+/// How many bits are set in front of bit `k`.
+pub(crate) fn bits_before(word: u64, k: u8) -> usize
+    requires { k < 64 }
+    ensures { result ≡ count_ones (word / 2 ^ k / 2) }
+{
+    (word >> k >> 1).count_ones() as usize
 }
 
 /// The word with bit `k` set.

@@ -10,7 +10,7 @@ use crate::spec::FieldSpec;
 use std::alloc::AllocError;
 
 /// Appends the `n` characters that a good body stands for.
-fn append_characters(
+fn decode_judged_text(
     coding: Coding,
     n: u16,
     body: &[u8],
@@ -20,14 +20,19 @@ fn append_characters(
     ensures { Builds out.old.items out.new.items result (text_of coding n body.now) }
 {
     // a good body has no fault: what fails is memory
-    match coding.push_text(n, body, out) {
+    match coding.decode(n, body, out) {
         Ok(()) => Ok(()),
         Err(_) => Err(AllocError),
     }
 }
 
 /// Appends the value that a good body of `n` characters tells.
-fn append_body(spec: &FieldSpec, n: u16, body: &[u8], out: &mut Vec<u8>) -> Result<(), AllocError>
+fn decode_judged_body(
+    spec: &FieldSpec,
+    n: u16,
+    body: &[u8],
+    out: &mut Vec<u8>,
+) -> Result<(), AllocError>
     requires { IsTold (body_of spec.now n body.now) }
     ensures { Builds out.old.items out.new.items result (body_of spec.now n body.now) }
 {
@@ -35,7 +40,7 @@ fn append_body(spec: &FieldSpec, n: u16, body: &[u8], out: &mut Vec<u8>) -> Resu
         Coding::Ascii | Coding::Raw => out.extend_from_slice(spec.pad.unpadded(body)),
         Coding::Bcd | Coding::HexText => {
             let before = out.len();
-            append_characters(spec.coding, n, body, out)?;
+            decode_judged_text(spec.coding, n, body, out)?;
             spec.pad.strip(before, out);
             Ok(())
         }
@@ -43,9 +48,9 @@ fn append_body(spec: &FieldSpec, n: u16, body: &[u8], out: &mut Vec<u8>) -> Resu
 }
 
 /// Appends the value of the part that the bytes begin with, and gives how many bytes the part takes, as
-/// [`append_value`](crate::append_value) does, but judges neither its characters nor its digits: the caller has judged
+/// [`decode_value`](crate::decode_value) does, but judges neither its characters nor its digits: the caller has judged
 /// the part good. Only the growth of `out` takes memory, and where there is none `out` stays as it was.
-pub fn append_judged(spec: &FieldSpec, bytes: &[u8], out: &mut Vec<u8>) -> Result<usize, AllocError>
+pub fn decode_judged(spec: &FieldSpec, bytes: &[u8], out: &mut Vec<u8>) -> Result<usize, AllocError>
     requires { IsPart (part_at spec.now bytes.now) }
     ensures exact { BuildsValue out.old.items out.new.items result (part_at spec.now bytes.now) }
     ensures room { IfOk result (λ used. used ≤ length bytes.now) }
@@ -58,7 +63,7 @@ pub fn append_judged(spec: &FieldSpec, bytes: &[u8], out: &mut Vec<u8>) -> Resul
     let size = spec.coding.body_size(n);
     let (body, _) = rest.split_at(size);
     let before = out.len();
-    match append_body(spec, n, body, out) {
+    match decode_judged_body(spec, n, body, out) {
         Ok(()) => Ok(front + size),
         Err(fault) => {
             out.truncate(before);

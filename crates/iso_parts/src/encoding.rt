@@ -1,11 +1,11 @@
 //! How characters are written.
 
-ghost use Rattle.std.specs.Prelude.{◌≡◌, ◌++◌, ◌≢◌, ◌≤◌, ◌*◌, length, OnOk, OnErr};
+ghost use Rattle.std.specs.Prelude.{◌≡◌, ◌++◌, ◌≤◌, ◌*◌, length, OnOk, OnErr};
 ghost use Rattle.std.specs.List.{list_all};
 ghost use Rattle.hex.specs.Hex.{is_hex_digit};
 ghost use Rattle.iso_parts.specs.Row.{is_coded, is_pad_byte};
 ghost use Rattle.iso_parts.specs.Part.{characters, pairs, plain, with_filler, Keeps};
-ghost use Rattle.iso_parts.specs.Reading.{AppendsRead, is_plain, body_size, text_of};
+ghost use Rattle.iso_parts.specs.Reading.{Decodes, is_plain, body_size, text_of};
 
 use crate::class::CharClass;
 use crate::fault::FieldFault;
@@ -25,7 +25,8 @@ pub enum Coding {
     HexText,
 }
 
-fn append_pairs(text: &[u8], out: &mut Vec<u8>) -> Result<(), AllocError>
+/// Appends a byte for two characters, the high nibble first.
+fn encode_pairs(text: &[u8], out: &mut Vec<u8>) -> Result<(), AllocError>
     ensures ok { OnOk result (out.new.items ≡ out.old.items ++ pairs text.now) }
     ensures err { OnErr result (Keeps out.old.items out.new.items) }
 {
@@ -37,16 +38,17 @@ fn append_pairs(text: &[u8], out: &mut Vec<u8>) -> Result<(), AllocError>
     Ok(())
 }
 
-fn append_bcd(text: &[u8], out: &mut Vec<u8>) -> Result<(), AllocError>
+/// Appends packed characters, where the count is odd with the filler 0 in front.
+fn encode_bcd(text: &[u8], out: &mut Vec<u8>) -> Result<(), AllocError>
     ensures ok { OnOk result (out.new.items ≡ out.old.items ++ pairs (with_filler 48 text.now)) }
     ensures err { OnErr result (Keeps out.old.items out.new.items) }
 {
     match text {
         [first, rest @ ..] if text.len() % 2 == 1 => {
             out.push(*first % 16)?;
-            append_pairs(rest, out)
+            encode_pairs(rest, out)
         }
-        _ => append_pairs(text, out),
+        _ => encode_pairs(text, out),
     }
 }
 
@@ -74,7 +76,7 @@ fn write_hex(bytes: &[u8], room: &mut [u8])
 }
 
 /// Appends two digits for each byte, in upper case.
-pub(crate) fn append_hex(bytes: &[u8], out: &mut Vec<u8>) -> Result<(), AllocError>
+pub(crate) fn encode_hex(bytes: &[u8], out: &mut Vec<u8>) -> Result<(), AllocError>
     requires { length bytes.now ≤ 65535 }
     ensures ok { OnOk result (out.new.items ≡ out.old.items ++ plain Coding.HexText bytes.now) }
     ensures err { OnErr result (out.new.items ≡ out.old.items) }
@@ -86,7 +88,8 @@ pub(crate) fn append_hex(bytes: &[u8], out: &mut Vec<u8>) -> Result<(), AllocErr
     Ok(())
 }
 
-fn push_characters(bytes: &[u8], out: &mut Vec<u8>) -> Result<(), AllocError>
+/// Appends the two characters of each byte.
+fn decode_characters(bytes: &[u8], out: &mut Vec<u8>) -> Result<(), AllocError>
     ensures ok { OnOk result (out.new.items ≡ out.old.items ++ characters bytes.now) }
     ensures err { OnErr result (Keeps out.old.items out.new.items) }
 {
@@ -97,11 +100,12 @@ fn push_characters(bytes: &[u8], out: &mut Vec<u8>) -> Result<(), AllocError>
     Ok(())
 }
 
-fn push_digits(n: u16, body: &[u8], out: &mut Vec<u8>) -> Result<(), FieldFault>
-    ensures { AppendsRead out.old.items out.new.items result (text_of Coding.Bcd n body.now) }
+/// Appends the `n` characters of a packed body, behind its filler where the count is odd.
+fn decode_bcd(n: u16, body: &[u8], out: &mut Vec<u8>) -> Result<(), FieldFault>
+    ensures { Decodes out.old.items out.new.items result (text_of Coding.Bcd n body.now) }
 {
     if n % 2 == 0 {
-        push_characters(body, out)?;
+        decode_characters(body, out)?;
         return Ok(());
     }
     match body {
@@ -111,14 +115,15 @@ fn push_digits(n: u16, body: &[u8], out: &mut Vec<u8>) -> Result<(), FieldFault>
                 return Err(FieldFault::BadFiller);
             }
             out.push(b'0' + *first % 16)?;
-            push_characters(rest, out)?;
+            decode_characters(rest, out)?;
             Ok(())
         }
     }
 }
 
-fn push_bytes(n: u16, body: &[u8], out: &mut Vec<u8>) -> Result<(), FieldFault>
-    ensures { AppendsRead out.old.items out.new.items result (text_of Coding.HexText n body.now) }
+/// Appends a byte for two hexadecimal digits, of either case.
+fn decode_hex(n: u16, body: &[u8], out: &mut Vec<u8>) -> Result<(), FieldFault>
+    ensures { Decodes out.old.items out.new.items result (text_of Coding.HexText n body.now) }
 {
     let before = out.len();
     out.resize(before + body.len() / 2, 0)?;
@@ -173,23 +178,23 @@ impl Coding {
         }
     }
 
-    /// Appends what stands for the characters, which are packed or hexadecimal digits.
+    /// Appends what stands for the characters, in code of its own: they are packed or hexadecimal digits.
     #[inline(never)]
-    fn append_coded(self, text: &[u8], out: &mut Vec<u8>) -> Result<(), AllocError>
+    fn encode_apart(self, text: &[u8], out: &mut Vec<u8>) -> Result<(), AllocError>
         requires { length text.now ≤ 65535 }
         ensures ok { OnOk result (out.new.items ≡ out.old.items ++ plain self text.now) }
         ensures err { OnErr result (Keeps out.old.items out.new.items) }
     {
         match self {
             Coding::Ascii | Coding::Raw => out.extend_from_slice(text),
-            Coding::Bcd => append_bcd(text, out),
-            Coding::HexText => append_hex(text, out),
+            Coding::Bcd => encode_bcd(text, out),
+            Coding::HexText => encode_hex(text, out),
         }
     }
 
     /// Appends what stands for the characters.
     #[inline(always)]
-    pub(crate) fn append_text(self, text: &[u8], out: &mut Vec<u8>) -> Result<(), AllocError>
+    pub(crate) fn encode(self, text: &[u8], out: &mut Vec<u8>) -> Result<(), AllocError>
         requires { length text.now ≤ 65535 }
         ensures ok { OnOk result (out.new.items ≡ out.old.items ++ plain self text.now) }
         ensures err { OnErr result (Keeps out.old.items out.new.items) }
@@ -197,21 +202,21 @@ impl Coding {
         if self.is_plain() {
             out.extend_from_slice(text)
         } else {
-            self.append_coded(text, out)
+            self.encode_apart(text, out)
         }
     }
 
     /// Appends the `n` characters that a whole body stands for. On a fault more than was there may stand behind it.
-    pub(crate) fn push_text(self, n: u16, body: &[u8], out: &mut Vec<u8>) -> Result<(), FieldFault>
-        ensures { AppendsRead out.old.items out.new.items result (text_of self n body.now) }
+    pub(crate) fn decode(self, n: u16, body: &[u8], out: &mut Vec<u8>) -> Result<(), FieldFault>
+        ensures { Decodes out.old.items out.new.items result (text_of self n body.now) }
     {
         match self {
             Coding::Ascii | Coding::Raw => Ok(out.extend_from_slice(body)?),
             Coding::Bcd => {
                 out.reserve(n as usize)?;
-                push_digits(n, body, out)
+                decode_bcd(n, body, out)
             }
-            Coding::HexText => push_bytes(n, body, out),
+            Coding::HexText => decode_hex(n, body, out),
         }
     }
 }

@@ -1,19 +1,17 @@
 //! Fields: a value as the part of a message, its length and then its body.
 
-ghost use Rattle.std.specs.Prelude.{◌≡◌, ◌≢◌, ◌≤◌, ◌↔◌, ◌+◌, ◌-◌, ◌++◌, ℕ, List, length, take, drop, replicate, vec_len};
+ghost use Rattle.std.specs.Prelude.{◌≡◌, ◌≢◌, ◌≤◌, ◌+◌, ◌-◌, ◌++◌, ℕ, List, length, take, drop, vec_len};
 ghost use Rattle.std.specs.Prelude.{IfOk, IfSome};
 ghost use Rattle.std.specs.Prelude.{OnOk, OnErr, IfErr, IsTrue, None, Some};
 ghost use Rattle.iso_parts.specs.declared.fault.FieldFault.TheVariants.{Memory};
-ghost use Rattle.iso_parts.specs.declared.prefix.Length.TheVariants.{Fixed};
-ghost use Rattle.iso_parts.specs.Row.{is_length, limit, longest_value, refusal, IsGood, Fits};
-ghost use Rattle.iso_parts.specs.Part.{with_pads, padded, plain, plain_part, Part, Keeps};
-ghost use Rattle.iso_parts.specs.Reading.{prefix_size, Reads, AppendsRead, AppendsValue, IfGot, got, prefix_of, value_of, body_of, part_at};
+ghost use Rattle.iso_parts.specs.Row.{is_length, refusal, IsGood, Fits};
+ghost use Rattle.iso_parts.specs.Part.{with_pads, padded, pairs, plain, plain_part, Part, Keeps};
+ghost use Rattle.iso_parts.specs.Reading.{prefix_size, Reads, Decodes, DecodesValue, IfGot, got, prefix_of, value_of, body_of, part_at};
 
 use crate::encoding::Coding;
 use crate::fault::FieldFault;
 use crate::judging::judge_length;
 use crate::padding::Pad;
-use crate::prefix::{LONGEST_FIXED, LONGEST_PREFIX};
 use crate::spec::FieldSpec;
 use std::alloc::{AllocError, Global};
 use std::fmt;
@@ -42,7 +40,7 @@ impl fmt::Debug for Step {
 }
 
 /// Appends the value and `n` pads.
-fn append_filled(pad: Pad, n: usize, value: &[u8], out: &mut Vec<u8>) -> Result<(), AllocError>
+fn encode_padded(pad: Pad, n: usize, value: &[u8], out: &mut Vec<u8>) -> Result<(), AllocError>
     requires { n ≤ 65535 }
     ensures ok { OnOk result (out.new.items ≡ out.old.items ++ with_pads pad n value.now) }
     ensures err { OnErr result (Keeps out.old.items out.new.items) }
@@ -60,70 +58,61 @@ fn append_filled(pad: Pad, n: usize, value: &[u8], out: &mut Vec<u8>) -> Result<
     }
 }
 
-/// Fills the text with the value and pads.
-fn fill(pad: Pad, value: &[u8], text: &mut [u8])
-    requires room { length value.now ≤ length text.old }
-    requires exact { pad ≡ Pad.None → length value.now ≡ length text.old }
-    ensures { text.new ≡ with_pads pad (length text.old - length value.now) value.now }
+/// Appends the packed characters of a padded value from a place on, two a byte.
+#[tactic(auto, using(crate::proofs::Pairs::pairs_from, crate::proofs::Pairs::length_padded))]
+fn encode_padded_pairs(
+    spec: &FieldSpec,
+    from: usize,
+    value: &[u8],
+    out: &mut Vec<u8>,
+) -> Result<(), AllocError>
+    requires room { length value.now ≤ spec.now.max }
+    requires exact { spec.now.pad ≡ Pad.None → length value.now ≡ spec.now.max }
+    requires few { from ≤ 1 }
+    ensures ok { OnOk result (out.new.items ≡ out.old.items ++ pairs (drop from (padded spec.now value.now))) }
+    ensures err { OnErr result (Keeps out.old.items out.new.items) }
 {
-    match pad {
-        Pad::None => text.copy_from_slice(value),
-        Pad::Left(pad) => {
-            let (front, back) = text.split_at_mut(text.len() - value.len());
-            front.fill(pad);
-            back.copy_from_slice(value);
-        }
-        Pad::Right(pad) => {
-            let (front, back) = text.split_at_mut(value.len());
-            front.copy_from_slice(value);
-            back.fill(pad);
-        }
+    let count = spec.max as usize;
+    let mut at = from;
+    while at + 1 < count {
+        let high = spec.pad.character_at(count, value, at);
+        let low = spec.pad.character_at(count, value, at + 1);
+        out.push(high % 16 * 16 + low % 16)?;
+        at += 2;
     }
+    Ok(())
 }
 
-/// Appends the body of a value that is filled up under BCD.
-fn append_filled_bcd(spec: &FieldSpec, value: &[u8], out: &mut Vec<u8>) -> Result<(), AllocError>
+/// Appends the packed characters of a padded value, where their count is odd with the filler 0 in front.
+#[tactic(auto, using(crate::proofs::Pairs::length_padded, crate::proofs::Pairs::pairs_behind_filler))]
+fn encode_padded_bcd(spec: &FieldSpec, value: &[u8], out: &mut Vec<u8>) -> Result<(), AllocError>
     requires room { length value.now ≤ spec.now.max }
-    requires max { spec.now.max ≤ limit Fixed }
     requires exact { spec.now.pad ≡ Pad.None → length value.now ≡ spec.now.max }
     ensures ok { OnOk result (out.new.items ≡ out.old.items ++ plain Coding.Bcd (padded spec.now value.now)) }
     ensures err { OnErr result (Keeps out.old.items out.new.items) }
 {
-    let mut text = [0; LONGEST_FIXED];
-    let (text, _) = text.split_at_mut(spec.max as usize);
-    fill(spec.pad, value, text);
-    Coding::Bcd.append_text(text, out)
-}
-
-/// Room for the part of a value of so many characters, whatever its length and its coding.
-fn room_for(spec: &FieldSpec, count: usize) -> usize
-    requires few { count ≤ longest_value }
-    requires small { spec.now.max ≤ longest_value }
-{
-    let characters = if spec.pad == Pad::None {
-        count
-    } else {
-        spec.max as usize
-    };
-    LONGEST_PREFIX + 2 * characters
+    let count = spec.max as usize;
+    if count % 2 == 0 {
+        return encode_padded_pairs(spec, 0, value, out);
+    }
+    out.push(spec.pad.character_at(count, value, 0) % 16)?;
+    encode_padded_pairs(spec, 1, value, out)
 }
 
 /// Appends the plain part of a value that fits. Where memory runs out, more than was there may stand behind it.
-#[tactic(auto, using(crate::proofs::Counts::padded_few))]
-fn append_part(spec: &FieldSpec, value: &[u8], out: &mut Vec<u8>) -> Result<(), AllocError>
+fn encode_part(spec: &FieldSpec, value: &[u8], out: &mut Vec<u8>) -> Result<(), AllocError>
     requires good { IsGood spec.now }
     requires length { IsTrue (is_length spec.now (length value.now)) }
     ensures ok { OnOk result (out.new.items ≡ out.old.items ++ plain_part spec.now value.now) }
     ensures err { OnErr result (Keeps out.old.items out.new.items) }
 {
-    out.reserve(room_for(spec, value.len()))?;
-    spec.length.append(value.len(), out)?;
+    spec.length.encode(value.len(), out)?;
     if spec.pad == Pad::None {
-        return spec.coding.append_text(value, out);
+        return spec.coding.encode(value, out);
     }
     match spec.coding {
-        Coding::Bcd => append_filled_bcd(spec, value, out),
-        _ => append_filled(spec.pad, spec.max as usize - value.len(), value, out),
+        Coding::Bcd => encode_padded_bcd(spec, value, out),
+        _ => encode_padded(spec.pad, spec.max as usize - value.len(), value, out),
     }
 }
 
@@ -145,7 +134,7 @@ pub fn encode_field(spec: &FieldSpec, value: &[u8], out: &mut Vec<u8>) -> Result
         return Err(fault);
     }
     let start = out.len();
-    match append_part(spec, value, out) {
+    match encode_part(spec, value, out) {
         Ok(()) => Ok(()),
         Err(_) => {
             out.truncate(start);
@@ -169,8 +158,8 @@ pub(crate) fn prefix_of(spec: &FieldSpec, prefix: &[u8]) -> Result<u16, FieldFau
 }
 
 /// Appends the characters without their padding, where they are in the class.
-fn push_value(spec: &FieldSpec, text: &[u8], out: &mut Vec<u8>) -> Result<(), FieldFault>
-    ensures { AppendsRead out.old.items out.new.items result (value_of spec.now text.now) }
+fn decode_text(spec: &FieldSpec, text: &[u8], out: &mut Vec<u8>) -> Result<(), FieldFault>
+    ensures { Decodes out.old.items out.new.items result (value_of spec.now text.now) }
 {
     let value = spec.pad.unpadded(text);
     if !spec.class.takes(value) {
@@ -180,9 +169,9 @@ fn push_value(spec: &FieldSpec, text: &[u8], out: &mut Vec<u8>) -> Result<(), Fi
 }
 
 /// Takes the padding off the characters that stand behind the first `before` bytes, where they are in the class.
-fn settle(spec: &FieldSpec, before: usize, out: &mut Vec<u8>) -> Result<(), FieldFault>
+fn decode_in_place(spec: &FieldSpec, before: usize, out: &mut Vec<u8>) -> Result<(), FieldFault>
     requires { before ≤ vec_len out.old }
-    ensures { AppendsRead (take before out.old.items) out.new.items result (value_of spec.now (drop before out.old.items)) }
+    ensures { Decodes (take before out.old.items) out.new.items result (value_of spec.now (drop before out.old.items)) }
 {
     let (_, text) = out.as_slice().split_at(before);
     let value = spec.pad.unpadded(text);
@@ -193,36 +182,42 @@ fn settle(spec: &FieldSpec, before: usize, out: &mut Vec<u8>) -> Result<(), Fiel
     Ok(())
 }
 
-/// Appends the value that a whole body of `n` characters tells, which are packed or hexadecimal digits.
+/// Appends the value that a whole body of `n` characters tells, in code of its own: they are packed or hexadecimal
+/// digits.
 #[inline(never)]
-fn push_coded(spec: &FieldSpec, n: u16, body: &[u8], out: &mut Vec<u8>) -> Result<(), FieldFault>
-    ensures { AppendsRead out.old.items out.new.items result (body_of spec.now n body.now) }
+fn decode_body_apart(
+    spec: &FieldSpec,
+    n: u16,
+    body: &[u8],
+    out: &mut Vec<u8>,
+) -> Result<(), FieldFault>
+    ensures { Decodes out.old.items out.new.items result (body_of spec.now n body.now) }
 {
     let before = out.len();
-    spec.coding.push_text(n, body, out)?;
-    settle(spec, before, out)
+    spec.coding.decode(n, body, out)?;
+    decode_in_place(spec, before, out)
 }
 
 /// Appends the value that a whole body of `n` characters tells.
-fn push_body(spec: &FieldSpec, n: u16, body: &[u8], out: &mut Vec<u8>) -> Result<(), FieldFault>
-    ensures { AppendsRead out.old.items out.new.items result (body_of spec.now n body.now) }
+fn decode_body(spec: &FieldSpec, n: u16, body: &[u8], out: &mut Vec<u8>) -> Result<(), FieldFault>
+    ensures { Decodes out.old.items out.new.items result (body_of spec.now n body.now) }
 {
     if spec.coding.is_plain() {
-        push_value(spec, body, out)
+        decode_text(spec, body, out)
     } else {
-        push_coded(spec, n, body, out)
+        decode_body_apart(spec, n, body, out)
     }
 }
 
 /// Appends the value of the part that the bytes begin with, and gives how many bytes the part takes; `None`
 /// where bytes are missing. Only the growth of `out` takes memory. Whatever isn't a value leaves `out` as it was.
-pub fn append_value(
+pub fn decode_value(
     spec: &FieldSpec,
     bytes: &[u8],
     out: &mut Vec<u8>,
 ) -> Result<Option<usize>, FieldFault>
     requires { IsGood spec.now }
-    ensures exact { AppendsValue out.old.items out.new.items result (part_at spec.now bytes.now) }
+    ensures exact { DecodesValue out.old.items out.new.items result (part_at spec.now bytes.now) }
     ensures room { IfOk result (λ got. IfSome got (λ used. used ≤ length bytes.now)) }
 {
     let n = match judge_length(spec, bytes) {
@@ -237,7 +232,7 @@ pub fn append_value(
         return Ok(None);
     }
     let before = out.len();
-    match push_body(spec, n, &rest[..size], out) {
+    match decode_body(spec, n, &rest[..size], out) {
         Ok(()) => Ok(Some(front + size)),
         Err(fault) => {
             out.truncate(before);
@@ -252,7 +247,7 @@ fn step_of(alloc: Global, spec: &FieldSpec, bytes: &[u8]) -> Result<Step, FieldF
     ensures { Reads result (part_at spec.now bytes.now) }
 {
     let mut value = Vec::new(alloc);
-    match append_value(spec, bytes, &mut value) {
+    match decode_value(spec, bytes, &mut value) {
         Ok(Some(used)) => Ok(Step::Got { value, used }),
         Ok(None) => Ok(Step::More),
         Err(fault) => Err(fault),

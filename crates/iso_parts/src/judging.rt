@@ -2,9 +2,7 @@
 
 ghost use Rattle.std.specs.Prelude.{◌≡◌, ◌≢◌, ◌≤◌, ◌+◌, ◌*◌, ◌/◌, ℕ, List, take, drop, length};
 ghost use Rattle.std.specs.Prelude.{IfErr, IfOk, IfSome, true, false};
-ghost use Rattle.std.specs.List.{list_all};
 ghost use Rattle.iso_parts.specs.Building.{IsPart};
-ghost use Rattle.iso_parts.specs.Class.{is_digit};
 ghost use Rattle.iso_parts.specs.Row.{IsGood};
 ghost use Rattle.iso_parts.specs.declared.fault.FieldFault.TheVariants.{Memory};
 ghost use Rattle.iso_parts.specs.Part.{characters, Part};
@@ -14,7 +12,7 @@ use crate::class::CharClass;
 use crate::encoding::{Coding, are_hex_digits};
 use crate::fault::FieldFault;
 use crate::field::prefix_of;
-use crate::padding::Pad;
+use crate::packed::are_unpadded_digits;
 use crate::prefix::Length;
 use crate::spec::FieldSpec;
 
@@ -25,29 +23,6 @@ pub enum Judged {
     Got { body: usize, used: usize },
     /// Less than a whole part.
     More,
-}
-
-/// Whether the two characters of each byte are digits. The loop has no early end, so that many bytes are judged at
-/// a time.
-fn are_digits(bytes: &[u8]) -> bool
-    ensures { result ≡ list_all is_digit (characters bytes.now) }
-{
-    let mut all = true;
-    for b in bytes {
-        all &= *b / 16 < 10 && *b % 16 < 10;
-    }
-    all
-}
-
-/// Writes the two characters of each byte.
-fn write_characters(bytes: &[u8], room: &mut [u8])
-    requires { length room.old ≡ 2 * length bytes.now }
-    ensures { room.new ≡ characters bytes.now }
-{
-    for (i, b) in bytes.iter().enumerate() {
-        room[2 * i] = b'0' + *b / 16;
-        room[2 * i + 1] = b'0' + *b % 16;
-    }
 }
 
 /// Judges characters: without their padding they are in the class.
@@ -61,42 +36,18 @@ fn judge_text(spec: &FieldSpec, text: &[u8]) -> Result<(), FieldFault>
     }
 }
 
-/// Whether the characters of the body are digits, behind the first one where that is a filler.
-fn are_digits_behind(skip: usize, body: &[u8]) -> bool
-    requires { skip ≤ 1 }
-    ensures { result ≡ list_all is_digit (drop skip (characters body.now)) }
-{
-    match body {
-        [first, rest @ ..] if skip == 1 => *first % 16 < 10 && are_digits(rest),
-        _ => are_digits(body),
-    }
-}
-
-/// Judges packed digits that aren't padded, behind the first character where that is a filler.
+/// Judges packed digits, behind the first character where that is a filler.
 fn judge_digits(spec: &FieldSpec, skip: usize, body: &[u8]) -> Result<(), FieldFault>
     requires class { spec.now.class ≡ CharClass.N }
-    requires pad { spec.now.pad ≡ Pad.None }
     requires few { skip ≤ 1 }
+    requires within { skip ≤ 2 * length body.now }
     ensures { IsJudged result (value_of spec.now (drop skip (characters body.now))) }
 {
-    if are_digits_behind(skip, body) {
+    if are_unpadded_digits(spec.pad, skip, body) {
         Ok(())
     } else {
         Err(FieldFault::NotInClass)
     }
-}
-
-/// Judges packed characters by writing them out, behind the first one where it is a filler.
-fn judge_written(spec: &FieldSpec, skip: usize, body: &[u8]) -> Result<(), FieldFault>
-    requires few { skip ≤ 2 * length body.now }
-    requires short { length body.now ≤ 500 }
-    ensures { IsJudged result (value_of spec.now (drop skip (characters body.now))) }
-{
-    let mut room = [0; 1000];
-    let (text, _) = room.split_at_mut(2 * body.len());
-    write_characters(body, text);
-    let (_, rest) = text.split_at(skip);
-    judge_text(spec, rest)
 }
 
 /// Judges packed characters, behind the first one where it is a filler. Each of them is of class `Z`.
@@ -105,12 +56,9 @@ fn judge_characters(spec: &FieldSpec, skip: usize, body: &[u8]) -> Result<(), Fi
     requires coding { spec.now.coding ≡ Coding.Bcd }
     requires few { skip ≤ 1 }
     requires within { skip ≤ 2 * length body.now }
-    requires short { spec.now.pad ≢ Pad.None → length body.now ≤ 500 }
     ensures { IsJudged result (value_of spec.now (drop skip (characters body.now))) }
 {
-    if spec.pad != Pad::None {
-        judge_written(spec, skip, body)
-    } else if spec.class == CharClass::N {
+    if spec.class == CharClass::N {
         judge_digits(spec, skip, body)
     } else {
         Ok(())
@@ -121,7 +69,6 @@ fn judge_characters(spec: &FieldSpec, skip: usize, body: &[u8]) -> Result<(), Fi
 fn judge_packed(spec: &FieldSpec, n: u16, body: &[u8]) -> Result<(), FieldFault>
     requires good { IsGood spec.now }
     requires coding { spec.now.coding ≡ Coding.Bcd }
-    requires short { spec.now.pad ≢ Pad.None → length body.now ≤ 500 }
     ensures { IsJudged result (body_of spec.now n body.now) }
 {
     if n % 2 == 0 {
@@ -154,7 +101,6 @@ fn judge_hex(spec: &FieldSpec, n: u16, body: &[u8]) -> Result<(), FieldFault>
 
 /// Judges a whole body of `n` characters that are packed or hexadecimal digits.
 #[inline(never)]
-#[tactic(auto, using(crate::proofs::Counts::padded_few))]
 fn judge_coded(spec: &FieldSpec, n: u16, body: &[u8]) -> Result<(), FieldFault>
     requires good { IsGood spec.now }
     requires few { n ≤ spec.now.max }
@@ -310,7 +256,7 @@ pub fn judge_field(spec: &FieldSpec, bytes: &[u8]) -> Result<Judged, FieldFault>
     requires { IsGood spec.now }
     // What is judged good is a part of some value,
     ensures found { IfJudged result (λ body used. (used ≤ length bytes.now) × ((value : List ℕ) × Part spec.now value (take used bytes.now))) }
-    // and its value can be appended without judging it again.
+    // and its value can be decoded without judging it again.
     ensures part { IfJudged result (λ body used. IsPart (part_at spec.now bytes.now)) }
     // It is judged as reading the value judges it,
     ensures exact { Judges (prefix_size spec.now.length) result (part_at spec.now bytes.now) }

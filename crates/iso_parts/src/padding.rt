@@ -1,7 +1,8 @@
 //! Padding.
 
-ghost use Rattle.std.specs.Prelude.{◌≡◌, ◌≤◌, ◌++◌, length, reverse, take, drop, vec_len};
+ghost use Rattle.std.specs.Prelude.{◌≡◌, ◌≤◌, ◌<◌, ◌-◌, ◌++◌, length, reverse, take, drop, vec_len, slice_index};
 ghost use Rattle.iso_parts.specs.Row.{has_pad_end};
+ghost use Rattle.iso_parts.specs.Part.{with_pads};
 ghost use Rattle.iso_parts.specs.Reading.{without_front, unpadded};
 
 /// What fills a value up on the wire, to the row's maximum. The value is kept without it.
@@ -76,6 +77,24 @@ impl Pad {
             Pad::Right(pad) => without_end(pad, text),
         }
     }
+
+    /// The character at a place of the value that is padded to so many characters.
+    pub(crate) fn character_at(self, count: usize, value: &[u8], at: usize) -> u8
+        requires room { length value.now ≤ count }
+        requires exact { self ≡ Pad.None → length value.now ≡ count }
+        requires within { at < count }
+        ensures { result ≡ slice_index (with_pads self (count - length value.now) value.now) at }
+    {
+        match self {
+            Pad::None => value[at],
+            Pad::Left(pad) => {
+                let pads = count - value.len();
+                if at < pads { pad } else { value[at - pads] }
+            }
+            Pad::Right(pad) => { if at < value.len() { value[at] } else { pad } }
+        }
+    }
+
     /// Takes the padding off the characters that stand behind the first `before` bytes.
     pub(crate) fn strip(self, before: usize, out: &mut Vec<u8>)
         requires { before ≤ vec_len out.old }

@@ -12,10 +12,7 @@ use std::alloc::AllocError;
 pub const LONGEST_VALUE: usize = 9_999;
 
 /// The most characters of a value of a fixed length, so also of one that is filled up.
-pub(crate) const LONGEST_FIXED: usize = 999;
-
-/// The most bytes that a length takes.
-pub(crate) const LONGEST_PREFIX: usize = 4;
+const LONGEST_FIXED: usize = 999;
 
 /// How decimal digits are written.
 #[derive(Clone, Copy, Debug, PartialEq, Eq)]
@@ -68,7 +65,7 @@ fn number_of(k: u8, h: u8, t: u8, o: u8) -> Result<u16, FieldFault>
 }
 
 /// Appends a length of four digits.
-fn append_four(digits: Digits, n: usize, out: &mut Vec<u8>) -> Result<(), AllocError>
+fn encode_four(digits: Digits, n: usize, out: &mut Vec<u8>) -> Result<(), AllocError>
     requires { n ≤ longest_value }
     ensures ok { OnOk result (out.new.items ≡ out.old.items ++ prefix (Length.LLLL digits) n) }
     ensures err { OnErr result (out.new.items ≡ out.old.items) }
@@ -146,7 +143,7 @@ impl Length {
     }
 
     /// Appends the digits of a length.
-    fn append_digits(self, n: usize, out: &mut Vec<u8>) -> Result<(), AllocError>
+    fn encode_digits(self, n: usize, out: &mut Vec<u8>) -> Result<(), AllocError>
         requires { n ≤ limit self }
         ensures ok { OnOk result (out.new.items ≡ out.old.items ++ prefix self n) }
         ensures err { OnErr result (out.new.items ≡ out.old.items) }
@@ -162,13 +159,13 @@ impl Length {
                 out.extend_from_slice(&[b'0' + hundreds, b'0' + tens, b'0' + ones])
             }
             Length::LLL(Digits::Bcd) => out.extend_from_slice(&[hundreds, 16 * tens + ones]),
-            Length::LLLL(digits) => append_four(digits, n, out),
+            Length::LLLL(digits) => encode_four(digits, n, out),
         }
     }
 
     /// Appends the length of a value, at once where the row has none.
     #[inline(always)]
-    pub(crate) fn append(self, n: usize, out: &mut Vec<u8>) -> Result<(), AllocError>
+    pub(crate) fn encode(self, n: usize, out: &mut Vec<u8>) -> Result<(), AllocError>
         requires { n ≤ limit self }
         ensures ok { OnOk result (out.new.items ≡ out.old.items ++ prefix self n) }
         ensures err { OnErr result (out.new.items ≡ out.old.items) }
@@ -176,6 +173,6 @@ impl Length {
         if self == Length::Fixed {
             return Ok(());
         }
-        self.append_digits(n, out)
+        self.encode_digits(n, out)
     }
 }

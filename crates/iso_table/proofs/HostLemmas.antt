@@ -18,8 +18,8 @@ some_of true e h = refl
 some_of false e h = absurd cc
 
 row_good : (h : HostRow) (r : Option FieldSpec) → row_fault h r ≡ None → IsHostRow h r
-row_good h None e = none_of h.1 (NoRow h.0) e
-row_good h (Some s) e = some_of (is_shape h.2 s) (RowShape h.0) e
+row_good h None e = none_of h.needed (NoRow h.number) e
+row_good h (Some s) e = some_of (is_shape h.shape s) (RowShape h.number) e
 
 row_none : (h : HostRow) (r : Option FieldSpec) → IsHostRow h r → row_fault h r ≡ None
 row_none h None good = rw good refl
@@ -32,12 +32,12 @@ both_none (Some x) b e = absurd cc
 rows_good : (hs : List HostRow) (rows : List (Option FieldSpec)) → rows_fault hs rows ≡ None → AreHostRows hs rows
 rows_good [] rows e = tt
 rows_good (h ∷ hs) rows e =
-    let p = both_none (row_fault h (row_at rows h.0)) (rows_fault hs rows) e in
-    (row_good h (row_at rows h.0) p.0, rows_good hs rows p.1)
+    let p = both_none (row_fault h (row_at rows h.number)) (rows_fault hs rows) e in
+    (row_good h (row_at rows h.number) p.0, rows_good hs rows p.1)
 
 rows_none : (hs : List HostRow) (rows : List (Option FieldSpec)) → AreHostRows hs rows → rows_fault hs rows ≡ None
 rows_none [] rows good = refl
-rows_none (h ∷ hs) rows good = rw (row_none h (row_at rows h.0) good.0) (rows_none hs rows good.1)
+rows_none (h ∷ hs) rows good = rw (row_none h (row_at rows h.number) good.0) (rows_none hs rows good.1)
 
 -- nothing is wrong with a table that is ready
 pub host_none : (t : Layout) → IsHostReady t → host_fault t ≡ None

@@ -4,7 +4,7 @@ use Rattle.std.specs.Str.{IsUtf8, bytes_eq}
 use Rattle.hex.specs.Hex.{decode_sized, encode_upper}
 use Rattle.hex.specs.declared.error.FromHexError.{FromHexError}
 use Rattle.serde_json.specs.Data.{Data, number, unsigned, string, array, object, Items, no_items, item, Members, no_members, member}
-use Rattle.serde_json.specs.Find.{get, as_object, as_array, as_str, as_number, as_u64}
+use Rattle.serde_json.specs.Find.{get, as_array, as_number, as_u64}
 use Rattle.serde_json.specs.Read.{read}
 use Rattle.iso_parts.specs.declared.class.CharClass.{CharClass}
 use Rattle.iso_parts.specs.declared.class.CharClass.TheVariants.{N, A, AN, ANS, Z, ZD, XN, B}
@@ -26,6 +26,7 @@ use Rattle.iso_table.specs.declared.fault.TableFault.{TableFault}
 use Rattle.iso_table.specs.declared.fault.TableFault.TheVariants as faults
 use Rattle.iso_table.specs.Layout.{Layout}
 use Rattle.iso_table.specs.Accepted.{Contents, Holds, first_fault}
+use Rattle.iso_table.specs.Members.{has_size, text_at}
 
 -- ---- names
 
@@ -131,24 +132,6 @@ infixl 10 ◌>>=◌
 abbrev pub ◌>>=◌ : {X Y : Type 0} → Option X → (X → Option Y) → Option Y
 None >>= f = None
 Some x >>= f = f x
-
--- how many members there are
-abbrev pub member_count : Members → ℕ
-member_count no_members = 0
-member_count (member k d ms) = member_count ms + 1
-
--- whether there are members, and so many
-abbrev pub counts_to : ℕ → Option Members → Bool
-counts_to n None = false
-counts_to n (Some ms) = member_count ms == n
-
--- an object of so many members
-abbrev pub has_size : ℕ → Data → Bool
-has_size n d = counts_to n (as_object d)
-
--- the text at a member
-abbrev pub text_at : List ℕ → Data → Option (List ℕ)
-text_at key d = get key d >>= as_str
 
 -- the number, if it isn't above the greatest one
 abbrev pub up_to : ℕ → ℕ → Option ℕ
@@ -268,13 +251,13 @@ or_fault c None = Ok c
 or_fault c (Some e) = Err e
 
 -- the draft, if it is accepted
-abbrev pub checked : Result Contents TableFault → Result Contents TableFault
-checked (Err e) = Err e
-checked (Ok c) = or_fault c (first_fault c)
+abbrev pub accepted_draft : Result Contents TableFault → Result Contents TableFault
+accepted_draft (Err e) = Err e
+accepted_draft (Ok c) = or_fault c (first_fault c)
 
 -- the accepted draft that the data are, or the first fault
 abbrev pub table_in : Data → Result Contents TableFault
-table_in d = checked (draft_in d)
+table_in d = accepted_draft (draft_in d)
 
 -- the text is JSON, and stands for the data
 abbrev pub StandsFor : List ℕ → Data → Type 0

@@ -15,12 +15,12 @@ use Rattle.iso_parts.specs.declared.bitmap.BitmapCoding.{BitmapCoding}
 use Rattle.iso_parts.specs.declared.bitmap.BitmapCoding.TheVariants as bitmaps
 use Rattle.iso_table.specs.declared.edition87.LengthKind.{LengthKind}
 use Rattle.iso_table.specs.declared.edition87.LengthKind.TheVariants.{Fixed, LL, LLL}
-use Rattle.iso_table.specs.declared.edition87.Group.{Group}
+use Rattle.iso_table.specs.declared.edition87.Line.{Line}
 use Rattle.iso_table.specs.Layout.{Layout, row_at}
 
 -- one line of the table below
-abbrev pub line : ℕ → ℕ → CharClass → LengthKind → ℕ → Pad → Group
-line first last class kind max pad = record { 0 = first; 1 = last; 2 = class; 3 = kind; 4 = max; 5 = pad }
+abbrev pub line : ℕ → ℕ → CharClass → LengthKind → ℕ → Pad → Line
+line first last class kind max pad = record { first = first; last = last; class = class; kind = kind; max = max; pad = pad }
 
 -- no padding
 abbrev pub none : Pad
@@ -31,7 +31,7 @@ abbrev pub blanks : Pad
 blanks = pads.Right 0x20
 
 -- the elements from a first to a last number, with their class, length, maximum and padding
-abbrev pub lines : List Group
+abbrev pub lines : List Line
 lines =
     line 2 2 N LL 19 none ∷  -- primary account number (PAN)
     line 3 3 N Fixed 6 none ∷  -- processing code
@@ -90,8 +90,8 @@ lines =
     line 128 128 B Fixed 8 none ∷ []  -- message authentication code
 
 -- whether the line is of element n
-abbrev pub has_number : ℕ → Group → Bool
-has_number n g = nat_le g.0 n && nat_le n g.1
+abbrev pub has_number : ℕ → Line → Bool
+has_number n l = nat_le l.first n && nat_le n l.last
 
 -- the length, written in these digits
 abbrev pub length_of : LengthKind → Digits → Length
@@ -108,8 +108,8 @@ coding_of digits.Ascii n B = if n == 55 then codings.Raw else codings.HexText
 coding_of digits.Ascii n c = codings.Ascii
 
 -- the row of element n by its line
-abbrev pub spec_of : Digits → ℕ → Group → FieldSpec
-spec_of d n g = record { class = g.2; coding = coding_of d n g.2; length = length_of g.3 d; max = g.4; pad = g.5 }
+abbrev pub spec_of : Digits → ℕ → Line → FieldSpec
+spec_of d n l = record { class = l.class; coding = coding_of d n l.class; length = length_of l.kind d; max = l.max; pad = l.pad }
 
 -- the row of element n
 abbrev pub row87 : Digits → ℕ → Option FieldSpec

@@ -62,7 +62,7 @@ is_shape (AnyUpTo n) s = nat_le s.max n
 
 -- an element, whether it needs a row, and the row's shape
 abbrev pub host_row : ℕ → Bool → Shape → HostRow
-host_row number needed shape = record { 0 = number; 1 = needed; 2 = shape }
+host_row number needed shape = record { number = number; needed = needed; shape = shape }
 
 -- the elements that a request or a response has, whether a row is needed, and its shape
 abbrev pub host_rows : List HostRow
@@ -88,13 +88,13 @@ host_rows =
 
 -- what is wrong with an element's row, if anything
 abbrev pub row_fault : HostRow → Option FieldSpec → Option HostTableFault
-row_fault h None = if h.1 then Some (NoRow h.0) else None
-row_fault h (Some s) = if is_shape h.2 s then None else Some (RowShape h.0)
+row_fault h None = if h.needed then Some (NoRow h.number) else None
+row_fault h (Some s) = if is_shape h.shape s then None else Some (RowShape h.number)
 
 -- the first thing that is wrong among the elements, in ascending number
 abbrev pub rows_fault : List HostRow → List (Option FieldSpec) → Option HostTableFault
 rows_fault [] rows = None
-rows_fault (h ∷ hs) rows = option_or (row_fault h (row_at rows h.0)) (rows_fault hs rows)
+rows_fault (h ∷ hs) rows = option_or (row_fault h (row_at rows h.number)) (rows_fault hs rows)
 
 -- the first thing that is wrong: the version, then the rows
 abbrev pub host_fault : Layout → Option HostTableFault
@@ -104,13 +104,13 @@ host_fault t = if t.version == 0 then rows_fault host_rows t.rows else Some NotV
 
 -- the row that is there has the shape, and a needed one is there
 abbrev pub IsHostRow : HostRow → Option FieldSpec → Type 0
-IsHostRow h None = h.1 ≡ false
-IsHostRow h (Some s) = IsTrue (is_shape h.2 s)
+IsHostRow h None = h.needed ≡ false
+IsHostRow h (Some s) = IsTrue (is_shape h.shape s)
 
 -- each of these elements has the row that a host needs
 abbrev pub AreHostRows : List HostRow → List (Option FieldSpec) → Type 0
 AreHostRows [] rows = Unit {0}
-AreHostRows (h ∷ hs) rows = IsHostRow h (row_at rows h.0) × AreHostRows hs rows
+AreHostRows (h ∷ hs) rows = IsHostRow h (row_at rows h.number) × AreHostRows hs rows
 
 -- the table has version 0 and each row that a host needs
 pub record IsHostReady (t : Layout) : Type 0 where

@@ -22,70 +22,91 @@ pub enum LengthKind {
     LLL,
 }
 
-/// The elements from a first to a last number, with their class, length, maximum and padding.
+/// A line of the table below: the elements from a first to a last number, and what their rows say.
 #[derive(Clone, Copy, Debug, PartialEq, Eq)]
-pub struct Group(u8, u8, CharClass, LengthKind, u16, Pad);
+pub struct Line {
+    first: u8,
+    last: u8,
+    class: CharClass,
+    kind: LengthKind,
+    max: u16,
+    pad: Pad,
+}
+
+/// The line of the elements from a first to a last number, with their class, length, maximum and padding.
+macro_rules! line {
+    ($first:literal, $last:literal, $class:ident, $kind:ident, $max:literal, $pad:ident) => {
+        Line {
+            first: $first,
+            last: $last,
+            class: $class,
+            kind: $kind,
+            max: $max,
+            pad: $pad,
+        }
+    };
+}
 
 /// Filled up with blanks at the end.
 const BLANKS: Pad = Right(0x20);
 
 /// The elements of the 1987 edition.
-const GROUPS: [Group; 55] = [
-    Group(2, 2, N, LL, 19, Unpadded), // primary account number (PAN)
-    Group(3, 3, N, Fixed, 6, Unpadded), // processing code
-    Group(4, 6, N, Fixed, 12, Unpadded), // amounts: transaction, settlement, cardholder billing
-    Group(7, 7, N, Fixed, 10, Unpadded), // transmission date and time
-    Group(8, 10, N, Fixed, 8, Unpadded), // cardholder billing fee, conversion rates
-    Group(11, 12, N, Fixed, 6, Unpadded), // system trace audit number, local time
-    Group(13, 18, N, Fixed, 4, Unpadded), // dates: local, expiration, settlement, conversion, capture; merchant type
-    Group(19, 24, N, Fixed, 3, Unpadded), // country codes, entry mode, card sequence number, network
-    Group(25, 26, N, Fixed, 2, Unpadded), // point of service: condition code, PIN capture code
-    Group(27, 27, N, Fixed, 1, Unpadded), // authorization identification response length
-    Group(28, 31, XN, Fixed, 9, Unpadded), // fees
-    Group(32, 33, N, LL, 11, Unpadded), // acquiring and forwarding institution
-    Group(34, 34, ANS, LL, 28, Unpadded), // PAN, extended
-    Group(35, 35, ZD, LL, 37, Unpadded), // track 2
-    Group(36, 36, ZD, LLL, 104, Unpadded), // track 3
-    Group(37, 37, ANS, Fixed, 12, Unpadded), // retrieval reference number
-    Group(38, 38, ANS, Fixed, 6, Unpadded), // authorization identification response
-    Group(39, 39, AN, Fixed, 2, Unpadded), // response code
-    Group(40, 40, AN, Fixed, 3, Unpadded), // service restriction code
-    Group(41, 41, ANS, Fixed, 8, BLANKS), // terminal
-    Group(42, 42, ANS, Fixed, 15, BLANKS), // card acceptor
-    Group(43, 43, ANS, Fixed, 40, BLANKS), // card acceptor's name and location
-    Group(44, 44, ANS, LL, 25, Unpadded), // additional response data
-    Group(45, 45, ANS, LL, 76, Unpadded), // track 1
-    Group(46, 48, ANS, LLL, 999, Unpadded), // additional data: ISO, national, private
-    Group(49, 51, AN, Fixed, 3, Unpadded), // currency codes
-    Group(52, 52, B, Fixed, 8, Unpadded), // PIN data
-    Group(53, 53, N, Fixed, 16, Unpadded), // security related control information
-    Group(54, 54, ANS, LLL, 120, Unpadded), // additional amounts
-    Group(55, 55, B, LLL, 999, Unpadded), // reserved, ISO (chip data)
-    Group(56, 63, ANS, LLL, 999, Unpadded), // reserved: ISO, national, private
-    Group(64, 64, B, Fixed, 8, Unpadded), // message authentication code
-    Group(66, 66, N, Fixed, 1, Unpadded), // settlement code
-    Group(67, 67, N, Fixed, 2, Unpadded), // extended payment code
-    Group(68, 70, N, Fixed, 3, Unpadded), // country codes, network management information code
-    Group(71, 72, N, Fixed, 4, Unpadded), // message numbers
-    Group(73, 73, N, Fixed, 6, Unpadded), // date, action
-    Group(74, 81, N, Fixed, 10, Unpadded), // numbers of credits, debits, transfers, inquiries, authorizations
-    Group(82, 85, N, Fixed, 12, Unpadded), // fees of credits and debits
-    Group(86, 89, N, Fixed, 16, Unpadded), // amounts of credits and debits
-    Group(90, 90, N, Fixed, 42, Unpadded), // original data elements
-    Group(91, 91, AN, Fixed, 1, Unpadded), // file update code
-    Group(92, 92, AN, Fixed, 2, Unpadded), // file security code
-    Group(93, 93, AN, Fixed, 5, Unpadded), // response indicator
-    Group(94, 94, AN, Fixed, 7, Unpadded), // service indicator
-    Group(95, 95, AN, Fixed, 42, Unpadded), // replacement amounts
-    Group(96, 96, B, Fixed, 8, Unpadded), // message security code
-    Group(97, 97, XN, Fixed, 17, Unpadded), // amount, net settlement
-    Group(98, 98, ANS, Fixed, 25, BLANKS), // payee
-    Group(99, 100, N, LL, 11, Unpadded), // settlement and receiving institution
-    Group(101, 101, ANS, LL, 17, Unpadded), // file name
-    Group(102, 103, ANS, LL, 28, Unpadded), // account identifications
-    Group(104, 104, ANS, LLL, 100, Unpadded), // transaction description
-    Group(105, 127, ANS, LLL, 999, Unpadded), // reserved: ISO, national, private
-    Group(128, 128, B, Fixed, 8, Unpadded), // message authentication code
+const LINES: [Line; 55] = [
+    line!(2, 2, N, LL, 19, Unpadded), // primary account number (PAN)
+    line!(3, 3, N, Fixed, 6, Unpadded), // processing code
+    line!(4, 6, N, Fixed, 12, Unpadded), // amounts: transaction, settlement, cardholder billing
+    line!(7, 7, N, Fixed, 10, Unpadded), // transmission date and time
+    line!(8, 10, N, Fixed, 8, Unpadded), // cardholder billing fee, conversion rates
+    line!(11, 12, N, Fixed, 6, Unpadded), // system trace audit number, local time
+    line!(13, 18, N, Fixed, 4, Unpadded), // dates: local, expiration, settlement, conversion, capture; merchant type
+    line!(19, 24, N, Fixed, 3, Unpadded), // country codes, entry mode, card sequence number, network
+    line!(25, 26, N, Fixed, 2, Unpadded), // point of service: condition code, PIN capture code
+    line!(27, 27, N, Fixed, 1, Unpadded), // authorization identification response length
+    line!(28, 31, XN, Fixed, 9, Unpadded), // fees
+    line!(32, 33, N, LL, 11, Unpadded), // acquiring and forwarding institution
+    line!(34, 34, ANS, LL, 28, Unpadded), // PAN, extended
+    line!(35, 35, ZD, LL, 37, Unpadded), // track 2
+    line!(36, 36, ZD, LLL, 104, Unpadded), // track 3
+    line!(37, 37, ANS, Fixed, 12, Unpadded), // retrieval reference number
+    line!(38, 38, ANS, Fixed, 6, Unpadded), // authorization identification response
+    line!(39, 39, AN, Fixed, 2, Unpadded), // response code
+    line!(40, 40, AN, Fixed, 3, Unpadded), // service restriction code
+    line!(41, 41, ANS, Fixed, 8, BLANKS), // terminal
+    line!(42, 42, ANS, Fixed, 15, BLANKS), // card acceptor
+    line!(43, 43, ANS, Fixed, 40, BLANKS), // card acceptor's name and location
+    line!(44, 44, ANS, LL, 25, Unpadded), // additional response data
+    line!(45, 45, ANS, LL, 76, Unpadded), // track 1
+    line!(46, 48, ANS, LLL, 999, Unpadded), // additional data: ISO, national, private
+    line!(49, 51, AN, Fixed, 3, Unpadded), // currency codes
+    line!(52, 52, B, Fixed, 8, Unpadded), // PIN data
+    line!(53, 53, N, Fixed, 16, Unpadded), // security related control information
+    line!(54, 54, ANS, LLL, 120, Unpadded), // additional amounts
+    line!(55, 55, B, LLL, 999, Unpadded), // reserved, ISO (chip data)
+    line!(56, 63, ANS, LLL, 999, Unpadded), // reserved: ISO, national, private
+    line!(64, 64, B, Fixed, 8, Unpadded), // message authentication code
+    line!(66, 66, N, Fixed, 1, Unpadded), // settlement code
+    line!(67, 67, N, Fixed, 2, Unpadded), // extended payment code
+    line!(68, 70, N, Fixed, 3, Unpadded), // country codes, network management information code
+    line!(71, 72, N, Fixed, 4, Unpadded), // message numbers
+    line!(73, 73, N, Fixed, 6, Unpadded), // date, action
+    line!(74, 81, N, Fixed, 10, Unpadded), // numbers of credits, debits, transfers, inquiries, authorizations
+    line!(82, 85, N, Fixed, 12, Unpadded), // fees of credits and debits
+    line!(86, 89, N, Fixed, 16, Unpadded), // amounts of credits and debits
+    line!(90, 90, N, Fixed, 42, Unpadded), // original data elements
+    line!(91, 91, AN, Fixed, 1, Unpadded), // file update code
+    line!(92, 92, AN, Fixed, 2, Unpadded), // file security code
+    line!(93, 93, AN, Fixed, 5, Unpadded), // response indicator
+    line!(94, 94, AN, Fixed, 7, Unpadded), // service indicator
+    line!(95, 95, AN, Fixed, 42, Unpadded), // replacement amounts
+    line!(96, 96, B, Fixed, 8, Unpadded), // message security code
+    line!(97, 97, XN, Fixed, 17, Unpadded), // amount, net settlement
+    line!(98, 98, ANS, Fixed, 25, BLANKS), // payee
+    line!(99, 100, N, LL, 11, Unpadded), // settlement and receiving institution
+    line!(101, 101, ANS, LL, 17, Unpadded), // file name
+    line!(102, 103, ANS, LL, 28, Unpadded), // account identifications
+    line!(104, 104, ANS, LLL, 100, Unpadded), // transaction description
+    line!(105, 127, ANS, LLL, 999, Unpadded), // reserved: ISO, national, private
+    line!(128, 128, B, Fixed, 8, Unpadded), // message authentication code
 ];
 
 impl LengthKind {
@@ -113,51 +134,48 @@ fn coding_of(digits: Digits, number: usize, class: CharClass) -> Coding
     }
 }
 
-impl Group {
+impl Line {
+    /// Whether the line is of this element.
     fn has_number(self, number: usize) -> bool
         ensures { result ≡ has_number number self }
     {
-        usize::from(self.0) <= number && number <= usize::from(self.1)
+        usize::from(self.first) <= number && number <= usize::from(self.last)
     }
 
     /// The row of one of its elements in the table of these digits.
     fn spec(self, digits: Digits, number: usize) -> FieldSpec
         ensures { result ≡ spec_of digits number self }
     {
-        let Group(_, _, class, kind, max, pad) = self;
         FieldSpec {
-            class,
-            coding: coding_of(digits, number, class),
-            length: kind.length(digits),
-            max,
-            pad,
+            class: self.class,
+            coding: coding_of(digits, number, self.class),
+            length: self.kind.length(digits),
+            max: self.max,
+            pad: self.pad,
         }
     }
 }
 
-/// The first group of an element.
-fn group_in(groups: &[Group], number: usize) -> Option<Group>
-    ensures { result ≡ find (has_number number) groups.now }
+/// The first line of an element.
+fn line_in(lines: &[Line], number: usize) -> Option<Line>
+    ensures { result ≡ find (has_number number) lines.now }
 {
-    groups
-        .iter()
-        .copied()
-        .find(|group| group.has_number(number))
+    lines.iter().copied().find(|line| line.has_number(number))
 }
 
-/// The group of an element.
-fn group_of(number: usize) -> Option<Group>
+/// The line of an element.
+fn line_of(number: usize) -> Option<Line>
     ensures { result ≡ find (has_number number) lines }
 {
-    group_in(&GROUPS, number)
+    line_in(&LINES, number)
 }
 
 /// The row of an element in the table of these digits.
 fn row_of(digits: Digits, number: usize) -> Option<FieldSpec>
     ensures { result ≡ row87 digits number }
 {
-    match group_of(number) {
-        Some(group) => Some(group.spec(digits, number)),
+    match line_of(number) {
+        Some(line) => Some(line.spec(digits, number)),
         None => None,
     }
 }

@@ -28,28 +28,43 @@ use Shape::{Amounts, AnyUpTo, Digits, DigitsUpTo, Text};
 
 /// An element of requests and responses, whether it needs a row, and the row's shape.
 #[derive(Clone, Copy, Debug, PartialEq, Eq)]
-pub struct HostRow(u8, bool, Shape);
+pub struct HostRow {
+    number: u8,
+    needed: bool,
+    shape: Shape,
+}
+
+/// An element, whether it needs a row, and the row's shape.
+macro_rules! host_row {
+    ($number:literal, $needed:literal, $shape:expr) => {
+        HostRow {
+            number: $number,
+            needed: $needed,
+            shape: $shape,
+        }
+    };
+}
 
 /// The elements of requests and responses.
 const HOST_ROWS: [HostRow; 18] = [
-    HostRow(2, true, DigitsUpTo(19)),
-    HostRow(3, true, Digits(6)),
-    HostRow(4, true, Digits(12)),
-    HostRow(7, true, Digits(10)),
-    HostRow(11, true, Digits(6)),
-    HostRow(12, false, AnyUpTo(99)),
-    HostRow(13, false, AnyUpTo(99)),
-    HostRow(32, true, DigitsUpTo(11)),
-    HostRow(33, false, AnyUpTo(99)),
-    HostRow(37, false, AnyUpTo(99)),
-    HostRow(38, true, Text(6)),
-    HostRow(39, true, Text(2)),
-    HostRow(41, false, AnyUpTo(99)),
-    HostRow(42, false, AnyUpTo(99)),
-    HostRow(49, true, Text(3)),
-    HostRow(54, true, Amounts),
-    HostRow(70, true, Digits(3)),
-    HostRow(90, true, Digits(42)),
+    host_row!(2, true, DigitsUpTo(19)),
+    host_row!(3, true, Digits(6)),
+    host_row!(4, true, Digits(12)),
+    host_row!(7, true, Digits(10)),
+    host_row!(11, true, Digits(6)),
+    host_row!(12, false, AnyUpTo(99)),
+    host_row!(13, false, AnyUpTo(99)),
+    host_row!(32, true, DigitsUpTo(11)),
+    host_row!(33, false, AnyUpTo(99)),
+    host_row!(37, false, AnyUpTo(99)),
+    host_row!(38, true, Text(6)),
+    host_row!(39, true, Text(2)),
+    host_row!(41, false, AnyUpTo(99)),
+    host_row!(42, false, AnyUpTo(99)),
+    host_row!(49, true, Text(3)),
+    host_row!(54, true, Amounts),
+    host_row!(70, true, Digits(3)),
+    host_row!(90, true, Digits(42)),
 ];
 
 fn is_n(class: CharClass) -> bool
@@ -115,10 +130,10 @@ impl HostRow {
         ensures { result ≡ row_fault self (option_copied row.entry) }
     {
         match row {
-            None if self.1 => Some(HostTableFault::NoRow(self.0)),
+            None if self.needed => Some(HostTableFault::NoRow(self.number)),
             None => None,
-            Some(row) if self.2.takes(row) => None,
-            Some(_) => Some(HostTableFault::RowShape(self.0)),
+            Some(row) if self.shape.takes(row) => None,
+            Some(_) => Some(HostTableFault::RowShape(self.number)),
         }
     }
 }
@@ -128,7 +143,7 @@ fn fault_among(wanted: &[HostRow], places: &[Option<FieldSpec>]) -> Option<HostT
     ensures { result ≡ rows_fault wanted.now places.now }
 {
     for row in wanted {
-        if let Some(fault) = row.fault(row_at(places, usize::from(row.0))) {
+        if let Some(fault) = row.fault(row_at(places, usize::from(row.number))) {
             return Some(fault);
         }
     }

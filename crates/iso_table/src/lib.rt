@@ -5,6 +5,7 @@ mod draft;
 mod edition87;
 mod fault;
 mod host;
+pub mod members;
 mod placing;
 mod reading;
 mod sizes;

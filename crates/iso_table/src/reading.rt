@@ -5,13 +5,15 @@ ghost use Rattle.serde_json.specs.Errors.{IsMemory};
 ghost use Rattle.serde_json.specs.View.{view, items_view};
 ghost use Rattle.iso_table.specs.declared.fault.TableFault.TheVariants.{NotJson, Shape, Memory};
 ghost use Rattle.iso_table.specs.Accepted.{contents};
+ghost use Rattle.iso_table.specs.Members.{has_size, text_at};
 ghost use Rattle.iso_table.specs.Document.{number_at, digits_at, class_in, coding_in, pad_in, class_named, coding_named, digits_named};
-ghost use Rattle.iso_table.specs.Document.{bitmap_named, pad_named, byte_of, behind, has_size, text_at, whole_at, prefix_in, length_by};
+ghost use Rattle.iso_table.specs.Document.{bitmap_named, pad_named, byte_of, behind, whole_at, prefix_in, length_by};
 ghost use Rattle.iso_table.specs.Document.{length_in, spec_in, row_in, rows_in, bitmap_in, list_in, members_in, with_rows, contents_in};
 ghost use Rattle.iso_table.specs.Document.{profile_numbered, has_four_digits, draft_in, StandsFor, IsNotJson};
 
 use crate::draft::{Draft, Row};
 use crate::fault::TableFault;
+use crate::members::{has_members, text_at};
 use iso_parts::{BitmapCoding, CharClass, Coding, Digits, FieldSpec, Length, Pad};
 use serde_json::{Category, Value};
 use std::alloc::Global;
@@ -124,23 +126,6 @@ fn pad_named(name: &str) -> Option<Pad>
         return byte_of(digits).map(Pad::Right);
     }
     None
-}
-
-/// Whether a JSON value is an object of so many members.
-fn has_members(value: &Value, size: usize) -> bool
-    ensures { result ≡ has_size size (view value.now) }
-{
-    match value.as_object() {
-        Some(members) => members.len() == size,
-        None => false,
-    }
-}
-
-/// The text at a member.
-fn text_at<'a>(value: &'a Value, key: &str) -> Option<&'a str>
-    ensures { option_map (λ text. text.now) result ≡ text_at key.now (view value.now) }
-{
-    value.get(key)?.as_str()
 }
 
 /// The whole number at a member.

@@ -9,6 +9,7 @@ mod drafts;
 mod edition87;
 mod faults;
 mod hosts;
+mod members;
 
 fn spec(class: CharClass, coding: Coding, length: Length, max: u16, pad: Pad) -> FieldSpec {
     FieldSpec {

@@ -16,7 +16,7 @@ use Rattle.iso_parts.specs.Numbers.{numbers_in}
 use Rattle.iso_wire.specs.Numbers.{unknown}
 use Rattle.iso_wire.specs.Spelling.{AreBytes}
 use Rattle.iso_parts.specs.Mti.{mti_size}
-use Rattle.iso_wire.specs.Reading.{◌>>=◌, halt, mti_of, of_version, type_at, word_by, word_at, known_by, primary_at, second_known, secondary_at, words_by, words_at, answer, value_by, value_at, elements_at, message_at, whole}
+use Rattle.iso_wire.specs.Reading.{◌>>=◌, halt, mti_of, of_version, type_at, word_by, word_at, known_by, primary_at, secondary_known, secondary_at, words_by, words_at, answer, value_by, value_at, elements_at, message_at, whole}
 use Rattle.iso_wire.specs.ReadingLaws.{IsShort, ReadingStays}
 use Rattle.iso_wire.proofs.Bytes.{bytes_drop}
 use Rattle.iso_wire.proofs.ElementLaws.{bind_ok, value_taken}
@@ -54,7 +54,7 @@ primary_stays t at b x =
     stays_bind (word_at t.bitmap 0 at b) (word_at t.bitmap 0 at (b ++ x)) f f (word_stays t.bitmap 0 at b x) (λ w e long. refl)
 
 pub secondary_stays : (t : Layout) (at : ℕ) (b x : List ℕ) → Stays (secondary_at t at b) (secondary_at t at (b ++ x))
-secondary_stays t at b x = stays_bind (word_at t.bitmap 1 at b) (word_at t.bitmap 1 at (b ++ x)) (second_known t at) (second_known t at) (word_stays t.bitmap 1 at b x) (λ w e long. refl)
+secondary_stays t at b x = stays_bind (word_at t.bitmap 1 at b) (word_at t.bitmap 1 at (b ++ x)) (secondary_known t at) (secondary_known t at) (word_stays t.bitmap 1 at b x) (λ w e long. refl)
 
 primary_room : (t : Layout) (at : ℕ) (b : List ℕ) (w : ℕ) → primary_at t at b ≡ Ok w → map_size t.bitmap ≤ length b
 primary_room t at b w e =

@@ -1,7 +1,7 @@
 pub mod Bytes
 pub mod Orders
 pub mod Buffers
-pub mod Places
+pub mod Ranks
 pub mod Changes
 pub mod NumberLaws
 pub mod Sets

@@ -18,7 +18,7 @@ use Rattle.iso_wire.specs.Contents.{Contents}
 use Rattle.iso_parts.specs.Numbers.{numbers, numbers_in}
 use Rattle.iso_wire.specs.Numbers.{unknown}
 use Rattle.iso_parts.specs.Mti.{mti_size}
-use Rattle.iso_wire.specs.Reading.{◌>>=◌, halt, mti_of, of_version, type_at, word_by, word_at, known_by, primary_at, second_known, secondary_at, words_by, words_at, answer, value_by, elements_at, message_at, whole}
+use Rattle.iso_wire.specs.Reading.{◌>>=◌, halt, mti_of, of_version, type_at, word_by, word_at, known_by, primary_at, secondary_known, secondary_at, words_by, words_at, answer, value_by, elements_at, message_at, whole}
 use Rattle.iso_wire.specs.ReadingLaws.{IsShort}
 use Rattle.iso_wire.specs.Feeding.{IsReady}
 use Rattle.iso_wire.proofs.NumberLaws.{one_more, no_more, no_numbers}
@@ -81,11 +81,11 @@ primary_short t at b h = elim (short_of (word_at t.bitmap 0 at b) (λ w. known_b
   | inr x ↦ absurd (known_long 0 at x.0 (unknown t.rows (numbers_in x.0 0)) x.2)
 ]
 
-second_long : (t : Layout) (at w : ℕ) → IsShort (second_known t at w) → ⊥
+second_long : (t : Layout) (at w : ℕ) → IsShort (secondary_known t at w) → ⊥
 second_long t at w = either (ltb w top) (known_by 1 at w (unknown t.rows (numbers_in 0 w))) (halt 1 at ThirdBitmap) (known_long 1 at w (unknown t.rows (numbers_in 0 w))) (λ e. cc)
 
 secondary_short : (t : Layout) (at : ℕ) (b : List ℕ) → IsShort (secondary_at t at b) → length b < map_size t.bitmap
-secondary_short t at b h = elim (short_of (word_at t.bitmap 1 at b) (second_known t at) h) [
+secondary_short t at b h = elim (short_of (word_at t.bitmap 1 at b) (secondary_known t at) h) [
   | inl short ↦ word_short t.bitmap 1 at b short
   | inr x ↦ absurd (second_long t at x.0 x.2)
 ]

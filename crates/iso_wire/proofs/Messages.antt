@@ -4,7 +4,7 @@ use Rattle.std.proofs.lemmas.Bool.{cases_eq, eqb-true, ltb-false, le-ltb, cond-t
 use Rattle.std.proofs.lemmas.Bool.Decides.{nat_tests}
 use Rattle.std.proofs.lemmas.List.{take_at, drop_at, drop-drop, length-append, length-drop, length-take, take-append-drop}
 use Rattle.std.proofs.Math.Seq.{take-add}
-use Rattle.iso_parts.specs.Bits.{in_words, first_set, Bitmaps}
+use Rattle.iso_parts.specs.Bits.{in_words, primary_bits, Bitmaps}
 use Rattle.iso_parts.specs.declared.bitmap.BitmapCoding.{BitmapCoding}
 use Rattle.iso_parts.specs.MapLaws.{MapLaws}
 use Rattle.iso_parts.specs.PartLaws.{PartLaws}
@@ -60,17 +60,17 @@ module _ (part_laws : PartLaws) (map_laws : MapLaws) where
       let split : b ≡ front ++ (s.maps ++ (s.parts ++ rest)) = ap (λ (l : List ℕ). l ++ rest) s.bytes ∙ append_assoc front (s.maps ++ s.parts) rest ∙ ap (λ (l : List ℕ). front ++ l) (append_assoc s.maps s.parts rest) in
       let after : drop size b ≡ s.maps ++ (s.parts ++ rest) = ap (drop size) split ∙ drop_at front (s.maps ++ (s.parts ++ rest)) size len in
       let maps_bytes : AreBytes s.maps = λ i. rw (sym (ap (take (length s.maps)) after ∙ take_at s.maps (s.parts ++ rest) (length s.maps) refl)) (bytes_take (length s.maps) (drop size b) (bytes_drop size b fits) i) in
-      let read = words_again map_laws t s.second (has es) size s.maps (s.parts ++ rest) maps_bytes (no_65 2 es s.ascending) (λ k. has_row t.rows es s.parts k s.elements) s.bitmaps in
+      let read = words_again map_laws t s.secondary (has es) size s.maps (s.parts ++ rest) maps_bytes (no_65 2 es s.ascending) (λ k. has_row t.rows es s.parts k s.elements) s.bitmaps in
       let used = length s.maps in
       let one : type_at t b ≡ Ok m.mti = ap (type_at t) split ∙ type_again t m.mti (s.maps ++ (s.parts ++ rest)) s.mti s.version in
-      let two : words_at t size (drop size b) ≡ Ok (read.first, read.second, used) = ap (words_at t size) after ∙ read.read in
-      let set = in_words read.first read.second in
+      let two : words_at t size (drop size b) ≡ Ok (read.primary, read.secondary, used) = ap (words_at t size) after ∙ read.read in
+      let set = in_words read.primary read.secondary in
       let behind : drop (size + used) b ≡ s.parts ++ rest = sym (drop-drop used size b) ∙ ap (drop used) after ∙ drop_at s.maps (s.parts ++ rest) used refl in
-      let three : elements_at t.rows (numbers_in read.first read.second) (size + used) (drop (size + used) b) ≡ Ok (es, (size + used) + length s.parts) =
+      let three : elements_at t.rows (numbers_in read.primary read.secondary) (size + used) (drop (size + used) b) ≡ Ok (es, (size + used) + length s.parts) =
       ap (λ (ns : List ℕ). elements_at t.rows ns (size + used) (drop (size + used) b)) (sym (numbers_from_set set es s.ascending read.agrees))
       ∙ ap (elements_at t.rows (numbers_of es) (size + used)) behind ∙ elements_again part_laws t.rows (size + used) es s.parts rest good s.elements in
       let end : (size + used) + length s.parts ≡ length p = sym (ap length s.bytes ∙ length-append front (s.maps ++ s.parts) ∙ omega (arith, length-append s.maps s.parts)) in
-      joined t b m.mti read.first read.second used es ((size + used) + length s.parts) one two three ∙ ap (whole m) end
+      joined t b m.mti read.primary read.secondary used es ((size + used) + length s.parts) one two three ∙ ap (whole m) end
 
 -- ---- what is read is spelled so
 
@@ -82,7 +82,7 @@ version_or version (Some k) n e = version_by (eqb (k / 1000) version) version k 
     version_by false version k n is e = absurd cc
     version_by true version k n is e = let same : k ≡ n = cc in (ap Some same, ap (λ (x : ℕ). x / 1000) (sym same) ∙ eqb-true (k / 1000) version is)
 
-first_agrees : (two : Bool) (set other : ℕ → Bool) → ((k : ℕ) → 2 ≤ k → k ≤ 128 → other k ≡ set k) → (k : ℕ) → 0 < k → k ≤ 64 → first_set two set k ≡ first_set two other k
+first_agrees : (two : Bool) (set other : ℕ → Bool) → ((k : ℕ) → 2 ≤ k → k ≤ 128 → other k ≡ set k) → (k : ℕ) → 0 < k → k ≤ 64 → primary_bits two set k ≡ primary_bits two other k
 first_agrees two set other agrees k low high =
     elim (cases_eq k 1) [
       | inl e ↦ rw e refl
@@ -92,11 +92,11 @@ first_agrees two set other agrees k low high =
 -- bitmaps of one set are bitmaps of another with the same elements
 pub maps_agree : (c : BitmapCoding) (two : Bool) (set other : ℕ → Bool) (b : List ℕ) → ((k : ℕ) → 2 ≤ k → k ≤ 128 → other k ≡ set k) → Bitmaps c two set b → Bitmaps c two other b
 maps_agree c true set other b agrees maps = record {
-  first = bits_agree c _ _ _ (first_agrees true set other agrees) maps.first;
-  second = bits_agree c _ _ _ (λ k low high. sym (agrees (64 + k) (omega arith) (omega arith))) maps.second;
+  primary = bits_agree c _ _ _ (first_agrees true set other agrees) maps.primary;
+  secondary = bits_agree c _ _ _ (λ k low high. sym (agrees (64 + k) (omega arith) (omega arith))) maps.secondary;
 }
 maps_agree c false set other b agrees maps = record {
-  first = bits_agree c _ _ b (first_agrees false set other agrees) maps.first;
+  primary = bits_agree c _ _ b (first_agrees false set other agrees) maps.primary;
   none = λ k low high. agrees k (omega arith) high ∙ maps.none k low high;
 }
 
@@ -136,7 +136,7 @@ module _ (part_laws : PartLaws) (map_laws : MapLaws) where
         mti = type.small;
         version = version.1;
         ascending = ordered.ascending;
-        second = mapped.two;
+        secondary = mapped.two;
         maps = take words.2 rest;
         parts = take taken.used (drop words.2 rest);
         bitmaps = maps_agree t.bitmap mapped.two set (has es) (take words.2 rest) ordered.agrees mapped.maps;

@@ -11,7 +11,7 @@ use Rattle.iso_wire.specs.declared.fault.UnpackCause.TheVariants.{Short, WrongVe
 use Rattle.iso_parts.specs.Numbers.{numbers_in}
 use Rattle.iso_wire.specs.Numbers.{unknown}
 use Rattle.iso_parts.specs.Mti.{mti_size}
-use Rattle.iso_wire.specs.Reading.{◌>>=◌, halt, mti_of, of_version, type_at, word_by, word_at, known_by, primary_at, second_known, secondary_at, words_by, words_at, answer, value_by, value_at, elements_at, message_at, whole}
+use Rattle.iso_wire.specs.Reading.{◌>>=◌, halt, mti_of, of_version, type_at, word_by, word_at, known_by, primary_at, secondary_known, secondary_at, words_by, words_at, answer, value_by, value_at, elements_at, message_at, whole}
 use Rattle.iso_wire.proofs.Orders.{Values}
 
 abbrev pub NoMemory : {A : Type 0} → Result A UnpackFault → Type 0
@@ -45,7 +45,7 @@ known element at w None = tt
 known element at w (Some n) = λ e. cc
 
 secondary : (t : Layout) (at : ℕ) (b : List ℕ) → NoMemory (secondary_at t at b)
-secondary t at b = binds (word_at t.bitmap 1 at b) (second_known t at) (word t.bitmap 1 at b) (λ w. either (ltb w top) (known_by 1 at w (unknown t.rows (numbers_in 0 w))) (halt 1 at ThirdBitmap) (known 1 at w (unknown t.rows (numbers_in 0 w))) (λ e. cc))
+secondary t at b = binds (word_at t.bitmap 1 at b) (secondary_known t at) (word t.bitmap 1 at b) (λ w. either (ltb w top) (known_by 1 at w (unknown t.rows (numbers_in 0 w))) (halt 1 at ThirdBitmap) (known 1 at w (unknown t.rows (numbers_in 0 w))) (λ e. cc))
 
 abbrev words_of : ℕ → ℕ → ℕ → Result (ℕ × ℕ × ℕ) UnpackFault
 words_of first second size = Ok (first, second, size)

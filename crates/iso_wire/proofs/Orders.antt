@@ -3,7 +3,7 @@ use Rattle.std.proofs.Common.{◌≡◌, ◌≢◌, ℕ, ◌+◌, ◌<◌, ◌�
 use Rattle.std.proofs.lemmas.Bool.{eqb-true, ltb-true}
 use Rattle.std.proofs.lemmas.Bool.Decides.{nat_tests}
 use Rattle.iso_wire.specs.Elements.{value_in, is_number, IsAscending, IsBelow, put, without}
-use Rattle.iso_wire.specs.Entries.{IsAbove}
+use Rattle.iso_wire.specs.Ends.{IsAbove}
 
 abbrev pub Values : Type 0
 Values = List (ℕ × List ℕ)

@@ -1,6 +1,6 @@
 -- What is written is the plain spelling, and a message that has a spelling is not refused.
 use Rattle.std.specs.Option.{option_or}
-use Rattle.std.proofs.Common.{◌≡◌, ◌≢◌, ℕ, suc, ◌/◌, ◌≤◌, ◌<◌, Bool, true, eqb, List, [], ◌∷◌, ◌++◌, length, get_or, take, drop, drop-cons, Option, Some, None, Result, Ok, Err, refl, sym, ap, subst, ◌∙◌, append_assoc, arith}
+use Rattle.std.proofs.Common.{◌≡◌, ◌≢◌, ℕ, ◌/◌, ◌≤◌, ◌<◌, Bool, true, eqb, List, [], ◌∷◌, ◌++◌, length, take, drop, Option, Some, None, Result, Ok, Err, refl, sym, ap, subst, ◌∙◌, append_assoc, arith}
 use Rattle.std.specs.Prelude.{IfErr}
 use Rattle.std.specs.List.{flat_map}
 use Rattle.std.proofs.lemmas.Bool.Decides.{nat_tests}
@@ -10,12 +10,10 @@ use Rattle.iso_parts.specs.declared.spec.FieldSpec.{FieldSpec}
 use Rattle.iso_parts.specs.Bits.{PlainBitmaps}
 use Rattle.iso_parts.specs.Part.{Keeps}
 use Rattle.iso_parts.specs.Row.{refusal, Fits}
-use Rattle.iso_wire.specs.declared.elements.Entry.{Entry}
 use Rattle.iso_wire.specs.declared.fault.PackFault.{PackFault}
 use Rattle.iso_wire.specs.declared.fault.PackFault.TheVariants.{WrongVersion, NoRow, WrongLength, NotInClass, PadEnd, Memory}
 use Rattle.iso_wire.specs.Contents.{Contents}
 use Rattle.iso_wire.specs.Elements.{has, IsAscending}
-use Rattle.iso_wire.specs.Entries.{elements_of}
 use Rattle.iso_table.specs.Layout.{Layout, row_at, AreGood}
 use Rattle.iso_wire.specs.Reading.{message_at, whole}
 use Rattle.iso_wire.specs.Refusal.{refused_field, refused_by, refused, message_refusal}
@@ -28,14 +26,6 @@ use Rattle.iso_wire.proofs.Unpacks.{spelled_is_read}
 use Rattle.iso_wire.proofs.Orders.{Values}
 
 -- ---- faults
-
--- the element that is next is refused
-pub refused_here : (rows : List (Option FieldSpec)) (index : List Entry) (i : ℕ) (e : Entry) (rest v : List ℕ) (fault : PackFault) → i < length index → v ≡ take (get_or index i e).len rest
-    → refused_by (row_at rows (get_or index i e).number) (get_or index i e).number v ≡ Some fault → refused rows (elements_of (drop i index) rest) ≡ Some fault
-refused_here rows index i e rest v fault lt is h =
-    let next : Entry = get_or index i e in
-    ap (λ (l : List Entry). refused rows (elements_of l rest)) (drop-cons index i e lt)
-    ∙ ap (λ (o : Option PackFault). option_or o (refused rows (elements_of (drop (suc i) index) (drop next.len rest)))) (ap (refused_by (row_at rows next.number) next.number) (sym is) ∙ h)
 
 fits_taken : (s : FieldSpec) (v : List ℕ) → Fits s v → refusal s v ≡ None
 fits_taken s v fits = rw (fits.length, fits.class, fits.pad) refl
@@ -88,7 +78,7 @@ plain_spelling_lem t m set maps out small version ascending agrees plain parts i
         mti = small;
         version = version;
         ascending = ascending;
-        second = same.two;
+        secondary = same.two;
         maps = maps;
         parts = flat_map (plain_of t.rows) m.elements;
         bitmaps = same.spelled;

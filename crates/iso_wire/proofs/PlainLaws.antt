@@ -1,6 +1,6 @@
 -- Each message that a table doesn't refuse has a plain spelling, and only one.
 use Rattle.std.specs.Option.{option_or}
-use Rattle.std.proofs.Common.{◌≡◌, ℕ, ◌/◌, Bool, true, false, cond, eqb, List, [], ◌∷◌, ◌++◌, drop, Option, Some, None, refl, sym, ap, subst, ◌∙◌}
+use Rattle.std.proofs.Common.{◌≡◌, ℕ, ◌-◌, ◌/◌, Bool, true, false, cond, eqb, List, [], ◌∷◌, ◌++◌, drop, Option, Some, None, refl, sym, ap, subst, ◌∙◌}
 use Rattle.std.specs.List.{flat_map}
 use Rattle.std.proofs.lemmas.Bool.{eqb-true}
 use Rattle.iso_parts.specs.declared.fault.FieldFault.{FieldFault}
@@ -10,11 +10,10 @@ use Rattle.iso_parts.specs.Row.{refusal}
 use Rattle.iso_parts.specs.MapLaws.{MapLaws}
 use Rattle.iso_parts.specs.PartLaws.{PartLaws}
 use Rattle.iso_table.specs.Layout.{row_at, AreGood}
-use Rattle.iso_wire.specs.declared.elements.Entry.{Entry}
 use Rattle.iso_wire.specs.declared.fault.PackFault.{PackFault}
 use Rattle.iso_wire.specs.declared.fault.PackFault.TheVariants.{WrongVersion}
 use Rattle.iso_wire.specs.Elements.{has}
-use Rattle.iso_wire.specs.Entries.{elements_of}
+use Rattle.iso_wire.specs.Ends.{elements_of}
 use Rattle.iso_wire.specs.OneSpelling.{AreOfBytes, HasPlain, PlainOnce}
 use Rattle.iso_wire.specs.Refusal.{refused_field, refused_by, refused}
 use Rattle.iso_wire.specs.Spelling.{mti_bytes, plain_by, plain_of, PartAs, Parts, AreBytes}
@@ -23,9 +22,10 @@ use Rattle.iso_wire.proofs.Orders.{Values}
 use Rattle.iso_wire.proofs.Packs.{plain_spelling_lem}
 
 -- values out of a buffer of bytes
-pub bytes-elements_of : (index : List Entry) (b : List ℕ) → AreBytes b → AreOfBytes (elements_of index b)
-bytes-elements_of [] b fits = tt
-bytes-elements_of (e ∷ es) b fits = (bytes_take e.len b fits, bytes-elements_of es (drop e.len b) (bytes_drop e.len b fits))
+pub bytes-elements_of : (ns : List ℕ) (start : ℕ) (ends b : List ℕ) → AreBytes b → AreOfBytes (elements_of ns start ends b)
+bytes-elements_of ns start [] b fits = tt
+bytes-elements_of [] start (e ∷ es) b fits = tt
+bytes-elements_of (n ∷ ns) start (e ∷ es) b fits = (bytes_take (e - start) (drop start b) (bytes_drop start b fits), bytes-elements_of ns e es b fits)
 
 -- ---- a message that isn't refused
 

@@ -22,7 +22,7 @@ use Rattle.iso_parts.specs.Numbers.{numbers_in}
 use Rattle.iso_parts.specs.Mti.{mti_size}
 use Rattle.iso_wire.specs.Reading.{◌>>=◌, halt, type_at, primary_at, secondary_at, words_by, words_at, place_of, answer, value_by, elements_at, message_at, whole}
 use Rattle.iso_wire.specs.ReadingLaws.{IsShort}
-use Rattle.iso_wire.specs.Resuming.{end_of, end_of_elements, end_by, body_end, body_end_under, end_of_rest, behind_maps, second_words, ends_from, IsWithin, GoesOn, Resumes, Steps, IsResumed}
+use Rattle.iso_wire.specs.Resuming.{end_of, end_of_elements, end_by, body_end, body_end_under, end_of_rest, behind_maps, secondary_words, ends_from, IsWithin, GoesOn, Resumes, Steps, IsResumed}
 use Rattle.iso_wire.proofs.Endings.{Stays, type_stays, primary_stays, secondary_stays}
 use Rattle.iso_wire.proofs.NoMemory.{NoMemory, message}
 use Rattle.iso_wire.proofs.Orders.{Values}
@@ -282,12 +282,12 @@ pub one_map_goes_on : (t : Layout) (b : List ℕ) (first : ℕ) (numbers : List 
     → (x : List ℕ) → ends_from t stages.Primary (b ++ x) ≡ end_of_elements t.rows numbers (mti_size t.mti + map_size t.bitmap) (b ++ x)
 one_map_goes_on t b first numbers within read low is = λ x.
     let size = map_size t.bitmap in
-    ap (λ r. r >>= behind_maps t (b ++ x)) (primary_again t b x first within read ∙ cond-true (ltb first top) (words first 0 size) (second_words t first (b ++ x)) low)
+    ap (λ r. r >>= behind_maps t (b ++ x)) (primary_again t b x first within read ∙ cond-true (ltb first top) (words first 0 size) (secondary_words t first (b ++ x)) low)
     ∙ ap (λ (l : List ℕ). end_of_elements t.rows l (mti_size t.mti + size) (b ++ x)) (sym is)
 
 pub two_maps_go_on : (t : Layout) (b : List ℕ) (first : ℕ) → mti_size t.mti ≤ length b → primary_at t (mti_size t.mti) (drop (mti_size t.mti) b) ≡ Ok first → ltb first top ≡ false → GoesOn t stages.Primary (stages.Secondary first) b
 two_maps_go_on t b first within read high = λ x.
-    ap (λ r. r >>= behind_maps t (b ++ x)) (primary_again t b x first within read ∙ cond-false (ltb first top) (words first 0 (map_size t.bitmap)) (second_words t first (b ++ x)) high)
+    ap (λ r. r >>= behind_maps t (b ++ x)) (primary_again t b x first within read ∙ cond-false (ltb first top) (words first 0 (map_size t.bitmap)) (secondary_words t first (b ++ x)) high)
 
 pub primary_ends : (t : Layout) (b : List ℕ) (e : UnpackFault) → primary_at t (mti_size t.mti) (drop (mti_size t.mti) b) ≡ Err e → ends_from t stages.Primary b ≡ Err e
 primary_ends t b e read = ap (λ r. r >>= words_by t (mti_size t.mti) (drop (mti_size t.mti) b) >>= behind_maps t b) read

@@ -5,7 +5,7 @@ use Rattle.std.proofs.lemmas.Bool.Decides.{nat_tests}
 use Rattle.std.proofs.lemmas.Nat.Bits.{bit_at-zero}
 use Rattle.std.proofs.lemmas.List.{length-take}
 use Rattle.iso_parts.specs.declared.bitmap.BitmapCoding.{BitmapCoding}
-use Rattle.iso_parts.specs.Bits.{BitsIn, map_size, in_words, second_set}
+use Rattle.iso_parts.specs.Bits.{BitsIn, map_size, in_words, secondary_bits}
 use Rattle.iso_parts.specs.BitmapReading.{top, word_in}
 use Rattle.iso_parts.specs.MapLaws.{MapLaws, has_bit}
 use Rattle.iso_table.specs.Layout.{Layout}
@@ -15,7 +15,7 @@ use Rattle.iso_wire.specs.declared.fault.UnpackCause.TheVariants as causes
 use Rattle.iso_parts.specs.Numbers.{numbers_in}
 use Rattle.iso_wire.specs.Numbers.{unknown}
 use Rattle.iso_parts.specs.Mti.{mti_size}
-use Rattle.iso_wire.specs.Reading.{◌>>=◌, halt, mti_of, of_version, type_at, word_by, word_at, known_by, primary_at, second_known, secondary_at}
+use Rattle.iso_wire.specs.Reading.{◌>>=◌, halt, mti_of, of_version, type_at, word_by, word_at, known_by, primary_at, secondary_known, secondary_at}
 use Rattle.iso_wire.specs.Spelling.{AreBytes}
 use Rattle.iso_wire.specs.Stops.{Piece, type, primary, secondary, owner, IsType, IsOwnType, HaveRows, IsUnknown, Halts}
 use Rattle.iso_wire.proofs.Bytes.{bytes_take}
@@ -124,8 +124,8 @@ no_truth b holds fails = absurd (let x : true ≡ false = sym holds ∙ fails in
 pub primary_known : (t : Layout) (w : ℕ) → unknown t.rows (numbers_in w 0) ≡ None → HaveRows t (has_bit w) 2 65
 primary_known t w h k low high here = all_have_rows t.rows (in_words w 0) 127 2 h k low (omega arith) (in_first w 0 k (omega arith) ∙ here)
 
-pub secondary_known : (t : Layout) (w v : ℕ) → unknown t.rows (numbers_in 0 v) ≡ None → HaveRows t (in_words w v) 65 129
-secondary_known t w v h k low high here = all_have_rows t.rows (in_words 0 v) 127 2 h k (omega arith) (omega arith) (in_second 0 v k (omega arith) (omega arith) ∙ sym (in_second w v k (omega arith) (omega arith)) ∙ here)
+pub secondary_numbers_known : (t : Layout) (w v : ℕ) → unknown t.rows (numbers_in 0 v) ≡ None → HaveRows t (in_words w v) 65 129
+secondary_numbers_known t w v h k low high here = all_have_rows t.rows (in_words 0 v) 127 2 h k (omega arith) (omega arith) (in_second 0 v k (omega arith) (omega arith) ∙ sym (in_second w v k (omega arith) (omega arith)) ∙ here)
 
 -- ---- the first number without a row
 
@@ -234,14 +234,14 @@ primary_by : (o : Option ℕ) (t : Layout) (at w : ℕ) (b : List ℕ) (e : Unpa
 primary_by None t at w b e room bits is h = absurd cc
 primary_by (Some n) t at w b e room bits is h = (causes.UnknownElement n, fault_is {A = ℕ} _ e h, (room, (has_bit w, bits, primary_unknown t w n is)))
 
-unknown_by : (o : Option ℕ) (t : Layout) (at v : ℕ) (b : List ℕ) (e : UnpackFault) → map_size t.bitmap ≤ length b → v < top → BitsIn t.bitmap (second_set (high_bits v)) (take (map_size t.bitmap) b) → unknown t.rows (numbers_in 0 v) ≡ o → known_by 1 at v o ≡ Err e → HaltsAs t secondary at b e
+unknown_by : (o : Option ℕ) (t : Layout) (at v : ℕ) (b : List ℕ) (e : UnpackFault) → map_size t.bitmap ≤ length b → v < top → BitsIn t.bitmap (secondary_bits (high_bits v)) (take (map_size t.bitmap) b) → unknown t.rows (numbers_in 0 v) ≡ o → known_by 1 at v o ≡ Err e → HaltsAs t secondary at b e
 unknown_by None t at v b e room small bits is h = absurd cc
 unknown_by (Some n) t at v b e room small bits is h = (causes.UnknownElement n, fault_is {A = ℕ} _ e h, (room, (high_bits v, bits, small_first v small, secondary_unknown t v n small is)))
 
-second_by : (c : Bool) (t : Layout) (at v : ℕ) (b : List ℕ) (e : UnpackFault) → map_size t.bitmap ≤ length b → v < 2 ^ 64 → BitsIn t.bitmap (second_set (high_bits v)) (take (map_size t.bitmap) b) → ltb v top ≡ c
+secondary_by : (c : Bool) (t : Layout) (at v : ℕ) (b : List ℕ) (e : UnpackFault) → map_size t.bitmap ≤ length b → v < 2 ^ 64 → BitsIn t.bitmap (secondary_bits (high_bits v)) (take (map_size t.bitmap) b) → ltb v top ≡ c
     → cond c (known_by 1 at v (unknown t.rows (numbers_in 0 v))) (halt 1 at causes.ThirdBitmap) ≡ Err e → HaltsAs t secondary at b e
-second_by true t at v b e room fits bits is h = unknown_by (unknown t.rows (numbers_in 0 v)) t at v b e room (ltb-true v top is) bits refl h
-second_by false t at v b e room fits bits is h = (causes.ThirdBitmap, fault_is {A = ℕ} _ e h, (room, (high_bits v, bits, large_first v fits (ltb-false v top is))))
+secondary_by true t at v b e room fits bits is h = unknown_by (unknown t.rows (numbers_in 0 v)) t at v b e room (ltb-true v top is) bits refl h
+secondary_by false t at v b e room fits bits is h = (causes.ThirdBitmap, fault_is {A = ℕ} _ e h, (room, (high_bits v, bits, large_first v fits (ltb-false v top is))))
 
 module _ (laws : MapLaws) where
   -- the word of a whole bitmap
@@ -262,8 +262,8 @@ module _ (laws : MapLaws) where
   none_by None c b bytes room none is = refl
   none_by (Some w) c b bytes room none is = absurd (none w (word_of c b w bytes room is).bits)
 
-  pub second_bits : (c : BitmapCoding) (v : ℕ) (p : List ℕ) → BitsIn c (has_bit v) p → BitsIn c (second_set (high_bits v)) p
-  second_bits c v p bits = bits_agree c (has_bit v) (second_set (high_bits v)) p (λ k low high. ap (has_bit v) (omega arith)) bits
+  pub second_bits : (c : BitmapCoding) (v : ℕ) (p : List ℕ) → BitsIn c (has_bit v) p → BitsIn c (secondary_bits (high_bits v)) p
+  second_bits c v p bits = bits_agree c (has_bit v) (secondary_bits (high_bits v)) p (λ k low high. ap (has_bit v) (omega arith)) bits
 
   primary_by_word : (o : Option ℕ) (t : Layout) (at : ℕ) (b : List ℕ) (e : UnpackFault) → AreBytes b → map_size t.bitmap ≤ length b → word_in t.bitmap (take (map_size t.bitmap) b) ≡ o → word_by 0 at o >>= primary_known_by t at ≡ Err e → HaltsAs t primary at b e
   primary_by_word None t at b e bytes room is h =
@@ -280,16 +280,16 @@ module _ (laws : MapLaws) where
   pub primary_halts : (t : Layout) (at : ℕ) (b : List ℕ) (e : UnpackFault) → AreBytes b → primary_at t at b ≡ Err e → HaltsAs t primary at b e
   primary_halts t at b e bytes h = primary_by_size (ltb (length b) (map_size t.bitmap)) t at b e bytes refl h
 
-  second_by_word : (o : Option ℕ) (t : Layout) (at : ℕ) (b : List ℕ) (e : UnpackFault) → AreBytes b → map_size t.bitmap ≤ length b → word_in t.bitmap (take (map_size t.bitmap) b) ≡ o → word_by 1 at o >>= second_known t at ≡ Err e → HaltsAs t secondary at b e
+  second_by_word : (o : Option ℕ) (t : Layout) (at : ℕ) (b : List ℕ) (e : UnpackFault) → AreBytes b → map_size t.bitmap ≤ length b → word_in t.bitmap (take (map_size t.bitmap) b) ≡ o → word_by 1 at o >>= secondary_known t at ≡ Err e → HaltsAs t secondary at b e
   second_by_word None t at b e bytes room is h =
       let n = map_size t.bitmap in
-      (causes.BadHex, fault_is {A = ℕ} _ e h, (room, λ set bits. no_word None t.bitmap (second_set set) (take n b) (bytes_take n b bytes) is bits refl))
+      (causes.BadHex, fault_is {A = ℕ} _ e h, (room, λ set bits. no_word None t.bitmap (secondary_bits set) (take n b) (bytes_take n b bytes) is bits refl))
   second_by_word (Some v) t at b e bytes room is h =
       let got = word_of t.bitmap b v bytes room is in
-      second_by (ltb v top) t at v b e room got.small (second_bits t.bitmap v (take (map_size t.bitmap) b) got.bits) refl h
+      secondary_by (ltb v top) t at v b e room got.small (second_bits t.bitmap v (take (map_size t.bitmap) b) got.bits) refl h
 
   second_by_size : (c : Bool) (t : Layout) (at : ℕ) (b : List ℕ) (e : UnpackFault) → AreBytes b → ltb (length b) (map_size t.bitmap) ≡ c
-      → cond c (halt 1 at causes.Short) (word_by 1 at (word_in t.bitmap (take (map_size t.bitmap) b))) >>= second_known t at ≡ Err e → HaltsAs t secondary at b e
+      → cond c (halt 1 at causes.Short) (word_by 1 at (word_in t.bitmap (take (map_size t.bitmap) b))) >>= secondary_known t at ≡ Err e → HaltsAs t secondary at b e
   second_by_size true t at b e bytes is h = (causes.Short, fault_is {A = ℕ} _ e h, ltb-true (length b) (map_size t.bitmap) is)
   second_by_size false t at b e bytes is h = second_by_word (word_in t.bitmap (take (map_size t.bitmap) b)) t at b e bytes (ltb-false (length b) (map_size t.bitmap) is) refl h
 

@@ -89,7 +89,7 @@ module _ (part_laws : PartLaws) (map_laws : MapLaws) (piece_laws : PieceLaws) wh
       let split : b ≡ (take size b ++ take n behind) ++ drop n behind =
       sym (append_assoc (take size b) (take n behind) (drop n behind) ∙ ap (λ (l : List ℕ). take size b ++ l) (take-append-drop n behind) ∙ take-append-drop size b) in
       let place : size + n ≡ length (take size b ++ take n behind) = omega (arith, length-append (take size b) (take n behind), length-front size b typed.room, length-front n behind first.room) in
-      stops_at t b (take size b ++ take n behind) (drop n behind) (size + n) secondary e split place (take size b, take n behind, typed.own, first.first (ltb-false w top is), refl) halts
+      stops_at t b (take size b ++ take n behind) (drop n behind) (size + n) secondary e split place (take size b, take n behind, typed.own, first.primary (ltb-false w top is), refl) halts
     where
       second_err : (r : Result ℕ UnpackFault) → r >>= (λ second. words w second (map_size t.bitmap + map_size t.bitmap)) ≡ Err e → r ≡ Err e
       second_err (Ok x) h = absurd cc
@@ -213,18 +213,18 @@ module _ (part_laws : PartLaws) (map_laws : MapLaws) (piece_laws : PieceLaws) wh
       let split : b ++ rest ≡ mti ++ behind = ap (λ (l : List ℕ). l ++ rest) before.bytes ∙ append_assoc mti (maps ++ parts) rest ∙ ap (λ (l : List ℕ). mti ++ l) (append_assoc maps parts rest) in
       let all : AreBytes (mti ++ behind) = subst AreBytes split bytes in
       let read = good_maps_read map_laws t before.set size maps (parts ++ rest) (bytes_front maps (parts ++ rest) (bytes_back mti behind all)) before.good_maps in
-      let got : ℕ × ℕ × ℕ = (read.first, read.second, length maps) in
+      let got : ℕ × ℕ × ℕ = (read.primary, read.secondary, length maps) in
       let after_type : drop size (mti ++ behind) ≡ behind = drop_at mti behind size typed.size in
       let after_maps : drop (size + length maps) (mti ++ behind) ≡ parts ++ rest = sym (drop-drop (length maps) size (mti ++ behind)) ∙ ap (drop (length maps)) after_type ∙ drop_at maps (parts ++ rest) (length maps) refl in
       let found = behind_below before.set 127 2 n before.low (omega (arith, before.high)) before.there in
-      let ns : numbers_in read.first read.second ≡ numbers_of before.earlier ++ n ∷ found.0 =
-      numbers_agree (in_words read.first read.second) before.set 127 2 (λ k from to. read.agrees k from (omega arith))
+      let ns : numbers_in read.primary read.secondary ≡ numbers_of before.earlier ++ n ∷ found.0 =
+      numbers_agree (in_words read.primary read.secondary) before.set 127 2 (λ k from to. read.agrees k from (omega arith))
       ∙ found.1
       ∙ ap (λ (l : List ℕ). l ++ n ∷ found.0) (sym (numbers_from_set (below n before.set) before.earlier before.ascending (λ k from to. sym (before.numbers k from to)))) in
       let place : length b ≡ size + length maps + length parts = ap length before.bytes ∙ length-append mti (maps ++ parts) ∙ omega (arith, length-append maps parts, typed.size) in
       let value : value_at t.rows n (size + length maps + length parts) rest ≡ Err e = ap (λ r. value_by r n (size + length maps + length parts) rest) before.row ∙ ap (λ (k : ℕ). value_by (Some s) n k rest) (sym place) ∙ h in
-      let elements : elements_at t.rows (numbers_in read.first read.second) (size + length maps) (drop (size + length maps) (mti ++ behind)) ≡ Err e =
-      ap (elements_at t.rows (numbers_in read.first read.second) (size + length maps)) after_maps
+      let elements : elements_at t.rows (numbers_in read.primary read.secondary) (size + length maps) (drop (size + length maps) (mti ++ behind)) ≡ Err e =
+      ap (elements_at t.rows (numbers_in read.primary read.secondary) (size + length maps)) after_maps
       ∙ ap (λ (l : List ℕ). elements_at t.rows l (size + length maps) (parts ++ rest)) ns
       ∙ elements_are_halted part_laws t.rows before.earlier n found.0 (size + length maps) parts rest e good before.elements value in
       ap (message_at t) split ∙ at_elements t (mti ++ behind) typed.mti got e (typed.read behind) (ap (words_at t size) after_type ∙ read.read) elements

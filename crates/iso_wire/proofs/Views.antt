@@ -20,7 +20,8 @@ use Rattle.iso_parts.specs.Mti.{mti_size}
 use Rattle.iso_wire.specs.Reading.{◌>>=◌, type_at, words_at, value_at, elements_at, IsFaultOf, message_at, whole}
 use Rattle.iso_wire.specs.ReadingLaws.{ReadsSpellings, ReadingStays}
 use Rattle.iso_wire.specs.Spelling.{mti_bytes, AreBytes, BeginsWithNone, PartAs, Parts}
-use Rattle.iso_wire.specs.Viewing.{Viewed, wire_at, wires_at, view_at, Wired, Views, ViewsSpelled, IsViewed}
+use Rattle.iso_wire.specs.Bodies.{wire_at, wires_at, view_at}
+use Rattle.iso_wire.specs.Viewing.{Viewed, Wired, Views, ViewsSpelled, IsViewed}
 use Rattle.iso_wire.proofs.Bytes.{bytes_drop}
 use Rattle.iso_wire.proofs.NoMemory.{NoMemory, message}
 use Rattle.iso_wire.proofs.ElementLaws.{value_taken}

@@ -20,7 +20,7 @@ use Rattle.iso_parts.specs.declared.bitmap.Bitmap.{Bitmap}
 use Rattle.iso_wire.specs.Elements.{value_in}
 use Rattle.iso_parts.specs.Numbers.{numbers}
 use Rattle.iso_wire.specs.Reading.{◌>>=◌, value_at}
-use Rattle.iso_wire.specs.Viewing.{longest_part, start_at, size_at, body_in, wire_of, wires_in, IsWithin, AreWithin, front_of, wire_at, wires_at}
+use Rattle.iso_wire.specs.Bodies.{longest_part, start_at, size_at, body_in, wire_of, wires_in, IsWithin, AreWithin, front_of, wire_at, wires_at}
 use Rattle.iso_parts.specs.Numbers.{members}
 use Rattle.iso_wire.proofs.Loop.{with_front}
 use Rattle.iso_wire.proofs.NumberLaws.{one_more, no_more, no_numbers}
@@ -75,7 +75,7 @@ numbers_ascend set zero n whole = subst (Ascends n) (sym (no_numbers set n)) tt
 numbers_ascend set (suc count) n whole = ascend_by (set n) set count n refl whole (numbers_ascend set count (n + 1) (omega arith))
 
 pub left_ascend : (walk : Bitmap) → Ascends 2 (members walk)
-left_ascend walk = numbers_ascend (in_words walk.first walk.second) 127 2 (omega arith)
+left_ascend walk = numbers_ascend (in_words walk.primary walk.secondary) 127 2 (omega arith)
 
 below_more : (low high : ℕ) (ns : List ℕ) → low ≤ high → AreBelow low ns → AreBelow high ns
 below_more low high [] le h = tt
@@ -238,16 +238,16 @@ within_there size bodies set zero n k low high here h = absurd (omega arith)
 within_there size bodies set (suc count) n k low high here h = within_by (set n) size bodies set count n k refl here low h (λ low all. within_there size bodies set count (n + 1) k low (omega arith) here all)
 
 pub set_body : (set : Bitmap) (b : List ℕ) (bodies : Bodies) (k : ℕ) → AreElements (contains set) → contains set k ≡ true → value_in (wires_in b bodies (members set)) k ≡ Some (body_in b bodies k)
-set_body set b bodies k elements is = let there = elements k is in body_there b bodies (in_words set.first set.second) 127 2 k there.0 (omega (arith, there.1)) is
+set_body set b bodies k elements is = let there = elements k is in body_there b bodies (in_words set.primary set.secondary) 127 2 k there.0 (omega (arith, there.1)) is
 
 pub set_within : (set : Bitmap) (size : ℕ) (bodies : Bodies) (k : ℕ) → AreElements (contains set) → contains set k ≡ true → AreWithin size bodies (members set) → IsWithin size bodies k
-set_within set size bodies k elements is h = let there = elements k is in within_there size bodies (in_words set.first set.second) 127 2 k there.0 (omega (arith, there.1)) is h
+set_within set size bodies k elements is h = let there = elements k is in within_there size bodies (in_words set.primary set.secondary) 127 2 k there.0 (omega (arith, there.1)) is h
 
 pub set_few : (set : Bitmap) (k : ℕ) → AreElements (contains set) → contains set k ≡ true → k ≤ 128
 set_few set k elements is = (elements k is).1
 
 pub set_absent : (set : Bitmap) (b : List ℕ) (bodies : Bodies) (k : ℕ) → contains set k ≡ false → value_in (wires_in b bodies (members set)) k ≡ None
-set_absent set b bodies k is = body_absent b bodies (in_words set.first set.second) 127 2 k (λ low high there. let both : true ≡ false = sym there ∙ is in cc)
+set_absent set b bodies k is = body_absent b bodies (in_words set.primary set.secondary) 127 2 k (λ low high there. let both : true ≡ false = sym there ∙ is in cc)
 
 -- ---- there are at most 127 numbers
 
@@ -260,7 +260,7 @@ few_numbers set zero n = omega (arith, ap length (no_numbers set n))
 few_numbers set (suc count) n = few_by (set n) set count n refl (few_numbers set count (n + 1))
 
 pub few_left : (walk : Bitmap) → length (members walk) ≤ 127
-few_left walk = few_numbers (in_words walk.first walk.second) 127 2
+few_left walk = few_numbers (in_words walk.primary walk.secondary) 127 2
 
 -- ---- the longest part
 

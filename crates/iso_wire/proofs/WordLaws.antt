@@ -7,7 +7,7 @@ use Rattle.std.proofs.lemmas.Nat.Bits.{bit_at-zero}
 use Rattle.std.proofs.lemmas.List.{take_at, length-append, length-take, length-drop, take-append-drop, drop-append-le, take-take, drop-take}
 use Rattle.iso_parts.specs.declared.bitmap.BitmapCoding.{BitmapCoding}
 use Rattle.iso_parts.specs.declared.bitmap.BitmapCoding.TheVariants.{Raw, Hex}
-use Rattle.iso_parts.specs.Bits.{BitsIn, map_size, in_words, first_set, second_set, One, Two, Bitmaps}
+use Rattle.iso_parts.specs.Bits.{BitsIn, map_size, in_words, primary_bits, secondary_bits, One, Two, Bitmaps}
 use Rattle.iso_parts.specs.BitmapReading.{top, word_in}
 use Rattle.iso_parts.specs.MapLaws.{MapLaws, has_bit}
 use Rattle.iso_wire.specs.declared.fault.UnpackFault.{UnpackFault}
@@ -15,7 +15,7 @@ use Rattle.iso_wire.specs.declared.fault.UnpackCause.TheVariants.{Short, ThirdBi
 use Rattle.iso_table.specs.Layout.{Layout, row_at}
 use Rattle.iso_parts.specs.Numbers.{numbers_in}
 use Rattle.iso_wire.specs.Numbers.{unknown}
-use Rattle.iso_wire.specs.Reading.{◌>>=◌, halt, word_by, word_at, known_by, primary_at, second_known, secondary_at, words_by, words_at}
+use Rattle.iso_wire.specs.Reading.{◌>>=◌, halt, word_by, word_at, known_by, primary_at, secondary_known, secondary_at, words_by, words_at}
 use Rattle.iso_wire.specs.Spelling.{AreBytes}
 use Rattle.iso_wire.proofs.Bytes.{bytes_take, bytes_drop}
 use Rattle.iso_wire.proofs.NumberLaws.{all_known}
@@ -54,35 +54,35 @@ bits_agree Hex set other b agrees bits = (bits.0, bits.1, record { eight = bits.
 
 -- ---- words and sets
 
-one_agrees : (set : ℕ → Bool) (w : ℕ) → HasBits w (first_set false set) → ((k : ℕ) → 64 < k → k ≤ 128 → set k ≡ false) → (k : ℕ) → 2 ≤ k → k ≤ 128 → in_words w 0 k ≡ set k
+one_agrees : (set : ℕ → Bool) (w : ℕ) → HasBits w (primary_bits false set) → ((k : ℕ) → 64 < k → k ≤ 128 → set k ≡ false) → (k : ℕ) → 2 ≤ k → k ≤ 128 → in_words w 0 k ≡ set k
 one_agrees set w bits none k low high =
     elim (cases_lt 64 k) [
       | inl above ↦ let z = bit_at-zero (128 - k) in let n = none k above high in grind (arith, nat_tests)
       | inr below ↦ let h = bits k (omega arith) below in grind (arith, nat_tests)
     ]
 
-second_agrees : (set : ℕ → Bool) (v k : ℕ) → HasBits v (second_set set) → 64 < k → k ≤ 128 → eqb (bit_at v (128 - k)) 1 ≡ set k
+second_agrees : (set : ℕ → Bool) (v k : ℕ) → HasBits v (secondary_bits set) → 64 < k → k ≤ 128 → eqb (bit_at v (128 - k)) 1 ≡ set k
 second_agrees set v k bits above high =
     let h = bits (k - 64) (omega arith) (omega arith) in
     let e : 64 - (k - 64) ≡ 128 - k = omega arith in
     let f : 64 + (k - 64) ≡ k = omega arith in
     sym (ap (λ (i : ℕ). eqb (bit_at v i) 1) e) ∙ h ∙ ap set f
 
-two_agrees : (set : ℕ → Bool) (w v : ℕ) → HasBits w (first_set true set) → HasBits v (second_set set) → (k : ℕ) → 2 ≤ k → k ≤ 128 → in_words w v k ≡ set k
-two_agrees set w v first second k low high =
+two_agrees : (set : ℕ → Bool) (w v : ℕ) → HasBits w (primary_bits true set) → HasBits v (secondary_bits set) → (k : ℕ) → 2 ≤ k → k ≤ 128 → in_words w v k ≡ set k
+two_agrees set w v primary secondary k low high =
     elim (cases_lt 64 k) [
-      | inl above ↦ let g = second_agrees set v k second above high in grind (arith, nat_tests)
-      | inr below ↦ let h = first k (omega arith) below in grind (arith, nat_tests)
+      | inl above ↦ let g = second_agrees set v k secondary above high in grind (arith, nat_tests)
+      | inr below ↦ let h = primary k (omega arith) below in grind (arith, nat_tests)
     ]
 
-primary_has : (s : Bool) (set : ℕ → Bool) (w : ℕ) → HasBits w (first_set s set) → (k : ℕ) → 2 ≤ k → k ≤ 128 → in_words w 0 k ≡ true → set k ≡ true
+primary_has : (s : Bool) (set : ℕ → Bool) (w : ℕ) → HasBits w (primary_bits s set) → (k : ℕ) → 2 ≤ k → k ≤ 128 → in_words w 0 k ≡ true → set k ≡ true
 primary_has s set w bits k low high here =
     elim (cases_lt 64 k) [
       | inl above ↦ let z = bit_at-zero (128 - k) in grind (arith, nat_tests)
       | inr below ↦ let h = bits k (omega arith) below in grind (arith, nat_tests)
     ]
 
-secondary_has : (set : ℕ → Bool) (v : ℕ) → HasBits v (second_set set) → (k : ℕ) → 2 ≤ k → k ≤ 128 → in_words 0 v k ≡ true → set k ≡ true
+secondary_has : (set : ℕ → Bool) (v : ℕ) → HasBits v (secondary_bits set) → (k : ℕ) → 2 ≤ k → k ≤ 128 → in_words 0 v k ≡ true → set k ≡ true
 secondary_has set v bits k low high here =
     elim (cases_lt 64 k) [
       | inl above ↦ let g = second_agrees set v k bits above high in grind (arith, nat_tests)
@@ -92,10 +92,10 @@ secondary_has set v bits k low high here =
 -- ---- what is spelled is read
 
 pub record WordsRead (t : Layout) (set : ℕ → Bool) (at : ℕ) (b : List ℕ) (size : ℕ) : Type 0 where
-  pub first : ℕ
-  pub second : ℕ
-  pub read : words_at t at b ≡ Ok (first, second, size)
-  pub agrees : (k : ℕ) → 2 ≤ k → k ≤ 128 → in_words first second k ≡ set k
+  pub primary : ℕ
+  pub secondary : ℕ
+  pub read : words_at t at b ≡ Ok (primary, secondary, size)
+  pub agrees : (k : ℕ) → 2 ≤ k → k ≤ 128 → in_words primary secondary k ≡ set k
 
 -- each number of the set has a row
 abbrev pub AreKnown : Layout → (ℕ → Bool) → Type 0
@@ -110,14 +110,14 @@ word_read c element at w p rest size read =
     ∙ ap (λ (l : List ℕ). word_by element at (word_in c l)) (take_at p rest n size)
     ∙ ap (word_by element at) read
 
-primary_read : (t : Layout) (s : Bool) (set : ℕ → Bool) (at w : ℕ) (p rest : List ℕ) → AreKnown t set → HasBits w (first_set s set) → length p ≡ map_size t.bitmap → word_in t.bitmap p ≡ Some w → primary_at t at (p ++ rest) ≡ Ok w
+primary_read : (t : Layout) (s : Bool) (set : ℕ → Bool) (at w : ℕ) (p rest : List ℕ) → AreKnown t set → HasBits w (primary_bits s set) → length p ≡ map_size t.bitmap → word_in t.bitmap p ≡ Some w → primary_at t at (p ++ rest) ≡ Ok w
 primary_read t s set at w p rest known bits size read =
     ap (λ r. r >>= λ w. known_by 0 at w (unknown t.rows (numbers_in w 0))) (word_read t.bitmap 0 at w p rest size read)
     ∙ ap (known_by 0 at w) (all_known t.rows (in_words w 0) 127 2 (λ k low high here. known k (primary_has s set w bits k low (omega arith) here)))
 
-secondary_read : (t : Layout) (set : ℕ → Bool) (at v : ℕ) (p rest : List ℕ) → AreKnown t set → HasBits v (second_set set) → v < top → length p ≡ map_size t.bitmap → word_in t.bitmap p ≡ Some v → secondary_at t at (p ++ rest) ≡ Ok v
+secondary_read : (t : Layout) (set : ℕ → Bool) (at v : ℕ) (p rest : List ℕ) → AreKnown t set → HasBits v (secondary_bits set) → v < top → length p ≡ map_size t.bitmap → word_in t.bitmap p ≡ Some v → secondary_at t at (p ++ rest) ≡ Ok v
 secondary_read t set at v p rest known bits small size read =
-    ap (λ r. r >>= second_known t at) (word_read t.bitmap 1 at v p rest size read)
+    ap (λ r. r >>= secondary_known t at) (word_read t.bitmap 1 at v p rest size read)
     ∙ cond-true (ltb v top) (known_by 1 at v (unknown t.rows (numbers_in 0 v))) (halt 1 at ThirdBitmap) (lt-ltb v top small)
     ∙ ap (known_by 1 at v) (all_known t.rows (in_words 0 v) 127 2 (λ k low high here. known k (secondary_has set v bits k low (omega arith) here)))
 
@@ -127,16 +127,16 @@ words w v size = Ok (w, v, size)
 module _ (laws : MapLaws) where
   one_read : (t : Layout) (set : ℕ → Bool) (at : ℕ) (m rest : List ℕ) → AreBytes m → AreKnown t set → One t.bitmap set m → WordsRead t set at (m ++ rest) (length m)
   one_read t set at m rest fits known one =
-      let r = laws.again t.bitmap (first_set false set) m fits one.first in
+      let r = laws.again t.bitmap (primary_bits false set) m fits one.primary in
       let w = r.word in
       let n = map_size t.bitmap in
       let b : List ℕ = m ++ rest in
       let small : w < top = first_small w r.small (r.bits 1 (omega arith) (omega arith)) in
       record {
-        first = w;
-        second = 0;
+        primary = w;
+        secondary = 0;
         read = ap (λ r. r >>= words_by t at b) (primary_read t false set at w m rest known r.bits r.size r.read)
-            ∙ cond-true (ltb w top) (words w 0 n) (secondary_at t (at + n) (drop n b) >>= λ second. words w second (n + n)) (lt-ltb w top small)
+            ∙ cond-true (ltb w top) (words w 0 n) (secondary_at t (at + n) (drop n b) >>= λ secondary. words w secondary (n + n)) (lt-ltb w top small)
             ∙ ap (words w 0) (sym r.size);
         agrees = one_agrees set w r.bits one.none;
       }
@@ -148,8 +148,8 @@ module _ (laws : MapLaws) where
       let p : List ℕ = take n m in
       let q : List ℕ = drop n m in
       let b : List ℕ = m ++ rest in
-      let one = laws.again c (first_set true set) p (bytes_take n m fits) two.first in
-      let other = laws.again c (second_set set) q (bytes_drop n m fits) two.second in
+      let one = laws.again c (primary_bits true set) p (bytes_take n m fits) two.primary in
+      let other = laws.again c (secondary_bits set) q (bytes_drop n m fits) two.secondary in
       let w = one.word in
       let v = other.word in
       let both : length m ≡ n + n = omega (arith, one.size, other.size, length-take n m, length-drop n m) in
@@ -158,10 +158,10 @@ module _ (laws : MapLaws) where
       let small : v < top = first_small v other.small (other.bits 1 (omega arith) (omega arith) ∙ no_65) in
       let behind : drop n b ≡ q ++ rest = drop-append-le n m rest le in
       let split : b ≡ p ++ (q ++ rest) = ap (λ (l : List ℕ). l ++ rest) (sym (take-append-drop n m)) ∙ append_assoc p q rest in
-      let follows = λ (second : ℕ). words w second (n + n) in
+      let follows = λ (secondary : ℕ). words w secondary (n + n) in
       record {
-        first = w;
-        second = v;
+        primary = w;
+        secondary = v;
         read = ap (λ r. r >>= words_by t at b) (ap (primary_at t at) split ∙ primary_read t true set at w p (q ++ rest) known one.bits one.size one.read)
             ∙ cond-false (ltb w top) (words w 0 n) (secondary_at t (at + n) (drop n b) >>= follows) (le-ltb w top large)
             ∙ ap (λ (l : List ℕ). secondary_at t (at + n) l >>= follows) behind
@@ -170,13 +170,13 @@ module _ (laws : MapLaws) where
         agrees = two_agrees set w v one.bits other.bits;
       }
 
-  pub words_again : (t : Layout) (second : Bool) (set : ℕ → Bool) (at : ℕ) (m rest : List ℕ) → AreBytes m → set 65 ≡ false → AreKnown t set → Bitmaps t.bitmap second set m → WordsRead t set at (m ++ rest) (length m)
+  pub words_again : (t : Layout) (secondary : Bool) (set : ℕ → Bool) (at : ℕ) (m rest : List ℕ) → AreBytes m → set 65 ≡ false → AreKnown t set → Bitmaps t.bitmap secondary set m → WordsRead t set at (m ++ rest) (length m)
   words_again t true set at m rest fits no_65 known maps = two_read t set at m rest fits no_65 known maps
   words_again t false set at m rest fits no_65 known maps = one_read t set at m rest fits known maps
 
 -- ---- what is read is spelled
 
-one_first : (w k : ℕ) → w < top → 0 < k → k ≤ 64 → eqb (bit_at w (64 - k)) 1 ≡ first_set false (in_words w 0) k
+one_first : (w k : ℕ) → w < top → 0 < k → k ≤ 64 → eqb (bit_at w (64 - k)) 1 ≡ primary_bits false (in_words w 0) k
 one_first w k small low high =
     elim (cases_eq k 1) [
       | inl e ↦ let s = small_first w small in rw e s
@@ -186,14 +186,14 @@ one_first w k small low high =
 pub one_none : (w k : ℕ) → 64 < k → k ≤ 128 → in_words w 0 k ≡ false
 one_none w k low high = let z = bit_at-zero (128 - k) in grind (arith, nat_tests)
 
-pub two_first : (w v k : ℕ) → w < 2 ^ 64 → top ≤ w → 0 < k → k ≤ 64 → eqb (bit_at w (64 - k)) 1 ≡ first_set true (in_words w v) k
+pub two_first : (w v k : ℕ) → w < 2 ^ 64 → top ≤ w → 0 < k → k ≤ 64 → eqb (bit_at w (64 - k)) 1 ≡ primary_bits true (in_words w v) k
 two_first w v k fits large low high =
     elim (cases_eq k 1) [
       | inl e ↦ let s = large_first w fits large in rw e s
       | inr ne ↦ grind (arith, nat_tests)
     ]
 
-two_second : (w v k : ℕ) → 0 < k → k ≤ 64 → eqb (bit_at v (64 - k)) 1 ≡ second_set (in_words w v) k
+two_second : (w v k : ℕ) → 0 < k → k ≤ 64 → eqb (bit_at v (64 - k)) 1 ≡ secondary_bits (in_words w v) k
 two_second w v k low high = let e : 128 - (64 + k) ≡ 64 - k = omega arith in grind (arith, nat_tests)
 
 -- a whole bitmap was read
@@ -246,7 +246,7 @@ module _ (laws : MapLaws) where
 
   taken_secondary : (t : Layout) (at : ℕ) (b : List ℕ) (w : ℕ) → AreBytes b → secondary_at t at b ≡ Ok w → SecondTaken t.bitmap b w
   taken_secondary t at b w fits e =
-      let one = bind_ok (word_at t.bitmap 1 at b) (second_known t at) w e in
+      let one = bind_ok (word_at t.bitmap 1 at b) (secondary_known t at) w e in
       let s = second_or (ltb one.0 top) at one.0 (unknown t.rows (numbers_in 0 one.0)) w one.2 in
       subst (SecondTaken t.bitmap b) s.1 (record { word = taken_word t.bitmap 1 at b one.0 fits one.1; low = ltb-true one.0 top s.0 })
 
@@ -258,7 +258,7 @@ module _ (laws : MapLaws) where
       subst (WordsTaken t b) (ok_is (w, 0, n) x e) (record {
         room = one.room;
         two = false;
-        maps = record { first = bits_agree t.bitmap _ _ (take n b) (λ k low high. one_first w k small low high) one.bits; none = one_none w };
+        maps = record { primary = bits_agree t.bitmap _ _ (take n b) (λ k low high. one_first w k small low high) one.bits; none = one_none w };
         no_65 = one_none w 65 (omega arith) (omega arith);
       })
   by_size false t at b w x is fits one e =
@@ -274,8 +274,8 @@ module _ (laws : MapLaws) where
         room = omega (arith, one.room, other.word.room, length-drop n b);
         two = true;
         maps = record {
-          first = subst (λ (l : List ℕ). BitsIn c (first_set true (in_words w v)) l) (sym ahead) (bits_agree c _ _ (take n b) (λ k low high. two_first w v k one.small large low high) one.bits);
-          second = subst (λ (l : List ℕ). BitsIn c (second_set (in_words w v)) l) (sym behind) (bits_agree c _ _ (take n (drop n b)) (λ k low high. two_second w v k low high) other.word.bits);
+          primary = subst (λ (l : List ℕ). BitsIn c (primary_bits true (in_words w v)) l) (sym ahead) (bits_agree c _ _ (take n b) (λ k low high. two_first w v k one.small large low high) one.bits);
+          secondary = subst (λ (l : List ℕ). BitsIn c (secondary_bits (in_words w v)) l) (sym behind) (bits_agree c _ _ (take n (drop n b)) (λ k low high. two_second w v k low high) other.word.bits);
         };
         no_65 = small_first v other.low;
       })

@@ -1,4 +1,5 @@
 -- A message as lines for human eyes: its type with the words for its digits, and each element.
+-- Inner, for bodies and proofs: `word_or`.
 use Rattle.std.specs.Prelude.{ℕ, ◌+◌, ◌-◌, ◌/◌, ◌%◌, ◌==◌, nat_lt, Bool, if◌then◌else◌, List, [], ◌∷◌, ◌++◌, length, take, drop, replicate, Option, Some, None, codes}
 use Rattle.iso_parts.specs.declared.prefix.Digits.TheVariants.{Ascii}
 use Rattle.iso_parts.specs.declared.class.CharClass.{CharClass}

@@ -1,4 +1,5 @@
 -- A message that comes in pieces: what was taken of it, and what is answered to each further piece.
+-- Inner, for bodies and proofs: `Keeps`, `IsRead`, `Builds`, `IsReadyAfter`.
 use Rattle.std.specs.Prelude.{◌≡◌, ◌≢◌, ℕ, ◌+◌, ◌≤◌, List, [], ◌++◌, length, Option, Some, None, Result, Ok, Err}
 use Rattle.iso_wire.specs.declared.fault.UnpackFault.{UnpackFault}
 use Rattle.iso_wire.specs.declared.fault.UnpackCause.TheVariants.{Short, Memory}

@@ -1,7 +1,7 @@
 pub mod Contents
 pub mod Decimal
 pub mod Elements
-pub mod Entries
+pub mod Ends
 pub mod Numbers
 pub mod Spelling
 pub mod Refusal
@@ -14,6 +14,7 @@ pub mod Stops
 pub mod Resuming
 pub mod Feeding
 pub mod Viewing
+pub mod Bodies
 pub mod FaultNumbers
 pub mod Masking
 pub mod StopsLaws

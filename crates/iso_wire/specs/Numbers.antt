@@ -1,4 +1,5 @@
 -- The numbers of a message's elements, and the first one that has no row.
+-- Inner, for bodies and proofs: `numbers_of`.
 use Rattle.std.specs.Prelude.{ℕ, is_none, List, map, find, Option}
 use Rattle.iso_parts.specs.declared.spec.FieldSpec.{FieldSpec}
 use Rattle.iso_table.specs.Layout.{row_at}

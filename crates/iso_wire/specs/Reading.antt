@@ -2,6 +2,7 @@
 -- bit of the primary says so, and then for each element its length and its body. A piece is judged when it is whole.
 -- A fault tells the offset of the piece, and whose it is: 0 for the type and the primary bitmap, 1 for the secondary
 -- bitmap, else the element's number.
+-- Inner, for bodies and proofs: `AppendsPart`, `AppendsElement`, `ReadsInto`.
 use Rattle.std.specs.Prelude.{◌≡◌, ◌≢◌, ℕ, ◌+◌, ◌-◌, ◌*◌, ◌/◌, ◌%◌, ◌==◌, ◌&&◌, nat_lt, List, [], ◌∷◌, ◌++◌, length, take, drop, Option, Some, None, Result, Ok, Err, if◌then◌else◌}
 use Rattle.iso_parts.specs.declared.prefix.Digits.{Digits}
 use Rattle.iso_parts.specs.declared.prefix.Digits.TheVariants as digits
@@ -79,28 +80,28 @@ primary_at t at b = do
   w ← word_at t.bitmap 0 at b
   known_by 0 at w (unknown t.rows (numbers_in w 0))
 
-abbrev pub second_known : Layout → ℕ → ℕ → Result ℕ UnpackFault
-second_known t at w = if nat_lt w top then known_by 1 at w (unknown t.rows (numbers_in 0 w)) else halt 1 at ThirdBitmap
+abbrev pub secondary_known : Layout → ℕ → ℕ → Result ℕ UnpackFault
+secondary_known t at w = if nat_lt w top then known_by 1 at w (unknown t.rows (numbers_in 0 w)) else halt 1 at ThirdBitmap
 
 abbrev pub secondary_at : Layout → ℕ → List ℕ → Result ℕ UnpackFault
 secondary_at t at b = do
   w ← word_at t.bitmap 1 at b
-  second_known t at w
+  secondary_known t at w
 
 -- the secondary bitmap follows where the primary one has its first bit set
 abbrev pub words_by : Layout → ℕ → List ℕ → ℕ → Result (ℕ × ℕ × ℕ) UnpackFault
-words_by t at b first =
+words_by t at b primary =
     let size = map_size t.bitmap in
-    if nat_lt first top then Ok (first, 0, size)
+    if nat_lt primary top then Ok (primary, 0, size)
     else (do
-      second ← secondary_at t (at + size) (drop size b)
-      Ok (first, second, size + size))
+      secondary ← secondary_at t (at + size) (drop size b)
+      Ok (primary, secondary, size + size))
 
 -- the words of the bitmaps at an offset, and how many bytes they take
 abbrev pub words_at : Layout → ℕ → List ℕ → Result (ℕ × ℕ × ℕ) UnpackFault
 words_at t at b = do
-  first ← primary_at t at b
-  words_by t at b first
+  primary ← primary_at t at b
+  words_by t at b primary
 
 -- ---- the elements
 

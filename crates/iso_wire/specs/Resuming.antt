@@ -50,16 +50,16 @@ abbrev pub behind_maps : Layout → List ℕ → ℕ × ℕ × ℕ → Result �
 behind_maps t b w = end_of_elements t.rows (numbers_in w.0 w.1) (mti_size t.mti + w.2) b
 
 -- the words, where the primary one was read
-abbrev pub second_words : Layout → ℕ → List ℕ → Result (ℕ × ℕ × ℕ) UnpackFault
-second_words t first b = do
-  second ← secondary_at t (mti_size t.mti + map_size t.bitmap) (drop (map_size t.bitmap) (drop (mti_size t.mti) b))
-  Ok (first, second, map_size t.bitmap + map_size t.bitmap)
+abbrev pub secondary_words : Layout → ℕ → List ℕ → Result (ℕ × ℕ × ℕ) UnpackFault
+secondary_words t primary b = do
+  secondary ← secondary_at t (mti_size t.mti + map_size t.bitmap) (drop (map_size t.bitmap) (drop (mti_size t.mti) b))
+  Ok (primary, secondary, map_size t.bitmap + map_size t.bitmap)
 
 -- where the message ends that the bytes begin with, read on from a stage
 abbrev pub ends_from : Layout → Stage → List ℕ → Result ℕ UnpackFault
 ends_from t stages.Type b = end_of (message_at t b)
 ends_from t stages.Primary b = words_at t (mti_size t.mti) (drop (mti_size t.mti) b) >>= behind_maps t b
-ends_from t (stages.Secondary first) b = second_words t first b >>= behind_maps t b
+ends_from t (stages.Secondary primary) b = secondary_words t primary b >>= behind_maps t b
 ends_from t (stages.Elements rest at) b = end_of_elements t.rows (members rest) at b
 ends_from t (stages.Body n count rest at) b = end_of_rest t.rows n count (members rest) at b
 
@@ -67,7 +67,7 @@ ends_from t (stages.Body n count rest at) b = end_of_rest t.rows n count (member
 abbrev pub IsWithin : Layout → Stage → List ℕ → Type 0
 IsWithin t stages.Type b = Unit {0}
 IsWithin t stages.Primary b = mti_size t.mti ≤ length b
-IsWithin t (stages.Secondary first) b = mti_size t.mti + map_size t.bitmap ≤ length b
+IsWithin t (stages.Secondary primary) b = mti_size t.mti + map_size t.bitmap ≤ length b
 IsWithin t (stages.Elements rest at) b = at ≤ length b
 IsWithin t (stages.Body n count rest at) b = (at ≤ length b) × ((s : FieldSpec) → row_at t.rows n ≡ Some s → count ≤ s.max)
 

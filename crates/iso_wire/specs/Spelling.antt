@@ -30,10 +30,10 @@ pub record Spelling (t : Layout) (m : Contents) (b : List ℕ) : Type 0 where
   pub mti : m.mti < 10000
   pub version : m.mti / 1000 ≡ t.version
   pub ascending : IsAscending 2 m.elements
-  pub second : Bool
+  pub secondary : Bool
   pub maps : List ℕ
   pub parts : List ℕ
-  pub bitmaps : Bitmaps t.bitmap second (has m.elements) maps
+  pub bitmaps : Bitmaps t.bitmap secondary (has m.elements) maps
   pub elements : Parts t.rows m.elements parts
   pub bytes : b ≡ mti_bytes t.mti m.mti ++ (maps ++ parts)
 

@@ -4,7 +4,7 @@
 -- spell a message, and only how many bytes a whole piece has is told by the tables that reading goes by too.
 use Rattle.std.specs.Prelude.{◌≡◌, ◌≢◌, ℕ, ◌/◌, ◌<◌, ◌≤◌, ◌&&◌, nat_lt, Bool, true, false, is_some, List, [], ◌++◌, length, take, Some, None}
 use Rattle.iso_parts.specs.declared.spec.FieldSpec.{FieldSpec}
-use Rattle.iso_parts.specs.Bits.{map_size, BitsIn, Bitmaps, first_set, second_set}
+use Rattle.iso_parts.specs.Bits.{map_size, BitsIn, Bitmaps, primary_bits, secondary_bits}
 use Rattle.iso_parts.specs.Pieces.{IsCount, IsBadCount, IsBadBody}
 use Rattle.iso_parts.specs.Reading.{prefix_size, body_size}
 use Rattle.iso_table.specs.Layout.{Layout, row_at}
@@ -60,8 +60,8 @@ abbrev pub HaveRows : Layout → (ℕ → Bool) → ℕ → ℕ → Type 0
 HaveRows t set low end = (k : ℕ) → low ≤ k → k < end → set k ≡ true → is_some (row_at t.rows k) ≡ true
 
 -- the bytes are a good primary bitmap that says that a secondary one follows (ISO 8583:1987, bitmaps: bit 1)
-abbrev pub IsFirstOfTwo : Layout → List ℕ → Type 0
-IsFirstOfTwo t p = (set : ℕ → Bool) × BitsIn t.bitmap (first_set true set) p × HaveRows t set 2 65
+abbrev pub IsPrimaryOfTwo : Layout → List ℕ → Type 0
+IsPrimaryOfTwo t p = (set : ℕ → Bool) × BitsIn t.bitmap (primary_bits true set) p × HaveRows t set 2 65
 
 -- the bytes are the good bitmaps of the set, two of them or one (ISO 8583:1987, primary and secondary bitmap)
 pub record AreGoodMaps (t : Layout) (set : ℕ → Bool) (p : List ℕ) : Type 0 where
@@ -97,7 +97,7 @@ pub record IsBefore (t : Layout) (n : ℕ) (s : FieldSpec) (b : List ℕ) : Type
 abbrev pub CallFor : Layout → List ℕ → Piece → Type 0
 CallFor t b type = b ≡ []
 CallFor t b primary = IsOwnType t b
-CallFor t b secondary = (mti : List ℕ) × (first : List ℕ) × IsOwnType t mti × IsFirstOfTwo t first × (b ≡ mti ++ first)
+CallFor t b secondary = (mti : List ℕ) × (primary : List ℕ) × IsOwnType t mti × IsPrimaryOfTwo t primary × (b ≡ mti ++ primary)
 CallFor t b (count n s) = IsBefore t n s b
 CallFor t b (body n s c) = (before : List ℕ) × (p : List ℕ) × IsBefore t n s before × IsCount s c p × (c ≤ s.max) × (b ≡ before ++ p)
 
@@ -125,9 +125,9 @@ IsBadPrimary t p other = ⊥
 
 -- a secondary bitmap isn't of hexadecimal digits, tells of a third bitmap, or of an element without a row
 abbrev pub IsBadSecondary : Layout → List ℕ → UnpackCause → Type 0
-IsBadSecondary t p BadHex = (set : ℕ → Bool) → BitsIn t.bitmap (second_set set) p → ⊥
-IsBadSecondary t p ThirdBitmap = (set : ℕ → Bool) × BitsIn t.bitmap (second_set set) p × (set 65 ≡ true)
-IsBadSecondary t p (UnknownElement n) = (set : ℕ → Bool) × BitsIn t.bitmap (second_set set) p × (set 65 ≡ false) × IsUnknown t set 66 129 n
+IsBadSecondary t p BadHex = (set : ℕ → Bool) → BitsIn t.bitmap (secondary_bits set) p → ⊥
+IsBadSecondary t p ThirdBitmap = (set : ℕ → Bool) × BitsIn t.bitmap (secondary_bits set) p × (set 65 ≡ true)
+IsBadSecondary t p (UnknownElement n) = (set : ℕ → Bool) × BitsIn t.bitmap (secondary_bits set) p × (set 65 ≡ false) × IsUnknown t set 66 129 n
 IsBadSecondary t p other = ⊥
 
 -- the cause is the first that holds of the whole piece

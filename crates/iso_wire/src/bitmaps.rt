@@ -29,11 +29,11 @@ fn word_of(coding: BitmapCoding, element: u8, at: usize, bytes: &[u8]) -> Result
 }
 
 /// The first of the numbers that the words tell and that has no row.
-fn unknown_of(table: &Table, first: u64, second: u64) -> Option<u8>
-    requires { second < 2 ^ 63 }
-    ensures { result ≡ unknown table.now.rows (numbers_in first second) }
+fn unknown_of(table: &Table, primary: u64, secondary: u64) -> Option<u8>
+    requires { secondary < 2 ^ 63 }
+    ensures { result ≡ unknown table.now.rows (numbers_in primary secondary) }
 {
-    Bitmap::from_words(first, second).missing_from(&table.known())
+    Bitmap::from_words(primary, secondary).missing_from(&table.known())
 }
 
 /// The word, unless a number has no row.
@@ -83,11 +83,11 @@ pub fn words_of(table: &Table, at: usize, bytes: &[u8]) -> Result<(u64, u64, usi
     ensures low { IfOk result (λ x. x.1 < 2 ^ 63) }
 {
     let size = table.bitmap().size();
-    let first = primary_of(table, at, bytes)?;
-    if first < FIRST_BIT {
-        return Ok((first, 0, size));
+    let primary = primary_of(table, at, bytes)?;
+    if primary < FIRST_BIT {
+        return Ok((primary, 0, size));
     }
     let (_, rest) = bytes.split_at(size);
-    let second = secondary_of(table, at + size, rest)?;
-    Ok((first, second, size + size))
+    let secondary = secondary_of(table, at + size, rest)?;
+    Ok((primary, secondary, size + size))
 }

@@ -6,7 +6,7 @@ ghost use Rattle.iso_table.specs.Layout.{row_at, AreGood};
 ghost use Rattle.iso_wire.specs.Elements.{value_in};
 ghost use Rattle.iso_wire.specs.Reading.{value_at};
 ghost use Rattle.iso_parts.specs.Numbers.{members};
-ghost use Rattle.iso_wire.specs.Viewing.{longest_part, wires_in, IsWithin, AreWithin, wires_at, view_at, JudgesWire, FindsBodies};
+ghost use Rattle.iso_wire.specs.Bodies.{longest_part, wires_in, IsWithin, AreWithin, wires_at, view_at, JudgesWire, FindsBodies};
 
 use crate::bitmaps::words_of;
 use crate::fault::{UnpackCause, UnpackFault};
@@ -104,7 +104,8 @@ pub struct View<'a> {
 impl<'a> Model for View<'a> {
     ghost use Rattle.std.specs.Prelude.{◌≤◌, length};
     ghost use Rattle.iso_parts.specs.Mti.{number};
-    ghost use Rattle.iso_wire.specs.Viewing.{Viewed, wires_in, AreWithin};
+    ghost use Rattle.iso_wire.specs.Bodies.{wires_in, AreWithin};
+    ghost use Rattle.iso_wire.specs.Viewing.{Viewed};
     ghost use Rattle.iso_parts.specs.Numbers.{members};
 
     ghost Value = { Viewed };
@@ -157,8 +158,8 @@ pub fn view_of<'a>(table: &Table, bytes: &'a [u8]) -> Result<View<'a>, UnpackFau
     let mti = type_of(table, bytes)?;
     let size = table.mti().mti_size();
     let (_, rest) = bytes.split_at(size);
-    let (first, second, used) = words_of(table, size, rest)?;
-    let numbers = Bitmap::from_words(first, second);
+    let (primary, secondary, used) = words_of(table, size, rest)?;
+    let numbers = Bitmap::from_words(primary, secondary);
     let mut bodies = Bodies {
         starts: [0; PLACES],
         sizes: [0; PLACES],

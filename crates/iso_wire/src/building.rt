@@ -1,8 +1,8 @@
 //! Building a message that was judged good, without judging it again.
 
-ghost use Rattle.std.specs.Prelude.{◌≡◌, ◌+◌, ◌≤◌, drop, length, IfOk, OnOk};
+ghost use Rattle.std.specs.Prelude.{◌≡◌, ◌+◌, ◌≤◌, ◌∷◌, ℕ, List, drop, length, IfOk, OnOk};
 ghost use Rattle.iso_table.specs.Layout.{AreGood};
-ghost use Rattle.iso_wire.specs.Entries.{views, IsWhole, IsNumbered};
+ghost use Rattle.iso_wire.specs.Ends.{views, Awaits, IsWhole, IsNumbered};
 ghost use Rattle.iso_wire.specs.Feeding.{IsRead};
 ghost use Rattle.iso_wire.specs.Reading.{AppendsElement, Gives, Unpacks, value_at, elements_at, message_at};
 ghost use Rattle.iso_parts.specs.Bits.{contains, AreElements};
@@ -13,7 +13,7 @@ use crate::elements::Elements;
 use crate::fault::UnpackFault;
 use crate::message::Message;
 use crate::unpacking::type_of;
-use iso_parts::{Bitmap, LONGEST_VALUE, append_judged};
+use iso_parts::{Bitmap, LONGEST_VALUE, decode_judged};
 use iso_table::Table;
 use std::alloc::Global;
 
@@ -26,19 +26,19 @@ fn append_element(
     elements: &mut Elements,
 ) -> Result<usize, UnpackFault>
     requires within { at ≤ length bytes.now }
-    requires whole { IsWhole elements.old }
+    requires awaits { (later : List ℕ) × Awaits elements.old (n ∷ later) }
     requires read { IsRead (value_at table.now.rows n at (drop at bytes.now)) }
     ensures exact { AppendsElement (views elements.old) (views elements.new) n result (value_at table.now.rows n at (drop at bytes.now)) }
     ensures room { IfOk result (λ used. at + used ≤ length bytes.now) }
-    ensures whole { OnOk result (IsWhole elements.new) }
+    ensures awaits { OnOk result ((later : List ℕ) → Awaits elements.old (n ∷ later) → Awaits elements.new later) }
+    ensures kept { OnOk result (elements.new.numbers ≡ elements.old.numbers) }
 {
     let Some(row) = table.row(n) else {
         unreachable!();
     };
     let (_, part) = bytes.split_at(at);
-    let from = elements.values.len();
-    let used = append_judged(row, part, &mut elements.values)?;
-    elements.close(n, from)?;
+    let used = decode_judged(row, part, &mut elements.values)?;
+    elements.close()?;
     Ok(used)
 }
 
@@ -62,13 +62,13 @@ fn elements_of(
         .saturating_mul(LONGEST_VALUE)
         .min((bytes.len() - start).saturating_mul(2));
     let mut elements = Elements::with_room(alloc, count, room)?;
+    elements.numbers = numbers;
     let mut rest = numbers;
     let mut at = start;
     while let Some(n) = rest.take_first() {
         let used = append_element(table, n, at, bytes, &mut elements)?;
         at += used;
     }
-    elements.numbers = numbers;
     Ok((elements, at))
 }
 
@@ -86,8 +86,8 @@ pub(crate) fn build_judged(
     let mti = type_of(table, bytes)?;
     let size = table.mti().mti_size();
     let (_, rest) = bytes.split_at(size);
-    let (first, second, used) = words_of(table, size, rest)?;
-    let numbers = Bitmap::from_words(first, second);
+    let (primary, secondary, used) = words_of(table, size, rest)?;
+    let numbers = Bitmap::from_words(primary, secondary);
     let (elements, end) = elements_of(alloc, table, numbers, size + used, bytes)?;
     Ok((Message::from_elements(mti, elements), end))
 }

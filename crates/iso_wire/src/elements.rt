@@ -1,75 +1,47 @@
 //! The elements of a message, their values one after another in one buffer.
 
 ghost use Rattle.std.specs.Prelude.{◌≡◌, ◌+◌, ◌-◌, ◌^◌, ◌<◌, ◌≤◌, ◌↔◌, ◌++◌, ◌∷◌, []};
-ghost use Rattle.std.specs.Prelude.{ℕ, All, length, take, drop, insert, slice_get};
-ghost use Rattle.std.specs.Prelude.{slice_set, vec_len, vec_capacity, IsTrue, true, IfOk, OnOk, OnErr, MatchOption, Some, None};
+ghost use Rattle.std.specs.Prelude.{All, length, map, take, drop};
+ghost use Rattle.std.specs.Prelude.{vec_len, vec_capacity, IsTrue, true, IfOk, OnOk, OnErr, MatchOption, Some, None};
 ghost use Rattle.iso_wire.specs.Elements.{value_in, has, is_number, IsAscending, IsBelow, put, without};
-ghost use Rattle.iso_wire.specs.Entries.{bytes_in, elements_of, place_in, views, entry_of, IsWhole, IsNumbered, Adds, IsMadeOf, IsSame, Holds, Lacks};
+ghost use Rattle.iso_wire.specs.Ends.{views, end_of, shifted_end, Ascend, IsWhole, IsNumbered, Adds, IsMadeOf, IsSame};
 
 use iso_parts::Bitmap;
 use std::alloc::{AllocError, Global};
 
-/// An element, and how many bytes its value has.
-#[derive(Clone, Copy, Debug, PartialEq, Eq)]
-pub struct Entry {
-    pub number: u8,
-    pub len: usize,
-}
-
-/// The place of an element.
-#[derive(Clone, Copy, Debug)]
-pub struct Place {
-    /// How many elements stand before it.
-    pub at: usize,
-    /// Where its value begins.
-    pub start: usize,
-    /// How many bytes its value has, if the element is there.
-    pub len: Option<usize>,
-}
-
-/// Elements in ascending order: the bytes of their values, who has how many of them, and the set of their numbers.
+/// Elements in ascending order: the bytes of their values, where in them each value ends, and the set of their numbers.
 #[derive(Drop)]
 pub struct Elements {
     pub values: Vec<u8>,
-    pub index: Vec<Entry>,
+    pub ends: Vec<usize>,
     pub numbers: Bitmap,
 }
 
-/// Finds the place of an element.
-pub fn place_of(index: &[Entry], n: u8) -> Place
-    requires { bytes_in index.now < 2 ^ 64 }
-    ensures { result ≡ place_in n index.now }
+/// Where the value behind the first `at` begins.
+fn start_of(ends: &[usize], at: usize) -> usize
+    requires { at ≤ length ends.now }
+    ensures { result ≡ end_of 0 (take at ends.now) }
 {
-    let mut start = 0;
-    let mut at = 0;
-    for entry in index {
-        if entry.number >= n {
-            let len = if entry.number == n {
-                Some(entry.len)
-            } else {
-                None
-            };
-            return Place { at, start, len };
-        }
-        start += entry.len;
-        at += 1;
-    }
-    Place {
-        at,
-        start,
-        len: None,
+    if at == 0 { 0 } else { ends[at - 1] }
+}
+
+/// Moves ends, where bytes before them gave way to others.
+fn move_ends(ends: &mut [usize], removed: usize, added: usize)
+    requires { All (λ e. (removed ≤ e) × (e - removed + added < 2 ^ 64)) ends.old }
+    ensures { ends.new ≡ map (shifted_end removed added) ends.old }
+{
+    for end in ends.iter_mut() {
+        *end = *end - removed + added;
     }
 }
 
-/// Whether the number is above the last one.
-fn is_behind(index: &[Entry], n: u8) -> bool
-    ensures { IsTrue result
-        → (e : Entry) → slice_get index.now (length index.now - 1) ≡ Some e → e.number < n }
+/// Moves the ends behind the first `at`.
+fn move_later(ends: &mut [usize], at: usize, removed: usize, added: usize)
+    requires within { at ≤ length ends.old }
+    requires fits { All (λ e. (removed ≤ e) × (e - removed + added < 2 ^ 64)) (drop at ends.old) }
+    ensures { ends.new ≡ take at ends.old ++ map (shifted_end removed added) (drop at ends.old) }
 {
-    match index.last() {
-        Some(last) => last.number < n,
-        None => true,
-    }
+    move_ends(&mut ends[at..], removed, added);
 }
 
 /// Of the bytes from `start` on, the first `count` go behind the others.
@@ -102,11 +74,11 @@ fn paste(values: &mut Vec<u8>, start: usize, value: &[u8])
     rotate_tail(values, start, count);
 }
 
-/// Whether these are the same entries.
-fn same_index(entries: &[Entry], others: &[Entry]) -> bool
-    ensures { IsTrue result ↔ (entries.now ≡ others.now) }
+/// Whether these are the same ends.
+fn same_ends(ends: &[usize], others: &[usize]) -> bool
+    ensures { IsTrue result ↔ (ends.now ≡ others.now) }
 {
-    entries == others
+    ends == others
 }
 
 /// Whether these are the same bytes.
@@ -125,7 +97,7 @@ impl Elements {
     {
         Elements {
             values: Vec::new(alloc),
-            index: Vec::new(alloc),
+            ends: Vec::new(alloc),
             numbers: Bitmap::new(),
         }
     }
@@ -135,15 +107,16 @@ impl Elements {
         ensures none { IfOk result (λ made. views made ≡ []) }
         ensures whole { IfOk result IsWhole }
         ensures numbered { IfOk result IsNumbered }
-        ensures index_room { IfOk result (λ made. elements ≤ vec_capacity made.index) }
+        ensures empty { IfOk result (λ made. IsMadeOf made [] []) }
+        ensures ends_room { IfOk result (λ made. elements ≤ vec_capacity made.ends) }
         ensures values_room { IfOk result (λ made. bytes ≤ vec_capacity made.values) }
     {
         let values = Vec::with_capacity(alloc, bytes)?;
-        let index = Vec::with_capacity(alloc, elements)?;
+        let ends = Vec::with_capacity(alloc, elements)?;
         let numbers = Bitmap::new();
         Ok(Elements {
             values,
-            index,
+            ends,
             numbers,
         })
     }
@@ -153,47 +126,19 @@ impl Elements {
         ensures none { views self.new ≡ [] }
         ensures whole { IsWhole self.new }
         ensures numbered { IsNumbered self.new }
+        ensures empty { IsMadeOf self.new [] [] }
     {
         self.values.clear();
-        self.index.clear();
+        self.ends.clear();
         self.numbers = Bitmap::new();
         self.values.reserve(bytes)?;
-        self.index.reserve(elements)?;
+        self.ends.reserve(elements)?;
         Ok(())
-    }
-
-    /// Finds the place of an element among the others.
-    fn find_within(&self, n: u8) -> Place
-        requires { IsWhole self.now }
-        ensures there { (k : ℕ) → result.len ≡ Some k
-            → Holds n k self.now.index.items self.now.values.items result }
-        ensures lacking { result.len ≡ None → Lacks n self.now.index.items self.now.values.items result }
-    {
-        place_of(&self.index, n)
-    }
-
-    /// Finds the place of an element: at once where it stands behind the others.
-    fn find(&self, n: u8) -> Place
-        requires whole { IsWhole self.now }
-        requires ascending { IsAscending 2 (views self.now) }
-        ensures there { (k : ℕ) → result.len ≡ Some k
-            → Holds n k self.now.index.items self.now.values.items result }
-        ensures lacking { result.len ≡ None → Lacks n self.now.index.items self.now.values.items result }
-    {
-        if is_behind(&self.index, n) {
-            return Place {
-                at: self.index.len(),
-                start: self.values.len(),
-                len: None,
-            };
-        }
-        self.find_within(n)
     }
 
     /// The value of an element, if it is there: the set of numbers tells this at once.
     pub fn get(&self, n: u8) -> Option<&[u8]>
         requires whole { IsWhole self.now }
-        requires ascending { IsAscending 2 (views self.now) }
         requires numbered { IsNumbered self.now }
         ensures { MatchOption result (value_in (views self.now) n ≡ None)
             (λ v. value_in (views self.now) n ≡ Some v.now) }
@@ -201,45 +146,39 @@ impl Elements {
         if !self.numbers.has(n) {
             return None;
         }
-        let place = self.find_within(n);
-        match place.len {
-            Some(len) => Some(&self.values[place.start..place.start + len]),
-            None => None,
-        }
+        let at = self.numbers.count_below(n);
+        let start = start_of(&self.ends, at);
+        Some(&self.values[start..self.ends[at]])
     }
 
-    /// Makes the bytes of the buffer from `from` on the value of an element behind the others. Whoever reads all elements of
-    /// a message knows the set of their numbers, and puts it there at the end.
-    pub fn close(&mut self, n: u8, from: usize) -> Result<(), AllocError>
-        requires before { bytes_in self.old.index.items ≡ from }
-        requires within { from ≤ length self.old.values.items }
-        ensures ok { OnOk result (views self.new ≡ elements_of self.old.index.items (take from self.old.values.items)
-            ++ (n, drop from self.old.values.items) ∷ []) }
-        ensures whole { OnOk result (IsWhole self.new) }
+    /// Makes the bytes behind the last value the value of the next element. Whoever reads all elements of a message knows
+    /// the set of their numbers, and puts it there first.
+    pub fn close(&mut self) -> Result<(), AllocError>
+        ensures ok { OnOk result (IsMadeOf self.new (self.old.ends.items ++ length self.old.values.items ∷ []) self.old.values.items) }
         ensures err { OnErr result (IsSame self.old self.new) }
-        ensures kept { self.new.numbers ≡ self.old.numbers }
+        ensures numbers { self.new.numbers ≡ self.old.numbers }
     {
-        let len = self.values.len() - from;
-        self.index.push(Entry { number: n, len })?;
+        self.ends.push(self.values.len())?;
         Ok(())
     }
 
     /// Puts a value of a new element at its place.
     fn insert(&mut self, at: usize, start: usize, n: u8, value: &[u8]) -> Result<(), AllocError>
-        requires place { at ≤ length self.old.index.items }
+        requires place { at ≤ length self.old.ends.items }
         requires within { start ≤ length self.old.values.items }
+        requires ends { Ascend start (drop at self.old.ends.items) (length self.old.values.items) }
         requires number { is_number n ≡ true }
-        ensures ok { OnOk result (IsMadeOf self.new (insert self.old.index.items at (entry_of n value.now))
+        ensures ok { OnOk result (IsMadeOf self.new
+            (take at self.old.ends.items ++ map (shifted_end 0 (length value.now)) (start ∷ drop at self.old.ends.items))
             (take start self.old.values.items ++ (value.now ++ drop start self.old.values.items))) }
         ensures err { OnErr result (IsSame self.old self.new) }
         ensures numbers { OnOk result (Adds self.old.numbers self.new.numbers n) }
-        ensures kept { OnErr result (self.new.numbers ≡ self.old.numbers) }
     {
-        self.index.reserve(1)?;
+        self.ends.reserve(1)?;
         self.values.reserve(value.len())?;
         paste(&mut self.values, start, value);
-        let len = value.len();
-        self.index.insert(at, Entry { number: n, len }).unwrap();
+        self.ends.insert(at, start).unwrap();
+        move_later(&mut self.ends, at, 0, value.len());
         self.numbers.set(n);
         Ok(())
     }
@@ -250,12 +189,13 @@ impl Elements {
         at: usize,
         start: usize,
         len: usize,
-        n: u8,
         value: &[u8],
     ) -> Result<(), AllocError>
-        requires place { at < length self.old.index.items }
+        requires place { at ≤ length self.old.ends.items }
         requires within { start + len ≤ length self.old.values.items }
-        ensures ok { OnOk result (IsMadeOf self.new (slice_set self.old.index.items at (entry_of n value.now))
+        requires ends { Ascend (start + len) (drop at self.old.ends.items) (length self.old.values.items) }
+        ensures ok { OnOk result (IsMadeOf self.new
+            (take at self.old.ends.items ++ map (shifted_end len (length value.now)) (drop at self.old.ends.items))
             (take start self.old.values.items ++ (value.now ++ drop (start + len) self.old.values.items))) }
         ensures err { OnErr result (IsSame self.old self.new) }
         ensures kept { self.new.numbers ≡ self.old.numbers }
@@ -263,8 +203,7 @@ impl Elements {
         self.values.reserve(value.len().saturating_sub(len))?;
         cut(&mut self.values, start, len);
         paste(&mut self.values, start, value);
-        let len = value.len();
-        self.index[at] = Entry { number: n, len };
+        move_later(&mut self.ends, at, len, value.len());
         Ok(())
     }
 
@@ -273,6 +212,7 @@ impl Elements {
         requires number { is_number n ≡ true }
         requires whole { IsWhole self.old }
         requires numbered { IsNumbered self.old }
+        requires behind { IsBelow n (views self.old) }
         ensures ok { OnOk result (views self.new ≡ views self.old ++ (n, value.now) ∷ []) }
         ensures whole { IsWhole self.new }
         ensures numbered { IsNumbered self.new }
@@ -280,7 +220,7 @@ impl Elements {
     {
         let from = self.values.len();
         self.values.extend_from_slice(value)?;
-        match self.close(n, from) {
+        match self.close() {
             Ok(()) => {
                 self.numbers.set(n);
                 Ok(())
@@ -303,10 +243,13 @@ impl Elements {
         ensures numbered { IsNumbered self.new }
         ensures err { OnErr result (IsSame self.old self.new) }
     {
-        let place = self.find(n);
-        match place.len {
-            Some(len) => self.replace(place.at, place.start, len, n, value),
-            None => self.insert(place.at, place.start, n, value),
+        let at = self.numbers.count_below(n);
+        let start = start_of(&self.ends, at);
+        if self.numbers.has(n) {
+            let len = self.ends[at] - start;
+            self.replace(at, start, len, value)
+        } else {
+            self.insert(at, start, n, value)
         }
     }
 
@@ -323,24 +266,30 @@ impl Elements {
         if !self.numbers.has(n) {
             return false;
         }
-        let place = self.find_within(n);
-        match place.len {
-            Some(len) => {
-                self.index.remove(place.at);
-                cut(&mut self.values, place.start, len);
-                self.numbers.unset(n);
-                true
-            }
-            None => false,
-        }
+        let at = self.numbers.count_below(n);
+        let start = start_of(&self.ends, at);
+        let len = self.ends.remove(at) - start;
+        cut(&mut self.values, start, len);
+        move_later(&mut self.ends, at, len, 0);
+        self.numbers.unset(n);
+        true
+    }
+
+    /// Whether these are the same values, whatever their numbers.
+    fn has_values_of(&self, other: &Elements) -> bool
+        ensures { IsTrue result ↔ IsMadeOf self.now other.now.ends.items other.now.values.items }
+    {
+        same_ends(&self.ends, &other.ends) && same_bytes(&self.values, &other.values)
     }
 
     /// Whether these are the same elements.
     pub fn equals(&self, other: &Elements) -> bool
         requires whole { IsWhole self.now }
+        requires numbered { IsNumbered self.now }
         requires other_whole { IsWhole other.now }
+        requires other_numbered { IsNumbered other.now }
         ensures { IsTrue result ↔ (views self.now ≡ views other.now) }
     {
-        same_index(&self.index, &other.index) && same_bytes(&self.values, &other.values)
+        self.numbers.equals(&other.numbers) && self.has_values_of(other)
     }
 }

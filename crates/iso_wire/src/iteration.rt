@@ -2,15 +2,18 @@
 
 ghost use Rattle.std.specs.Prelude.{◌≡◌};
 ghost use Rattle.std.specs.Iterator.{YieldsFirstBy, item_count};
-ghost use Rattle.iso_wire.specs.Entries.{views, IsWhole};
+ghost use Rattle.iso_wire.specs.Ends.{views, IsWhole};
 
-use crate::elements::{Elements, Entry};
+use crate::elements::Elements;
+use iso_parts::Bitmap;
 use std::marker::Model;
 
 /// The elements of a message that are still to come, in ascending order: each by its number and its value.
 #[derive(Drop)]
 pub struct Iter<'a> {
-    index: &'a [Entry],
+    numbers: Bitmap,
+    start: usize,
+    ends: &'a [usize],
     values: &'a [u8],
 }
 
@@ -19,11 +22,12 @@ impl<'a> Model for Iter<'a> {
 
     ghost Value = { List (ℕ × List ℕ) };
 
-    ghost use Rattle.iso_wire.specs.Entries.{bytes_in, elements_of};
+    ghost use Rattle.iso_parts.specs.Numbers.{members};
+    ghost use Rattle.iso_wire.specs.Ends.{elements_of, Ascend};
 
-    ghost view = { λ it. elements_of it.index.now it.values.now };
+    ghost view = { λ it. elements_of (members it.numbers) it.start it.ends.now it.values.now };
 
-    ghost invariant = { λ it. bytes_in it.index.now ≡ length it.values.now };
+    ghost invariant = { λ it. Ascend it.start it.ends.now (length it.values.now) × (length it.ends.now ≡ length (members it.numbers)) };
 }
 
 impl<'a> Iter<'a> {
@@ -33,7 +37,9 @@ impl<'a> Iter<'a> {
         ensures { result ≡ views elements.now }
     {
         Iter {
-            index: &elements.index,
+            numbers: elements.numbers,
+            start: 0,
+            ends: &elements.ends,
             values: &elements.values,
         }
     }
@@ -47,10 +53,11 @@ impl<'a> Iterator for Iter<'a> {
     ghost remaining = { item_count (λ left. left) };
 
     fn next(&mut self) -> Option<(u8, &'a [u8])> {
-        let (entry, later) = self.index.split_first()?;
-        let (value, rest) = self.values.split_at(entry.len);
-        self.index = later;
-        self.values = rest;
-        Some((entry.number, value))
+        let (end, later) = self.ends.split_first()?;
+        let n = self.numbers.take_first()?;
+        let value = &self.values[self.start..*end];
+        self.start = *end;
+        self.ends = later;
+        Some((n, value))
     }
 }

@@ -168,22 +168,22 @@ fn judge_rest(
 }
 
 /// Judges a message from its secondary bitmap on.
-fn judge_secondary(table: &Table, first: u64, bytes: &[u8]) -> (Stage, Result<usize, UnpackFault>)
+fn judge_secondary(table: &Table, primary: u64, bytes: &[u8]) -> (Stage, Result<usize, UnpackFault>)
     requires { mti_size table.now.mti + map_size table.now.bitmap ≤ length bytes.now }
-    ensures { Resumes table.now (Stage.Secondary first) bytes.now result.0 result.1 }
+    ensures { Resumes table.now (Stage.Secondary primary) bytes.now result.0 result.1 }
 {
     let start = table.mti().mti_size();
     let size = table.bitmap().size();
     let (_, maps) = bytes.split_at(start);
     let (_, rest) = maps.split_at(size);
     match secondary_of(table, start + size, rest) {
-        Ok(second) => judge_elements(
+        Ok(secondary) => judge_elements(
             table,
-            Bitmap::from_words(first, second),
+            Bitmap::from_words(primary, secondary),
             start + (size + size),
             bytes,
         ),
-        Err(fault) => (Stage::Secondary(first), Err(fault)),
+        Err(fault) => (Stage::Secondary(primary), Err(fault)),
     }
 }
 
@@ -195,16 +195,16 @@ fn judge_primary(table: &Table, bytes: &[u8]) -> (Stage, Result<usize, UnpackFau
     let start = table.mti().mti_size();
     let (_, maps) = bytes.split_at(start);
     match primary_of(table, start, maps) {
-        Ok(first) => {
-            if first < FIRST_BIT {
+        Ok(primary) => {
+            if primary < FIRST_BIT {
                 judge_elements(
                     table,
-                    Bitmap::from_words(first, 0),
+                    Bitmap::from_words(primary, 0),
                     start + table.bitmap().size(),
                     bytes,
                 )
             } else {
-                judge_secondary(table, first, bytes)
+                judge_secondary(table, primary, bytes)
             }
         }
         Err(fault) => (Stage::Primary, Err(fault)),
@@ -230,7 +230,7 @@ pub fn judge_from(table: &Table, stage: Stage, bytes: &[u8]) -> (Stage, Result<u
     match stage {
         Stage::Type => judge_type(table, bytes),
         Stage::Primary => judge_primary(table, bytes),
-        Stage::Secondary(first) => judge_secondary(table, first, bytes),
+        Stage::Secondary(primary) => judge_secondary(table, primary, bytes),
         Stage::Elements { rest, at } => judge_elements(table, rest, at, bytes),
         Stage::Body { n, count, rest, at } => judge_rest(table, n, count, rest, at, bytes),
     }

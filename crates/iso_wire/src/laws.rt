@@ -1,17 +1,17 @@
 //! What holds of every message and every stream: functions that do nothing, and whose contracts are laws.
 
-ghost use Rattle.iso_wire.specs.Entries.{elements_of};
+ghost use Rattle.std.specs.Prelude.{ℕ, List};
+ghost use Rattle.iso_wire.specs.Ends.{elements_of};
 ghost use Rattle.iso_wire.specs.Frame.{BadIsNoFrame, BadStays, CutNeedsMore, FirstOfSplit, SplitsBehind, SplitsOnce, SplitsSomehow};
 ghost use Rattle.iso_wire.specs.OneSpelling.{AreOfBytes, HasPlain, PlainOnce, WellFormed};
 ghost use Rattle.iso_wire.specs.ReadingLaws.{ReadingStays, ReadsSpellings};
 ghost use Rattle.iso_wire.specs.StopsLaws.{NeverBoth, SpellsOrStops, StopsAsRead, StopsOnce, StopsStay};
 
-use crate::elements::Entry;
 use crate::message::Message;
 
 /// The values in a buffer are of bytes.
-fn of_bytes(index: &[Entry], values: &[u8])
-    ensures { AreOfBytes (elements_of index.now values.now) }
+fn of_bytes(values: &[u8])
+    ensures { (ns ends : List ℕ) → AreOfBytes (elements_of ns 0 ends values.now) }
 {}
 
 /// Each message is well formed: its type has four digits, its elements ascend, and their values are of bytes.
@@ -21,7 +21,7 @@ pub fn well_formed(message: &Message)
     // any call on the message tells the proof what holds of every message
     let _mti = message.mti();
     let elements = message.parts();
-    of_bytes(&elements.index, &elements.values);
+    of_bytes(&elements.values);
 }
 
 /// Reading gives a message and a length exactly where the first bytes, so many of them, are a spelling of the message.

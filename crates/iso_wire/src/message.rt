@@ -8,7 +8,7 @@ ghost use Rattle.iso_parts.specs.Mti.{number};
 ghost use Rattle.iso_wire.specs.Contents.{Contents};
 ghost use Rattle.iso_wire.specs.Decimal.{decimal, number_at};
 ghost use Rattle.iso_wire.specs.Elements.{value_in, has, is_number, IsBelow, put, without};
-ghost use Rattle.iso_wire.specs.Entries.{IsSame};
+ghost use Rattle.iso_wire.specs.Ends.{IsSame};
 ghost use Rattle.iso_wire.specs.Equality.{same_contents, same_contents_equiv};
 ghost use Rattle.std.specs.Cmp.{partial_equiv_from_equiv};
 
@@ -37,7 +37,7 @@ impl Model for Message {
 
     ghost use Rattle.iso_parts.specs.Mti.{number};
     ghost use Rattle.iso_wire.specs.Elements.{IsAscending};
-    ghost use Rattle.iso_wire.specs.Entries.{views, IsWhole, IsNumbered};
+    ghost use Rattle.iso_wire.specs.Ends.{views, IsWhole, IsNumbered};
 
     ghost view = { λ m. record { mti = number m.mti; elements = views m.elements } };
 
@@ -59,14 +59,13 @@ impl fmt::Debug for Message {
 /// The same elements, in memory of their own.
 fn copy_of(elements: &Elements) -> Result<Elements, AllocError>
     ensures same { IfOk result (λ copy. IsSame elements.now copy) }
-    ensures numbers { IfOk result (λ copy. copy.numbers ≡ elements.now.numbers) }
 {
     let alloc = *elements.values.allocator();
     let values = Vec::from_slice(alloc, &elements.values)?;
-    let index = Vec::from_slice(alloc, &elements.index)?;
+    let ends = Vec::from_slice(alloc, &elements.ends)?;
     Ok(Elements {
         values,
-        index,
+        ends,
         numbers: elements.numbers,
     })
 }
@@ -110,7 +109,7 @@ fn is_element(n: u8) -> bool
 
 impl Message {
     ghost use Rattle.iso_wire.specs.Elements.{IsAscending};
-    ghost use Rattle.iso_wire.specs.Entries.{views, IsWhole, IsNumbered};
+    ghost use Rattle.iso_wire.specs.Ends.{views, IsWhole, IsNumbered};
 
     /// A message of that type with no elements. Takes no memory.
     pub fn new(alloc: Global, mti: Mti) -> Message

@@ -1,17 +1,18 @@
 //! Writing a message.
 
-ghost use Rattle.std.specs.Prelude.{◌≡◌, ◌≢◌, ℕ, ◌++◌, ◌<◌, List, length, slice_index, OnOk, OnErr, IfOk, IfErr, None, Some};
+ghost use Rattle.std.specs.Prelude.{◌≡◌, ◌≢◌, ℕ, ◌++◌, ◌<◌, List, length, OnOk, OnErr, IfOk, IfErr, None, Some};
 ghost use Rattle.std.specs.List.{flat_map};
 ghost use Rattle.iso_wire.specs.declared.fault.PackFault.TheVariants as pack;
-ghost use Rattle.iso_wire.specs.Entries.{bytes_in, elements_of, views, IsWhole};
+ghost use Rattle.iso_wire.specs.Ends.{views, IsWhole};
 ghost use Rattle.iso_parts.specs.Part.{Keeps};
 ghost use Rattle.iso_table.specs.Layout.{row_at, AreGood};
 ghost use Rattle.iso_wire.specs.Reading.{message_at, whole};
 ghost use Rattle.iso_wire.specs.Refusal.{as_pack, refused_by, refused, message_refusal};
 ghost use Rattle.iso_wire.specs.Spelling.{mti_bytes, PartAs, Parts, plain_of, Spelling, PlainSpelling, AreBytes};
 
-use crate::elements::{Elements, Entry};
+use crate::elements::Elements;
 use crate::fault::PackFault;
+use crate::iteration::Iter;
 use crate::laws::reads_spellings;
 use crate::message::Message;
 use iso_parts::{Digits, FieldFault, encode_field};
@@ -53,26 +54,16 @@ fn append_part(table: &Table, n: u8, value: &[u8], out: &mut Vec<u8>) -> Result<
     }
 }
 
-/// Appends the plain parts of the elements that an index finds in a buffer.
-fn append_elements(
-    table: &Table,
-    index: &[Entry],
-    values: &[u8],
-    out: &mut Vec<u8>,
-) -> Result<(), PackFault>
-    requires { bytes_in index.now ≡ length values.now }
-    ensures written { OnOk result (out.new.items ≡ out.old.items ++ flat_map (plain_of table.now.rows) (elements_of index.now values.now)) }
-    ensures spelled { OnOk result (Parts table.now.rows (elements_of index.now values.now)
-        (flat_map (plain_of table.now.rows) (elements_of index.now values.now))) }
-    ensures fits { OnOk result (refused table.now.rows (elements_of index.now values.now) ≡ None) }
-    ensures fault { IfErr result (λ e. e ≢ pack.Memory → refused table.now.rows (elements_of index.now values.now) ≡ Some e) }
+/// Appends the plain parts of the elements that are still to come.
+fn append_elements(table: &Table, elements: Iter<'_>, out: &mut Vec<u8>) -> Result<(), PackFault>
+    ensures written { OnOk result (out.new.items ≡ out.old.items ++ flat_map (plain_of table.now.rows) elements.entry) }
+    ensures spelled { OnOk result (Parts table.now.rows elements.entry (flat_map (plain_of table.now.rows) elements.entry)) }
+    ensures fits { OnOk result (refused table.now.rows elements.entry ≡ None) }
+    ensures fault { IfErr result (λ e. e ≢ pack.Memory → refused table.now.rows elements.entry ≡ Some e) }
     ensures kept { OnErr result (Keeps out.old.items out.new.items) }
 {
-    let mut rest = values;
-    for entry in index {
-        let (value, behind) = rest.split_at(entry.len);
-        append_part(table, entry.number, value, out)?;
-        rest = behind;
+    for (n, value) in elements {
+        append_part(table, n, value, out)?;
     }
     Ok(())
 }
@@ -88,7 +79,7 @@ fn append_parts(table: &Table, elements: &Elements, out: &mut Vec<u8>) -> Result
     // Each item is a byte.
     ensures bytes { AreBytes out.new.items }
 {
-    append_elements(table, &elements.index, &elements.values, out)
+    append_elements(table, Iter::of(elements), out)
 }
 
 /// Appends the four digits of a message type.
@@ -113,7 +104,7 @@ fn append_mti(digits: Digits, n: u16, out: &mut Vec<u8>) -> Result<(), AllocErro
 fn make_room(elements: &Elements, out: &mut Vec<u8>) -> Result<(), AllocError>
     ensures { out.new.items ≡ out.old.items }
 {
-    let prefixes = elements.index.len().saturating_mul(LONGEST_PREFIX);
+    let prefixes = elements.ends.len().saturating_mul(LONGEST_PREFIX);
     let bodies = elements.values.len().saturating_mul(2);
     out.reserve(LONGEST_HEAD.saturating_add(prefixes).saturating_add(bodies))
 }

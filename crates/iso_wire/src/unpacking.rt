@@ -1,13 +1,13 @@
 //! Reading a message.
 
-ghost use Rattle.std.specs.Prelude.{◌≡◌, ◌≢◌, ℕ, ◌+◌, ◌≤◌, ◌<◌, ◌++◌, List};
+ghost use Rattle.std.specs.Prelude.{◌≡◌, ◌≢◌, ℕ, ◌+◌, ◌≤◌, ◌<◌, ◌++◌, ◌∷◌, List};
 ghost use Rattle.std.specs.Prelude.{length, take, drop, option_map, slice_index, IfOk, IfErr, OnOk};
 ghost use Rattle.iso_parts.specs.Mti.{number};
 ghost use Rattle.iso_wire.specs.declared.fault.UnpackCause.{UnpackCause};
 ghost use Rattle.iso_wire.specs.declared.fault.UnpackCause.TheVariants.{Short, Memory};
 ghost use Rattle.iso_wire.specs.Contents.{Contents};
 ghost use Rattle.iso_wire.specs.Elements.{IsAscending};
-ghost use Rattle.iso_wire.specs.Entries.{views, IsWhole, IsNumbered};
+ghost use Rattle.iso_wire.specs.Ends.{views, Awaits, IsWhole, IsNumbered};
 ghost use Rattle.iso_wire.specs.Faults.{out_of_memory};
 ghost use Rattle.iso_table.specs.Layout.{AreGood};
 ghost use Rattle.iso_parts.specs.Mti.{mti_size};
@@ -23,7 +23,7 @@ use crate::elements::Elements;
 use crate::fault::{UnpackCause, UnpackFault};
 use crate::laws::{reads_spellings, stops};
 use crate::message::Message;
-use iso_parts::{Bitmap, Digits, FieldFault, FieldSpec, LONGEST_VALUE, Mti, append_value};
+use iso_parts::{Bitmap, Digits, FieldFault, FieldSpec, LONGEST_VALUE, Mti, decode_value};
 use iso_table::Table;
 use std::alloc::Global;
 
@@ -96,7 +96,7 @@ fn read_value(
     };
     let front = row.length.prefix_size();
     let (_, rest) = bytes.split_at(at);
-    match append_value(row, rest, values) {
+    match decode_value(row, rest, values) {
         Ok(Some(used)) => Ok(used),
         Ok(None) => {
             let place = if rest.len() < front { at } else { at + front };
@@ -119,14 +119,14 @@ fn append_element(
     elements: &mut Elements,
 ) -> Result<usize, UnpackFault>
     requires within { at ≤ length bytes.now }
-    requires whole { IsWhole elements.old }
+    requires awaits { (later : List ℕ) × Awaits elements.old (n ∷ later) }
     ensures exact { AppendsElement (views elements.old) (views elements.new) n result (value_at table.now.rows n at (drop at bytes.now)) }
     ensures room { IfOk result (λ used. at + used ≤ length bytes.now) }
-    ensures whole { OnOk result (IsWhole elements.new) }
+    ensures awaits { OnOk result ((later : List ℕ) → Awaits elements.old (n ∷ later) → Awaits elements.new later) }
+    ensures kept { OnOk result (elements.new.numbers ≡ elements.old.numbers) }
 {
-    let from = elements.values.len();
     let used = read_value(table, n, at, bytes, &mut elements.values)?;
-    elements.close(n, from)?;
+    elements.close()?;
     Ok(used)
 }
 
@@ -150,13 +150,13 @@ fn read_elements(
         .saturating_mul(LONGEST_VALUE)
         .min((bytes.len() - start).saturating_mul(2));
     elements.start_over(count, room)?;
+    elements.numbers = numbers;
     let mut rest = numbers;
     let mut at = start;
     while let Some(n) = rest.take_first() {
         let used = append_element(table, n, at, bytes, elements)?;
         at += used;
     }
-    elements.numbers = numbers;
     Ok(at)
 }
 
@@ -177,8 +177,8 @@ pub(crate) fn read_message(
     let mti = type_of(table, bytes)?;
     let size = table.mti().mti_size();
     let (_, rest) = bytes.split_at(size);
-    let (first, second, used) = words_of(table, size, rest)?;
-    let numbers = Bitmap::from_words(first, second);
+    let (primary, secondary, used) = words_of(table, size, rest)?;
+    let numbers = Bitmap::from_words(primary, secondary);
     let end = read_elements(table, numbers, size + used, bytes, elements)?;
     Ok((mti, end))
 }

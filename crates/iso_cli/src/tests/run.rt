@@ -5,6 +5,7 @@ use crate::act::act;
 use crate::source::{Source, SourceFault};
 use iso_host::Std;
 use std::alloc::Global;
+use std::io::Read;
 use std::process::Abort;
 use std::test::Fail;
 
@@ -121,6 +122,26 @@ fn joined(alloc: Global, pieces: &[&[u8]]) -> Result<Vec<u8>, Fail> {
     Ok(bytes)
 }
 
+/// The status of these words over an input, what is written, and what is told.
+fn act_over<R: Read + Drop>(
+    alloc: Global,
+    documents: &Documents,
+    words: &[&str],
+    input: R,
+) -> (u8, Vec<u8>, Vec<u8>) {
+    let mut written = Vec::new(alloc);
+    let mut told = Vec::new(alloc);
+    let status = act(
+        alloc,
+        words,
+        documents,
+        &mut Std::new(input),
+        &mut Std::new(&mut written),
+        &mut Std::new(&mut told),
+    );
+    (status, written, told)
+}
+
 fn runs(rt: &(impl Abort + AllocGlobal), cases: &[Case]) -> Result<(), Fail> {
     runs_over(rt, &DOCUMENTS, cases)
 }
@@ -136,19 +157,7 @@ fn runs_over(
         let bytes = joined(alloc, case.input)?;
         let wanted = joined(alloc, case.output)?;
         let words = ["run", "ascii87", "accounts.json", case.header];
-        let mut input = Std::new(bytes.as_slice());
-        let mut written = Vec::new(alloc);
-        let mut output = Std::new(&mut written);
-        let mut told = Vec::new(alloc);
-        let mut faults = Std::new(&mut told);
-        let status = act(
-            alloc,
-            &words,
-            documents,
-            &mut input,
-            &mut output,
-            &mut faults,
-        );
+        let (status, written, told) = act_over(alloc, documents, &words, bytes.as_slice());
         assert_eq!(rt; status, case.status, "{name}");
         assert_eq!(rt; written.as_slice(), wanted.as_slice(), "{name}");
         assert_eq!(rt; told.as_slice(), case.faults, "{name}");

@@ -3,9 +3,24 @@ use crate::source::{Disk, Source, SourceFault};
 use std::fs;
 use std::test::Fail;
 
+/// How many bytes the file at a path gives.
+fn length_of(rt: &HostRuntime, path: &str) -> Result<usize, SourceFault> {
+    let disk = Disk { rt };
+    match disk.read(rt.alloc(), path) {
+        Ok(bytes) => Ok(bytes.len()),
+        Err(fault) => Err(fault),
+    }
+}
+
+/// Writes a file of so many bytes.
+fn write_file(rt: &HostRuntime, path: &str, count: usize) -> Result<(), Fail> {
+    let bytes = sevens(rt.alloc(), count)?;
+    fs::write(rt, path, bytes.as_slice())?;
+    Ok(())
+}
+
 #[test]
 fn reads_files(rt: HostRuntime) -> Result<(), Fail> {
-    let disk = Disk { rt: &rt };
     for (name, held, wanted) in [
         ("empty", 0usize, 0usize),
         ("short", 5, 5),
@@ -13,11 +28,8 @@ fn reads_files(rt: HostRuntime) -> Result<(), Fail> {
         ("one more", 1_048_577, 1_048_577),
         ("two more", 1_048_578, 1_048_577),
     ] {
-        let bytes = sevens(rt.alloc(), held)?;
-        fs::write(&rt, "shell_source_test", bytes.as_slice())?;
-        let read = disk
-            .read(rt.alloc(), "shell_source_test")
-            .map(|bytes| bytes.len());
+        write_file(&rt, "shell_source_test", held)?;
+        let read = length_of(&rt, "shell_source_test");
         assert_eq!(rt; read, Ok(wanted), "{name}");
     }
     fs::remove_file(&rt, "shell_source_test")?;
@@ -26,14 +38,13 @@ fn reads_files(rt: HostRuntime) -> Result<(), Fail> {
 
 #[test]
 fn reads_no_other_thing(rt: HostRuntime) {
-    let disk = Disk { rt: &rt };
     for (name, path) in [
         ("a missing file", "shell_no_such_file"),
         ("a folder", "."),
         ("no path", ""),
         ("below a missing folder", "shell_no_such_folder/file"),
     ] {
-        let read = disk.read(rt.alloc(), path);
+        let read = length_of(&rt, path);
         assert_eq!(rt; read, Err(SourceFault::File), "{name}");
     }
 }

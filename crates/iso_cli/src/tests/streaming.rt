@@ -1,6 +1,7 @@
 use crate::fakes::{FewBytes, sevens};
 use crate::streaming::{InputFault, read_all};
 use iso_host::Std;
+use std::alloc::Global;
 use std::test::Fail;
 
 #[test]
@@ -37,6 +38,19 @@ fn reads_an_input_to_its_end(rt: HostRuntime) -> Result<(), Fail> {
     Ok(())
 }
 
+/// How many bytes an input gives that moves so many of them a read.
+fn count_read(alloc: Global, bytes: &[u8], piece: usize) -> Result<usize, InputFault> {
+    let mut input = Std::new(FewBytes {
+        bytes,
+        piece,
+        calls: 9999,
+    });
+    match read_all(alloc, &mut input, 2_000_000) {
+        Ok(read) => Ok(read.len()),
+        Err(fault) => Err(fault),
+    }
+}
+
 #[test]
 fn tells_a_long_input_by_its_bytes(rt: HostRuntime) -> Result<(), Fail> {
     for (name, count, piece, wanted) in [
@@ -54,13 +68,7 @@ fn tells_a_long_input_by_its_bytes(rt: HostRuntime) -> Result<(), Fail> {
         ),
     ] {
         let held = sevens(rt.alloc(), count)?;
-        let few = FewBytes {
-            bytes: held.as_slice(),
-            piece,
-            calls: 9999,
-        };
-        let mut input = Std::new(few);
-        let answer = read_all(rt.alloc(), &mut input, 2_000_000).map(|bytes| bytes.len());
+        let answer = count_read(rt.alloc(), &held, piece);
         assert_eq!(rt; answer, wanted, "{name}");
     }
     Ok(())

@@ -3,8 +3,8 @@
 
 use super::ends::{Reader, Writer};
 use super::frames::{
-    GRANTED, PURCHASE, REPEAT, REVERSAL, REVERSED, SECOND, SECOND_GRANTED, issuer, joined, ledger,
-    served_between,
+    GRANTED, PURCHASE, REPEAT, REVERSAL, REVERSED, SECOND, SECOND_GRANTED, entries, issuer, joined,
+    ledger, served_between,
 };
 use crate::fault::{Report, ServeFault};
 use iso_issuer::Issuer;
@@ -102,7 +102,7 @@ fn answers(alloc: Global) -> Result<Vec<u8>, Fail> {
 
 /// Whether the issuer stands as at the mark.
 fn stands_at(issuer: &Issuer, mark: &Mark) -> Result<bool, Fail> {
-    Ok(ledger(issuer)? == Some(mark.ledger) && issuer.len() == mark.entries)
+    Ok(ledger(issuer)? == Some(mark.ledger) && entries(issuer) == mark.entries)
 }
 
 /// The last mark that so many bytes come up to.
@@ -202,14 +202,56 @@ enum Judged {
     WrongAt(u32),
 }
 
+/// How the day ends where no call fails, and how many calls it takes.
+#[derive(Clone, Copy)]
+struct Whole {
+    ended: Result<Report, ServeFault>,
+    reads: u32,
+    writes: u32,
+    flushes: u32,
+}
+
+/// Serves the day where no call fails.
+fn serve_whole(alloc: Global, piece: usize, day: &Day) -> Result<Whole, Fail> {
+    let run = serve_day(alloc, day, piece, (0, 0), 1000)?;
+    Ok(Whole {
+        ended: run.ended,
+        reads: run.reader.reads,
+        writes: run.writer.writes,
+        flushes: run.writer.flushes,
+    })
+}
+
+/// Whether the day ends with a failed read where this one fails, and stands as it should.
+fn ends_at_read(alloc: Global, piece: usize, day: &Day, failing: u32) -> Result<bool, Fail> {
+    let mut run = serve_day(alloc, day, piece, (failing, 0), 1000)?;
+    let stands = stands_as_read(&run, day)?;
+    let comes_again = is_answered_again(alloc, &mut run, day)?;
+    Ok(run.ended == Err(ServeFault::Read) && stands && comes_again)
+}
+
+/// Whether the day ends with a failed write where this write or flush fails, and stands as it should.
+fn ends_at_write(alloc: Global, piece: usize, day: &Day, failing: u32) -> Result<bool, Fail> {
+    let mut run = serve_day(alloc, day, piece, (0, failing), 1000)?;
+    let stands = stands_as_written(&run, day)?;
+    let comes_again = is_answered_again(alloc, &mut run, day)?;
+    Ok(run.ended == Err(ServeFault::Write) && stands && comes_again)
+}
+
+/// Whether the day ends for want of turns where it has so many, spends them all, and stands as it should.
+fn ends_at_turn(alloc: Global, piece: usize, day: &Day, turns: u32) -> Result<bool, Fail> {
+    let mut run = serve_day(alloc, day, piece, (0, 0), u64::from(turns))?;
+    let spent = run.reader.reads.saturating_add(run.writer.writes);
+    let stands = stands_as_written(&run, day)? && spent == turns;
+    let comes_again = is_answered_again(alloc, &mut run, day)?;
+    Ok(run.ended == Err(ServeFault::TooManyTurns) && stands && comes_again)
+}
+
 /// Serves the day with each of its reads failing in turn.
 fn each_read(alloc: Global, piece: usize, day: &Day) -> Result<Judged, Fail> {
-    let whole = serve_day(alloc, day, piece, (0, 0), 1000)?;
-    for failing in 1..=whole.reader.reads {
-        let mut run = serve_day(alloc, day, piece, (failing, 0), 1000)?;
-        let stands = stands_as_read(&run, day)?;
-        let comes_again = is_answered_again(alloc, &mut run, day)?;
-        if run.ended != Err(ServeFault::Read) || !stands || !comes_again {
+    let whole = serve_whole(alloc, piece, day)?;
+    for failing in 1..=whole.reads {
+        if !ends_at_read(alloc, piece, day, failing)? {
             return Ok(Judged::WrongAt(failing));
         }
     }
@@ -218,12 +260,9 @@ fn each_read(alloc: Global, piece: usize, day: &Day) -> Result<Judged, Fail> {
 
 /// Serves the day with each of its writes and flushes failing in turn.
 fn each_write(alloc: Global, piece: usize, day: &Day) -> Result<Judged, Fail> {
-    let whole = serve_day(alloc, day, piece, (0, 0), 1000)?;
-    for failing in 1..=whole.writer.writes.saturating_add(whole.writer.flushes) {
-        let mut run = serve_day(alloc, day, piece, (0, failing), 1000)?;
-        let stands = stands_as_written(&run, day)?;
-        let comes_again = is_answered_again(alloc, &mut run, day)?;
-        if run.ended != Err(ServeFault::Write) || !stands || !comes_again {
+    let whole = serve_whole(alloc, piece, day)?;
+    for failing in 1..=whole.writes.saturating_add(whole.flushes) {
+        if !ends_at_write(alloc, piece, day, failing)? {
             return Ok(Judged::WrongAt(failing));
         }
     }
@@ -232,13 +271,9 @@ fn each_write(alloc: Global, piece: usize, day: &Day) -> Result<Judged, Fail> {
 
 /// Serves the day with fewer turns than it takes, each number of them in turn.
 fn each_turn(alloc: Global, piece: usize, day: &Day) -> Result<Judged, Fail> {
-    let whole = serve_day(alloc, day, piece, (0, 0), 1000)?;
-    for turns in 0..whole.reader.reads.saturating_add(whole.writer.writes) {
-        let mut run = serve_day(alloc, day, piece, (0, 0), u64::from(turns))?;
-        let stands = stands_as_written(&run, day)?
-            && run.reader.reads.saturating_add(run.writer.writes) == turns;
-        let comes_again = is_answered_again(alloc, &mut run, day)?;
-        if run.ended != Err(ServeFault::TooManyTurns) || !stands || !comes_again {
+    let whole = serve_whole(alloc, piece, day)?;
+    for turns in 0..whole.reads.saturating_add(whole.writes) {
+        if !ends_at_turn(alloc, piece, day, turns)? {
             return Ok(Judged::WrongAt(turns));
         }
     }
@@ -305,10 +340,10 @@ fn an_answer_is_cut_and_comes_again(rt: HostRuntime) -> Result<(), Fail> {
     let (cut, front) = serve_purchase(rt.alloc(), &mut issuer, 10, 2)?;
     assert_eq!(rt; cut, Some(ServeFault::Write));
     assert_eq!(rt; front.as_slice(), b"0090021072".as_slice());
-    assert_eq!(rt; (ledger(&issuer)?, issuer.len()), (Some(4000), 1));
+    assert_eq!(rt; (ledger(&issuer)?, entries(&issuer)), (Some(4000), 1));
     let (again, whole) = serve_purchase(rt.alloc(), &mut issuer, 4096, 0)?;
     assert_eq!(rt; again, None);
     assert_eq!(rt; whole.as_slice(), answer.as_slice());
-    assert_eq!(rt; (ledger(&issuer)?, issuer.len()), (Some(4000), 1));
+    assert_eq!(rt; (ledger(&issuer)?, entries(&issuer)), (Some(4000), 1));
     Ok(())
 }

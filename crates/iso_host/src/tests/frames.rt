@@ -1,5 +1,6 @@
 //! Frames whose bytes are known from outside, and the host that serves them.
 
+use crate::fakes::{FewBytes, FewTaken};
 use crate::fault::{Report, ServeFault};
 use crate::serving::serve;
 use crate::standard::Std;
@@ -65,7 +66,57 @@ pub fn issuer(alloc: Global) -> Result<Issuer, Fail> {
     Ok(Issuer::new(Accounts::from_json(alloc, ACCOUNTS)?, 5))
 }
 
-/// How serving the reader ends, frames behind four digits.
+/// One whose journal takes two.
+fn small_issuer(alloc: Global) -> Result<Issuer, Fail> {
+    Ok(Issuer::new(Accounts::from_json(alloc, ACCOUNTS)?, 2))
+}
+
+/// What is served, and how: the bytes, how many a read gives and how many reads there are, how many bytes a write takes and
+/// how many writes there are, whether a flush fails, the turns, and whether the journal takes two orders in place of five.
+#[derive(Clone, Copy)]
+pub struct Session<'a> {
+    pub header: Header,
+    pub input: &'a [u8],
+    pub piece: usize,
+    pub reads: u32,
+    pub taken: usize,
+    pub writes: u32,
+    pub fails_to_flush: bool,
+    pub turns: u64,
+    pub is_small: bool,
+}
+
+impl<'a> Session<'a> {
+    /// Frames behind four digits, all of them in one read, with reads, writes and turns enough.
+    pub const fn new(input: &'a [u8]) -> Session<'a> {
+        Session {
+            header: Header::Ascii4,
+            input,
+            piece: 5000,
+            reads: 1000,
+            taken: 5000,
+            writes: 1000,
+            fails_to_flush: false,
+            turns: 1000,
+            is_small: false,
+        }
+    }
+}
+
+/// What comes of it: how serving ends, what is written in how many writes, how often it is flushed, and the account's
+/// ledger and the number of entries then.
+#[derive(Drop)]
+pub struct Outcome {
+    pub ended: Result<Report, ServeFault>,
+    pub written: Vec<u8>,
+    /// The writes that were left.
+    pub left: u32,
+    pub flushes: u32,
+    pub ledger: Option<i64>,
+    pub entries: u32,
+}
+
+/// How serving ends, frames behind four digits.
 pub fn served<R: Read + Drop, W: Write>(
     alloc: Global,
     issuer: &mut Issuer,
@@ -77,7 +128,7 @@ pub fn served<R: Read + Drop, W: Write>(
 }
 
 /// How serving the reader ends, frames behind this header.
-pub fn served_behind<R: Read + Drop, W: Write>(
+fn served_behind<R: Read + Drop, W: Write>(
     alloc: Global,
     header: Header,
     issuer: &mut Issuer,
@@ -116,4 +167,43 @@ pub fn served_between<R: Inlet, W: Outlet>(
 pub fn ledger(issuer: &Issuer) -> Result<Option<i64>, Fail> {
     let pan = Pan::from_digits(b"4111111111111111").ok_or("1 to 19 digits")?;
     Ok(issuer.ledger(pan))
+}
+
+/// How many orders were entered.
+pub fn entries(issuer: &Issuer) -> u32 {
+    issuer.len()
+}
+
+/// How serving ends, by a reader and a writer that move a few bytes a call.
+fn end_of(
+    alloc: Global,
+    issuer: &mut Issuer,
+    session: Session<'_>,
+    writer: &mut FewTaken,
+) -> Result<Result<Report, ServeFault>, Fail> {
+    let reader = FewBytes {
+        bytes: session.input,
+        piece: session.piece,
+        calls: session.reads,
+    };
+    served_behind(alloc, session.header, issuer, reader, writer, session.turns)
+}
+
+/// Serves once. The tests call this alone, so that their proofs don't look through what a host and an issuer promise.
+pub fn serve_once(alloc: Global, session: Session<'_>) -> Result<Outcome, Fail> {
+    let mut issuer = if session.is_small {
+        small_issuer(alloc)?
+    } else {
+        issuer(alloc)?
+    };
+    let mut writer = FewTaken::new(alloc, session.taken, session.writes, session.fails_to_flush);
+    let ended = end_of(alloc, &mut issuer, session, &mut writer)?;
+    Ok(Outcome {
+        ended,
+        left: writer.calls,
+        flushes: writer.flushes,
+        written: writer.taken,
+        ledger: ledger(&issuer)?,
+        entries: entries(&issuer),
+    })
 }

@@ -1,29 +1,30 @@
 //! Bodies that are no message, and frames that come piece by piece.
 
 use super::frames::{
-    ECHO, ECHOED, GRANTED, PURCHASE, REPEAT, issuer, joined, served, served_behind,
+    ECHO, ECHOED, GRANTED, Outcome, PURCHASE, REPEAT, Session, joined, serve_once,
 };
-use crate::fakes::{FewBytes, FewTaken};
 use crate::fault::{Report, ServeFault};
 use iso_wire::Header;
 use std::alloc::Global;
 use std::test::Fail;
 
-/// How serving these frames ends, and what is written, where a read gives so many bytes.
-fn pieced(
-    alloc: Global,
-    input: &[u8],
-    piece: usize,
-) -> Result<(Result<Report, ServeFault>, Vec<u8>), Fail> {
-    let mut issuer = issuer(alloc)?;
-    let reader = FewBytes {
-        bytes: input,
+/// What comes of these frames, where a read gives so many bytes.
+fn pieced(alloc: Global, input: &[u8], piece: usize) -> Result<Outcome, Fail> {
+    let session = Session {
         piece,
-        calls: 1000,
+        ..Session::new(input)
     };
-    let mut writer = FewTaken::new(alloc, 5000, 1000, false);
-    let ended = served(alloc, &mut issuer, reader, &mut writer, 1000)?;
-    Ok((ended, writer.taken))
+    serve_once(alloc, session)
+}
+
+/// What comes of frames behind two bytes, where a read gives so many bytes.
+fn pieced_behind_two(alloc: Global, input: &[u8], piece: usize) -> Result<Outcome, Fail> {
+    let session = Session {
+        header: Header::Binary2,
+        piece,
+        ..Session::new(input)
+    };
+    serve_once(alloc, session)
 }
 
 #[test]
@@ -48,10 +49,14 @@ fn an_unreadable_body_alone(rt: HostRuntime) -> Result<(), Fail> {
     ] {
         let input = joined(alloc, &[header, body])?;
         for piece in [1usize, 7, 59, 5000] {
-            let (ended, taken) = pieced(alloc, &input, piece)?;
-            assert_eq!(rt; ended, Ok(unreadable), "{name}, {piece} bytes a read");
+            let outcome = pieced(alloc, &input, piece)?;
             assert_eq!(rt;
-                taken.as_slice(),
+                outcome.ended,
+                Ok(unreadable),
+                "{name}, {piece} bytes a read"
+            );
+            assert_eq!(rt;
+                outcome.written.as_slice(),
                 b"".as_slice(),
                 "{name}, {piece} bytes a read"
             );
@@ -82,10 +87,10 @@ fn the_next_frame_is_answered(rt: HostRuntime) -> Result<(), Fail> {
     ] {
         let input = joined(alloc, &[header, body, b"0055", ECHO])?;
         for piece in [1usize, 7, 59, 5000] {
-            let (ended, taken) = pieced(alloc, &input, piece)?;
-            assert_eq!(rt; ended, Ok(both), "{name}, {piece} bytes a read");
+            let outcome = pieced(alloc, &input, piece)?;
+            assert_eq!(rt; outcome.ended, Ok(both), "{name}, {piece} bytes a read");
             assert_eq!(rt;
-                taken.as_slice(),
+                outcome.written.as_slice(),
                 wanted.as_slice(),
                 "{name}, {piece} bytes a read"
             );
@@ -106,9 +111,13 @@ fn a_purchase_behind_an_unreadable_body(rt: HostRuntime) -> Result<(), Fail> {
         unreadable: 1,
     };
     for piece in [1usize, 5, 5000] {
-        let (ended, taken) = pieced(alloc, &input, piece)?;
-        assert_eq!(rt; ended, Ok(report), "{piece} bytes a read");
-        assert_eq!(rt; taken.as_slice(), wanted.as_slice(), "{piece} bytes a read");
+        let outcome = pieced(alloc, &input, piece)?;
+        assert_eq!(rt; outcome.ended, Ok(report), "{piece} bytes a read");
+        assert_eq!(rt;
+            outcome.written.as_slice(),
+            wanted.as_slice(),
+            "{piece} bytes a read"
+        );
     }
     Ok(())
 }
@@ -145,9 +154,13 @@ fn a_purchase_a_repeat_and_a_reversal(rt: HostRuntime) -> Result<(), Fail> {
         unreadable: 0,
     };
     for piece in [1usize, 5000] {
-        let (ended, taken) = pieced(alloc, &input, piece)?;
-        assert_eq!(rt; ended, Ok(report), "{piece} bytes a read");
-        assert_eq!(rt; taken.as_slice(), wanted.as_slice(), "{piece} bytes a read");
+        let outcome = pieced(alloc, &input, piece)?;
+        assert_eq!(rt; outcome.ended, Ok(report), "{piece} bytes a read");
+        assert_eq!(rt;
+            outcome.written.as_slice(),
+            wanted.as_slice(),
+            "{piece} bytes a read"
+        );
     }
     Ok(())
 }
@@ -159,29 +172,15 @@ fn the_longest_body(rt: HostRuntime) -> Result<(), Fail> {
         let mut input = vec![in alloc; byte; 65_537]?;
         input[0] = 0xFF;
         input[1] = 0xFF;
-        let mut issuer = issuer(alloc)?;
-        let reader = FewBytes {
-            bytes: &input,
-            piece: 5000,
-            calls: 1000,
-        };
-        let mut writer = FewTaken::new(alloc, 5000, 1000, false);
-        let ended = served_behind(
-            alloc,
-            Header::Binary2,
-            &mut issuer,
-            reader,
-            &mut writer,
-            1000,
-        )?;
+        let outcome = pieced_behind_two(alloc, &input, 5000)?;
         let report = Report {
             frames: 1,
             answered: 0,
             silent: 0,
             unreadable: 1,
         };
-        assert_eq!(rt; ended, Ok(report), "{name}");
-        assert_eq!(rt; writer.taken.as_slice(), b"".as_slice(), "{name}");
+        assert_eq!(rt; outcome.ended, Ok(report), "{name}");
+        assert_eq!(rt; outcome.written.as_slice(), b"".as_slice(), "{name}");
     }
     Ok(())
 }
@@ -196,23 +195,9 @@ fn a_long_body_is_cut(rt: HostRuntime) -> Result<(), Fail> {
         ("no byte", b"\xFF\xFF"),
         ("half a header", b"\xFF"),
     ] {
-        let mut issuer = issuer(alloc)?;
-        let reader = FewBytes {
-            bytes: input,
-            piece: 3,
-            calls: 1000,
-        };
-        let mut writer = FewTaken::new(alloc, 5000, 1000, false);
-        let ended = served_behind(
-            alloc,
-            Header::Binary2,
-            &mut issuer,
-            reader,
-            &mut writer,
-            1000,
-        )?;
-        assert_eq!(rt; ended, Err(ServeFault::CutFrame), "{name}");
-        assert_eq!(rt; writer.taken.as_slice(), b"".as_slice(), "{name}");
+        let outcome = pieced_behind_two(alloc, input, 3)?;
+        assert_eq!(rt; outcome.ended, Err(ServeFault::CutFrame), "{name}");
+        assert_eq!(rt; outcome.written.as_slice(), b"".as_slice(), "{name}");
     }
     Ok(())
 }

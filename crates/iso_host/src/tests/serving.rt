@@ -1,12 +1,7 @@
 //! Streams of frames whose bytes are known from outside.
 
-use super::frames::{
-    ACCOUNTS, ECHO, ECHOED, GRANTED, PURCHASE, REPEAT, issuer, joined, ledger, served,
-};
-use crate::fakes::{FewBytes, FewTaken};
+use super::frames::{ECHO, ECHOED, GRANTED, PURCHASE, REPEAT, Session, joined, serve_once};
 use crate::fault::{Report, ServeFault};
-use iso_issuer::{Accounts, Issuer};
-use std::alloc::Global;
 use std::test::Fail;
 
 #[test]
@@ -22,29 +17,27 @@ fn serves_in_pieces_of_any_size(rt: HostRuntime) -> Result<(), Fail> {
         alloc,
         &[b"0090", GRANTED, b"0090", GRANTED, b"0057", ECHOED],
     )?;
+    let report = Report {
+        frames: 5,
+        answered: 3,
+        silent: 1,
+        unreadable: 1,
+    };
     for piece in [1usize, 7, 86, 5000] {
-        let mut issuer = issuer(alloc)?;
-        let reader = FewBytes {
-            bytes: &input,
+        let session = Session {
             piece,
-            calls: 1000,
+            taken: piece,
+            ..Session::new(&input)
         };
-        let mut writer = FewTaken::new(alloc, piece, 1000, false);
-        let ended = served(alloc, &mut issuer, reader, &mut writer, 1000)?;
-        let report = Report {
-            frames: 5,
-            answered: 3,
-            silent: 1,
-            unreadable: 1,
-        };
-        assert_eq!(rt; ended, Ok(report), "{piece} bytes a call");
+        let outcome = serve_once(alloc, session)?;
+        assert_eq!(rt; outcome.ended, Ok(report), "{piece} bytes a call");
         assert_eq!(rt;
-            writer.taken.as_slice(),
+            outcome.written.as_slice(),
             wanted.as_slice(),
             "{piece} bytes a call"
         );
-        assert_eq!(rt; writer.flushes, 3, "{piece} bytes a call");
-        assert_eq!(rt; ledger(&issuer)?, Some(4000), "{piece} bytes a call");
+        assert_eq!(rt; outcome.flushes, 3, "{piece} bytes a call");
+        assert_eq!(rt; outcome.ledger, Some(4000), "{piece} bytes a call");
     }
     Ok(())
 }
@@ -53,16 +46,15 @@ fn serves_in_pieces_of_any_size(rt: HostRuntime) -> Result<(), Fail> {
 fn writes_a_response_at_once(rt: HostRuntime) -> Result<(), Fail> {
     let alloc = rt.alloc();
     let input = joined(alloc, &[b"0055", ECHO])?;
-    let mut issuer = issuer(alloc)?;
-    let reader = FewBytes {
-        bytes: &input,
-        piece: 5000,
-        calls: 2,
+    let session = Session {
+        reads: 2,
+        writes: 1,
+        turns: 3,
+        ..Session::new(&input)
     };
-    let mut writer = FewTaken::new(alloc, 5000, 1, false);
-    let ended = served(alloc, &mut issuer, reader, &mut writer, 3)?;
-    assert_eq!(rt; ended.map(|report| report.answered), Ok(1));
-    assert_eq!(rt; writer.calls, 0);
+    let outcome = serve_once(alloc, session)?;
+    assert_eq!(rt; outcome.ended.map(|report| report.answered), Ok(1));
+    assert_eq!(rt; outcome.left, 0);
     Ok(())
 }
 
@@ -172,31 +164,28 @@ const ENDINGS: [Ending; 8] = [
     },
 ];
 
-/// How serving the frames ends, what is written, and what is left on the account.
-fn ended(
-    alloc: Global,
-    case: &Ending,
-) -> Result<(Result<Report, ServeFault>, Vec<u8>, Option<i64>), Fail> {
-    let bytes = joined(alloc, case.sent)?;
-    let mut issuer = issuer(alloc)?;
-    let reader = FewBytes {
-        bytes: &bytes,
-        piece: 200,
-        calls: case.reads,
-    };
-    let mut writer = FewTaken::new(alloc, case.taken, case.writes, false);
-    let ended = served(alloc, &mut issuer, reader, &mut writer, case.turns)?;
-    Ok((ended, writer.taken, ledger(&issuer)?))
-}
-
 #[test]
 fn ends_where_a_stream_does(rt: HostRuntime) -> Result<(), Fail> {
     for case in &ENDINGS {
-        let (ended, taken, left) = ended(rt.alloc(), case)?;
+        let input = joined(rt.alloc(), case.sent)?;
         let written = joined(rt.alloc(), case.written)?;
-        assert_eq!(rt; ended, Err(case.fault), "{}", case.name);
-        assert_eq!(rt; taken.as_slice(), written.as_slice(), "{}", case.name);
-        assert_eq!(rt; left, Some(case.left), "{}", case.name);
+        let session = Session {
+            piece: 200,
+            reads: case.reads,
+            taken: case.taken,
+            writes: case.writes,
+            turns: case.turns,
+            ..Session::new(&input)
+        };
+        let outcome = serve_once(rt.alloc(), session)?;
+        assert_eq!(rt; outcome.ended, Err(case.fault), "{}", case.name);
+        assert_eq!(rt;
+            outcome.written.as_slice(),
+            written.as_slice(),
+            "{}",
+            case.name
+        );
+        assert_eq!(rt; outcome.ledger, Some(case.left), "{}", case.name);
     }
     Ok(())
 }
@@ -205,37 +194,35 @@ fn ends_where_a_stream_does(rt: HostRuntime) -> Result<(), Fail> {
 fn a_failing_flush_is_a_failing_write(rt: HostRuntime) -> Result<(), Fail> {
     let alloc = rt.alloc();
     let input = joined(alloc, &[b"0055", ECHO])?;
-    let mut issuer = issuer(alloc)?;
-    let reader = FewBytes {
-        bytes: &input,
-        piece: 5000,
-        calls: 9,
+    let session = Session {
+        reads: 9,
+        writes: 9,
+        fails_to_flush: true,
+        turns: 99,
+        ..Session::new(&input)
     };
-    let mut writer = FewTaken::new(alloc, 5000, 9, true);
-    let ended = served(alloc, &mut issuer, reader, &mut writer, 99)?;
-    assert_eq!(rt; ended, Err(ServeFault::Write));
-    assert_eq!(rt; writer.taken.len(), 61);
+    let outcome = serve_once(alloc, session)?;
+    assert_eq!(rt; outcome.ended, Err(ServeFault::Write));
+    assert_eq!(rt; outcome.written.len(), 61);
     Ok(())
 }
 
 #[test]
 fn nothing_to_serve(rt: HostRuntime) -> Result<(), Fail> {
-    let alloc = rt.alloc();
-    let mut issuer = issuer(alloc)?;
-    let reader = FewBytes {
-        bytes: b"",
-        piece: 5000,
-        calls: 1,
+    let session = Session {
+        reads: 1,
+        writes: 0,
+        turns: 1,
+        ..Session::new(b"")
     };
-    let mut writer = FewTaken::new(alloc, 5000, 0, false);
-    let ended = served(alloc, &mut issuer, reader, &mut writer, 1)?;
+    let outcome = serve_once(rt.alloc(), session)?;
     let report = Report {
         frames: 0,
         answered: 0,
         silent: 0,
         unreadable: 0,
     };
-    assert_eq!(rt; ended, Ok(report));
+    assert_eq!(rt; outcome.ended, Ok(report));
     Ok(())
 }
 
@@ -269,23 +256,25 @@ fn a_full_journal_answers_ninety_six(rt: HostRuntime) -> Result<(), Fail> {
             GRANTED,
         ],
     )?;
-    let mut issuer = Issuer::new(Accounts::from_json(alloc, ACCOUNTS)?, 2);
-    let reader = FewBytes {
-        bytes: &input,
+    let session = Session {
         piece: 4096,
-        calls: 9,
+        reads: 9,
+        taken: 4096,
+        writes: 9,
+        turns: 99,
+        is_small: true,
+        ..Session::new(&input)
     };
-    let mut writer = FewTaken::new(alloc, 4096, 9, false);
-    let ended = served(alloc, &mut issuer, reader, &mut writer, 99)?;
+    let outcome = serve_once(alloc, session)?;
     let report = Report {
         frames: 4,
         answered: 4,
         silent: 0,
         unreadable: 0,
     };
-    assert_eq!(rt; ended, Ok(report));
-    assert_eq!(rt; writer.taken.as_slice(), wanted.as_slice());
-    assert_eq!(rt; issuer.len(), 2);
-    assert_eq!(rt; ledger(&issuer)?, Some(3000));
+    assert_eq!(rt; outcome.ended, Ok(report));
+    assert_eq!(rt; outcome.written.as_slice(), wanted.as_slice());
+    assert_eq!(rt; outcome.entries, 2);
+    assert_eq!(rt; outcome.ledger, Some(3000));
     Ok(())
 }

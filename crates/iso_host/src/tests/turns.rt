@@ -1,7 +1,6 @@
 //! Each frame is answered before the next is read, and reads and writes are counted.
 
-use super::frames::{ECHO, ECHOED, issuer, joined, served};
-use crate::fakes::{FewBytes, FewTaken};
+use super::frames::{ECHO, ECHOED, Session, joined, serve_once};
 use crate::fault::{Report, ServeFault};
 use std::test::Fail;
 
@@ -43,17 +42,17 @@ fn answers_a_frame_before_it_reads_the_next(rt: HostRuntime) -> Result<(), Fail>
         ),
         ("and the read at the end", 5, Ok(both), two.as_slice(), 2),
     ] {
-        let mut issuer = issuer(alloc)?;
-        let reader = FewBytes {
-            bytes: &input,
+        let session = Session {
             piece: 59,
-            calls: 9,
+            reads: 9,
+            writes: 9,
+            turns,
+            ..Session::new(&input)
         };
-        let mut writer = FewTaken::new(alloc, 5000, 9, false);
-        let ended = served(alloc, &mut issuer, reader, &mut writer, turns)?;
-        assert_eq!(rt; ended, wanted, "{name}");
-        assert_eq!(rt; writer.taken.as_slice(), written, "{name}");
-        assert_eq!(rt; writer.flushes, flushes, "{name}");
+        let outcome = serve_once(alloc, session)?;
+        assert_eq!(rt; outcome.ended, wanted, "{name}");
+        assert_eq!(rt; outcome.written.as_slice(), written, "{name}");
+        assert_eq!(rt; outcome.flushes, flushes, "{name}");
     }
     Ok(())
 }

@@ -104,11 +104,11 @@ impl Draws {
 
 /// Handles an order, and again where memory ran out, which changed nothing.
 fn answered(rt: &impl Abort, issuer: &mut Issuer, order: Order) -> Result<Told, Refused> {
-    let len = issuer.len();
-    let answer = match issuer.handle(order) {
+    let len = entries(issuer);
+    let answer = match answer_to(issuer, order) {
         Err(Refused::Memory) => {
-            assert_eq!(rt; issuer.len(), len);
-            issuer.handle(order)?
+            assert_eq!(rt; entries(issuer), len);
+            answer_to(issuer, order)?
         }
         answer => answer?,
     };
@@ -118,7 +118,8 @@ fn answered(rt: &impl Abort, issuer: &mut Issuer, order: Order) -> Result<Told, 
 /// Whether the balances of a number are those that the plain program tells.
 fn tell_the_same(issuer: &Issuer, scanning: &Scanning, number: Pan) -> bool {
     let told = scanning.balances(number);
-    issuer.ledger(number) == told.map(|t| t.0) && issuer.available(number) == told.map(|t| t.1)
+    let (ledger, available) = (ledger_of(issuer, number), available_to(issuer, number));
+    ledger == told.map(|t| t.0) && available == told.map(|t| t.1)
 }
 
 /// Hands an order to the issuer and to the plain program, and tells its code.
@@ -134,7 +135,7 @@ fn step(
         return Err("the plain program has no memory")?;
     }
     assert_eq!(rt; told, plain, "{order:?}");
-    assert_eq!(rt; issuer.len() as usize, scanning.len(), "{order:?}");
+    assert_eq!(rt; entries(issuer) as usize, scanning.len(), "{order:?}");
     for text in NUMBERS {
         let number = pan(text)?;
         assert!(rt; tell_the_same(issuer, scanning, number), "{order:?}");
@@ -167,7 +168,7 @@ fn listed() -> Result<[Listed; 3], Fail> {
     Ok(accounts)
 }
 
-/// Hands the orders that are drawn to an issuer and to the plain program, and collects the codes.
+/// Hands the orders that are drawn to a new issuer and to the plain program, and collects the codes.
 fn compare(
     rt: &impl Abort,
     alloc: Global,
@@ -176,9 +177,20 @@ fn compare(
 ) -> Result<(), Fail> {
     let mut scanning = Scanning::new(alloc, listed()?, 120);
     let mut issuer = Issuer::new(Accounts::from_json(alloc, ACCOUNTS)?, 120);
+    compare_all(rt, &mut issuer, &mut scanning, draws, codes)
+}
+
+/// Hands the orders that are drawn to both.
+fn compare_all(
+    rt: &impl Abort,
+    issuer: &mut Issuer,
+    scanning: &mut Scanning,
+    draws: &mut Draws,
+    codes: &mut BTreeSet<u8>,
+) -> Result<(), Fail> {
     for _ in 0..300 {
         if let Some(order) = draws.order()? {
-            codes.insert(step(rt, &mut issuer, &mut scanning, order)?)?;
+            codes.insert(step(rt, issuer, scanning, order)?)?;
         }
     }
     Ok(())

@@ -51,73 +51,65 @@ const TWO_ACCOUNTS: &[u8] =
     b"{\"accounts\":[{\"currency\":\"840\",\"opening\":5000,\"pan\":\"4111111111111111\"},
     {\"currency\":\"840\",\"opening\":5000,\"pan\":\"4000000000000002\"}]}";
 
-pub fn complete(stan: u32, hold: u32, amount: u64) -> Result<Order, Fail> {
-    order(
-        220,
-        stan,
-        Act::Complete {
-            money: money(amount)?,
-            hold: key(100, hold),
-        },
-    )
-}
-
 #[test]
 fn completions(rt: HostRuntime) -> Result<(), Fail> {
-    let mut issuer = issuer(rt.alloc(), 5000, 100)?;
     let rows = [
-        (debit(100, 10, 1000)?, 0, 5000, 4000),
-        (complete(11, 10, 700)?, 0, 4300, 4300),
-        (complete(11, 10, 700)?, 0, 4300, 4300),
-        (complete(12, 10, 200)?, 0, 4100, 4100),
-        (undo(20, 220, 11, 0)?, 0, 4800, 4800),
-        (undo(21, 220, 12, 0)?, 0, 5000, 4000),
+        (debit(100, 10, 1000), 0, 5000, 4000),
+        (complete(11, 10, 700), 0, 4300, 4300),
+        (complete(11, 10, 700), 0, 4300, 4300),
+        (complete(12, 10, 200), 0, 4100, 4100),
+        (undo(20, 220, 11, 0), 0, 4800, 4800),
+        (undo(21, 220, 12, 0), 0, 5000, 4000),
     ];
-    play(&rt, &mut issuer, &rows)
+    play(&rt, rt.alloc(), 5000, &rows)
 }
 
 #[test]
 fn late_holds(rt: HostRuntime) -> Result<(), Fail> {
-    let mut issuer = issuer(rt.alloc(), 5000, 100)?;
     let rows = [
-        (complete(11, 10, 700)?, 0, 4300, 4300),
-        (debit(100, 10, 1000)?, 0, 4300, 4300),
-        (undo(20, 100, 10, 0)?, 0, 4300, 4300),
+        (complete(11, 10, 700), 0, 4300, 4300),
+        (debit(100, 10, 1000), 0, 4300, 4300),
+        (undo(20, 100, 10, 0), 0, 4300, 4300),
     ];
-    play(&rt, &mut issuer, &rows)
+    play(&rt, rt.alloc(), 5000, &rows)
 }
 
 #[test]
 fn partly_reversed_completions(rt: HostRuntime) -> Result<(), Fail> {
-    let mut issuer = issuer(rt.alloc(), 5000, 100)?;
     let rows = [
-        (debit(100, 10, 1000)?, 0, 5000, 4000),
-        (undo(19, 100, 10, 600)?, 0, 5000, 4400),
-        (complete(11, 10, 700)?, 0, 4300, 4300),
-        (undo(20, 220, 11, 100)?, 0, 4900, 4900),
-        (undo(21, 220, 11, 0)?, 0, 4900, 4900),
+        (debit(100, 10, 1000), 0, 5000, 4000),
+        (undo(19, 100, 10, 600), 0, 5000, 4400),
+        (complete(11, 10, 700), 0, 4300, 4300),
+        (undo(20, 220, 11, 100), 0, 4900, 4900),
+        (undo(21, 220, 11, 0), 0, 4900, 4900),
     ];
-    play(&rt, &mut issuer, &rows)
+    play(&rt, rt.alloc(), 5000, &rows)
+}
+
+fn compare_ledger(
+    rt: &impl Abort,
+    issuer: &Issuer,
+    digits: &[u8],
+    expected: i64,
+) -> Result<(), Fail> {
+    let (ledger, _) = balances_of(issuer, digits)?;
+    assert_eq!(rt; ledger, Some(expected));
+    Ok(())
 }
 
 #[test]
 fn completions_of_another_account(rt: HostRuntime) -> Result<(), Fail> {
     let mut issuer = Issuer::new(Accounts::from_json(rt.alloc(), TWO_ACCOUNTS)?, 100);
-    let other = pan(b"4000000000000002")?;
-    let money = Money {
-        pan: other,
-        amount: 700,
-        currency: *b"840",
+    let completion = Ask {
+        pan: b"4000000000000002",
+        ..complete(11, 10, 700)
     };
-    let hold = key(100, 10);
-    let completion = order(220, 11, Act::Complete { money, hold })?;
     let rows = [
-        (debit(100, 10, 1000)?, 0, 5000, 4000),
+        (debit(100, 10, 1000), 0, 5000, 4000),
         (completion, 0, 5000, 4000),
     ];
-    play(&rt, &mut issuer, &rows)?;
-    assert_eq!(rt; issuer.ledger(other), Some(4300));
-    Ok(())
+    play_on(&rt, &mut issuer, &rows)?;
+    compare_ledger(&rt, &issuer, b"4000000000000002", 4300)
 }
 
 #[test]

@@ -71,22 +71,27 @@ fn handled(
     codes: &mut BTreeSet<u8>,
 ) -> Result<Issuer, Fail> {
     let mut issuer = Issuer::new(Accounts::from_json(alloc, ACCOUNTS)?, 999);
-    for order in orders {
-        codes.insert(issuer.handle(*order)?.code)?;
-    }
-    assert_eq!(rt; issuer.len() as usize, orders.len());
+    hand_over(&mut issuer, orders, codes)?;
+    assert_eq!(rt; entries(&issuer) as usize, orders.len());
     Ok(issuer)
+}
+
+/// Hands over the orders, and collects the codes.
+fn hand_over(issuer: &mut Issuer, orders: &[Order], codes: &mut BTreeSet<u8>) -> Result<(), Fail> {
+    for order in orders {
+        codes.insert(answer_to(issuer, *order)?.code)?;
+    }
+    Ok(())
 }
 
 /// Compares what is on each account.
 fn tell_the_same(rt: &impl Abort, one: &Issuer, other: &Issuer, name: u64) -> Result<(), Fail> {
-    for text in NUMBERS {
-        let number = pan(text)?;
-        assert!(rt; one.ledger(number).is_some());
-        assert_eq!(rt; one.ledger(number), other.ledger(number), "list {name}");
+    for digits in NUMBERS {
+        let (ledger, available) = balances_of(one, digits)?;
+        assert!(rt; ledger.is_some());
         assert_eq!(rt;
-            one.available(number),
-            other.available(number),
+            (ledger, available),
+            balances_of(other, digits)?,
             "list {name}"
         );
     }

@@ -31,23 +31,21 @@ const NEXT_REVERSED: &[u8] =
 
 #[test]
 fn partial_reversal_of_a_payment(rt: HostRuntime) -> Result<(), Fail> {
-    let mut issuer = issuer(rt.alloc(), 5000, 100)?;
     let rows = [
-        (debit(200, 7, 1000)?, 0, 4000, 4000),
-        (undo(8, 200, 7, 400)?, 0, 4600, 4600),
-        (undo(9, 200, 7, 0)?, 0, 4600, 4600),
+        (debit(200, 7, 1000), 0, 4000, 4000),
+        (undo(8, 200, 7, 400), 0, 4600, 4600),
+        (undo(9, 200, 7, 0), 0, 4600, 4600),
     ];
-    play(&rt, &mut issuer, &rows)
+    play(&rt, rt.alloc(), 5000, &rows)
 }
 
 /// A partial reversal that leaves 400, and then its payment of 1000, which has this code.
 fn early(rt: &impl Abort, alloc: Global, opening: i64, code: u8, left: i64) -> Result<(), Fail> {
-    let mut issuer = issuer(alloc, opening, 100)?;
     let rows = [
-        (undo(8, 200, 7, 400)?, 0, opening, opening),
-        (debit(200, 7, 1000)?, code, left, left),
+        (undo(8, 200, 7, 400), 0, opening, opening),
+        (debit(200, 7, 1000), code, left, left),
     ];
-    play(rt, &mut issuer, &rows)
+    play(rt, alloc, opening, &rows)
 }
 
 #[test]

@@ -2,7 +2,7 @@
 use super::*;
 use iso_order::{Verdict, order_of, respond};
 use iso_table::Table;
-use iso_wire::{pack, unpack};
+use iso_wire::{Message, pack, unpack};
 
 const PAYMENT: &[u8] =
     b"0200722000010000800016411111111111111100000000000000100001020304050000070512345840";
@@ -109,28 +109,39 @@ pub const fn held(
     }
 }
 
+/// The message that the bytes spell.
+fn message_in(alloc: Global, table: &Table, bytes: &[u8]) -> Result<Message, Fail> {
+    let (message, used) = unpack(alloc, table, bytes)?;
+    if used < bytes.len() {
+        return Err("bytes behind the message")?;
+    }
+    Ok(message)
+}
+
+/// The response to a request.
+fn response_to(alloc: Global, issuer: &mut Issuer, message: &Message) -> Result<Message, Fail> {
+    let Verdict::Order(order) = order_of(message) else {
+        return Err("no order")?;
+    };
+    let answer = answer_to(issuer, order)?;
+    match (order.act(), answer.shown) {
+        (_, None) => Ok(respond(alloc, message, &answer)?),
+        (Act::Inquiry(_), Some(shown)) if shown.unsigned_abs() <= 999_999_999_999 => {
+            Ok(respond(alloc, message, &answer)?)
+        }
+        _ => Err("a balance that can't be shown")?,
+    }
+}
+
 /// The bytes of the response to a request.
-fn response_to(
+fn response_bytes(
     alloc: Global,
     table: &Table,
     issuer: &mut Issuer,
     bytes: &[u8],
 ) -> Result<Vec<u8>, Fail> {
-    let (message, used) = unpack(alloc, table, bytes)?;
-    if used < bytes.len() {
-        return Err("bytes behind the message")?;
-    }
-    let Verdict::Order(order) = order_of(&message) else {
-        return Err("no order")?;
-    };
-    let answer = issuer.handle(order)?;
-    let response = match (order.act(), answer.shown) {
-        (_, None) => respond(alloc, &message, &answer)?,
-        (Act::Inquiry(_), Some(shown)) if shown.unsigned_abs() <= 999_999_999_999 => {
-            respond(alloc, &message, &answer)?
-        }
-        _ => return Err("a balance that can't be shown")?,
-    };
+    let message = message_in(alloc, table, bytes)?;
+    let response = response_to(alloc, issuer, &message)?;
     Ok(pack(alloc, table, &response)?)
 }
 
@@ -142,16 +153,23 @@ pub fn exchanges(
 ) -> Result<(), Fail> {
     let table = Table::ascii87(alloc)?;
     let mut issuer = issuer(alloc, opening, 999_999)?;
+    exchange_all(rt, alloc, &table, &mut issuer, day)
+}
+
+/// Hands each request to an issuer, and compares its response and what is on the account.
+fn exchange_all(
+    rt: &impl Abort,
+    alloc: Global,
+    table: &Table,
+    issuer: &mut Issuer,
+    day: &[Exchange],
+) -> Result<(), Fail> {
     for step in day {
         let name = step.name;
-        let response = response_to(alloc, &table, &mut issuer, step.request)?;
+        let response = response_bytes(alloc, table, issuer, step.request)?;
         assert_eq!(rt; response.as_slice(), step.response, "{name}");
-        assert_eq!(rt; issuer.ledger(account()?), Some(step.ledger), "{name}");
-        assert_eq!(rt;
-            issuer.available(account()?),
-            Some(step.available),
-            "{name}"
-        );
+        let left = (Some(step.ledger), Some(step.available));
+        assert_eq!(rt; balances(issuer)?, left, "{name}");
     }
     Ok(())
 }

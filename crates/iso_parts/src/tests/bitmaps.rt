@@ -45,6 +45,35 @@ fn sets_are_made_from_words(rt: HostRuntime) {
 }
 
 #[test]
+fn sets_are_compared(rt: HostRuntime) {
+    let set = set_of(&[2, 64, 66, 128]);
+    for (name, numbers, is_same) in [
+        ("the same numbers", [2, 64, 66, 128].as_slice(), true),
+        ("one less in the first word", &[2, 66, 128], false),
+        ("one less in the second word", &[2, 64, 66], false),
+        ("one more", &[2, 7, 64, 66, 128], false),
+    ] {
+        assert_eq!(rt; set.equals(&set_of(numbers)), is_same, "{name}");
+    }
+}
+
+#[test]
+fn the_numbers_below_one_are_counted(rt: HostRuntime) {
+    let set = set_of(&[2, 7, 64, 66, 70, 128]);
+    for (name, n, count) in [
+        ("the lowest", 2, 0),
+        ("one that is there", 7, 1),
+        ("one that is not", 8, 2),
+        ("the last of the first word", 64, 2),
+        ("the first of the second word", 65, 3),
+        ("one of the second word", 70, 4),
+        ("the last of the second word", 128, 5),
+    ] {
+        assert_eq!(rt; set.count_below(n), count, "{name}");
+    }
+}
+
+#[test]
 fn the_least_missing_number_is_told(rt: HostRuntime) {
     let set = set_of(&[2, 7, 64, 66, 70]);
     for (name, numbers, missing) in [

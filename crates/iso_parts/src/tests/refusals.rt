@@ -133,7 +133,7 @@ fn bytes_are_refused(rt: HostRuntime) -> Result<(), Fail> {
     for (name, row, part, fault) in &cases {
         assert!(rt; row.good().is_ok(), "{name}");
         let mut value = Vec::from_slice(rt.alloc(), b"before")?;
-        assert_eq!(rt; append_value(row, part, &mut value), Err(*fault), "{name}");
+        assert_eq!(rt; decode_value(row, part, &mut value), Err(*fault), "{name}");
         assert_eq!(rt; value.as_slice(), b"before".as_slice(), "{name}");
     }
     Ok(())
@@ -151,7 +151,7 @@ fn bytes_are_missing(rt: HostRuntime) -> Result<(), Fail> {
     ];
     for (name, part) in &cases {
         let mut value = Vec::from_slice(rt.alloc(), b"before")?;
-        assert_eq!(rt; append_value(&ascii, *part, &mut value), Ok(None), "{name}");
+        assert_eq!(rt; decode_value(&ascii, *part, &mut value), Ok(None), "{name}");
         assert_eq!(rt; value.as_slice(), b"before".as_slice(), "{name}");
     }
     Ok(())

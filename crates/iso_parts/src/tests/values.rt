@@ -276,7 +276,7 @@ fn long_values_are_written_and_read(rt: HostRuntime) -> Result<(), Fail> {
         );
         let mut read = Vec::new(rt.alloc());
         assert_eq!(rt;
-            append_value(spec, &part, &mut read),
+            decode_value(spec, &part, &mut read),
             Ok(Some(used)),
             "{name}"
         );
@@ -325,7 +325,7 @@ fn judged_parts_are_built(rt: HostRuntime) -> Result<(), Fail> {
         let mut out = Vec::from_slice(rt.alloc(), b"before")?;
         match judge_field(&case.row, &longer)? {
             Judged::Got { .. } => {
-                let used = append_judged(&case.row, &longer, &mut out)?;
+                let used = decode_judged(&case.row, &longer, &mut out)?;
                 assert_eq!(rt; used, case.part.len(), "{name}");
                 assert_eq!(rt; out.as_slice(), expected.as_slice(), "{name}");
             }
@@ -355,7 +355,7 @@ fn other_spellings_are_read(rt: HostRuntime) -> Result<(), Fail> {
         let name = case.name;
         assert!(rt; case.row.good().is_ok(), "{name}");
         let mut value = Vec::new(rt.alloc());
-        let used = append_value(&case.row, case.part, &mut value)?;
+        let used = decode_value(&case.row, case.part, &mut value)?;
         assert_eq!(rt; used, Some(case.part.len()), "{name}");
         assert_eq!(rt; value.as_slice(), case.value, "{name}");
     }

@@ -1,8 +1,5 @@
 //! Peers of a host on a port, in one process: each has written and closed its writing side before it is accepted.
 
-ghost use Rattle.std.specs.Prelude.{◌≡◌, IfOk};
-ghost use Rattle.iso_table.specs.HostReady.{IsHostReady};
-
 use super::*;
 use crate::connections::serve_connections;
 use crate::fakes::FewTaken;
@@ -19,13 +16,10 @@ mod port;
 mod prepare;
 
 /// A host over the accounts, which still has no port of its own.
-fn serving(alloc: Global, header: &str) -> Result<Serving, Fail>
-    ensures { IfOk result (λ made. IsHostReady made.table) }
-{
+fn serving(alloc: Global, header: &str) -> Result<Serving, Fail> {
     let mut told = Vec::new(alloc);
-    let mut faults = Std::new(&mut told);
     let words = ["serve", "ascii87", "accounts.json", header, "8583", "3"];
-    match prepare(alloc, &words, &DOCUMENTS, &mut faults) {
+    match prepare(alloc, &words, &DOCUMENTS, &mut Std::new(&mut told)) {
         Ok(serving) => Ok(serving),
         Err(_) => Err(Fail::from(AllocError)),
     }
@@ -48,12 +42,52 @@ fn answers(alloc: Global, peer: &mut TcpStream) -> Result<Vec<u8>, Fail> {
     Ok(bytes)
 }
 
-/// What is told of so many connections: the output, the fault stream and the status.
+/// Compares what a peer is answered.
+fn gets(
+    rt: &(impl Abort + AllocGlobal),
+    answered: &[u8],
+    wanted: &[&[u8]],
+    name: &str,
+) -> Result<(), Fail> {
+    let wanted = joined(rt.alloc(), wanted)?;
+    assert_eq!(rt; answered, wanted.as_slice(), "{name}");
+    Ok(())
+}
+
+/// What is told of so many connections: the output, the fault stream and the status. Then how many orders are entered.
 #[derive(Drop)]
 struct Ended {
     output: Vec<u8>,
     faults: Vec<u8>,
     status: u8,
+    entries: u32,
+}
+
+/// The status of a host that serves so many connections.
+fn status_of<O: Write, F: Write>(
+    alloc: Global,
+    listener: &TcpListener,
+    serving: &mut Serving,
+    count: u32,
+    output: &mut O,
+    faults: &mut F,
+) -> Result<u8, Fail> {
+    serving.table.host_ready()?;
+    Ok(serve_connections(
+        alloc,
+        listener,
+        &serving.table,
+        serving.header,
+        &mut serving.issuer,
+        count,
+        &mut Std::new(output),
+        &mut Std::new(faults),
+    ))
+}
+
+/// How many orders a host has entered.
+fn entries(serving: &Serving) -> u32 {
+    serving.issuer.len()
 }
 
 fn serve(
@@ -61,22 +95,10 @@ fn serve(
     listener: &TcpListener,
     serving: &mut Serving,
     count: u32,
-) -> Result<Ended, Fail>
-    requires { IsHostReady serving.old.table }
-    ensures { serving.new.table ≡ serving.old.table }
-{
+) -> Result<Ended, Fail> {
     let mut output = Vec::new(alloc);
     let mut faults = Vec::new(alloc);
-    let status = serve_connections(
-        alloc,
-        listener,
-        &serving.table,
-        serving.header,
-        &mut serving.issuer,
-        count,
-        &mut Std::new(&mut output),
-        &mut Std::new(&mut faults),
-    );
+    let status = status_of(alloc, listener, serving, count, &mut output, &mut faults)?;
     // want of memory is told, and ends the test as it ends the host
     if status == 3 && faults.ends_with(b"failed: Memory\n") {
         return Err(Fail::from(AllocError));
@@ -85,5 +107,32 @@ fn serve(
         output,
         faults,
         status,
+        entries: entries(serving),
     })
+}
+
+/// Serves so many connections with a host that never served before.
+fn serve_first(
+    alloc: Global,
+    listener: &TcpListener,
+    header: &str,
+    count: u32,
+) -> Result<Ended, Fail> {
+    let mut serving = serving(alloc, header)?;
+    serve(alloc, listener, &mut serving, count)
+}
+
+/// Compares the lines of a host whose status is 0, and those of its fault stream.
+fn tells(
+    rt: &(impl Abort + AllocGlobal),
+    ended: &Ended,
+    lines: &[&[u8]],
+    faults: &[u8],
+    name: &str,
+) -> Result<(), Fail> {
+    let lines = joined(rt.alloc(), lines)?;
+    assert_eq!(rt; ended.status, 0, "{name}");
+    assert_eq!(rt; ended.output.as_slice(), lines.as_slice(), "{name}");
+    assert_eq!(rt; ended.faults.as_slice(), faults, "{name}");
+    Ok(())
 }

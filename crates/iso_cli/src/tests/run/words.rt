@@ -98,23 +98,12 @@ fn words_and_documents_are_refused_in_order(rt: HostRuntime) -> Result<(), Fail>
             accounts: case.accounts,
             ..DOCUMENTS
         };
-        let mut input = Std::new(FewBytes {
+        let input = FewBytes {
             bytes: b"",
             piece: 1,
             calls: 0,
-        });
-        let mut written = Vec::new(rt.alloc());
-        let mut output = Std::new(&mut written);
-        let mut told = Vec::new(rt.alloc());
-        let mut faults = Std::new(&mut told);
-        let status = act(
-            rt.alloc(),
-            &case.words,
-            &documents,
-            &mut input,
-            &mut output,
-            &mut faults,
-        );
+        };
+        let (status, written, told) = act_over(rt.alloc(), &documents, &case.words, input);
         assert_eq!(rt; status, case.status, "{name}");
         assert_eq!(rt; written.len(), 0, "{name}");
         assert_eq!(rt; told.as_slice(), case.faults, "{name}");
@@ -125,17 +114,7 @@ fn words_and_documents_are_refused_in_order(rt: HostRuntime) -> Result<(), Fail>
 #[test]
 fn a_port_is_not_served_over_streams(rt: HostRuntime) {
     let words = ["serve", "ascii87", "accounts.json", "ascii4", "8583", "3"];
-    let mut input = Std::new(PURCHASE);
-    let mut written = Vec::new(rt.alloc());
-    let mut told = Vec::new(rt.alloc());
-    let status = act(
-        rt.alloc(),
-        &words,
-        &DOCUMENTS,
-        &mut input,
-        &mut Std::new(&mut written),
-        &mut Std::new(&mut told),
-    );
+    let (status, written, told) = act_over(rt.alloc(), &DOCUMENTS, &words, PURCHASE);
     assert_eq!(rt; status, 2);
     assert_eq!(rt; written.as_slice(), b"".as_slice());
     assert_eq!(rt; told.as_slice(), b"command line refused\n".as_slice());

@@ -1,4 +1,5 @@
 use Rattle.std.proofs.Common.{◌≤◌, length, ap, refl, arith}
+use Rattle.iso_wire.specs.Feeding.{Feeding}
 use Rattle.iso_host.proofs.PieceLemmas.{body_here, body_known, body_ends, body_more, more_wanted, refill_ends, draws_refill}
 use Rattle.iso_host.proofs.reading.read_pieces.Goals as goal
 
@@ -15,7 +16,8 @@ returns-in-Err-pass_over-clause-bytes g c =
 pub returns-in-Ok-Known-clause-bytes : goal.returns-in-Ok-Known-clause-bytes
 returns-in-Ok-Known-clause-bytes g c =
     let here = body_here _ _ _ _ _ _ _ _ _ _ _ c.pieces.invariant.body c.bytes.ensures c.bytes-in-pieces.ensures c.min-here.ensures c.pass.ensures in
-    let told = rw c.in-Ok-Known.field-0-is at c.in-Ok-Known.ensures in
+    let same = ap (λ (f : Feeding). f.table) c.pieces.invariant.body.holds in
+    let told = rw (c.in-Ok-Known.field-0-is, same) at c.in-Ok-Known.ensures in
     let rest = c.in_default.ensures.bytes in
     body_known _ _ _ _ _ _ _ _ _ _ here.0 here.1 (omega (arith, c.min-here.ensures)) told.0 rest.1 rest.2
 
@@ -28,7 +30,8 @@ returns-in-Err-refill-clause-bytes g c =
 pub pieces-preserved : goal.pieces-preserved
 pieces-preserved g c =
     let here = body_here _ _ _ _ _ _ _ _ _ _ _ c.pieces.invariant.body c.bytes.ensures c.bytes-in-pieces.ensures c.min-here.ensures c.pass.ensures in
-    let told = rw c.in-Ok-Unfinished.field-0-is at c.in-Ok-Unfinished.ensures in
+    let same = ap (λ (f : Feeding). f.table) c.pieces.invariant.body.holds in
+    let told = rw (c.in-Ok-Unfinished.field-0-is, same) at c.in-Ok-Unfinished.ensures in
     let e = c.in_default-refill.ensures in
     let room : c.min-here.result ≤ length c.pieces.window = omega (arith, ap length c.bytes.ensures, c.min-here.ensures) in
     record {

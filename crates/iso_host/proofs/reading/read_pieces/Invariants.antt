@@ -7,7 +7,7 @@ use Rattle.iso_host.proofs.reading.read_pieces.Given as goal
 
 abbrev pub invariant-pieces : goal.invariant-pieces
 invariant-pieces g l = record {
-  body : BodySoFar l.table l.unpacker (prepend_known l.initial.window (g.R.Inlet.remaining l.initial.reader)) (prepend_known l.window (g.R.Inlet.remaining l.reader)) l.wanted l.size;
+  body : BodySoFar l.initial.intake.table l.intake (prepend_known l.initial.window (g.R.Inlet.remaining l.initial.reader)) (prepend_known l.window (g.R.Inlet.remaining l.reader)) l.wanted l.size;
   turns : TakesTurns (g.R.Inlet.counts l.initial.reader) (g.R.Inlet.counts l.reader) l.initial.left l.left;
   draws : Draws (g.R.Inlet.counts l.initial.reader) (g.R.Inlet.counts l.reader) l.initial.left l.left l.initial.window l.window (l.size - l.wanted);
 }

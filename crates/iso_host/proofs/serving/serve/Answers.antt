@@ -1,11 +1,17 @@
-use Rattle.std.proofs.Common.{[], refl, ◌∙◌, arith, inr}
+use Rattle.std.proofs.Common.{[], refl, ◌∙◌, ap, arith, inr}
+use Rattle.iso_table.specs.Layout.{Layout}
+use Rattle.iso_wire.specs.Feeding.{Feeding}
+use Rattle.iso_host.specs.Bodies.{unpacker_holding}
+use Rattle.iso_host.specs.Desk.{Laid}
 use Rattle.iso_host.proofs.ServeLemmas.{served_none, going_more, running_write, running_read, stop_at, stop_inside, ends_whole}
 use Rattle.iso_host.proofs.StreamLemmas.{flushed_more}
 use Rattle.iso_host.proofs.serving.serve.Goals as goal
 
 pub frames-init : goal.frames-init
 frames-init g c = record {
-  held = c.new-unpacker.ensures;
+  held = c.new-intake.ensures;
+  table = ap (λ (d : Laid). d.table) c.new-desk.ensures;
+  header = ap (λ (d : Laid). d.header) c.new-desk.ensures;
   going = record {
     bodies = [];
     served = served_none _ _ _ _ _ c.enters_nothing.ensures _ c.new-window.ensures;
@@ -28,32 +34,45 @@ returns-in-Ok-End-clause-outcome g c =
 
 pub returns-in-Err-answered-clause-outcome : goal.returns-in-Err-answered-clause-outcome
 returns-in-Err-answered-clause-outcome g c =
-    let frame = rw c.in-Ok-Body.field-0-is at c.in-Ok-Body.ensures.bytes in
+    let so = c.frames.invariant in
+    let table = ap (λ (f : Feeding). f.table) so.held in
+    let frame = rw (c.in-Ok-Body.field-0-is, table) at c.in-Ok-Body.ensures.bytes in
     let e = c.in-Err-answered.ensures in
-    stop_at _ _ _ _ _ c.firsts_go_on.ensures _ _ _ _ c.frames.invariant.going.served (Unit {0}) _ _ _ _ _ _ _ _ _ c.in-Err-answered.fault frame.1 frame.2 (rw frame.3 at e.answered) e.spent
+    stop_at _ _ _ _ _ c.firsts_go_on.ensures _ _ _ _ so.going.served (Unit {0}) _ _ _ _ _ _ _ _ _ c.in-Err-answered.failed frame.1 frame.2
+    (rw (so.table, so.header, frame.3) at e.answered) e.spent
 
 pub frames-preserved : goal.frames-preserved
 frames-preserved g c =
+    let so = c.frames.invariant in
+    let table = ap (λ (f : Feeding). f.table) so.held in
     let read = c.in-Ok-Body.ensures in
-    let frame = rw c.in-Ok-Body.field-0-is at read.bytes in
+    let frame = rw (c.in-Ok-Body.field-0-is, table) at read.bytes in
     let drawn = rw c.in-Ok-Body.field-0-is at read.spent in
-    let e = c.in_default.ensures in
+    let e = c.in-Ok.ensures in
+    let reports = c.count_frame.ensures _ e.kind in
     record {
-      held = read.held;
-      going = going_more c.firsts_go_on.ensures _ _ _ _ _ _ _ _ _ _ _ _ _ _ c.frames.invariant.going frame.1 frame.2 (rw frame.3 at e.answered) (rw frame.3 at e.report);
-      running = running_write _ _ _ _ _ _ _ _ (running_read _ _ _ _ _ _ _ _ c.frames.invariant.running read.turns drawn.spends) e.turns e.spent;
-      flushed = flushed_more _ _ _ c.frames.invariant.flushed e.flushed;
+      held = read.held ∙ ap (λ (t : Layout). unpacker_holding t []) table;
+      table = e.kept.table ∙ so.table;
+      header = e.kept.header ∙ so.header;
+      going = going_more c.firsts_go_on.ensures _ _ _ _ _ _ _ _ _ _ _ _ _ _ so.going frame.1 frame.2 (rw (so.table, so.header, frame.3) at e.answered) (rw frame.3 at reports);
+      running = running_write _ _ _ _ _ _ _ _ (running_read _ _ _ _ _ _ _ _ so.running read.turns drawn.spends) e.turns e.spent;
+      flushed = flushed_more _ _ _ so.flushed e.flushed;
     }
 
 pub frames-preserved-in-Some : goal.frames-preserved-in-Some
 frames-preserved-in-Some g c =
+    let so = c.frames.invariant in
+    let table = ap (λ (f : Feeding). f.table) so.held in
     let read = c.in-Ok-Body.ensures in
-    let frame = rw c.in-Ok-Body.field-0-is at read.bytes in
+    let frame = rw (c.in-Ok-Body.field-0-is, table) at read.bytes in
     let drawn = rw c.in-Ok-Body.field-0-is at read.spent in
-    let e = c.in_default.ensures in
+    let e = c.in-Ok.ensures in
+    let reports = c.count_frame.ensures _ e.kind in
     record {
-      held = c.reuse.ensures ∙ read.held;
-      going = going_more c.firsts_go_on.ensures _ _ _ _ _ _ _ _ _ _ _ _ _ _ c.frames.invariant.going frame.1 frame.2 (rw frame.3 at e.answered) (rw frame.3 at e.report);
-      running = running_write _ _ _ _ _ _ _ _ (running_read _ _ _ _ _ _ _ _ c.frames.invariant.running read.turns drawn.spends) e.turns e.spent;
-      flushed = flushed_more _ _ _ c.frames.invariant.flushed e.flushed;
+      held = c.reuse.ensures ∙ read.held ∙ ap (λ (t : Layout). unpacker_holding t []) table;
+      table = e.kept.table ∙ so.table;
+      header = e.kept.header ∙ so.header;
+      going = going_more c.firsts_go_on.ensures _ _ _ _ _ _ _ _ _ _ _ _ _ _ so.going frame.1 frame.2 (rw (so.table, so.header, frame.3) at e.answered) (rw frame.3 at reports);
+      running = running_write _ _ _ _ _ _ _ _ (running_read _ _ _ _ _ _ _ _ so.running read.turns drawn.spends) e.turns e.spent;
+      flushed = flushed_more _ _ _ so.flushed e.flushed;
     }

@@ -3,7 +3,7 @@ use Rattle.std.specs.Prelude.{is_some}
 use Rattle.std.proofs.lemmas.Grind.{common_steps}
 use Rattle.std.proofs.lemmas.List.{map-append, take_more}
 use Rattle.iso_issuer.specs.declared.balances.Balance.{Balance}
-use Rattle.iso_issuer.specs.Balances.{accounts_of, balance_at, opened}
+use Rattle.iso_issuer.specs.Balances.{accounts_of, balance_at, opening_balance}
 use Rattle.iso_issuer.specs.declared.document.Listed.{Listed}
 use Rattle.iso_issuer.specs.declared.fault.AccountsFault.TheVariants.{Twice}
 use Rattle.iso_issuer.specs.Document.{as_listed, is_listed, is_out_of_range}
@@ -41,11 +41,11 @@ loop-i-preserved c =
     ∙ ap (λ (r : Listed). is_some (balance_at balances r.pan)) (sym made.1) ∙ none in
     let more : take (c.loop-i.i + 1) rows ≡ take c.loop-i.i rows ++ row ∷ [] =
     take_more rows c.loop-i.i row c.loop-i-test.true ∙ ap (λ (r : Listed). take c.loop-i.i rows ++ r ∷ []) (sym c.index-listed-i.is) in
-    let grown : accounts_of (balances ++ opened c.in-Some.account ∷ []) ≡ accounts_of balances ++ c.in-Some.account ∷ [] = map-append (λ (b : Balance). b.account) balances (opened c.in-Some.account ∷ []) in
+    let grown : accounts_of (balances ++ opening_balance c.in-Some.account ∷ []) ≡ accounts_of balances ++ c.in-Some.account ∷ [] = map-append (λ (b : Balance). b.account) balances (opening_balance c.in-Some.account ∷ []) in
     rw (c.in_ok-open.ensures.ok, more, grown)
     record {
       same = map-append as_listed (accounts_of balances) (c.in-Some.account ∷ []) ∙ ap (λ xs. xs ++ as_listed c.in-Some.account ∷ []) c.loop-i.invariant.same
           ∙ ap (λ (r : Listed). take c.loop-i.i rows ++ r ∷ []) made.1;
-      opened = ap (λ xs. xs ++ opened c.in-Some.account ∷ []) c.loop-i.invariant.opened ∙ sym (map-append opened (accounts_of balances) (c.in-Some.account ∷ []));
+      opened = ap (λ xs. xs ++ opening_balance c.in-Some.account ∷ []) c.loop-i.invariant.opened ∙ sym (map-append opening_balance (accounts_of balances) (c.in-Some.account ∷ []));
       rest = fault_at rows c.loop-i.i row None c.loop-i-test.true c.index-listed-i.is c.loop-i.invariant.rest (fault-none (take c.loop-i.i rows) row made.0 new);
     }

@@ -1,5 +1,5 @@
 use Rattle.std.proofs.Common.{◌≡◌, take, drop, map, []}
-use Rattle.iso_issuer.specs.Balances.{accounts_of, opened}
+use Rattle.iso_issuer.specs.Balances.{accounts_of, opening_balance}
 use Rattle.iso_issuer.specs.Document.{first_fault, as_listed}
 use Rattle.iso_issuer.proofs.accounts.judged.Given as goal
 
@@ -7,6 +7,6 @@ use Rattle.iso_issuer.proofs.accounts.judged.Given as goal
 abbrev pub invariant-loop-i : goal.invariant-loop-i
 invariant-loop-i l = record {
   same : map as_listed (accounts_of l.balances) ≡ take l.i l.listed;
-  opened : l.balances ≡ map opened (accounts_of l.balances);
+  opened : l.balances ≡ map opening_balance (accounts_of l.balances);
   rest : first_fault [] l.listed ≡ first_fault (take l.i l.listed) (drop l.i l.listed);
 }

@@ -2,12 +2,12 @@ use Rattle.std.proofs.Common.{◌≡◌, ◌≤◌, ◌-◌, ◌+◌, ℕ, false
 use Rattle.std.specs.Prelude.{nat_lt}
 use Rattle.std.proofs.lemmas.Bool.Decides.{nat_tests}
 use Rattle.std.proofs.lemmas.List.{drop-drop, length-take-le, length-drop}
-use Rattle.iso_order.specs.Pan.{hidden}
+use Rattle.iso_order.specs.Pan.{masked_digits}
 use Rattle.iso_order.proofs.pan.hide.Goals as goal
 
 -- asterisks in the place of all but the first six and the last four
 middle : (digits new : List ℕ) → 13 ≤ length digits → new ≡ replicate (length (take (length digits - 4 - 6) (drop 6 digits))) 42
-    → take 6 digits ++ (new ++ drop (length digits - 4 - 6) (drop 6 digits)) ≡ hidden digits
+    → take 6 digits ++ (new ++ drop (length digits - 4 - 6) (drop 6 digits)) ≡ masked_digits digits
 middle digits new many filled =
     let within : length digits - 4 - 6 ≤ length (drop 6 digits) = omega (arith, length-drop 6 digits) in
     let size : length (take (length digits - 4 - 6) (drop 6 digits)) ≡ length digits - 10 = length-take-le (length digits - 4 - 6) (drop 6 digits) within ∙ omega arith in

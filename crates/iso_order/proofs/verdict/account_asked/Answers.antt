@@ -2,7 +2,7 @@ use Rattle.std.proofs.Common.{◌≡◌, true, sym, ◌∙◌, ◌++◌}
 use Rattle.iso_order.specs.Fields.{text}
 use Rattle.iso_order.specs.Order.{is_currency}
 use Rattle.iso_order.specs.Text.{are_digits}
-use Rattle.iso_order.specs.Verdict.{act_lines, amount_lines, credited}
+use Rattle.iso_order.specs.Verdict.{act_lines, amount_lines, credit_verdict}
 use Rattle.iso_order.proofs.Table.{with_account, some_if, read_digits}
 use Rattle.iso_order.proofs.verdict.account_asked.Goals as goal
 
@@ -13,4 +13,4 @@ returns-clause-verdict c =
     let code : are_digits 6 6 (text m 3) ≡ true = rw c.text-2.ensures at (some_if (are_digits 6 6 c.text-2.result.now) _ _ c.in-Some-kind_of.ensures.value).0 in
     let currency : is_currency (text m 49) ≡ true = rw c.text-3.ensures at (some_if (is_currency c.text-3.result.now) _ _ c.in-Some-currency_of.ensures).0 in
     c.asked.ensures.verdict
-    ∙ sym (with_account m (act_lines m ++ amount_lines m) (credited m) pan code currency)
+    ∙ sym (with_account m (act_lines m ++ amount_lines m) (credit_verdict m) pan code currency)

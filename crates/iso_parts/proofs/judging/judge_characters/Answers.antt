@@ -1,6 +1,5 @@
-use Rattle.std.proofs.Common.{rules, ◌≡◌, ◌≢◌, drop, arith}
+use Rattle.std.proofs.Common.{rules, ◌≢◌, drop, arith}
 use Rattle.iso_parts.specs.declared.class.CharClass.TheVariants as classes
-use Rattle.iso_parts.specs.declared.padding.Pad.TheVariants as pads
 use Rattle.iso_parts.specs.Part.{characters}
 use Rattle.iso_parts.specs.Reading.{unpadded}
 use Rattle.iso_parts.proofs.Judges.{any_packed}
@@ -10,6 +9,5 @@ pub returns-else-eq : goal.returns-else-eq
 returns-else-eq c =
     let s = c.args.spec.now in
     let other : c.args.spec.now.class ≢ classes.N = search rules in
-    let none : c.args.spec.now.pad ≡ pads.None = search rules in
     let body = c.args.body.now in
-    (unpadded s.pad (drop c.args.skip (characters body)), any_packed s c.args.skip body c.requires.good c.requires.coding other none (λ i. omega (arith, c.type_inv.body i)))
+    (unpadded s.pad (drop c.args.skip (characters body)), any_packed s c.args.skip body c.requires.good c.requires.coding other (λ i. omega (arith, c.type_inv.body i)))

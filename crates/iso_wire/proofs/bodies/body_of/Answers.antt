@@ -1,5 +1,5 @@
 use Rattle.std.proofs.Common.{◌≡◌, ℕ, ◌+◌, ◌-◌, Some, take, drop, sym, ap, arith, ◌∙◌}
-use Rattle.iso_wire.specs.Viewing.{start_at, size_at}
+use Rattle.iso_wire.specs.Bodies.{start_at, size_at}
 use Rattle.iso_wire.proofs.Wires.{set_body, set_within, set_absent}
 use Rattle.iso_wire.proofs.bodies.body_of.Goals as goal
 

@@ -1,5 +1,5 @@
 use Rattle.std.proofs.Common.{◌≡◌, ◌≤◌, ◌+◌, ◌*◌, length, drop}
-use Rattle.iso_wire.specs.Viewing.{longest_part, wires_at}
+use Rattle.iso_wire.specs.Bodies.{longest_part, wires_at}
 use Rattle.iso_parts.specs.Numbers.{members}
 use Rattle.iso_wire.proofs.Wires.{Found}
 use Rattle.iso_wire.proofs.bodies.find_bodies.Given as goal

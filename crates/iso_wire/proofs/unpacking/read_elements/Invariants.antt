@@ -1,5 +1,5 @@
 use Rattle.std.proofs.Common.{◌≡◌, ◌≤◌, length, drop}
-use Rattle.iso_wire.specs.Entries.{views, IsWhole}
+use Rattle.iso_wire.specs.Ends.{views, Awaits}
 use Rattle.iso_wire.specs.Reading.{elements_at}
 use Rattle.iso_parts.specs.Numbers.{members}
 use Rattle.iso_wire.proofs.Loop.{with_front}
@@ -9,7 +9,8 @@ abbrev pub invariant-loop-n : goal.invariant-loop-n
 invariant-loop-n l = record {
   read : with_front (views l.elements) (elements_at l.table.rows (members l.rest) l.at (drop l.at l.bytes)) ≡ elements_at l.table.rows (members l.fn.numbers) l.start (drop l.start l.bytes);
   room : l.at ≤ length l.bytes;
-  whole : IsWhole l.elements;
+  numbers : l.elements.numbers ≡ l.fn.numbers;
+  awaits : Awaits l.elements (members l.rest);
 }
 
 abbrev pub decreases-loop-n : goal.decreases-loop-n

@@ -1,8 +1,8 @@
 use Rattle.std.proofs.Common.{sym, arith}
 use Rattle.iso_wire.proofs.unpacking.read_value.Goals as goal
 
-pub append_value-requires : goal.append_value-requires
-append_value-requires c = c.row.ensures.good c.args.n c.in-Some.row.now (sym c.in-Some.ensures.row)
+pub decode_value-requires : goal.decode_value-requires
+decode_value-requires c = c.row.ensures.good c.args.n c.in-Some.row.now (sym c.in-Some.ensures.row)
 
 pub returns-in-Ok-Some-clause-room : goal.returns-in-Ok-Some-clause-room
 returns-in-Ok-Some-clause-room c =

@@ -1,12 +1,12 @@
 use Rattle.std.proofs.Common.{◌≡◌, arith, ◌∙◌, ap, ◌+◌, ◌++◌, ◌∷◌, [], length}
-use Rattle.iso_acquirer.specs.Slots.{begun, transaction_of}
+use Rattle.iso_acquirer.specs.Slots.{slots_with, transaction_of}
 use Rattle.iso_acquirer.proofs.Kept.{kept-begun}
 use Rattle.iso_acquirer.proofs.acquirer.Acquirer.begin.Goals as goal
 
 pub invariant_of-self-2 : goal.invariant_of-self-2
 invariant_of-self-2 c =
     let slots = c.self.inside.slots.items in
-    let items : c.push_reserved.new.self.items ≡ begun slots c.debit-order.result =
+    let items : c.push_reserved.new.self.items ≡ slots_with slots c.debit-order.result =
     c.push_reserved.ensures.items ∙ ap (λ xs. xs ++ transaction_of c.debit-order.result ∷ []) c.reserve.ensures.items in
     let many : c.len-used.result ≡ length slots = c.len-used.ensures ∙ c.self.inside.slots.ok.0 in
     rw items

@@ -1,6 +1,6 @@
 use Rattle.std.proofs.Common.{◌≡◌, sym, ◌∙◌, ap, refl, length, subst, Some}
 use Rattle.std.proofs.lemmas.List.{with_items_is}
-use Rattle.iso_acquirer.specs.Slots.{Party, slot_at, on_stage, changed}
+use Rattle.iso_acquirer.specs.Slots.{Party, slot_at, on_stage, slots_at_stage}
 use Rattle.iso_acquirer.proofs.Kept.{kept-brought, open-counted}
 use Rattle.iso_acquirer.proofs.Numbered.{length-changed}
 use Rattle.iso_acquirer.proofs.acquirer.Acquirer.bring.Goals as goal
@@ -15,8 +15,8 @@ invariant_of-self c =
     let slots = c.self.inside.slots.items in
     let there : slot_at slots c.args.slot.now.order.key.stan ≡ Some c.args.slot.now =
     subst (λ (p : Party). slot_at p.slots c.args.slot.now.order.key.stan ≡ Some c.args.slot.now) (sym c.self.view_is) c.requires.there in
-    let put : c.put.new.slots ≡ changed (λ _. c.args.stage) c.args.slot.now.order.key.stan slots =
-    c.put.ensures (λ _. c.args.stage) (ap (on_stage (λ _. c.args.stage)) c.requires.transaction.1) ∙ ap (changed (λ _. c.args.stage) c.args.slot.now.order.key.stan) c.deref_mut.ensures.value in
+    let put : c.put.new.slots ≡ slots_at_stage (λ _. c.args.stage) c.args.slot.now.order.key.stan slots =
+    c.put.ensures (λ _. c.args.stage) (ap (on_stage (λ _. c.args.stage)) c.requires.transaction.1) ∙ ap (slots_at_stage (λ _. c.args.stage) c.args.slot.now.order.key.stan) c.deref_mut.ensures.value in
     let same : length c.put.new.slots ≡ c.self.inside.slots.len =
     ap length put ∙ length-changed (λ _. c.args.stage) c.args.slot.now.order.key.stan slots ∙ sym c.self.inside.slots.ok.0 in
     let enough = open-counted c.self.inside.id slots c.self.inside.waiting _ _ c.args.slot.now.order.key.stan c.to_reverse-before.result c.args.slot.now c.self.invariant there c.to_reverse-before.ensures in

@@ -4,7 +4,7 @@ use Rattle.iso_order.specs.Order.{Instruction}
 use Rattle.iso_acquirer.specs.declared.slot.Role.{Role}
 use Rattle.iso_acquirer.specs.declared.slot.Role.TheVariants.{Transaction, Reversal}
 use Rattle.iso_acquirer.specs.declared.slot.Stage.TheVariants.{Undoing}
-use Rattle.iso_acquirer.specs.Slots.{Party, slot_at, reversal_for, on_stage, to_reverse, changed, reversing, reversal_of}
+use Rattle.iso_acquirer.specs.Slots.{Party, slot_at, reversal_for, on_stage, to_reverse, slots_at_stage, reversing, reversal_of}
 use Rattle.iso_acquirer.proofs.Kept.{kept-reversing, open-counted, request-found}
 use Rattle.iso_acquirer.proofs.Numbered.{length-changed}
 use Rattle.iso_acquirer.proofs.acquirer.Acquirer.reverse.Goals as goal
@@ -37,14 +37,14 @@ invariant_of-self c =
     let u = c.reversal-undo.result in
     let many : length slots ≡ c.len-used.result = sym c.self.inside.slots.ok.0 ∙ sym c.len-used.ensures in
     let undo : c.reversal-undo.result ≡ reversal_of slots c.args.slot.now.order = c.reversal-undo.ensures slots many in
-    let put : c.put.new.slots ≡ changed (λ _. Undoing c.reversal-undo.result) c.args.slot.now.order.key.stan slots =
+    let put : c.put.new.slots ≡ slots_at_stage (λ _. Undoing c.reversal-undo.result) c.args.slot.now.order.key.stan slots =
     c.put.ensures (λ _. Undoing c.reversal-undo.result) (on_transaction c.args.slot.now.role c.reversal-undo.result c.requires.asked)
-    ∙ ap (changed (λ _. Undoing c.reversal-undo.result) c.args.slot.now.order.key.stan) c.deref_mut.ensures.value in
+    ∙ ap (slots_at_stage (λ _. Undoing c.reversal-undo.result) c.args.slot.now.order.key.stan) c.deref_mut.ensures.value in
     let same : length c.put.new.slots ≡ c.self.inside.slots.len =
     ap length put ∙ length-changed (λ _. Undoing c.reversal-undo.result) c.args.slot.now.order.key.stan slots ∙ sym c.self.inside.slots.ok.0 in
     let items : c.push_reserved.new.self.items ≡ reversing slots c.args.slot.now.order.key.stan c.reversal-undo.result =
     c.push_reserved.ensures.items ∙ ap (λ xs. xs ++ reversal_for c.key.result.stan c.reversal-undo.result ∷ []) (with_items_is c.self.inside.slots c.put.new.slots same ∙ put)
-    ∙ ap (λ k. changed (λ _. Undoing c.reversal-undo.result) c.args.slot.now.order.key.stan slots ++ reversal_for k.stan c.reversal-undo.result ∷ []) c.key.ensures.value in
+    ∙ ap (λ k. slots_at_stage (λ _. Undoing c.reversal-undo.result) c.args.slot.now.order.key.stan slots ++ reversal_for k.stan c.reversal-undo.result ∷ []) c.key.ensures.value in
     rw items
     (kept-reversing c.self.inside.id slots c.self.inside.waiting _ _ _ _ c.args.slot.now.order.key.stan c.args.slot.now c.reversal-undo.result c.self.invariant
     (subst (λ (p : Party). slot_at p.slots c.args.slot.now.order.key.stan ≡ Some c.args.slot.now) (sym c.self.view_is) c.requires.there) c.requires.asked

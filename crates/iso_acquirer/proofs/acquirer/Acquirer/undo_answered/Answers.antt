@@ -1,6 +1,6 @@
 use Rattle.std.proofs.Common.{◌≡◌, sym, ◌∙◌, ap, subst, Some, None}
 use Rattle.iso_acquirer.specs.declared.slot.Role.TheVariants.{Transaction}
-use Rattle.iso_acquirer.specs.Slots.{Party, AreNumbered, slot_at, on_stage, changed, stage_undone}
+use Rattle.iso_acquirer.specs.Slots.{Party, AreNumbered, slot_at, on_stage, slots_at_stage, stage_undone}
 use Rattle.iso_acquirer.proofs.Numbered.{found, unchanged, reversal-stays}
 use Rattle.iso_acquirer.proofs.acquirer.Acquirer.undo_answered.Goals as goal
 
@@ -15,7 +15,7 @@ returns-in-Transaction c =
     let at : slot_at c.self.inside.slots.items c.args.original ≡ Some c.in-Some.slot = ap (λ xs. slot_at xs c.args.original) (sym c.deref.ensures.value) ∙ sym c.slot_at.ensures.value ∙ c.in-Some.is in
     let stan = (found c.self.inside.slots.items 1 c.args.original c.in-Some.slot c.self.invariant.numbered at).0 in
     c.bring.ensures (stage_undone c.args.code) (ap (on_stage (stage_undone c.args.code)) c.in-Transaction.is ∙ ap Transaction (sym c.stage_undone.ensures))
-    ∙ ap (λ n. record { id = c.args.self.now.id; slots = changed (stage_undone c.args.code) n c.args.self.now.slots }) stan
+    ∙ ap (λ n. record { id = c.args.self.now.id; slots = slots_at_stage (stage_undone c.args.code) n c.args.self.now.slots }) stan
 
 pub returns-in-Reversal : goal.returns-in-Reversal
 returns-in-Reversal c =

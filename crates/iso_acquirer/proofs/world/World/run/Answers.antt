@@ -2,11 +2,11 @@ use Rattle.std.proofs.Common.{arith, ◌≤◌, take, length, ◌<◌}
 use Rattle.std.specs.Prelude.{Option, Some, None}
 use Rattle.std.proofs.lemmas.List.{take_more}
 use Rattle.iso_acquirer.specs.declared.fault.StepFault.{StepFault}
-use Rattle.iso_acquirer.specs.World.{refused_in}
+use Rattle.iso_acquirer.specs.World.{refusal_count}
 use Rattle.iso_acquirer.proofs.Closed.{ran-push}
 use Rattle.iso_acquirer.proofs.world.World.run.Goals as goal
 
-one_at_most : (f : Option StepFault) → refused_in f ≤ 1
+one_at_most : (f : Option StepFault) → refusal_count f ≤ 1
 one_at_most None = omega arith
 one_at_most (Some e) = omega arith
 

@@ -12,30 +12,24 @@ fn an_accept_that_fails_is_one_of_the_connections(rt: HostRuntime) -> Result<(),
     listener.set_nonblocking(true)?;
     let mut serving = serving(alloc, "ascii4")?;
     let none = serve(alloc, &listener, &mut serving, 2)?;
-    assert_eq!(rt; none.status, 0);
-    assert_eq!(rt; none.output.as_slice(), b"".as_slice());
-    let both = b"failed: Read\nfailed: Read\n".as_slice();
-    assert_eq!(rt; none.faults.as_slice(), both);
+    tells(&rt, &none, &[], b"failed: Read\nfailed: Read\n", "no peer")?;
     let mut only = peer(&rt, &listener, &[b"0082", PURCHASE])?;
     let ended = serve(alloc, &listener, &mut serving, 2)?;
-    assert_eq!(rt; ended.status, 0);
-    assert_eq!(rt; ended.output.as_slice(), ONE_ANSWERED);
-    assert_eq!(rt; ended.faults.as_slice(), b"failed: Read\n".as_slice());
-    let granted = joined(alloc, &[b"0090", GRANTED])?;
-    assert_eq!(rt; answers(alloc, &mut only)?.as_slice(), granted.as_slice());
-    Ok(())
+    tells(&rt, &ended, &[ONE_ANSWERED], b"failed: Read\n", "one peer")?;
+    gets(
+        &rt,
+        &answers(alloc, &mut only)?,
+        &[b"0090", GRANTED],
+        "the peer",
+    )
 }
 
 #[test]
 fn no_connection_is_served_where_none_is_asked(rt: HostRuntime) -> Result<(), Fail> {
     let alloc = rt.alloc();
     let listener = TcpListener::bind(&rt, "127.0.0.1:0")?;
-    let mut serving = serving(alloc, "ascii4")?;
-    let ended = serve(alloc, &listener, &mut serving, 0)?;
-    assert_eq!(rt; ended.status, 0);
-    assert_eq!(rt; ended.output.as_slice(), b"".as_slice());
-    assert_eq!(rt; ended.faults.as_slice(), b"".as_slice());
-    Ok(())
+    let ended = serve_first(alloc, &listener, "ascii4", 0)?;
+    tells(&rt, &ended, &[], b"", "the host")
 }
 
 /// How often the output and the fault stream take bytes, and what comes of a good peer, a bad one and a good one.
@@ -51,9 +45,52 @@ struct Failing {
     entered: u32,
 }
 
+/// Serves a good peer, a bad one and a good one, and tells the status and how many orders are entered.
+fn serve_three(
+    rt: &HostRuntime,
+    output: &mut FewTaken,
+    faults: &mut FewTaken,
+) -> Result<(u8, u32), Fail> {
+    let listener = TcpListener::bind(rt, "127.0.0.1:0")?;
+    let _first = peer(rt, &listener, &[b"0082", PURCHASE])?;
+    let _second = peer(rt, &listener, &[b"00A2"])?;
+    let _third = peer(rt, &listener, &[b"0082", SECOND])?;
+    let mut serving = serving(rt.alloc(), "ascii4")?;
+    let status = status_of(rt.alloc(), &listener, &mut serving, 3, output, faults)?;
+    Ok((status, entries(&serving)))
+}
+
+/// What comes of streams that fail: the status, how many orders are entered, and what was taken.
+#[derive(Drop)]
+struct Failed {
+    ended: (u8, u32),
+    output: Vec<u8>,
+    faults: Vec<u8>,
+}
+
+/// Serves over streams that fail.
+fn serve_failing(rt: &HostRuntime, case: &Failing) -> Result<Failed, Fail> {
+    let mut output = FewTaken::new(rt.alloc(), 4096, case.writes, case.flush_fails);
+    let mut faults = FewTaken::new(rt.alloc(), 4096, case.tells, false);
+    let ended = serve_three(rt, &mut output, &mut faults)?;
+    Ok(Failed {
+        ended,
+        output: output.taken,
+        faults: faults.taken,
+    })
+}
+
+/// The lines of so many connections, one frame answered in each.
+fn reports(alloc: Global, count: usize) -> Result<Vec<u8>, Fail> {
+    let mut lines = Vec::new(alloc);
+    for _ in 0..count {
+        lines.extend_from_slice(ONE_ANSWERED)?;
+    }
+    Ok(lines)
+}
+
 #[test]
 fn streams_that_fail_end_the_host(rt: HostRuntime) -> Result<(), Fail> {
-    let alloc = rt.alloc();
     for case in [
         Failing {
             name: "nothing fails",
@@ -107,32 +144,11 @@ fn streams_that_fail_end_the_host(rt: HostRuntime) -> Result<(), Fail> {
         },
     ] {
         let name = case.name;
-        let listener = TcpListener::bind(&rt, "127.0.0.1:0")?;
-        let _first = peer(&rt, &listener, &[b"0082", PURCHASE])?;
-        let _second = peer(&rt, &listener, &[b"00A2"])?;
-        let _third = peer(&rt, &listener, &[b"0082", SECOND])?;
-        let mut serving = serving(alloc, "ascii4")?;
-        let lent = &mut serving;
-        let mut taken = FewTaken::new(alloc, 4096, case.writes, case.flush_fails);
-        let mut told = FewTaken::new(alloc, 4096, case.tells, false);
-        let status = serve_connections(
-            alloc,
-            &listener,
-            &lent.table,
-            lent.header,
-            &mut lent.issuer,
-            3,
-            &mut Std::new(&mut taken),
-            &mut Std::new(&mut told),
-        );
-        assert_eq!(rt; status, case.status, "{name}");
-        let mut lines = Vec::new(alloc);
-        for _ in 0..case.reports {
-            lines.extend_from_slice(ONE_ANSWERED)?;
-        }
-        assert_eq!(rt; taken.taken.as_slice(), lines.as_slice(), "{name}");
-        assert_eq!(rt; told.taken.as_slice(), case.faults, "{name}");
-        assert_eq!(rt; serving.issuer.len(), case.entered, "{name}");
+        let failed = serve_failing(&rt, &case)?;
+        let lines = reports(rt.alloc(), case.reports)?;
+        assert_eq!(rt; failed.ended, (case.status, case.entered), "{name}");
+        assert_eq!(rt; failed.output.as_slice(), lines.as_slice(), "{name}");
+        assert_eq!(rt; failed.faults.as_slice(), case.faults, "{name}");
     }
     Ok(())
 }

@@ -4,25 +4,51 @@ use super::*;
 
 const ONE_ANSWERED: &[u8] = b"frames=1 answered=1 silent=0 unreadable=0\n";
 
+/// What is told of three peers, and what each is answered.
+#[derive(Drop)]
+struct Met {
+    ended: Ended,
+    first: Vec<u8>,
+    second: Vec<u8>,
+    third: Vec<u8>,
+}
+
+/// Serves three peers, which send these bytes.
+fn meet(
+    rt: &HostRuntime,
+    header: &str,
+    first: &[&[u8]],
+    second: &[&[u8]],
+    third: &[&[u8]],
+) -> Result<Met, Fail> {
+    let listener = TcpListener::bind(rt, "127.0.0.1:0")?;
+    let mut first = peer(rt, &listener, first)?;
+    let mut second = peer(rt, &listener, second)?;
+    let mut third = peer(rt, &listener, third)?;
+    Ok(Met {
+        ended: serve_first(rt.alloc(), &listener, header, 3)?,
+        first: answers(rt.alloc(), &mut first)?,
+        second: answers(rt.alloc(), &mut second)?,
+        third: answers(rt.alloc(), &mut third)?,
+    })
+}
+
 #[test]
 fn three_peers_meet_one_journal(rt: HostRuntime) -> Result<(), Fail> {
-    let alloc = rt.alloc();
-    let listener = TcpListener::bind(&rt, "127.0.0.1:0")?;
-    let mut first = peer(&rt, &listener, &[b"0082", PURCHASE])?;
-    let mut second = peer(&rt, &listener, &[b"00A2"])?;
-    let mut third = peer(&rt, &listener, &[b"0082", REPEAT])?;
-    let mut serving = serving(alloc, "ascii4")?;
-    let ended = serve(alloc, &listener, &mut serving, 3)?;
-    assert_eq!(rt; ended.status, 0);
-    let lines = joined(alloc, &[ONE_ANSWERED, ONE_ANSWERED])?;
-    assert_eq!(rt; ended.output.as_slice(), lines.as_slice());
-    assert_eq!(rt; ended.faults.as_slice(), b"refused: BadHeader\n".as_slice());
-    let granted = joined(alloc, &[b"0090", GRANTED])?;
-    assert_eq!(rt; granted.len(), 94);
-    assert_eq!(rt; answers(alloc, &mut first)?.as_slice(), granted.as_slice());
-    assert_eq!(rt; answers(alloc, &mut second)?.as_slice(), b"".as_slice());
-    assert_eq!(rt; answers(alloc, &mut third)?.as_slice(), granted.as_slice());
-    Ok(())
+    let (purchase, repeat) = ([b"0082", PURCHASE], [b"0082", REPEAT]);
+    let met = meet(&rt, "ascii4", &purchase, &[b"00A2"], &repeat)?;
+    let faults = b"refused: BadHeader\n";
+    tells(
+        &rt,
+        &met.ended,
+        &[ONE_ANSWERED, ONE_ANSWERED],
+        faults,
+        "the host",
+    )?;
+    assert_eq!(rt; met.first.len(), 94);
+    gets(&rt, &met.first, &[b"0090", GRANTED], "the first")?;
+    gets(&rt, &met.second, &[], "the second")?;
+    gets(&rt, &met.third, &[b"0090", GRANTED], "the third")
 }
 
 #[test]
@@ -33,28 +59,30 @@ fn orders_meet_those_of_earlier_peers(rt: HostRuntime) -> Result<(), Fail> {
     let mut late = peer(&rt, &listener, &[b"0082", PURCHASE])?;
     let mut none = peer(&rt, &listener, &[])?;
     let mut both = peer(&rt, &listener, &[b"0101", REVERSAL_REPEAT, b"0082", REPEAT])?;
-    let mut serving = serving(alloc, "ascii4")?;
-    let ended = serve(alloc, &listener, &mut serving, 4)?;
-    assert_eq!(rt; ended.status, 0);
-    let lines = joined(
-        alloc,
-        &[
-            ONE_ANSWERED,
-            ONE_ANSWERED,
-            b"frames=0 answered=0 silent=0 unreadable=0\n",
-            b"frames=2 answered=2 silent=0 unreadable=0\n",
-        ],
+    let ended = serve_first(alloc, &listener, "ascii4", 4)?;
+    let lines: [&[u8]; 4] = [
+        ONE_ANSWERED,
+        ONE_ANSWERED,
+        b"frames=0 answered=0 silent=0 unreadable=0\n",
+        b"frames=2 answered=2 silent=0 unreadable=0\n",
+    ];
+    tells(&rt, &ended, &lines, b"", "the host")?;
+    gets(
+        &rt,
+        &answers(rt.alloc(), &mut early)?,
+        &[b"0103", REVERSED],
+        "the reversal",
     )?;
-    assert_eq!(rt; ended.output.as_slice(), lines.as_slice());
-    assert_eq!(rt; ended.faults.as_slice(), b"".as_slice());
-    let reversed = joined(alloc, &[b"0103", REVERSED])?;
-    let undone = joined(alloc, &[b"0084", UNDONE])?;
-    let two = joined(alloc, &[&reversed, &undone])?;
-    assert_eq!(rt; answers(alloc, &mut early)?.as_slice(), reversed.as_slice());
-    assert_eq!(rt; answers(alloc, &mut late)?.as_slice(), undone.as_slice());
-    assert_eq!(rt; answers(alloc, &mut none)?.as_slice(), b"".as_slice());
-    assert_eq!(rt; answers(alloc, &mut both)?.as_slice(), two.as_slice());
-    assert_eq!(rt; serving.issuer.len(), 2);
+    gets(
+        &rt,
+        &answers(rt.alloc(), &mut late)?,
+        &[b"0084", UNDONE],
+        "its purchase",
+    )?;
+    gets(&rt, &answers(rt.alloc(), &mut none)?, &[], "no frame")?;
+    let two: [&[u8]; 4] = [b"0103", REVERSED, b"0084", UNDONE];
+    gets(&rt, &answers(rt.alloc(), &mut both)?, &two, "both again")?;
+    assert_eq!(rt; ended.entries, 2);
     Ok(())
 }
 
@@ -69,8 +97,6 @@ struct Bad {
 
 #[test]
 fn a_bad_peer_harms_no_other(rt: HostRuntime) -> Result<(), Fail> {
-    let alloc = rt.alloc();
-    let granted = joined(alloc, &[b"0090", GRANTED])?;
     let unreadable: &[u8] = b"frames=1 answered=0 silent=0 unreadable=1\n";
     for bad in [
         Bad {
@@ -111,100 +137,81 @@ fn a_bad_peer_harms_no_other(rt: HostRuntime) -> Result<(), Fail> {
         },
     ] {
         let name = bad.name;
-        let listener = TcpListener::bind(&rt, "127.0.0.1:0")?;
-        let mut first = peer(&rt, &listener, &[b"0082", PURCHASE])?;
-        let mut second = peer(&rt, &listener, bad.sent)?;
-        let mut third = peer(&rt, &listener, &[b"0082", REPEAT])?;
-        let mut serving = serving(alloc, "ascii4")?;
-        let ended = serve(alloc, &listener, &mut serving, 3)?;
-        let lines = joined(alloc, &[ONE_ANSWERED, bad.output, ONE_ANSWERED])?;
-        assert_eq!(rt; ended.status, 0, "{name}");
-        assert_eq!(rt; ended.output.as_slice(), lines.as_slice(), "{name}");
-        assert_eq!(rt; ended.faults.as_slice(), bad.faults, "{name}");
-        assert_eq!(rt;
-            answers(alloc, &mut first)?.as_slice(),
-            granted.as_slice(),
-            "{name}"
-        );
-        assert_eq!(rt;
-            answers(alloc, &mut second)?.as_slice(),
-            b"".as_slice(),
-            "{name}"
-        );
-        assert_eq!(rt;
-            answers(alloc, &mut third)?.as_slice(),
-            granted.as_slice(),
-            "{name}"
-        );
+        let (purchase, repeat) = ([b"0082", PURCHASE], [b"0082", REPEAT]);
+        let met = meet(&rt, "ascii4", &purchase, bad.sent, &repeat)?;
+        let lines = [ONE_ANSWERED, bad.output, ONE_ANSWERED];
+        tells(&rt, &met.ended, &lines, bad.faults, name)?;
+        gets(&rt, &met.first, &[b"0090", GRANTED], name)?;
+        gets(&rt, &met.second, &[], name)?;
+        gets(&rt, &met.third, &[b"0090", GRANTED], name)?;
     }
     Ok(())
+}
+
+/// A peer that sends each byte in a segment of its own, and then no more.
+fn slow_peer(rt: &HostRuntime, listener: &TcpListener, sent: &[u8]) -> Result<TcpStream, Fail> {
+    let mut stream = TcpStream::connect(rt, listener.local_addr()?)?;
+    stream.set_nodelay(true)?;
+    for byte in sent {
+        stream.write_all(&[*byte])?;
+    }
+    stream.shutdown(Shutdown::Write)?;
+    Ok(stream)
 }
 
 #[test]
 fn a_peer_may_send_a_byte_at_a_time(rt: HostRuntime) -> Result<(), Fail> {
-    let alloc = rt.alloc();
     let listener = TcpListener::bind(&rt, "127.0.0.1:0")?;
-    let framed = joined(alloc, &[b"0082", PURCHASE])?;
-    let mut slow = TcpStream::connect(&rt, listener.local_addr()?)?;
-    slow.set_nodelay(true)?;
-    for byte in framed.as_slice() {
-        slow.write_all(&[*byte])?;
-    }
-    slow.shutdown(Shutdown::Write)?;
-    let mut serving = serving(alloc, "ascii4")?;
-    let ended = serve(alloc, &listener, &mut serving, 1)?;
-    assert_eq!(rt; ended.status, 0);
-    assert_eq!(rt; ended.output.as_slice(), ONE_ANSWERED);
-    let granted = joined(alloc, &[b"0090", GRANTED])?;
-    assert_eq!(rt; answers(alloc, &mut slow)?.as_slice(), granted.as_slice());
-    Ok(())
+    let framed = joined(rt.alloc(), &[b"0082", PURCHASE])?;
+    let mut slow = slow_peer(&rt, &listener, &framed)?;
+    let ended = serve_first(rt.alloc(), &listener, "ascii4", 1)?;
+    tells(&rt, &ended, &[ONE_ANSWERED], b"", "the host")?;
+    gets(
+        &rt,
+        &answers(rt.alloc(), &mut slow)?,
+        &[b"0090", GRANTED],
+        "the peer",
+    )
 }
 
 #[test]
 fn a_peer_may_send_the_largest_frames(rt: HostRuntime) -> Result<(), Fail> {
-    let alloc = rt.alloc();
-    let listener = TcpListener::bind(&rt, "127.0.0.1:0")?;
-    for byte in [0x30u8, 0xFF] {
-        let body = vec![in alloc; byte; 65_535]?;
-        let mut large = peer(&rt, &listener, &[b"\xFF\xFF", &body])?;
-        let mut cut = peer(&rt, &listener, &[b"\xFF\xFF", &body[..10]])?;
-        let mut next = peer(&rt, &listener, &[b"\0\x52", PURCHASE])?;
-        let mut serving = serving(alloc, "binary2")?;
-        let ended = serve(alloc, &listener, &mut serving, 3)?;
-        let lines = joined(
-            alloc,
-            &[b"frames=1 answered=0 silent=0 unreadable=1\n", ONE_ANSWERED],
-        )?;
-        let granted = joined(alloc, &[b"\0\x5A", GRANTED])?;
-        assert_eq!(rt; ended.status, 0);
-        assert_eq!(rt; ended.output.as_slice(), lines.as_slice());
-        assert_eq!(rt; ended.faults.as_slice(), b"refused: CutFrame\n".as_slice());
-        assert_eq!(rt; answers(alloc, &mut large)?.as_slice(), b"".as_slice());
-        assert_eq!(rt; answers(alloc, &mut cut)?.as_slice(), b"".as_slice());
-        assert_eq!(rt; answers(alloc, &mut next)?.as_slice(), granted.as_slice());
+    for (name, byte) in [("zeros", 0x30u8), ("bytes that are no digits", 0xFF)] {
+        let body = vec![in rt.alloc(); byte; 65_535]?;
+        let large = [b"\xFF\xFF", body.as_slice()];
+        let cut = [b"\xFF\xFF", &body[..10]];
+        let met = meet(&rt, "binary2", &large, &cut, &[b"\0\x52", PURCHASE])?;
+        let unreadable: &[u8] = b"frames=1 answered=0 silent=0 unreadable=1\n";
+        let faults = b"refused: CutFrame\n";
+        tells(&rt, &met.ended, &[unreadable, ONE_ANSWERED], faults, name)?;
+        gets(&rt, &met.first, &[], name)?;
+        gets(&rt, &met.second, &[], name)?;
+        gets(&rt, &met.third, &[b"\0\x5A", GRANTED], name)?;
     }
     Ok(())
 }
 
+/// A thousand purchases, each in its frame.
+fn many_frames(alloc: Global) -> Result<Vec<u8>, Fail> {
+    let frame = joined(alloc, &[b"0082", PURCHASE])?;
+    joined(alloc, &[frame.as_slice(); 1_000])
+}
+
 #[test]
 fn a_peer_that_is_gone_loses_its_answers_alone(rt: HostRuntime) -> Result<(), Fail> {
-    let alloc = rt.alloc();
     let listener = TcpListener::bind(&rt, "127.0.0.1:0")?;
-    let mut many = Vec::new(alloc);
-    for _ in 0..1_000 {
-        many.extend_from_slice(b"0082")?;
-        many.extend_from_slice(PURCHASE)?;
-    }
+    let many = many_frames(rt.alloc())?;
     // closed on both sides, so that an answer is met by a reset
     drop(peer(&rt, &listener, &[&many])?);
     let mut next = peer(&rt, &listener, &[b"0082", REPEAT])?;
-    let mut serving = serving(alloc, "ascii4")?;
-    let ended = serve(alloc, &listener, &mut serving, 2)?;
-    assert_eq!(rt; ended.status, 0);
-    assert_eq!(rt; ended.output.as_slice(), ONE_ANSWERED);
-    assert_eq!(rt; ended.faults.as_slice(), b"failed: Write\n".as_slice());
-    let granted = joined(alloc, &[b"0090", GRANTED])?;
-    assert_eq!(rt; answers(alloc, &mut next)?.as_slice(), granted.as_slice());
-    assert_eq!(rt; serving.issuer.len(), 1);
+    let ended = serve_first(rt.alloc(), &listener, "ascii4", 2)?;
+    tells(&rt, &ended, &[ONE_ANSWERED], b"failed: Write\n", "the host")?;
+    gets(
+        &rt,
+        &answers(rt.alloc(), &mut next)?,
+        &[b"0090", GRANTED],
+        "the next peer",
+    )?;
+    assert_eq!(rt; ended.entries, 1);
     Ok(())
 }

@@ -2,6 +2,42 @@
 
 use super::*;
 
+/// What a host serves with: its port, how many connections, the header, the rows of its table, and its journal's entries
+/// and the ledger of the account.
+#[derive(Drop)]
+struct Held {
+    port: u16,
+    count: u32,
+    header: Header,
+    rows: usize,
+    entries: u32,
+    ledger: Option<i64>,
+}
+
+/// The ledger of the account.
+fn ledger(serving: &Serving) -> Option<i64> {
+    let pan = Pan::from_digits(b"4111111111111111")?;
+    serving.issuer.ledger(pan)
+}
+
+/// What the words name, and the fault line.
+fn held_by(alloc: Global, words: &[&str]) -> Result<(Held, Vec<u8>), Fail> {
+    let mut told = Vec::new(alloc);
+    let serving = match prepare(alloc, words, &DOCUMENTS, &mut Std::new(&mut told)) {
+        Ok(serving) => serving,
+        Err(_) => return Err(Fail::from(AllocError)),
+    };
+    let held = Held {
+        port: serving.port,
+        count: serving.count,
+        header: serving.header,
+        rows: serving.table.rows(),
+        entries: entries(&serving),
+        ledger: ledger(&serving),
+    };
+    Ok((held, told))
+}
+
 #[test]
 fn a_host_has_what_the_words_name(rt: HostRuntime) -> Result<(), Fail> {
     for (name, port, count, wanted_port, wanted_count) in [
@@ -11,24 +47,27 @@ fn a_host_has_what_the_words_name(rt: HostRuntime) -> Result<(), Fail> {
         ("a plus in front", "+8583", "+3", 8583, 3),
         ("zeros in front", "08583", "0003", 8583, 3),
     ] {
-        let mut told = Vec::new(rt.alloc());
-        let mut faults = Std::new(&mut told);
         let words = ["serve", "ascii87", "accounts.json", "ascii4", port, count];
-        let serving = match prepare(rt.alloc(), &words, &DOCUMENTS, &mut faults) {
-            Ok(serving) => serving,
-            Err(_) => return Err(Fail::from(AllocError)),
-        };
-        assert_eq!(rt; serving.port, wanted_port, "{name}");
-        assert_eq!(rt; serving.count, wanted_count, "{name}");
-        assert_eq!(rt; serving.header, Header::Ascii4, "{name}");
-        assert_eq!(rt; serving.table.rows(), 126, "{name}");
-        assert_eq!(rt; serving.issuer.len(), 0, "{name}");
-        let pan = Pan::from_digits(b"4111111111111111");
-        let ledger = pan.and_then(|pan| serving.issuer.ledger(pan));
-        assert_eq!(rt; ledger, Some(5000), "{name}");
+        let (held, told) = held_by(rt.alloc(), &words)?;
+        assert_eq!(rt; held.port, wanted_port, "{name}");
+        assert_eq!(rt; held.count, wanted_count, "{name}");
+        assert_eq!(rt; held.header, Header::Ascii4, "{name}");
+        assert_eq!(rt; held.rows, 126, "{name}");
+        assert_eq!(rt; held.entries, 0, "{name}");
+        assert_eq!(rt; held.ledger, Some(5000), "{name}");
         assert_eq!(rt; told.as_slice(), b"".as_slice(), "{name}");
     }
     Ok(())
+}
+
+/// The status of these words, 0 where a host has what they name, and the fault line.
+fn status_and_line(alloc: Global, words: &[&str]) -> (u8, Vec<u8>) {
+    let mut told = Vec::new(alloc);
+    let status = match prepare(alloc, words, &DOCUMENTS, &mut Std::new(&mut told)) {
+        Ok(_) => 0,
+        Err(status) => status,
+    };
+    (status, told)
 }
 
 #[test]
@@ -150,12 +189,7 @@ fn words_and_documents_of_a_port_are_refused_in_order(rt: HostRuntime) -> Result
             b"refused: accounts Shape\n".as_slice(),
         ),
     ] {
-        let mut told = Vec::new(rt.alloc());
-        let mut faults = Std::new(&mut told);
-        let given = match prepare(rt.alloc(), words, &DOCUMENTS, &mut faults) {
-            Ok(_) => 0,
-            Err(status) => status,
-        };
+        let (given, told) = status_and_line(rt.alloc(), words);
         assert_eq!(rt; given, status, "{name}");
         assert_eq!(rt; told.as_slice(), line, "{name}");
     }

@@ -6,7 +6,7 @@ use Rattle.iso_order.specs.Order.{same_pan}
 use Rattle.iso_issuer.specs.declared.account.Account.{Account}
 use Rattle.iso_issuer.specs.declared.balances.Balance.{Balance}
 use Rattle.iso_issuer.specs.Account.{account_of}
-use Rattle.iso_issuer.specs.Balances.{accounts_of, added, posted, IsNear}
+use Rattle.iso_issuer.specs.Balances.{accounts_of, balance_with, balance_after, IsNear}
 use Rattle.iso_issuer.specs.Index.{row_of}
 use Rattle.iso_issuer.proofs.Places.{place-below, found-none}
 use Rattle.iso_issuer.proofs.Changes.{posted-at, posted-none, accounts-posted}
@@ -41,8 +41,8 @@ invariant_of-self c =
     let rows = c.self.inside.rows.items in
     let told : c.args.place ≡ row_of (accounts_of rows) c.args.change.pan = rw c.self.view_is c.requires.place in
     let at : row_of (accounts_of rows) c.args.change.pan ≡ Some c.in-Some.place = sym told ∙ c.in-Some.is in
-    let value : c.changed.result ≡ added c.args.change (get_or rows c.in-Some.place c.index.result.now) = c.changed.ensures ∙ ap (added c.args.change) c.index.ensures in
-    let written : set rows c.in-Some.place c.changed.result ≡ map (posted c.args.change) rows =
+    let value : c.changed.result ≡ balance_with c.args.change (get_or rows c.in-Some.place c.index.result.now) = c.changed.ensures ∙ ap (balance_with c.args.change) c.index.ensures in
+    let written : set rows c.in-Some.place c.changed.result ≡ map (balance_after c.args.change) rows =
     ap (set rows c.in-Some.place) value ∙ posted-at c.args.change rows c.index.result.now c.in-Some.place c.self.invariant.1 at in
     rw (written, accounts-posted c.args.change rows) c.self.invariant
 
@@ -51,7 +51,7 @@ returns-in-Some c =
     let rows = c.self.inside.rows.items in
     let told : c.args.place ≡ row_of (accounts_of rows) c.args.change.pan = rw c.self.view_is c.requires.place in
     let at : row_of (accounts_of rows) c.args.change.pan ≡ Some c.in-Some.place = sym told ∙ c.in-Some.is in
-    let value : c.changed.result ≡ added c.args.change (get_or rows c.in-Some.place c.index.result.now) = c.changed.ensures ∙ ap (added c.args.change) c.index.ensures in
+    let value : c.changed.result ≡ balance_with c.args.change (get_or rows c.in-Some.place c.index.result.now) = c.changed.ensures ∙ ap (balance_with c.args.change) c.index.ensures in
     rw (← c.self.view_is)
     (ap (set rows c.in-Some.place) value ∙ posted-at c.args.change rows c.index.result.now c.in-Some.place c.self.invariant.1 at)
 

@@ -1,5 +1,5 @@
 use Rattle.std.proofs.Common.{sym, ◌∙◌}
-use Rattle.iso_issuer.specs.Journal.{undone}
+use Rattle.iso_issuer.specs.Journal.{undone_key}
 use Rattle.iso_issuer.proofs.Touched.{apart-found}
 use Rattle.iso_issuer.proofs.journal.Journal.ended_key.Goals as goal
 
@@ -8,4 +8,4 @@ returns-in-Some-reversed-clause-apart c = λ q h.
     let r = c.in-Some-reversed.reversed in
     let e = c.effect_of-in-Some-reversed.ensures in
     let classes = e.ends q (rw (← c.ended_by-in-Some-reversed.ensures) h) in
-    apart-found c.args.self.now (undone c.args.order.act) r q (sym c.requires ∙ c.in-Some-reversed.is) classes.0 classes.1
+    apart-found c.args.self.now (undone_key c.args.order.act) r q (sym c.requires ∙ c.in-Some-reversed.is) classes.0 classes.1

@@ -1,7 +1,7 @@
 use Rattle.std.proofs.Common.{sym, ap, ◌∙◌, not}
 use Rattle.std.specs.Prelude.{◌==◌, ◌&&◌}
 use Rattle.iso_issuer.specs.declared.journal.Entry.{Entry}
-use Rattle.iso_issuer.specs.Effect.{effect_of, ends}
+use Rattle.iso_issuer.specs.Effect.{effect_of, is_end_of}
 use Rattle.iso_issuer.specs.Journal.{is_counted}
 use Rattle.iso_issuer.specs.Index.{entries_from}
 use Rattle.iso_issuer.proofs.Completions.{any-counted}
@@ -13,4 +13,4 @@ returns c =
     let es = entries_from 0 i.orders.items i.codes.items i.shown in
     rw (← c.self.view_is)
     (ap (λ n. not (n == 0)) (c.count.ensures ∙ c.self.invariant.indexed.counts c.args.key c.args.pan)
-    ∙ sym (any-counted (λ (x : Entry). is_counted es x && ends c.args.key c.args.pan (effect_of x.order)) es))
+    ∙ sym (any-counted (λ (x : Entry). is_counted es x && is_end_of c.args.key c.args.pan (effect_of x.order)) es))

@@ -1,22 +1,19 @@
-use Rattle.std.proofs.Common.{◌∙◌, refl, sym}
-use Rattle.iso_wire.proofs.Buffers.{elements_of-same}
+use Rattle.std.proofs.Common.{◌∙◌, sym, ap}
+use Rattle.iso_wire.specs.Elements.{has}
+use Rattle.iso_wire.proofs.Changes.{views_equal, equal_values}
 use Rattle.iso_wire.proofs.elements.Elements.equals.Goals as goal
 
-pub returns-then-same_index : goal.returns-then-same_index
-returns-then-same_index c =
-    let index = sym c.deref.ensures.value ∙ c.same_index.ensures.0 c.if-same_index.true ∙ c.deref-2.ensures.value in (
-      (λ same.
-          let values = sym c.deref-then-same_index.ensures.value ∙ c.same_bytes.ensures.0 same ∙ c.deref-then-same_index-2.ensures.value in
-          rw (index, values) refl),
-      (λ same.
-          let both = elements_of-same _ _ _ _ c.requires.whole c.requires.other_whole same in
-          c.same_bytes.ensures.1 (c.deref-then-same_index.ensures.value ∙ both.1 ∙ sym c.deref-then-same_index-2.ensures.value)),
+pub returns-then-equals : goal.returns-then-equals
+returns-then-equals c =
+    let x = c.args.self.now in
+    let y = c.args.other.now in
+    let agree = c.equals.ensures.0 c.if-equals.true in (
+      (λ same. views_equal x y agree (c.has_values_of.ensures.0 same)),
+      (λ same. c.has_values_of.ensures.1 (equal_values x y c.requires.whole c.requires.other_whole agree same)),
     )
 
-pub returns-else-same_index : goal.returns-else-same_index
-returns-else-same_index c = (
-  (λ same. absurd (cc)),
-  (λ same.
-      let both = elements_of-same _ _ _ _ c.requires.whole c.requires.other_whole same in
-      c.same_index.ensures.1 (c.deref.ensures.value ∙ both.0 ∙ sym c.deref-2.ensures.value)),
+pub returns-else-equals : goal.returns-else-equals
+returns-else-equals c = (
+  (λ same. absurd cc),
+  (λ same. c.equals.ensures.1 (λ k. c.requires.numbered k ∙ ap (λ es. has es k) same ∙ sym (c.requires.other_numbered k))),
 )

@@ -1,65 +1,237 @@
-use Rattle.std.proofs.Common.{ℕ, ◌∙◌, ap, sym}
-use Rattle.std.specs.Prelude.{is_some}
+use Rattle.std.proofs.Common.{◌≡◌, ◌-◌, ℕ, true, false, length, get_or, take, refl, sym, ap, ◌∙◌, arith}
+use Rattle.std.proofs.lemmas.List.{get_or_default}
+use Rattle.std.proofs.lemmas.Result.{on_ok_weaker}
 use Rattle.iso_parts.specs.Bits.{contains}
 use Rattle.iso_wire.specs.Elements.{has}
-use Rattle.iso_wire.specs.Entries.{views, elements_of}
+use Rattle.iso_wire.specs.Ends.{end_of, views}
+use Rattle.iso_wire.proofs.Orders.{IsAscending-one}
 use Rattle.iso_wire.proofs.Numbered.{numbered_put, numbered_replaced, by_result}
-use Rattle.iso_wire.proofs.Changes.{value_in-holds, either_end, replaced, replaced_bytes, inserted, inserted_bytes, views_by, whole_by}
+use Rattle.iso_wire.proofs.Changes.{fits, within, back, there, own, own_within, from_own, inserted, inserted_whole, replaced, replaced_whole, either_end, on_ok_two, whole_same, numbered_same}
 use Rattle.iso_wire.proofs.elements.Elements.put.Goals as goal
+
+pub start_of-start-requires : goal.start_of-start-requires
+start_of-start-requires c =
+    let x = c.args.self.now in
+    let n = c.args.n in
+    let whole = c.requires.whole in
+    let good = IsAscending-one n c.args.value.now c.requires.number in
+    let at = c.count_below-at.result in
+    let placed = c.count_below-at.ensures in
+    rw c.deref.ensures.value (fits x whole n good.0 good.1 at (end_of 0 (take at x.ends.items)) placed refl)
+
+pub index-requires : goal.index-requires
+index-requires c =
+    let x = c.args.self.now in
+    let n = c.args.n in
+    let whole = c.requires.whole in
+    let good = IsAscending-one n c.args.value.now c.requires.number in
+    let at = c.count_below-at.result in
+    let placed = c.count_below-at.ensures in
+    let start = c.start_of-start.result in
+    let begins = c.start_of-start.ensures ∙ ap (λ l. end_of 0 (take at l)) c.deref.ensures.value in
+    let is : contains x.numbers n ≡ true = sym c.has.ensures.has ∙ c.if-has.true in
+    let lt = there x whole n good.0 good.1 at start placed begins is in
+    omega (arith, lt, c.deref.ensures.len, ap length c.deref.ensures.value)
+
+pub overflow_sub-len : goal.overflow_sub-len
+overflow_sub-len c =
+    let x = c.args.self.now in
+    let n = c.args.n in
+    let whole = c.requires.whole in
+    let good = IsAscending-one n c.args.value.now c.requires.number in
+    let at = c.count_below-at.result in
+    let placed = c.count_below-at.ensures in
+    let start = c.start_of-start.result in
+    let begins = c.start_of-start.ensures ∙ ap (λ l. end_of 0 (take at l)) c.deref.ensures.value in
+    let is : contains x.numbers n ≡ true = sym c.has.ensures.has ∙ c.if-has.true in
+    let lt = there x whole n good.0 good.1 at start placed begins is in
+    let read : c.index.result.now ≡ get_or x.ends.items at 0 = c.index.ensures ∙ get_or_default x.ends.items at c.index.result.now 0 lt in
+    let ordered = own x whole n good.0 good.1 at start placed begins is in
+    omega (arith, ordered.0, read)
 
 pub replace-requires-clause-place : goal.replace-requires-clause-place
 replace-requires-clause-place c =
-    let h = c.find-place.ensures.there _ c.in-Some.is in
-    h.at
+    let x = c.args.self.now in
+    let n = c.args.n in
+    let whole = c.requires.whole in
+    let good = IsAscending-one n c.args.value.now c.requires.number in
+    let at = c.count_below-at.result in
+    let placed = c.count_below-at.ensures in
+    let start = c.start_of-start.result in
+    let begins = c.start_of-start.ensures ∙ ap (λ l. end_of 0 (take at l)) c.deref.ensures.value in
+    fits x whole n good.0 good.1 at start placed begins
 
 pub replace-requires-clause-within : goal.replace-requires-clause-within
 replace-requires-clause-within c =
-    let h = c.find-place.ensures.there _ c.in-Some.is in
-    h.within
+    let x = c.args.self.now in
+    let n = c.args.n in
+    let whole = c.requires.whole in
+    let good = IsAscending-one n c.args.value.now c.requires.number in
+    let at = c.count_below-at.result in
+    let placed = c.count_below-at.ensures in
+    let start = c.start_of-start.result in
+    let begins = c.start_of-start.ensures ∙ ap (λ l. end_of 0 (take at l)) c.deref.ensures.value in
+    let is : contains x.numbers n ≡ true = sym c.has.ensures.has ∙ c.if-has.true in
+    let lt = there x whole n good.0 good.1 at start placed begins is in
+    let read : c.index.result.now ≡ get_or x.ends.items at 0 = c.index.ensures ∙ get_or_default x.ends.items at c.index.result.now 0 lt in
+    let ordered = own x whole n good.0 good.1 at start placed begins is in
+    let last = own_within x whole n good.0 good.1 at start placed begins is in
+    omega (arith, ordered.0, read, last)
+
+pub replace-requires-clause-ends : goal.replace-requires-clause-ends
+replace-requires-clause-ends c =
+    let x = c.args.self.now in
+    let n = c.args.n in
+    let whole = c.requires.whole in
+    let good = IsAscending-one n c.args.value.now c.requires.number in
+    let at = c.count_below-at.result in
+    let placed = c.count_below-at.ensures in
+    let start = c.start_of-start.result in
+    let begins = c.start_of-start.ensures ∙ ap (λ l. end_of 0 (take at l)) c.deref.ensures.value in
+    let is : contains x.numbers n ≡ true = sym c.has.ensures.has ∙ c.if-has.true in
+    let lt = there x whole n good.0 good.1 at start placed begins is in
+    let read : c.index.result.now ≡ get_or x.ends.items at 0 = c.index.ensures ∙ get_or_default x.ends.items at c.index.result.now 0 lt in
+    let ordered = own x whole n good.0 good.1 at start placed begins is in
+    let len = c.index.result.now - start in
+    let size : len ≡ get_or x.ends.items at 0 - start = ap (λ (k : ℕ). k - start) read in
+    from_own x whole n good.0 good.1 at start placed begins is len size
 
 pub insert-requires-clause-place : goal.insert-requires-clause-place
 insert-requires-clause-place c =
-    let l = c.find-place.ensures.lacking c.in-None.is in
-    l.at
+    let x = c.args.self.now in
+    let n = c.args.n in
+    let whole = c.requires.whole in
+    let good = IsAscending-one n c.args.value.now c.requires.number in
+    let at = c.count_below-at.result in
+    let placed = c.count_below-at.ensures in
+    let start = c.start_of-start.result in
+    let begins = c.start_of-start.ensures ∙ ap (λ l. end_of 0 (take at l)) c.deref.ensures.value in
+    fits x whole n good.0 good.1 at start placed begins
 
 pub insert-requires-clause-within : goal.insert-requires-clause-within
 insert-requires-clause-within c =
-    let l = c.find-place.ensures.lacking c.in-None.is in
-    l.within
+    let x = c.args.self.now in
+    let n = c.args.n in
+    let whole = c.requires.whole in
+    let good = IsAscending-one n c.args.value.now c.requires.number in
+    let at = c.count_below-at.result in
+    let placed = c.count_below-at.ensures in
+    let start = c.start_of-start.result in
+    let begins = c.start_of-start.ensures ∙ ap (λ l. end_of 0 (take at l)) c.deref.ensures.value in
+    within x whole n good.0 good.1 at start placed begins
 
-pub returns-in-Some-clause-ok : goal.returns-in-Some-clause-ok
-returns-in-Some-clause-ok c =
-    let h = c.find-place.ensures.there _ c.in-Some.is in
-    views_by c.replace.new.self _ _ _ c.replace.result (replaced _ _ _ _ _ h c.args.value.now) c.replace.ensures.ok
+pub insert-requires-clause-ends : goal.insert-requires-clause-ends
+insert-requires-clause-ends c =
+    let x = c.args.self.now in
+    let n = c.args.n in
+    let whole = c.requires.whole in
+    let good = IsAscending-one n c.args.value.now c.requires.number in
+    let at = c.count_below-at.result in
+    let placed = c.count_below-at.ensures in
+    let start = c.start_of-start.result in
+    let begins = c.start_of-start.ensures ∙ ap (λ l. end_of 0 (take at l)) c.deref.ensures.value in
+    back x whole n good.0 good.1 at start placed begins
 
-pub returns-in-Some-clause-whole : goal.returns-in-Some-clause-whole
-returns-in-Some-clause-whole c =
-    let h = c.find-place.ensures.there _ c.in-Some.is in
-    whole_by c.args.self.now _ _ _ c.replace.result c.requires.whole (replaced_bytes _ _ _ _ _ h c.args.value.now) c.replace.ensures.ok c.replace.ensures.err
+pub returns-then-has-clause-ok : goal.returns-then-has-clause-ok
+returns-then-has-clause-ok c =
+    let x = c.args.self.now in
+    let n = c.args.n in
+    let whole = c.requires.whole in
+    let good = IsAscending-one n c.args.value.now c.requires.number in
+    let at = c.count_below-at.result in
+    let placed = c.count_below-at.ensures in
+    let start = c.start_of-start.result in
+    let begins = c.start_of-start.ensures ∙ ap (λ l. end_of 0 (take at l)) c.deref.ensures.value in
+    let is : contains x.numbers n ≡ true = sym c.has.ensures.has ∙ c.if-has.true in
+    let lt = there x whole n good.0 good.1 at start placed begins is in
+    let read : c.index.result.now ≡ get_or x.ends.items at 0 = c.index.ensures ∙ get_or_default x.ends.items at c.index.result.now 0 lt in
+    let ordered = own x whole n good.0 good.1 at start placed begins is in
+    let len = c.index.result.now - start in
+    let size : len ≡ get_or x.ends.items at 0 - start = ap (λ (k : ℕ). k - start) read in
+    let v = c.args.value.now in
+    on_ok_weaker c.replace.result (λ made. replaced x whole n good.0 good.1 at start placed begins is len size c.replace.new.self v c.replace.ensures.kept made) c.replace.ensures.ok
 
-pub returns-in-None-clause-ok : goal.returns-in-None-clause-ok
-returns-in-None-clause-ok c =
-    let l = c.find-place.ensures.lacking c.in-None.is in
-    views_by c.insert.new.self _ _ _ c.insert.result (inserted _ _ _ _ l c.args.value.now) c.insert.ensures.ok
+pub returns-then-has-clause-whole : goal.returns-then-has-clause-whole
+returns-then-has-clause-whole c =
+    let x = c.args.self.now in
+    let n = c.args.n in
+    let whole = c.requires.whole in
+    let good = IsAscending-one n c.args.value.now c.requires.number in
+    let at = c.count_below-at.result in
+    let placed = c.count_below-at.ensures in
+    let start = c.start_of-start.result in
+    let begins = c.start_of-start.ensures ∙ ap (λ l. end_of 0 (take at l)) c.deref.ensures.value in
+    let is : contains x.numbers n ≡ true = sym c.has.ensures.has ∙ c.if-has.true in
+    let lt = there x whole n good.0 good.1 at start placed begins is in
+    let read : c.index.result.now ≡ get_or x.ends.items at 0 = c.index.ensures ∙ get_or_default x.ends.items at c.index.result.now 0 lt in
+    let ordered = own x whole n good.0 good.1 at start placed begins is in
+    let len = c.index.result.now - start in
+    let size : len ≡ get_or x.ends.items at 0 - start = ap (λ (k : ℕ). k - start) read in
+    let v = c.args.value.now in
+    either_end c.replace.result c.replace.ensures.ok c.replace.ensures.err (λ made. replaced_whole x whole n good.0 good.1 at start placed begins is len size c.replace.new.self v c.replace.ensures.kept made) (λ same. whole_same x c.replace.new.self same whole)
 
-pub returns-in-None-clause-whole : goal.returns-in-None-clause-whole
-returns-in-None-clause-whole c =
-    let l = c.find-place.ensures.lacking c.in-None.is in
-    whole_by c.args.self.now _ _ _ c.insert.result c.requires.whole (inserted_bytes _ _ _ _ l c.args.value.now) c.insert.ensures.ok c.insert.ensures.err
+pub returns-then-has-clause-numbered : goal.returns-then-has-clause-numbered
+returns-then-has-clause-numbered c =
+    let x = c.args.self.now in
+    let n = c.args.n in
+    let whole = c.requires.whole in
+    let good = IsAscending-one n c.args.value.now c.requires.number in
+    let at = c.count_below-at.result in
+    let placed = c.count_below-at.ensures in
+    let start = c.start_of-start.result in
+    let begins = c.start_of-start.ensures ∙ ap (λ l. end_of 0 (take at l)) c.deref.ensures.value in
+    let is : contains x.numbers n ≡ true = sym c.has.ensures.has ∙ c.if-has.true in
+    let lt = there x whole n good.0 good.1 at start placed begins is in
+    let read : c.index.result.now ≡ get_or x.ends.items at 0 = c.index.ensures ∙ get_or_default x.ends.items at c.index.result.now 0 lt in
+    let ordered = own x whole n good.0 good.1 at start placed begins is in
+    let len = c.index.result.now - start in
+    let size : len ≡ get_or x.ends.items at 0 - start = ap (λ (k : ℕ). k - start) read in
+    let v = c.args.value.now in
+    let held = sym (c.requires.numbered n) ∙ is in
+    either_end c.replace.result c.replace.ensures.ok c.replace.ensures.err
+    (λ made k. ap (λ s. contains s k) c.replace.ensures.kept ∙ numbered_replaced x.numbers n v (views x) c.requires.numbered held k ∙ ap (λ es. has es k) (sym (replaced x whole n good.0 good.1 at start placed begins is len size c.replace.new.self v c.replace.ensures.kept made)))
+    (λ same. numbered_same x c.replace.new.self same c.requires.numbered)
 
-pub returns-in-Some-clause-numbered : goal.returns-in-Some-clause-numbered
-returns-in-Some-clause-numbered c =
-    let old = c.args.self.now in
-    let h = c.find-place.ensures.there _ c.in-Some.is in
-    let there = ap is_some (value_in-holds _ _ _ _ _ h) in
-    let numbers = λ (k : ℕ). ap (λ s. contains s k) c.replace.ensures.kept in
-    either_end c.replace.result (returns-in-Some-clause-ok c) c.replace.ensures.err
-    (λ done. λ k. numbers k ∙ numbered_replaced old.numbers c.args.n c.args.value.now (views old) c.requires.numbered there k ∙ ap (λ es. has es k) (sym done))
-    (λ same. λ k. numbers k ∙ c.requires.numbered k ∙ ap (λ es. has (elements_of es old.values.items) k) (sym same.index) ∙ ap (λ b. has (elements_of c.replace.new.self.index.items b) k) (sym same.values))
+pub returns-else-has-clause-ok : goal.returns-else-has-clause-ok
+returns-else-has-clause-ok c =
+    let x = c.args.self.now in
+    let n = c.args.n in
+    let whole = c.requires.whole in
+    let good = IsAscending-one n c.args.value.now c.requires.number in
+    let at = c.count_below-at.result in
+    let placed = c.count_below-at.ensures in
+    let start = c.start_of-start.result in
+    let begins = c.start_of-start.ensures ∙ ap (λ l. end_of 0 (take at l)) c.deref.ensures.value in
+    let none : contains x.numbers n ≡ false = sym c.has.ensures.has ∙ c.if-has.false in
+    let v = c.args.value.now in
+    on_ok_two c.insert.result c.insert.ensures.ok c.insert.ensures.numbers (λ made adds. inserted x whole n good.0 good.1 at start placed begins none c.insert.new.self v adds made)
 
-pub returns-in-None-clause-numbered : goal.returns-in-None-clause-numbered
-returns-in-None-clause-numbered c =
-    let old = c.args.self.now in
-    by_result c.insert.result (returns-in-None-clause-ok c) c.insert.ensures.numbers c.insert.ensures.err c.insert.ensures.kept
-    (λ done adds. λ k. numbered_put old.numbers c.insert.new.self.numbers c.args.n c.args.value.now (views old) c.requires.numbered adds k ∙ ap (λ es. has es k) (sym done))
-    (λ same kept. λ k. ap (λ s. contains s k) kept ∙ c.requires.numbered k ∙ ap (λ es. has (elements_of es old.values.items) k) (sym same.index) ∙ ap (λ b. has (elements_of c.insert.new.self.index.items b) k) (sym same.values))
+pub returns-else-has-clause-whole : goal.returns-else-has-clause-whole
+returns-else-has-clause-whole c =
+    let x = c.args.self.now in
+    let n = c.args.n in
+    let whole = c.requires.whole in
+    let good = IsAscending-one n c.args.value.now c.requires.number in
+    let at = c.count_below-at.result in
+    let placed = c.count_below-at.ensures in
+    let start = c.start_of-start.result in
+    let begins = c.start_of-start.ensures ∙ ap (λ l. end_of 0 (take at l)) c.deref.ensures.value in
+    let none : contains x.numbers n ≡ false = sym c.has.ensures.has ∙ c.if-has.false in
+    let v = c.args.value.now in
+    by_result c.insert.result c.insert.ensures.ok c.insert.ensures.numbers c.insert.ensures.err c.insert.ensures.err (λ made adds. inserted_whole x whole n good.0 good.1 at start placed begins none c.insert.new.self v adds made) (λ same _. whole_same x c.insert.new.self same whole)
+
+pub returns-else-has-clause-numbered : goal.returns-else-has-clause-numbered
+returns-else-has-clause-numbered c =
+    let x = c.args.self.now in
+    let n = c.args.n in
+    let whole = c.requires.whole in
+    let good = IsAscending-one n c.args.value.now c.requires.number in
+    let at = c.count_below-at.result in
+    let placed = c.count_below-at.ensures in
+    let start = c.start_of-start.result in
+    let begins = c.start_of-start.ensures ∙ ap (λ l. end_of 0 (take at l)) c.deref.ensures.value in
+    let none : contains x.numbers n ≡ false = sym c.has.ensures.has ∙ c.if-has.false in
+    let v = c.args.value.now in
+    by_result c.insert.result c.insert.ensures.ok c.insert.ensures.numbers c.insert.ensures.err c.insert.ensures.err
+    (λ made adds k. numbered_put x.numbers c.insert.new.self.numbers n v (views x) c.requires.numbered adds k ∙ ap (λ es. has es k) (sym (inserted x whole n good.0 good.1 at start placed begins none c.insert.new.self v adds made)))
+    (λ same _. numbered_same x c.insert.new.self same c.requires.numbered)

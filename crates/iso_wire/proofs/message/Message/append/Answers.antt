@@ -1,5 +1,5 @@
 use Rattle.iso_wire.proofs.Orders.{IsAscending-one, IsAscending-push}
-use Rattle.iso_wire.proofs.Changes.{either_end}
+use Rattle.iso_wire.proofs.Changes.{either_end, views_same}
 use Rattle.iso_wire.proofs.message.Message.append.Goals as goal
 
 pub invariant_of-self : goal.invariant_of-self
@@ -9,6 +9,6 @@ invariant_of-self c =
       c.append.ensures.whole,
       either_end c.append.result c.append.ensures.ok c.append.ensures.err
           (λ done. rw done (IsAscending-push 2 c.args.n c.args.value.now _ good.0 good.1 good.2 below c.self.invariant.1))
-          (λ kept. rw (kept.index, kept.values) c.self.invariant.1),
+          (λ kept. rw (views_same _ _ kept) c.self.invariant.1),
       c.append.ensures.numbered,
     )

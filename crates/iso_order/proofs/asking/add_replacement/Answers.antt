@@ -1,4 +1,0 @@
-use Rattle.iso_order.proofs.asking.add_replacement.Goals as goal
-
-pub returns-in-Some : goal.returns-in-Some
-returns-in-Some c = rw (← c.in-Some.ensures, ← c.replacement_amounts.ensures) c.append.ensures.ok

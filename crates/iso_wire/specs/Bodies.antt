@@ -1,0 +1,82 @@
+-- Where the bodies of a message lie in its bytes, and reading them.
+-- Inner, for bodies and proofs: `longest_part`, `front_of`, `wire_at`, `wires_at`, `view_at`, `JudgesWire`, `FindsBodies`.
+use Rattle.std.specs.Prelude.{◌≡◌, ℕ, ◌+◌, ◌-◌, ◌*◌, ◌≤◌, List, [], ◌∷◌, length, take, drop, map, Option, Some, None, Result, Ok, Err}
+use Rattle.std.specs.List.{slice_index_or}
+use Rattle.iso_parts.specs.declared.spec.FieldSpec.{FieldSpec}
+use Rattle.iso_parts.specs.Reading.{prefix_size}
+use Rattle.iso_parts.specs.Row.{longest_value}
+use Rattle.iso_wire.specs.declared.bodies.Bodies.{Bodies}
+use Rattle.iso_wire.specs.declared.fault.UnpackFault.{UnpackFault}
+use Rattle.iso_parts.specs.Numbers.{numbers_in}
+use Rattle.iso_parts.specs.Mti.{mti_size}
+use Rattle.iso_wire.specs.Reading.{◌>>=◌, type_at, words_at, value_at}
+use Rattle.iso_table.specs.Layout.{Layout, row_at}
+use Rattle.iso_wire.specs.Viewing.{Viewed}
+
+-- where the body with a number begins, and how many bytes it is
+abbrev pub start_at : Bodies → ℕ → ℕ
+start_at bodies n = slice_index_or bodies.starts n 0
+
+abbrev pub size_at : Bodies → ℕ → ℕ
+size_at bodies n = slice_index_or bodies.sizes n 0
+
+-- the bytes of that body
+abbrev pub body_in : List ℕ → Bodies → ℕ → List ℕ
+body_in b bodies n = take (size_at bodies n) (drop (start_at bodies n) b)
+
+-- the bodies in bytes for elements with the numbers
+abbrev pub wire_of : List ℕ → Bodies → ℕ → ℕ × List ℕ
+wire_of b bodies n = (n, body_in b bodies n)
+
+abbrev pub wires_in : List ℕ → Bodies → List ℕ → List (ℕ × List ℕ)
+wires_in b bodies ns = map (wire_of b bodies) ns
+
+-- the body with a number lies within so many bytes
+abbrev pub IsWithin : ℕ → Bodies → ℕ → Type 0
+IsWithin size bodies n = start_at bodies n + size_at bodies n ≤ size
+
+-- each of those bodies does
+abbrev pub AreWithin : ℕ → Bodies → List ℕ → Type 0
+AreWithin size bodies [] = Unit {0}
+AreWithin size bodies (n ∷ ns) = IsWithin size bodies n × AreWithin size bodies ns
+
+-- ---- reading the bodies
+
+-- the most bytes of a part: four of length, and two for each character
+abbrev pub longest_part : ℕ
+longest_part = 2 * longest_value + 4
+
+-- how many bytes of a part stand before its body
+abbrev pub front_of : Option FieldSpec → ℕ
+front_of None = 0
+front_of (Some s) = prefix_size s.length
+
+-- the body of a part that takes so many bytes
+abbrev pub wire_at : Option FieldSpec → List ℕ → ℕ → List ℕ
+wire_at row b used = take (used - front_of row) (drop (front_of row) b)
+
+-- the bodies of the elements with the numbers, and the offset behind them
+abbrev pub wires_at : List (Option FieldSpec) → List ℕ → ℕ → List ℕ → Result (List (ℕ × List ℕ) × ℕ) UnpackFault
+wires_at rows [] at b = Ok ([], at)
+wires_at rows (n ∷ ns) at b = do
+  first ← value_at rows n at b
+  others ← wires_at rows ns (at + first.1) (drop first.1 b)
+  Ok ((n, wire_at (row_at rows n) b first.1) ∷ others.0, others.1)
+
+-- the message that the bytes begin with
+abbrev pub view_at : Layout → List ℕ → Result Viewed UnpackFault
+view_at t b = do
+  mti ← type_at t b
+  words ← words_at t (mti_size t.mti) (drop (mti_size t.mti) b)
+  read ← wires_at t.rows (numbers_in words.0 words.1) (mti_size t.mti + words.2) (drop (mti_size t.mti + words.2) b)
+  Ok (record { mti = mti; used = read.1; wires = read.0 })
+
+-- a part was judged as reading does, without its value: where its body begins, and how many bytes it takes
+abbrev pub JudgesWire : Option FieldSpec → Result (ℕ × ℕ) UnpackFault → Result (List ℕ × ℕ) UnpackFault → Type 0
+JudgesWire row (Ok x) read = (x.0 ≡ front_of row) × ((value : List ℕ) × (read ≡ Ok (value, x.1)))
+JudgesWire row (Err e) read = read ≡ Err e
+
+-- the bodies are found that reading gives
+abbrev pub FindsBodies : List ℕ → Bodies → List ℕ → Result ℕ UnpackFault → Result (List (ℕ × List ℕ) × ℕ) UnpackFault → Type 0
+FindsBodies b bodies ns (Ok end) read = read ≡ Ok (wires_in b bodies ns, end)
+FindsBodies b bodies ns (Err e) read = read ≡ Err e
