@@ -9,7 +9,7 @@ use Rattle.iso_acquirer.specs.declared.slot.Role.{Role}
 use Rattle.iso_acquirer.specs.declared.slot.Role.TheVariants.{Transaction, Reversal}
 use Rattle.iso_acquirer.specs.declared.slot.Stage.{Stage}
 use Rattle.iso_acquirer.specs.declared.slot.Stage.TheVariants.{Asked, Undoing, Granted, Denied, Undone}
-use Rattle.iso_acquirer.specs.Slots.{AreNumbered, slot_at, may_reverse, to_reverse, waiting, on_stage, slots_at_stage, transaction_of, reversal_for, slots_with, reversing, stage_after, stage_undone, IsRequest, IsKept}
+use Rattle.iso_acquirer.specs.Slots.{AreNumbered, slot_at, may_reverse, to_reverse, waiting, on_stage, slots_at_stage, transaction_of, reversal_for, slots_with, reversing, stage_after, stage_undone, IsRequest, IsRoomKept}
 use Rattle.iso_acquirer.proofs.Lists.{all-push}
 use Rattle.iso_acquirer.proofs.Numbered.{summed, numbered-changed, numbered-push, length-changed, all-changed, all-found}
 
@@ -32,8 +32,8 @@ request-found slots m s all there one = by_role s.role (all-found (λ s. IsReque
     by_role (Reversal k) is one = cc
 
 -- a transaction is begun
-pub kept-begun : (id : ℕ) (slots : List Slot) (w len cap len_after cap_after : ℕ) (o : Instruction) → IsKept id slots w len cap →
-    o.key.stan ≡ length slots + 1 → o.key.base ≡ 200 → length slots < 999999 → len_after + (w + 1) ≤ cap_after → IsKept id (slots_with slots o) (w + 1) len_after cap_after
+pub kept-begun : (id : ℕ) (slots : List Slot) (w len cap len_after cap_after : ℕ) (o : Instruction) → IsRoomKept id slots w len cap →
+    o.key.stan ≡ length slots + 1 → o.key.base ≡ 200 → length slots < 999999 → len_after + (w + 1) ≤ cap_after → IsRoomKept id (slots_with slots o) (w + 1) len_after cap_after
 kept-begun id slots w len cap len_after cap_after o kept next base few room = record {
   id_fits = kept.id_fits;
   numbered = numbered-push slots (transaction_of o) 1 kept.numbered (omega (arith, next));
@@ -49,10 +49,10 @@ open-sum : (slots : List Slot) (m : ℕ) (s : Slot) (step : Stage → Stage) →
 open-sum slots m s step h there = summed (λ (s : Slot). to_reverse s.role) step slots 1 m s h there
 
 -- a transaction comes to a stage
-pub kept-brought : (id : ℕ) (slots : List Slot) (w len cap len_after cap_after m before after : ℕ) (s : Slot) (from stage : Stage) → IsKept id slots w len cap →
+pub kept-brought : (id : ℕ) (slots : List Slot) (w len cap len_after cap_after m before after : ℕ) (s : Slot) (from stage : Stage) → IsRoomKept id slots w len cap →
     slot_at slots m ≡ Some s → s.role ≡ Transaction from → before ≡ to_reverse s.role → after ≡ may_reverse stage → after ≤ before → before ≤ w →
     len_after ≡ len → cap_after ≡ cap →
-    IsKept id (slots_at_stage (λ _. stage) m slots) (w - before + after) len_after cap_after
+    IsRoomKept id (slots_at_stage (λ _. stage) m slots) (w - before + after) len_after cap_after
 kept-brought id slots w len cap len_after cap_after m before after s from stage kept there role was is less enough same_len same_cap = record {
   id_fits = kept.id_fits;
   numbered = numbered-changed (λ _. stage) m slots 1 kept.numbered;
@@ -63,7 +63,7 @@ kept-brought id slots w len cap len_after cap_after m before after s from stage 
 }
 
 -- what may still be reversed is counted
-pub open-counted : (id : ℕ) (slots : List Slot) (w len cap m before : ℕ) (s : Slot) → IsKept id slots w len cap → slot_at slots m ≡ Some s →
+pub open-counted : (id : ℕ) (slots : List Slot) (w len cap m before : ℕ) (s : Slot) → IsRoomKept id slots w len cap → slot_at slots m ≡ Some s →
     before ≡ to_reverse s.role → before ≤ w
 open-counted id slots w len cap m before s kept there is =
     omega (arith, kept.counted, is, open-sum slots m s (λ _. Granted) kept.numbered there, closed s.role)
@@ -73,9 +73,9 @@ open-counted id slots w len cap m before s kept there is =
     closed (Reversal k) = refl
 
 -- a transaction is reversed
-pub kept-reversing : (id : ℕ) (slots : List Slot) (w len cap len_after cap_after m : ℕ) (s : Slot) (u : Instruction) → IsKept id slots w len cap →
+pub kept-reversing : (id : ℕ) (slots : List Slot) (w len cap len_after cap_after m : ℕ) (s : Slot) (u : Instruction) → IsRoomKept id slots w len cap →
     slot_at slots m ≡ Some s → to_reverse s.role ≡ 1 → u.key.stan ≡ length slots + 1 → length slots < 999999 →
-    len_after ≡ len + 1 → cap_after ≡ cap → IsKept id (reversing slots m u) (w - 1) len_after cap_after
+    len_after ≡ len + 1 → cap_after ≡ cap → IsRoomKept id (reversing slots m u) (w - 1) len_after cap_after
 kept-reversing id slots w len cap len_after cap_after m s u kept there one next few same_len same_cap =
     let after = slots_at_stage (λ _. Undoing u) m slots in
     let length_after : length after ≡ length slots = length-changed (λ _. Undoing u) m slots in

@@ -7,7 +7,7 @@ use Rattle.iso_order.specs.declared.key.TxKey.{TxKey}
 use Rattle.iso_order.specs.declared.act.Act.TheVariants.{Debit, Undo}
 use Rattle.iso_order.specs.declared.act.Money.{Money}
 use Rattle.iso_order.specs.AccountNumber.{is_pan}
-use Rattle.iso_order.specs.Key.{class_of, is_valid_key}
+use Rattle.iso_order.specs.Key.{class_digit, is_valid_key}
 use Rattle.iso_order.specs.Order.{Instruction, is_account, is_currency, has_amount, is_payment, is_valid, is_valid_act}
 use Rattle.iso_acquirer.specs.Slots.{IsFair}
 use Rattle.iso_acquirer.proofs.Keys.{both, both_true, number_self}
@@ -23,7 +23,7 @@ value_if b x y r h is gives = same (sym gives ∙ is ∙ ap (λ t. cond t (Some 
     same h = cc
 
 -- a key of message type 0200 is of class 2
-pub class_two : (k : TxKey) → k.base ≡ 200 → class_of k ≡ 2
+pub class_two : (k : TxKey) → k.base ≡ 200 → class_digit k ≡ 2
 class_two k h = ap (λ b. b / 100 % 10) h
 
 payment_of : (k : TxKey) → k.base ≡ 200 → is_payment k ≡ true
@@ -73,8 +73,8 @@ reversal-fits o used valid base few =
 -- a valid reversal names a key of its own acquirer
 undo_by : (key k : TxKey) (left : ℕ) → is_valid_act key (Undo k left) ≡ true → k.acquirer ≡ key.acquirer
 undo_by key k left h =
-    let e = both (class_of key == 4 && is_valid_key k && is_payment k && (k.acquirer == key.acquirer)) (nat_le left 999999999999) h in
-    let f = both (class_of key == 4 && is_valid_key k && is_payment k) (k.acquirer == key.acquirer) e.0 in
+    let e = both (class_digit key == 4 && is_valid_key k && is_payment k && (k.acquirer == key.acquirer)) (nat_le left 999999999999) h in
+    let f = both (class_digit key == 4 && is_valid_key k && is_payment k) (k.acquirer == key.acquirer) e.0 in
     grind (arith, common_steps, f.1)
 
 pub undo-acquirer : (o : Instruction) (k : TxKey) (left : ℕ) → is_valid o ≡ true → o.act ≡ Undo k left → k.acquirer ≡ o.key.acquirer

@@ -7,12 +7,12 @@ use Rattle.iso_order.specs.declared.act.Act.TheVariants.{Debit}
 use Rattle.iso_order.specs.declared.act.Money.{Money}
 use Rattle.iso_order.specs.AccountNumber.{AccountNumber}
 use Rattle.iso_order.specs.declared.key.TxKey.{TxKey}
-use Rattle.iso_order.specs.Key.{class_of}
+use Rattle.iso_order.specs.Key.{class_digit}
 use Rattle.iso_order.specs.Order.{Instruction, same_pan}
 use Rattle.iso_issuer.specs.declared.account.Account.{Account}
 use Rattle.iso_issuer.specs.declared.effect.Side.TheVariants.{Given, Taken, Held}
 use Rattle.iso_issuer.specs.declared.journal.Entry.{Entry}
-use Rattle.iso_issuer.specs.Effect.{effect_of, effect_by, amount_of}
+use Rattle.iso_issuer.specs.Effect.{effect_of, effect_by, effect_amount}
 use Rattle.iso_issuer.specs.Journal.{entry_at, stands, weight, is_entered, HasDistinctKeys}
 use Rattle.iso_issuer.specs.Balance.{share, total, ledger}
 use Rattle.iso_issuer.specs.Decision.{journal_of}
@@ -26,7 +26,7 @@ use Rattle.iso_acquirer.specs.declared.slot.Stage.TheVariants.{Asked, Undoing, G
 use Rattle.iso_acquirer.specs.Slots.{slot_at, state_by, state_in}
 use Rattle.iso_acquirer.specs.World.{World}
 use Rattle.iso_acquirer.specs.Agreed.{IsTransaction, IsRole, IsKnown, IsSound}
-use Rattle.iso_acquirer.specs.Agreement.{is_closed, is_approved, debit_amount, approved_total, IsSettled, BooksAgree}
+use Rattle.iso_acquirer.specs.Agreement.{is_closed, is_state_approved, debit_amount, approved_total, IsSettled, BooksAgree}
 use Rattle.iso_acquirer.proofs.Keys.{some_is}
 use Rattle.iso_acquirer.proofs.Lists.{all-weaker}
 use Rattle.iso_acquirer.proofs.Numbered.{found}
@@ -36,7 +36,7 @@ use Rattle.iso_acquirer.proofs.Sums.{sum-all, sum-none, all-map, all-slots, all-
 
 -- what the acquirer's books count of an order
 abbrev approved_in : AccountNumber → Slot → ℕ
-approved_in pan s = cond (is_approved (state_in s.role)) (debit_amount pan s.order.act) 0
+approved_in pan s = cond (is_state_approved (state_in s.role)) (debit_amount pan s.order.act) 0
 
 zero_cond : (b : Bool) (n : ℕ) → n ≡ 0 → cond b n 0 ≡ 0
 zero_cond true n h = h
@@ -48,7 +48,7 @@ never_now accounts orders k e never distinct here =
     subst (λ os. HasDistinctKeys os → entry_at (journal_of accounts os) k ≡ Some e → stands (journal_of accounts os) e ≡ false) (append-nil orders) (λ d h. never [] e d h) distinct here
 
 -- a debit of class 2 takes its amount
-debit_taken : (o : Instruction) (m : Money) → o.act ≡ Debit m → class_of o.key ≡ 2 → effect_of o ≡ Some (record { pan = m.pan; side = Taken; amount = m.amount; ends = None })
+debit_taken : (o : Instruction) (m : Money) → o.act ≡ Debit m → class_digit o.key ≡ 2 → effect_of o ≡ Some (record { pan = m.pan; side = Taken; amount = m.amount; ends = None })
 debit_taken o m act two =
     ap (effect_by o.key) act ∙ ap (λ c. Some (record { pan = m.pan; side = cond (c == 1) Held Taken; amount = m.amount; ends = None })) two
 
@@ -86,7 +86,7 @@ module _ (of_orders : EntriesAreOfOrders) (entered_has : EnteredHasEntry) (weigh
       weight (journal w.issuer) e ≡ n → cond (same_pan m.pan pan) n 0 ≡ approved_in pan s → Counts w pan e
   of_debit e s m n here same act base heavy amount =
       let act_is : e.order.act ≡ Debit m = ap (λ (o : Instruction). o.act) (sym same) ∙ act in
-      let two : class_of e.order.key ≡ 2 = class_two e.order.key (ap (λ (o : Instruction). o.key.base) (sym same) ∙ base) in
+      let two : class_digit e.order.key ≡ 2 = class_two e.order.key (ap (λ (o : Instruction). o.key.base) (sym same) ∙ base) in
       let effect = debit_taken e.order m act_is two in
       record {
         taken = ap (λ f. share Taken pan f (weight (journal w.issuer) e)) effect ∙ ap (λ n. cond (same_pan m.pan pan) n 0) heavy ∙ amount ∙ ap (slot_sum (approved_in pan)) (sym here);
@@ -96,7 +96,7 @@ module _ (of_orders : EntriesAreOfOrders) (entered_has : EnteredHasEntry) (weigh
 
   -- one that doesn't stand
   of_fallen : (e : Entry) (s : Slot) (m : Money) → slot_at w.acquirer.slots e.order.key.stan ≡ Some s → s.order ≡ e.order → s.order.act ≡ Debit m → s.order.key.base ≡ 200 →
-      entry_at (journal w.issuer) e.order.key ≡ Some e → NeverStands w.issuer.accounts w.issuer.orders s.order.key → is_approved (state_in s.role) ≡ false → Counts w pan e
+      entry_at (journal w.issuer) e.order.key ≡ Some e → NeverStands w.issuer.accounts w.issuer.orders s.order.key → is_state_approved (state_in s.role) ≡ false → Counts w pan e
   of_fallen e s m here same act base at stands_never off =
       of_debit e s m 0 here same act base
       (nothing (journal w.issuer) e (never_now w.issuer.accounts w.issuer.orders s.order.key e stands_never sound.distinct (ap (λ (o : Instruction). entry_at (journal w.issuer) o.key) same ∙ at)))
@@ -111,16 +111,16 @@ module _ (of_orders : EntriesAreOfOrders) (entered_has : EnteredHasEntry) (weigh
       let g = approved_granted w.acquirer.id w.acquirer.slots w.sent w.given (journal w.issuer) sound.agreed none_is_none e.order.key.stan s here place.0 role in
       let entry : g.entry ≡ e = some_is g.entry e (sym g.found_it ∙ ap (λ (o : Instruction). entry_at (journal w.issuer) o.key) same ∙ at) in
       let act_is : g.entry.order.act ≡ Debit t.money = ap (λ (o : Instruction). o.act) g.same ∙ t.debit in
-      let two : class_of g.entry.order.key ≡ 2 = class_two g.entry.order.key (ap (λ (o : Instruction). o.key.base) g.same ∙ t.base) in
+      let two : class_digit g.entry.order.key ≡ 2 = class_two g.entry.order.key (ap (λ (o : Instruction). o.key.base) g.same ∙ t.base) in
       of_debit e s t.money t.money.amount here same t.debit t.base
-      (ap (weight (journal w.issuer)) (sym entry) ∙ weighs (journal w.issuer) g.entry two (debit_effect g.entry.order t.money act_is) g.granted g.free ∙ ap amount_of (debit_taken g.entry.order t.money act_is two))
-      (sym (ap (λ r. cond (is_approved (state_in r)) (debit_amount pan s.order.act) 0) role ∙ ap (debit_amount pan) t.debit))
+      (ap (weight (journal w.issuer)) (sym entry) ∙ weighs (journal w.issuer) g.entry two (debit_effect g.entry.order t.money act_is) g.granted g.free ∙ ap effect_amount (debit_taken g.entry.order t.money act_is two))
+      (sym (ap (λ r. cond (is_state_approved (state_in r)) (debit_amount pan s.order.act) 0) role ∙ ap (debit_amount pan) t.debit))
   of_stage e s at here same (Denied c) role closed t =
       of_fallen e s t.money here same t.debit t.base at
-      (declined-never w.acquirer.id w.acquirer.slots w.sent w.given w.issuer.accounts w.issuer.orders sound.agreed no_more falls e.order.key.stan s c here role) (ap (λ r. is_approved (state_in r)) role)
+      (declined-never w.acquirer.id w.acquirer.slots w.sent w.given w.issuer.accounts w.issuer.orders sound.agreed no_more falls e.order.key.stan s c here role) (ap (λ r. is_state_approved (state_in r)) role)
   of_stage e s at here same (Undone u) role closed t =
       of_fallen e s t.money here same t.debit t.base at
-      (reversed-never w.acquirer.id w.acquirer.slots w.sent w.given w.issuer.accounts w.issuer.orders sound.agreed never e.order.key.stan s u here role) (ap (λ r. is_approved (state_in r)) role)
+      (reversed-never w.acquirer.id w.acquirer.slots w.sent w.given w.issuer.accounts w.issuer.orders sound.agreed never e.order.key.stan s u here role) (ap (λ r. is_state_approved (state_in r)) role)
 
   of_role : (e : Entry) (s : Slot) → entry_at (journal w.issuer) e.order.key ≡ Some e → slot_at w.acquirer.slots e.order.key.stan ≡ Some s → s.order ≡ e.order →
       (role : Role) → s.role ≡ role → IsRole (journal w.issuer) w.acquirer.slots s.order role → Counts w pan e
@@ -130,7 +130,7 @@ module _ (of_orders : EntriesAreOfOrders) (entered_has : EnteredHasEntry) (weigh
   of_role e s at here same (Reversal k) role t =
       let none : effect_of e.order ≡ None = ap (effect_by e.order.key) (ap (λ (o : Instruction). o.act) (sym same) ∙ t.names) in
       record {
-        taken = ap (λ f. share Taken pan f (weight (journal w.issuer) e)) none ∙ sym (ap (slot_sum (approved_in pan)) here ∙ ap (λ r. cond (is_approved (state_in r)) (debit_amount pan s.order.act) 0) role);
+        taken = ap (λ f. share Taken pan f (weight (journal w.issuer) e)) none ∙ sym (ap (slot_sum (approved_in pan)) here ∙ ap (λ r. cond (is_state_approved (state_in r)) (debit_amount pan s.order.act) 0) role);
         given = ap (λ f. share Given pan f (weight (journal w.issuer) e)) none;
         held = ap (λ f. share Held pan f (weight (journal w.issuer) e)) none;
       }
@@ -143,7 +143,7 @@ module _ (of_orders : EntriesAreOfOrders) (entered_has : EnteredHasEntry) (weigh
 
   -- what is approved is entered
   entered_amount : (s : Slot) → (role : Role) → s.role ≡ role → IsRole (journal w.issuer) w.acquirer.slots s.order role →
-      cond (is_entered (map (λ e. e.order) (journal w.issuer)) s.order.key) (cond (is_approved (state_in role)) (debit_amount pan s.order.act) 0) 0 ≡ cond (is_approved (state_in role)) (debit_amount pan s.order.act) 0
+      cond (is_entered (map (λ e. e.order) (journal w.issuer)) s.order.key) (cond (is_state_approved (state_in role)) (debit_amount pan s.order.act) 0) 0 ≡ cond (is_state_approved (state_in role)) (debit_amount pan s.order.act) 0
   entered_amount s (Transaction Granted) role t =
       let kept = kept_entry (journal w.issuer) s.order.key 0 t.held in
       ap (λ b. cond b (debit_amount pan s.order.act) 0) (ap (λ os. is_entered os s.order.key) orders_are ∙ entered_has w.issuer.accounts w.issuer.orders s.order.key ∙ ap is_some kept.1)

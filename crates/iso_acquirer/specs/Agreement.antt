@@ -67,17 +67,17 @@ debit_amount pan (Inquiry m) = 0
 debit_amount pan (Undo original left) = 0
 debit_amount pan (Complete m hold) = 0
 
-abbrev pub is_approved : Option State → Bool
-is_approved (Some Approved) = true
-is_approved (Some (Waiting n)) = false
-is_approved (Some Reversing) = false
-is_approved (Some (Declined c)) = false
-is_approved (Some Reversed) = false
-is_approved None = false
+abbrev pub is_state_approved : Option State → Bool
+is_state_approved (Some Approved) = true
+is_state_approved (Some (Waiting n)) = false
+is_state_approved (Some Reversing) = false
+is_state_approved (Some (Declined c)) = false
+is_state_approved (Some Reversed) = false
+is_state_approved None = false
 
 -- the amounts of the approved debits of the account, added up
 abbrev pub approved_total : AccountNumber → List Slot → ℕ
-approved_total pan slots = sum_by (λ s. if is_approved (state_in s.role) then debit_amount pan s.order.act else 0) slots
+approved_total pan slots = sum_by (λ s. if is_state_approved (state_in s.role) then debit_amount pan s.order.act else 0) slots
 
 -- all transactions are closed, and no order of others is entered
 pub record IsSettled (w : World) : Type 0 where

@@ -121,8 +121,8 @@ pub record IsFair (amount : ℕ) (currency : List ℕ) (sent : ℕ) : Type 0 whe
 -- ---- timeout
 
 -- the reversal of an order (message type 0420), under the next trace number; it leaves nothing
-abbrev pub reversal_of : List Slot → Instruction → Instruction
-reversal_of slots o = record {
+abbrev pub next_reversal : List Slot → Instruction → Instruction
+next_reversal slots o = record {
   key = record { base = 420; stan = length slots + 1; sent = o.key.sent; acquirer = o.key.acquirer };
   act = Undo o.key 0;
 }
@@ -135,7 +135,7 @@ reversing slots stan undo = slots_at_stage (λ _. Undoing undo) stan slots ++ re
 abbrev pub timeout_by : List Slot → Instruction → Stage → Result (Instruction × List Slot) AcqFault
 timeout_by slots o (Asked n) =
     if n == 1 then Ok (o, slots_at_stage (λ _. Asked 2) o.key.stan slots)
-    else if nat_lt (length slots) 999999 then Ok (reversal_of slots o, reversing slots o.key.stan (reversal_of slots o))
+    else if nat_lt (length slots) 999999 then Ok (next_reversal slots o, reversing slots o.key.stan (next_reversal slots o))
     else Err NoMoreTrace
 timeout_by slots o (Undoing u) = Ok (u, slots)
 timeout_by slots o Granted = Err Closed
@@ -192,7 +192,7 @@ IsRequest (Transaction stage) o = o.key.base ≡ 200
 IsRequest (Reversal stan) o = Unit {0}
 
 -- the numbers are in a row and few, and there is room for each reversal that may come
-pub record IsKept (id : ℕ) (slots : List Slot) (open_ones : ℕ) (len capacity : ℕ) : Type 0 where
+pub record IsRoomKept (id : ℕ) (slots : List Slot) (open_ones : ℕ) (len capacity : ℕ) : Type 0 where
   pub id_fits : id ≤ 99999999999
   pub numbered : AreNumbered 1 slots
   pub few : length slots ≤ 999999

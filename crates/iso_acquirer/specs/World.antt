@@ -75,7 +75,7 @@ pub record IsDelivered (old : World) (place : ℕ) (new : World) : Type 0 where
   pub after : new ≡ with_delivery old order
 
 -- an answer was given at that place
-pub record IsTold (old : World) (place : ℕ) (new : World) : Type 0 where
+pub record IsAnswerGiven (old : World) (place : ℕ) (new : World) : Type 0 where
   pub answer : Given
   pub found : slice_get old.given place ≡ Some answer
   pub after : new ≡ with_answer old answer
@@ -90,7 +90,7 @@ abbrev pub IsMade : World → Event → World → Type 0
 IsMade old (Begin pan amount currency sent) new = IsBegun old (debit_of old.acquirer pan amount currency sent) new
 IsMade old (Timeout stan) new = IsAsked old stan new
 IsMade old (Deliver place) new = IsDelivered old place new
-IsMade old (Answer place) new = IsTold old place new
+IsMade old (Answer place) new = IsAnswerGiven old place new
 IsMade old (Other o) new = IsOther old o new
 
 -- ---- why one isn't made

@@ -7,7 +7,7 @@ ghost use Rattle.iso_order.specs.declared.act.Act.TheVariants.{Debit};
 ghost use Rattle.iso_acquirer.specs.declared.fault.AcqFault.TheVariants.{NoMoreTrace, Memory};
 ghost use Rattle.iso_acquirer.specs.declared.slot.Role.TheVariants.{Transaction};
 ghost use Rattle.iso_acquirer.specs.Slots.{AreNumbered, slot_at, state_by, state_of, may_reverse, to_reverse, on_stage, slots_at_stage, slots_with};
-ghost use Rattle.iso_acquirer.specs.Slots.{debit_of, IsFair, IsRequest, reversal_of, reversing, timeout, timeout_by, slots_after_answer_in};
+ghost use Rattle.iso_acquirer.specs.Slots.{debit_of, IsFair, IsRequest, next_reversal, reversing, timeout, timeout_by, slots_after_answer_in};
 ghost use Rattle.iso_acquirer.specs.Slots.{stage_after, stage_undone, slots_after_answer};
 
 use crate::fault::AcqFault;
@@ -29,13 +29,13 @@ pub struct Acquirer {
 
 impl Model for Acquirer {
     ghost use Rattle.std.specs.Prelude.{vec_len, vec_capacity};
-    ghost use Rattle.iso_acquirer.specs.Slots.{Party, IsKept};
+    ghost use Rattle.iso_acquirer.specs.Slots.{Party, IsRoomKept};
 
     ghost Value = { Party };
 
     ghost view = { λ a. record { id = a.id; slots = a.slots.items } };
 
-    ghost invariant = { λ a. IsKept a.id a.slots.items a.waiting (vec_len a.slots) (vec_capacity a.slots) };
+    ghost invariant = { λ a. IsRoomKept a.id a.slots.items a.waiting (vec_len a.slots) (vec_capacity a.slots) };
 }
 
 fn slot_in(slots: &[Slot], place: usize) -> Option<Slot>
@@ -60,7 +60,8 @@ fn slot_at(slots: &[Slot], stan: u32) -> Option<Slot>
 fn put(slots: &mut [Slot], slot: &Slot, stage: Stage)
     requires numbered { AreNumbered 1 slots.old }
     requires there { slot_at slots.old slot.now.order.key.stan ≡ Some slot.now }
-    ensures { (step : Stage → Stage) → on_stage step slot.now.role ≡ Transaction stage → slots.new ≡ slots_at_stage step slot.now.order.key.stan slots.old }
+    ensures { (step : Stage → Stage) → on_stage step slot.now.role ≡ Transaction stage
+        → slots.new ≡ slots_at_stage step slot.now.order.key.stan slots.old }
 {
     let place = slot.order.key().stan as usize - 1;
     slots[place] = Slot {
@@ -153,7 +154,7 @@ fn debit(key: TxKey, money: Money) -> Order
 fn reversal(used: usize, order: Order) -> Order
     requires few { used < 999999 }
     requires base { order.key.base ≡ 200 }
-    ensures { (slots : List Slot) → length slots ≡ used → result ≡ reversal_of slots order }
+    ensures { (slots : List Slot) → length slots ≡ used → result ≡ next_reversal slots order }
 {
     let original = order.key();
     let key = TxKey {
@@ -263,9 +264,9 @@ impl Acquirer {
     fn reverse(&mut self, slot: &Slot) -> Result<Order, AcqFault>
         requires there { slot_at self.old.slots slot.now.order.key.stan ≡ Some slot.now }
         requires asked { to_reverse slot.now.role ≡ 1 }
-        ensures order { IfOk result (λ order. order ≡ reversal_of self.old.slots slot.now.order) }
+        ensures order { IfOk result (λ order. order ≡ next_reversal self.old.slots slot.now.order) }
         ensures reversing { let stan = slot.now.order.key.stan in
-            OnOk result (self.new ≡ record self.old { slots = reversing self.old.slots stan (reversal_of self.old.slots slot.now.order) }) }
+            OnOk result (self.new ≡ record self.old { slots = reversing self.old.slots stan (next_reversal self.old.slots slot.now.order) }) }
         ensures few { OnOk result (length self.old.slots < 999999) }
         ensures no_more { IfErr result (λ e. (e ≡ NoMoreTrace) × (length self.old.slots ≡ 999999)) }
         ensures unchanged { OnErr result (self.new ≡ self.old) }

@@ -11,7 +11,7 @@ use Rattle.iso_c.specs.declared.part.RumpadolPart.{RumpadolPart}
 use Rattle.iso_c.specs.declared.part.RumpadolMessage.{RumpadolMessage}
 use Rattle.iso_c.specs.declared.unpack.Found.{Found}
 use Rattle.iso_c.specs.Parts.{elements_in, parts_from, values_of}
-use Rattle.iso_c.specs.Unpacking.{IsFound, IsFoundHeld, IsReadFaultHeld, Unpacked, Unpacks, Gives, GivesFound, read_fault, given_fault, room_fault}
+use Rattle.iso_c.specs.Unpacking.{IsFound, IsFoundHeld, IsReadFaultHeld, Unpacked, IsUnpackReply, GivesMessage, GivesFound, read_fault, given_fault, room_fault}
 use Rattle.iso_c.proofs.Spreads.{Values, told, length_parts}
 
 pub within : (t : Option Layout) (b : List ℕ) (found : Found) → IsFoundHeld t b found → found.used ≤ length b
@@ -39,7 +39,7 @@ unpacked t b found used new parts values is gives =
     })
 
 pub given : (t : Option Layout) (b : List ℕ) (found : Found) (z : ℤ) (old new : RumpadolMessage) (parts_old parts : List RumpadolPart) (values_old values : List ℕ) (f : RumpadolFault)
-    → IsFoundHeld t b found → Gives found z old new parts_old parts values_old values f → Unpacks t b z old new parts_old parts values_old values f
+    → IsFoundHeld t b found → GivesMessage found z old new parts_old parts values_old values f → IsUnpackReply t b z old new parts_old parts values_old values f
 given None b found z old new parts_old parts values_old values f is gives = absurd is
 given (Some t) b found (pos used) old new parts_old parts values_old values f is gives = unpacked t b found used new parts values is gives
 given (Some t) b found (negsuc k) old new parts_old parts values_old values f is gives =
@@ -58,7 +58,7 @@ given_by (Ok x) places room f h = absurd cc
 given_by (Err e) places room f h = h
 
 pub not_read : (t : Option Layout) (b : List ℕ) (message : RumpadolMessage) (parts : List RumpadolPart) (values : List ℕ) (f : RumpadolFault)
-    → IsReadFaultHeld t b f → Unpacks t b (negsuc 0) message message parts parts values values f
+    → IsReadFaultHeld t b f → IsUnpackReply t b (negsuc 0) message message parts parts values values f
 not_read (Some t) b message parts values f is =
     (refl, record { message = refl; parts_kept = refl; values_kept = refl }, λ ne. given_by (message_at t b) (length parts) (length values) f (is ne))
 not_read None b message parts values f is = (refl, record { message = refl; parts_kept = refl; values_kept = refl }, is)

@@ -17,5 +17,5 @@ abbrev pub slot : RattleType
 slot = option_row the_row
 
 -- it lies at the address
-abbrev pub slot_at : Ptr → Option Layout → Fml
-slot_at p t = lies_at slot full_share p t
+abbrev pub slot_lies_at : Ptr → Option Layout → Fml
+slot_lies_at p t = lies_at slot full_share p t

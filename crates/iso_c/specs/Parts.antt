@@ -39,13 +39,13 @@ parts_from at (e ∷ es) = part_of e.0 at (length e.1) ∷ parts_from (at + leng
 -- ---- the elements that parts tell of
 
 -- whether the part lies within so many bytes
-abbrev pub is_within : ℕ → RumpadolPart → Bool
-is_within size p = nat_le p.start size && nat_le p.length (size - p.start)
+abbrev pub is_part_within : ℕ → RumpadolPart → Bool
+is_part_within size p = nat_le p.start size && nat_le p.length (size - p.start)
 
 -- a part outside the bytes, or of a number that no element has
 abbrev pub part_refusal : ℕ → RumpadolPart → Option RumpadolFault
 part_refusal size p =
-    if is_within size p then (if is_number p.element then None else Some (bad_number p.element))
+    if is_part_within size p then (if is_number p.element then None else Some (bad_number p.element))
     else Some (bad_part p.element p.start)
 
 abbrev pub unless_refused : {A : Type 0} → Option RumpadolFault → Result A RumpadolFault → Result A RumpadolFault

@@ -4,13 +4,13 @@ use Rattle.iso_parts.specs.declared.prefix.Digits.TheVariants.{Ascii, Bcd}
 use Rattle.iso_table.specs.declared.fault.TableFault.{TableFault}
 use Rattle.iso_table.specs.declared.fault.TableFault.TheVariants.{Memory, NotJson}
 use Rattle.iso_table.specs.Layout.{Layout}
-use Rattle.iso_table.specs.Document.{IsNotJson, IsFaultOf}
+use Rattle.iso_table.specs.Document.{IsNotJson, IsDocumentFault}
 use Rattle.iso_table.specs.Edition87.{IsEdition87}
 use Rattle.iso_wire.specs.declared.fault.UnpackFault.{UnpackFault}
 use Rattle.iso_wire.specs.Contents.{Contents}
 use Rattle.iso_wire.specs.Reading.{message_at}
 use Rattle.iso_wire.specs.Refusal.{message_refusal}
-use Rattle.iso_wire.specs.Spelling.{Spelling, PlainSpelling}
+use Rattle.iso_wire.specs.Spelling.{Converts}
 use Rattle.iso_c.specs.declared.fault.RumpadolFault.{RumpadolFault}
 use Rattle.iso_c.specs.Packing.{pack_refusal}
 use Rattle.iso_c.specs.Causes.{no_memory, no_such_table, empty_slot, trailing_bytes, table_fault, unpack_fault}
@@ -25,16 +25,12 @@ IsBuiltInFault name f = f ≡ (if nat_lt name 2 then no_memory else no_such_tabl
 
 -- the first fault of a text that stands for no table, unless memory ran out
 abbrev pub IsTextFault : List ℕ → TableFault → Type 0
-IsTextFault text e = (e ≡ NotJson → IsNotJson text) × (e ≢ Memory → e ≢ NotJson → IsFaultOf text e)
+IsTextFault text e = (e ≡ NotJson → IsNotJson text) × (e ≢ Memory → e ≢ NotJson → IsDocumentFault text e)
 
 abbrev pub IsTableFault : List ℕ → RumpadolFault → Type 0
 IsTableFault text f = (e : TableFault) × (f ≡ table_fault e) × IsTextFault text e
 
 -- ---- messages from one table to another
-
--- the bytes of one message under two tables: any spelling under the first, the plain one under the second
-abbrev pub Converts : Layout → Layout → List ℕ → List ℕ → Type 0
-Converts f t all b = (m : Contents) × Spelling f m all × PlainSpelling t m b
 
 -- why what was read isn't written under a table
 abbrev pub read_refusal : Layout → List ℕ → Result (Contents × ℕ) UnpackFault → Option RumpadolFault

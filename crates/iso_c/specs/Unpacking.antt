@@ -77,9 +77,9 @@ UnpackedHeld (Some t) b used told parts values = Unpacked t b used told parts va
 UnpackedHeld None b used told parts values = ⊥
 
 -- how many bytes the message takes, or -1 and the first fault
-abbrev pub Unpacks : Option Layout → List ℕ → ℤ → RumpadolMessage → RumpadolMessage → List RumpadolPart → List RumpadolPart → List ℕ → List ℕ → RumpadolFault → Type 0
-Unpacks t b (pos used) old new parts_old parts values_old values f = UnpackedHeld t b used new parts values
-Unpacks t b (negsuc k) old new parts_old parts values_old values f =
+abbrev pub IsUnpackReply : Option Layout → List ℕ → ℤ → RumpadolMessage → RumpadolMessage → List RumpadolPart → List RumpadolPart → List ℕ → List ℕ → RumpadolFault → Type 0
+IsUnpackReply t b (pos used) old new parts_old parts values_old values f = UnpackedHeld t b used new parts values
+IsUnpackReply t b (negsuc k) old new parts_old parts values_old values f =
     (k ≡ 0) × Kept old new parts_old parts values_old values × IsGivenFault t b (length parts_old) (length values_old) f
 
 -- what was found is given where there is room
@@ -91,7 +91,7 @@ pub record GivesFound (found : Found) (used : ℕ) (told : RumpadolMessage) (par
   pub parts_are : take (length found.parts.items) parts ≡ found.parts.items
   pub values_are : take (length found.values.items) values ≡ found.values.items
 
-abbrev pub Gives : Found → ℤ → RumpadolMessage → RumpadolMessage → List RumpadolPart → List RumpadolPart → List ℕ → List ℕ → RumpadolFault → Type 0
-Gives found (pos used) old new parts_old parts values_old values f = GivesFound found used new parts values
-Gives found (negsuc k) old new parts_old parts values_old values f =
+abbrev pub GivesMessage : Found → ℤ → RumpadolMessage → RumpadolMessage → List RumpadolPart → List RumpadolPart → List ℕ → List ℕ → RumpadolFault → Type 0
+GivesMessage found (pos used) old new parts_old parts values_old values f = GivesFound found used new parts values
+GivesMessage found (negsuc k) old new parts_old parts values_old values f =
     (k ≡ 0) × Kept old new parts_old parts values_old values × (room_fault (length found.parts.items) (length found.values.items) (length parts_old) (length values_old) ≡ Some f)

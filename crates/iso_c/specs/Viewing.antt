@@ -29,15 +29,15 @@ abbrev pub body_fault : ℕ → Result (Contents × ℕ) UnpackFault → Option 
 body_fault n (Err e) = Some (unpack_fault e)
 body_fault n (Ok x) = if has x.0.elements n then None else Some (no_element n)
 
-abbrev pub IsBodyFault : Layout → List ℕ → ℕ → RumpadolFault → Type 0
-IsBodyFault t b n f = body_fault n (message_at t b) ≡ Some f
+abbrev pub IsViewFault : Layout → List ℕ → ℕ → RumpadolFault → Type 0
+IsViewFault t b n f = body_fault n (message_at t b) ≡ Some f
 
 abbrev pub IsBodyAtHeld : Option Layout → List ℕ → ℕ → RumpadolPart → Type 0
 IsBodyAtHeld (Some t) b n p = IsBodyAt t b n p
 IsBodyAtHeld None b n p = ⊥
 
 abbrev pub IsBodyFaultHeld : Option Layout → List ℕ → ℕ → RumpadolFault → Type 0
-IsBodyFaultHeld (Some t) b n f = IsBodyFault t b n f
+IsBodyFaultHeld (Some t) b n f = IsViewFault t b n f
 IsBodyFaultHeld None b n f = f ≡ empty_slot
 
 -- the length of the body, and where it lies; or -1 and the fault

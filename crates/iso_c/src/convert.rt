@@ -1,8 +1,9 @@
 //! A message from one table to another.
 
 ghost use Rattle.std.specs.Prelude.{◌≡◌, IfOk, IfErr};
+ghost use Rattle.iso_wire.specs.Spelling.{Converts};
 ghost use Rattle.iso_c.specs.Answers.{Replies};
-ghost use Rattle.iso_c.specs.Tables.{Converts, IsConvertFault, ConvertsHeld, IsHeldConvertFault};
+ghost use Rattle.iso_c.specs.Tables.{IsConvertFault, ConvertsHeld, IsHeldConvertFault};
 
 use crate::answering::answer;
 use crate::fault::RumpadolFault;

@@ -1,11 +1,11 @@
 //! A message from the caller's parts and values to bytes.
 
 ghost use Rattle.std.specs.Prelude.{◌≡◌, ◌≢◌, nat_le, true, false, [], length, Some, None, Ok, Err, OnOk, IfOk, IfErr, IfSome, IfNone};
-ghost use Rattle.iso_parts.specs.Mti.{number};
+ghost use Rattle.iso_parts.specs.Mti.{mti_number};
 ghost use Rattle.iso_wire.specs.Elements.{put};
 ghost use Rattle.iso_c.specs.Answers.{Replies};
 ghost use Rattle.iso_c.specs.Causes.{no_memory};
-ghost use Rattle.iso_c.specs.Parts.{bytes_in, elements_or_fault, is_within, part_refusal};
+ghost use Rattle.iso_c.specs.Parts.{bytes_in, elements_or_fault, is_part_within, part_refusal};
 ghost use Rattle.iso_c.specs.Packing.{message_of, IsMessageFault, Packs, IsPackingFault, PacksHeld, IsPackingFaultHeld};
 
 use crate::answering::answer;
@@ -18,8 +18,8 @@ use iso_wire::{Message, pack};
 use std::alloc::Global;
 
 /// Whether a part lies within so many bytes.
-fn is_within(part: &RumpadolPart, size: usize) -> bool
-    ensures { result ≡ is_within size part.now }
+fn is_part_within(part: &RumpadolPart, size: usize) -> bool
+    ensures { result ≡ is_part_within size part.now }
 {
     part.start <= size && part.length <= size - part.start
 }
@@ -30,7 +30,7 @@ fn put_part(message: &mut Message, part: &RumpadolPart, values: &[u8]) -> Result
         × (message.new ≡ record message.old { elements = put part.now.element (bytes_in values.now part.now) message.old.elements })) }
     ensures fault { IfErr result (λ e. e ≢ no_memory → part_refusal (length values.now) part.now ≡ Some e) }
 {
-    if !is_within(part, values.len()) {
+    if !is_part_within(part, values.len()) {
         return Err(RumpadolFault {
             number: 7,
             element: part.element,
@@ -69,7 +69,7 @@ fn put_parts(
 
 /// The message type of a number.
 fn type_of(mti: u32) -> Option<Mti>
-    ensures some { IfSome result (λ m. (number m ≡ mti) × (nat_le mti 9999 ≡ true)) }
+    ensures some { IfSome result (λ m. (mti_number m ≡ mti) × (nat_le mti 9999 ≡ true)) }
     ensures none { result ≡ None → nat_le mti 9999 ≡ false }
 {
     match u16::try_from(mti) {

@@ -5,7 +5,7 @@ ghost use Rattle.iso_table.specs.Layout.{Layout, IsAccepted};
 ghost use Rattle.iso_table.specs.Document.{IsTableOf};
 ghost use Rattle.iso_c.specs.Answers.{Done};
 ghost use Rattle.iso_c.specs.Causes.{no_memory};
-ghost use Rattle.iso_c.specs.Handle.{slot, slot_at, slot_bytes};
+ghost use Rattle.iso_c.specs.Handle.{slot, slot_lies_at, slot_bytes};
 ghost use Rattle.iso_c.specs.Tables.{IsBuiltIn, IsBuiltInFault, IsTableFault};
 ghost use Rattle.std.specs.Ptr.{room_at};
 ghost use types.Logic.{sem};
@@ -62,7 +62,7 @@ pub extern "C" fn rumpadol_slot_size() -> usize
 #[unsafe(no_mangle)]
 pub unsafe extern "C" fn rumpadol_slot_init(at: *mut u8)
     requires* { sem 𝓛 (room_at slot at) }
-    ensures* { sem 𝓛 (slot_at at None) }
+    ensures* { sem 𝓛 (slot_lies_at at None) }
 {
     std::ptr::write(at as *mut Option<Table>, none());
 }

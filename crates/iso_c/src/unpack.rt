@@ -3,7 +3,7 @@
 ghost use Rattle.std.specs.Prelude.{◌≡◌, ◌≤◌, [], ◌∷◌, ◌++◌, length, OnOk, IfOk, IfErr};
 ghost use Rattle.iso_wire.specs.Elements.{IsAscending};
 ghost use Rattle.iso_c.specs.Parts.{part_of, parts_from, values_of};
-ghost use Rattle.iso_c.specs.Unpacking.{IsFound, IsReadFault, IsFoundHeld, IsReadFaultHeld, Unpacks, Gives};
+ghost use Rattle.iso_c.specs.Unpacking.{IsFound, IsReadFault, IsFoundHeld, IsReadFaultHeld, IsUnpackReply, GivesMessage};
 
 use crate::answering::refuse;
 use crate::fault::RumpadolFault;
@@ -103,7 +103,7 @@ fn give(
     fault: &mut RumpadolFault,
 ) -> i64
     requires { found.now.used ≤ length bytes.now }
-    ensures { Gives found.now result message.old message.new parts.old parts.new values.old values.new fault.new }
+    ensures { GivesMessage found.now result message.old message.new parts.old parts.new values.old values.new fault.new }
 {
     let short = |number: u32, offset: usize| RumpadolFault {
         number,
@@ -144,7 +144,7 @@ pub extern "C" fn rumpadol_unpack(
     values: &mut [u8],
     fault: &mut RumpadolFault,
 ) -> i64
-    ensures reply { Unpacks slot.old.value bytes.now result message.old message.new parts.old parts.new values.old values.new fault.new }
+    ensures reply { IsUnpackReply slot.old.value bytes.now result message.old message.new parts.old parts.new values.old values.new fault.new }
     ensures slot { slot.new.value ≡ slot.old.value }
 {
     let table = slot.replace(None);

@@ -6,7 +6,7 @@ ghost use Rattle.iso_wire.specs.Elements.{IsAscending};
 ghost use Rattle.iso_wire.specs.Bodies.{front_of};
 ghost use Rattle.iso_c.specs.Causes.{no_element};
 ghost use Rattle.iso_c.specs.Parts.{from_number};
-ghost use Rattle.iso_c.specs.Viewing.{sizes_of, IsBodyAt, IsBodyFault, IsBodyAtHeld, IsBodyFaultHeld, ViewsBody};
+ghost use Rattle.iso_c.specs.Viewing.{sizes_of, IsBodyAt, IsViewFault, IsBodyAtHeld, IsBodyFaultHeld, ViewsBody};
 
 use crate::answering::refuse;
 use crate::fault::RumpadolFault;
@@ -56,7 +56,7 @@ fn missing(n: u32) -> RumpadolFault
 fn body_at(table: &Table, bytes: &[u8], n: u8) -> Result<RumpadolPart, RumpadolFault>
     requires { n ≤ 128 }
     ensures ok { IfOk result (IsBodyAt table.now bytes.now n) }
-    ensures fault { IfErr result (IsBodyFault table.now bytes.now n) }
+    ensures fault { IfErr result (IsViewFault table.now bytes.now n) }
 {
     let viewed = view(table, bytes)?;
     let Some(wire) = viewed.wire(n) else {
@@ -77,7 +77,7 @@ pub(crate) fn body_of(
     number: u32,
 ) -> Result<RumpadolPart, RumpadolFault>
     ensures ok { IfOk result (IsBodyAt table.now bytes.now number) }
-    ensures fault { IfErr result (IsBodyFault table.now bytes.now number) }
+    ensures fault { IfErr result (IsViewFault table.now bytes.now number) }
 {
     if number <= 128 {
         return body_at(table, bytes, number as u8);

@@ -5,16 +5,12 @@ use Rattle.iso_parts.specs.declared.prefix.Digits.TheVariants.{Ascii}
 use Rattle.iso_table.specs.Layout.{Layout}
 use Rattle.iso_table.specs.Edition87.{IsEdition87}
 use Rattle.iso_wire.specs.Contents.{Contents}
-use Rattle.iso_wire.specs.Spelling.{Spelling, PlainSpelling}
+use Rattle.iso_wire.specs.Spelling.{PlainSpelling, Converts}
 use Rattle.iso_order.specs.declared.verdict.Verdict.{Verdict}
 use Rattle.iso_order.specs.declared.verdict.Verdict.TheVariants.{Order, Reply, Silent}
 use Rattle.iso_order.specs.Verdict.{verdict}
 use Rattle.iso_order.specs.Response.{response}
 use Rattle.iso_cli.specs.Tables.{IsNamed}
-
--- the bytes of one message under two tables: any spelling under the first, the plain one under the second
-abbrev pub Converts : Layout → Layout → List ℕ → List ℕ → Type 0
-Converts f t all b = (m : Contents) × Spelling f m all × PlainSpelling t m b
 
 -- what was appended is the plain spelling, under the second table, of the message that the whole input spells under the first
 abbrev pub ConvertsOver : (List ℕ → Option (List ℕ)) → List ℕ → List ℕ → Option (List ℕ) → Option (List ℕ) → Option (List ℕ) → Type 0

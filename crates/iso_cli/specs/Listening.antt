@@ -5,7 +5,7 @@ use Rattle.iso_cli.specs.declared.listening.Listening.{Listening}
 use Rattle.iso_cli.specs.Asks.{header_name}
 
 -- the word writes this number, which lies in these bounds: decimal digits, with a plus in front or none
-pub record IsWhole (low high : ℕ) (word : List ℕ) (n : ℕ) : Type 0 where
+pub record IsWholeNumber (low high : ℕ) (word : List ℕ) (n : ℕ) : Type 0 where
   pub digits : IsNumeral 10 (without_leading_plus word)
   pub value : n ≡ digits_value 10 (without_leading_plus word)
   pub least : low ≤ n
@@ -16,8 +16,8 @@ pub record Listens (table accounts header port count : List ℕ) (l : Listening)
   pub table_is : l.table.now ≡ table
   pub accounts_is : l.accounts.now ≡ accounts
   pub header_is : header ≡ header_name l.header
-  pub port_is : IsWhole 1 65535 port l.port
-  pub count_is : IsWhole 1 1000 count l.count
+  pub port_is : IsWholeNumber 1 65535 port l.port
+  pub count_is : IsWholeNumber 1 1000 count l.count
 
 -- these words spell a host on a port
 pub record AsksServe (words : List (List ℕ)) (l : Listening) : Type 0 where

@@ -30,26 +30,26 @@ status_of (Unpack fault) = 1
 status_of (Pack fault) = 1
 
 -- the text of the fault line, where it names no fault of a table, of accounts, of an input or of a message
-abbrev pub text_of : Stop → Option (List ℕ)
-text_of Words = Some (codes "command line refused")
-text_of File = Some (codes "failed: File")
-text_of Read = Some (codes "failed: Read")
-text_of Write = Some (codes "failed: Write")
-text_of Memory = Some (codes "failed: Memory")
-text_of TooManyTurns = Some (codes "failed: TooManyTurns")
-text_of InputTooLong = Some (codes "refused: InputTooLong")
-text_of TrailingBytes = Some (codes "refused: TrailingBytes")
-text_of BadHeader = Some (codes "refused: BadHeader")
-text_of CutFrame = Some (codes "refused: CutFrame")
-text_of (Table fault) = None
-text_of (Host fault) = None
-text_of (Accounts fault) = None
-text_of (Unpack fault) = None
-text_of (Pack fault) = None
+abbrev pub stop_text : Stop → Option (List ℕ)
+stop_text Words = Some (codes "command line refused")
+stop_text File = Some (codes "failed: File")
+stop_text Read = Some (codes "failed: Read")
+stop_text Write = Some (codes "failed: Write")
+stop_text Memory = Some (codes "failed: Memory")
+stop_text TooManyTurns = Some (codes "failed: TooManyTurns")
+stop_text InputTooLong = Some (codes "refused: InputTooLong")
+stop_text TrailingBytes = Some (codes "refused: TrailingBytes")
+stop_text BadHeader = Some (codes "refused: BadHeader")
+stop_text CutFrame = Some (codes "refused: CutFrame")
+stop_text (Table fault) = None
+stop_text (Host fault) = None
+stop_text (Accounts fault) = None
+stop_text (Unpack fault) = None
+stop_text (Pack fault) = None
 
 -- the fault line: the text, and one newline
 abbrev pub line_of : Stop → Option (List ℕ)
-line_of stop = option_map (λ text. text ++ 10 ∷ []) (text_of stop)
+line_of stop = option_map (λ text. text ++ 10 ∷ []) (stop_text stop)
 
 -- the stop that a fault of an input is
 abbrev pub stop_of_input : InputFault → Stop

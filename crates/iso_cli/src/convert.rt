@@ -1,7 +1,8 @@
 //! A message from one table to another.
 
 ghost use Rattle.std.specs.Prelude.{IfOk, OnOk};
-ghost use Rattle.iso_cli.specs.Acts.{Converts, ConvertsOver};
+ghost use Rattle.iso_wire.specs.Spelling.{Converts};
+ghost use Rattle.iso_cli.specs.Acts.{ConvertsOver};
 
 use crate::source::Source;
 use crate::stop::Stop;

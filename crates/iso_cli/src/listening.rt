@@ -2,7 +2,7 @@
 //!
 //! `clap` judges the words, and what it lets pass is matched word by word, so that contracts can speak of the words.
 ghost use Rattle.std.specs.Prelude.{IfOk, IfSome, map};
-ghost use Rattle.iso_cli.specs.Listening.{AsksServe, IsWhole, Listens};
+ghost use Rattle.iso_cli.specs.Listening.{AsksServe, IsWholeNumber, Listens};
 
 use crate::words::{WordsFault, alone, bare, header_named, is_name, required};
 use clap::Command;
@@ -51,7 +51,7 @@ fn judge<'a>(alloc: Global, words: &'a [&'a str]) -> Result<(), WordsFault> {
 
 /// The number that a word is, if it is 1 to `most`: decimal digits, with a plus in front or none.
 fn number_in(word: &str, most: u16) -> Option<u16>
-    ensures { IfSome result (IsWhole 1 most word.now) }
+    ensures { IfSome result (IsWholeNumber 1 most word.now) }
 {
     match word.parse::<u16>() {
         Ok(number) if 1 <= number && number <= most => Some(number),

@@ -12,7 +12,7 @@ use Rattle.iso_wire.specs.declared.fault.UnpackCause.TheVariants.{Short}
 use Rattle.iso_wire.specs.ReadingLaws.{IsShort, ReadingStays, ReadsSpellings}
 use Rattle.iso_wire.specs.Spelling.{AreBytes, Spelling}
 use Rattle.iso_host.specs.Asking.{whole_by, message_in, BodiesAreSpellings}
-use Rattle.iso_host.specs.Bodies.{IsRest, Tells}
+use Rattle.iso_host.specs.Bodies.{IsRest, TellsBody}
 use Rattle.iso_host.specs.declared.intake.Told.{Told}
 use Rattle.iso_host.specs.declared.intake.Told.TheVariants as told
 
@@ -96,7 +96,7 @@ no_other taken piece rest used false room is short e =
     omega (arith, e, length-append (taken ++ piece) rest, length-append taken piece, is, room)
 
 -- a piece leaves the table as it was
-pub same_table : (E : Type 0) (old new : Feeding) (bytes : List ℕ) (is_last : Bool) (result : Result Told E) → IfOk result (Tells old.table bytes is_last new) → OnErr result (new ≡ old) → new.table ≡ old.table
+pub same_table : (E : Type 0) (old new : Feeding) (bytes : List ℕ) (is_last : Bool) (result : Result Told E) → IfOk result (TellsBody old.table bytes is_last new) → OnErr result (new ≡ old) → new.table ≡ old.table
 same_table E old new bytes is_last (Ok told.Unfinished) tells unchanged = ap (λ (f : Feeding). f.table) tells.1
 same_table E old new bytes is_last (Ok (told.Known message)) tells unchanged = ap (λ (f : Feeding). f.table) tells.2
 same_table E old new bytes is_last (Err e) tells unchanged = ap (λ (f : Feeding). f.table) unchanged

@@ -15,7 +15,7 @@ use Rattle.iso_issuer.specs.Laws.{FirstsGoOn}
 use Rattle.iso_host.proofs.JournalLemmas.{books_more, books_none}
 use Rattle.iso_host.proofs.OutputLemmas.{frames_more, AllFit_more, output_none, output_more, output_front, front_more}
 use Rattle.iso_host.proofs.Running.{Going, Running}
-use Rattle.iso_host.specs.Asking.{message_in, asked_of, count_asked, is_answered, is_silent, is_unreadable}
+use Rattle.iso_host.specs.Asking.{message_in, asked_of, count_asked, has_answer, is_silent, is_unreadable}
 use Rattle.iso_host.specs.Counts.{Counts}
 use Rattle.iso_host.specs.Entering.{books_after, books_after_body, with_orders}
 use Rattle.iso_host.specs.Output.{IsAnswer, IsAnswerTo, IsOutput}
@@ -225,7 +225,7 @@ frames_counted bodies body n m e f = saturated true (length bodies) (length (bod
 reports_more : (t : Layout) (old new : Report) (bodies : List (List ℕ)) (body : List ℕ) → Reports t old bodies → ReportsOneMore old new (asked_of t body) → Reports t new (bodies ++ body ∷ [])
 reports_more t old new bodies body r s = record {
   frames = frames_counted bodies body _ _ r.frames s.frames;
-  answered = counts_more t is_answered bodies body _ _ r.answered s.answered;
+  answered = counts_more t has_answer bodies body _ _ r.answered s.answered;
   silent = counts_more t is_silent bodies body _ _ r.silent s.silent;
   unreadable = counts_more t is_unreadable bodies body _ _ r.unreadable s.unreadable;
 }

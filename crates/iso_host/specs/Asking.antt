@@ -47,11 +47,11 @@ is_silent (Some (Reply code)) = false
 is_silent (Some (Order o)) = false
 is_silent None = false
 
-abbrev pub is_answered : Option Verdict → Bool
-is_answered (Some (Order o)) = true
-is_answered (Some (Reply code)) = true
-is_answered (Some Silent) = false
-is_answered None = false
+abbrev pub has_answer : Option Verdict → Bool
+has_answer (Some (Order o)) = true
+has_answer (Some (Reply code)) = true
+has_answer (Some Silent) = false
+has_answer None = false
 
 -- how many of these bodies are of this kind
 abbrev pub count_asked : Layout → (Option Verdict → Bool) → List (List ℕ) → ℕ

@@ -31,9 +31,9 @@ abbrev pub IsSpelled : Layout → Option Contents → Type 0
 IsSpelled t message = IfSome message (λ m. (bytes : List ℕ) × Spelling t m bytes)
 
 -- these bytes at the front of a body tell what the body is, whatever stands behind them; or they are not all of it
-abbrev pub Tells : Layout → List ℕ → Bool → Feeding → Told → Type 0
-Tells t bytes is_last new told.Unfinished = (is_last ≡ false) × (new ≡ unpacker_holding t bytes) × AreBytes bytes
-Tells t bytes is_last new (told.Known message) =
+abbrev pub TellsBody : Layout → List ℕ → Bool → Feeding → Told → Type 0
+TellsBody t bytes is_last new told.Unfinished = (is_last ≡ false) × (new ≡ unpacker_holding t bytes) × AreBytes bytes
+TellsBody t bytes is_last new (told.Known message) =
     ((rest : List ℕ) → IsRest is_last rest → message_in t (bytes ++ rest) ≡ message) × IsSpelled t message × (new ≡ unpacker_holding t [])
 
 -- a body of so many bytes is taken, and its message is given; or the frame doesn't come to its end

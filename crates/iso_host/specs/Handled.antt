@@ -9,7 +9,7 @@ use Rattle.iso_order.specs.declared.verdict.Verdict.{Verdict}
 use Rattle.iso_issuer.specs.Books.{Books}
 use Rattle.iso_host.specs.declared.handling.Handled.{Handled}
 use Rattle.iso_host.specs.declared.handling.Handled.TheVariants.{Unreadable, Silent, Answered}
-use Rattle.iso_host.specs.Asking.{is_unreadable, is_silent, is_answered}
+use Rattle.iso_host.specs.Asking.{is_unreadable, is_silent, has_answer}
 use Rattle.iso_host.specs.Entering.{entered_by}
 use Rattle.iso_host.specs.Output.{IsAnswerTo}
 
@@ -17,13 +17,13 @@ use Rattle.iso_host.specs.Output.{IsAnswerTo}
 abbrev pub IsOfKind : Option Verdict → Handled → Type 0
 IsOfKind asked Unreadable = IsTrue (is_unreadable asked)
 IsOfKind asked Silent = IsTrue (is_silent asked)
-IsOfKind asked Answered = IsTrue (is_answered asked)
+IsOfKind asked Answered = IsTrue (has_answer asked)
 
 -- the kind of the body whose message this is, and what is written for it: these bytes, where it is answered
 abbrev pub Handles : Layout → Header → Books → Option Contents → List ℕ → Handled → Type 0
 Handles t h books message bytes Unreadable = IsTrue (is_unreadable (option_map verdict message)) × IsAnswerTo t h books message []
 Handles t h books message bytes Silent = IsTrue (is_silent (option_map verdict message)) × IsAnswerTo t h books message []
-Handles t h books message bytes Answered = IsTrue (is_answered (option_map verdict message)) × IsAnswerTo t h books message bytes
+Handles t h books message bytes Answered = IsTrue (has_answer (option_map verdict message)) × IsAnswerTo t h books message bytes
 
 -- the books are as they were, or the message's order was entered, and the message has an answer
 abbrev pub EntersOrKeeps : Layout → Header → Books → Books → Option Contents → Type 0

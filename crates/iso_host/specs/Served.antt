@@ -11,7 +11,7 @@ use Rattle.iso_order.specs.declared.verdict.Verdict.{Verdict}
 use Rattle.iso_issuer.specs.Books.{Books}
 use Rattle.iso_host.specs.Counts.{Counts}
 use Rattle.iso_host.specs.Entering.{books_after}
-use Rattle.iso_host.specs.Asking.{is_answered, is_silent, is_unreadable, count_asked}
+use Rattle.iso_host.specs.Asking.{has_answer, is_silent, is_unreadable, count_asked}
 use Rattle.iso_host.specs.Output.{IsOutput}
 use Rattle.iso_host.specs.declared.fault.Report.{Report}
 use Rattle.iso_host.specs.declared.fault.ServeFault.{ServeFault}
@@ -54,7 +54,7 @@ pub record Stopped (t : Layout) (h : Header) (unread left held written : Option 
 -- the bodies by kind
 pub record Reports (t : Layout) (report : Report) (bodies : List (List ℕ)) : Type 0 where
   pub frames : report.frames ≡ u64_saturate (length bodies)
-  pub answered : report.answered ≡ u64_saturate (count_asked t is_answered bodies)
+  pub answered : report.answered ≡ u64_saturate (count_asked t has_answer bodies)
   pub silent : report.silent ≡ u64_saturate (count_asked t is_silent bodies)
   pub unreadable : report.unreadable ≡ u64_saturate (count_asked t is_unreadable bodies)
 
@@ -64,7 +64,7 @@ one_more is_kind n = if is_kind then u64_saturate (n + 1) else n
 
 pub record ReportsOneMore (old new : Report) (asked : Option Verdict) : Type 0 where
   pub frames : new.frames ≡ u64_saturate (old.frames + 1)
-  pub answered : new.answered ≡ one_more (is_answered asked) old.answered
+  pub answered : new.answered ≡ one_more (has_answer asked) old.answered
   pub silent : new.silent ≡ one_more (is_silent asked) old.silent
   pub unreadable : new.unreadable ≡ one_more (is_unreadable asked) old.unreadable
 

@@ -4,7 +4,7 @@ ghost use Rattle.std.specs.Prelude.{◌≡◌, ◌++◌, ℕ, List, [], None, If
 ghost use Rattle.iso_table.specs.Layout.{AreGood};
 ghost use Rattle.iso_wire.specs.Spelling.{AreBytes, Spelling};
 ghost use Rattle.iso_host.specs.Asking.{message_in};
-ghost use Rattle.iso_host.specs.Bodies.{Tells, unpacker_holding};
+ghost use Rattle.iso_host.specs.Bodies.{TellsBody, unpacker_holding};
 
 use iso_order::NoMemory;
 use iso_table::Table;
@@ -65,7 +65,7 @@ fn feed_piece(
     requires none { unpacker.old.stopped ≡ None }
     requires bytes { AreBytes unpacker.old.taken }
     requires good { AreGood unpacker.old.table.rows }
-    ensures told { IfOk result (Tells unpacker.old.table (unpacker.old.taken ++ piece.now) is_last unpacker.new) }
+    ensures told { IfOk result (TellsBody unpacker.old.table (unpacker.old.taken ++ piece.now) is_last unpacker.new) }
     ensures unchanged { OnErr result (unpacker.new ≡ unpacker.old) }
 {
     reads_spellings();
@@ -140,7 +140,7 @@ impl<'t> Intake<'t> {
     pub fn feed(&mut self, piece: &[u8], is_last: bool) -> Result<Told, NoMemory>
         requires none { self.old.stopped ≡ None }
         requires bytes { AreBytes self.old.taken }
-        ensures { IfOk result (Tells self.old.table (self.old.taken ++ piece.now) is_last self.new) }
+        ensures { IfOk result (TellsBody self.old.table (self.old.taken ++ piece.now) is_last self.new) }
     {
         feed_piece(self.alloc, &mut self.unpacker, piece, is_last)
     }

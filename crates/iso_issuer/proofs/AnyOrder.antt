@@ -10,7 +10,7 @@ use Rattle.iso_order.specs.declared.act.Act.{Act}
 use Rattle.iso_order.specs.declared.act.Act.TheVariants.{Debit, Credit, Inquiry, Undo, Complete}
 use Rattle.iso_order.specs.declared.act.Money.{Money}
 use Rattle.iso_order.specs.AccountNumber.{AccountNumber}
-use Rattle.iso_order.specs.Key.{function_of}
+use Rattle.iso_order.specs.Key.{function_digit}
 use Rattle.iso_order.specs.Order.{Instruction, same_currency}
 use Rattle.iso_issuer.specs.declared.account.Account.{Account}
 use Rattle.iso_issuer.specs.declared.effect.Effect.{Effect}
@@ -18,7 +18,7 @@ use Rattle.iso_issuer.specs.declared.effect.Side.{Side}
 use Rattle.iso_issuer.specs.declared.effect.Side.TheVariants.{Given, Taken, Held}
 use Rattle.iso_issuer.specs.declared.journal.Entry.{Entry}
 use Rattle.iso_issuer.specs.Account.{account_of}
-use Rattle.iso_issuer.specs.Effect.{effect_of, amount_of, is_key, is_end_of, same_side, side_of, takes}
+use Rattle.iso_issuer.specs.Effect.{effect_of, effect_amount, is_key, is_end_of, same_side, side_of, takes}
 use Rattle.iso_issuer.specs.Journal.{undone_key, left_by, left_at, is_nothing, is_reversed, smaller_of, counts_with, is_counted, is_completed, is_ended, weight}
 use Rattle.iso_issuer.specs.Balance.{share, total, ledger, available}
 use Rattle.iso_issuer.specs.Decision.{account_code, code_of, new_entry, entries_after, journal_of}
@@ -63,7 +63,7 @@ ended_in accounts orders key (Some f) = same_side f.side Held && completed_in ac
 
 abbrev weight_in : List Account → List Instruction → Instruction → ℕ
 weight_in accounts orders o =
-    cond (counts_in accounts orders o && not (ended_in accounts orders o.key (effect_of o))) (smaller_of (amount_of (effect_of o)) (left_in orders o.key)) 0
+    cond (counts_in accounts orders o && not (ended_in accounts orders o.key (effect_of o))) (smaller_of (effect_amount (effect_of o)) (left_in orders o.key)) 0
 
 -- ---- an entry counts where its order does
 
@@ -76,7 +76,7 @@ debit_good : (before : List Entry) (key : TxKey) (m : Money) (f : Option Account
     (account_code before (record { key = key; act = Debit m }) m f == 0) ≡ on_account m f
 debit_good before key m None long = refl
 debit_good before key m (Some a) long =
-    by_code (same_currency a.currency m.currency) (takes (side_of key) && (function_of key == 0) && int_lt (available before a) (pos (smaller_of m.amount (left_at before key)))) long
+    by_code (same_currency a.currency m.currency) (takes (side_of key) && (function_digit key == 0) && int_lt (available before a) (pos (smaller_of m.amount (left_at before key)))) long
 
 credit_good : (before : List Entry) (key : TxKey) (m : Money) (f : Option Account) → account_code before (record { key = key; act = Credit m }) m f ≢ 51 →
     (account_code before (record { key = key; act = Credit m }) m f == 0) ≡ on_account m f
@@ -87,7 +87,7 @@ complete_good : (before : List Entry) (key : TxKey) (m : Money) (hold : TxKey) (
     (account_code before (record { key = key; act = Complete m hold }) m f == 0) ≡ on_account m f
 complete_good before key m hold None long = refl
 complete_good before key m hold (Some a) long =
-    by_code (same_currency a.currency m.currency) ((function_of key == 0) && int_lt (available before a) (pos (smaller_of m.amount (left_at before key)))) long
+    by_code (same_currency a.currency m.currency) ((function_digit key == 0) && int_lt (available before a) (pos (smaller_of m.amount (left_at before key)))) long
 
 and_off : (b : Bool) → b && false ≡ false
 and_off true = refl
@@ -202,9 +202,9 @@ module _ (accounts : List Account) (orders : List Instruction) (long : NoneShort
 
   weighed : (e : Entry) → is_counted (journal_of accounts orders) e ≡ counts_in accounts orders e.order → weight (journal_of accounts orders) e ≡ weight_in accounts orders e.order
   weighed e h =
-      ap (λ b. cond (b && not (is_ended (journal_of accounts orders) e.order.key (effect_of e.order))) (smaller_of (amount_of (effect_of e.order)) (left_at (journal_of accounts orders) e.order.key)) 0) h
-      ∙ ap (λ b. cond (counts_in accounts orders e.order && not b) (smaller_of (amount_of (effect_of e.order)) (left_at (journal_of accounts orders) e.order.key)) 0) (ended e.order.key (effect_of e.order))
-      ∙ ap (λ n. cond (counts_in accounts orders e.order && not (ended_in accounts orders e.order.key (effect_of e.order))) (smaller_of (amount_of (effect_of e.order)) n) 0) (left-of e.order.key)
+      ap (λ b. cond (b && not (is_ended (journal_of accounts orders) e.order.key (effect_of e.order))) (smaller_of (effect_amount (effect_of e.order)) (left_at (journal_of accounts orders) e.order.key)) 0) h
+      ∙ ap (λ b. cond (counts_in accounts orders e.order && not b) (smaller_of (effect_amount (effect_of e.order)) (left_at (journal_of accounts orders) e.order.key)) 0) (ended e.order.key (effect_of e.order))
+      ∙ ap (λ n. cond (counts_in accounts orders e.order && not (ended_in accounts orders e.order.key (effect_of e.order))) (smaller_of (effect_amount (effect_of e.order)) n) 0) (left-of e.order.key)
 
   total-of : (side : Side) (pan : AccountNumber) → total side pan (journal_of accounts orders) ≡ sum_by (λ o. share side pan (effect_of o) (weight_in accounts orders o)) orders
   total-of side pan =
@@ -272,9 +272,9 @@ module _ (accounts : List Account) (xs ys : List Instruction) (are : AreReordere
 
   weight-same : (o : Instruction) → weight_in accounts ys o ≡ weight_in accounts xs o
   weight-same o =
-      ap (λ b. cond (b && not (ended_in accounts ys o.key (effect_of o))) (smaller_of (amount_of (effect_of o)) (left_in ys o.key)) 0) (counts-same o)
-      ∙ ap (λ b. cond (counts_in accounts xs o && not b) (smaller_of (amount_of (effect_of o)) (left_in ys o.key)) 0) (ended-same o.key (effect_of o))
-      ∙ ap (λ n. cond (counts_in accounts xs o && not (ended_in accounts xs o.key (effect_of o))) (smaller_of (amount_of (effect_of o)) n) 0) (left-same o.key)
+      ap (λ b. cond (b && not (ended_in accounts ys o.key (effect_of o))) (smaller_of (effect_amount (effect_of o)) (left_in ys o.key)) 0) (counts-same o)
+      ∙ ap (λ b. cond (counts_in accounts xs o && not b) (smaller_of (effect_amount (effect_of o)) (left_in ys o.key)) 0) (ended-same o.key (effect_of o))
+      ∙ ap (λ n. cond (counts_in accounts xs o && not (ended_in accounts xs o.key (effect_of o))) (smaller_of (effect_amount (effect_of o)) n) 0) (left-same o.key)
 
   total-same : (side : Side) (pan : AccountNumber) → total side pan (journal_of accounts ys) ≡ total side pan (journal_of accounts xs)
   total-same side pan =

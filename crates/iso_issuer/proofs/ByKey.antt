@@ -18,7 +18,7 @@ use Rattle.iso_issuer.specs.Account.{account_of}
 use Rattle.iso_issuer.specs.Effect.{is_key}
 use Rattle.iso_issuer.specs.Journal.{entry_at, undone_key, left_by, left_at, reversal_of}
 use Rattle.iso_issuer.specs.Balances.{accounts_of, balance_at}
-use Rattle.iso_issuer.specs.Index.{key_cmp, place_of, pan_cmp, row_of}
+use Rattle.iso_issuer.specs.Index.{key_cmp, place_of, pan_cmp, account_place}
 use Rattle.iso_issuer.proofs.Keys.{same_key_is, same_pan_is}
 use Rattle.iso_issuer.proofs.Places.{place-push, none_from, found-map}
 
@@ -77,11 +77,11 @@ left-kept es e k other =
     or_none (Some x) = refl
 
 -- the rows, after an account more of a new number
-pub row_of-push : (accounts : List Account) (a : Account) (q : AccountNumber) → account_of accounts a.pan ≡ None →
-    row_of (accounts ++ a ∷ []) q ≡ cond (is_eq (pan_cmp a.pan q)) (Some (length accounts)) (row_of accounts q)
-row_of-push accounts a q new =
+pub account_place-push : (accounts : List Account) (a : Account) (q : AccountNumber) → account_of accounts a.pan ≡ None →
+    account_place (accounts ++ a ∷ []) q ≡ cond (is_eq (pan_cmp a.pan q)) (Some (length accounts)) (account_place accounts q)
+account_place-push accounts a q new =
     place-push (λ x. same_pan x.pan q) accounts a (λ h. subst (λ p. account_of accounts p ≡ None) (same_pan_is a.pan q h) new)
-    ∙ ap (λ b. cond b (Some (length accounts)) (row_of accounts q)) (sym (pan_tied a.pan q))
+    ∙ ap (λ b. cond b (Some (length accounts)) (account_place accounts q)) (sym (pan_tied a.pan q))
 
 -- the account of a number is that of its balance
 pub account-at : (balances : List Balance) (pan : AccountNumber) → account_of (accounts_of balances) pan ≡ option_map (λ b. b.account) (balance_at balances pan)

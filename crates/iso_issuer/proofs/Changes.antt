@@ -9,7 +9,7 @@ use Rattle.iso_issuer.specs.declared.balances.Balance.{Balance}
 use Rattle.iso_issuer.specs.declared.change.Change.{Change}
 use Rattle.iso_issuer.specs.Account.{account_of, HasDistinctNumbers}
 use Rattle.iso_issuer.specs.Balances.{accounts_of, balance_with, balance_after}
-use Rattle.iso_issuer.specs.Index.{row_of}
+use Rattle.iso_issuer.specs.Index.{account_place}
 use Rattle.iso_issuer.proofs.Keys.{same_pan_is, same_pan_sym}
 use Rattle.iso_issuer.proofs.Places.{place-map}
 
@@ -69,7 +69,7 @@ posted_from c i (b ∷ bs) d p distinct h =
         (suc r.0, next, whole)
 
 -- a change of the balance at its place is a change of all
-pub posted-at : (c : Change) (balances : List Balance) (d : Balance) (p : ℕ) → HasDistinctNumbers (accounts_of balances) → row_of (accounts_of balances) c.pan ≡ Some p
+pub posted-at : (c : Change) (balances : List Balance) (d : Balance) (p : ℕ) → HasDistinctNumbers (accounts_of balances) → account_place (accounts_of balances) c.pan ≡ Some p
     → set balances p (balance_with c (get_or balances p d)) ≡ map (balance_after c) balances
 posted-at c balances d p distinct h =
     let r = posted_from c 0 balances d p distinct (sym (place-map (λ (a : Account). same_pan a.pan c.pan) (λ (b : Balance). b.account) 0 balances) ∙ h) in

@@ -16,7 +16,7 @@ use Rattle.iso_order.specs.Key.{same_key}
 use Rattle.iso_order.specs.Order.{same_pan}
 use Rattle.iso_issuer.proofs.Keys.{same_key_is, same_pan_is}
 use Rattle.iso_issuer.specs.declared.effect.Hold.{Hold}
-use Rattle.iso_issuer.specs.Index.{key_cmp, pan_cmp, hold_cmp, bit, or_zero, count_at, mark_at, completions, hold_on, hold_by, added_by, dropped_of, dropped_at, dropped_by, AreCounts}
+use Rattle.iso_issuer.specs.Index.{key_cmp, pan_cmp, hold_cmp, bit, or_zero, hold_count, mark_at, completions, hold_on, hold_by, added_by, dropped_of, dropped_at, dropped_by, AreCounts}
 use Rattle.iso_order.specs.declared.act.Act.{Act}
 use Rattle.iso_order.specs.declared.act.Act.TheVariants.{Debit, Credit, Inquiry, Undo, Complete}
 use Rattle.iso_issuer.specs.declared.effect.Effect.{Effect}
@@ -42,7 +42,7 @@ hold_tied h q =
 -- the counts, after one of them was set
 count-set : (old new : BTreeMap Hold ℕ) (h : Hold) (n : ℕ) →
     ((q : Hold) → tree.get hold_cmp new q ≡ cond (is_eq (hold_cmp h q)) (Some n) (tree.get hold_cmp old q)) →
-    (key : TxKey) (pan : AccountNumber) → count_at new key pan ≡ cond (same_key h.key key && same_pan h.pan pan) n (count_at old key pan)
+    (key : TxKey) (pan : AccountNumber) → hold_count new key pan ≡ cond (same_key h.key key && same_pan h.pan pan) n (hold_count old key pan)
 count-set old new h n updates key pan =
     let q : Hold = record { key = key; pan = pan } in
     ap or_zero (updates q ∙ ap (λ b. cond b (Some n) (tree.get hold_cmp old q)) (hold_tied h q))
@@ -54,30 +54,30 @@ count-set old new h n updates key pan =
 
 -- the count of the same hold
 same_count : (counts : BTreeMap Hold ℕ) (h : Hold) (key : TxKey) (pan : AccountNumber) → (same_key h.key key && same_pan h.pan pan) ≡ true →
-    count_at counts h.key h.pan ≡ count_at counts key pan
+    hold_count counts h.key h.pan ≡ hold_count counts key pan
 same_count counts h key pan t =
     let parts = and_parts (same_key h.key key) (same_pan h.pan pan) t in
-    ap (λ k. count_at counts k h.pan) (same_key_is h.key key parts.0) ∙ ap (λ p. count_at counts key p) (same_pan_is h.pan pan parts.1)
+    ap (λ k. hold_count counts k h.pan) (same_key_is h.key key parts.0) ∙ ap (λ p. hold_count counts key p) (same_pan_is h.pan pan parts.1)
 
 pub count-more : (old new : BTreeMap Hold ℕ) (h : Hold) (n : ℕ) →
     ((q : Hold) → tree.get hold_cmp new q ≡ cond (is_eq (hold_cmp h q)) (Some n) (tree.get hold_cmp old q)) →
-    n ≡ count_at old h.key h.pan + 1 →
-    (key : TxKey) (pan : AccountNumber) → count_at new key pan ≡ count_at old key pan + mark_at (Some h) key pan
+    n ≡ hold_count old h.key h.pan + 1 →
+    (key : TxKey) (pan : AccountNumber) → hold_count new key pan ≡ hold_count old key pan + mark_at (Some h) key pan
 count-more old new h n updates is key pan =
     count-set old new h n updates key pan ∙ by_test (same_key h.key key && same_pan h.pan pan) (same_count old h key pan)
   where
-    by_test : (b : Bool) → (b ≡ true → count_at old h.key h.pan ≡ count_at old key pan) → cond b n (count_at old key pan) ≡ count_at old key pan + bit b
+    by_test : (b : Bool) → (b ≡ true → hold_count old h.key h.pan ≡ hold_count old key pan) → cond b n (hold_count old key pan) ≡ hold_count old key pan + bit b
     by_test true same = omega (arith, is, same refl)
     by_test false same = omega arith
 
 pub count-less : (old new : BTreeMap Hold ℕ) (h : Hold) (n : ℕ) →
     ((q : Hold) → tree.get hold_cmp new q ≡ cond (is_eq (hold_cmp h q)) (Some n) (tree.get hold_cmp old q)) →
-    n ≡ count_at old h.key h.pan - 1 →
-    (key : TxKey) (pan : AccountNumber) → count_at new key pan ≡ count_at old key pan - mark_at (Some h) key pan
+    n ≡ hold_count old h.key h.pan - 1 →
+    (key : TxKey) (pan : AccountNumber) → hold_count new key pan ≡ hold_count old key pan - mark_at (Some h) key pan
 count-less old new h n updates is key pan =
     count-set old new h n updates key pan ∙ by_test (same_key h.key key && same_pan h.pan pan) (same_count old h key pan)
   where
-    by_test : (b : Bool) → (b ≡ true → count_at old h.key h.pan ≡ count_at old key pan) → cond b n (count_at old key pan) ≡ count_at old key pan - bit b
+    by_test : (b : Bool) → (b ≡ true → hold_count old h.key h.pan ≡ hold_count old key pan) → cond b n (hold_count old key pan) ≡ hold_count old key pan - bit b
     by_test true same = ap (λ m. m) (is ∙ ap (λ m. m - 1) (same refl))
     by_test false same = omega arith
 
@@ -179,7 +179,7 @@ counts-entered es e key pan distinct =
     either old new d a g f' f law drop add (inr h) = omega (arith, law, drop, add, h)
 
 -- a count is at most the number of entries
-pub few-counted : (es : List Entry) (o : Option Hold) (counts : BTreeMap Hold ℕ) → AreCounts counts es → length es < 999999 → IfSome o (λ h. count_at counts h.key h.pan < 1000000)
+pub few-counted : (es : List Entry) (o : Option Hold) (counts : BTreeMap Hold ℕ) → AreCounts counts es → length es < 999999 → IfSome o (λ h. hold_count counts h.key h.pan < 1000000)
 few-counted es None counts are few = tt
 few-counted es (Some h) counts are few =
     omega (arith, are h.key h.pan, passed-most (λ (c : Entry). is_counted es c && is_end_of h.key h.pan (effect_of c.order)) es)
@@ -196,7 +196,7 @@ at-most f (Some k) (e ∷ es) = by_test (same_key e.order.key k) (at-most f (Som
 
 -- the hold that an entry no longer completes is counted
 pub counted-dropped : (es : List Entry) (e : Entry) (o : Option Hold) (counts : BTreeMap Hold ℕ) → AreCounts counts es → o ≡ dropped_by es e.order.act →
-    IfSome o (λ h. 1 ≤ count_at counts h.key h.pan)
+    IfSome o (λ h. 1 ≤ hold_count counts h.key h.pan)
 counted-dropped es e None counts are is = tt
 counted-dropped es e (Some h) counts are is =
     let m = marks es e h.key h.pan in

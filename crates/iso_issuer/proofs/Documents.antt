@@ -14,7 +14,7 @@ use Rattle.iso_issuer.specs.declared.balances.Balance.{Balance}
 use Rattle.iso_issuer.specs.Balances.{accounts_of, balance_at}
 use Rattle.iso_issuer.specs.declared.fault.AccountsFault.{AccountsFault}
 use Rattle.iso_issuer.specs.declared.fault.AccountsFault.TheVariants.{Twice, OutOfRange}
-use Rattle.iso_issuer.specs.Document.{listed_in, rows_in, is_listed, as_listed, is_out_of_range, row_fault, first_fault}
+use Rattle.iso_issuer.specs.Document.{listed_in, listed_rows, is_listed, as_listed, is_out_of_range, account_fault, accounts_fault}
 use Rattle.iso_issuer.proofs.Keys.{same_pan_sym}
 
 -- ---- rows
@@ -25,11 +25,11 @@ cons_map so_far row (Some rs) = ap (λ (xs : List Listed). Some xs) (sym (append
 
 -- one row more is read
 pub rows_more : (values : List Value) (i : ℕ) (v : Value) (row : Listed) (so_far : List Listed) (total : Option (List Listed)) → i < length values → listed_in (view (get_or values i v)) ≡ Some row
-    → total ≡ option_map (λ rest. so_far ++ rest) (rows_in (items_view (drop i values))) → total ≡ option_map (λ rest. (so_far ++ row ∷ []) ++ rest) (rows_in (items_view (drop (i + 1) values)))
+    → total ≡ option_map (λ rest. so_far ++ rest) (listed_rows (items_view (drop i values))) → total ≡ option_map (λ rest. (so_far ++ row ∷ []) ++ rest) (listed_rows (items_view (drop (i + 1) values)))
 rows_more values i v row so_far total lt is judged =
     let less : drop i values ≡ get_or values i v ∷ drop (i + 1) values = drop-cons values i v lt ∙ ap (λ (k : ℕ). get_or values i v ∷ drop k values) (sym (add-one i)) in
-    let rest : Option (List Listed) = rows_in (items_view (drop (i + 1) values)) in
-    let here : rows_in (items_view (drop i values)) ≡ option_map (λ rs. row ∷ rs) rest = ap (λ (vs : List Value). rows_in (items_view vs)) less ∙ ap (λ (o : Option Listed). option_and_then (λ r. option_map (λ rs. r ∷ rs) rest) o) is in
+    let rest : Option (List Listed) = listed_rows (items_view (drop (i + 1) values)) in
+    let here : listed_rows (items_view (drop i values)) ≡ option_map (λ rs. row ∷ rs) rest = ap (λ (vs : List Value). listed_rows (items_view vs)) less ∙ ap (λ (o : Option Listed). option_and_then (λ r. option_map (λ rs. r ∷ rs) rest) o) is in
     judged ∙ ap (option_map (λ rs. so_far ++ rs)) here ∙ cons_map so_far row rest
 
 -- ---- numbers
@@ -74,15 +74,15 @@ ranged false made row h = (refl, cc)
 
 -- the fault of one account, or else that of the rest
 pub fault_at : (rows : List Listed) (i : ℕ) (row : Listed) (fault : Option AccountsFault) → i < length rows → row ≡ get_or rows i row
-    → first_fault [] rows ≡ first_fault (take i rows) (drop i rows) → row_fault (take i rows) row ≡ fault
-    → first_fault [] rows ≡ option_or fault (first_fault (take i rows ++ row ∷ []) (drop (i + 1) rows))
+    → accounts_fault [] rows ≡ accounts_fault (take i rows) (drop i rows) → account_fault (take i rows) row ≡ fault
+    → accounts_fault [] rows ≡ option_or fault (accounts_fault (take i rows ++ row ∷ []) (drop (i + 1) rows))
 fault_at rows i row fault lt is rest here =
     let less : drop i rows ≡ row ∷ drop (i + 1) rows =
     drop-cons rows i row lt ∙ ap (λ (k : ℕ). get_or rows i row ∷ drop k rows) (sym (add-one i)) ∙ ap (λ (r : Listed). r ∷ drop (i + 1) rows) (sym is) in
-    rest ∙ ap (first_fault (take i rows)) less ∙ ap (λ (o : Option AccountsFault). option_or o (first_fault (take i rows ++ row ∷ []) (drop (i + 1) rows))) here
+    rest ∙ ap (accounts_fault (take i rows)) less ∙ ap (λ (o : Option AccountsFault). option_or o (accounts_fault (take i rows ++ row ∷ []) (drop (i + 1) rows))) here
 
 -- the number of an earlier account
-pub fault-twice : (earlier : List Listed) (row : Listed) (i : ℕ) → is_out_of_range row.opening ≡ false → is_listed earlier row.pan ≡ true → length earlier ≡ i → row_fault earlier row ≡ Some (Twice i)
+pub fault-twice : (earlier : List Listed) (row : Listed) (i : ℕ) → is_out_of_range row.opening ≡ false → is_listed earlier row.pan ≡ true → length earlier ≡ i → account_fault earlier row ≡ Some (Twice i)
 fault-twice earlier row i inside known count =
     by_tests (is_out_of_range row.opening) (is_listed earlier row.pan) inside known ∙ ap (λ (n : ℕ). Some (Twice n)) count
   where
@@ -92,7 +92,7 @@ fault-twice earlier row i inside known count =
     by_tests false false h k = cc
 
 -- nothing wrong with an account
-pub fault-none : (earlier : List Listed) (row : Listed) → is_out_of_range row.opening ≡ false → is_listed earlier row.pan ≡ false → row_fault earlier row ≡ None
+pub fault-none : (earlier : List Listed) (row : Listed) → is_out_of_range row.opening ≡ false → is_listed earlier row.pan ≡ false → account_fault earlier row ≡ None
 fault-none earlier row inside new = by_tests (is_out_of_range row.opening) (is_listed earlier row.pan) inside new
   where
     by_tests : (o l : Bool) → o ≡ false → l ≡ false → ◌≡◌ {A = Option AccountsFault} (cond o (Some (OutOfRange (length earlier))) (cond l (Some (Twice (length earlier))) None)) None

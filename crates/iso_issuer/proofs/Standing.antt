@@ -5,12 +5,12 @@ use Rattle.std.proofs.lemmas.Grind.{common_steps}
 use Rattle.iso_order.specs.declared.key.TxKey.{TxKey}
 use Rattle.iso_order.specs.declared.act.Act.{Act}
 use Rattle.iso_order.specs.declared.act.Act.TheVariants.{Debit, Credit, Inquiry, Undo, Complete}
-use Rattle.iso_order.specs.Key.{class_of, same_key}
+use Rattle.iso_order.specs.Key.{class_digit, same_key}
 use Rattle.iso_order.specs.Order.{Instruction}
 use Rattle.iso_issuer.specs.declared.account.Account.{Account}
 use Rattle.iso_issuer.specs.declared.effect.Side.TheVariants.{Taken, Held}
 use Rattle.iso_issuer.specs.declared.journal.Entry.{Entry}
-use Rattle.iso_issuer.specs.Effect.{effect_of, effect_by, amount_of, is_key, same_side}
+use Rattle.iso_issuer.specs.Effect.{effect_of, effect_by, effect_amount, is_key, same_side}
 use Rattle.iso_issuer.specs.Journal.{entry_at, undone_key, left_by, left_at, reversal_of, is_nothing, is_reversed, smaller_of, is_counted, is_completed, is_ended, stands, weight}
 use Rattle.iso_issuer.specs.Decision.{journal_of}
 use Rattle.iso_issuer.specs.Laws.{NoneReverses, AllReverseWholly, NeverStands}
@@ -19,7 +19,7 @@ use Rattle.iso_issuer.proofs.GoesOn.{find-more, journal-begins, answers-kept, ke
 -- ---- which entries stand
 
 -- an entry of class 2 is no hold
-no-hold : (j : List Entry) (key : TxKey) (act : Act) → class_of key ≡ 2 → is_ended j key (effect_by key act) ≡ false
+no-hold : (j : List Entry) (key : TxKey) (act : Act) → class_digit key ≡ 2 → is_ended j key (effect_by key act) ≡ false
 no-hold j key (Debit m) two = ap (λ c. same_side (cond (c == 1) Held Taken) Held && is_completed j key m.pan) two
 no-hold j key (Credit m) two = refl
 no-hold j key (Inquiry m) two = refl
@@ -27,14 +27,14 @@ no-hold j key (Undo original left) two = refl
 no-hold j key (Complete m hold) two = refl
 
 -- so it stands where it counts
-stands-counted : (j : List Entry) (e : Entry) → class_of e.order.key ≡ 2 → stands j e ≡ is_counted j e
+stands-counted : (j : List Entry) (e : Entry) → class_digit e.order.key ≡ 2 → stands j e ≡ is_counted j e
 stands-counted j e two = ap (λ b. is_counted j e && not b) (no-hold j e.order.key e.order.act two) ∙ and_on (is_counted j e)
   where
     and_on : (b : Bool) → b && true ≡ b
     and_on true = refl
     and_on false = refl
 
-pub granted-stands : (j : List Entry) (e : Entry) → class_of e.order.key ≡ 2 → is_some (effect_of e.order) ≡ true → e.answer.code ≡ 0 → left_at j e.order.key ≡ None →
+pub granted-stands : (j : List Entry) (e : Entry) → class_digit e.order.key ≡ 2 → is_some (effect_of e.order) ≡ true → e.answer.code ≡ 0 → left_at j e.order.key ≡ None →
     stands j e ≡ true
 granted-stands j e two moves granted none =
     stands-counted j e two
@@ -42,11 +42,11 @@ granted-stands j e two moves granted none =
     ∙ ap (λ c. (c == 0) && not (is_nothing (left_at j e.order.key))) granted
     ∙ ap (λ o. not (is_nothing o)) none
 
-pub granted-weighs : (j : List Entry) (e : Entry) → class_of e.order.key ≡ 2 → is_some (effect_of e.order) ≡ true → e.answer.code ≡ 0 → left_at j e.order.key ≡ None →
-    weight j e ≡ amount_of (effect_of e.order)
+pub granted-weighs : (j : List Entry) (e : Entry) → class_digit e.order.key ≡ 2 → is_some (effect_of e.order) ≡ true → e.answer.code ≡ 0 → left_at j e.order.key ≡ None →
+    weight j e ≡ effect_amount (effect_of e.order)
 granted-weighs j e two moves granted none =
-    ap (λ b. cond b (smaller_of (amount_of (effect_of e.order)) (left_at j e.order.key)) 0) (granted-stands j e two moves granted none)
-    ∙ ap (smaller_of (amount_of (effect_of e.order))) none
+    ap (λ b. cond b (smaller_of (effect_amount (effect_of e.order)) (left_at j e.order.key)) 0) (granted-stands j e two moves granted none)
+    ∙ ap (smaller_of (effect_amount (effect_of e.order))) none
 
 -- what doesn't count doesn't stand
 fallen : (j : List Entry) (e : Entry) → is_counted j e ≡ false → stands j e ≡ false
@@ -68,7 +68,7 @@ reversed-falls j e reversed =
     fallen j e (and_off (is_some (effect_of e.order) && (e.answer.code == 0)) (not (is_reversed j e.order.key)) (ap not reversed))
 
 pub fallen-weighs : (j : List Entry) (e : Entry) → stands j e ≡ false → weight j e ≡ 0
-fallen-weighs j e off = ap (λ b. cond b (smaller_of (amount_of (effect_of e.order)) (left_at j e.order.key)) 0) off
+fallen-weighs j e off = ap (λ b. cond b (smaller_of (effect_amount (effect_of e.order)) (left_at j e.order.key)) 0) off
 
 -- ---- which keys are reversed
 
@@ -132,11 +132,11 @@ falls-on true true true s h stays = ap not (stays refl)
 falls-on true true false s h stays = cc
 
 pub falls-for-good : (accounts : List Account) (orders : List Instruction) (key : TxKey) (e : Entry) →
-    class_of key ≡ 2 → entry_at (journal_of accounts orders) key ≡ Some e → stands (journal_of accounts orders) e ≡ false → NeverStands accounts orders key
+    class_digit key ≡ 2 → entry_at (journal_of accounts orders) key ≡ Some e → stands (journal_of accounts orders) e ≡ false → NeverStands accounts orders key
 falls-for-good accounts orders key e two here off more f distinct found =
     let j = journal_of accounts orders in
     let later = journal_of accounts (orders ++ more) in
-    let own : class_of e.order.key ≡ 2 = ap class_of (key-found j key e here) ∙ two in
+    let own : class_digit e.order.key ≡ 2 = ap class_digit (key-found j key e here) ∙ two in
     let same : e ≡ f = same_of (sym (answers-kept accounts orders more key e here) ∙ found) in
     subst (λ (x : Entry). stands later x ≡ false) same
     (fallen later e

@@ -17,7 +17,7 @@ use Rattle.iso_issuer.specs.declared.index.Index.{Index}
 use Rattle.iso_issuer.specs.declared.journal.Entry.{Entry}
 use Rattle.iso_issuer.specs.Effect.{is_key}
 use Rattle.iso_issuer.specs.Journal.{entry_at, undone_key, left_by, HasDistinctKeys}
-use Rattle.iso_issuer.specs.Index.{key_cmp, count_at, mark_at, added_by, dropped_by, entries_from, AreStored, IsIndexOf, AnswersAlike}
+use Rattle.iso_issuer.specs.Index.{key_cmp, hold_count, mark_at, added_by, dropped_by, entries_from, AreStored, IsIndexOf, AnswersAlike}
 use Rattle.iso_issuer.proofs.ByKey.{place_of-push, left-push}
 use Rattle.iso_issuer.proofs.Counts.{counts-entered}
 
@@ -116,7 +116,7 @@ entries-entered os cs s t o a same seq put =
 pub index-entered : (es : List Entry) (e : Entry) (old new : Index) (place : ℕ) → IsIndexOf old es → entry_at es e.order.key ≡ None → HasDistinctKeys (map (λ e. e.order) es) → place ≡ length es →
     ((q : TxKey) → tree.get key_cmp new.places q ≡ cond (same_key e.order.key q) (Some place) (tree.get key_cmp old.places q)) →
     ((q : TxKey) → tree.get key_cmp new.lefts q ≡ option_or (tree.get key_cmp old.lefts q) (cond (is_key (undone_key e.order.act) q) (Some (left_by e.order.act)) None)) →
-    ((q : TxKey) (pan : AccountNumber) → count_at new.counts q pan ≡ count_at old.counts q pan - mark_at (dropped_by es e.order.act) q pan + mark_at (added_by es e) q pan) →
+    ((q : TxKey) (pan : AccountNumber) → hold_count new.counts q pan ≡ hold_count old.counts q pan - mark_at (dropped_by es e.order.act) q pan + mark_at (added_by es e) q pan) →
     IsIndexOf new (es ++ e ∷ [])
 index-entered es e old new place is fresh distinct last places lefts counts = record {
   places = λ q.

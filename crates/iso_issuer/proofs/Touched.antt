@@ -3,7 +3,7 @@ use Rattle.std.proofs.Common.{◌≡◌, ℕ, Bool, true, false, refl, arith, ap
 use Rattle.std.specs.Prelude.{Option, Some, None, map, sum_by, option_and_then}
 use Rattle.std.proofs.lemmas.List.Sums.{sum_by-append, sum_by-cons}
 use Rattle.iso_order.specs.declared.key.TxKey.{TxKey}
-use Rattle.iso_order.specs.Key.{same_key, class_of}
+use Rattle.iso_order.specs.Key.{same_key, class_digit}
 use Rattle.iso_issuer.specs.declared.journal.Entry.{Entry}
 use Rattle.iso_issuer.specs.Effect.{is_key}
 use Rattle.iso_issuer.specs.Journal.{entry_at, HasDistinctKeys}
@@ -97,16 +97,16 @@ pub sum-entered-two : (f g : Entry → ℕ) (k l : Option TxKey) (es : List Entr
 sum-entered-two f g k l es e distinct apart same = omega (arith, last g es e, sum-at-two f g k l es distinct apart same)
 
 -- what is found under a key, of another class than this key
-pub apart-found : (es : List Entry) (k : Option TxKey) (r : Entry) (q : TxKey) → under es k ≡ Some r → class_of q ≡ 1 → class_of r.order.key ≡ 2 → is_key k q ≡ false
+pub apart-found : (es : List Entry) (k : Option TxKey) (r : Entry) (q : TxKey) → under es k ≡ Some r → class_digit q ≡ 1 → class_digit r.order.key ≡ 2 → is_key k q ≡ false
 apart-found es None r q found hold posted = refl
 apart-found es (Some k) r q found hold posted = by_test (same_key k q) refl
   where
     by_test : (b : Bool) → same_key k q ≡ b → b ≡ false
     by_test false t = refl
     by_test true t =
-        let one : class_of k ≡ 1 = ap class_of (same_key_is k q t) ∙ hold in
-        let two : class_of k ≡ 2 = ap class_of (same_key_is k r.order.key (found-key es k r found)) ∙ posted in
-        absurd (differ (class_of k) one two)
+        let one : class_digit k ≡ 1 = ap class_digit (same_key_is k q t) ∙ hold in
+        let two : class_digit k ≡ 2 = ap class_digit (same_key_is k r.order.key (found-key es k r found)) ∙ posted in
+        absurd (differ (class_digit k) one two)
       where
         differ : (n : ℕ) → n ≡ 1 → n ≡ 2 → ⊥
         differ n h k = omega (arith, h, k)

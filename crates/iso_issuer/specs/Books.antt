@@ -48,14 +48,14 @@ IsReply b o (Err Full) = IsFullFor b o.key
 IsReply b o (Err Memory) = IsRoomFor b o.key
 
 -- what an order and its answer leave: a refusal changes nothing
-abbrev pub left_by : Books → Instruction → Result Outcome Refused → Books
-left_by b o (Ok answer) = books_with b o
-left_by b o (Err refused) = b
+abbrev pub books_left_by : Books → Instruction → Result Outcome Refused → Books
+books_left_by b o (Ok answer) = books_with b o
+books_left_by b o (Err refused) = b
 
 -- each order of the list has the answer that it may have after those before it
 abbrev pub IsRun : Books → List Instruction → List (Result Outcome Refused) → Books → Type 0
 IsRun b [] [] new = new ≡ b
-IsRun b (o ∷ os) (r ∷ rs) new = IsReply b o r × IsRun (left_by b o r) os rs new
+IsRun b (o ∷ os) (r ∷ rs) new = IsReply b o r × IsRun (books_left_by b o r) os rs new
 IsRun b [] (r ∷ rs) new = ⊥
 IsRun b (o ∷ os) [] new = ⊥
 

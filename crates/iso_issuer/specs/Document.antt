@@ -18,8 +18,8 @@ use Rattle.iso_issuer.specs.declared.fault.AccountsFault.TheVariants.{Shape, Twi
 -- ---- the shape
 
 -- the whole number at a member, where it fits an i64
-abbrev pub number_at : List ℕ → Data → Option ℤ
-number_at key d = option_and_then (λ m. option_and_then as_i64 (as_number m)) (get key d)
+abbrev pub i64_at : List ℕ → Data → Option ℤ
+i64_at key d = option_and_then (λ m. option_and_then as_i64 (as_number m)) (get key d)
 
 abbrev pub listed_of : Option AccountNumber → Option (List ℕ) → Option ℤ → Option Listed
 listed_of (Some pan) (Some currency) (Some opening) = Some (record { pan = pan; currency = currency; opening = opening })
@@ -31,17 +31,17 @@ listed_of None currency opening = None
 abbrev pub listed_in : Data → Option Listed
 listed_in d =
     if has_size 3 d then
-    listed_of (option_and_then pan_of (text_at (codes "pan") d)) (option_and_then currency_of (text_at (codes "currency") d)) (number_at (codes "opening") d)
+    listed_of (option_and_then pan_of (text_at (codes "pan") d)) (option_and_then currency_of (text_at (codes "currency") d)) (i64_at (codes "opening") d)
     else None
 
 -- the accounts of an array, each of them one
-abbrev pub rows_in : Items → Option (List Listed)
-rows_in no_items = Some []
-rows_in (item d ds) = option_and_then (λ row. option_map (λ rows. row ∷ rows) (rows_in ds)) (listed_in d)
+abbrev pub listed_rows : Items → Option (List Listed)
+listed_rows no_items = Some []
+listed_rows (item d ds) = option_and_then (λ row. option_map (λ rows. row ∷ rows) (listed_rows ds)) (listed_in d)
 
 -- an object of an array `accounts`, and of no other member
 abbrev pub document_in : Data → Option (List Listed)
-document_in d = if has_size 1 d then option_and_then rows_in (option_and_then as_array (get (codes "accounts") d)) else None
+document_in d = if has_size 1 d then option_and_then listed_rows (option_and_then as_array (get (codes "accounts") d)) else None
 
 -- ---- the first fault
 
@@ -54,15 +54,15 @@ abbrev pub is_listed : List Listed → AccountNumber → Bool
 is_listed rows pan = list_any (λ row. same_pan row.pan pan) rows
 
 -- what is wrong with an account after those before it
-abbrev pub row_fault : List Listed → Listed → Option AccountsFault
-row_fault earlier row =
+abbrev pub account_fault : List Listed → Listed → Option AccountsFault
+account_fault earlier row =
     if is_out_of_range row.opening then Some (OutOfRange (length earlier))
     else if is_listed earlier row.pan then Some (Twice (length earlier))
     else None
 
-abbrev pub first_fault : List Listed → List Listed → Option AccountsFault
-first_fault earlier [] = None
-first_fault earlier (row ∷ rows) = option_or (row_fault earlier row) (first_fault (earlier ++ row ∷ []) rows)
+abbrev pub accounts_fault : List Listed → List Listed → Option AccountsFault
+accounts_fault earlier [] = None
+accounts_fault earlier (row ∷ rows) = option_or (account_fault earlier row) (accounts_fault (earlier ++ row ∷ []) rows)
 
 -- ---- the document
 
@@ -72,7 +72,7 @@ unless rows (Some e) = Err e
 
 abbrev pub list_or_fault : Option (List Listed) → Result (List Listed) AccountsFault
 list_or_fault None = Err Shape
-list_or_fault (Some rows) = unless rows (first_fault [] rows)
+list_or_fault (Some rows) = unless rows (accounts_fault [] rows)
 
 -- the accounts of a value, or the first fault
 abbrev pub accounts_in : Data → Result (List Listed) AccountsFault
@@ -81,10 +81,6 @@ accounts_in d = list_or_fault (document_in d)
 -- an account as a document lists it
 abbrev pub as_listed : Account → Listed
 as_listed a = record { pan = a.pan; currency = a.currency; opening = a.opening }
-
--- the text is no JSON
-abbrev pub IsNotJson : List ℕ → Type 0
-IsNotJson text = IsUtf8 text → read text ≡ None
 
 -- the text is JSON of these accounts, in their order
 abbrev pub ListsAccounts : List ℕ → List Account → Type 0

@@ -5,7 +5,7 @@ use Rattle.iso_order.specs.declared.key.TxKey.{TxKey}
 use Rattle.iso_order.specs.declared.act.Act.{Act}
 use Rattle.iso_order.specs.declared.act.Act.TheVariants.{Debit, Credit, Inquiry, Undo, Complete}
 use Rattle.iso_order.specs.AccountNumber.{AccountNumber}
-use Rattle.iso_order.specs.Key.{class_of, same_key}
+use Rattle.iso_order.specs.Key.{class_digit, same_key}
 use Rattle.iso_order.specs.Order.{Instruction, same_pan}
 use Rattle.iso_issuer.specs.declared.effect.Effect.{Effect}
 use Rattle.iso_issuer.specs.declared.effect.Side.{Side}
@@ -13,7 +13,7 @@ use Rattle.iso_issuer.specs.declared.effect.Side.TheVariants.{Given, Taken, Held
 
 -- a debit of class 1 holds, one of class 2 takes
 abbrev pub side_of : TxKey → Side
-side_of key = if class_of key == 1 then Held else Taken
+side_of key = if class_digit key == 1 then Held else Taken
 
 abbrev pub effect_by : TxKey → Act → Option Effect
 effect_by key (Debit m) = Some (record { pan = m.pan; side = side_of key; amount = m.amount; ends = None })
@@ -27,9 +27,9 @@ abbrev pub effect_of : Instruction → Option Effect
 effect_of o = effect_by o.key o.act
 
 -- the amount of an effect
-abbrev pub amount_of : Option Effect → ℕ
-amount_of None = 0
-amount_of (Some f) = f.amount
+abbrev pub effect_amount : Option Effect → ℕ
+effect_amount None = 0
+effect_amount (Some f) = f.amount
 
 -- it is taken from what is available
 abbrev pub takes : Side → Bool

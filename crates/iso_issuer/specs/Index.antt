@@ -63,12 +63,12 @@ abbrev pub or_zero : Option ℕ → ℕ
 or_zero None = 0
 or_zero (Some n) = n
 
-abbrev pub count_at : BTreeMap Hold ℕ → TxKey → AccountNumber → ℕ
-count_at counts key pan = or_zero (tree.get hold_cmp counts (record { key = key; pan = pan }))
+abbrev pub hold_count : BTreeMap Hold ℕ → TxKey → AccountNumber → ℕ
+hold_count counts key pan = or_zero (tree.get hold_cmp counts (record { key = key; pan = pan }))
 
 -- the map has that number for each hold, or nothing for 0
 abbrev pub AreCounts : BTreeMap Hold ℕ → List Entry → Type 0
-AreCounts counts entries = (key : TxKey) → (pan : AccountNumber) → count_at counts key pan ≡ completions entries key pan
+AreCounts counts entries = (key : TxKey) → (pan : AccountNumber) → hold_count counts key pan ≡ completions entries key pan
 
 -- the hold that an effect ends, on its account
 abbrev pub hold_on : AccountNumber → Option TxKey → Option Hold
@@ -116,7 +116,7 @@ pub record IsIndexOf (index : Index) (entries : List Entry) : Type 0 where
 pub record AnswersAlike (a b : Index) : Type 0 where
   pub places : (key : TxKey) → tree.get key_cmp a.places key ≡ tree.get key_cmp b.places key
   pub lefts : (key : TxKey) → tree.get key_cmp a.lefts key ≡ tree.get key_cmp b.lefts key
-  pub counts : (key : TxKey) (pan : AccountNumber) → count_at a.counts key pan ≡ count_at b.counts key pan
+  pub counts : (key : TxKey) (pan : AccountNumber) → hold_count a.counts key pan ≡ hold_count b.counts key pan
 
 -- ---- the entries as they are kept
 
@@ -138,12 +138,12 @@ pub record AreStored (orders : List Instruction) (codes : List ℕ) (shown : BTr
 -- ---- accounts
 
 -- the place of the account of this number, where there is one
-abbrev pub row_of : List Account → AccountNumber → Option ℕ
-row_of accounts pan = position_from (λ a. same_pan a.pan pan) 0 accounts
+abbrev pub account_place : List Account → AccountNumber → Option ℕ
+account_place accounts pan = position_from (λ a. same_pan a.pan pan) 0 accounts
 
 -- the map has the place of each account's number, and no other number
-abbrev pub AreRows : BTreeMap AccountNumber ℕ → List Account → Type 0
-AreRows places accounts = (pan : AccountNumber) → tree.get pan_cmp places pan ≡ row_of accounts pan
+abbrev pub AreAccountPlaces : BTreeMap AccountNumber ℕ → List Account → Type 0
+AreAccountPlaces places accounts = (pan : AccountNumber) → tree.get pan_cmp places pan ≡ account_place accounts pan
 
 -- ---- sums
 

@@ -12,7 +12,7 @@ use Rattle.iso_order.specs.Order.{Instruction}
 use Rattle.iso_issuer.specs.declared.journal.Entry.{Entry}
 use Rattle.iso_issuer.specs.declared.effect.Effect.{Effect}
 use Rattle.iso_issuer.specs.declared.effect.Side.TheVariants.{Held}
-use Rattle.iso_issuer.specs.Effect.{effect_of, amount_of, is_key, ended_by, is_end_of, same_side}
+use Rattle.iso_issuer.specs.Effect.{effect_of, effect_amount, is_key, ended_by, is_end_of, same_side}
 
 -- ---- orders
 
@@ -96,7 +96,7 @@ stands journal e = is_counted journal e && not (is_ended journal e.order.key (ef
 
 -- what is left of the amount of an entry that stands, else 0
 abbrev pub weight : List Entry → Entry → ℕ
-weight journal e = if stands journal e then smaller_of (amount_of (effect_of e.order)) (left_at journal e.order.key) else 0
+weight journal e = if stands journal e then smaller_of (effect_amount (effect_of e.order)) (left_at journal e.order.key) else 0
 
 -- ---- what an order may change
 

@@ -3,13 +3,13 @@ use Rattle.std.specs.Prelude.{◌≡◌, ◌≢◌, ◌≤◌, ℕ, true, false,
 use Rattle.std.specs.List.{AllByRecursion}
 use Rattle.std.specs.List.Sorted.{IsPermutation}
 use Rattle.iso_order.specs.declared.key.TxKey.{TxKey}
-use Rattle.iso_order.specs.Key.{class_of}
+use Rattle.iso_order.specs.Key.{class_digit}
 use Rattle.iso_order.specs.Order.{Instruction}
 use Rattle.iso_order.specs.Outcome.{Outcome}
 use Rattle.iso_issuer.specs.declared.account.Account.{Account}
 use Rattle.iso_issuer.specs.declared.journal.Entry.{Entry}
 use Rattle.iso_issuer.specs.Balance.{ledger, available}
-use Rattle.iso_issuer.specs.Effect.{effect_of, amount_of, is_key}
+use Rattle.iso_issuer.specs.Effect.{effect_of, effect_amount, is_key}
 use Rattle.iso_issuer.specs.Journal.{firsts, is_entered, entry_at, undone_key, left_by, left_at, is_reversed, stands, weight, HasDistinctKeys}
 use Rattle.iso_issuer.specs.Decision.{new_entry, journal_of, reply}
 use Rattle.iso_issuer.specs.Books.{Books, journal, books_with, IsFullFor}
@@ -113,15 +113,15 @@ RepliesAreKept =
 abbrev pub GrantedStands : Type 0
 GrantedStands =
     (journal : List Entry) (e : Entry) →
-    class_of e.order.key ≡ 2 → is_some (effect_of e.order) ≡ true → e.answer.code ≡ 0 → left_at journal e.order.key ≡ None →
+    class_digit e.order.key ≡ 2 → is_some (effect_of e.order) ≡ true → e.answer.code ≡ 0 → left_at journal e.order.key ≡ None →
     stands journal e ≡ true
 
 -- and counts for its whole amount
 abbrev pub GrantedWeighsAll : Type 0
 GrantedWeighsAll =
     (journal : List Entry) (e : Entry) →
-    class_of e.order.key ≡ 2 → is_some (effect_of e.order) ≡ true → e.answer.code ≡ 0 → left_at journal e.order.key ≡ None →
-    weight journal e ≡ amount_of (effect_of e.order)
+    class_digit e.order.key ≡ 2 → is_some (effect_of e.order) ≡ true → e.answer.code ≡ 0 → left_at journal e.order.key ≡ None →
+    weight journal e ≡ effect_amount (effect_of e.order)
 
 -- an entry that wasn't granted doesn't stand
 abbrev pub DeclinedFalls : Type 0
@@ -179,7 +179,7 @@ NeverStands accounts orders key =
 abbrev pub StandsNoMore : Type 0
 StandsNoMore =
     (accounts : List Account) (orders : List Instruction) (key : TxKey) (e : Entry) →
-    class_of key ≡ 2 → entry_at (journal_of accounts orders) key ≡ Some e → stands (journal_of accounts orders) e ≡ false →
+    class_digit key ≡ 2 → entry_at (journal_of accounts orders) key ≡ Some e → stands (journal_of accounts orders) e ≡ false →
     NeverStands accounts orders key
 
 -- a key whose first reversal leaves nothing, of any class

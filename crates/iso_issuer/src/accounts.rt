@@ -4,7 +4,8 @@ ghost use Rattle.std.specs.Prelude.{◌≡◌, ◌≢◌, IfOk, IfErr, IsErrOf, 
 ghost use Rattle.iso_issuer.specs.declared.fault.AccountsFault.TheVariants.{NotJson, Shape, Memory};
 ghost use Rattle.iso_issuer.specs.Account.{HasDistinctNumbers};
 ghost use Rattle.iso_issuer.specs.Balances.{accounts_of, opening_balance};
-ghost use Rattle.iso_issuer.specs.Document.{is_out_of_range, first_fault, as_listed, IsNotJson, ListsAccounts, HasFault};
+ghost use Rattle.iso_table.specs.Document.{IsNotJson};
+ghost use Rattle.iso_issuer.specs.Document.{is_out_of_range, accounts_fault, as_listed, ListsAccounts, HasFault};
 
 use crate::account::Account;
 use crate::balances::Balances;
@@ -58,8 +59,8 @@ fn in_range(row: Listed) -> Option<Account>
 fn judged(alloc: Global, listed: &[Listed]) -> Result<Balances, AccountsFault>
     ensures ok { IfOk result (λ balances. map as_listed (accounts_of balances) ≡ listed.now) }
     ensures opened { IfOk result (λ balances. balances ≡ map opening_balance (accounts_of balances)) }
-    ensures none { IfOk result (λ _. first_fault [] listed.now ≡ None) }
-    ensures fault { IfErr result (λ e. e ≢ Memory → first_fault [] listed.now ≡ Some e) }
+    ensures none { IfOk result (λ _. accounts_fault [] listed.now ≡ None) }
+    ensures fault { IfErr result (λ e. e ≢ Memory → accounts_fault [] listed.now ≡ Some e) }
     ensures json { IsErrOf result AccountsFault.NotJson → ⊥ }
 {
     let mut balances = Balances::new(alloc);

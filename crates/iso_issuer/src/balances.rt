@@ -1,7 +1,7 @@
 //! What is on each account.
 
 ghost use Rattle.std.specs.Prelude.{◌≡◌, ◌++◌, ◌∷◌, [], None, OnOk, OnErr, All, map, option_map};
-ghost use Rattle.iso_issuer.specs.Index.{row_of};
+ghost use Rattle.iso_issuer.specs.Index.{account_place};
 ghost use Rattle.iso_issuer.specs.Balances.{accounts_of, balance_with, balance_at, opening_balance, balance_after, IsNear};
 
 use crate::account::Account;
@@ -44,11 +44,11 @@ impl Model for Balances {
 
     ghost use Rattle.iso_issuer.specs.Account.{HasDistinctNumbers};
     ghost use Rattle.iso_issuer.specs.Balances.{accounts_of};
-    ghost use Rattle.iso_issuer.specs.Index.{AreRows};
+    ghost use Rattle.iso_issuer.specs.Index.{AreAccountPlaces};
 
     ghost view = { λ b. b.rows.items };
 
-    ghost invariant = { λ b. AreRows b.places (accounts_of b.rows.items) × HasDistinctNumbers (accounts_of b.rows.items) };
+    ghost invariant = { λ b. AreAccountPlaces b.places (accounts_of b.rows.items) × HasDistinctNumbers (accounts_of b.rows.items) };
 }
 
 /// The balance of an account at first.
@@ -100,14 +100,14 @@ impl Balances {
 
     /// The place of a number, where it has an account.
     pub fn place(&self, pan: Pan) -> Option<usize>
-        ensures { result ≡ row_of (accounts_of self.now) pan }
+        ensures { result ≡ account_place (accounts_of self.now) pan }
     {
         Some(*self.places.get(&pan)?)
     }
 
     /// The balance of a number and its place, where it has an account.
     pub fn find(&self, pan: Pan) -> Option<Row>
-        ensures place { option_map (λ r. r.place) result ≡ row_of (accounts_of self.now) pan }
+        ensures place { option_map (λ r. r.place) result ≡ account_place (accounts_of self.now) pan }
         ensures balance { option_map (λ r. r.balance) result ≡ balance_at self.now pan }
     {
         let place = *self.places.get(&pan)?;
@@ -127,7 +127,7 @@ impl Balances {
     /// Adds a change to the balance of its account, where there is such an account, at its place.
     pub fn post(&mut self, change: Change, place: Option<usize>)
         requires near { All (IsNear 2999999) self.old }
-        requires place { place ≡ row_of (accounts_of self.old) change.pan }
+        requires place { place ≡ account_place (accounts_of self.old) change.pan }
         ensures { self.new ≡ map (balance_after change) self.old }
     {
         if let Some(place) = place {

@@ -7,7 +7,8 @@ ghost use Rattle.serde_json.specs.View.{view, items_view};
 ghost use Rattle.iso_order.specs.AccountNumber.{AccountNumber};
 ghost use Rattle.iso_order.specs.Pan.{pan_of};
 ghost use Rattle.iso_issuer.specs.declared.fault.AccountsFault.TheVariants.{NotJson, Shape, Memory};
-ghost use Rattle.iso_issuer.specs.Document.{number_at, listed_in, rows_in, document_in, IsNotJson};
+ghost use Rattle.iso_issuer.specs.Document.{i64_at, listed_in, listed_rows, document_in};
+ghost use Rattle.iso_table.specs.Document.{IsNotJson};
 
 use crate::fault::AccountsFault;
 use iso_order::{Pan, currency_of};
@@ -24,8 +25,8 @@ pub struct Listed {
 }
 
 /// The whole number at a member.
-fn number_at(value: &Value, key: &str) -> Option<i64>
-    ensures { result ≡ number_at key.now (view value.now) }
+fn i64_at(value: &Value, key: &str) -> Option<i64>
+    ensures { result ≡ i64_at key.now (view value.now) }
 {
     value.get(key)?.as_i64()
 }
@@ -44,7 +45,7 @@ fn listed_in(value: &Value) -> Option<Listed>
     }
     let pan = Pan::from_digits(text_at(value, "pan")?.as_bytes())?;
     let currency = currency_of(text_at(value, "currency")?.as_bytes())?;
-    let opening = number_at(value, "opening")?;
+    let opening = i64_at(value, "opening")?;
     Some(Listed {
         pan,
         currency,
@@ -53,10 +54,10 @@ fn listed_in(value: &Value) -> Option<Listed>
 }
 
 /// The accounts that these JSON values are.
-fn rows_in(alloc: Global, values: &[Value]) -> Result<Vec<Listed>, AccountsFault>
-    ensures ok { IfOk result (λ rows. rows_in (items_view values.now) ≡ Some rows.items) }
+fn listed_rows(alloc: Global, values: &[Value]) -> Result<Vec<Listed>, AccountsFault>
+    ensures ok { IfOk result (λ rows. listed_rows (items_view values.now) ≡ Some rows.items) }
     ensures fault { IfErr result (λ e. e ≢ Memory → e ≡ Shape) }
-    ensures shape { IfErr result (λ e. e ≢ Memory → rows_in (items_view values.now) ≡ None) }
+    ensures shape { IfErr result (λ e. e ≢ Memory → listed_rows (items_view values.now) ≡ None) }
 {
     let mut rows = Vec::new(alloc);
     for value in values {
@@ -83,7 +84,7 @@ pub fn document_in(alloc: Global, value: &Value) -> Result<Vec<Listed>, Accounts
     let Some(values) = list.as_array() else {
         return Err(AccountsFault::Shape);
     };
-    rows_in(alloc, values.as_slice())
+    listed_rows(alloc, values.as_slice())
 }
 
 /// The JSON value of a text.

@@ -2,10 +2,10 @@
 
 ghost use Rattle.std.specs.Prelude.{◌≡◌, ◌≤◌, true, None, IfSome};
 ghost use Rattle.iso_order.specs.declared.key.TxKey.{TxKey};
-ghost use Rattle.iso_order.specs.Key.{class_of};
+ghost use Rattle.iso_order.specs.Key.{class_digit};
 ghost use Rattle.iso_issuer.specs.Journal.{undone_key};
 ghost use Rattle.iso_issuer.specs.Index.{hold_by};
-ghost use Rattle.iso_issuer.specs.Effect.{amount_of, effect_of, ended_by, is_key, side_of, takes};
+ghost use Rattle.iso_issuer.specs.Effect.{effect_amount, effect_of, ended_by, is_key, side_of, takes};
 
 use iso_order::{Act, Order, Pan, TxKey};
 
@@ -88,8 +88,8 @@ pub fn ended_by(effect: Option<Effect>) -> Option<TxKey>
 }
 
 /// The amount of an effect.
-pub fn amount_of(effect: Option<Effect>) -> u64
-    ensures value { result ≡ amount_of effect }
+pub fn effect_amount(effect: Option<Effect>) -> u64
+    ensures value { result ≡ effect_amount effect }
     ensures small { IfSome effect (λ f. result ≤ f.amount) }
 {
     match effect {
@@ -104,7 +104,7 @@ pub fn effect_of(order: Order) -> Option<Effect>
     ensures small { IfSome result (λ f. f.amount ≤ 999999999999) }
     ensures own { IfSome result (λ f. undone_key order.act ≡ None) }
     // What ends a hold is of class 2, and a hold of class 1.
-    ensures ends { (q : TxKey) → is_key (ended_by result) q ≡ true → (class_of q ≡ 1) × (class_of order.key ≡ 2) }
+    ensures ends { (q : TxKey) → is_key (ended_by result) q ≡ true → (class_digit q ≡ 1) × (class_digit order.key ≡ 2) }
 {
     match order.act() {
         Act::Debit(money) => Some(Effect {

@@ -6,7 +6,7 @@ ghost use Rattle.std.specs.Prelude.{◌≡◌, ◌≤◌, ◌<◌, ◌+◌, ◌-
 ghost use Rattle.std.specs.BTreeMap as tree;
 ghost use Rattle.std.specs.Option.{option_or};
 ghost use Rattle.iso_order.specs.Key.{same_key};
-ghost use Rattle.iso_issuer.specs.Index.{key_cmp, count_at, mark_at, IsIndexOf, AnswersAlike};
+ghost use Rattle.iso_issuer.specs.Index.{key_cmp, hold_count, mark_at, IsIndexOf, AnswersAlike};
 ghost use Rattle.iso_issuer.specs.Journal.{undone_key, left_by};
 
 use crate::effect::Hold;
@@ -24,8 +24,8 @@ pub struct Index {
 }
 
 /// How many entries complete a hold.
-fn count_at(counts: &BTreeMap<Hold, u64>, hold: &Hold) -> u64
-    ensures { result ≡ count_at counts.now hold.now.key hold.now.pan }
+fn hold_count(counts: &BTreeMap<Hold, u64>, hold: &Hold) -> u64
+    ensures { result ≡ hold_count counts.now hold.now.key hold.now.pan }
 {
     match counts.get(hold) {
         Some(count) => *count,
@@ -35,20 +35,20 @@ fn count_at(counts: &BTreeMap<Hold, u64>, hold: &Hold) -> u64
 
 /// One entry more completes the hold.
 fn complete(counts: &mut BTreeMap<Hold, u64>, hold: Hold) -> Result<(), AllocError>
-    requires { count_at counts.old hold.key hold.pan < 1000000 }
+    requires { hold_count counts.old hold.key hold.pan < 1000000 }
     ensures ok { OnOk result ((key : TxKey) → (pan : AccountNumber) →
-        count_at counts.new key pan ≡ count_at counts.old key pan + mark_at (Some hold) key pan) }
-    ensures unchanged { OnErr result ((key : TxKey) → (pan : AccountNumber) → count_at counts.new key pan ≡ count_at counts.old key pan) }
+        hold_count counts.new key pan ≡ hold_count counts.old key pan + mark_at (Some hold) key pan) }
+    ensures unchanged { OnErr result ((key : TxKey) → (pan : AccountNumber) → hold_count counts.new key pan ≡ hold_count counts.old key pan) }
 {
-    let count = count_at(counts, &hold);
+    let count = hold_count(counts, &hold);
     counts.insert(hold, count + 1)?;
     Ok(())
 }
 
 /// One entry fewer completes the hold.
 fn release(counts: &mut BTreeMap<Hold, u64>, hold: Hold)
-    requires { 1 ≤ count_at counts.old hold.key hold.pan }
-    ensures { (key : TxKey) → (pan : AccountNumber) → count_at counts.new key pan ≡ count_at counts.old key pan - mark_at (Some hold) key pan }
+    requires { 1 ≤ hold_count counts.old hold.key hold.pan }
+    ensures { (key : TxKey) → (pan : AccountNumber) → hold_count counts.new key pan ≡ hold_count counts.old key pan - mark_at (Some hold) key pan }
 {
     if let Some(count) = counts.get_mut(&hold) {
         *count -= 1;
@@ -82,14 +82,14 @@ fn keep(
     dropped: Option<Hold>,
 ) -> Result<(), AllocError>
     requires apart { IfSome added (λ h. (undone_key order.act ≡ None) × (dropped ≡ None)) }
-    requires few { IfSome added (λ h. count_at counts.old h.key h.pan < 1000000) }
-    requires counted { IfSome dropped (λ h. 1 ≤ count_at counts.old h.key h.pan) }
+    requires few { IfSome added (λ h. hold_count counts.old h.key h.pan < 1000000) }
+    requires counted { IfSome dropped (λ h. 1 ≤ hold_count counts.old h.key h.pan) }
     ensures lefts { OnOk result ((key : TxKey) → tree.get key_cmp lefts.new key
         ≡ option_or (tree.get key_cmp lefts.old key) (if is_key (undone_key order.act) key then Some (left_by order.act) else None)) }
-    ensures counts { OnOk result ((key : TxKey) → (pan : AccountNumber) → count_at counts.new key pan
-        ≡ count_at counts.old key pan - mark_at dropped key pan + mark_at added key pan) }
+    ensures counts { OnOk result ((key : TxKey) → (pan : AccountNumber) → hold_count counts.new key pan
+        ≡ hold_count counts.old key pan - mark_at dropped key pan + mark_at added key pan) }
     ensures lefts_kept { OnErr result ((key : TxKey) → tree.get key_cmp lefts.new key ≡ tree.get key_cmp lefts.old key) }
-    ensures counts_kept { OnErr result ((key : TxKey) → (pan : AccountNumber) → count_at counts.new key pan ≡ count_at counts.old key pan) }
+    ensures counts_kept { OnErr result ((key : TxKey) → (pan : AccountNumber) → hold_count counts.new key pan ≡ hold_count counts.old key pan) }
 {
     if let Some(hold) = added {
         return complete(counts, hold);
@@ -129,9 +129,9 @@ impl Index {
 
     /// How many entries complete a hold.
     pub fn count(&self, hold: &Hold) -> u64
-        ensures { result ≡ count_at self.now.counts hold.now.key hold.now.pan }
+        ensures { result ≡ hold_count self.now.counts hold.now.key hold.now.pan }
     {
-        count_at(&self.counts, hold)
+        hold_count(&self.counts, hold)
     }
 
     /// Adds what an order of a new key changes: its place, what it leaves of the key that it names, and
@@ -146,14 +146,14 @@ impl Index {
     ) -> Result<(), AllocError>
         requires new { tree.get key_cmp self.old.places order.key ≡ None }
         requires apart { IfSome added (λ h. (undone_key order.act ≡ None) × (dropped ≡ None)) }
-        requires few { IfSome added (λ h. count_at self.old.counts h.key h.pan < 1000000) }
-        requires counted { IfSome dropped (λ h. 1 ≤ count_at self.old.counts h.key h.pan) }
+        requires few { IfSome added (λ h. hold_count self.old.counts h.key h.pan < 1000000) }
+        requires counted { IfSome dropped (λ h. 1 ≤ hold_count self.old.counts h.key h.pan) }
         ensures places { OnOk result ((key : TxKey) → tree.get key_cmp self.new.places key
             ≡ (if same_key order.key key then Some place else tree.get key_cmp self.old.places key)) }
         ensures lefts { OnOk result ((key : TxKey) → tree.get key_cmp self.new.lefts key
             ≡ option_or (tree.get key_cmp self.old.lefts key) (if is_key (undone_key order.act) key then Some (left_by order.act) else None)) }
-        ensures counts { OnOk result ((key : TxKey) → (pan : AccountNumber) → count_at self.new.counts key pan
-            ≡ count_at self.old.counts key pan - mark_at dropped key pan + mark_at added key pan) }
+        ensures counts { OnOk result ((key : TxKey) → (pan : AccountNumber) → hold_count self.new.counts key pan
+            ≡ hold_count self.old.counts key pan - mark_at dropped key pan + mark_at added key pan) }
         ensures unchanged { OnErr result (AnswersAlike self.new self.old) }
     {
         let key = order.key();

@@ -11,7 +11,7 @@ ghost use Rattle.iso_issuer.specs.Index.{added_by, dropped_of, dropped_by};
 ghost use Rattle.iso_issuer.specs.Journal.{entry_at, undone_key, left_at, is_nothing, smaller_of, counts_with, is_completed, is_ended, weight};
 ghost use Rattle.iso_issuer.specs.Journal.{reversed_by, ended_key, released_by, HasDistinctKeys};
 
-use crate::effect::{Effect, Hold, Side, amount_of, effect_of, ended_by, hold_by};
+use crate::effect::{Effect, Hold, Side, effect_amount, effect_of, ended_by, hold_by};
 use crate::found::{Found, Touched};
 use crate::index::Index;
 use iso_order::{Act, Answer, Order, Pan, TxKey};
@@ -225,7 +225,7 @@ impl Journal {
     {
         let effect = effect_of(entry.order);
         if counts_with(left, entry) && !self.is_ended(entry.order.key(), &effect) {
-            smaller(amount_of(effect), left)
+            smaller(effect_amount(effect), left)
         } else {
             0
         }

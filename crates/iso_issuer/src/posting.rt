@@ -10,7 +10,7 @@ ghost use Rattle.iso_issuer.specs.Found.{entry_in, weight_in, amount_left, WasFo
 ghost use Rattle.iso_issuer.specs.Range.{IsAmount};
 ghost use Rattle.iso_issuer.specs.Balance.{ledger_share, available_share};
 ghost use Rattle.iso_issuer.specs.declared.effect.Effect.{Effect};
-ghost use Rattle.iso_issuer.specs.Index.{row_of};
+ghost use Rattle.iso_issuer.specs.Index.{account_place};
 ghost use Rattle.iso_issuer.specs.Balances.{accounts_of, ledger_grown, available_grown, balance_by_weights, on_ledger, on_available, IsNear};
 
 use crate::balances::Balances;
@@ -65,7 +65,7 @@ fn post_at(balances: &mut Balances, entry: Entry, before: u64, after: u64, place
     requires near { All (IsNear 2999999) balances.old }
     requires before { before ≤ 999999999999 }
     requires after { after ≤ 999999999999 }
-    requires place { (f : Effect) → effect_of entry.order ≡ Some f → place ≡ row_of (accounts_of balances.old) f.pan }
+    requires place { (f : Effect) → effect_of entry.order ≡ Some f → place ≡ account_place (accounts_of balances.old) f.pan }
     ensures moved { balances.new ≡ map (balance_by_weights (effect_of entry.order) before after) balances.old }
     ensures near { (n : ℕ) → All (IsNear n) balances.old → All (IsNear (n + 1)) balances.new }
 {
@@ -76,7 +76,7 @@ fn post_at(balances: &mut Balances, entry: Entry, before: u64, after: u64, place
 
 /// The place of the account of an entry, where there is one.
 fn place_for(balances: &Balances, entry: Entry) -> Option<usize>
-    ensures { (f : Effect) → effect_of entry.order ≡ Some f → result ≡ row_of (accounts_of balances.now) f.pan }
+    ensures { (f : Effect) → effect_of entry.order ≡ Some f → result ≡ account_place (accounts_of balances.now) f.pan }
 {
     match effect_of(entry.order) {
         Some(effect) => balances.place(effect.pan),
@@ -125,7 +125,7 @@ pub fn settle(
     place: Option<usize>,
     found: &Found,
 )
-    requires place { (f : Effect) → effect_of entry.order ≡ Some f → place ≡ row_of (accounts_of balances.old) f.pan }
+    requires place { (f : Effect) → effect_of entry.order ≡ Some f → place ≡ account_place (accounts_of balances.old) f.pan }
     requires near { All (IsNear 2999997) balances.old }
     requires found { WasFoundFor journal.now entry.order found.now }
     requires reversed { weight_in found.now.reversed ≤ 999999999999 }

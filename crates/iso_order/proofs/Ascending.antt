@@ -7,7 +7,7 @@ use Rattle.std.proofs.lemmas.List.{append-nil}
 use Rattle.std.proofs.Math.Seq.{take-suc}
 use Rattle.iso_wire.specs.Contents.{Contents}
 use Rattle.iso_wire.specs.Elements.{IsBelow, value_in}
-use Rattle.iso_order.specs.Listing.{entry, elements_at, elements_from, ascend}
+use Rattle.iso_order.specs.Listing.{entry, elements_with_value, elements_from, ascend}
 use Rattle.iso_order.specs.Outcome.{Outcome}
 use Rattle.iso_order.specs.Response.{element, response, response_mti}
 
@@ -39,24 +39,24 @@ IsBelow-entry k n (Some v) es lt below = (lt, below)
 IsBelow-entry k n None es lt below = below
 
 -- the elements of the numbers in front are below the next number
-pub IsBelow-front : (test : ℕ → Bool) (value : ℕ → Option (List ℕ)) (low : ℕ) (ns : List ℕ) (i : ℕ) → ascend test low ns ≡ true → i < length ns → IsBelow (get_or ns i 0) (elements_at value (take i ns))
+pub IsBelow-front : (test : ℕ → Bool) (value : ℕ → Option (List ℕ)) (low : ℕ) (ns : List ℕ) (i : ℕ) → ascend test low ns ≡ true → i < length ns → IsBelow (get_or ns i 0) (elements_with_value value (take i ns))
 IsBelow-front test value low [] i h lt = absurd (omega arith)
 IsBelow-front test value low (n ∷ ns) zero h lt = tt
 IsBelow-front test value low (n ∷ ns) (suc i) h lt =
     let parts = ascend_parts test low n ns h in
     let next = ascend-least test (n + 1) ns i parts.2 (omega arith) in
-    IsBelow-entry (get_or ns i 0) n (value n) (elements_at value (take i ns)) (omega (arith, next)) (IsBelow-front test value (n + 1) ns i parts.2 (omega arith))
+    IsBelow-entry (get_or ns i 0) n (value n) (elements_with_value value (take i ns)) (omega (arith, next)) (IsBelow-front test value (n + 1) ns i parts.2 (omega arith))
 
-elements_at-push : (value : ℕ → Option (List ℕ)) (ns : List ℕ) (n : ℕ) → elements_at value (ns ++ n ∷ []) ≡ elements_at value ns ++ entry n (value n)
-elements_at-push value [] n = append-nil (entry n (value n))
-elements_at-push value (k ∷ ns) n =
-    ap (λ (es : Values). entry k (value k) ++ es) (elements_at-push value ns n)
-    ∙ sym (append_assoc (entry k (value k)) (elements_at value ns) (entry n (value n)))
+elements_with_value-push : (value : ℕ → Option (List ℕ)) (ns : List ℕ) (n : ℕ) → elements_with_value value (ns ++ n ∷ []) ≡ elements_with_value value ns ++ entry n (value n)
+elements_with_value-push value [] n = append-nil (entry n (value n))
+elements_with_value-push value (k ∷ ns) n =
+    ap (λ (es : Values). entry k (value k) ++ es) (elements_with_value-push value ns n)
+    ∙ sym (append_assoc (entry k (value k)) (elements_with_value value ns) (entry n (value n)))
 
 -- one number more
-pub elements_at-more : (value : ℕ → Option (List ℕ)) (ns : List ℕ) (i : ℕ) → i < length ns → elements_at value (take (i + 1) ns) ≡ elements_at value (take i ns) ++ entry (get_or ns i 0) (value (get_or ns i 0))
-elements_at-more value ns i lt =
-    rw add-one (ap (elements_at value) (take-suc ns i 0 lt) ∙ elements_at-push value (take i ns) (get_or ns i 0))
+pub elements_with_value-more : (value : ℕ → Option (List ℕ)) (ns : List ℕ) (i : ℕ) → i < length ns → elements_with_value value (take (i + 1) ns) ≡ elements_with_value value (take i ns) ++ entry (get_or ns i 0) (value (get_or ns i 0))
+elements_with_value-more value ns i lt =
+    rw add-one (ap (elements_with_value value) (take-suc ns i 0 lt) ∙ elements_with_value-push value (take i ns) (get_or ns i 0))
 
 -- ---- the response
 
@@ -93,6 +93,6 @@ unfolding response
 response-each m a n low high = value_in-from (element m a) 2 127 n low (omega arith)
 
 -- no other number has a value in a response
-pub response-listed : (m : Contents) (a : Outcome) → response m a ≡ record { mti = response_mti m.mti; elements = elements_at (element m a) (2 ∷ 3 ∷ 4 ∷ 7 ∷ 11 ∷ 12 ∷ 13 ∷ 32 ∷ 33 ∷ 37 ∷ 38 ∷ 39 ∷ 41 ∷ 42 ∷ 49 ∷ 54 ∷ 70 ∷ 90 ∷ []) }
+pub response-listed : (m : Contents) (a : Outcome) → response m a ≡ record { mti = response_mti m.mti; elements = elements_with_value (element m a) (2 ∷ 3 ∷ 4 ∷ 7 ∷ 11 ∷ 12 ∷ 13 ∷ 32 ∷ 33 ∷ 37 ∷ 38 ∷ 39 ∷ 41 ∷ 42 ∷ 49 ∷ 54 ∷ 70 ∷ 90 ∷ []) }
 unfolding response
 response-listed m a = refl

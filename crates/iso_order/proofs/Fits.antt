@@ -18,7 +18,7 @@ use Rattle.iso_wire.specs.Refusal.{refused_field, refused_by, refused, message_r
 use Rattle.iso_wire.specs.Spelling.{PartAs, Parts}
 use Rattle.iso_order.specs.Fields.{text, asks}
 use Rattle.iso_order.specs.Fitting.{IsServed, ResponsesFit}
-use Rattle.iso_order.specs.Listing.{entry, elements_at}
+use Rattle.iso_order.specs.Listing.{entry, elements_with_value}
 use Rattle.iso_order.specs.Order.{is_letter_or_digit}
 use Rattle.iso_order.specs.Outcome.{Outcome}
 use Rattle.iso_order.specs.Response.{response_mti, is_echoed, is_approved, approval, sign, additional, balance, element, asks_balance, is_showable}
@@ -134,9 +134,9 @@ refused-entry : (rows : List (Option FieldSpec)) (n : ℕ) (v : Option (List ℕ
 refused-entry rows n (Some v) es here rest = rw here rest
 refused-entry rows n None es here rest = rest
 
-pub refused-at : (rows : List (Option FieldSpec)) (value : ℕ → Option (List ℕ)) (ns : List ℕ) → ((n : ℕ) → IfSome (value n) (IsTaken rows n)) → refused rows (elements_at value ns) ≡ None
+pub refused-at : (rows : List (Option FieldSpec)) (value : ℕ → Option (List ℕ)) (ns : List ℕ) → ((n : ℕ) → IfSome (value n) (IsTaken rows n)) → refused rows (elements_with_value value ns) ≡ None
 refused-at rows value [] each = refl
-refused-at rows value (n ∷ ns) each = refused-entry rows n (value n) (elements_at value ns) (each n) (refused-at rows value ns each)
+refused-at rows value (n ∷ ns) each = refused-entry rows n (value n) (elements_with_value value ns) (each n) (refused-at rows value ns each)
 
 pub responses_fit_lem : PartLaws → ResponsesFit
 responses_fit_lem laws t m a s answered =

@@ -25,8 +25,8 @@ use Rattle.iso_order.specs.declared.act.Act.TheVariants.{Debit, Credit, Inquiry,
 use Rattle.iso_order.specs.declared.act.Money.{Money}
 use Rattle.iso_order.specs.declared.key.TxKey.{TxKey}
 use Rattle.iso_order.specs.AccountNumber.{AccountNumber, is_pan}
-use Rattle.iso_order.specs.Key.{class_of, function_of}
-use Rattle.iso_order.specs.Listing.{elements_at}
+use Rattle.iso_order.specs.Key.{class_digit, function_digit}
+use Rattle.iso_order.specs.Listing.{elements_with_value}
 use Rattle.iso_order.specs.Order.{Instruction, is_letter_or_digit, is_currency, is_account, has_amount, is_payment, is_hold_for, is_valid_act}
 use Rattle.iso_order.specs.Request.{RequestsFit, RequestsAreWellFormed, money_in, processing_code, moved_amount, named_by, partial_left, account_number, acquirer_code, original_data, replacement_amounts, no_fee, request_value, request}
 use Rattle.iso_order.proofs.Decimals.{are_digits-acquirer}
@@ -38,7 +38,7 @@ use Rattle.iso_order.proofs.Valid.{key_facts, moved-account, valid-parts}
 use Rattle.iso_order.proofs.WellFormed.{bytes-none, bytes-more, bytes-decimal, bytes-at, ascending-at}
 
 -- no other number has a value in a request
-pub request-listed : (o : Instruction) → request o ≡ record { mti = o.key.base; elements = elements_at (request_value o.key o.act) (2 ∷ 3 ∷ 4 ∷ 7 ∷ 11 ∷ 32 ∷ 49 ∷ 90 ∷ 95 ∷ []) }
+pub request-listed : (o : Instruction) → request o ≡ record { mti = o.key.base; elements = elements_with_value (request_value o.key o.act) (2 ∷ 3 ∷ 4 ∷ 7 ∷ 11 ∷ 32 ∷ 49 ∷ 90 ∷ 95 ∷ []) }
 unfolding request
 request-listed o = refl
 
@@ -46,11 +46,11 @@ request-listed o = refl
 
 pub money-account : (key : TxKey) (act : Act) → is_valid_act key act ≡ true → IfSome (money_in act) (λ m. is_account m ≡ true)
 money-account key (Debit m) h = moved-account m (and_parts (is_payment key) (has_amount m) h).1
-money-account key (Credit m) h = moved-account m (and_parts (class_of key == 2) (has_amount m) h).1
-money-account key (Inquiry m) h = (and_parts (is_payment key && function_of key == 0 && m.amount == 0) (is_account m) h).1
+money-account key (Credit m) h = moved-account m (and_parts (class_digit key == 2) (has_amount m) h).1
+money-account key (Inquiry m) h = (and_parts (is_payment key && function_digit key == 0 && m.amount == 0) (is_account m) h).1
 money-account key (Undo k left) h = tt
 money-account key (Complete m hold) h =
-    moved-account m (and_parts (class_of key == 2 && function_of key == 2) (has_amount m) (and_parts (class_of key == 2 && function_of key == 2 && has_amount m) (is_hold_for key hold) h).0).1
+    moved-account m (and_parts (class_digit key == 2 && function_digit key == 2) (has_amount m) (and_parts (class_digit key == 2 && function_digit key == 2 && has_amount m) (is_hold_for key hold) h).0).1
 
 -- ---- each element
 

@@ -16,7 +16,7 @@ use Rattle.iso_order.specs.declared.verdict.Verdict.{Verdict}
 use Rattle.iso_order.specs.declared.verdict.Verdict.TheVariants.{Order}
 use Rattle.iso_order.specs.AccountNumber.{AccountNumber, is_pan}
 use Rattle.iso_order.specs.Fields.{class, function, asks, base_of, text, part, original_mti, is_original, is_own, original_of, completes, is_hold, hold_of, is_replacement, left_of}
-use Rattle.iso_order.specs.Key.{class_of, function_of, is_valid_key}
+use Rattle.iso_order.specs.Key.{class_digit, function_digit, is_valid_key}
 use Rattle.iso_order.specs.Order.{is_currency, is_account, has_amount, is_payment, is_hold_for, is_valid_act}
 use Rattle.iso_order.specs.Request.{RequestsAsk, money_in, processing_code, moved_amount, named_by, account_number, acquirer_code, original_data, replacement_amounts, request_value, request}
 use Rattle.iso_order.specs.Text.{is_digit, are_digits, number}
@@ -71,10 +71,10 @@ module _ (key : TxKey) (act : Act) (valid : is_valid_key key ≡ true) where
   acquirer-is : number (text m 32) ≡ key.acquirer
   acquirer-is = ap number acquirer-text ∙ number-acquirer key.acquirer facts.acquirer
 
-  class-is : class m ≡ class_of key
+  class-is : class m ≡ class_digit key
   class-is = ap (λ (n : ℕ). n / 100 % 10) mti-is
 
-  function-is : function m ≡ function_of key
+  function-is : function m ≡ function_digit key
   function-is = ap (λ (n : ℕ). n / 10 % 10) mti-is
 
   keyed : Keyed m key
@@ -180,12 +180,12 @@ module _ (key : TxKey) (act : Act) (valid : is_valid_key key ≡ true) where
         ap is_original named-mti
         ∙ and_from _ _ (and_from _ _ (and_from _ _ (eq-eqb (k.base / 1000) 0 named-facts.version) payment) named-facts.asking) (le-leb (k.base % 10) 5 named-facts.origin)
 
-    named-hold : (class_of k == 1) ≡ true → is_hold (original_mti m) ≡ true
+    named-hold : (class_digit k == 1) ≡ true → is_hold (original_mti m) ≡ true
     named-hold one =
         ap is_hold named-mti
         ∙ and_from _ _ (and_from _ _ (and_from _ _ (eq-eqb (k.base / 1000) 0 named-facts.version) one) named-facts.asking) (le-leb (k.base % 10) 5 named-facts.origin)
 
-    is_naming : class_of key ≡ 2 → function_of key ≡ 2 → completes m ≡ true
+    is_naming : class_digit key ≡ 2 → function_digit key ≡ 2 → completes m ≡ true
     is_naming two advice =
         and_from _ _ (and_from _ _ (eq-eqb (class m) 2 (class-is ∙ two)) (eq-eqb (function m) 2 (function-is ∙ advice)))
         (naming ∙ ap (λ (o : Option TxKey). is_some (option_map original_data o)) named)
@@ -224,46 +224,46 @@ asks-act key (Debit money) valid h =
     (moving key act valid money refl parts.1) none
 asks-act key (Credit money) valid h =
     let act = Credit money in
-    let parts = and_parts (class_of key == 2) (has_amount money) h in
+    let parts = and_parts (class_digit key == 2) (has_amount money) h in
     let account = moved-account money parts.1 in
     let plain = not_naming key act valid refl in
-    let two = eqb-true (class_of key) 2 parts.0 in
+    let two = eqb-true (class_digit key) 2 parts.0 in
     let payment : is_payment key ≡ true = rw two refl in
-    let financial : (class (m key act valid) == 1) ≡ false = ap (λ (n : ℕ). n == 1) (class-is key act valid) ∙ other_class (class_of key) parts.0 in
+    let financial : (class (m key act valid) == 1) ≡ false = ap (λ (n : ℕ). n == 1) (class-is key act valid) ∙ other_class (class_digit key) parts.0 in
     credit-verdict (m key act valid) key money
     (paying key act valid money 20 200000 refl refl refl account payment (λ lines last. not_completing (m key act valid) lines last plain))
     (moving key act valid money refl parts.1) financial plain
 asks-act key (Inquiry money) valid h =
     let act = Inquiry money in
-    let parts = and_parts (is_payment key && function_of key == 0 && money.amount == 0) (is_account money) h in
-    let front = and_parts (is_payment key && function_of key == 0) (money.amount == 0) parts.0 in
-    let first = and_parts (is_payment key) (function_of key == 0) front.0 in
+    let parts = and_parts (is_payment key && function_digit key == 0 && money.amount == 0) (is_account money) h in
+    let front = and_parts (is_payment key && function_digit key == 0) (money.amount == 0) parts.0 in
+    let first = and_parts (is_payment key) (function_digit key == 0) front.0 in
     let plain = not_naming key act valid refl in
-    let asking : (function (m key act valid) == 2) ≡ false = ap (λ (n : ℕ). n == 2) (function-is key act valid) ∙ other_function (function_of key) first.1 in
+    let asking : (function (m key act valid) == 2) ≡ false = ap (λ (n : ℕ). n == 2) (function-is key act valid) ∙ other_function (function_digit key) first.1 in
     inquiry-verdict (m key act valid) key money
     (paying key act valid money 31 310000 refl refl refl parts.1 first.0 (λ lines last. not_completing (m key act valid) lines last plain))
     asking (eqb-true money.amount 0 front.1)
 asks-act key (Undo original left) valid h =
     let act = Undo original left in
-    let small = and_parts (class_of key == 4 && is_valid_key original && is_payment original && original.acquirer == key.acquirer) (nat_le left 999999999999) h in
-    let same = and_parts (class_of key == 4 && is_valid_key original && is_payment original) (original.acquirer == key.acquirer) small.0 in
-    let payment = and_parts (class_of key == 4 && is_valid_key original) (is_payment original) same.0 in
-    let first = and_parts (class_of key == 4) (is_valid_key original) payment.0 in
+    let small = and_parts (class_digit key == 4 && is_valid_key original && is_payment original && original.acquirer == key.acquirer) (nat_le left 999999999999) h in
+    let same = and_parts (class_digit key == 4 && is_valid_key original && is_payment original) (original.acquirer == key.acquirer) small.0 in
+    let payment = and_parts (class_digit key == 4 && is_valid_key original) (is_payment original) same.0 in
+    let first = and_parts (class_digit key == 4) (is_valid_key original) payment.0 in
     let own = eqb-true original.acquirer key.acquirer same.1 in
     let leaves = leaving key original left valid (leb-true left 999999999999 small.1) (left == 0) refl in
-    reversal-verdict (m key act valid) key original left (keyed key act valid) (class-is key act valid ∙ eqb-true (class_of key) 4 first.0) leaves.0
+    reversal-verdict (m key act valid) key original left (keyed key act valid) (class-is key act valid ∙ eqb-true (class_digit key) 4 first.0) leaves.0
     (data-digits key act valid original refl first.1 own) (named-original key act valid original refl first.1 own payment.1) (named-own key act valid original refl first.1 own)
     (named-key key act valid original refl first.1 own) leaves.1
 asks-act key (Complete money hold) valid h =
     let act = Complete money hold in
-    let parts = and_parts (class_of key == 2 && function_of key == 2 && has_amount money) (is_hold_for key hold) h in
-    let front = and_parts (class_of key == 2 && function_of key == 2) (has_amount money) parts.0 in
-    let first = and_parts (class_of key == 2) (function_of key == 2) front.0 in
-    let two = eqb-true (class_of key) 2 first.0 in
-    let advice = eqb-true (function_of key) 2 first.1 in
+    let parts = and_parts (class_digit key == 2 && function_digit key == 2 && has_amount money) (is_hold_for key hold) h in
+    let front = and_parts (class_digit key == 2 && function_digit key == 2) (has_amount money) parts.0 in
+    let first = and_parts (class_digit key == 2) (function_digit key == 2) front.0 in
+    let two = eqb-true (class_digit key) 2 first.0 in
+    let advice = eqb-true (function_digit key) 2 first.1 in
     let account = moved-account money front.1 in
-    let same = and_parts (is_valid_key hold && class_of hold == 1) (hold.acquirer == key.acquirer) parts.1 in
-    let authorization = and_parts (is_valid_key hold) (class_of hold == 1) same.0 in
+    let same = and_parts (is_valid_key hold && class_digit hold == 1) (hold.acquirer == key.acquirer) parts.1 in
+    let authorization = and_parts (is_valid_key hold) (class_digit hold == 1) same.0 in
     let good = authorization.0 in
     let own = eqb-true hold.acquirer key.acquirer same.1 in
     let payment : is_payment key ≡ true = rw two refl in

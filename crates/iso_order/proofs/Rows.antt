@@ -17,7 +17,7 @@ use Rattle.iso_parts.specs.PartLaws.{PartLaws}
 use Rattle.iso_parts.specs.Row.{is_exact, has_pad_end, Fits}
 use Rattle.iso_table.specs.declared.host.HostRow.{HostRow}
 use Rattle.iso_table.specs.declared.host.Shape.TheVariants.{Text, Amounts}
-use Rattle.iso_table.specs.HostReady.{is_an, is_n_or_an, is_fixed, is_counted, is_unpadded, is_shape, IsHostRow}
+use Rattle.iso_table.specs.HostReady.{is_an, is_n_or_an, is_fixed, is_ll_or_lll, is_unpadded, is_shape, IsHostRow}
 use Rattle.iso_wire.specs.Decimal.{decimal}
 use Rattle.iso_wire.specs.Refusal.{refused_field, refused_by}
 use Rattle.iso_order.specs.Order.{is_letter_or_digit}
@@ -93,7 +93,7 @@ pub length_by : (t : Bool) (n max : ℕ) → n ≡ max → (if t then n == max e
 length_by true n max same = grind (arith, nat_tests)
 length_by false n max same = grind (arith, nat_tests)
 
-counted_by : (l : Length) (p : Pad) (n max : ℕ) → is_counted l ≡ true → n ≤ max → (if is_exact l p then n == max else nat_le n max) ≡ true
+counted_by : (l : Length) (p : Pad) (n max : ℕ) → is_ll_or_lll l ≡ true → n ≤ max → (if is_exact l p then n == max else nat_le n max) ≡ true
 counted_by (lengths.LL d) p n max is within = grind (arith, nat_tests)
 counted_by (lengths.LLL d) p n max is within = grind (arith, nat_tests)
 counted_by (lengths.LLLL d) p n max is within = absurd cc
@@ -116,9 +116,9 @@ digits_fit s n v shape size digits =
 -- twenty letters or digits fit a row of amounts
 pub amount_fits : (s : FieldSpec) (v : List ℕ) → is_shape Amounts s ≡ true → length v ≡ 20 → list_all is_letter_or_digit v ≡ true → Fits s v
 amount_fits s v shape size codes =
-    let p = and_parts (is_an s.class && is_counted s.length && nat_le 20 s.max) (is_unpadded s.pad) shape in
-    let q = and_parts (is_an s.class && is_counted s.length) (nat_le 20 s.max) p.0 in
-    let r = and_parts (is_an s.class) (is_counted s.length) q.0 in
+    let p = and_parts (is_an s.class && is_ll_or_lll s.length && nat_le 20 s.max) (is_unpadded s.pad) shape in
+    let q = and_parts (is_an s.class && is_ll_or_lll s.length) (nat_le 20 s.max) p.0 in
+    let r = and_parts (is_an s.class) (is_ll_or_lll s.length) q.0 in
     let within : length v ≤ s.max = let room = q.1 in grind (arith, nat_tests) in
     record {
       length = counted_by s.length s.pad (length v) s.max r.1 within;

@@ -17,14 +17,14 @@ use Rattle.iso_parts.specs.Row.{is_exact, refusal, Fits}
 use Rattle.iso_table.specs.declared.host.HostRow.{HostRow}
 use Rattle.iso_table.specs.declared.host.Shape.{Shape}
 use Rattle.iso_table.specs.declared.host.Shape.TheVariants as shapes
-use Rattle.iso_table.specs.HostReady.{is_n, is_an, is_n_or_an, is_fixed, is_counted, is_unpadded, is_shape, host_rows, IsHostRow, AreHostRows}
+use Rattle.iso_table.specs.HostReady.{is_n, is_an, is_n_or_an, is_fixed, is_ll_or_lll, is_unpadded, is_shape, host_rows, IsHostRow, AreHostRows}
 use Rattle.iso_table.specs.Layout.{row_at}
 use Rattle.iso_wire.specs.Contents.{Contents}
 use Rattle.iso_wire.specs.Refusal.{refused_field, refused_by}
 use Rattle.iso_wire.specs.Spelling.{mti_bytes, plain_by, plain_of}
 use Rattle.iso_order.specs.Fields.{text}
 use Rattle.iso_order.specs.Fitting.{ResponsesAreShort}
-use Rattle.iso_order.specs.Listing.{entry, elements_at}
+use Rattle.iso_order.specs.Listing.{entry, elements_with_value}
 use Rattle.iso_order.specs.Outcome.{Outcome}
 use Rattle.iso_order.specs.Response.{element, response, is_showable}
 use Rattle.iso_order.proofs.Ascending.{response-listed}
@@ -73,13 +73,13 @@ shape_short laws (shapes.Digits n) number s v few shape fits amount =
     let p = and_parts (is_n s.class && is_fixed s.length && (s.max == n)) (is_unpadded s.pad) shape in
     part_short laws s v fits (same_few s.max n (and_parts (is_n s.class && is_fixed s.length) (s.max == n) p.0).1 few)
 shape_short laws (shapes.DigitsUpTo n) number s v few shape fits amount =
-    let p = and_parts (is_n s.class && is_counted s.length && nat_le s.max n) (is_unpadded s.pad) shape in
-    part_short laws s v fits (most_few s.max n (and_parts (is_n s.class && is_counted s.length) (nat_le s.max n) p.0).1 few)
+    let p = and_parts (is_n s.class && is_ll_or_lll s.length && nat_le s.max n) (is_unpadded s.pad) shape in
+    part_short laws s v fits (most_few s.max n (and_parts (is_n s.class && is_ll_or_lll s.length) (nat_le s.max n) p.0).1 few)
 shape_short laws (shapes.Text n) number s v few shape fits amount =
     let p = and_parts (is_n_or_an s.class && is_fixed s.length && (s.max == n)) (is_unpadded s.pad) shape in
     part_short laws s v fits (same_few s.max n (and_parts (is_n_or_an s.class && is_fixed s.length) (s.max == n) p.0).1 few)
 shape_short laws shapes.Amounts number s v is shape fits amount =
-    let p = and_parts (is_an s.class && is_counted s.length && nat_le 20 s.max) (is_unpadded s.pad) shape in
+    let p = and_parts (is_an s.class && is_ll_or_lll s.length && nat_le 20 s.max) (is_unpadded s.pad) shape in
     let twenty = amount is in
     unpadded_short laws s v p.1 fits (omega arith)
 shape_short laws (shapes.AnyUpTo n) number s v few shape fits amount = part_short laws s v fits (most_few s.max n shape few)
@@ -103,12 +103,12 @@ entry_short laws rows h (Some v) es most narrow row taken amount rest =
 entry_short laws rows h None es most narrow row taken amount rest = omega arith
 
 elements_short : PartLaws → (rows : List (Option FieldSpec)) (value : ℕ → Option (List ℕ)) (hs : List HostRow) → list_all is_narrow hs ≡ true → AreHostRows hs rows → ((n : ℕ) → IfSome (value n) (IsTaken rows n)) → ((n : ℕ) → (n == 54) ≡ true → IfSome (value n) (λ v. length v ≡ 20))
-    → length (flat_map (plain_of rows) (elements_at value (map (λ (h : HostRow). h.number) hs))) ≤ 202 * length hs
+    → length (flat_map (plain_of rows) (elements_with_value value (map (λ (h : HostRow). h.number) hs))) ≤ 202 * length hs
 elements_short laws rows value [] narrow good taken amount = omega arith
 elements_short laws rows value (h ∷ hs) narrow good taken amount =
     let both = and_parts (is_narrow h) (list_all is_narrow hs) narrow in
     let rest = elements_short laws rows value hs both.1 good.1 taken amount in
-    let whole = entry_short laws rows h (value h.number) (elements_at value (map (λ (k : HostRow). k.number) hs)) (202 * length hs) both.0 good.0 (taken h.number) (amount h.number) rest in
+    let whole = entry_short laws rows h (value h.number) (elements_with_value value (map (λ (k : HostRow). k.number) hs)) (202 * length hs) both.0 good.0 (taken h.number) (amount h.number) rest in
     omega arith
 
 -- what is shown has twenty characters
@@ -128,13 +128,13 @@ type_short digits.Bcd n = omega arith
 pub responses_short_lem : PartLaws → MapLaws → ResponsesAreShort
 responses_short_lem laws map_laws t m a out s plain =
     let value = element m a in
-    let listed : (response m a).elements ≡ elements_at value (map (λ (h : HostRow). h.number) host_rows) = ap (λ (made : Contents). made.elements) (response-listed m a) in
+    let listed : (response m a).elements ≡ elements_with_value value (map (λ (h : HostRow). h.number) host_rows) = ap (λ (made : Contents). made.elements) (response-listed m a) in
     let maps = plain.spelling.maps in
     let parts = plain.spelling.parts in
     let bytes = ap length plain.spelling.bytes in
     let kind = type_short t.mti (response m a).mti in
     let bitmaps = map_laws.short t.bitmap _ maps plain.bitmaps in
-    let written : length parts ≡ length (flat_map (plain_of t.rows) (elements_at value (map (λ (h : HostRow). h.number) host_rows))) = ap length (plain.parts ∙ ap (flat_map (plain_of t.rows)) listed) in
+    let written : length parts ≡ length (flat_map (plain_of t.rows) (elements_with_value value (map (λ (h : HostRow). h.number) host_rows))) = ap length (plain.parts ∙ ap (flat_map (plain_of t.rows)) listed) in
     let elements = elements_short laws t.rows value host_rows refl s.ready.rows (element_taken laws t m a s) (amount_twenty m a s.shown) in
     let front = length-append (mti_bytes t.mti (response m a).mti) (maps ++ parts) in
     let behind = length-append maps parts in

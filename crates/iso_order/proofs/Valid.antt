@@ -8,7 +8,7 @@ use Rattle.iso_order.specs.declared.act.Act.TheVariants.{Debit, Credit, Inquiry,
 use Rattle.iso_order.specs.declared.act.Money.{Money}
 use Rattle.std.specs.Prelude.{IsTrue, IfSome, is_some, Option, Some, None, ◌==◌, ◌||◌, nat_le, nat_lt}
 use Rattle.iso_order.specs.Fields.{asks, base_of, is_hold, is_original}
-use Rattle.iso_order.specs.Key.{class_of, function_of, is_valid_key}
+use Rattle.iso_order.specs.Key.{class_digit, function_digit, is_valid_key}
 use Rattle.iso_order.specs.Verdict.{debited_by}
 use Rattle.iso_order.specs.Order.{Instruction, is_account, has_amount, is_payment, is_hold_for, is_valid_act, is_valid, amount_of}
 
@@ -18,14 +18,14 @@ moved-bound m h = let most = (and_parts (is_account m && nat_le 1 m.amount) (nat
 -- the amount of a valid order has at most twelve digits
 pub amount-bound : (key : TxKey) (act : Act) → is_valid_act key act ≡ true → amount_of act < 1000000000000
 amount-bound key (Debit m) h = moved-bound m (and_parts (is_payment key) (has_amount m) h).1
-amount-bound key (Credit m) h = moved-bound m (and_parts (class_of key == 2) (has_amount m) h).1
-amount-bound key (Inquiry m) h = let zero_amount = (and_parts (is_payment key && function_of key == 0) (m.amount == 0) (and_parts (is_payment key && function_of key == 0 && m.amount == 0) (is_account m) h).0).1 in grind (arith, nat_tests)
+amount-bound key (Credit m) h = moved-bound m (and_parts (class_digit key == 2) (has_amount m) h).1
+amount-bound key (Inquiry m) h = let zero_amount = (and_parts (is_payment key && function_digit key == 0) (m.amount == 0) (and_parts (is_payment key && function_digit key == 0 && m.amount == 0) (is_account m) h).0).1 in grind (arith, nat_tests)
 amount-bound key (Undo k left) h =
-    let most = (and_parts (class_of key == 4 && is_valid_key k && is_payment k && k.acquirer == key.acquirer) (nat_le left 999999999999) h).1 in
+    let most = (and_parts (class_digit key == 4 && is_valid_key k && is_payment k && k.acquirer == key.acquirer) (nat_le left 999999999999) h).1 in
     grind (arith, nat_tests)
 amount-bound key (Complete m hold) h =
-    let money = and_parts (class_of key == 2 && function_of key == 2 && has_amount m) (is_hold_for key hold) h in
-    moved-bound m (and_parts (class_of key == 2 && function_of key == 2) (has_amount m) money.0).1
+    let money = and_parts (class_digit key == 2 && function_digit key == 2 && has_amount m) (is_hold_for key hold) h in
+    moved-bound m (and_parts (class_digit key == 2 && function_digit key == 2) (has_amount m) money.0).1
 
 -- the amount of an order has at most twelve digits
 pub valid-bound : (o : Instruction) → IsTrue (is_valid o) → amount_of o.act < 1000000000000
@@ -54,13 +54,13 @@ base-keeps mti version origin =
       origin = even_digit (base_of mti % 10) (omega arith) (omega arith);
     }
 
-pub key-valid : (k : TxKey) → k.base < 1000 → asks (function_of k) ≡ true → (k.base % 10 == 0 || k.base % 10 == 2 || k.base % 10 == 4) ≡ true → k.stan ≤ 999999 → k.sent ≤ 9999999999 → k.acquirer ≤ 99999999999 → is_valid_key k ≡ true
+pub key-valid : (k : TxKey) → k.base < 1000 → asks (function_digit k) ≡ true → (k.base % 10 == 0 || k.base % 10 == 2 || k.base % 10 == 4) ≡ true → k.stan ≤ 999999 → k.sent ≤ 9999999999 → k.acquirer ≤ 99999999999 → is_valid_key k ≡ true
 key-valid k base function origin stan sent acquirer = grind (arith, nat_tests)
 
 pub key-acquirer : (k : TxKey) → is_valid_key k ≡ true → k.acquirer ≤ 99999999999
 key-acquirer k h = grind (arith, nat_tests)
 
-pub key-request : (k : TxKey) → is_valid_key k ≡ true → function_of k ≢ 2 → (function_of k == 0) ≡ true
+pub key-request : (k : TxKey) → is_valid_key k ≡ true → function_digit k ≢ 2 → (function_digit k == 0) ≡ true
 key-request k h request = grind (arith, nat_tests)
 
 -- ---- orders
@@ -91,26 +91,26 @@ module _ (key named : TxKey) (mti : ℕ) (valid : is_valid_key key ≡ true) (ba
   own : (named.acquirer == key.acquirer) ≡ true
   own = eq-eqb named.acquirer key.acquirer acquirer
 
-  pub undo-valid : (left : ℕ) → is_original mti ≡ true → left ≤ 999999999999 → class_of key ≡ 4 → IsTrue (is_valid (record { key = key; act = Undo named left }))
+  pub undo-valid : (left : ℕ) → is_original mti ≡ true → left ≤ 999999999999 → class_digit key ≡ 4 → IsTrue (is_valid (record { key = key; act = Undo named left }))
   unfolding is_valid
   undo-valid left original small class =
       let parts = original_parts mti original in
       let kept = base-keeps mti parts.0 parts.3 in
       let good = named-valid kept parts.2 in
       let payment : is_payment named ≡ true = rw (base, kept.class) parts.1 in
-      let four : (class_of key == 4) ≡ true = eq-eqb (class_of key) 4 class in
+      let four : (class_digit key == 4) ≡ true = eq-eqb (class_digit key) 4 class in
       both_true (is_valid_key key) _ valid
-      (both_true (class_of key == 4 && is_valid_key named && is_payment named && named.acquirer == key.acquirer) (nat_le left 999999999999)
-      (both_true (class_of key == 4 && is_valid_key named && is_payment named) (named.acquirer == key.acquirer)
-      (both_true (class_of key == 4 && is_valid_key named) (is_payment named) (both_true (class_of key == 4) (is_valid_key named) four good) payment) own) (le-leb left 999999999999 small))
+      (both_true (class_digit key == 4 && is_valid_key named && is_payment named && named.acquirer == key.acquirer) (nat_le left 999999999999)
+      (both_true (class_digit key == 4 && is_valid_key named && is_payment named) (named.acquirer == key.acquirer)
+      (both_true (class_digit key == 4 && is_valid_key named) (is_payment named) (both_true (class_digit key == 4) (is_valid_key named) four good) payment) own) (le-leb left 999999999999 small))
 
   pub hold-valid : is_hold mti ≡ true → is_hold_for key named ≡ true
   hold-valid hold =
       let parts = hold_parts mti hold in
       let kept = base-keeps mti parts.0 parts.3 in
       let good = named-valid kept parts.2 in
-      let authorization : (class_of named == 1) ≡ true = rw (base, kept.class) parts.1 in
-      both_true (is_valid_key named && class_of named == 1) (named.acquirer == key.acquirer) (both_true (is_valid_key named) (class_of named == 1) good authorization) own
+      let authorization : (class_digit named == 1) ≡ true = rw (base, kept.class) parts.1 in
+      both_true (is_valid_key named && class_digit named == 1) (named.acquirer == key.acquirer) (both_true (is_valid_key named) (class_digit named == 1) good authorization) own
 
 module _ (key : TxKey) (m : Money) (valid : is_valid_key key ≡ true) (account : is_account m ≡ true) where
   moved : 1 ≤ m.amount → m.amount ≤ 999999999999 → has_amount m ≡ true
@@ -123,30 +123,30 @@ module _ (key : TxKey) (m : Money) (valid : is_valid_key key ≡ true) (account 
   debit-valid payment least most =
       both_true (is_valid_key key) _ valid (both_true (is_payment key) (has_amount m) payment (moved least most))
 
-  pub credit-valid : class_of key ≡ 2 → 1 ≤ m.amount → m.amount ≤ 999999999999 → IsTrue (is_valid (record { key = key; act = Credit m }))
+  pub credit-valid : class_digit key ≡ 2 → 1 ≤ m.amount → m.amount ≤ 999999999999 → IsTrue (is_valid (record { key = key; act = Credit m }))
   unfolding is_valid
   credit-valid two least most =
-      both_true (is_valid_key key) _ valid (both_true (class_of key == 2) (has_amount m) (eq-eqb (class_of key) 2 two) (moved least most))
+      both_true (is_valid_key key) _ valid (both_true (class_digit key == 2) (has_amount m) (eq-eqb (class_digit key) 2 two) (moved least most))
 
-  pub completion-valid : (hold : TxKey) → class_of key ≡ 2 → function_of key ≡ 2 → is_hold_for key hold ≡ true → 1 ≤ m.amount → m.amount ≤ 999999999999 → IsTrue (is_valid (record { key = key; act = Complete m hold }))
+  pub completion-valid : (hold : TxKey) → class_digit key ≡ 2 → function_digit key ≡ 2 → is_hold_for key hold ≡ true → 1 ≤ m.amount → m.amount ≤ 999999999999 → IsTrue (is_valid (record { key = key; act = Complete m hold }))
   unfolding is_valid
   completion-valid hold two advice named least most =
       both_true (is_valid_key key) _ valid
-      (both_true (class_of key == 2 && function_of key == 2 && has_amount m) (is_hold_for key hold)
-      (both_true (class_of key == 2 && function_of key == 2) (has_amount m)
-      (both_true (class_of key == 2) (function_of key == 2) (eq-eqb (class_of key) 2 two) (eq-eqb (function_of key) 2 advice)) (moved least most)) named)
+      (both_true (class_digit key == 2 && function_digit key == 2 && has_amount m) (is_hold_for key hold)
+      (both_true (class_digit key == 2 && function_digit key == 2) (has_amount m)
+      (both_true (class_digit key == 2) (function_digit key == 2) (eq-eqb (class_digit key) 2 two) (eq-eqb (function_digit key) 2 advice)) (moved least most)) named)
 
   -- a debit, or the completion of a hold of its own
-  pub debited-valid : (hold : Option TxKey) → is_payment key ≡ true → (is_some hold ≡ true → (class_of key ≡ 2) × (function_of key ≡ 2)) → IfSome hold (λ h. is_hold_for key h ≡ true) → 1 ≤ m.amount → m.amount ≤ 999999999999 → IsTrue (is_valid (record { key = key; act = debited_by m hold }))
+  pub debited-valid : (hold : Option TxKey) → is_payment key ≡ true → (is_some hold ≡ true → (class_digit key ≡ 2) × (function_digit key ≡ 2)) → IfSome hold (λ h. is_hold_for key h ≡ true) → 1 ≤ m.amount → m.amount ≤ 999999999999 → IsTrue (is_valid (record { key = key; act = debited_by m hold }))
   debited-valid None payment advice named least most = debit-valid payment least most
   debited-valid (Some hold) payment advice named least most = let two = advice refl in completion-valid hold two.0 two.1 named least most
 
-  pub inquiry-valid : is_payment key ≡ true → function_of key ≢ 2 → m.amount ≡ 0 → IsTrue (is_valid (record { key = key; act = Inquiry m }))
+  pub inquiry-valid : is_payment key ≡ true → function_digit key ≢ 2 → m.amount ≡ 0 → IsTrue (is_valid (record { key = key; act = Inquiry m }))
   unfolding is_valid
   inquiry-valid payment request none =
       both_true (is_valid_key key) _ valid
-      (both_true (is_payment key && function_of key == 0 && m.amount == 0) (is_account m)
-      (both_true (is_payment key && function_of key == 0) (m.amount == 0) (both_true (is_payment key) (function_of key == 0) payment (key-request key valid request)) (eq-eqb m.amount 0 none)) account)
+      (both_true (is_payment key && function_digit key == 0 && m.amount == 0) (is_account m)
+      (both_true (is_payment key && function_digit key == 0) (m.amount == 0) (both_true (is_payment key) (function_digit key == 0) payment (key-request key valid request)) (eq-eqb m.amount 0 none)) account)
 
 -- ---- what a valid key keeps
 
@@ -166,11 +166,11 @@ even_base b h = (grind (arith, nat_tests), grind (arith, nat_tests))
 
 pub key_facts : (k : TxKey) → is_valid_key k ≡ true → KeyFacts k
 key_facts k h =
-    let a = and_parts (nat_lt k.base 1000 && (function_of k == 0 || function_of k == 2) && (k.base % 10 == 0 || k.base % 10 == 2 || k.base % 10 == 4) && nat_le k.stan 999999 && nat_le k.sent 9999999999) (nat_le k.acquirer 99999999999) h in
-    let b = and_parts (nat_lt k.base 1000 && (function_of k == 0 || function_of k == 2) && (k.base % 10 == 0 || k.base % 10 == 2 || k.base % 10 == 4) && nat_le k.stan 999999) (nat_le k.sent 9999999999) a.0 in
-    let s = and_parts (nat_lt k.base 1000 && (function_of k == 0 || function_of k == 2) && (k.base % 10 == 0 || k.base % 10 == 2 || k.base % 10 == 4)) (nat_le k.stan 999999) b.0 in
-    let o = and_parts (nat_lt k.base 1000 && (function_of k == 0 || function_of k == 2)) (k.base % 10 == 0 || k.base % 10 == 2 || k.base % 10 == 4) s.0 in
-    let f = and_parts (nat_lt k.base 1000) (function_of k == 0 || function_of k == 2) o.0 in
+    let a = and_parts (nat_lt k.base 1000 && (function_digit k == 0 || function_digit k == 2) && (k.base % 10 == 0 || k.base % 10 == 2 || k.base % 10 == 4) && nat_le k.stan 999999 && nat_le k.sent 9999999999) (nat_le k.acquirer 99999999999) h in
+    let b = and_parts (nat_lt k.base 1000 && (function_digit k == 0 || function_digit k == 2) && (k.base % 10 == 0 || k.base % 10 == 2 || k.base % 10 == 4) && nat_le k.stan 999999) (nat_le k.sent 9999999999) a.0 in
+    let s = and_parts (nat_lt k.base 1000 && (function_digit k == 0 || function_digit k == 2) && (k.base % 10 == 0 || k.base % 10 == 2 || k.base % 10 == 4)) (nat_le k.stan 999999) b.0 in
+    let o = and_parts (nat_lt k.base 1000 && (function_digit k == 0 || function_digit k == 2)) (k.base % 10 == 0 || k.base % 10 == 2 || k.base % 10 == 4) s.0 in
+    let f = and_parts (nat_lt k.base 1000) (function_digit k == 0 || function_digit k == 2) o.0 in
     let low : k.base < 1000 = let lt = f.0 in grind (arith, nat_tests) in
     let even = even_base k.base o.1 in
     record {

@@ -10,7 +10,7 @@ use Rattle.iso_wire.specs.OneSpelling.{AreOfBytes, WellFormed}
 use Rattle.iso_wire.specs.Spelling.{AreBytes}
 use Rattle.iso_order.specs.Fields.{asks, text}
 use Rattle.iso_order.specs.Fitting.{ResponsesAreWellFormed}
-use Rattle.iso_order.specs.Listing.{entry, elements_at, ascend}
+use Rattle.iso_order.specs.Listing.{entry, elements_with_value, ascend}
 use Rattle.iso_order.specs.Outcome.{Outcome}
 use Rattle.iso_order.specs.Response.{response_mti, is_echoed, is_approved, approval, sign, additional, balance, element, is_responded}
 use Rattle.iso_order.proofs.Ascending.{ascend_parts, response-listed}
@@ -71,9 +71,9 @@ bytes-entry : (n : ℕ) (v : Option (List ℕ)) (es : Values) → IfSome v AreBy
 bytes-entry n (Some v) es here rest = (here, rest)
 bytes-entry n None es here rest = rest
 
-pub bytes-at : (value : ℕ → Option (List ℕ)) (ns : List ℕ) → ((n : ℕ) → IfSome (value n) AreBytes) → AreOfBytes (elements_at value ns)
+pub bytes-at : (value : ℕ → Option (List ℕ)) (ns : List ℕ) → ((n : ℕ) → IfSome (value n) AreBytes) → AreOfBytes (elements_with_value value ns)
 bytes-at value [] each = tt
-bytes-at value (n ∷ ns) each = bytes-entry n (value n) (elements_at value ns) (each n) (bytes-at value ns each)
+bytes-at value (n ∷ ns) each = bytes-entry n (value n) (elements_with_value value ns) (each n) (bytes-at value ns each)
 
 -- ---- their order
 
@@ -89,11 +89,11 @@ ascending-entry : (low n : ℕ) (v : Option (List ℕ)) (es : Values) → low �
 ascending-entry low n (Some v) es le number rest = let range = in-range n number in (le, range.0, range.1, rest)
 ascending-entry low n None es le number rest = ascending-from low (n + 1) es (omega arith) rest
 
-pub ascending-at : (test : ℕ → Bool) (value : ℕ → Option (List ℕ)) → ((n : ℕ) → test n ≡ true → is_number n ≡ true) → (low : ℕ) (ns : List ℕ) → ascend test low ns ≡ true → IsAscending low (elements_at value ns)
+pub ascending-at : (test : ℕ → Bool) (value : ℕ → Option (List ℕ)) → ((n : ℕ) → test n ≡ true → is_number n ≡ true) → (low : ℕ) (ns : List ℕ) → ascend test low ns ≡ true → IsAscending low (elements_with_value value ns)
 ascending-at test value number low [] h = tt
 ascending-at test value number low (n ∷ ns) h =
     let parts = ascend_parts test low n ns h in
-    ascending-entry low n (value n) (elements_at value ns) parts.0 (number n parts.1) (ascending-at test value number (n + 1) ns parts.2)
+    ascending-entry low n (value n) (elements_with_value value ns) parts.0 (number n parts.1) (ascending-at test value number (n + 1) ns parts.2)
 
 -- a number that an element of a response can have
 responded-number : (n : ℕ) → is_responded n ≡ true → is_number n ≡ true

@@ -7,7 +7,7 @@ use Rattle.iso_order.specs.declared.act.Act.{Act}
 use Rattle.iso_order.specs.declared.act.Act.TheVariants.{Debit, Credit, Inquiry, Undo, Complete}
 use Rattle.iso_order.specs.declared.act.Money.{Money}
 use Rattle.iso_order.specs.AccountNumber.{AccountNumber, is_pan}
-use Rattle.iso_order.specs.Key.{class_of, function_of, is_valid_key, same_key}
+use Rattle.iso_order.specs.Key.{class_digit, function_digit, is_valid_key, same_key}
 
 -- the key under which it is asked, and what is asked
 pub record Instruction : Type 0 where
@@ -37,22 +37,22 @@ has_amount m = is_account m && nat_le 1 m.amount && nat_le m.amount 999999999999
 
 -- class 1 or 2
 abbrev pub is_payment : TxKey → Bool
-is_payment k = class_of k == 1 || class_of k == 2
+is_payment k = class_digit k == 1 || class_digit k == 2
 
 -- a hold that a message with the key can complete: of class 1, and of its own acquirer
 abbrev pub is_hold_for : TxKey → TxKey → Bool
-is_hold_for key hold = is_valid_key hold && class_of hold == 1 && hold.acquirer == key.acquirer
+is_hold_for key hold = is_valid_key hold && class_digit hold == 1 && hold.acquirer == key.acquirer
 
 -- what a message with the key can ask
 abbrev pub is_valid_act : TxKey → Act → Bool
 is_valid_act key (Debit m) = is_payment key && has_amount m
-is_valid_act key (Credit m) = class_of key == 2 && has_amount m
-is_valid_act key (Inquiry m) = is_payment key && function_of key == 0 && m.amount == 0 && is_account m
+is_valid_act key (Credit m) = class_digit key == 2 && has_amount m
+is_valid_act key (Inquiry m) = is_payment key && function_digit key == 0 && m.amount == 0 && is_account m
 is_valid_act key (Undo original left) =
-    class_of key == 4 && is_valid_key original && is_payment original && original.acquirer == key.acquirer
+    class_digit key == 4 && is_valid_key original && is_payment original && original.acquirer == key.acquirer
     && nat_le left 999999999999
 is_valid_act key (Complete m hold) =
-    class_of key == 2 && function_of key == 2 && has_amount m && is_hold_for key hold
+    class_digit key == 2 && function_digit key == 2 && has_amount m && is_hold_for key hold
 
 -- an order that a message can carry
 unfoldable pub is_valid : Instruction → Bool

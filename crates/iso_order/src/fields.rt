@@ -3,7 +3,7 @@
 ghost use Rattle.std.specs.Prelude.{◌≡◌, ◌≤◌, true, Some, None, IfSome, if◌then◌else◌};
 ghost use Rattle.iso_wire.specs.Elements.{has};
 ghost use Rattle.iso_order.specs.Fields.{version, class, function, origin, asks, text, base_of, has_key, key_of};
-ghost use Rattle.iso_order.specs.Key.{class_of, function_of, is_valid_key};
+ghost use Rattle.iso_order.specs.Key.{class_digit, function_digit, is_valid_key};
 
 use crate::key::TxKey;
 use crate::text::number_of;
@@ -69,8 +69,8 @@ pub(crate) fn key_of(message: &Message) -> Option<TxKey>
     requires origin { origin message.now ≤ 5 }
     ensures value { result ≡ (if has_key message.now then Some (key_of message.now) else None) }
     ensures valid { IfSome result (λ k. is_valid_key k ≡ true) }
-    ensures class { IfSome result (λ k. class_of k ≡ class message.now) }
-    ensures function { IfSome result (λ k. function_of k ≡ function message.now) }
+    ensures class { IfSome result (λ k. class_digit k ≡ class message.now) }
+    ensures function { IfSome result (λ k. function_digit k ≡ function message.now) }
 {
     key_under(message, base_of(message.mti().number()))
 }

@@ -1,7 +1,7 @@
 //! What names a transaction.
 
 ghost use Rattle.std.specs.Prelude.{◌≡◌};
-ghost use Rattle.iso_order.specs.Key.{class_of, function_of, is_valid_key, same_key};
+ghost use Rattle.iso_order.specs.Key.{class_digit, function_digit, is_valid_key, same_key};
 
 /// Names a transaction. Each delivery of it has the same key, whatever the repeat digit of its message type.
 #[derive(Clone, Copy, Debug, PartialEq, Eq, PartialOrd, Ord, Hash)]
@@ -19,14 +19,14 @@ pub struct TxKey {
 impl TxKey {
     /// The class digit of the message type. Takes no memory.
     pub fn class(&self) -> u16
-        ensures { result ≡ class_of self.now }
+        ensures { result ≡ class_digit self.now }
     {
         self.base / 100 % 10
     }
 
     /// The function digit of the message type. Takes no memory.
     pub fn function(&self) -> u16
-        ensures { result ≡ function_of self.now }
+        ensures { result ≡ function_digit self.now }
     {
         self.base / 10 % 10
     }

@@ -2,7 +2,7 @@
 
 ghost use Rattle.std.specs.Prelude.{◌≡◌, ◌≤◌, ◌++◌, List, Bool, Some, None, true, IfSome, IfOk, IfErr, OnOk, if◌then◌else◌};
 ghost use Rattle.iso_order.specs.Fields.{class, function, text, key_of, is_original, is_hold, completes, hold_of};
-ghost use Rattle.iso_order.specs.Key.{class_of, function_of, is_valid_key};
+ghost use Rattle.iso_order.specs.Key.{class_digit, function_digit, is_valid_key};
 ghost use Rattle.iso_order.specs.Order.{is_hold_for};
 ghost use Rattle.iso_order.specs.Original.{named_original};
 ghost use Rattle.iso_order.specs.Text.{are_digits};
@@ -71,8 +71,8 @@ fn is_hold(mti: u16) -> bool
 
 /// Whether it is an advice of class 2 that names another transaction.
 fn completes(message: &Message, key: &TxKey) -> bool
-    requires class { class_of key.now ≡ class message.now }
-    requires function { function_of key.now ≡ function message.now }
+    requires class { class_digit key.now ≡ class message.now }
+    requires function { function_digit key.now ≡ function message.now }
     ensures { result ≡ completes message.now }
 {
     key.class() == 2 && key.function() == 2 && has(message, 90)
@@ -107,8 +107,8 @@ fn named_hold(message: &Message, key: &TxKey) -> Result<TxKey, u8>
 pub(crate) fn completed(message: &Message, key: &TxKey) -> Result<Option<TxKey>, u8>
     requires key { key.now ≡ key_of message.now }
     requires valid { is_valid_key key.now ≡ true }
-    requires class { class_of key.now ≡ class message.now }
-    requires function { function_of key.now ≡ function message.now }
+    requires class { class_digit key.now ≡ class message.now }
+    requires function { function_digit key.now ≡ function message.now }
     ensures refused { IfErr result (λ code. (lines : List (Bool × Verdict)) (last : Verdict)
         → first_of (completion_lines message.now ++ lines) last ≡ Reply code) }
     ensures lines { OnOk result ((lines : List (Bool × Verdict)) (last : Verdict)

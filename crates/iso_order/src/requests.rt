@@ -1,10 +1,10 @@
 //! The message that asks for an order.
 
 ghost use Rattle.std.specs.Prelude.{◌≡◌, ℕ, ◌≤◌, ◌++◌, ◌∷◌, [], true, OnOk, IfOk, option_map};
-ghost use Rattle.iso_parts.specs.Mti.{number};
+ghost use Rattle.iso_parts.specs.Mti.{mti_number};
 ghost use Rattle.iso_wire.specs.Decimal.{decimal};
 ghost use Rattle.iso_wire.specs.Elements.{value_in, is_number, IsBelow};
-ghost use Rattle.iso_order.specs.Listing.{entry, elements_at, ascend};
+ghost use Rattle.iso_order.specs.Listing.{entry, elements_with_value, ascend};
 ghost use Rattle.iso_order.specs.Request.{money_in, processing_code, moved_amount, named_by, partial_left, acquirer_code, account_number};
 ghost use Rattle.iso_order.specs.Request.{original_data, replacement_amounts, request_value, request, AsksFor, FitsEdition87};
 
@@ -29,7 +29,7 @@ const MOST_BYTES: usize = 111;
 /// The type of the request.
 fn request_type(key: &TxKey) -> Mti
     requires { key.now.base ≤ 9999 }
-    ensures { number result ≡ key.now.base }
+    ensures { mti_number result ≡ key.now.base }
 {
     Mti::from_digits(key.base).unwrap()
 }
@@ -232,7 +232,7 @@ fn add_all(key: &TxKey, act: &Act, numbers: &[u8], request: &mut Message) -> Res
     requires empty { request.old.elements ≡ [] }
     requires acquirer { key.now.acquirer ≤ 99999999999 }
     ensures { OnOk result (request.new ≡ record request.old {
-      elements = elements_at (request_value key.now act.now) numbers.now;
+      elements = elements_with_value (request_value key.now act.now) numbers.now;
     }) }
 {
     for n in numbers {

@@ -1,11 +1,11 @@
 //! The response to a message.
 
 ghost use Rattle.std.specs.Prelude.{◌≡◌, ℕ, ◌≤◌, ◌++◌, ◌∷◌, length, true, false, [], OnOk, IfOk};
-ghost use Rattle.iso_parts.specs.Mti.{number};
+ghost use Rattle.iso_parts.specs.Mti.{mti_number};
 ghost use Rattle.iso_wire.specs.Decimal.{decimal};
 ghost use Rattle.iso_wire.specs.Elements.{value_in, is_number, IsBelow};
 ghost use Rattle.iso_order.specs.Fields.{class, function, asks, text};
-ghost use Rattle.iso_order.specs.Listing.{entry, elements_at, ascend};
+ghost use Rattle.iso_order.specs.Listing.{entry, elements_with_value, ascend};
 ghost use Rattle.iso_order.specs.Response.{response, response_mti, is_approved, sign, approval, additional, balance, element, is_responded, is_showable};
 
 use crate::answer::Answer;
@@ -26,7 +26,7 @@ const ANSWERED: [u8; 18] = [
 /// The type of the response: the next function, and no repeat.
 fn response_type(message: &Message) -> Mti
     requires { asks (function message.now) ≡ true }
-    ensures { number result ≡ response_mti message.now.mti }
+    ensures { mti_number result ≡ response_mti message.now.mti }
 {
     message.mti().response().unwrap()
 }
@@ -158,7 +158,7 @@ fn add_all(
     requires empty { response.old.elements ≡ [] }
     requires shown { is_showable message.now answer.now.shown ≡ true }
     ensures { OnOk result (response.new ≡ record response.old {
-      elements = elements_at (element message.now answer.now) numbers.now;
+      elements = elements_with_value (element message.now answer.now) numbers.now;
     }) }
 {
     for n in numbers {

@@ -4,8 +4,8 @@ ghost use Rattle.std.specs.Prelude.{◌≡◌, ◌==◌, ◌&&◌, ◌≤◌, �
 ghost use Rattle.std.specs.Prelude.{is_some, List, Bool, true, false, Some, None, IfSome, IsTrue};
 ghost use Rattle.iso_wire.specs.Elements.{has};
 ghost use Rattle.iso_order.specs.Fields.{version, class, function, origin, asks, key_of, is_original, kind, is_debit, is_credit};
-ghost use Rattle.iso_order.specs.Fields.{is_inquiry, money_of, part, is_replacement, left_of, completes, hold_of};
-ghost use Rattle.iso_order.specs.Key.{class_of, function_of, is_valid_key};
+ghost use Rattle.iso_order.specs.Fields.{is_inquiry, money_in, part, is_replacement, left_of, completes, hold_of};
+ghost use Rattle.iso_order.specs.Key.{class_digit, function_digit, is_valid_key};
 ghost use Rattle.iso_order.specs.Order.{is_valid, is_hold_for, is_account, is_currency, is_payment};
 ghost use Rattle.iso_order.specs.Text.{are_digits};
 ghost use Rattle.iso_order.specs.Verdict.{first_of, network_lines, key_lines, original_lines, reversal_lines, completion_lines};
@@ -66,7 +66,7 @@ fn leaving(message: &Message, key: &TxKey, left: u64) -> Verdict
     requires class { class message.now ≡ 4 }
     requires key { key.now ≡ key_of message.now }
     requires valid { is_valid_key key.now ≡ true }
-    requires key_class { class_of key.now ≡ 4 }
+    requires key_class { class_digit key.now ≡ 4 }
     ensures verdict { (lines : List (Bool × Verdict)) (last : Verdict)
         → result ≡ first_of (original_lines message.now ++ lines) last }
     ensures valid { IfOrder result (λ o. IsTrue (is_valid o)) }
@@ -90,7 +90,7 @@ fn reversal(message: &Message, key: &TxKey) -> Verdict
     requires class { class message.now ≡ 4 }
     requires key { key.now ≡ key_of message.now }
     requires valid { is_valid_key key.now ≡ true }
-    requires key_class { class_of key.now ≡ 4 }
+    requires key_class { class_digit key.now ≡ 4 }
     ensures verdict { (lines : List (Bool × Verdict)) (last : Verdict)
         → result ≡ first_of (reversal_lines message.now ++ lines) last }
     ensures valid { IfOrder result (λ o. IsTrue (is_valid o)) }
@@ -148,13 +148,13 @@ fn debited(money: Money, hold: Option<TxKey>) -> Act
 fn moved(message: &Message, key: &TxKey, hold: Option<TxKey>, code: u64, money: Money) -> Verdict
     requires key { key.now ≡ key_of message.now }
     requires code { code ≡ kind message.now }
-    requires money { money ≡ money_of message.now 0 }
+    requires money { money ≡ money_in message.now 0 }
     requires hold { hold ≡ hold_of message.now }
     requires own { IfSome hold (λ h. is_hold_for key.now h ≡ true) }
-    requires advice { is_some hold ≡ true → (class_of key.now ≡ 2) × (function_of key.now ≡ 2) }
+    requires advice { is_some hold ≡ true → (class_digit key.now ≡ 2) × (function_digit key.now ≡ 2) }
     requires valid { is_valid_key key.now ≡ true }
     requires class { is_payment key.now ≡ true }
-    requires credit { is_debit code ≡ false → class_of key.now ≡ 2 }
+    requires credit { is_debit code ≡ false → class_digit key.now ≡ 2 }
     requires account { is_account money ≡ true }
     ensures verdict { result ≡ first_of (amount_lines message.now) (credit_verdict message.now) }
     ensures valid { IfOrder result (λ o. IsTrue (is_valid o)) }
@@ -181,14 +181,14 @@ fn moved(message: &Message, key: &TxKey, hold: Option<TxKey>, code: u64, money: 
 fn asked(message: &Message, key: &TxKey, hold: Option<TxKey>, code: u64, money: Money) -> Verdict
     requires key { key.now ≡ key_of message.now }
     requires code { code ≡ kind message.now }
-    requires money { money ≡ money_of message.now 0 }
+    requires money { money ≡ money_in message.now 0 }
     requires hold { hold ≡ hold_of message.now }
     requires own { IfSome hold (λ h. is_hold_for key.now h ≡ true) }
-    requires advice { is_some hold ≡ true → (class_of key.now ≡ 2) × (function_of key.now ≡ 2) }
+    requires advice { is_some hold ≡ true → (class_digit key.now ≡ 2) × (function_digit key.now ≡ 2) }
     requires valid { is_valid_key key.now ≡ true }
     requires payment { is_payment key.now ≡ true }
-    requires class { class_of key.now ≡ class message.now }
-    requires function { function_of key.now ≡ function message.now }
+    requires class { class_digit key.now ≡ class message.now }
+    requires function { function_digit key.now ≡ function message.now }
     requires account { is_account money ≡ true }
     ensures verdict { result
         ≡ first_of (act_lines message.now ++ amount_lines message.now) (credit_verdict message.now) }
@@ -232,8 +232,8 @@ fn account_asked(message: &Message, key: &TxKey, hold: Option<TxKey>) -> Verdict
     requires own { IfSome hold (λ h. is_hold_for key.now h ≡ true) }
     requires valid { is_valid_key key.now ≡ true }
     requires payment { is_payment key.now ≡ true }
-    requires class { class_of key.now ≡ class message.now }
-    requires function { function_of key.now ≡ function message.now }
+    requires class { class_digit key.now ≡ class message.now }
+    requires function { function_digit key.now ≡ function message.now }
     ensures verdict { result ≡ first_of (account_lines message.now ++ act_lines message.now
         ++ amount_lines message.now) (credit_verdict message.now) }
     ensures valid { IfOrder result (λ o. IsTrue (is_valid o)) }
@@ -257,8 +257,8 @@ fn payment(message: &Message, key: &TxKey) -> Verdict
     requires key { key.now ≡ key_of message.now }
     requires valid { is_valid_key key.now ≡ true }
     requires payment { is_payment key.now ≡ true }
-    requires class { class_of key.now ≡ class message.now }
-    requires function { function_of key.now ≡ function message.now }
+    requires class { class_digit key.now ≡ class message.now }
+    requires function { function_digit key.now ≡ function message.now }
     ensures verdict { result ≡ first_of (completion_lines message.now ++ account_lines message.now
         ++ act_lines message.now ++ amount_lines message.now) (credit_verdict message.now) }
     ensures valid { IfOrder result (λ o. IsTrue (is_valid o)) }

@@ -14,7 +14,7 @@ use Rattle.iso_parts.specs.declared.bitmap.BitmapFault.{BitmapFault}
 use Rattle.iso_parts.specs.declared.bitmap.BitmapStep.{BitmapStep}
 use Rattle.iso_parts.specs.declared.bitmap.BitmapStep.TheVariants as steps
 use Rattle.iso_parts.specs.Bits.{BitsIn, map_size, contains, in_words, AreElements, primary_bits, secondary_bits, One, Two, Bitmaps}
-use Rattle.iso_parts.specs.BitmapReading.{Maps, IfRead, got, more, fault, top, word_in, primary_by, secondary_by, maps_at, ReadsMaps, FoundMaps, IsRead}
+use Rattle.iso_parts.specs.BitmapReading.{Maps, IfRead, got, more, fault, top, word_in, primary_by, secondary_by, maps_at, ReadsMaps, FoundMaps, IsSetRead}
 use Rattle.iso_parts.proofs.Words.{word_again, word_taken}
 
 -- ---- words and their first bit
@@ -147,14 +147,14 @@ got_is : (w v n w' v' n' : ℕ) → got w v n ≡ got w' v' n' → (w ≡ w') ×
 got_is w v n w' v' n' e = (cc, cc, cc)
 
 -- what a function that reads gives, where the bytes begin with the bitmaps of a set
-is_read_by : (c : BitmapCoding) (set : ℕ → Bool) (b : List ℕ) (size : ℕ) (r : Result BitmapStep BitmapFault) → MapsRead c set b size → ReadsMaps r (maps_at c b) → IsRead set size r
+is_read_by : (c : BitmapCoding) (set : ℕ → Bool) (b : List ℕ) (size : ℕ) (r : Result BitmapStep BitmapFault) → MapsRead c set b size → ReadsMaps r (maps_at c b) → IsSetRead set size r
 is_read_by c set b size (Ok (steps.Got bits used)) read h =
     let same = got_is read.primary read.secondary size h.primary h.secondary used (sym read.read ∙ h.read) in
     (sym same.2, λ k low high. h.numbers k ∙ ap (λ (n : ℕ). in_words n h.secondary k) (sym same.0) ∙ ap (λ (n : ℕ). in_words read.primary n k) (sym same.1) ∙ read.agrees k low high)
 is_read_by c set b size (Ok steps.More) read h = let same : got read.primary read.secondary size ≡ more = sym read.read ∙ h in absurd cc
 is_read_by c set b size (Err e) read h = let same : got read.primary read.secondary size ≡ fault e.at e.cause = sym read.read ∙ h in absurd cc
 
-pub is_read : (c : BitmapCoding) (b : List ℕ) (r : Result BitmapStep BitmapFault) → ((i : ℕ) → get_or b i 0 < 256) → ReadsMaps r (maps_at c b) → (two : Bool) (set : ℕ → Bool) (front rest : List ℕ) → set 65 ≡ false → Bitmaps c two set front → b ≡ front ++ rest → IsRead set (length front) r
+pub is_read : (c : BitmapCoding) (b : List ℕ) (r : Result BitmapStep BitmapFault) → ((i : ℕ) → get_or b i 0 < 256) → ReadsMaps r (maps_at c b) → (two : Bool) (set : ℕ → Bool) (front rest : List ℕ) → set 65 ≡ false → Bitmaps c two set front → b ≡ front ++ rest → IsSetRead set (length front) r
 is_read c b r fits h two set front rest no_65 maps split =
     let front_fits : (i : ℕ) → get_or front i 0 < 256 = λ i. rw (sym (ap (take (length front)) split ∙ take_at front rest (length front) refl)) (bytes_take (length front) b fits i) in
     is_read_by c set b (length front) r (subst (λ (l : List ℕ). MapsRead c set l (length front)) (sym split) (maps_again c two set front rest front_fits no_65 maps)) h

@@ -15,9 +15,9 @@ use Rattle.iso_parts.specs.declared.prefix.Length.TheVariants as lengths
 use Rattle.iso_parts.specs.Class.{is_digit, is_in_class}
 use Rattle.iso_parts.specs.Part.{characters}
 use Rattle.iso_parts.specs.PartLaws.{IsUpTo, IsLengthFault, IsBodyFault}
-use Rattle.iso_parts.specs.Reading.{◌>>=◌, number_of, prefix_size, prefix_of, count_of, behind_filler, or_bad_hex, text_of, unpadded, value_of, body_size, body_of, Outcome, more, at_body, at_prefix, part_at}
+use Rattle.iso_parts.specs.Reading.{◌>>=◌, number_of, prefix_size, prefix_of, count_of, behind_filler, or_bad_hex, text_of, unpadded, value_of, body_size, body_of, FieldReading, more, at_body, at_prefix, part_at}
 
-more_up_to : (t : Bool) (most len size : ℕ) (o : Outcome) → ltb len size ≡ t → size ≤ most → IsUpTo most len o → IsUpTo most len (cond t more o)
+more_up_to : (t : Bool) (most len size : ℕ) (o : FieldReading) → ltb len size ≡ t → size ≤ most → IsUpTo most len o → IsUpTo most len (cond t more o)
 more_up_to true most len size o is le rest = omega (arith, ltb-true len size is)
 more_up_to false most len size o is le rest = rest
 

@@ -5,9 +5,9 @@ use Rattle.std.proofs.lemmas.List.{length-append, take-append-le, drop-append-le
 use Rattle.iso_parts.specs.declared.spec.FieldSpec.{FieldSpec}
 use Rattle.iso_parts.specs.declared.fault.FieldFault.{FieldFault}
 use Rattle.iso_parts.specs.PartLaws.{IsMore}
-use Rattle.iso_parts.specs.Reading.{prefix_size, prefix_of, body_size, body_of, Outcome, more, at_body, at_prefix, part_at}
+use Rattle.iso_parts.specs.Reading.{prefix_size, prefix_of, body_size, body_of, FieldReading, more, at_body, at_prefix, part_at}
 
-not_more : (t : Bool) (o : Outcome) → (IsMore (cond t more o) → ⊥) → t ≡ false
+not_more : (t : Bool) (o : FieldReading) → (IsMore (cond t more o) → ⊥) → t ≡ false
 not_more true o h = absurd (h tt)
 not_more false o h = refl
 

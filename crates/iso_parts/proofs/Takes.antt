@@ -16,7 +16,7 @@ use Rattle.iso_parts.specs.declared.field.Step.TheVariants as steps
 use Rattle.iso_parts.specs.Class.{is_in_class}
 use Rattle.iso_parts.specs.Row.{IsGood, Fits, is_exact, is_good_pad}
 use Rattle.iso_parts.specs.Part.{padded, with_pads, prefix, Part, Stands}
-use Rattle.iso_parts.specs.Reading.{◌>>=◌, prefix_size, prefix_of, count_of, body_size, text_of, unpadded, value_of, body_of, Outcome, got, more, at_body, at_prefix, part_at, Reads, IfGot}
+use Rattle.iso_parts.specs.Reading.{◌>>=◌, prefix_size, prefix_of, count_of, body_size, text_of, unpadded, value_of, body_of, FieldReading, got, more, at_body, at_prefix, part_at, Reads, IfGot}
 use Rattle.iso_parts.proofs.Pads.{IsUnpadded, IsUnpadded-unpadded}
 use Rattle.iso_parts.proofs.Prefixes.{count_takes, chosen_ok}
 use Rattle.iso_parts.proofs.Texts.{text_takes}
@@ -32,7 +32,7 @@ refused_over : {A : Type 0} (b : Bool) (d : FieldFault) (x y : A) → cond b (Er
 refused_over true d x y e = absurd cc
 refused_over false d x y e = (refl, cc)
 
-pub more_or : (t : Bool) (o : Outcome) (v : List ℕ) (n : ℕ) → cond t more o ≡ got v n → (t ≡ false) × (o ≡ got v n)
+pub more_or : (t : Bool) (o : FieldReading) (v : List ℕ) (n : ℕ) → cond t more o ≡ got v n → (t ≡ false) × (o ≡ got v n)
 more_or true o v n e = absurd cc
 more_or false o v n e = (refl, e)
 

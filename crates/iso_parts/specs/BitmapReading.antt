@@ -83,7 +83,7 @@ IfRead (Ok steps.More) P = Unit {0}
 IfRead (Err e) P = Unit {0}
 
 -- the set was read from so many bytes
-abbrev pub IsRead : (ℕ → Bool) → ℕ → Result BitmapStep BitmapFault → Type 0
-IsRead set size (Ok (steps.Got bits used)) = (used ≡ size) × ((k : ℕ) → 2 ≤ k → k ≤ 128 → contains bits k ≡ set k)
-IsRead set size (Ok steps.More) = ⊥
-IsRead set size (Err e) = ⊥
+abbrev pub IsSetRead : (ℕ → Bool) → ℕ → Result BitmapStep BitmapFault → Type 0
+IsSetRead set size (Ok (steps.Got bits used)) = (used ≡ size) × ((k : ℕ) → 2 ≤ k → k ≤ 128 → contains bits k ≡ set k)
+IsSetRead set size (Ok steps.More) = ⊥
+IsSetRead set size (Err e) = ⊥

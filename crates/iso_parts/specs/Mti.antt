@@ -12,8 +12,8 @@ abbrev pub digits : Mti → ℕ × ℕ × ℕ × ℕ
 digits m = (m.version, m.class, m.function, m.origin)
 
 -- the number that the digits write
-abbrev pub number : Mti → ℕ
-number m = 1000 * m.version + 100 * m.class + 10 * m.function + m.origin
+abbrev pub mti_number : Mti → ℕ
+mti_number m = 1000 * m.version + 100 * m.class + 10 * m.function + m.origin
 
 -- how many bytes the digits take
 abbrev pub mti_size : Digits → ℕ

@@ -5,17 +5,17 @@ use Rattle.iso_parts.specs.declared.spec.FieldSpec.{FieldSpec}
 use Rattle.iso_parts.specs.declared.fault.FieldFault.{FieldFault}
 use Rattle.iso_parts.specs.declared.fault.FieldFault.TheVariants.{BadLengthDigits, LengthOver, BadFiller, BadHex, NotInClass}
 use Rattle.iso_parts.specs.Part.{Part, Body, padded, plain_part}
-use Rattle.iso_parts.specs.Reading.{Outcome, got, more, fault, prefix_size, prefix_of, body_size, body_of, part_at}
+use Rattle.iso_parts.specs.Reading.{FieldReading, got, more, fault, prefix_size, prefix_of, body_size, body_of, part_at}
 use Rattle.iso_parts.specs.Row.{Fits, IsGood, refusal}
 
 -- bytes are missing
-abbrev pub IsMore : Outcome → Type 0
+abbrev pub IsMore : FieldReading → Type 0
 IsMore more = Unit {0}
 IsMore (got v n) = ⊥
 IsMore (fault e) = ⊥
 
 -- what is read of so many bytes takes at most the most of them; where bytes are missing, they are fewer
-abbrev pub IsUpTo : ℕ → ℕ → Outcome → Type 0
+abbrev pub IsUpTo : ℕ → ℕ → FieldReading → Type 0
 IsUpTo most len (got v used) = used ≤ most
 IsUpTo most len more = len < most
 IsUpTo most len (fault e) = Unit {0}

@@ -114,16 +114,16 @@ body_of s n b = text_of s.coding n b >>= value_of s
 -- ---- a part from the front of bytes
 
 -- a value and how many bytes it takes; or that bytes are missing; or a fault
-pub data Outcome : Type 0 where
-  got : List ℕ → ℕ → Outcome
-  more : Outcome
-  fault : FieldFault → Outcome
+pub data FieldReading : Type 0 where
+  got : List ℕ → ℕ → FieldReading
+  more : FieldReading
+  fault : FieldFault → FieldReading
 
-abbrev pub at_body : ℕ → Result (List ℕ) FieldFault → Outcome
+abbrev pub at_body : ℕ → Result (List ℕ) FieldFault → FieldReading
 at_body used (Ok v) = got v used
 at_body used (Err e) = fault e
 
-abbrev pub at_prefix : FieldSpec → List ℕ → Result ℕ FieldFault → Outcome
+abbrev pub at_prefix : FieldSpec → List ℕ → Result ℕ FieldFault → FieldReading
 at_prefix s b (Err e) = fault e
 at_prefix s b (Ok n) =
     let front = prefix_size s.length in
@@ -131,7 +131,7 @@ at_prefix s b (Ok n) =
     if nat_lt (length b) (front + size) then more
     else at_body (front + size) (body_of s n (take size (drop front b)))
 
-abbrev pub part_at : FieldSpec → List ℕ → Outcome
+abbrev pub part_at : FieldSpec → List ℕ → FieldReading
 part_at s b =
     let front = prefix_size s.length in
     if nat_lt (length b) front then more else at_prefix s b (prefix_of s (take front b))
@@ -149,12 +149,12 @@ Decodes old new (Ok u) read = (text : List ℕ) × (read ≡ Ok text) × (new �
 Decodes old new (Err e) read = (e ≢ Memory → read ≡ Err e) × Keeps old new
 
 -- a function appended the value of the part at the front, and says how many bytes it takes; or what else was read, and nothing was changed
-abbrev pub DecodesValue : List ℕ → List ℕ → Result (Option ℕ) FieldFault → Outcome → Type 0
+abbrev pub DecodesValue : List ℕ → List ℕ → Result (Option ℕ) FieldFault → FieldReading → Type 0
 DecodesValue old new (Ok (Some used)) o = (value : List ℕ) × (o ≡ got value used) × (new ≡ old ++ value)
 DecodesValue old new (Ok None) o = (o ≡ more) × (new ≡ old)
 DecodesValue old new (Err e) o = (e ≢ Memory → o ≡ fault e) × (new ≡ old)
 
-abbrev pub Reads : Result Step FieldFault → Outcome → Type 0
+abbrev pub Reads : Result Step FieldFault → FieldReading → Type 0
 Reads (Ok (steps.Got value used)) o = o ≡ got value.items used
 Reads (Ok steps.More) o = o ≡ more
 Reads (Err e) o = e ≢ Memory → o ≡ fault e
@@ -191,7 +191,7 @@ size_at s n b =
     if nat_lt (length b) size then Ok None else some_size size (body_of s n (take size b))
 
 -- the answer is that of reading, with where the body begins in place of the value
-abbrev pub Judges : ℕ → Result Judged FieldFault → Outcome → Type 0
+abbrev pub Judges : ℕ → Result Judged FieldFault → FieldReading → Type 0
 Judges front (Ok (judgements.Got body used)) o = (body ≡ front) × ((value : List ℕ) × (o ≡ got value used))
 Judges front (Ok judgements.More) o = o ≡ more
 Judges front (Err e) o = o ≡ fault e

@@ -113,7 +113,7 @@ impl BitmapCoding {
 
 impl Bitmap {
     ghost use Rattle.iso_parts.specs.Bits.{contains, in_words, AreElements, Bitmaps, PlainBitmaps, HasAbove, IsHighest};
-    ghost use Rattle.iso_parts.specs.BitmapReading.{ReadsMaps, FoundMaps, IfRead, IsRead, maps_at};
+    ghost use Rattle.iso_parts.specs.BitmapReading.{ReadsMaps, FoundMaps, IfRead, IsSetRead, maps_at};
     ghost use Rattle.iso_parts.specs.Numbers.{numbers_in, members, members_below, Takes, first_missing};
 
     /// No number.
@@ -301,7 +301,7 @@ impl Bitmap {
         ensures found { FoundMaps BitmapCoding.Raw bytes.now result }
         // The set that bytes at the front spell is got.
         ensures only { (two : Bool) (set : ℕ → Bool) (front rest : List ℕ) → set 65 ≡ false → Bitmaps BitmapCoding.Raw two set front
-            → bytes.now ≡ front ++ rest → IsRead set (length front) result }
+            → bytes.now ≡ front ++ rest → IsSetRead set (length front) result }
         // It has neither number 1, whose bit tells of the second bitmap, nor 0, 65 or one above 128.
         ensures numbers { IfRead result AreElements }
         // Which fault it is, and that bytes are missing.
@@ -317,7 +317,7 @@ impl Bitmap {
         ensures found { FoundMaps BitmapCoding.Hex bytes.now result }
         // The set that bytes at the front spell is got.
         ensures only { (two : Bool) (set : ℕ → Bool) (front rest : List ℕ) → set 65 ≡ false → Bitmaps BitmapCoding.Hex two set front
-            → bytes.now ≡ front ++ rest → IsRead set (length front) result }
+            → bytes.now ≡ front ++ rest → IsSetRead set (length front) result }
         // It has neither number 1, whose bit tells of the second bitmap, nor 0, 65 or one above 128.
         ensures numbers { IfRead result AreElements }
         // Which fault it is, and that bytes are missing.

@@ -35,7 +35,7 @@ pub enum MtiClass {
 }
 
 impl Mti {
-    ghost use Rattle.iso_parts.specs.Mti.{digits, digits_of, digits_in, number, class_of, base_digits, response_digits};
+    ghost use Rattle.iso_parts.specs.Mti.{digits, digits_of, digits_in, mti_number, class_of, base_digits, response_digits};
 
     /// The type with the digits of a number, `None` above 9999.
     pub fn from_digits(n: u16) -> Option<Mti>
@@ -74,7 +74,7 @@ impl Mti {
 
     /// The number that the four digits write, at most 9999.
     pub fn number(&self) -> u16
-        ensures { result ≡ number self.now }
+        ensures { result ≡ mti_number self.now }
     {
         self.version as u16 * 1000
             + self.class as u16 * 100

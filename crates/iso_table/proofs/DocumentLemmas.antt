@@ -14,8 +14,8 @@ use Rattle.iso_table.specs.declared.reading.Profile.{Profile}
 use Rattle.iso_table.specs.declared.fault.TableFault.{TableFault}
 use Rattle.iso_table.specs.declared.fault.TableFault.TheVariants.{NotJson, BadVersion, BadNumber, Twice}
 use Rattle.iso_table.specs.Layout.{is_version, is_element}
-use Rattle.iso_table.specs.Accepted.{Contents, Accepted, at_row, row_fault, row_of, rows_fault, first_fault}
-use Rattle.iso_table.specs.Document.{◌>>=◌, row_in, rows_in, draft_in, table_in}
+use Rattle.iso_table.specs.Accepted.{DraftContents, Accepted, at_row, row_fault, row_of, rows_fault, draft_fault}
+use Rattle.iso_table.specs.Document.{◌>>=◌, document_row, rows_in, draft_in, table_in}
 use Rattle.iso_table.proofs.RowLemmas.{none_from_accepted, new_first}
 
 -- ---- rows
@@ -24,7 +24,7 @@ cons_map : (so_far : List Row) (row : Row) (rest : Option (List Row)) → option
 cons_map so_far row None = refl
 cons_map so_far row (Some rs) = ap (λ (xs : List Row). Some xs) (sym (append_assoc so_far (row ∷ []) rs))
 
-pub rows_more : (p : Profile) (values : List Value) (i : ℕ) (v : Value) (row : Row) (so_far : List Row) (total : Option (List Row)) → i < length values → row_in p (view (get_or values i v)) ≡ Some row
+pub rows_more : (p : Profile) (values : List Value) (i : ℕ) (v : Value) (row : Row) (so_far : List Row) (total : Option (List Row)) → i < length values → document_row p (view (get_or values i v)) ≡ Some row
     → total ≡ option_map (λ rest. so_far ++ rest) (rows_in p (items_view (drop i values))) → total ≡ option_map (λ rest. (so_far ++ row ∷ []) ++ rest) (rows_in p (items_view (drop (i + 1) values)))
 rows_more p values i v row so_far total lt is judged =
     let less : drop i values ≡ get_or values i v ∷ drop (i + 1) values = drop-cons values i v lt ∙ ap (λ (k : ℕ). get_or values i v ∷ drop k values) (sym (add-one i)) in
@@ -34,17 +34,17 @@ rows_more p values i v row so_far total lt is judged =
 
 -- ---- a table or a fault
 
-pub fault_none : (c : Contents) → Accepted c → first_fault c ≡ None
+pub fault_none : (c : DraftContents) → Accepted c → draft_fault c ≡ None
 fault_none c a = by (is_version c.version) a.version (none_from_accepted [] c.rows a.rows a.once (new_first c.rows))
   where
     by : (b : Bool) → IsTrue b → rows_fault [] c.rows ≡ None → cond (not b) (Some BadVersion) (rows_fault [] c.rows) ≡ None
     by true h k = k
     by false h k = absurd (cc)
 
-pub table_found : (d : Data) (c : Contents) → draft_in d ≡ Ok c → Accepted c → table_in d ≡ Ok c
+pub table_found : (d : Data) (c : DraftContents) → draft_in d ≡ Ok c → Accepted c → table_in d ≡ Ok c
 table_found d c h a = rw (h, fault_none c a) refl
 
-pub table_refused : (d : Data) (c : Contents) (e : TableFault) → draft_in d ≡ Ok c → first_fault c ≡ Some e → table_in d ≡ Err e
+pub table_refused : (d : Data) (c : DraftContents) (e : TableFault) → draft_in d ≡ Ok c → draft_fault c ≡ Some e → table_in d ≡ Err e
 table_refused d c e h k = rw (h, k) refl
 
 pub draft_refused : (d : Data) (e : TableFault) → draft_in d ≡ Err e → table_in d ≡ Err e
@@ -73,7 +73,7 @@ rows_are_json earlier (r ∷ rs) h =
     (rows_are_json (earlier ++ r ∷ []) rs) h
 
 -- what is wrong with a draft isn't that it is no JSON
-pub fault_is_json : (c : Contents) → first_fault c ≡ Some NotJson → ⊥
+pub fault_is_json : (c : DraftContents) → draft_fault c ≡ Some NotJson → ⊥
 fault_is_json c h = by (is_version c.version) h
   where
     by : (b : Bool) → cond (not b) (Some BadVersion) (rows_fault [] c.rows) ≡ Some NotJson → ⊥

@@ -7,7 +7,7 @@ use Rattle.iso_table.specs.declared.host.HostRow.{HostRow}
 use Rattle.iso_table.specs.declared.fault.HostTableFault.{HostTableFault}
 use Rattle.iso_table.specs.declared.fault.HostTableFault.TheVariants.{NoRow, RowShape}
 use Rattle.iso_table.specs.Layout.{Layout, row_at}
-use Rattle.iso_table.specs.HostReady.{is_shape, row_fault, rows_fault, host_rows, host_fault, IsHostRow, AreHostRows, IsHostReady}
+use Rattle.iso_table.specs.HostReady.{is_shape, host_row_fault, host_rows_fault, host_rows, host_fault, IsHostRow, AreHostRows, IsHostReady}
 
 none_of : (t : Bool) (e : HostTableFault) → cond t (Some e) None ≡ None → t ≡ false
 none_of true e h = absurd cc
@@ -17,11 +17,11 @@ some_of : (t : Bool) (e : HostTableFault) → cond t None (Some e) ≡ None → 
 some_of true e h = refl
 some_of false e h = absurd cc
 
-row_good : (h : HostRow) (r : Option FieldSpec) → row_fault h r ≡ None → IsHostRow h r
+row_good : (h : HostRow) (r : Option FieldSpec) → host_row_fault h r ≡ None → IsHostRow h r
 row_good h None e = none_of h.needed (NoRow h.number) e
 row_good h (Some s) e = some_of (is_shape h.shape s) (RowShape h.number) e
 
-row_none : (h : HostRow) (r : Option FieldSpec) → IsHostRow h r → row_fault h r ≡ None
+row_none : (h : HostRow) (r : Option FieldSpec) → IsHostRow h r → host_row_fault h r ≡ None
 row_none h None good = rw good refl
 row_none h (Some s) good = rw good refl
 
@@ -29,13 +29,13 @@ both_none : (a b : Option HostTableFault) → option_or a b ≡ None → (a ≡ 
 both_none None b e = (refl, e)
 both_none (Some x) b e = absurd cc
 
-rows_good : (hs : List HostRow) (rows : List (Option FieldSpec)) → rows_fault hs rows ≡ None → AreHostRows hs rows
+rows_good : (hs : List HostRow) (rows : List (Option FieldSpec)) → host_rows_fault hs rows ≡ None → AreHostRows hs rows
 rows_good [] rows e = tt
 rows_good (h ∷ hs) rows e =
-    let p = both_none (row_fault h (row_at rows h.number)) (rows_fault hs rows) e in
+    let p = both_none (host_row_fault h (row_at rows h.number)) (host_rows_fault hs rows) e in
     (row_good h (row_at rows h.number) p.0, rows_good hs rows p.1)
 
-rows_none : (hs : List HostRow) (rows : List (Option FieldSpec)) → AreHostRows hs rows → rows_fault hs rows ≡ None
+rows_none : (hs : List HostRow) (rows : List (Option FieldSpec)) → AreHostRows hs rows → host_rows_fault hs rows ≡ None
 rows_none [] rows good = refl
 rows_none (h ∷ hs) rows good = rw (row_none h (row_at rows h.number) good.0) (rows_none hs rows good.1)
 
@@ -44,5 +44,5 @@ pub host_none : (t : Layout) → IsHostReady t → host_fault t ≡ None
 host_none t ready = let v : eqb t.version 0 ≡ true = let e = ready.version in grind (arith, nat_tests) in rw v (rows_none host_rows t.rows ready.rows)
 
 -- a table with nothing wrong is ready
-pub host_good : (t : Layout) → t.version ≡ 0 → rows_fault host_rows t.rows ≡ None → IsHostReady t
+pub host_good : (t : Layout) → t.version ≡ 0 → host_rows_fault host_rows t.rows ≡ None → IsHostReady t
 host_good t version rows = record { version = version; rows = rows_good host_rows t.rows rows }

@@ -24,8 +24,8 @@ use Rattle.iso_parts.specs.Row.{IsGood, limit, is_pad_byte, is_good_pad, is_padd
 use Rattle.iso_table.specs.declared.draft.Row.{Row}
 use Rattle.iso_table.specs.declared.reading.Profile.TheVariants.{Two}
 use Rattle.iso_table.specs.Layout.{Layout, IsAccepted, row_at, is_version, is_element}
-use Rattle.iso_table.specs.Accepted.{Contents, Accepted, Holds, AreRows, OtherNumbers, HasEachOnce, row_of}
-use Rattle.iso_table.specs.Document.{◌>>=◌, class_name, class_named, coding_name, coding_named, digits_name, digits_named, bitmap_name, bitmap_named, length_name, pad_name, pad_named, byte_by, byte_of, up_to, whole_at, digits_at, class_in, coding_in, length_in, pad_in, spec_in, row_in, rows_in, bitmap_in, list_in, with_rows, members_in, or_shape, draft_in, table_in, prefix_named, prefix_members, row_object, row_data, rows_data, document}
+use Rattle.iso_table.specs.Accepted.{DraftContents, Accepted, Holds, AreRows, OtherNumbers, HasEachOnce, row_of}
+use Rattle.iso_table.specs.Document.{◌>>=◌, class_name, class_named, coding_name, coding_named, digits_name, digits_named, bitmap_name, bitmap_named, length_name, pad_name, pad_named, byte_by, byte_of, up_to, whole_at, digits_at, class_in, coding_in, length_in, pad_in, spec_in, document_row, rows_in, bitmap_in, list_in, with_rows, members_in, or_shape, draft_in, table_in, prefix_named, prefix_members, row_object, row_data, rows_data, document}
 use Rattle.iso_table.proofs.RowLemmas.{row_of_here, row_of_after}
 use Rattle.iso_table.proofs.DocumentLemmas.{table_found}
 
@@ -126,7 +126,7 @@ spec_again n s g = spec_by (row_data n s) s
     (up_to_low 65535 s.max (low_max s.length s.max g.max))
     (pad_again s s.pad g.pad)
 
-row_again : (n : ℕ) (s : FieldSpec) → n ≤ 65535 → IsGood s → row_in Two (row_data n s) ≡ Some (record { number = n; spec = s })
+row_again : (n : ℕ) (s : FieldSpec) → n ≤ 65535 → IsGood s → document_row Two (row_data n s) ≡ Some (record { number = n; spec = s })
 row_again n s h g =
     ap (λ (x : Option ℕ). x >>= (λ m. spec_in Two (row_data n s) >>= (λ spec. Some (record { number = m; spec = spec })))) (up_to_low 65535 n h)
     ∙ ap (λ (x : Option FieldSpec). x >>= (λ spec. Some (record { number = n; spec = spec }))) (spec_again n s g)
@@ -147,13 +147,13 @@ rows_again n (Some s ∷ rs) h g =
 
 -- ---- the whole document
 
-contents_of : Layout → Contents
+contents_of : Layout → DraftContents
 contents_of t = record { version = t.version; mti = t.mti; bitmap = t.bitmap; rows = rows_list 0 t.rows }
 
 low_version : (v : ℕ) → is_version v ≡ true → v ≤ 255
 low_version v h = grind (arith, nat_tests)
 
-draft_by : (d : Data) (c : Contents) → draft_in d ≡ or_shape (members_in Two d) → whole_at (codes "version") 255 d ≡ Some c.version → digits_at (codes "mti") d ≡ Some c.mti → bitmap_in d ≡ Some c.bitmap → list_in Two d ≡ Some c.rows → draft_in d ≡ Ok c
+draft_by : (d : Data) (c : DraftContents) → draft_in d ≡ or_shape (members_in Two d) → whole_at (codes "version") 255 d ≡ Some c.version → digits_at (codes "mti") d ≡ Some c.mti → bitmap_in d ≡ Some c.bitmap → list_in Two d ≡ Some c.rows → draft_in d ≡ Ok c
 draft_by d c whole a b e f =
     whole
     ∙ ap or_shape (
@@ -213,7 +213,7 @@ holds_at n (Some s ∷ rs) (suc k) = holds_at (n + 1) rs k ∙ ap (row_of (rows_
 zero_on : (k : ℕ) → 0 + k ≡ k
 zero_on k = omega arith
 
-pub found_again : (t : Layout) → IsAccepted t → (c : Contents) × (table_in (document t) ≡ Ok c) × Holds t c
+pub found_again : (t : Layout) → IsAccepted t → (c : DraftContents) × (table_in (document t) ≡ Ok c) × Holds t c
 unfolding contents_of
 found_again t a =
     let rows = are_rows 0 t.rows (λ k s e. subst (λ (m : ℕ). IsTrue (is_element m) × IsGood s) (sym (zero_on k)) (a.numbers k s e, a.good k s e)) in

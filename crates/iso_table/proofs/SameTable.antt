@@ -7,8 +7,8 @@ use Rattle.iso_parts.specs.declared.spec.FieldSpec.{FieldSpec}
 use Rattle.iso_table.specs.declared.fault.TableFault.{TableFault}
 use Rattle.iso_table.specs.declared.fault.TableFault.TheVariants.{NotJson, Memory}
 use Rattle.iso_table.specs.Layout.{Layout, IsAccepted, row_at}
-use Rattle.iso_table.specs.Accepted.{Contents, Holds}
-use Rattle.iso_table.specs.Document.{IsTableOf, IsFaultOf, IsNotJson, table_in}
+use Rattle.iso_table.specs.Accepted.{DraftContents, Holds}
+use Rattle.iso_table.specs.Document.{IsTableOf, IsDocumentFault, IsNotJson, table_in}
 
 same_rows : (xs ys : List (Option FieldSpec)) → length xs ≡ length ys → ((n : ℕ) → row_at xs n ≡ row_at ys n) → xs ≡ ys
 same_rows [] [] e h = refl
@@ -23,7 +23,7 @@ same_layout t u a b c d =
     ∙ ap (λ (m : BitmapCoding). record { version = u.version; mti = u.mti; bitmap = m; rows = t.rows }) c
     ∙ ap (λ (rs : List (Option FieldSpec)). record { version = u.version; mti = u.mti; bitmap = u.bitmap; rows = rs }) d
 
-same_table : (c : Contents) (t u : Layout) → IsAccepted t → IsAccepted u → Holds t c → Holds u c → t ≡ u
+same_table : (c : DraftContents) (t u : Layout) → IsAccepted t → IsAccepted u → Holds t c → Holds u c → t ≡ u
 same_table c t u a b h k =
     same_layout t u (h.version ∙ sym k.version) (h.mti ∙ sym k.mti) (h.bitmap ∙ sym k.bitmap)
     (same_rows t.rows u.rows (a.places ∙ sym b.places) (λ n. h.rows n ∙ sym (k.rows n)))
@@ -38,7 +38,7 @@ one_table text t u a b p q =
     let same : p.1 ≡ q.1 = (cc) in
     same_table q.1 t u a b (subst (Holds t) same p.4) q.4
 
-no_fault : (text : List ℕ) (t : Layout) (e : TableFault) → IsTableOf text t → IsFaultOf text e → ⊥
+no_fault : (text : List ℕ) (t : Layout) (e : TableFault) → IsTableOf text t → IsDocumentFault text e → ⊥
 no_fault text t e p q =
     let text_p = p.2.1 in
     let text_q = q.1.1 in
@@ -50,7 +50,7 @@ no_fault text t e p q =
 no_text : (text : List ℕ) (t : Layout) → IsTableOf text t → IsNotJson text → ⊥
 no_text text t p q = let none = q p.2.0 in let some = p.2.1 in cc
 
-pub reads_only : (text : List ℕ) (r : Result Layout TableFault) → IfOk r (IsTableOf text) → IfOk r IsAccepted → (IsErrOf r NotJson → IsNotJson text) → IfErr r (λ e. e ≢ Memory → e ≢ NotJson → IsFaultOf text e)
+pub reads_only : (text : List ℕ) (r : Result Layout TableFault) → IfOk r (IsTableOf text) → IfOk r IsAccepted → (IsErrOf r NotJson → IsNotJson text) → IfErr r (λ e. e ≢ Memory → e ≢ NotJson → IsDocumentFault text e)
     → (t : Layout) → IsAccepted t → IsTableOf text t → MatchResult r (λ u. u ≡ t) (λ e. e ≡ Memory)
 reads_only text (Ok u) ok good none bad t a p = one_table text u t good a ok p
 reads_only text (Err Memory) ok good none bad t a p = refl

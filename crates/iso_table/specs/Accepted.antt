@@ -14,14 +14,14 @@ use Rattle.iso_table.specs.declared.fault.TableFault.TheVariants.{BadVersion, Ba
 use Rattle.iso_table.specs.Layout.{Layout, row_at, is_version, is_element}
 
 -- what a draft says, without where its rows lie in memory
-pub record Contents : Type 0 where
+pub record DraftContents : Type 0 where
   pub version : ℕ
   pub mti : Digits
   pub bitmap : BitmapCoding
   pub rows : List Row
 
 -- the contents of a draft
-abbrev pub contents : Draft → Contents
+abbrev pub contents : Draft → DraftContents
 contents d = record { version = d.version; mti = d.mti; bitmap = d.bitmap; rows = d.rows.items }
 
 -- ---- accepted
@@ -42,7 +42,7 @@ HasEachOnce [] = Unit {0}
 HasEachOnce (r ∷ rs) = OtherNumbers r rs × HasEachOnce rs
 
 -- a table may be made of it
-pub record Accepted (d : Contents) : Type 0 where
+pub record Accepted (d : DraftContents) : Type 0 where
   pub version : IsTrue (is_version d.version)
   pub rows : AreRows d.rows
   pub once : HasEachOnce d.rows
@@ -55,7 +55,7 @@ row_of [] n = None
 row_of (r ∷ rs) n = if r.number == n then Some r.spec else row_of rs n
 
 -- the table says what the draft says
-pub record Holds (t : Layout) (d : Contents) : Type 0 where
+pub record Holds (t : Layout) (d : DraftContents) : Type 0 where
   pub version : t.version ≡ d.version
   pub mti : t.mti ≡ d.mti
   pub bitmap : t.bitmap ≡ d.bitmap
@@ -87,5 +87,5 @@ rows_fault earlier [] = None
 rows_fault earlier (r ∷ rs) = option_or (row_fault (is_some (row_of earlier r.number)) r) (rows_fault (earlier ++ r ∷ []) rs)
 
 -- the first thing that is wrong: the version, and then row by row
-abbrev pub first_fault : Contents → Option TableFault
-first_fault d = if not (is_version d.version) then Some BadVersion else rows_fault [] d.rows
+abbrev pub draft_fault : DraftContents → Option TableFault
+draft_fault d = if not (is_version d.version) then Some BadVersion else rows_fault [] d.rows

@@ -25,7 +25,7 @@ use Rattle.iso_table.specs.declared.reading.Profile.TheVariants.{One, Two}
 use Rattle.iso_table.specs.declared.fault.TableFault.{TableFault}
 use Rattle.iso_table.specs.declared.fault.TableFault.TheVariants as faults
 use Rattle.iso_table.specs.Layout.{Layout}
-use Rattle.iso_table.specs.Accepted.{Contents, Holds, first_fault}
+use Rattle.iso_table.specs.Accepted.{DraftContents, Holds, draft_fault}
 use Rattle.iso_table.specs.Members.{has_size, text_at}
 
 -- ---- names
@@ -138,12 +138,12 @@ abbrev pub up_to : ℕ → ℕ → Option ℕ
 up_to most n = if nat_le n most then Some n else None
 
 -- the whole number at a member
-abbrev pub number_at : List ℕ → Data → Option ℕ
-number_at key d = get key d >>= as_number >>= as_u64
+abbrev pub u64_at : List ℕ → Data → Option ℕ
+u64_at key d = get key d >>= as_number >>= as_u64
 
 -- the whole number at a member, up to a greatest one
 abbrev pub whole_at : List ℕ → ℕ → Data → Option ℕ
-whole_at key most d = number_at key d >>= up_to most
+whole_at key most d = u64_at key d >>= up_to most
 
 -- the kind of digits at a member
 abbrev pub digits_at : List ℕ → Data → Option Digits
@@ -191,8 +191,8 @@ spec_in p d = do
   Some (record { class = class; coding = coding; length = length; max = max; pad = pad })
 
 -- a row
-abbrev pub row_in : Profile → Data → Option Row
-row_in p d = do
+abbrev pub document_row : Profile → Data → Option Row
+document_row p d = do
   n ← whole_at (codes "number") 65535 d
   spec ← spec_in p d
   Some (record { number = n; spec = spec })
@@ -200,7 +200,7 @@ row_in p d = do
 -- the rows of a list, each of them one
 abbrev pub rows_in : Profile → Items → Option (List Row)
 rows_in p no_items = Some []
-rows_in p (item d ds) = row_in p d >>= (λ row. option_map (λ rows. row ∷ rows) (rows_in p ds))
+rows_in p (item d ds) = document_row p d >>= (λ row. option_map (λ rows. row ∷ rows) (rows_in p ds))
 
 -- how both bitmaps are written
 abbrev pub bitmap_in : Data → Option BitmapCoding
@@ -211,11 +211,11 @@ abbrev pub list_in : Profile → Data → Option (List Row)
 list_in p d = get (codes "rows") d >>= as_array >>= rows_in p
 
 -- a draft of these parts, if the rows are some
-abbrev pub with_rows : ℕ → Digits → BitmapCoding → Option (List Row) → Option Contents
+abbrev pub with_rows : ℕ → Digits → BitmapCoding → Option (List Row) → Option DraftContents
 with_rows version mti bitmap rows = option_map (λ rows. record { version = version; mti = mti; bitmap = bitmap; rows = rows }) rows
 
 -- the draft that the members say
-abbrev pub members_in : Profile → Data → Option Contents
+abbrev pub members_in : Profile → Data → Option DraftContents
 members_in p d = do
   version ← whole_at (codes "version") 255 d
   mti ← digits_at (codes "mti") d
@@ -223,40 +223,40 @@ members_in p d = do
   with_rows version mti bitmap (list_in p d)
 
 -- the draft of an object of the five members and no others
-abbrev pub contents_in : Profile → Data → Option Contents
+abbrev pub contents_in : Profile → Data → Option DraftContents
 contents_in p d = if has_size 5 d then members_in p d else None
 
 -- the draft, or that the shape is another
-abbrev pub or_shape : Option Contents → Result Contents TableFault
+abbrev pub or_shape : Option DraftContents → Result DraftContents TableFault
 or_shape None = Err faults.Shape
 or_shape (Some c) = Ok c
 
 -- the draft under a profile that is known: another profile is told before anything else
-abbrev pub by_known : Option Profile → Data → Result Contents TableFault
+abbrev pub by_known : Option Profile → Data → Result DraftContents TableFault
 by_known None d = Err faults.Profile
 by_known (Some p) d = or_shape (contents_in p d)
 
 -- the draft of the profile with this number: no number is another shape
-abbrev pub by_profile : Option ℕ → Data → Result Contents TableFault
+abbrev pub by_profile : Option ℕ → Data → Result DraftContents TableFault
 by_profile None d = Err faults.Shape
 by_profile (Some n) d = by_known (profile_numbered n) d
 
 -- the draft that the data are, or what is wrong before the draft is checked
-abbrev pub draft_in : Data → Result Contents TableFault
+abbrev pub draft_in : Data → Result DraftContents TableFault
 draft_in d = by_profile (whole_at (codes "profile") 65535 d) d
 
 -- the draft, if there is no fault
-abbrev pub or_fault : Contents → Option TableFault → Result Contents TableFault
+abbrev pub or_fault : DraftContents → Option TableFault → Result DraftContents TableFault
 or_fault c None = Ok c
 or_fault c (Some e) = Err e
 
 -- the draft, if it is accepted
-abbrev pub accepted_draft : Result Contents TableFault → Result Contents TableFault
+abbrev pub accepted_draft : Result DraftContents TableFault → Result DraftContents TableFault
 accepted_draft (Err e) = Err e
-accepted_draft (Ok c) = or_fault c (first_fault c)
+accepted_draft (Ok c) = or_fault c (draft_fault c)
 
 -- the accepted draft that the data are, or the first fault
-abbrev pub table_in : Data → Result Contents TableFault
+abbrev pub table_in : Data → Result DraftContents TableFault
 table_in d = accepted_draft (draft_in d)
 
 -- the text is JSON, and stands for the data
@@ -269,11 +269,11 @@ IsNotJson text = IsUtf8 text → read text ≡ None
 
 -- the text stands for the table
 abbrev pub IsTableOf : List ℕ → Layout → Type 0
-IsTableOf text t = (d : Data) × (c : Contents) × StandsFor text d × (table_in d ≡ Ok c) × Holds t c
+IsTableOf text t = (d : Data) × (c : DraftContents) × StandsFor text d × (table_in d ≡ Ok c) × Holds t c
 
 -- the text is JSON, and this is the first thing wrong with it
-abbrev pub IsFaultOf : List ℕ → TableFault → Type 0
-IsFaultOf text e = (d : Data) × StandsFor text d × (table_in d ≡ Err e)
+abbrev pub IsDocumentFault : List ℕ → TableFault → Type 0
+IsDocumentFault text e = (d : Data) × StandsFor text d × (table_in d ≡ Err e)
 
 -- ---- the document of a table: members in the order of their names, rows in the order of their numbers
 

@@ -39,11 +39,11 @@ is_fixed lengths.Fixed = true
 is_fixed l = false
 
 -- two or three digits tell the length
-abbrev pub is_counted : Length → Bool
-is_counted (lengths.LL d) = true
-is_counted (lengths.LLL d) = true
-is_counted (lengths.LLLL d) = false
-is_counted lengths.Fixed = false
+abbrev pub is_ll_or_lll : Length → Bool
+is_ll_or_lll (lengths.LL d) = true
+is_ll_or_lll (lengths.LLL d) = true
+is_ll_or_lll (lengths.LLLL d) = false
+is_ll_or_lll lengths.Fixed = false
 
 -- nothing fills a value up
 abbrev pub is_unpadded : Pad → Bool
@@ -53,9 +53,9 @@ is_unpadded p = false
 -- whether the row has the shape
 abbrev pub is_shape : Shape → FieldSpec → Bool
 is_shape (Digits n) s = is_n s.class && is_fixed s.length && (s.max == n) && is_unpadded s.pad
-is_shape (DigitsUpTo n) s = is_n s.class && is_counted s.length && nat_le s.max n && is_unpadded s.pad
+is_shape (DigitsUpTo n) s = is_n s.class && is_ll_or_lll s.length && nat_le s.max n && is_unpadded s.pad
 is_shape (Text n) s = is_n_or_an s.class && is_fixed s.length && (s.max == n) && is_unpadded s.pad
-is_shape Amounts s = is_an s.class && is_counted s.length && nat_le 20 s.max && is_unpadded s.pad
+is_shape Amounts s = is_an s.class && is_ll_or_lll s.length && nat_le 20 s.max && is_unpadded s.pad
 is_shape (AnyUpTo n) s = nat_le s.max n
 
 -- ---- the rows
@@ -87,18 +87,18 @@ host_rows =
     host_row 90 true (Digits 42) ∷ []
 
 -- what is wrong with an element's row, if anything
-abbrev pub row_fault : HostRow → Option FieldSpec → Option HostTableFault
-row_fault h None = if h.needed then Some (NoRow h.number) else None
-row_fault h (Some s) = if is_shape h.shape s then None else Some (RowShape h.number)
+abbrev pub host_row_fault : HostRow → Option FieldSpec → Option HostTableFault
+host_row_fault h None = if h.needed then Some (NoRow h.number) else None
+host_row_fault h (Some s) = if is_shape h.shape s then None else Some (RowShape h.number)
 
 -- the first thing that is wrong among the elements, in ascending number
-abbrev pub rows_fault : List HostRow → List (Option FieldSpec) → Option HostTableFault
-rows_fault [] rows = None
-rows_fault (h ∷ hs) rows = option_or (row_fault h (row_at rows h.number)) (rows_fault hs rows)
+abbrev pub host_rows_fault : List HostRow → List (Option FieldSpec) → Option HostTableFault
+host_rows_fault [] rows = None
+host_rows_fault (h ∷ hs) rows = option_or (host_row_fault h (row_at rows h.number)) (host_rows_fault hs rows)
 
 -- the first thing that is wrong: the version, then the rows
 abbrev pub host_fault : Layout → Option HostTableFault
-host_fault t = if t.version == 0 then rows_fault host_rows t.rows else Some NotVersion0
+host_fault t = if t.version == 0 then host_rows_fault host_rows t.rows else Some NotVersion0
 
 -- ---- a table for a host
 

@@ -3,7 +3,7 @@
 ghost use Rattle.std.specs.Prelude.{◌≡◌};
 ghost use Rattle.std.specs.Option.{option_copied};
 ghost use Rattle.iso_table.specs.Layout.{row_at};
-ghost use Rattle.iso_table.specs.HostReady.{is_n, is_an, is_n_or_an, is_fixed, is_counted, is_unpadded, is_shape, host_rows, row_fault, rows_fault};
+ghost use Rattle.iso_table.specs.HostReady.{is_n, is_an, is_n_or_an, is_fixed, is_ll_or_lll, is_unpadded, is_shape, host_rows, host_row_fault, host_rows_fault};
 
 use crate::fault::HostTableFault;
 use crate::placing::row_at;
@@ -91,8 +91,8 @@ fn is_fixed(length: Length) -> bool
     length == Length::Fixed
 }
 
-fn is_counted(length: Length) -> bool
-    ensures { result ≡ is_counted length }
+fn is_ll_or_lll(length: Length) -> bool
+    ensures { result ≡ is_ll_or_lll length }
 {
     matches!(length, Length::LL(_) | Length::LLL(_))
 }
@@ -116,9 +116,9 @@ impl Shape {
         } = *row;
         match self {
             Digits(n) => is_n(class) && is_fixed(length) && max == n && is_unpadded(pad),
-            DigitsUpTo(n) => is_n(class) && is_counted(length) && max <= n && is_unpadded(pad),
+            DigitsUpTo(n) => is_n(class) && is_ll_or_lll(length) && max <= n && is_unpadded(pad),
             Text(n) => is_n_or_an(class) && is_fixed(length) && max == n && is_unpadded(pad),
-            Amounts => is_an(class) && is_counted(length) && 20 <= max && is_unpadded(pad),
+            Amounts => is_an(class) && is_ll_or_lll(length) && 20 <= max && is_unpadded(pad),
             AnyUpTo(n) => max <= n,
         }
     }
@@ -127,7 +127,7 @@ impl Shape {
 impl HostRow {
     /// What is wrong with the element's row, if anything.
     fn fault(self, row: Option<&FieldSpec>) -> Option<HostTableFault>
-        ensures { result ≡ row_fault self (option_copied row.entry) }
+        ensures { result ≡ host_row_fault self (option_copied row.entry) }
     {
         match row {
             None if self.needed => Some(HostTableFault::NoRow(self.number)),
@@ -140,7 +140,7 @@ impl HostRow {
 
 /// The first thing that is wrong among the rows.
 fn fault_among(wanted: &[HostRow], places: &[Option<FieldSpec>]) -> Option<HostTableFault>
-    ensures { result ≡ rows_fault wanted.now places.now }
+    ensures { result ≡ host_rows_fault wanted.now places.now }
 {
     for row in wanted {
         if let Some(fault) = row.fault(row_at(places, usize::from(row.number))) {
@@ -152,7 +152,7 @@ fn fault_among(wanted: &[HostRow], places: &[Option<FieldSpec>]) -> Option<HostT
 
 /// The first thing that is wrong with the rows that a host needs, in ascending number.
 pub fn host_rows_fault(places: &[Option<FieldSpec>]) -> Option<HostTableFault>
-    ensures { result ≡ rows_fault host_rows places.now }
+    ensures { result ≡ host_rows_fault host_rows places.now }
 {
     fault_among(&HOST_ROWS, places)
 }

@@ -6,9 +6,9 @@ ghost use Rattle.serde_json.specs.View.{view, items_view};
 ghost use Rattle.iso_table.specs.declared.fault.TableFault.TheVariants.{NotJson, Shape, Memory};
 ghost use Rattle.iso_table.specs.Accepted.{contents};
 ghost use Rattle.iso_table.specs.Members.{has_size, text_at};
-ghost use Rattle.iso_table.specs.Document.{number_at, digits_at, class_in, coding_in, pad_in, class_named, coding_named, digits_named};
+ghost use Rattle.iso_table.specs.Document.{u64_at, digits_at, class_in, coding_in, pad_in, class_named, coding_named, digits_named};
 ghost use Rattle.iso_table.specs.Document.{bitmap_named, pad_named, byte_of, behind, whole_at, prefix_in, length_by};
-ghost use Rattle.iso_table.specs.Document.{length_in, spec_in, row_in, rows_in, bitmap_in, list_in, members_in, with_rows, contents_in};
+ghost use Rattle.iso_table.specs.Document.{length_in, spec_in, document_row, rows_in, bitmap_in, list_in, members_in, with_rows, contents_in};
 ghost use Rattle.iso_table.specs.Document.{profile_numbered, has_four_digits, draft_in, StandsFor, IsNotJson};
 
 use crate::draft::{Draft, Row};
@@ -130,7 +130,7 @@ fn pad_named(name: &str) -> Option<Pad>
 
 /// The whole number at a member.
 fn u64_at(value: &Value, key: &str) -> Option<u64>
-    ensures { result ≡ number_at key.now (view value.now) }
+    ensures { result ≡ u64_at key.now (view value.now) }
 {
     value.get(key)?.as_u64()
 }
@@ -214,8 +214,8 @@ fn spec_of(profile: Profile, value: &Value) -> Option<FieldSpec>
 }
 
 /// The row that a JSON value is.
-fn row_of(profile: Profile, value: &Value) -> Option<Row>
-    ensures { result ≡ row_in profile (view value.now) }
+fn document_row(profile: Profile, value: &Value) -> Option<Row>
+    ensures { result ≡ document_row profile (view value.now) }
 {
     Some(Row {
         number: u16_at(value, "number")?,
@@ -231,7 +231,7 @@ fn rows_of(alloc: Global, profile: Profile, values: &[Value]) -> Result<Vec<Row>
 {
     let mut rows = Vec::new(alloc);
     for value in values {
-        let Some(row) = row_of(profile, value) else {
+        let Some(row) = document_row(profile, value) else {
             return Err(TableFault::Shape);
         };
         rows.push(row)?;

@@ -6,8 +6,8 @@ ghost use Rattle.std.specs.Option.{option_copied};
 ghost use Rattle.iso_table.specs.declared.fault.TableFault.TheVariants.{NotJson, Memory};
 ghost use Rattle.iso_parts.specs.Bits.{contains};
 ghost use Rattle.iso_table.specs.Layout.{Layout, IsAccepted, AreGood, Knows, row_at};
-ghost use Rattle.iso_table.specs.Accepted.{Accepted, Holds, contents, first_fault};
-ghost use Rattle.iso_table.specs.Document.{IsTableOf, IsFaultOf, IsNotJson, document};
+ghost use Rattle.iso_table.specs.Accepted.{Accepted, Holds, contents, draft_fault};
+ghost use Rattle.iso_table.specs.Document.{IsTableOf, IsDocumentFault, IsNotJson, document};
 ghost use Rattle.serde_json.specs.Written.{compact_text};
 ghost use Rattle.iso_table.specs.Edition87.{IsEdition87};
 ghost use Rattle.iso_table.specs.HostReady.{IsHostReady, host_fault};
@@ -53,7 +53,7 @@ impl Table {
         ensures ok { IfOk result (λ t. Accepted (contents draft) × Holds t (contents draft)) }
         ensures accepted { IfOk result IsAccepted }
         ensures refused { IfErr result (λ e. e ≢ Memory → ¬ Accepted (contents draft)) }
-        ensures fault { IfErr result (λ e. e ≢ Memory → first_fault (contents draft) ≡ Some e) }
+        ensures fault { IfErr result (λ e. e ≢ Memory → draft_fault (contents draft) ≡ Some e) }
     {
         if !is_version(draft.version) {
             return Err(TableFault::BadVersion);
@@ -74,7 +74,7 @@ impl Table {
         ensures ok { IfOk result (IsTableOf text.now) }
         ensures accepted { IfOk result IsAccepted }
         ensures not_json { IsErrOf result TableFault.NotJson → IsNotJson text.now }
-        ensures fault { IfErr result (λ e. e ≢ Memory → e ≢ NotJson → IsFaultOf text.now e) }
+        ensures fault { IfErr result (λ e. e ≢ Memory → e ≢ NotJson → IsDocumentFault text.now e) }
     {
         let value = value_of(alloc, text)?;
         let draft = draft_of(alloc, &value)?;
@@ -91,7 +91,7 @@ impl Table {
         ensures only { (t : Layout) → IsAccepted t → IsTableOf text.now t
             → MatchResult result (λ u. u ≡ t) (λ e. e ≡ Memory) }
         ensures not_json { IsErrOf result TableFault.NotJson → IsNotJson text.now }
-        ensures fault { IfErr result (λ e. e ≢ Memory → e ≢ NotJson → IsFaultOf text.now e) }
+        ensures fault { IfErr result (λ e. e ≢ Memory → e ≢ NotJson → IsDocumentFault text.now e) }
     {
         Table::read(alloc, text)
     }

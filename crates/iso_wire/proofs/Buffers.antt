@@ -2,12 +2,12 @@
 use Rattle.std.proofs.Common.{◌≡◌, ℕ, zero, suc, ◌+◌, ◌-◌, ◌^◌, ◌<◌, ◌≤◌, List, [], ◌∷◌, ◌++◌, length, get_or, map, take, drop, refl, sym, ap, subst, ◌∙◌, arith}
 use Rattle.std.proofs.lemmas.List.{drop-drop, drop-take, take-take, take_at, drop_at, drop_all, take_all, take-append-drop, length-append, length-drop, length-take}
 use Rattle.iso_wire.specs.Elements.{IsBelow}
-use Rattle.iso_wire.specs.Ends.{elements_of, Ascend, end_of, shifted_end, IsAbove}
+use Rattle.iso_wire.specs.Ends.{elements_of, Ascend, last_end, shifted_end, IsAbove}
 use Rattle.iso_wire.proofs.Orders.{Values}
 
 -- ---- ends
 
-pub end_is : (s m : ℕ) (es : List ℕ) → Ascend s es m → end_of s es ≡ m
+pub end_is : (s m : ℕ) (es : List ℕ) → Ascend s es m → last_end s es ≡ m
 end_is s m [] asc = asc
 end_is s m (e ∷ es) asc = end_is e m es asc.1
 
@@ -19,11 +19,11 @@ pub Ascend-append : (s m t : ℕ) (es fs : List ℕ) → Ascend s es m → Ascen
 Ascend-append s m t [] fs one two = subst (λ (k : ℕ). Ascend k fs t) (sym one) two
 Ascend-append s m t (e ∷ es) fs one two = (one.0, Ascend-append e m t es fs one.1 two)
 
-pub Ascend-front : (s t : ℕ) (es fs : List ℕ) → Ascend s (es ++ fs) t → Ascend s es (end_of s es)
+pub Ascend-front : (s t : ℕ) (es fs : List ℕ) → Ascend s (es ++ fs) t → Ascend s es (last_end s es)
 Ascend-front s t [] fs asc = refl
 Ascend-front s t (e ∷ es) fs asc = (asc.0, Ascend-front e t es fs asc.1)
 
-pub Ascend-back : (s t : ℕ) (es fs : List ℕ) → Ascend s (es ++ fs) t → Ascend (end_of s es) fs t
+pub Ascend-back : (s t : ℕ) (es fs : List ℕ) → Ascend s (es ++ fs) t → Ascend (last_end s es) fs t
 Ascend-back s t [] fs asc = asc
 Ascend-back s t (e ∷ es) fs asc = Ascend-back e t es fs asc.1
 
@@ -43,15 +43,15 @@ moves_fit out into s m es fs same le asc small k d lt =
     let between = ascend_all out s m es le (subst (λ (l : List ℕ). Ascend s l m) (sym same) asc) k d lt in
     (between.0, omega (arith, between.0, between.1, small))
 
-pub end_of-take : (s k : ℕ) (es : List ℕ) (d : ℕ) → k < length es → end_of s (take (suc k) es) ≡ get_or es k d
-end_of-take s k [] d lt = absurd (omega (arith, lt))
-end_of-take s zero (e ∷ es) d lt = refl
-end_of-take s (suc k) (e ∷ es) d lt = end_of-take e k es d (omega (arith, lt))
+pub last_end-take : (s k : ℕ) (es : List ℕ) (d : ℕ) → k < length es → last_end s (take (suc k) es) ≡ get_or es k d
+last_end-take s k [] d lt = absurd (omega (arith, lt))
+last_end-take s zero (e ∷ es) d lt = refl
+last_end-take s (suc k) (e ∷ es) d lt = last_end-take e k es d (omega (arith, lt))
 
 -- ---- elements
 
 -- numbers in front and numbers behind
-pub elements_of-append : (ns ms : List ℕ) (s : ℕ) (es fs b : List ℕ) → length es ≡ length ns → elements_of (ns ++ ms) s (es ++ fs) b ≡ elements_of ns s es b ++ elements_of ms (end_of s es) fs b
+pub elements_of-append : (ns ms : List ℕ) (s : ℕ) (es fs b : List ℕ) → length es ≡ length ns → elements_of (ns ++ ms) s (es ++ fs) b ≡ elements_of ns s es b ++ elements_of ms (last_end s es) fs b
 elements_of-append [] ms s [] fs b same = refl
 elements_of-append [] ms s (e ∷ es) fs b same = absurd (omega (arith, same))
 elements_of-append (n ∷ ns) ms s [] fs b same = absurd (omega (arith, same))
@@ -123,7 +123,7 @@ module _ (xs ys : List ℕ) (n out p q : ℕ) (es fs v b : List ℕ) (paired : l
       let size : f - p ≡ length v = omega (arith, apart) in
       let value : take (f - p) (drop p put_in) ≡ v = ap (λ (k : ℕ). take k (drop p put_in)) size ∙ ap (take (length v)) behind_head ∙ take_at v (drop q b) (length v) refl in
       elements_of-append xs (n ∷ ys) 0 es (f ∷ later) put_in paired
-      ∙ ap (λ (l : Values). l ++ elements_of (n ∷ ys) (end_of 0 es) (f ∷ later) put_in) (sym (elements_of-front xs 0 p es b put_in front head_same))
+      ∙ ap (λ (l : Values). l ++ elements_of (n ∷ ys) (last_end 0 es) (f ∷ later) put_in) (sym (elements_of-front xs 0 p es b put_in front head_same))
       ∙ ap (λ (k : ℕ). elements_of xs 0 es b ++ elements_of (n ∷ ys) k (f ∷ later) put_in) (end_is 0 p es front)
       ∙ ap (λ (l : List ℕ). elements_of xs 0 es b ++ (n, l) ∷ elements_of ys f later put_in) value
       ∙ ap (λ (l : Values). elements_of xs 0 es b ++ (n, v) ∷ l) (sym (elements_of-moved ys out (length v) q (length b) fs b put_in (omega (arith, apart)) back behind_value))
@@ -154,7 +154,7 @@ module _ (xs ys : List ℕ) (out p q : ℕ) (es fs b : List ℕ) (paired : lengt
       let same : take p b ≡ take p cut_out = sym (take_at (take p b) (drop q b) p left_size) in
       let rest : drop q b ≡ drop (shifted_end out 0 q) cut_out = sym (ap (λ (k : ℕ). drop k cut_out) moved_to ∙ drop_at (take p b) (drop q b) p left_size) in
       elements_of-append xs ys 0 es later cut_out paired
-      ∙ ap (λ (l : Values). l ++ elements_of ys (end_of 0 es) later cut_out) (sym (elements_of-front xs 0 p es b cut_out front same))
+      ∙ ap (λ (l : Values). l ++ elements_of ys (last_end 0 es) later cut_out) (sym (elements_of-front xs 0 p es b cut_out front same))
       ∙ ap (λ (k : ℕ). elements_of xs 0 es b ++ elements_of ys k later cut_out) (end_is 0 p es front ∙ sym moved_to)
       ∙ ap (λ (l : Values). elements_of xs 0 es b ++ l) (sym (elements_of-moved ys out 0 q (length b) fs b cut_out (omega (arith, apart)) back rest))
 
@@ -169,12 +169,12 @@ module _ (xs ys : List ℕ) (out p q : ℕ) (es fs b : List ℕ) (paired : lengt
 
 pub elements_of-push : (done later : List ℕ) (n : ℕ) (es v b : List ℕ) → length es ≡ length done → Ascend 0 es (length b) → elements_of (done ++ n ∷ later) 0 (es ++ length (b ++ v) ∷ []) (b ++ v) ≡ elements_of done 0 es b ++ (n, v) ∷ []
 elements_of-push done later n es v b same asc =
-    let end : end_of 0 es ≡ length b = end_is 0 (length b) es asc in
+    let end : last_end 0 es ≡ length b = end_is 0 (length b) es asc in
     let size : length (b ++ v) - length b ≡ length v = omega (arith, length-append b v) in
     let front : take (length b) b ≡ take (length b) (b ++ v) = take_all (length b) b (omega arith) ∙ sym (take_at b v (length b) refl) in
     let value : take (length (b ++ v) - length b) (drop (length b) (b ++ v)) ≡ v = ap (λ (k : ℕ). take k (drop (length b) (b ++ v))) size ∙ ap (take (length v)) (drop_at b v (length b) refl) ∙ take_all (length v) v (omega arith) in
     elements_of-append done (n ∷ later) 0 es (length (b ++ v) ∷ []) (b ++ v) same
-    ∙ ap (λ (l : Values). l ++ elements_of (n ∷ later) (end_of 0 es) (length (b ++ v) ∷ []) (b ++ v)) (sym (elements_of-front done 0 (length b) es b (b ++ v) asc front))
+    ∙ ap (λ (l : Values). l ++ elements_of (n ∷ later) (last_end 0 es) (length (b ++ v) ∷ []) (b ++ v)) (sym (elements_of-front done 0 (length b) es b (b ++ v) asc front))
     ∙ ap (λ (k : ℕ). elements_of done 0 es b ++ elements_of (n ∷ later) k (length (b ++ v) ∷ []) (b ++ v)) end
     ∙ ap (λ (l : List ℕ). elements_of done 0 es b ++ (n, l) ∷ []) value
 

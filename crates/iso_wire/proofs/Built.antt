@@ -2,7 +2,7 @@
 use Rattle.std.proofs.Common.{◌≡◌, ℕ, ◌+◌, List, ◌∷◌, ◌++◌, length, drop, Option, Some, None, Result, Ok, Err, refl, sym, ap, subst, ◌∙◌}
 use Rattle.iso_parts.specs.declared.spec.FieldSpec.{FieldSpec}
 use Rattle.iso_parts.specs.Building.{IsPart}
-use Rattle.iso_parts.specs.Reading.{Outcome, got, more, fault, part_at}
+use Rattle.iso_parts.specs.Reading.{FieldReading, got, more, fault, part_at}
 use Rattle.iso_table.specs.Layout.{Layout, row_at}
 use Rattle.iso_wire.specs.declared.fault.UnpackFault.{UnpackFault}
 use Rattle.iso_wire.specs.Contents.{Contents}
@@ -15,7 +15,7 @@ use Rattle.iso_wire.proofs.Orders.{Values}
 
 -- ---- an element
 
-part_by : (s : FieldSpec) (n at len : ℕ) (o : Outcome) → IsRead (answer s n at len o) → IsPart o
+part_by : (s : FieldSpec) (n at len : ℕ) (o : FieldReading) → IsRead (answer s n at len o) → IsPart o
 part_by s n at len (got v used) h = (v, used, refl)
 part_by s n at len more h = absurd h
 part_by s n at len (fault e) h = absurd h

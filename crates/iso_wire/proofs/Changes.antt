@@ -7,7 +7,7 @@ use Rattle.iso_parts.specs.Bits.{contains}
 use Rattle.iso_parts.specs.Numbers.{members, members_below}
 use Rattle.iso_wire.specs.declared.elements.Elements.{Elements}
 use Rattle.iso_wire.specs.Elements.{value_in, has, IsAscending, put, without}
-use Rattle.iso_wire.specs.Ends.{elements_of, views, end_of, shifted_end, Ascend, Adds, IsWhole, IsNumbered, IsMadeOf, IsSame}
+use Rattle.iso_wire.specs.Ends.{elements_of, views, last_end, shifted_end, Ascend, Adds, IsWhole, IsNumbered, IsMadeOf, IsSame}
 use Rattle.iso_wire.proofs.Orders.{Values, IsAscending-after, put-between, put-there, without-there, value_in-there}
 use Rattle.iso_wire.proofs.Buffers.{Ascend-front, Ascend-back, ascend_le, elements_of-append, elements_of-middle, ascend_middle, elements_of-cut, ascend_cut, elements_below, elements_above, elements_of-same}
 use Rattle.iso_wire.proofs.Ranks.{members_above, members_there, members_lacking, all_below, all_above, same_below, same_above, same_members, no_members}
@@ -25,7 +25,7 @@ whole_of y ns es b numbers made asc count = record {
   count = ap length made.ends ∙ count ∙ sym (ap length numbers);
 }
 
-module _ (x : Elements) (whole : IsWhole x) (n : ℕ) (low : 2 ≤ n) (high : n ≤ 128) (at start : ℕ) (placed : at ≡ length (members_below x.numbers n)) (begins : start ≡ end_of 0 (take at x.ends.items)) where
+module _ (x : Elements) (whole : IsWhole x) (n : ℕ) (low : 2 ≤ n) (high : n ≤ 128) (at start : ℕ) (placed : at ≡ length (members_below x.numbers n)) (begins : start ≡ last_end 0 (take at x.ends.items)) where
   abbrev ends : List ℕ
   ends = x.ends.items
 

@@ -6,7 +6,7 @@ use Rattle.std.proofs.Math.Seq.{take-add}
 use Rattle.iso_parts.specs.declared.spec.FieldSpec.{FieldSpec}
 use Rattle.iso_parts.specs.Part.{Part}
 use Rattle.iso_parts.specs.Row.{IsGood}
-use Rattle.iso_parts.specs.Reading.{Outcome, got, more, fault, part_at}
+use Rattle.iso_parts.specs.Reading.{FieldReading, got, more, fault, part_at}
 use Rattle.iso_parts.specs.PartLaws.{PartLaws}
 use Rattle.iso_wire.specs.declared.fault.UnpackFault.{UnpackFault}
 use Rattle.iso_table.specs.Layout.{row_at, AreGood}
@@ -73,7 +73,7 @@ bind_ok (Err d) f y e = absurd cc
 pub ok_is : {A : Type 0} (x y : A) → done x ≡ done y → x ≡ y
 ok_is x y e = cc
 
-answer_ok : (s : FieldSpec) (n at len : ℕ) (o : Outcome) (v : List ℕ) (used : ℕ) → answer s n at len o ≡ Ok (v, used) → o ≡ got v used
+answer_ok : (s : FieldSpec) (n at len : ℕ) (o : FieldReading) (v : List ℕ) (used : ℕ) → answer s n at len o ≡ Ok (v, used) → o ≡ got v used
 answer_ok s n at len (got w u) v used e = ap (λ (x : List ℕ × ℕ). got x.0 x.1) (ok_is (w, u) (v, used) e)
 answer_ok s n at len more v used e = absurd cc
 answer_ok s n at len (fault f) v used e = absurd cc

@@ -6,7 +6,7 @@ use Rattle.iso_parts.specs.declared.bitmap.BitmapCoding.{BitmapCoding}
 use Rattle.iso_parts.specs.declared.spec.FieldSpec.{FieldSpec}
 use Rattle.iso_parts.specs.Bits.{map_size}
 use Rattle.iso_parts.specs.BitmapReading.{word_in, top}
-use Rattle.iso_parts.specs.Reading.{Outcome, got, more, fault, part_at}
+use Rattle.iso_parts.specs.Reading.{FieldReading, got, more, fault, part_at}
 use Rattle.iso_parts.specs.MapLaws.{MapLaws}
 use Rattle.iso_parts.specs.PartLaws.{PartLaws, IsMore}
 use Rattle.iso_wire.specs.declared.fault.UnpackFault.{UnpackFault}
@@ -79,7 +79,7 @@ words_by_stays false t at w b x room =
 words_stays : (t : Layout) (at : ℕ) (b x : List ℕ) → Stays (words_at t at b) (words_at t at (b ++ x))
 words_stays t at b x = stays_bind (primary_at t at b) (primary_at t at (b ++ x)) (words_by t at b) (words_by t at (b ++ x)) (primary_stays t at b x) (λ w e. words_by_stays (ltb w top) t at w b x (primary_room t at b w e))
 
-answer_stays : (s : FieldSpec) (n at len len' : ℕ) (o o' : Outcome) → ((IsMore o → ⊥) → o' ≡ o) → Stays (answer s n at len o) (answer s n at len' o')
+answer_stays : (s : FieldSpec) (n at len len' : ℕ) (o o' : FieldReading) → ((IsMore o → ⊥) → o' ≡ o) → Stays (answer s n at len o) (answer s n at len' o')
 answer_stays s n at len len' (got v used) o' h = λ long. ap (answer s n at len') (h (λ m. m))
 answer_stays s n at len len' more o' h = λ long. absurd (long refl)
 answer_stays s n at len len' (fault e) o' h = λ long. ap (answer s n at len') (h (λ m. m))

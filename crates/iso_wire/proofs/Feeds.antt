@@ -12,7 +12,7 @@ use Rattle.iso_wire.specs.declared.unpacker.Fed.{Fed}
 use Rattle.iso_wire.specs.declared.unpacker.Fed.TheVariants as fed
 use Rattle.iso_wire.specs.Contents.{Contents}
 use Rattle.iso_wire.specs.Faults.{out_of_memory}
-use Rattle.iso_wire.specs.Feeding.{Feeds, IsRead, Keeps, FoundFed, IsReadyAfter}
+use Rattle.iso_wire.specs.Feeding.{Feeds, IsRead, KeepsTaken, FoundFed, IsReadyAfter}
 use Rattle.iso_parts.specs.Mti.{mti_size}
 use Rattle.iso_wire.specs.Reading.{IsFaultOf, message_at, whole}
 use Rattle.iso_wire.specs.ReadingLaws.{IsShort, ReadsSpellings, ReadingStays}
@@ -89,7 +89,7 @@ module _ (reads : ReadsSpellings) (stays : ReadingStays) where
       none_by (Err e) is short = let no_memory : e.cause ≢ Memory = λ memory. let both : Short ≡ Memory = sym short ∙ memory in cc in is_refused reads t b (Err e) good fits (λ memory. absurd (no_memory memory), λ other. is) no_memory
   found_fed t b before (Err e) good fits h = λ other. is_settled reads stays t b (Err e) good fits h.0 other h.1
 
-pub ready_after : (t : Layout) (old new piece : List ℕ) (r : Result Fed UnpackFault) → IsShort (message_at t old) → Feeds (length old) r (message_at t (old ++ piece)) → Keeps old new piece r → IsReadyAfter t new r
+pub ready_after : (t : Layout) (old new piece : List ℕ) (r : Result Fed UnpackFault) → IsShort (message_at t old) → Feeds (length old) r (message_at t (old ++ piece)) → KeepsTaken old new piece r → IsReadyAfter t new r
 ready_after t old new piece (Ok (fed.Done m used)) short read kept = start_is_short t new kept.0
 ready_after t old new piece (Ok fed.More) short read kept = subst (λ (l : List ℕ). IsShort (message_at t l)) (sym kept) read
 ready_after t old new piece (Err e) short read kept = (λ memory. subst (λ (l : List ℕ). IsShort (message_at t l)) (sym (kept.0 memory)) short, λ other. (kept.1 other, read.1))

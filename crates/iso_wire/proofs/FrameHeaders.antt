@@ -3,7 +3,7 @@ use Rattle.std.proofs.Common.{◌≡◌, ℕ, ◌+◌, ◌*◌, ◌/◌, ◌<◌
 use Rattle.std.proofs.lemmas.List.{length-take-le, take-append-drop}
 use Rattle.std.proofs.Math.Seq.{drop-append_seam}
 use Rattle.iso_parts.specs.declared.prefix.Digits.TheVariants as digits
-use Rattle.iso_wire.specs.Frame.{largest, header_size, header_of, frame_of, Begins, length_in}
+use Rattle.iso_wire.specs.Frame.{largest, header_size, header_of, frame_of, Begins, header_length}
 use Rattle.iso_wire.specs.declared.header.Header.{Header}
 use Rattle.iso_wire.specs.declared.header.Header.TheVariants.{Binary2, Ascii4, Bcd2}
 use Rattle.iso_wire.proofs.Types.{mti_takes}
@@ -24,7 +24,7 @@ binary_takes x y n low high e =
     record { same = ap (λ (z : ℕ). z ∷ y ∷ []) (omega arith) ∙ ap (λ (z : ℕ). (n / 256) ∷ z ∷ []) (omega arith); fits = omega arith }
 
 -- a length that is read is the one that was written
-pub header_takes : (h : Header) (n : ℕ) (p : List ℕ) → ((i : ℕ) → get_or p i 0 < 256) → length_in h p ≡ Some n → IsHeader h n p
+pub header_takes : (h : Header) (n : ℕ) (p : List ℕ) → ((i : ℕ) → get_or p i 0 < 256) → header_length h p ≡ Some n → IsHeader h n p
 header_takes Binary2 n [] fits e = absurd cc
 header_takes Binary2 n (x ∷ []) fits e = absurd cc
 header_takes Binary2 n (x ∷ y ∷ []) fits e = binary_takes x y n (fits 1) (fits 0) e

@@ -8,7 +8,7 @@ use Rattle.iso_parts.specs.declared.spec.FieldSpec.{FieldSpec}
 use Rattle.iso_parts.specs.declared.bitmap.BitmapCoding.{BitmapCoding}
 use Rattle.iso_parts.specs.Bits.{map_size, in_words}
 use Rattle.iso_parts.specs.BitmapReading.{word_in, top}
-use Rattle.iso_parts.specs.Reading.{Outcome, got, more, fault, part_at}
+use Rattle.iso_parts.specs.Reading.{FieldReading, got, more, fault, part_at}
 use Rattle.iso_parts.specs.PartLaws.{PartLaws, IsUpTo}
 use Rattle.iso_table.specs.Layout.{Layout, row_at}
 use Rattle.iso_table.specs.Sizes.{field_bytes, place_bytes, max_bytes}
@@ -123,7 +123,7 @@ first_of n v x = Ok ((n, v) ∷ x.0, x.1)
 abbrev behind_value : List (Option FieldSpec) → ℕ → List ℕ → ℕ → List ℕ → List ℕ × ℕ → Result (Values × ℕ) UnpackFault
 behind_value rows n ns at b first = elements_at rows ns (at + first.1) (drop first.1 b) >>= first_of n first.0
 
-outcome_short : (rows : List (Option FieldSpec)) (s : FieldSpec) (n at later : ℕ) (ns b : List ℕ) (o : Outcome) → IsUpTo (field_bytes s) (length b) o
+outcome_short : (rows : List (Option FieldSpec)) (s : FieldSpec) (n at later : ℕ) (ns b : List ℕ) (o : FieldReading) → IsUpTo (field_bytes s) (length b) o
     → ((at : ℕ) (b : List ℕ) → IsShort (elements_at rows ns at b) → length b < later) → IsShort (answer s n at (length b) o >>= behind_value rows n ns at b) → length b < field_bytes s + later
 outcome_short rows s n at later ns b (got v used) up rest h = elim (short_of (elements_at rows ns (at + used) (drop used b)) (first_of n v) h) [
   | inl short ↦ omega (arith, rest (at + used) (drop used b) short, length-drop used b)

@@ -3,7 +3,7 @@ use Rattle.std.proofs.Common.{◌≢◌, ℕ, ◌+◌, Bool, true, false, cond, 
 use Rattle.iso_parts.specs.declared.spec.FieldSpec.{FieldSpec}
 use Rattle.iso_parts.specs.Bits.{map_size}
 use Rattle.iso_parts.specs.BitmapReading.{word_in, top}
-use Rattle.iso_parts.specs.Reading.{Outcome, got, more, fault, part_at}
+use Rattle.iso_parts.specs.Reading.{FieldReading, got, more, fault, part_at}
 use Rattle.iso_parts.specs.declared.bitmap.BitmapCoding.{BitmapCoding}
 use Rattle.iso_table.specs.Layout.{Layout, row_at}
 use Rattle.iso_wire.specs.declared.fault.UnpackFault.{UnpackFault}
@@ -58,7 +58,7 @@ words t at b =
     (λ first. either (ltb first top) (words_of first 0 size) (secondary_at t (at + size) (drop size b) >>= λ second. words_of first second (size + size)) tt
     (binds (secondary_at t (at + size) (drop size b)) (λ second. words_of first second (size + size)) (secondary t (at + size) (drop size b)) (λ second. tt)))
 
-answers : (s : FieldSpec) (n at len : ℕ) (o : Outcome) → NoMemory (answer s n at len o)
+answers : (s : FieldSpec) (n at len : ℕ) (o : FieldReading) → NoMemory (answer s n at len o)
 answers s n at len (got v used) = tt
 answers s n at len more = λ e. cc
 answers s n at len (fault f) = λ e. cc

@@ -8,7 +8,7 @@ use Rattle.iso_parts.specs.declared.spec.FieldSpec.{FieldSpec}
 use Rattle.iso_parts.specs.Bits.{map_size}
 use Rattle.iso_parts.specs.BitmapReading.{top}
 use Rattle.iso_parts.specs.PartLaws.{PartLaws, IsBodyFault, IsLengthFault}
-use Rattle.iso_parts.specs.Reading.{Outcome, more, fault, prefix_size, prefix_of, body_size, body_of, some_count, count_at, some_size, size_at, at_body, at_prefix, part_at}
+use Rattle.iso_parts.specs.Reading.{FieldReading, more, fault, prefix_size, prefix_of, body_size, body_of, some_count, count_at, some_size, size_at, at_body, at_prefix, part_at}
 use Rattle.iso_table.specs.Layout.{Layout, row_at}
 use Rattle.iso_wire.specs.declared.fault.UnpackFault.{UnpackFault}
 use Rattle.iso_wire.specs.declared.fault.UnpackCause.TheVariants as causes
@@ -20,9 +20,9 @@ use Rattle.iso_parts.specs.declared.bitmap.Bitmap.{Bitmap}
 use Rattle.iso_wire.specs.Contents.{Contents}
 use Rattle.iso_parts.specs.Numbers.{numbers_in}
 use Rattle.iso_parts.specs.Mti.{mti_size}
-use Rattle.iso_wire.specs.Reading.{◌>>=◌, halt, type_at, primary_at, secondary_at, words_by, words_at, place_of, answer, value_by, elements_at, message_at, whole}
+use Rattle.iso_wire.specs.Reading.{◌>>=◌, halt, type_at, primary_at, secondary_at, words_by, words_at, fault_place, answer, value_by, elements_at, message_at, whole}
 use Rattle.iso_wire.specs.ReadingLaws.{IsShort}
-use Rattle.iso_wire.specs.Resuming.{end_of, end_of_elements, end_by, body_end, body_end_under, end_of_rest, behind_maps, secondary_words, ends_from, IsWithin, GoesOn, Resumes, Steps, IsResumed}
+use Rattle.iso_wire.specs.Resuming.{end_of, end_of_elements, end_by, body_end, body_end_under, end_of_rest, behind_maps, secondary_words, ends_from, IsStageWithin, GoesOn, Resumes, Steps, IsResumed}
 use Rattle.iso_wire.proofs.Endings.{Stays, type_stays, primary_stays, secondary_stays}
 use Rattle.iso_wire.proofs.NoMemory.{NoMemory, message}
 use Rattle.iso_wire.proofs.Orders.{Values}
@@ -72,7 +72,7 @@ same_room : (t : Bool) (front size : ℕ) (b : List ℕ) → front ≤ length b 
 same_room true front size b room is = lt-ltb (length (drop front b)) size (omega (arith, ltb-true (length b) (front + size) is, length-drop front b))
 same_room false front size b room is = le-ltb (length (drop front b)) size (omega (arith, ltb-false (length b) (front + size) is, length-drop front b))
 
-body_place : (e : FieldFault) (front : ℕ) → IsBodyFault e → place_of e front ≡ front
+body_place : (e : FieldFault) (front : ℕ) → IsBodyFault e → fault_place e front ≡ front
 body_place BadFiller front h = refl
 body_place BadHex front h = refl
 body_place NotInClass front h = refl
@@ -82,7 +82,7 @@ body_place BadLengthDigits front h = absurd h
 body_place LengthOver front h = absurd h
 body_place Memory front h = refl
 
-length_place : (e : FieldFault) (front : ℕ) → IsLengthFault e → place_of e front ≡ 0
+length_place : (e : FieldFault) (front : ℕ) → IsLengthFault e → fault_place e front ≡ 0
 length_place BadLengthDigits front h = refl
 length_place LengthOver front h = refl
 length_place BadFiller front h = absurd h
@@ -132,7 +132,7 @@ module _ (laws : PartLaws) where
       let body : size_at s count (drop (at + front) b) ≡ cond t (Ok None) (some_size size r) =
       ap (size_at s count) behind ∙ ap (λ (c : Bool). cond c (Ok None) (some_size size r)) (same_room t front size d read.room refl) in
       ap (λ o. end_of (value_by o n at d >>= behind_value rows n ns at d)) row
-      ∙ ap (λ (o : Outcome). end_of (answer s n at (length d) o >>= behind_value rows n ns at d)) part
+      ∙ ap (λ (o : FieldReading). end_of (answer s n at (length d) o >>= behind_value rows n ns at d)) part
       ∙ part_by t rows s n at front size ns b r refl (laws.body_fault s count (take size (drop front d))) long
       ∙ ap (λ o. end_by n (at + front) o >>= λ end. end_of_elements rows ns end b) (sym body)
       ∙ ap (λ o. body_end_under o n count (at + front) b >>= λ end. end_of_elements rows ns end b) (sym row)
@@ -156,10 +156,10 @@ module _ (laws : PartLaws) where
       let d : List ℕ = drop at b in
       let read = fails_by (ltb (length d) front) (prefix_of s (take front d)) e bad in
       let part : part_at s d ≡ fault e = cond-false (ltb (length d) front) more (at_prefix s d (prefix_of s (take front d))) read.0 ∙ ap (at_prefix s d) read.1 in
-      let none : at + place_of e front ≡ at = ap (λ (k : ℕ). at + k) (length_place e front (laws.length_fault s (take front d) e read.1)) ∙ omega arith in
+      let none : at + fault_place e front ≡ at = ap (λ (k : ℕ). at + k) (length_place e front (laws.length_fault s (take front d) e read.1)) ∙ omega arith in
       ap (λ (l : List ℕ). end_of_elements rows l at b) is
       ∙ ap (λ o. end_of (value_by o n at d >>= behind_value rows n ns at d)) row
-      ∙ ap (λ (o : Outcome). end_of (answer s n at (length d) o >>= behind_value rows n ns at d)) part
+      ∙ ap (λ (o : FieldReading). end_of (answer s n at (length d) o >>= behind_value rows n ns at d)) part
       ∙ ap (λ (k : ℕ). refused n k e) none
 
 -- bytes that end inside a length
@@ -179,7 +179,7 @@ length_lacks rows s old ns n at b is row few =
     let part : part_at s d ≡ more = cond-true (ltb (length d) front) more (at_prefix s d (prefix_of s (take front d))) less in
     ap (λ (l : List ℕ). end_of_elements rows l at b) is
     ∙ ap (λ o. end_of (value_by o n at d >>= behind_value rows n ns at d)) row
-    ∙ ap (λ (o : Outcome). end_of (answer s n at (length d) o >>= behind_value rows n ns at d)) part
+    ∙ ap (λ (o : FieldReading). end_of (answer s n at (length d) o >>= behind_value rows n ns at d)) part
     ∙ ap (short n) (cond-true (ltb (length d) front) at (at + front) less)
 
 -- an element without a row
@@ -316,7 +316,7 @@ pub at_start : (t : Layout) (b : List ℕ) → IsResumed t stages.Type b
 at_start t b = (tt, λ x. refl)
 
 -- more bytes reach up to the stage too
-pub within_more : (t : Layout) (stage : Stage) (b x : List ℕ) → IsWithin t stage b → IsWithin t stage (b ++ x)
+pub within_more : (t : Layout) (stage : Stage) (b x : List ℕ) → IsStageWithin t stage b → IsStageWithin t stage (b ++ x)
 within_more t stages.Type b x h = tt
 within_more t stages.Primary b x h = omega (arith, length-append b x)
 within_more t (stages.Secondary first) b x h = omega (arith, length-append b x)

@@ -19,7 +19,7 @@ use Rattle.iso_wire.specs.declared.fault.UnpackFault.{UnpackFault}
 use Rattle.iso_wire.specs.declared.fault.UnpackCause.{UnpackCause}
 use Rattle.iso_wire.specs.declared.fault.UnpackCause.TheVariants as causes
 use Rattle.iso_wire.specs.Numbers.{numbers_of}
-use Rattle.iso_wire.specs.Reading.{◌>>=◌, halt, place_of, answer, value_by, value_at, elements_at}
+use Rattle.iso_wire.specs.Reading.{◌>>=◌, halt, fault_place, answer, value_by, value_at, elements_at}
 use Rattle.iso_wire.specs.Spelling.{AreBytes, Parts}
 use Rattle.iso_wire.specs.Stops.{count, body, Halts}
 use Rattle.iso_wire.proofs.Bytes.{bytes_take, bytes_drop}
@@ -29,7 +29,7 @@ use Rattle.iso_wire.proofs.StopsMaps.{fault_is, fault_at, HaltsAs}
 
 -- ---- where a part stops
 
-count_place : (s : FieldSpec) (p : List ℕ) (f : FieldFault) (front : ℕ) → IsBadCount s p f → place_of f front ≡ 0
+count_place : (s : FieldSpec) (p : List ℕ) (f : FieldFault) (front : ℕ) → IsBadCount s p f → fault_place f front ≡ 0
 count_place s p faults.BadLengthDigits front bad = refl
 count_place s p faults.LengthOver front bad = refl
 count_place s p faults.WrongLength front bad = absurd bad
@@ -39,7 +39,7 @@ count_place s p faults.BadFiller front bad = absurd bad
 count_place s p faults.BadHex front bad = absurd bad
 count_place s p faults.Memory front bad = absurd bad
 
-body_place : (s : FieldSpec) (c : ℕ) (p : List ℕ) (f : FieldFault) (front : ℕ) → IsBadBody s c p f → place_of f front ≡ front
+body_place : (s : FieldSpec) (c : ℕ) (p : List ℕ) (f : FieldFault) (front : ℕ) → IsBadBody s c p f → fault_place f front ≡ front
 body_place s c p faults.BadFiller front bad = refl
 body_place s c p faults.BadHex front bad = refl
 body_place s c p faults.NotInClass front bad = refl
@@ -104,7 +104,7 @@ module _ (laws : PieceLaws) where
       let front = prefix_size s.length in
       let p : List ℕ = take front b in
       let bad = (laws.bad_count s f p good (bytes_take front b bytes) (omega (arith, length-take front b))).0 is in
-      let place : at ≡ at + place_of f front = omega (arith, count_place s p f front bad) in
+      let place : at ≡ at + fault_place f front = omega (arith, count_place s p f front bad) in
       inl (causes.Field f, ap (λ (k : ℕ). fault_at n k (causes.Field f)) place ∙ fault_is {A = Value} _ e h, (room, bad))
   prefix_by (Ok c) t n s at b e good bytes room is h =
       let front = prefix_size s.length in
@@ -133,7 +133,7 @@ module _ (laws : PieceLaws) where
       let front = prefix_size s.length in
       let p : List ℕ = take front b in
       let read = (laws.bad_count s f p good (bytes_take front b bytes) (omega (arith, length-take front b, h.0))).1 h.1 in
-      let place : at + place_of f front ≡ at = omega (arith, count_place s p f front h.1) in
+      let place : at + fault_place f front ≡ at = omega (arith, count_place s p f front h.1) in
       ap (answer s n at (length b)) (cond-false (ltb (length b) front) more (at_prefix s b (prefix_of s p)) (le-ltb (length b) front h.0) ∙ ap (at_prefix s b) read)
       ∙ ap (λ (k : ℕ). halt n k (causes.Field f)) place
   count_is_halted t n s at b causes.BadMti good bytes h = absurd h.1

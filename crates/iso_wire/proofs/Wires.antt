@@ -20,7 +20,7 @@ use Rattle.iso_parts.specs.declared.bitmap.Bitmap.{Bitmap}
 use Rattle.iso_wire.specs.Elements.{value_in}
 use Rattle.iso_parts.specs.Numbers.{numbers}
 use Rattle.iso_wire.specs.Reading.{◌>>=◌, value_at}
-use Rattle.iso_wire.specs.Bodies.{longest_part, start_at, size_at, body_in, wire_of, wires_in, IsWithin, AreWithin, front_of, wire_at, wires_at}
+use Rattle.iso_wire.specs.Bodies.{longest_part, start_at, body_size_at, body_in, wire_of, wires_in, IsBodyWithin, AreWithin, front_of, wire_at, wires_at}
 use Rattle.iso_parts.specs.Numbers.{members}
 use Rattle.iso_wire.proofs.Loop.{with_front}
 use Rattle.iso_wire.proofs.NumberLaws.{one_more, no_more, no_numbers}
@@ -95,7 +95,7 @@ with_body bodies n start size = record { starts = set bodies.starts n start; siz
 start_stays : (bodies : Bodies) (n k start size : ℕ) → k < n → start_at (with_body bodies n start size) k ≡ start_at bodies k
 start_stays bodies n k start size less = get_or-set_other bodies.starts n k start 0 (λ e. omega (arith, less))
 
-size_stays : (bodies : Bodies) (n k start size : ℕ) → k < n → size_at (with_body bodies n start size) k ≡ size_at bodies k
+size_stays : (bodies : Bodies) (n k start size : ℕ) → k < n → body_size_at (with_body bodies n start size) k ≡ body_size_at bodies k
 size_stays bodies n k start size less = get_or-set_other bodies.sizes n k size 0 (λ e. omega (arith, less))
 
 wires_stay : (b : List ℕ) (bodies : Bodies) (done : List ℕ) (n start size : ℕ) → AreBelow n done → wires_in b (with_body bodies n start size) done ≡ wires_in b bodies done
@@ -104,7 +104,7 @@ wires_stay b bodies (k ∷ done) n start size below =
     let front = start_stays bodies n k start size below.0 in
     let many = size_stays bodies n k start size below.0 in
     ap (λ (i : ℕ). (k, take i (drop (start_at (with_body bodies n start size) k) b)) ∷ wires_in b (with_body bodies n start size) done) many
-    ∙ ap (λ (i : ℕ). (k, take (size_at bodies k) (drop i b)) ∷ wires_in b (with_body bodies n start size) done) front
+    ∙ ap (λ (i : ℕ). (k, take (body_size_at bodies k) (drop i b)) ∷ wires_in b (with_body bodies n start size) done) front
     ∙ ap (λ (l : Values). wire_of b bodies k ∷ l) (wires_stay b bodies done n start size below.1)
 
 within_stay : (all : ℕ) (bodies : Bodies) (done : List ℕ) (n start size : ℕ) → AreBelow n done → AreWithin all bodies done → AreWithin all (with_body bodies n start size) done
@@ -116,7 +116,7 @@ wires_append : (b : List ℕ) (bodies : Bodies) (done : List ℕ) (n : ℕ) → 
 wires_append b bodies [] n = refl
 wires_append b bodies (k ∷ done) n = ap (λ (l : Values). wire_of b bodies k ∷ l) (wires_append b bodies done n)
 
-within_append : (all : ℕ) (bodies : Bodies) (done : List ℕ) (n : ℕ) → AreWithin all bodies done → IsWithin all bodies n → AreWithin all bodies (done ++ n ∷ [])
+within_append : (all : ℕ) (bodies : Bodies) (done : List ℕ) (n : ℕ) → AreWithin all bodies done → IsBodyWithin all bodies n → AreWithin all bodies (done ++ n ∷ [])
 within_append all bodies [] n h le = (le, tt)
 within_append all bodies (k ∷ done) n h le = (h.0, within_append all bodies done n h.1 le)
 
@@ -155,7 +155,7 @@ found_next rows b bodies old ns rest v n at body used start size total h is star
     let below : AreBelow n h.done = below_more h.next n h.done above.0 h.below in
     let new : Bodies = with_body bodies n start size in
     let new_start : start_at new n ≡ start = get_or-set_same bodies.starts n start 0 (omega (arith, above.1)) in
-    let new_size : size_at new n ≡ size = get_or-set_same bodies.sizes n size 0 (omega (arith, above.1)) in
+    let new_size : body_size_at new n ≡ size = get_or-set_same bodies.sizes n size 0 (omega (arith, above.1)) in
     let wire : wire_of b new n ≡ (n, wire_at (row_at rows n) (drop at b) used) =
     ap (λ (k : ℕ). (n, take k (drop (start_at new n) b))) (new_size ∙ many) ∙ ap (λ (k : ℕ). (n, take (used - body) (drop k b))) (new_start ∙ begins)
     ∙ ap (λ (l : List ℕ). (n, take (used - body) l)) (sym (drop-drop body at b)) ∙ ap (λ (k : ℕ). (n, take (used - k) (drop k (drop at b)))) front in
@@ -220,7 +220,7 @@ body_absent b bodies set zero n k absent = ap (λ (l : List ℕ). value_in (wire
 body_absent b bodies set (suc count) n k absent = none_by (set n) b bodies set count n k refl absent (body_absent b bodies set count (n + 1) k (λ low high. absent (omega arith) (omega arith)))
 
 within_by : (is : Bool) (size : ℕ) (bodies : Bodies) (set : ℕ → Bool) (count n k : ℕ) → set n ≡ is → set k ≡ true → n ≤ k → AreWithin size bodies (numbers set (suc count) n)
-    → (n + 1 ≤ k → AreWithin size bodies (numbers set count (n + 1)) → IsWithin size bodies k) → IsWithin size bodies k
+    → (n + 1 ≤ k → AreWithin size bodies (numbers set count (n + 1)) → IsBodyWithin size bodies k) → IsBodyWithin size bodies k
 within_by false size bodies set count n k is here low h rest =
     elim (cases_eq n k) [
       | inl same ↦ absurd (let both : true ≡ false = sym here ∙ ap set (sym same) ∙ is in cc)
@@ -229,18 +229,18 @@ within_by false size bodies set count n k is here low h rest =
 within_by true size bodies set count n k is here low h rest =
     let all : AreWithin size bodies (n ∷ numbers set count (n + 1)) = subst (AreWithin size bodies) (one_more set count n is) h in
     elim (cases_eq n k) [
-      | inl same ↦ subst (λ (m : ℕ). IsWithin size bodies m) same all.0
+      | inl same ↦ subst (λ (m : ℕ). IsBodyWithin size bodies m) same all.0
       | inr other ↦ rest (omega arith) all.1
     ]
 
-within_there : (size : ℕ) (bodies : Bodies) (set : ℕ → Bool) (count n k : ℕ) → n ≤ k → k < n + count → set k ≡ true → AreWithin size bodies (numbers set count n) → IsWithin size bodies k
+within_there : (size : ℕ) (bodies : Bodies) (set : ℕ → Bool) (count n k : ℕ) → n ≤ k → k < n + count → set k ≡ true → AreWithin size bodies (numbers set count n) → IsBodyWithin size bodies k
 within_there size bodies set zero n k low high here h = absurd (omega arith)
 within_there size bodies set (suc count) n k low high here h = within_by (set n) size bodies set count n k refl here low h (λ low all. within_there size bodies set count (n + 1) k low (omega arith) here all)
 
 pub set_body : (set : Bitmap) (b : List ℕ) (bodies : Bodies) (k : ℕ) → AreElements (contains set) → contains set k ≡ true → value_in (wires_in b bodies (members set)) k ≡ Some (body_in b bodies k)
 set_body set b bodies k elements is = let there = elements k is in body_there b bodies (in_words set.primary set.secondary) 127 2 k there.0 (omega (arith, there.1)) is
 
-pub set_within : (set : Bitmap) (size : ℕ) (bodies : Bodies) (k : ℕ) → AreElements (contains set) → contains set k ≡ true → AreWithin size bodies (members set) → IsWithin size bodies k
+pub set_within : (set : Bitmap) (size : ℕ) (bodies : Bodies) (k : ℕ) → AreElements (contains set) → contains set k ≡ true → AreWithin size bodies (members set) → IsBodyWithin size bodies k
 set_within set size bodies k elements is h = let there = elements k is in within_there size bodies (in_words set.primary set.secondary) 127 2 k there.0 (omega (arith, there.1)) is h
 
 pub set_few : (set : Bitmap) (k : ℕ) → AreElements (contains set) → contains set k ≡ true → k ≤ 128

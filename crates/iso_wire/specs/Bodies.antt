@@ -17,12 +17,12 @@ use Rattle.iso_wire.specs.Viewing.{Viewed}
 abbrev pub start_at : Bodies → ℕ → ℕ
 start_at bodies n = slice_index_or bodies.starts n 0
 
-abbrev pub size_at : Bodies → ℕ → ℕ
-size_at bodies n = slice_index_or bodies.sizes n 0
+abbrev pub body_size_at : Bodies → ℕ → ℕ
+body_size_at bodies n = slice_index_or bodies.sizes n 0
 
 -- the bytes of that body
 abbrev pub body_in : List ℕ → Bodies → ℕ → List ℕ
-body_in b bodies n = take (size_at bodies n) (drop (start_at bodies n) b)
+body_in b bodies n = take (body_size_at bodies n) (drop (start_at bodies n) b)
 
 -- the bodies in bytes for elements with the numbers
 abbrev pub wire_of : List ℕ → Bodies → ℕ → ℕ × List ℕ
@@ -32,13 +32,13 @@ abbrev pub wires_in : List ℕ → Bodies → List ℕ → List (ℕ × List ℕ
 wires_in b bodies ns = map (wire_of b bodies) ns
 
 -- the body with a number lies within so many bytes
-abbrev pub IsWithin : ℕ → Bodies → ℕ → Type 0
-IsWithin size bodies n = start_at bodies n + size_at bodies n ≤ size
+abbrev pub IsBodyWithin : ℕ → Bodies → ℕ → Type 0
+IsBodyWithin size bodies n = start_at bodies n + body_size_at bodies n ≤ size
 
 -- each of those bodies does
 abbrev pub AreWithin : ℕ → Bodies → List ℕ → Type 0
 AreWithin size bodies [] = Unit {0}
-AreWithin size bodies (n ∷ ns) = IsWithin size bodies n × AreWithin size bodies ns
+AreWithin size bodies (n ∷ ns) = IsBodyWithin size bodies n × AreWithin size bodies ns
 
 -- ---- reading the bodies
 

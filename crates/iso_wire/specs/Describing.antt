@@ -76,9 +76,9 @@ hex_of [] = []
 hex_of (b ∷ bs) = hex_digit (b / 16) ∷ hex_digit (b % 16) ∷ hex_of bs
 
 -- bytes of class B as hexadecimal digits, any others as they are
-abbrev pub text_of : CharClass → List ℕ → List ℕ
-text_of classes.B b = hex_of b
-text_of class b = b
+abbrev pub plain_text : CharClass → List ℕ → List ℕ
+plain_text classes.B b = hex_of b
+plain_text class b = b
 
 -- the class of a row; B where there is none
 abbrev pub class_by : Option FieldSpec → CharClass
@@ -90,11 +90,11 @@ abbrev pub value_text : CharClass → ℕ → List ℕ → List ℕ
 value_text class n v =
     let front : ℕ = shown_front n (length v) in
     let end : ℕ = shown_end n (length v) in
-    text_of class (take front v) ++ (replicate (length v - front - end) 42 ++ text_of class (drop (length v - end) v))
+    plain_text class (take front v) ++ (replicate (length v - front - end) 42 ++ plain_text class (drop (length v - end) v))
 
 -- the whole value, or what a bystander may read of it
 abbrev pub shown_text : Bool → CharClass → ℕ → List ℕ → List ℕ
-shown_text is_clear class n v = if is_clear then text_of class v else value_text class n v
+shown_text is_clear class n v = if is_clear then plain_text class v else value_text class n v
 
 abbrev pub element_line : Bool → List (Option FieldSpec) → ℕ → List ℕ → List ℕ
 element_line is_clear rows n v = codes "DE" ++ (decimal 3 n ++ (61 ∷ shown_text is_clear (class_by (row_at rows n)) n v ++ 10 ∷ []))

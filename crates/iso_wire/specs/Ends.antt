@@ -22,9 +22,9 @@ Ascend start [] last = start ≡ last
 Ascend start (e ∷ es) last = (start ≤ e) × Ascend e es last
 
 -- the last of the ends, or where the first value begins
-abbrev pub end_of : ℕ → List ℕ → ℕ
-end_of start [] = start
-end_of start (e ∷ es) = end_of e es
+abbrev pub last_end : ℕ → List ℕ → ℕ
+last_end start [] = start
+last_end start (e ∷ es) = last_end e es
 
 -- an end, once bytes before it gave way to others
 abbrev pub shifted_end : ℕ → ℕ → ℕ → ℕ

@@ -1,5 +1,5 @@
 -- A message that comes in pieces: what was taken of it, and what is answered to each further piece.
--- Inner, for bodies and proofs: `Keeps`, `IsRead`, `Builds`, `IsReadyAfter`.
+-- Inner, for bodies and proofs: `KeepsTaken`, `IsRead`, `IsBuilt`, `IsReadyAfter`.
 use Rattle.std.specs.Prelude.{◌≡◌, ◌≢◌, ℕ, ◌+◌, ◌≤◌, List, [], ◌++◌, length, Option, Some, None, Result, Ok, Err}
 use Rattle.iso_wire.specs.declared.fault.UnpackFault.{UnpackFault}
 use Rattle.iso_wire.specs.declared.fault.UnpackCause.TheVariants.{Short, Memory}
@@ -33,10 +33,10 @@ Feeds before (Ok fed.More) read = IsShort read
 Feeds before (Err e) read = IsFaultOf e read × (e.cause ≢ Short)
 
 -- the bytes that are taken afterwards
-abbrev pub Keeps : List ℕ → List ℕ → List ℕ → Result Fed UnpackFault → Type 0
-Keeps old new piece (Ok (fed.Done message used)) = (new ≡ []) × (used ≤ length piece)
-Keeps old new piece (Ok fed.More) = new ≡ old ++ piece
-Keeps old new piece (Err e) = (e.cause ≡ Memory → new ≡ old) × (e.cause ≢ Memory → new ≡ [])
+abbrev pub KeepsTaken : List ℕ → List ℕ → List ℕ → Result Fed UnpackFault → Type 0
+KeepsTaken old new piece (Ok (fed.Done message used)) = (new ≡ []) × (used ≤ length piece)
+KeepsTaken old new piece (Ok fed.More) = new ≡ old ++ piece
+KeepsTaken old new piece (Err e) = (e.cause ≡ Memory → new ≡ old) × (e.cause ≢ Memory → new ≡ [])
 
 -- a message and no fault was read
 abbrev pub IsRead : {A : Type 0} → Result A UnpackFault → Type 0
@@ -44,9 +44,9 @@ IsRead (Ok x) = Unit {0}
 IsRead (Err e) = ⊥
 
 -- a message that was built is the one that reading gives, its end seen from behind the bytes taken before it; or memory ran out
-abbrev pub Builds : ℕ → Result (Contents × ℕ) UnpackFault → Result (Contents × ℕ) UnpackFault → Type 0
-Builds before (Ok x) read = read ≡ whole x.0 (before + x.1)
-Builds before (Err e) read = e ≡ out_of_memory
+abbrev pub IsBuilt : ℕ → Result (Contents × ℕ) UnpackFault → Result (Contents × ℕ) UnpackFault → Type 0
+IsBuilt before (Ok x) read = read ≡ whole x.0 (before + x.1)
+IsBuilt before (Err e) read = e ≡ out_of_memory
 
 -- and they are ready for a further piece
 abbrev pub IsReadyAfter : Layout → List ℕ → Result Fed UnpackFault → Type 0
@@ -54,10 +54,10 @@ IsReadyAfter t new (Ok fed) = IsShort (message_at t new)
 IsReadyAfter t new (Err e) = (e.cause ≡ Memory → IsShort (message_at t new)) × (e.cause ≢ Memory → (new ≡ []) × (e.cause ≢ Short))
 
 -- how it stands afterwards
-abbrev pub Moves : Feeding → Feeding → List ℕ → Result Fed UnpackFault → Type 0
-Moves old new piece (Ok (fed.Done message used)) = new ≡ record old { taken = [] }
-Moves old new piece (Ok fed.More) = new ≡ record old { taken = old.taken ++ piece }
-Moves old new piece (Err e) = (e.cause ≡ Memory → new ≡ old) × (e.cause ≢ Memory → new ≡ record old { taken = []; stopped = Some e })
+abbrev pub IsAfterFeed : Feeding → Feeding → List ℕ → Result Fed UnpackFault → Type 0
+IsAfterFeed old new piece (Ok (fed.Done message used)) = new ≡ record old { taken = [] }
+IsAfterFeed old new piece (Ok fed.More) = new ≡ record old { taken = old.taken ++ piece }
+IsAfterFeed old new piece (Err e) = (e.cause ≡ Memory → new ≡ old) × (e.cause ≢ Memory → new ≡ record old { taken = []; stopped = Some e })
 
 -- while it is stopped the fault is answered again, and nothing changes
 abbrev pub StaysStopped : Feeding → Feeding → Result Fed UnpackFault → Type 0

@@ -118,11 +118,11 @@ CutNeedsMore = (h : Header) (n : ℕ) (part : List ℕ) → n ≤ largest h → 
 -- ---- reading a frame from the front of bytes: the header, and then the body, each when it is whole
 
 -- the length that a whole header tells, where it is of digits
-abbrev pub length_in : Header → List ℕ → Option ℕ
-length_in Binary2 (x ∷ y ∷ []) = Some (256 * x + y)
-length_in Ascii4 (a ∷ b ∷ c ∷ d ∷ []) = four_digits a b c d
-length_in Bcd2 (x ∷ y ∷ []) = four_digits (48 + x / 16) (48 + x % 16) (48 + y / 16) (48 + y % 16)
-length_in h other = None
+abbrev pub header_length : Header → List ℕ → Option ℕ
+header_length Binary2 (x ∷ y ∷ []) = Some (256 * x + y)
+header_length Ascii4 (a ∷ b ∷ c ∷ d ∷ []) = four_digits a b c d
+header_length Bcd2 (x ∷ y ∷ []) = four_digits (48 + x / 16) (48 + x % 16) (48 + y / 16) (48 + y % 16)
+header_length h other = None
 
 -- a body and how many bytes its frame takes; or that bytes are missing; or a header that isn't of digits
 pub data FrameOutcome : Type 0 where
@@ -139,7 +139,7 @@ at_length h bytes (Some n) =
 abbrev pub frame_at : Header → List ℕ → FrameOutcome
 frame_at h bytes =
     if nat_lt (length bytes) (header_size h) then more
-    else at_length h bytes (length_in h (take (header_size h) bytes))
+    else at_length h bytes (header_length h (take (header_size h) bytes))
 
 -- ---- what functions answer
 

@@ -13,9 +13,9 @@ use Rattle.iso_parts.specs.declared.fault.FieldFault.{FieldFault}
 use Rattle.iso_parts.specs.declared.fault.FieldFault.TheVariants as fields
 use Rattle.iso_parts.specs.Class.{is_digit}
 use Rattle.iso_parts.specs.Bits.{map_size}
-use Rattle.iso_parts.specs.Mti.{mti_size, number}
+use Rattle.iso_parts.specs.Mti.{mti_size, mti_number}
 use Rattle.iso_parts.specs.BitmapReading.{word_in, top}
-use Rattle.iso_parts.specs.Reading.{Outcome, got, more, fault, prefix_size, part_at}
+use Rattle.iso_parts.specs.Reading.{FieldReading, got, more, fault, prefix_size, part_at}
 use Rattle.iso_wire.specs.declared.fault.UnpackFault.{UnpackFault}
 use Rattle.iso_wire.specs.declared.fault.UnpackCause.{UnpackCause}
 use Rattle.iso_wire.specs.declared.fault.UnpackCause.TheVariants.{Short, BadMti, WrongVersion, BadHex, ThirdBitmap, UnknownElement, Field, Memory}
@@ -106,17 +106,17 @@ words_at t at b = do
 -- ---- the elements
 
 -- where a faulty part stops being one: at its length, or behind it
-abbrev pub place_of : FieldFault → ℕ → ℕ
-place_of fields.BadLengthDigits size = 0
-place_of fields.LengthOver size = 0
-place_of e size = size
+abbrev pub fault_place : FieldFault → ℕ → ℕ
+fault_place fields.BadLengthDigits size = 0
+fault_place fields.LengthOver size = 0
+fault_place e size = size
 
 -- the value and where the next part begins
-abbrev pub answer : FieldSpec → ℕ → ℕ → ℕ → Outcome → Result (List ℕ × ℕ) UnpackFault
+abbrev pub answer : FieldSpec → ℕ → ℕ → ℕ → FieldReading → Result (List ℕ × ℕ) UnpackFault
 answer s n at len (got v used) = Ok (v, used)
 answer s n at len more =
     halt n (if nat_lt len (prefix_size s.length) then at else at + prefix_size s.length) Short
-answer s n at len (fault e) = halt n (at + place_of e (prefix_size s.length)) (Field e)
+answer s n at len (fault e) = halt n (at + fault_place e (prefix_size s.length)) (Field e)
 
 -- an element whose bitmap is good has a row
 abbrev pub value_by : Option FieldSpec → ℕ → ℕ → List ℕ → Result (List ℕ × ℕ) UnpackFault
@@ -168,7 +168,7 @@ AppendsElement old new n (Err e) read = IsFaultOf e read
 
 -- a function read these elements of the message that reading gives, and answers its type and how many bytes it takes
 abbrev pub ReadsInto : List (ℕ × List ℕ) → Result (Mti × ℕ) UnpackFault → Result (Contents × ℕ) UnpackFault → Type 0
-ReadsInto elements (Ok x) read = read ≡ Ok (record { mti = number x.0; elements = elements }, x.1)
+ReadsInto elements (Ok x) read = read ≡ Ok (record { mti = mti_number x.0; elements = elements }, x.1)
 ReadsInto elements (Err e) read = IsFaultOf e read
 
 -- what unpacking answers is what reading gives, unless memory ran out

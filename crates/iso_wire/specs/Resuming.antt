@@ -64,12 +64,12 @@ ends_from t (stages.Elements rest at) b = end_of_elements t.rows (members rest) 
 ends_from t (stages.Body n count rest at) b = end_of_rest t.rows n count (members rest) at b
 
 -- the bytes reach up to the stage's piece, and the count of a body is one that its row takes
-abbrev pub IsWithin : Layout → Stage → List ℕ → Type 0
-IsWithin t stages.Type b = Unit {0}
-IsWithin t stages.Primary b = mti_size t.mti ≤ length b
-IsWithin t (stages.Secondary primary) b = mti_size t.mti + map_size t.bitmap ≤ length b
-IsWithin t (stages.Elements rest at) b = at ≤ length b
-IsWithin t (stages.Body n count rest at) b = (at ≤ length b) × ((s : FieldSpec) → row_at t.rows n ≡ Some s → count ≤ s.max)
+abbrev pub IsStageWithin : Layout → Stage → List ℕ → Type 0
+IsStageWithin t stages.Type b = Unit {0}
+IsStageWithin t stages.Primary b = mti_size t.mti ≤ length b
+IsStageWithin t (stages.Secondary primary) b = mti_size t.mti + map_size t.bitmap ≤ length b
+IsStageWithin t (stages.Elements rest at) b = at ≤ length b
+IsStageWithin t (stages.Body n count rest at) b = (at ≤ length b) × ((s : FieldSpec) → row_at t.rows n ≡ Some s → count ≤ s.max)
 
 -- whatever follows the bytes, reading goes on alike from both stages
 abbrev pub GoesOn : Layout → Stage → Stage → List ℕ → Type 0
@@ -79,7 +79,7 @@ GoesOn t from to b = (x : List ℕ) → ends_from t from (b ++ x) ≡ ends_from 
 pub record Resumes (t : Layout) (from : Stage) (b : List ℕ) (to : Stage) (answer : Result ℕ UnpackFault) : Type 0 where
   pub read : ends_from t to b ≡ answer
   pub goes_on : GoesOn t from to b
-  pub within : IsWithin t to b
+  pub within : IsStageWithin t to b
 
 -- judging came behind a part, where the other elements go on; or it stopped within the part
 abbrev pub Steps : Layout → Stage → List ℕ → Bitmap → Result ℕ Stopped → Type 0
@@ -88,4 +88,4 @@ Steps t from b rest (Err stopped) = Resumes t from b stopped.stage (Err stopped.
 
 -- reading the whole is reading on from the stage, whatever follows the bytes
 abbrev pub IsResumed : Layout → Stage → List ℕ → Type 0
-IsResumed t stage b = IsWithin t stage b × GoesOn t stages.Type stage b
+IsResumed t stage b = IsStageWithin t stage b × GoesOn t stages.Type stage b

@@ -71,3 +71,7 @@ pub record PlainSpelling (t : Layout) (m : Contents) (b : List ℕ) : Type 0 whe
   pub spelling : Spelling t m b
   pub bitmaps : PlainBitmaps t.bitmap (has m.elements) spelling.maps
   pub parts : spelling.parts ≡ flat_map (plain_of t.rows) m.elements
+
+-- the bytes of one message under two tables: any spelling under the first, the plain one under the second
+abbrev pub Converts : Layout → Layout → List ℕ → List ℕ → Type 0
+Converts f t all b = (m : Contents) × Spelling f m all × PlainSpelling t m b

@@ -1,16 +1,16 @@
 //! A message that lies in the caller's bytes, and where the bodies of its elements lie.
 
 ghost use Rattle.std.specs.Prelude.{◌≡◌, ◌+◌, ◌*◌, ◌≤◌, drop, length, IfOk, MatchOption, None, Some};
-ghost use Rattle.iso_parts.specs.Mti.{number};
+ghost use Rattle.iso_parts.specs.Mti.{mti_number};
 ghost use Rattle.iso_table.specs.Layout.{row_at, AreGood};
 ghost use Rattle.iso_wire.specs.Elements.{value_in};
 ghost use Rattle.iso_wire.specs.Reading.{value_at};
 ghost use Rattle.iso_parts.specs.Numbers.{members};
-ghost use Rattle.iso_wire.specs.Bodies.{longest_part, wires_in, IsWithin, AreWithin, wires_at, view_at, JudgesWire, FindsBodies};
+ghost use Rattle.iso_wire.specs.Bodies.{longest_part, wires_in, IsBodyWithin, AreWithin, wires_at, view_at, JudgesWire, FindsBodies};
 
 use crate::bitmaps::words_of;
 use crate::fault::{UnpackCause, UnpackFault};
-use crate::unpacking::{place_of, type_of};
+use crate::unpacking::{fault_place, type_of};
 use iso_parts::{Bitmap, Judged, Mti, judge_field};
 use iso_table::Table;
 use std::fmt;
@@ -46,7 +46,7 @@ fn judge_wire(table: &Table, n: u8, at: usize, bytes: &[u8]) -> Result<(usize, u
             Err(UnpackFault::stop(n, place, UnpackCause::Short))
         }
         Err(fault) => {
-            let place = at + place_of(fault, row.length.prefix_size());
+            let place = at + fault_place(fault, row.length.prefix_size());
             Err(UnpackFault::stop(n, place, UnpackCause::Field(fault)))
         }
     }
@@ -103,7 +103,7 @@ pub struct View<'a> {
 
 impl<'a> Model for View<'a> {
     ghost use Rattle.std.specs.Prelude.{◌≤◌, length};
-    ghost use Rattle.iso_parts.specs.Mti.{number};
+    ghost use Rattle.iso_parts.specs.Mti.{mti_number};
     ghost use Rattle.iso_wire.specs.Bodies.{wires_in, AreWithin};
     ghost use Rattle.iso_wire.specs.Viewing.{Viewed};
     ghost use Rattle.iso_parts.specs.Numbers.{members};
@@ -128,7 +128,7 @@ impl fmt::Debug for View<'_> {
 impl<'a> View<'a> {
     /// The message's type. Takes no memory.
     pub fn mti(&self) -> Mti
-        ensures { number result ≡ self.now.mti }
+        ensures { mti_number result ≡ self.now.mti }
     {
         self.mti
     }

@@ -2,7 +2,7 @@
 
 ghost use Rattle.std.specs.Prelude.{◌≡◌, ◌<◌, ◌++◌, IfOk, OnOk, replicate, true, false};
 ghost use Rattle.iso_table.specs.Layout.{row_at};
-ghost use Rattle.iso_wire.specs.Describing.{hex_digit, hex_of, text_of, value_text, shown_text, class_by};
+ghost use Rattle.iso_wire.specs.Describing.{hex_digit, hex_of, plain_text, value_text, shown_text, class_by};
 ghost use Rattle.iso_wire.specs.Describing.{element_line, element_lines, description};
 
 use crate::decimal::write_decimal;
@@ -33,7 +33,7 @@ fn push_hex(bytes: &[u8], out: &mut Vec<u8>) -> Result<(), AllocError>
 
 /// Appends bytes as a row of the class shows them.
 fn push_text(class: CharClass, bytes: &[u8], out: &mut Vec<u8>) -> Result<(), AllocError>
-    ensures { OnOk result (out.new.items ≡ out.old.items ++ text_of class bytes.now) }
+    ensures { OnOk result (out.new.items ≡ out.old.items ++ plain_text class bytes.now) }
 {
     match class {
         CharClass::B => push_hex(bytes, out),

@@ -4,7 +4,7 @@ ghost use Rattle.std.specs.Prelude.{◌≡◌, ◌+◌, ◌-◌, ◌^◌, ◌<�
 ghost use Rattle.std.specs.Prelude.{All, length, map, take, drop};
 ghost use Rattle.std.specs.Prelude.{vec_len, vec_capacity, IsTrue, true, IfOk, OnOk, OnErr, MatchOption, Some, None};
 ghost use Rattle.iso_wire.specs.Elements.{value_in, has, is_number, IsAscending, IsBelow, put, without};
-ghost use Rattle.iso_wire.specs.Ends.{views, end_of, shifted_end, Ascend, IsWhole, IsNumbered, Adds, IsMadeOf, IsSame};
+ghost use Rattle.iso_wire.specs.Ends.{views, last_end, shifted_end, Ascend, IsWhole, IsNumbered, Adds, IsMadeOf, IsSame};
 
 use iso_parts::Bitmap;
 use std::alloc::{AllocError, Global};
@@ -20,7 +20,7 @@ pub struct Elements {
 /// Where the value behind the first `at` begins.
 fn start_of(ends: &[usize], at: usize) -> usize
     requires { at ≤ length ends.now }
-    ensures { result ≡ end_of 0 (take at ends.now) }
+    ensures { result ≡ last_end 0 (take at ends.now) }
 {
     if at == 0 { 0 } else { ends[at - 1] }
 }

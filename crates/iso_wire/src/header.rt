@@ -2,7 +2,7 @@
 
 ghost use Rattle.std.specs.Prelude.{◌≡◌, ◌≤◌, length};
 ghost use Rattle.iso_wire.specs.Reading.{four_digits};
-ghost use Rattle.iso_wire.specs.Frame.{largest, header_size, header_of, length_in};
+ghost use Rattle.iso_wire.specs.Frame.{largest, header_size, header_of, header_length};
 
 /// How a frame counts its body. The header's own bytes don't count.
 #[derive(Clone, Copy, Debug, PartialEq, Eq)]
@@ -53,7 +53,7 @@ impl Header {
 
     /// The body's length that a whole header tells, and `None` where the bytes aren't one of digits. Takes no memory.
     pub(crate) fn length_of(self, header: &[u8]) -> Option<usize>
-        ensures { result ≡ length_in self header.now }
+        ensures { result ≡ header_length self header.now }
     {
         match (self, header) {
             (Header::Binary2, [high, low]) => Some(256 * *high as usize + *low as usize),

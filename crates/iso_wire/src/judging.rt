@@ -5,7 +5,7 @@ ghost use Rattle.iso_parts.specs.Bits.{map_size};
 ghost use Rattle.iso_parts.specs.Row.{IsGood};
 ghost use Rattle.iso_table.specs.Layout.{AreGood, row_at};
 ghost use Rattle.iso_parts.specs.Mti.{mti_size};
-ghost use Rattle.iso_wire.specs.Resuming.{IsWithin, Resumes, Steps, body_end};
+ghost use Rattle.iso_wire.specs.Resuming.{IsStageWithin, Resumes, Steps, body_end};
 ghost use Rattle.iso_parts.specs.Numbers.{members};
 
 use crate::bitmaps::{primary_of, secondary_of};
@@ -76,7 +76,7 @@ fn judge_value(
     at: usize,
     bytes: &[u8],
 ) -> Result<usize, Stopped>
-    requires { IsWithin table.now (Stage.Body n count rest at) bytes.now }
+    requires { IsStageWithin table.now (Stage.Body n count rest at) bytes.now }
     ensures { Steps table.now (Stage.Body n count rest at) bytes.now rest result }
 {
     let stage = Stage::Body { n, count, rest, at };
@@ -158,7 +158,7 @@ fn judge_rest(
     at: usize,
     bytes: &[u8],
 ) -> (Stage, Result<usize, UnpackFault>)
-    requires { IsWithin table.now (Stage.Body n count rest at) bytes.now }
+    requires { IsStageWithin table.now (Stage.Body n count rest at) bytes.now }
     ensures { Resumes table.now (Stage.Body n count rest at) bytes.now result.0 result.1 }
 {
     match judge_value(table, n, count, rest, at, bytes) {
@@ -224,7 +224,7 @@ fn judge_type(table: &Table, bytes: &[u8]) -> (Stage, Result<usize, UnpackFault>
 /// Judges a message from a stage on: the stage of the piece that is bad or isn't whole, and where the message ends,
 /// or the fault. Takes no memory.
 pub fn judge_from(table: &Table, stage: Stage, bytes: &[u8]) -> (Stage, Result<usize, UnpackFault>)
-    requires { IsWithin table.now stage bytes.now }
+    requires { IsStageWithin table.now stage bytes.now }
     ensures { Resumes table.now stage bytes.now result.0 result.1 }
 {
     match stage {

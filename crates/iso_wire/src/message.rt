@@ -4,7 +4,7 @@ ghost use Rattle.std.specs.Prelude.{◌≡◌, ◌<◌, ◌≤◌, ◌^◌, ◌+
 ghost use Rattle.std.specs.Prelude.{ℕ, All, true, false, IfOk, OnOk, OnErr, IsTrue, IsOkUnless};
 ghost use Rattle.std.specs.Prelude.{MatchOption, Some, None};
 ghost use Rattle.iso_parts.specs.Bits.{contains};
-ghost use Rattle.iso_parts.specs.Mti.{number};
+ghost use Rattle.iso_parts.specs.Mti.{mti_number};
 ghost use Rattle.iso_wire.specs.Contents.{Contents};
 ghost use Rattle.iso_wire.specs.Decimal.{decimal, number_at};
 ghost use Rattle.iso_wire.specs.Elements.{value_in, has, is_number, IsBelow, put, without};
@@ -35,7 +35,7 @@ impl Model for Message {
 
     ghost Value = { Contents };
 
-    ghost use Rattle.iso_parts.specs.Mti.{number};
+    ghost use Rattle.iso_parts.specs.Mti.{mti_number};
     ghost use Rattle.iso_wire.specs.Elements.{IsAscending};
     ghost use Rattle.iso_wire.specs.Ends.{views, IsWhole, IsNumbered};
 
@@ -113,7 +113,7 @@ impl Message {
 
     /// A message of that type with no elements. Takes no memory.
     pub fn new(alloc: Global, mti: Mti) -> Message
-        ensures { result ≡ record { mti = number mti; elements = [] } }
+        ensures { result ≡ record { mti = mti_number mti; elements = [] } }
     {
         Message {
             mti,
@@ -128,7 +128,7 @@ impl Message {
         elements: usize,
         bytes: usize,
     ) -> Result<Message, AllocError>
-        ensures { IfOk result (λ made. made ≡ record { mti = number mti; elements = [] }) }
+        ensures { IfOk result (λ made. made ≡ record { mti = mti_number mti; elements = [] }) }
     {
         let elements = Elements::with_room(alloc, elements, bytes)?;
         Ok(Message { mti, elements })
@@ -138,7 +138,7 @@ impl Message {
     /// bytes. The memory that it has is kept, and is enough where it has the room.
     pub fn start_over(&mut self, mti: Mti, elements: usize, bytes: usize) -> Result<(), AllocError>
         // Where memory runs out too.
-        ensures { self.new ≡ record { mti = number mti; elements = [] } }
+        ensures { self.new ≡ record { mti = mti_number mti; elements = [] } }
     {
         self.mti = mti;
         self.elements.start_over(elements, bytes)
@@ -149,7 +149,7 @@ impl Message {
         requires whole { IsWhole elements }
         requires ascending { IsAscending 2 (views elements) }
         requires numbered { IsNumbered elements }
-        ensures { result ≡ record { mti = number mti; elements = views elements } }
+        ensures { result ≡ record { mti = mti_number mti; elements = views elements } }
     {
         Message { mti, elements }
     }
@@ -163,7 +163,7 @@ impl Message {
 
     /// The message's type. Takes no memory.
     pub fn mti(&self) -> Mti
-        ensures { number result ≡ self.now.mti }
+        ensures { mti_number result ≡ self.now.mti }
     {
         self.mti
     }

@@ -3,7 +3,7 @@
 ghost use Rattle.std.specs.Prelude.{ℕ, ◌≡◌, ◌≢◌, ◌≤◌, ◌-◌, ◌++◌, [], take, length, List, IfOk, IfErr, None, Some};
 ghost use Rattle.iso_table.specs.Layout.{AreGood};
 ghost use Rattle.iso_table.specs.Sizes.{max_bytes};
-ghost use Rattle.iso_wire.specs.Feeding.{IsRead, Builds, Feeds, Keeps, IsReadyAfter, Moves, StaysStopped, FoundFed, StopsFed};
+ghost use Rattle.iso_wire.specs.Feeding.{IsRead, IsBuilt, Feeds, KeepsTaken, IsReadyAfter, IsAfterFeed, StaysStopped, FoundFed, StopsFed};
 ghost use Rattle.iso_wire.specs.declared.fault.UnpackCause.{UnpackCause};
 ghost use Rattle.iso_wire.specs.declared.fault.UnpackCause.TheVariants.{Short, Memory};
 ghost use Rattle.iso_wire.specs.Contents.{Contents};
@@ -84,7 +84,7 @@ fn build(
     requires within { before ≤ length bytes.now }
     requires short { IsShort (message_at table.now (take before bytes.now)) }
     requires read { IsRead (message_at table.now bytes.now) }
-    ensures exact { Builds before result (message_at table.now bytes.now) }
+    ensures exact { IsBuilt before result (message_at table.now bytes.now) }
     ensures room { IfOk result (λ x. x.1 ≤ length bytes.now - before) }
     ensures good { AreGood table.now.rows }
 {
@@ -104,7 +104,7 @@ fn take_first(
 ) -> (Stage, Result<Fed, UnpackFault>)
     requires { taken.old.items ≡ [] }
     ensures exact { Feeds (length taken.old.items) result.1 (message_at table.now (taken.old.items ++ piece.now)) }
-    ensures kept { Keeps taken.old.items taken.new.items piece.now result.1 }
+    ensures kept { KeepsTaken taken.old.items taken.new.items piece.now result.1 }
     ensures resumed { IsResumed table.now result.0 taken.new.items }
     ensures good { AreGood table.now.rows }
 {
@@ -137,7 +137,7 @@ fn take_next(
     requires short { IsShort (message_at table.now taken.old.items) }
     requires resumed { IsResumed table.now stage taken.old.items }
     ensures exact { Feeds (length taken.old.items) result.1 (message_at table.now (taken.old.items ++ piece.now)) }
-    ensures kept { Keeps taken.old.items taken.new.items piece.now result.1 }
+    ensures kept { KeepsTaken taken.old.items taken.new.items piece.now result.1 }
     ensures resumed { IsResumed table.now result.0 taken.new.items }
     ensures good { AreGood table.now.rows }
 {
@@ -178,7 +178,7 @@ fn take_piece(
     requires short { IsShort (message_at table.now taken.old.items) }
     requires resumed { IsResumed table.now stage taken.old.items }
     ensures exact { Feeds (length taken.old.items) result.1 (message_at table.now (taken.old.items ++ piece.now)) }
-    ensures kept { Keeps taken.old.items taken.new.items piece.now result.1 }
+    ensures kept { KeepsTaken taken.old.items taken.new.items piece.now result.1 }
     ensures resumed { IsResumed table.now result.0 taken.new.items }
     ensures good { AreGood table.now.rows }
 {
@@ -200,7 +200,7 @@ fn take(
     requires short { IsShort (message_at table.now taken.old.items) }
     requires resumed { IsResumed table.now stage taken.old.items }
     ensures exact { Feeds (length taken.old.items) result.1 (message_at table.now (taken.old.items ++ piece.now)) }
-    ensures kept { Keeps taken.old.items taken.new.items piece.now result.1 }
+    ensures kept { KeepsTaken taken.old.items taken.new.items piece.now result.1 }
     ensures resumed { IsResumed table.now result.0 taken.new.items }
     ensures ready { IsReadyAfter table.now taken.new.items result.1 }
     ensures found { FoundFed table.now (length taken.old.items) (taken.old.items ++ piece.now) result.1 }
@@ -283,7 +283,7 @@ impl<'t> Unpacker<'t> {
         // The answer is what `unpack` reads of the bytes taken and then the piece.
         ensures exact { self.old.stopped ≡ None → Feeds (length self.old.taken) result (message_at self.old.table (self.old.taken ++ piece.now)) }
         // How the unpacker stands afterwards.
-        ensures state { self.old.stopped ≡ None → Moves self.old self.new piece.now result }
+        ensures state { self.old.stopped ≡ None → IsAfterFeed self.old self.new piece.now result }
         // A fault tells where the bytes taken and then the piece stop, and why; more is wanted where they are too short;
         ensures stops { self.old.stopped ≡ None → StopsFed self.old.table (self.old.taken ++ piece.now) result }
         // and where they stop is answered.

@@ -2,7 +2,7 @@
 
 ghost use Rattle.std.specs.Prelude.{◌≡◌, ◌≢◌, ℕ, ◌+◌, ◌≤◌, ◌<◌, ◌++◌, ◌∷◌, List};
 ghost use Rattle.std.specs.Prelude.{length, take, drop, option_map, slice_index, IfOk, IfErr, OnOk};
-ghost use Rattle.iso_parts.specs.Mti.{number};
+ghost use Rattle.iso_parts.specs.Mti.{mti_number};
 ghost use Rattle.iso_wire.specs.declared.fault.UnpackCause.{UnpackCause};
 ghost use Rattle.iso_wire.specs.declared.fault.UnpackCause.TheVariants.{Short, Memory};
 ghost use Rattle.iso_wire.specs.Contents.{Contents};
@@ -11,7 +11,7 @@ ghost use Rattle.iso_wire.specs.Ends.{views, Awaits, IsWhole, IsNumbered};
 ghost use Rattle.iso_wire.specs.Faults.{out_of_memory};
 ghost use Rattle.iso_table.specs.Layout.{AreGood};
 ghost use Rattle.iso_parts.specs.Mti.{mti_size};
-ghost use Rattle.iso_wire.specs.Reading.{Gives, ReadsInto, AppendsPart, AppendsElement, place_of, value_at, elements_at, halt};
+ghost use Rattle.iso_wire.specs.Reading.{Gives, ReadsInto, AppendsPart, AppendsElement, fault_place, value_at, elements_at, halt};
 ghost use Rattle.iso_wire.specs.Reading.{mti_of, type_at, message_at, Unpacks, whole};
 ghost use Rattle.iso_wire.specs.Spelling.{Spelling, AreBytes, BeginsWith, BeginsWithNone, IsUnambiguous};
 ghost use Rattle.iso_wire.specs.Stops.{Stops};
@@ -30,7 +30,7 @@ use std::alloc::Global;
 /// The type that the bytes of one tell.
 fn mti_of(digits: Digits, bytes: &[u8]) -> Option<Mti>
     requires { length bytes.now ≡ mti_size digits }
-    ensures { option_map number result ≡ mti_of digits bytes.now }
+    ensures { option_map mti_number result ≡ mti_of digits bytes.now }
 {
     match (digits, bytes) {
         (Digits::Ascii, _) => Mti::from_text(bytes),
@@ -46,7 +46,7 @@ fn mti_of(digits: Digits, bytes: &[u8]) -> Option<Mti>
 
 /// The message type that the bytes begin with.
 pub(crate) fn type_of(table: &Table, bytes: &[u8]) -> Result<Mti, UnpackFault>
-    ensures exact { Gives number result (type_at table.now bytes.now) }
+    ensures exact { Gives mti_number result (type_at table.now bytes.now) }
     ensures room { OnOk result (mti_size table.now.mti ≤ length bytes.now) }
     ensures no_memory { IfErr result (λ e. e.cause ≢ Memory) }
     ensures good { AreGood table.now.rows }
@@ -70,8 +70,8 @@ pub(crate) fn type_of(table: &Table, bytes: &[u8]) -> Result<Mti, UnpackFault>
 }
 
 /// Where a faulty part stops being one, behind the part's start: at its length, or behind it.
-pub(crate) fn place_of(fault: FieldFault, front: usize) -> usize
-    ensures { result ≡ place_of fault front }
+pub(crate) fn fault_place(fault: FieldFault, front: usize) -> usize
+    ensures { result ≡ fault_place fault front }
 {
     match fault {
         FieldFault::BadLengthDigits | FieldFault::LengthOver => 0,
@@ -104,7 +104,7 @@ fn read_value(
         }
         Err(FieldFault::Memory) => Err(UnpackFault::memory()),
         Err(fault) => {
-            let place = at + place_of(fault, front);
+            let place = at + fault_place(fault, front);
             Err(UnpackFault::stop(n, place, UnpackCause::Field(fault)))
         }
     }

@@ -1,7 +1,7 @@
 use Rattle.std.proofs.Common.{◌∙◌}
 use Rattle.iso_issuer.specs.Balances.{accounts_of}
 use Rattle.iso_issuer.specs.Effect.{effect_of}
-use Rattle.iso_issuer.specs.Index.{row_of}
+use Rattle.iso_issuer.specs.Index.{account_place}
 use Rattle.iso_issuer.proofs.Room.{near-posted}
 use Rattle.iso_issuer.proofs.Summed.{posted-moved, kept-moved}
 use Rattle.iso_issuer.proofs.Seen.{place-told}
@@ -9,7 +9,7 @@ use Rattle.iso_issuer.proofs.posting.post_at.Goals as goal
 
 pub post-requires-clause-place : goal.post-requires-clause-place
 post-requires-clause-place c =
-    place-told (effect_of c.args.entry.order) c.in-Some.change.pan c.args.place (row_of (accounts_of c.args.balances.now)) c.in-Some.ensures.pan c.requires.place
+    place-told (effect_of c.args.entry.order) c.in-Some.change.pan c.args.place (account_place (accounts_of c.args.balances.now)) c.in-Some.ensures.pan c.requires.place
 
 pub returns-in-Some-clause-moved : goal.returns-in-Some-clause-moved
 returns-in-Some-clause-moved c =

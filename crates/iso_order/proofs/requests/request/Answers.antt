@@ -3,7 +3,7 @@ use Rattle.std.specs.Prelude.{IsTrue}
 use Rattle.iso_wire.specs.Contents.{Contents}
 use Rattle.iso_order.specs.declared.act.Act.{Act}
 use Rattle.iso_order.specs.declared.key.TxKey.{TxKey}
-use Rattle.iso_order.specs.Listing.{elements_at}
+use Rattle.iso_order.specs.Listing.{elements_with_value}
 use Rattle.iso_order.specs.Order.{Instruction, is_valid}
 use Rattle.iso_order.specs.Request.{AsksFor, FitsEdition87, request_value}
 use Rattle.iso_order.proofs.RequestFits.{request-listed}
@@ -26,10 +26,10 @@ returns-clause-whole c =
     let numbers : List ℕ = 2 ∷ 3 ∷ 4 ∷ 7 ∷ 11 ∷ 32 ∷ 49 ∷ 90 ∷ 95 ∷ [] in
     let value = request_value c.key-key.result c.act-act.result in
     c.in_ok-add_all.ensures
-    ∙ ap (λ (made : Contents). record made { elements = elements_at value numbers }) c.in_ok-request.ensures
-    ∙ ap (λ (mti : ℕ). record { mti = mti; elements = elements_at value numbers }) c.request_type-mti.ensures
-    ∙ ap (λ (k : TxKey). record { mti = k.base; elements = elements_at (request_value k c.act-act.result) numbers }) c.key-key.ensures.value
-    ∙ ap (λ (a : Act). record { mti = c.args.order.now.key.base; elements = elements_at (request_value c.args.order.now.key a) numbers }) c.act-act.ensures.value
+    ∙ ap (λ (made : Contents). record made { elements = elements_with_value value numbers }) c.in_ok-request.ensures
+    ∙ ap (λ (mti : ℕ). record { mti = mti; elements = elements_with_value value numbers }) c.request_type-mti.ensures
+    ∙ ap (λ (k : TxKey). record { mti = k.base; elements = elements_with_value (request_value k c.act-act.result) numbers }) c.key-key.ensures.value
+    ∙ ap (λ (a : Act). record { mti = c.args.order.now.key.base; elements = elements_with_value (request_value c.args.order.now.key a) numbers }) c.act-act.ensures.value
     ∙ sym (request-listed c.args.order.now)
 
 pub returns-clause-each : goal.returns-clause-each

@@ -1,5 +1,5 @@
 use Rattle.std.proofs.Common.{◌≡◌, ℕ, ◌+◌, ◌-◌, Some, take, drop, sym, ap, arith, ◌∙◌}
-use Rattle.iso_wire.specs.Bodies.{start_at, size_at}
+use Rattle.iso_wire.specs.Bodies.{start_at, body_size_at}
 use Rattle.iso_wire.proofs.Wires.{set_body, set_within, set_absent}
 use Rattle.iso_wire.proofs.bodies.body_of.Goals as goal
 
@@ -10,7 +10,7 @@ pub returns-then-has : goal.returns-then-has
 returns-then-has c =
     let bodies = c.args.bodies.now in
     let start = start_at bodies c.args.n in
-    let size = size_at bodies c.args.n in
+    let size = body_size_at bodies c.args.n in
     let whole : size ≡ start + size - start = omega arith in
     set_body c.args.numbers c.args.bytes.now bodies c.args.n c.has.ensures.numbers (sym c.has.ensures.has ∙ c.if-has.true) ∙ ap (λ (k : ℕ). Some (take k (drop start c.args.bytes.now))) whole
 

@@ -4,7 +4,7 @@ use Rattle.std.specs.List.{flat_map}
 use Rattle.iso_parts.specs.declared.bitmap.BitmapCoding.{BitmapCoding}
 use Rattle.iso_parts.specs.declared.prefix.Digits.{Digits}
 use Rattle.iso_parts.specs.Bits.{contains, PlainBitmaps}
-use Rattle.iso_parts.specs.Mti.{number}
+use Rattle.iso_parts.specs.Mti.{mti_number}
 use Rattle.iso_wire.specs.Spelling.{mti_bytes, Parts, plain_of}
 use Rattle.iso_wire.proofs.Orders.{Values}
 use Rattle.iso_wire.proofs.Packs.{plain_spelling_lem, three_pieces, kept_behind}
@@ -18,7 +18,7 @@ returns-clause-packed c =
     let f = plain_of t.rows in
     let set = contains c.elements-numbers.result in
     let maps = c.in_ok-append.ensures.ok.0 in
-    let same : number mti ≡ m.mti = c.mti-mti.ensures in
+    let same : mti_number mti ≡ m.mti = c.mti-mti.ensures in
     let small : m.mti < 10000 = omega (arith, same, mti.version_digit, mti.class_digit, mti.function_digit, mti.origin_digit) in
     let version : m.mti / 1000 ≡ t.version = omega (arith, same, mti.version_digit, mti.class_digit, mti.function_digit, mti.origin_digit, c.if-mti-version.false, c.version.ensures.version) in
     let plain : PlainBitmaps t.bitmap set maps = subst (λ (k : BitmapCoding). PlainBitmaps k set maps) c.bitmap.ensures c.in_ok-append.ensures.ok.1 in

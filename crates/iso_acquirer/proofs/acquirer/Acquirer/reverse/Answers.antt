@@ -4,7 +4,7 @@ use Rattle.iso_order.specs.Order.{Instruction}
 use Rattle.iso_acquirer.specs.declared.slot.Role.{Role}
 use Rattle.iso_acquirer.specs.declared.slot.Role.TheVariants.{Transaction, Reversal}
 use Rattle.iso_acquirer.specs.declared.slot.Stage.TheVariants.{Undoing}
-use Rattle.iso_acquirer.specs.Slots.{Party, slot_at, reversal_for, on_stage, to_reverse, slots_at_stage, reversing, reversal_of}
+use Rattle.iso_acquirer.specs.Slots.{Party, slot_at, reversal_for, on_stage, to_reverse, slots_at_stage, reversing, next_reversal}
 use Rattle.iso_acquirer.proofs.Kept.{kept-reversing, open-counted, request-found}
 use Rattle.iso_acquirer.proofs.Numbered.{length-changed}
 use Rattle.iso_acquirer.proofs.acquirer.Acquirer.reverse.Goals as goal
@@ -36,7 +36,7 @@ invariant_of-self c =
     let stan = c.args.slot.now.order.key.stan in
     let u = c.reversal-undo.result in
     let many : length slots ≡ c.len-used.result = sym c.self.inside.slots.ok.0 ∙ sym c.len-used.ensures in
-    let undo : c.reversal-undo.result ≡ reversal_of slots c.args.slot.now.order = c.reversal-undo.ensures slots many in
+    let undo : c.reversal-undo.result ≡ next_reversal slots c.args.slot.now.order = c.reversal-undo.ensures slots many in
     let put : c.put.new.slots ≡ slots_at_stage (λ _. Undoing c.reversal-undo.result) c.args.slot.now.order.key.stan slots =
     c.put.ensures (λ _. Undoing c.reversal-undo.result) (on_transaction c.args.slot.now.role c.reversal-undo.result c.requires.asked)
     ∙ ap (slots_at_stage (λ _. Undoing c.reversal-undo.result) c.args.slot.now.order.key.stan) c.deref_mut.ensures.value in

@@ -7,7 +7,7 @@ use Rattle.iso_issuer.specs.declared.account.Account.{Account}
 use Rattle.iso_issuer.specs.declared.balances.Balance.{Balance}
 use Rattle.iso_issuer.specs.Account.{account_of}
 use Rattle.iso_issuer.specs.Balances.{accounts_of, balance_with, balance_after, IsNear}
-use Rattle.iso_issuer.specs.Index.{row_of}
+use Rattle.iso_issuer.specs.Index.{account_place}
 use Rattle.iso_issuer.proofs.Places.{place-below, found-none}
 use Rattle.iso_issuer.proofs.Changes.{posted-at, posted-none, accounts-posted}
 use Rattle.iso_issuer.proofs.balances.Balances.post.Goals as goal
@@ -15,15 +15,15 @@ use Rattle.iso_issuer.proofs.balances.Balances.post.Goals as goal
 pub index-requires : goal.index-requires
 index-requires c =
     let rows = c.self.inside.rows.items in
-    let told : c.args.place ≡ row_of (accounts_of rows) c.args.change.pan = rw c.self.view_is c.requires.place in
-    let at : row_of (accounts_of rows) c.args.change.pan ≡ Some c.in-Some.place = sym told ∙ c.in-Some.is in
+    let told : c.args.place ≡ account_place (accounts_of rows) c.args.change.pan = rw c.self.view_is c.requires.place in
+    let at : account_place (accounts_of rows) c.args.change.pan ≡ Some c.in-Some.place = sym told ∙ c.in-Some.is in
     omega (arith, place-below (λ (a : Account). same_pan a.pan c.args.change.pan) 0 (accounts_of rows) c.in-Some.place at, length-map rows (λ (b : Balance). b.account))
 
 pub changed-requires : goal.changed-requires
 changed-requires c =
     let rows = c.self.inside.rows.items in
-    let told : c.args.place ≡ row_of (accounts_of rows) c.args.change.pan = rw c.self.view_is c.requires.place in
-    let at : row_of (accounts_of rows) c.args.change.pan ≡ Some c.in-Some.place = sym told ∙ c.in-Some.is in
+    let told : c.args.place ≡ account_place (accounts_of rows) c.args.change.pan = rw c.self.view_is c.requires.place in
+    let at : account_place (accounts_of rows) c.args.change.pan ≡ Some c.in-Some.place = sym told ∙ c.in-Some.is in
     let below : c.in-Some.place < length rows =
     omega (arith, place-below (λ (a : Account). same_pan a.pan c.args.change.pan) 0 (accounts_of rows) c.in-Some.place at, length-map rows (λ (b : Balance). b.account)) in
     let near : All (IsNear 2999999) rows = rw c.self.view_is c.requires.near in
@@ -32,15 +32,15 @@ changed-requires c =
 pub index_mut-requires : goal.index_mut-requires
 index_mut-requires c =
     let rows = c.self.inside.rows.items in
-    let told : c.args.place ≡ row_of (accounts_of rows) c.args.change.pan = rw c.self.view_is c.requires.place in
-    let at : row_of (accounts_of rows) c.args.change.pan ≡ Some c.in-Some.place = sym told ∙ c.in-Some.is in
+    let told : c.args.place ≡ account_place (accounts_of rows) c.args.change.pan = rw c.self.view_is c.requires.place in
+    let at : account_place (accounts_of rows) c.args.change.pan ≡ Some c.in-Some.place = sym told ∙ c.in-Some.is in
     omega (arith, place-below (λ (a : Account). same_pan a.pan c.args.change.pan) 0 (accounts_of rows) c.in-Some.place at, length-map rows (λ (b : Balance). b.account))
 
 pub invariant_of-self : goal.invariant_of-self
 invariant_of-self c =
     let rows = c.self.inside.rows.items in
-    let told : c.args.place ≡ row_of (accounts_of rows) c.args.change.pan = rw c.self.view_is c.requires.place in
-    let at : row_of (accounts_of rows) c.args.change.pan ≡ Some c.in-Some.place = sym told ∙ c.in-Some.is in
+    let told : c.args.place ≡ account_place (accounts_of rows) c.args.change.pan = rw c.self.view_is c.requires.place in
+    let at : account_place (accounts_of rows) c.args.change.pan ≡ Some c.in-Some.place = sym told ∙ c.in-Some.is in
     let value : c.changed.result ≡ balance_with c.args.change (get_or rows c.in-Some.place c.index.result.now) = c.changed.ensures ∙ ap (balance_with c.args.change) c.index.ensures in
     let written : set rows c.in-Some.place c.changed.result ≡ map (balance_after c.args.change) rows =
     ap (set rows c.in-Some.place) value ∙ posted-at c.args.change rows c.index.result.now c.in-Some.place c.self.invariant.1 at in
@@ -49,8 +49,8 @@ invariant_of-self c =
 pub returns-in-Some : goal.returns-in-Some
 returns-in-Some c =
     let rows = c.self.inside.rows.items in
-    let told : c.args.place ≡ row_of (accounts_of rows) c.args.change.pan = rw c.self.view_is c.requires.place in
-    let at : row_of (accounts_of rows) c.args.change.pan ≡ Some c.in-Some.place = sym told ∙ c.in-Some.is in
+    let told : c.args.place ≡ account_place (accounts_of rows) c.args.change.pan = rw c.self.view_is c.requires.place in
+    let at : account_place (accounts_of rows) c.args.change.pan ≡ Some c.in-Some.place = sym told ∙ c.in-Some.is in
     let value : c.changed.result ≡ balance_with c.args.change (get_or rows c.in-Some.place c.index.result.now) = c.changed.ensures ∙ ap (balance_with c.args.change) c.index.ensures in
     rw (← c.self.view_is)
     (ap (set rows c.in-Some.place) value ∙ posted-at c.args.change rows c.index.result.now c.in-Some.place c.self.invariant.1 at)
@@ -58,7 +58,7 @@ returns-in-Some c =
 pub returns-in_default : goal.returns-in_default
 returns-in_default c =
     let rows = c.self.inside.rows.items in
-    let told : c.args.place ≡ row_of (accounts_of rows) c.args.change.pan = rw c.self.view_is c.requires.place in
-    let at : row_of (accounts_of rows) c.args.change.pan ≡ None = sym told ∙ c.in_default.is in
+    let told : c.args.place ≡ account_place (accounts_of rows) c.args.change.pan = rw c.self.view_is c.requires.place in
+    let at : account_place (accounts_of rows) c.args.change.pan ≡ None = sym told ∙ c.in_default.is in
     let none : account_of (accounts_of rows) c.args.change.pan ≡ None = found-none (λ (a : Account). same_pan a.pan c.args.change.pan) 0 (accounts_of rows) at in
     rw (← c.self.view_is) (sym (posted-none c.args.change rows none))

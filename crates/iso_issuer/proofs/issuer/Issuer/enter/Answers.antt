@@ -7,7 +7,7 @@ use Rattle.iso_issuer.specs.declared.journal.Entry.{Entry}
 use Rattle.iso_issuer.specs.Journal.{entry_at, reversed_by, released_by}
 use Rattle.iso_issuer.specs.Decision.{new_answer}
 use Rattle.iso_issuer.specs.Balances.{accounts_of, IsNear}
-use Rattle.iso_issuer.specs.Index.{row_of}
+use Rattle.iso_issuer.specs.Index.{account_place}
 use Rattle.iso_issuer.specs.Books.{Books}
 use Rattle.iso_issuer.proofs.Entries.{entered-found, kept-push}
 use Rattle.iso_issuer.proofs.Documents.{is_none-of}
@@ -25,7 +25,7 @@ enter-requires-clause-new c =
 pub settle-requires-clause-place : goal.settle-requires-clause-place
 settle-requires-clause-place c = λ f told.
     let e = effect-money c.args.order.key c.args.order.act f told in
-    c.place_in.ensures ∙ c.row_for-row.ensures.place e.0 e.1 ∙ ap (row_of (accounts_of c.self.inside.balances)) e.2
+    c.place_in.ensures ∙ c.row_for-row.ensures.place e.0 e.1 ∙ ap (account_place (accounts_of c.self.inside.balances)) e.2
 
 pub settle-requires-clause-found : goal.settle-requires-clause-found
 settle-requires-clause-found c =

@@ -4,7 +4,7 @@ use Rattle.std.specs.Ordering.{nat_cmp}
 use Rattle.std.specs.BTreeMap as tree
 use Rattle.std.proofs.lemmas.Grind.{common_steps}
 use Rattle.iso_issuer.specs.declared.journal.Entry.{Entry}
-use Rattle.iso_issuer.specs.Index.{dropped_by, entries_from, IsIndexOf, count_at, mark_at}
+use Rattle.iso_issuer.specs.Index.{dropped_by, entries_from, IsIndexOf, hold_count, mark_at}
 use Rattle.iso_issuer.proofs.ByKey.{place_of-none}
 use Rattle.iso_issuer.proofs.Counts.{few-counted, counted-dropped}
 use Rattle.iso_issuer.proofs.Stored.{entries-same, stored-alike, alike-self, taken-back, length-entries, index-entered, stored-entered, entries-entered, on-err, IsPut}
@@ -67,8 +67,8 @@ invariant_of-self-in-Ok c =
     (count ∙ sym (length-entries 0 os cs i.shown c.self.invariant.coded)) c.in-Ok.ensures.places c.in-Ok.ensures.lefts
     (λ q pan.
     c.in-Ok.ensures.counts q pan
-    ∙ ap (λ h. count_at i.index.counts q pan - mark_at h q pan + mark_at c.added_by-added.result q pan) (c.dropped_by-dropped.ensures es (rw c.self.view_is c.requires.found.reversed))
-    ∙ ap (λ h. count_at i.index.counts q pan - mark_at (dropped_by es c.args.order.act) q pan + mark_at h q pan) (c.added_by-added.ensures es (rw c.self.view_is c.requires.found.own))) in
+    ∙ ap (λ h. hold_count i.index.counts q pan - mark_at h q pan + mark_at c.added_by-added.result q pan) (c.dropped_by-dropped.ensures es (rw c.self.view_is c.requires.found.reversed))
+    ∙ ap (λ h. hold_count i.index.counts q pan - mark_at (dropped_by es c.args.order.act) q pan + mark_at h q pan) (c.added_by-added.ensures es (rw c.self.view_is c.requires.found.own))) in
     let entries : length es ≡ length os = length-entries 0 os cs i.shown c.self.invariant.coded in
     let few : length es < 999999 = rw c.self.view_is c.requires.few in
     let below : length os < 999999 = omega (arith, few, entries) in

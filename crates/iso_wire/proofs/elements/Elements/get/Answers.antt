@@ -1,7 +1,7 @@
 use Rattle.std.proofs.Common.{◌≡◌, ◌≤◌, true, length, get_or, take, refl, sym, ap, ◌∙◌, arith, rules}
 use Rattle.std.proofs.lemmas.List.{get_or_default}
 use Rattle.iso_parts.specs.Bits.{contains}
-use Rattle.iso_wire.specs.Ends.{end_of}
+use Rattle.iso_wire.specs.Ends.{last_end}
 use Rattle.iso_wire.proofs.Changes.{fits, there, own, own_within, value_there}
 use Rattle.iso_wire.proofs.elements.Elements.get.Goals as goal
 
@@ -12,7 +12,7 @@ start_of-start-requires c =
     let is : contains x.numbers n ≡ true = sym c.has.ensures.has ∙ c.if-not-has.false in
     let range = c.has.ensures.numbers n is in
     let at = c.count_below-at.result in
-    rw c.deref.ensures.value (fits x c.requires.whole n range.0 range.1 at (end_of 0 (take at x.ends.items)) c.count_below-at.ensures refl)
+    rw c.deref.ensures.value (fits x c.requires.whole n range.0 range.1 at (last_end 0 (take at x.ends.items)) c.count_below-at.ensures refl)
 
 pub index-requires : goal.index-requires
 index-requires c =
@@ -21,7 +21,7 @@ index-requires c =
     let is : contains x.numbers n ≡ true = sym c.has.ensures.has ∙ c.if-not-has.false in
     let range = c.has.ensures.numbers n is in
     let at = c.count_below-at.result in
-    let begins = c.start_of-start.ensures ∙ ap (λ l. end_of 0 (take at l)) c.deref.ensures.value in
+    let begins = c.start_of-start.ensures ∙ ap (λ l. last_end 0 (take at l)) c.deref.ensures.value in
     let start = c.start_of-start.result in
     let within = there x c.requires.whole n range.0 range.1 at start c.count_below-at.ensures begins is in
     omega (arith, within, c.deref.ensures.len, ap length c.deref.ensures.value)
@@ -33,7 +33,7 @@ slice_bounds-result-count c =
     let is : contains x.numbers n ≡ true = sym c.has.ensures.has ∙ c.if-not-has.false in
     let range = c.has.ensures.numbers n is in
     let at = c.count_below-at.result in
-    let begins = c.start_of-start.ensures ∙ ap (λ l. end_of 0 (take at l)) c.deref.ensures.value in
+    let begins = c.start_of-start.ensures ∙ ap (λ l. last_end 0 (take at l)) c.deref.ensures.value in
     let start = c.start_of-start.result in
     let within = there x c.requires.whole n range.0 range.1 at start c.count_below-at.ensures begins is in
     let read : c.index.result.now ≡ get_or x.ends.items at 0 = c.index.ensures ∙ get_or_default x.ends.items at c.index.result.now 0 within in
@@ -48,7 +48,7 @@ slice_bounds-result-start c =
     let is : contains x.numbers n ≡ true = sym c.has.ensures.has ∙ c.if-not-has.false in
     let range = c.has.ensures.numbers n is in
     let at = c.count_below-at.result in
-    let begins = c.start_of-start.ensures ∙ ap (λ l. end_of 0 (take at l)) c.deref.ensures.value in
+    let begins = c.start_of-start.ensures ∙ ap (λ l. last_end 0 (take at l)) c.deref.ensures.value in
     let start = c.start_of-start.result in
     let within = there x c.requires.whole n range.0 range.1 at start c.count_below-at.ensures begins is in
     let read : c.index.result.now ≡ get_or x.ends.items at 0 = c.index.ensures ∙ get_or_default x.ends.items at c.index.result.now 0 within in
@@ -63,7 +63,7 @@ slice_bounds-result-end c =
     let is : contains x.numbers n ≡ true = sym c.has.ensures.has ∙ c.if-not-has.false in
     let range = c.has.ensures.numbers n is in
     let at = c.count_below-at.result in
-    let begins = c.start_of-start.ensures ∙ ap (λ l. end_of 0 (take at l)) c.deref.ensures.value in
+    let begins = c.start_of-start.ensures ∙ ap (λ l. last_end 0 (take at l)) c.deref.ensures.value in
     let start = c.start_of-start.result in
     let within = there x c.requires.whole n range.0 range.1 at start c.count_below-at.ensures begins is in
     let read : c.index.result.now ≡ get_or x.ends.items at 0 = c.index.ensures ∙ get_or_default x.ends.items at c.index.result.now 0 within in
@@ -80,7 +80,7 @@ returns c =
     let is : contains x.numbers n ≡ true = sym c.has.ensures.has ∙ c.if-not-has.false in
     let range = c.has.ensures.numbers n is in
     let at = c.count_below-at.result in
-    let begins = c.start_of-start.ensures ∙ ap (λ l. end_of 0 (take at l)) c.deref.ensures.value in
+    let begins = c.start_of-start.ensures ∙ ap (λ l. last_end 0 (take at l)) c.deref.ensures.value in
     let start = c.start_of-start.result in
     let within = there x c.requires.whole n range.0 range.1 at start c.count_below-at.ensures begins is in
     let read : c.index.result.now ≡ get_or x.ends.items at 0 = c.index.ensures ∙ get_or_default x.ends.items at c.index.result.now 0 within in

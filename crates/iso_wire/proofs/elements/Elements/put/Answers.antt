@@ -3,7 +3,7 @@ use Rattle.std.proofs.lemmas.List.{get_or_default}
 use Rattle.std.proofs.lemmas.Result.{on_ok_weaker}
 use Rattle.iso_parts.specs.Bits.{contains}
 use Rattle.iso_wire.specs.Elements.{has}
-use Rattle.iso_wire.specs.Ends.{end_of, views}
+use Rattle.iso_wire.specs.Ends.{last_end, views}
 use Rattle.iso_wire.proofs.Orders.{IsAscending-one}
 use Rattle.iso_wire.proofs.Numbered.{numbered_put, numbered_replaced, by_result}
 use Rattle.iso_wire.proofs.Changes.{fits, within, back, there, own, own_within, from_own, inserted, inserted_whole, replaced, replaced_whole, either_end, on_ok_two, whole_same, numbered_same}
@@ -17,7 +17,7 @@ start_of-start-requires c =
     let good = IsAscending-one n c.args.value.now c.requires.number in
     let at = c.count_below-at.result in
     let placed = c.count_below-at.ensures in
-    rw c.deref.ensures.value (fits x whole n good.0 good.1 at (end_of 0 (take at x.ends.items)) placed refl)
+    rw c.deref.ensures.value (fits x whole n good.0 good.1 at (last_end 0 (take at x.ends.items)) placed refl)
 
 pub index-requires : goal.index-requires
 index-requires c =
@@ -28,7 +28,7 @@ index-requires c =
     let at = c.count_below-at.result in
     let placed = c.count_below-at.ensures in
     let start = c.start_of-start.result in
-    let begins = c.start_of-start.ensures ∙ ap (λ l. end_of 0 (take at l)) c.deref.ensures.value in
+    let begins = c.start_of-start.ensures ∙ ap (λ l. last_end 0 (take at l)) c.deref.ensures.value in
     let is : contains x.numbers n ≡ true = sym c.has.ensures.has ∙ c.if-has.true in
     let lt = there x whole n good.0 good.1 at start placed begins is in
     omega (arith, lt, c.deref.ensures.len, ap length c.deref.ensures.value)
@@ -42,7 +42,7 @@ overflow_sub-len c =
     let at = c.count_below-at.result in
     let placed = c.count_below-at.ensures in
     let start = c.start_of-start.result in
-    let begins = c.start_of-start.ensures ∙ ap (λ l. end_of 0 (take at l)) c.deref.ensures.value in
+    let begins = c.start_of-start.ensures ∙ ap (λ l. last_end 0 (take at l)) c.deref.ensures.value in
     let is : contains x.numbers n ≡ true = sym c.has.ensures.has ∙ c.if-has.true in
     let lt = there x whole n good.0 good.1 at start placed begins is in
     let read : c.index.result.now ≡ get_or x.ends.items at 0 = c.index.ensures ∙ get_or_default x.ends.items at c.index.result.now 0 lt in
@@ -58,7 +58,7 @@ replace-requires-clause-place c =
     let at = c.count_below-at.result in
     let placed = c.count_below-at.ensures in
     let start = c.start_of-start.result in
-    let begins = c.start_of-start.ensures ∙ ap (λ l. end_of 0 (take at l)) c.deref.ensures.value in
+    let begins = c.start_of-start.ensures ∙ ap (λ l. last_end 0 (take at l)) c.deref.ensures.value in
     fits x whole n good.0 good.1 at start placed begins
 
 pub replace-requires-clause-within : goal.replace-requires-clause-within
@@ -70,7 +70,7 @@ replace-requires-clause-within c =
     let at = c.count_below-at.result in
     let placed = c.count_below-at.ensures in
     let start = c.start_of-start.result in
-    let begins = c.start_of-start.ensures ∙ ap (λ l. end_of 0 (take at l)) c.deref.ensures.value in
+    let begins = c.start_of-start.ensures ∙ ap (λ l. last_end 0 (take at l)) c.deref.ensures.value in
     let is : contains x.numbers n ≡ true = sym c.has.ensures.has ∙ c.if-has.true in
     let lt = there x whole n good.0 good.1 at start placed begins is in
     let read : c.index.result.now ≡ get_or x.ends.items at 0 = c.index.ensures ∙ get_or_default x.ends.items at c.index.result.now 0 lt in
@@ -87,7 +87,7 @@ replace-requires-clause-ends c =
     let at = c.count_below-at.result in
     let placed = c.count_below-at.ensures in
     let start = c.start_of-start.result in
-    let begins = c.start_of-start.ensures ∙ ap (λ l. end_of 0 (take at l)) c.deref.ensures.value in
+    let begins = c.start_of-start.ensures ∙ ap (λ l. last_end 0 (take at l)) c.deref.ensures.value in
     let is : contains x.numbers n ≡ true = sym c.has.ensures.has ∙ c.if-has.true in
     let lt = there x whole n good.0 good.1 at start placed begins is in
     let read : c.index.result.now ≡ get_or x.ends.items at 0 = c.index.ensures ∙ get_or_default x.ends.items at c.index.result.now 0 lt in
@@ -105,7 +105,7 @@ insert-requires-clause-place c =
     let at = c.count_below-at.result in
     let placed = c.count_below-at.ensures in
     let start = c.start_of-start.result in
-    let begins = c.start_of-start.ensures ∙ ap (λ l. end_of 0 (take at l)) c.deref.ensures.value in
+    let begins = c.start_of-start.ensures ∙ ap (λ l. last_end 0 (take at l)) c.deref.ensures.value in
     fits x whole n good.0 good.1 at start placed begins
 
 pub insert-requires-clause-within : goal.insert-requires-clause-within
@@ -117,7 +117,7 @@ insert-requires-clause-within c =
     let at = c.count_below-at.result in
     let placed = c.count_below-at.ensures in
     let start = c.start_of-start.result in
-    let begins = c.start_of-start.ensures ∙ ap (λ l. end_of 0 (take at l)) c.deref.ensures.value in
+    let begins = c.start_of-start.ensures ∙ ap (λ l. last_end 0 (take at l)) c.deref.ensures.value in
     within x whole n good.0 good.1 at start placed begins
 
 pub insert-requires-clause-ends : goal.insert-requires-clause-ends
@@ -129,7 +129,7 @@ insert-requires-clause-ends c =
     let at = c.count_below-at.result in
     let placed = c.count_below-at.ensures in
     let start = c.start_of-start.result in
-    let begins = c.start_of-start.ensures ∙ ap (λ l. end_of 0 (take at l)) c.deref.ensures.value in
+    let begins = c.start_of-start.ensures ∙ ap (λ l. last_end 0 (take at l)) c.deref.ensures.value in
     back x whole n good.0 good.1 at start placed begins
 
 pub returns-then-has-clause-ok : goal.returns-then-has-clause-ok
@@ -141,7 +141,7 @@ returns-then-has-clause-ok c =
     let at = c.count_below-at.result in
     let placed = c.count_below-at.ensures in
     let start = c.start_of-start.result in
-    let begins = c.start_of-start.ensures ∙ ap (λ l. end_of 0 (take at l)) c.deref.ensures.value in
+    let begins = c.start_of-start.ensures ∙ ap (λ l. last_end 0 (take at l)) c.deref.ensures.value in
     let is : contains x.numbers n ≡ true = sym c.has.ensures.has ∙ c.if-has.true in
     let lt = there x whole n good.0 good.1 at start placed begins is in
     let read : c.index.result.now ≡ get_or x.ends.items at 0 = c.index.ensures ∙ get_or_default x.ends.items at c.index.result.now 0 lt in
@@ -160,7 +160,7 @@ returns-then-has-clause-whole c =
     let at = c.count_below-at.result in
     let placed = c.count_below-at.ensures in
     let start = c.start_of-start.result in
-    let begins = c.start_of-start.ensures ∙ ap (λ l. end_of 0 (take at l)) c.deref.ensures.value in
+    let begins = c.start_of-start.ensures ∙ ap (λ l. last_end 0 (take at l)) c.deref.ensures.value in
     let is : contains x.numbers n ≡ true = sym c.has.ensures.has ∙ c.if-has.true in
     let lt = there x whole n good.0 good.1 at start placed begins is in
     let read : c.index.result.now ≡ get_or x.ends.items at 0 = c.index.ensures ∙ get_or_default x.ends.items at c.index.result.now 0 lt in
@@ -179,7 +179,7 @@ returns-then-has-clause-numbered c =
     let at = c.count_below-at.result in
     let placed = c.count_below-at.ensures in
     let start = c.start_of-start.result in
-    let begins = c.start_of-start.ensures ∙ ap (λ l. end_of 0 (take at l)) c.deref.ensures.value in
+    let begins = c.start_of-start.ensures ∙ ap (λ l. last_end 0 (take at l)) c.deref.ensures.value in
     let is : contains x.numbers n ≡ true = sym c.has.ensures.has ∙ c.if-has.true in
     let lt = there x whole n good.0 good.1 at start placed begins is in
     let read : c.index.result.now ≡ get_or x.ends.items at 0 = c.index.ensures ∙ get_or_default x.ends.items at c.index.result.now 0 lt in
@@ -201,7 +201,7 @@ returns-else-has-clause-ok c =
     let at = c.count_below-at.result in
     let placed = c.count_below-at.ensures in
     let start = c.start_of-start.result in
-    let begins = c.start_of-start.ensures ∙ ap (λ l. end_of 0 (take at l)) c.deref.ensures.value in
+    let begins = c.start_of-start.ensures ∙ ap (λ l. last_end 0 (take at l)) c.deref.ensures.value in
     let none : contains x.numbers n ≡ false = sym c.has.ensures.has ∙ c.if-has.false in
     let v = c.args.value.now in
     on_ok_two c.insert.result c.insert.ensures.ok c.insert.ensures.numbers (λ made adds. inserted x whole n good.0 good.1 at start placed begins none c.insert.new.self v adds made)
@@ -215,7 +215,7 @@ returns-else-has-clause-whole c =
     let at = c.count_below-at.result in
     let placed = c.count_below-at.ensures in
     let start = c.start_of-start.result in
-    let begins = c.start_of-start.ensures ∙ ap (λ l. end_of 0 (take at l)) c.deref.ensures.value in
+    let begins = c.start_of-start.ensures ∙ ap (λ l. last_end 0 (take at l)) c.deref.ensures.value in
     let none : contains x.numbers n ≡ false = sym c.has.ensures.has ∙ c.if-has.false in
     let v = c.args.value.now in
     by_result c.insert.result c.insert.ensures.ok c.insert.ensures.numbers c.insert.ensures.err c.insert.ensures.err (λ made adds. inserted_whole x whole n good.0 good.1 at start placed begins none c.insert.new.self v adds made) (λ same _. whole_same x c.insert.new.self same whole)
@@ -229,7 +229,7 @@ returns-else-has-clause-numbered c =
     let at = c.count_below-at.result in
     let placed = c.count_below-at.ensures in
     let start = c.start_of-start.result in
-    let begins = c.start_of-start.ensures ∙ ap (λ l. end_of 0 (take at l)) c.deref.ensures.value in
+    let begins = c.start_of-start.ensures ∙ ap (λ l. last_end 0 (take at l)) c.deref.ensures.value in
     let none : contains x.numbers n ≡ false = sym c.has.ensures.has ∙ c.if-has.false in
     let v = c.args.value.now in
     by_result c.insert.result c.insert.ensures.ok c.insert.ensures.numbers c.insert.ensures.err c.insert.ensures.err

@@ -4,7 +4,7 @@ use Rattle.std.proofs.lemmas.List.{get_or_default, take_at, drop_at, length-take
 use Rattle.iso_parts.specs.Bits.{contains}
 use Rattle.iso_wire.specs.declared.elements.Elements.{Elements}
 use Rattle.iso_wire.specs.Elements.{has}
-use Rattle.iso_wire.specs.Ends.{end_of, shifted_end, views, IsMadeOf}
+use Rattle.iso_wire.specs.Ends.{last_end, shifted_end, views, IsMadeOf}
 use Rattle.iso_wire.proofs.Buffers.{moves_fit}
 use Rattle.iso_wire.proofs.Numbered.{numbered_without, without_absent}
 use Rattle.iso_wire.proofs.Changes.{fits, there, own, own_within, removed, removed_whole}
@@ -24,7 +24,7 @@ start_of-start-requires c =
     let good = c.has.ensures.numbers n is in
     let at = c.count_below-at.result in
     let placed = c.count_below-at.ensures in
-    rw c.deref.ensures.value (fits x whole n good.0 good.1 at (end_of 0 (take at x.ends.items)) placed refl)
+    rw c.deref.ensures.value (fits x whole n good.0 good.1 at (last_end 0 (take at x.ends.items)) placed refl)
 
 pub remove-requires : goal.remove-requires
 remove-requires c =
@@ -36,7 +36,7 @@ remove-requires c =
     let at = c.count_below-at.result in
     let placed = c.count_below-at.ensures in
     let start = c.start_of-start.result in
-    let begins = c.start_of-start.ensures ∙ ap (λ l. end_of 0 (take at l)) c.deref.ensures.value in
+    let begins = c.start_of-start.ensures ∙ ap (λ l. last_end 0 (take at l)) c.deref.ensures.value in
     let lt = there x whole n good.0 good.1 at start placed begins is in
     omega (arith, lt, c.deref.ensures.len, ap length c.deref.ensures.value)
 
@@ -50,7 +50,7 @@ overflow_sub-len c =
     let at = c.count_below-at.result in
     let placed = c.count_below-at.ensures in
     let start = c.start_of-start.result in
-    let begins = c.start_of-start.ensures ∙ ap (λ l. end_of 0 (take at l)) c.deref.ensures.value in
+    let begins = c.start_of-start.ensures ∙ ap (λ l. last_end 0 (take at l)) c.deref.ensures.value in
     let lt = there x whole n good.0 good.1 at start placed begins is in
     let read : c.remove.result ≡ get_or x.ends.items at 0 = c.remove.ensures.value ∙ get_or_default x.ends.items at c.remove.result 0 lt in
     let ordered = own x whole n good.0 good.1 at start placed begins is in
@@ -67,7 +67,7 @@ cut-requires c =
     let at = c.count_below-at.result in
     let placed = c.count_below-at.ensures in
     let start = c.start_of-start.result in
-    let begins = c.start_of-start.ensures ∙ ap (λ l. end_of 0 (take at l)) c.deref.ensures.value in
+    let begins = c.start_of-start.ensures ∙ ap (λ l. last_end 0 (take at l)) c.deref.ensures.value in
     let lt = there x whole n good.0 good.1 at start placed begins is in
     let read : c.remove.result ≡ get_or x.ends.items at 0 = c.remove.ensures.value ∙ get_or_default x.ends.items at c.remove.result 0 lt in
     let ordered = own x whole n good.0 good.1 at start placed begins is in
@@ -84,7 +84,7 @@ move_later-requires-clause-fits c =
     let at = c.count_below-at.result in
     let placed = c.count_below-at.ensures in
     let start = c.start_of-start.result in
-    let begins = c.start_of-start.ensures ∙ ap (λ l. end_of 0 (take at l)) c.deref.ensures.value in
+    let begins = c.start_of-start.ensures ∙ ap (λ l. last_end 0 (take at l)) c.deref.ensures.value in
     let lt = there x whole n good.0 good.1 at start placed begins is in
     let read : c.remove.result ≡ get_or x.ends.items at 0 = c.remove.ensures.value ∙ get_or_default x.ends.items at c.remove.result 0 lt in
     let ordered = own x whole n good.0 good.1 at start placed begins is in
@@ -109,7 +109,7 @@ returns-clause-left c =
     let at = c.count_below-at.result in
     let placed = c.count_below-at.ensures in
     let start = c.start_of-start.result in
-    let begins = c.start_of-start.ensures ∙ ap (λ l. end_of 0 (take at l)) c.deref.ensures.value in
+    let begins = c.start_of-start.ensures ∙ ap (λ l. last_end 0 (take at l)) c.deref.ensures.value in
     let lt = there x whole n good.0 good.1 at start placed begins is in
     let read : c.remove.result ≡ get_or x.ends.items at 0 = c.remove.ensures.value ∙ get_or_default x.ends.items at c.remove.result 0 lt in
     let ordered = own x whole n good.0 good.1 at start placed begins is in
@@ -140,7 +140,7 @@ returns-clause-whole c =
     let at = c.count_below-at.result in
     let placed = c.count_below-at.ensures in
     let start = c.start_of-start.result in
-    let begins = c.start_of-start.ensures ∙ ap (λ l. end_of 0 (take at l)) c.deref.ensures.value in
+    let begins = c.start_of-start.ensures ∙ ap (λ l. last_end 0 (take at l)) c.deref.ensures.value in
     let lt = there x whole n good.0 good.1 at start placed begins is in
     let read : c.remove.result ≡ get_or x.ends.items at 0 = c.remove.ensures.value ∙ get_or_default x.ends.items at c.remove.result 0 lt in
     let ordered = own x whole n good.0 good.1 at start placed begins is in
@@ -171,7 +171,7 @@ returns-clause-numbered c =
     let at = c.count_below-at.result in
     let placed = c.count_below-at.ensures in
     let start = c.start_of-start.result in
-    let begins = c.start_of-start.ensures ∙ ap (λ l. end_of 0 (take at l)) c.deref.ensures.value in
+    let begins = c.start_of-start.ensures ∙ ap (λ l. last_end 0 (take at l)) c.deref.ensures.value in
     let lt = there x whole n good.0 good.1 at start placed begins is in
     let read : c.remove.result ≡ get_or x.ends.items at 0 = c.remove.ensures.value ∙ get_or_default x.ends.items at c.remove.result 0 lt in
     let ordered = own x whole n good.0 good.1 at start placed begins is in

@@ -3,7 +3,7 @@ use Rattle.serde_json.specs.View.{view}
 use Rattle.serde_json.specs.declared.value.Value.{Value}
 use Rattle.iso_issuer.specs.Document.{listed_in}
 use Rattle.iso_issuer.proofs.Documents.{rows_more}
-use Rattle.iso_issuer.proofs.document.rows_in.Goals as goal
+use Rattle.iso_issuer.proofs.document.listed_rows.Goals as goal
 
 pub loop-value-preserved : goal.loop-value-preserved
 loop-value-preserved c =
