@@ -28,7 +28,7 @@ pub struct RumpadolSlot {
 }
 
 impl Model for RumpadolSlot {
-    ghost also_owns = { λ s. slot_at s.at s.value };
+    ghost also_owns = { λ s. slot_lies_at s.at s.value };
 }
 
 impl RumpadolSlot {

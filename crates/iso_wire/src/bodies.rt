@@ -110,7 +110,7 @@ impl<'a> Model for View<'a> {
 
     ghost Value = { Viewed };
 
-    ghost view = { λ v. record { mti = number v.mti; used = v.used; wires = wires_in v.bytes.now v.bodies (members v.numbers) } };
+    ghost view = { λ v. record { mti = mti_number v.mti; used = v.used; wires = wires_in v.bytes.now v.bodies (members v.numbers) } };
 
     ghost invariant = { λ v. AreWithin (length v.bytes.now) v.bodies (members v.numbers) };
 }

@@ -39,7 +39,7 @@ impl Model for Message {
     ghost use Rattle.iso_wire.specs.Elements.{IsAscending};
     ghost use Rattle.iso_wire.specs.Ends.{views, IsWhole, IsNumbered};
 
-    ghost view = { λ m. record { mti = number m.mti; elements = views m.elements } };
+    ghost view = { λ m. record { mti = mti_number m.mti; elements = views m.elements } };
 
     ghost invariant = { λ m. IsWhole m.elements × IsAscending 2 (views m.elements) × IsNumbered m.elements };
 }
