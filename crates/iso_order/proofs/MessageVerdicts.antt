@@ -9,7 +9,7 @@ use Rattle.iso_order.specs.declared.act.Money.{Money}
 use Rattle.iso_order.specs.declared.key.TxKey.{TxKey}
 use Rattle.iso_order.specs.declared.verdict.Verdict.{Verdict}
 use Rattle.iso_order.specs.declared.verdict.Verdict.TheVariants.{Order}
-use Rattle.iso_order.specs.Fields.{version, class, function, origin, asks, text, has_key, key_of, money_in, original_mti, is_original, is_own, original_of, completes, hold_of, is_replacement, left_of, kind}
+use Rattle.iso_order.specs.Fields.{version, class, function, origin, asks, text, has_key, key_of, message_money, original_mti, is_original, is_own, original_of, completes, hold_of, is_replacement, left_of, kind}
 use Rattle.iso_order.specs.Order.{is_currency}
 use Rattle.iso_order.specs.Text.{are_digits, number}
 use Rattle.iso_order.specs.Verdict.{first_of, network_lines, key_lines, reversal_lines, completion_lines, account_lines, act_lines, amount_lines, credit_verdict, order_verdict, debited_by, verdict}
@@ -58,7 +58,7 @@ pub record Paying (m : Contents) (k : TxKey) (money : Money) (code : ℕ) : Type
   pub coded : are_digits 6 6 (text m 3) ≡ true
   pub of_kind : kind m ≡ code
   pub currency : is_currency (text m 49) ≡ true
-  pub told : money_in m money.amount ≡ money
+  pub told : message_money m money.amount ≡ money
   -- no hold is named, or one that can be completed
   pub completing : (lines : List (Bool × Verdict)) (last : Verdict) → first_of (completion_lines m ++ lines) last ≡ first_of lines last
 
@@ -91,5 +91,5 @@ credit-verdict m k money p moving two plain =
 
 pub inquiry-verdict : (m : Contents) (k : TxKey) (money : Money) → Paying m k money 31 → (function m == 2) ≡ false → money.amount ≡ 0 → verdict m ≡ Order (record { key = k; act = Inquiry money })
 inquiry-verdict m k money p asking none =
-    let same : money_in m 0 ≡ money = ap (money_in m) (sym none) ∙ p.told in
+    let same : message_money m 0 ≡ money = ap (message_money m) (sym none) ∙ p.told in
     paying-verdict m k money 31 p ∙ rw (p.of_kind, asking, same, p.keyed.key) refl

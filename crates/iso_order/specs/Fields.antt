@@ -47,8 +47,8 @@ abbrev pub key_of : Contents → TxKey
 key_of m = record { base = base_of m.mti; stan = number (text m 11); sent = number (text m 7); acquirer = number (text m 32) }
 
 -- the money that it speaks of, but for the amount (elements 2, 49)
-abbrev pub money_in : Contents → ℕ → Money
-money_in m amount = record { pan = record { digits = number (text m 2); len = length (text m 2) }; amount = amount; currency = text m 49 }
+abbrev pub message_money : Contents → ℕ → Money
+message_money m amount = record { pan = record { digits = number (text m 2); len = length (text m 2) }; amount = amount; currency = text m 49 }
 
 -- ---- the transaction that a reversal names (element 90, original data elements)
 

@@ -7,7 +7,7 @@ use Rattle.iso_order.specs.declared.act.Money.{Money}
 use Rattle.iso_order.specs.declared.key.TxKey.{TxKey}
 use Rattle.iso_order.specs.declared.verdict.Verdict.{Verdict}
 use Rattle.iso_order.specs.declared.verdict.Verdict.TheVariants.{Order, Reply, Silent}
-use Rattle.iso_order.specs.Fields.{version, class, function, origin, asks, text, has_key, key_of, money_in, original_mti, is_original, is_own, original_of, completes, is_hold, hold_of, is_replacement, left_of, kind, is_debit, is_credit, is_inquiry}
+use Rattle.iso_order.specs.Fields.{version, class, function, origin, asks, text, has_key, key_of, message_money, original_mti, is_original, is_own, original_of, completes, is_hold, hold_of, is_replacement, left_of, kind, is_debit, is_credit, is_inquiry}
 use Rattle.iso_order.specs.Order.{Instruction, is_currency}
 use Rattle.iso_order.specs.Text.{are_digits, number}
 
@@ -75,7 +75,7 @@ abbrev pub act_lines : Contents → List (Bool × Verdict)
 act_lines m =
     (not (is_debit (kind m) || is_credit (kind m) || is_inquiry (kind m)), Reply 12)
     ∷ ((is_credit (kind m) && (class m == 1 || completes m)) || (is_inquiry (kind m) && function m == 2), Reply 12)
-    ∷ (is_inquiry (kind m), order_verdict m (Inquiry (money_in m 0)))
+    ∷ (is_inquiry (kind m), order_verdict m (Inquiry (message_money m 0)))
     ∷ []
 
 -- a debit, or the completion of a hold
@@ -88,12 +88,12 @@ abbrev pub amount_lines : Contents → List (Bool × Verdict)
 amount_lines m =
     (not (are_digits 12 12 (text m 4)), Reply 30)
     ∷ (number (text m 4) == 0, Reply 13)
-    ∷ (is_debit (kind m), order_verdict m (debited_by (money_in m (number (text m 4))) (hold_of m)))
+    ∷ (is_debit (kind m), order_verdict m (debited_by (message_money m (number (text m 4))) (hold_of m)))
     ∷ []
 
 -- the last line: a credit
 abbrev pub credit_verdict : Contents → Verdict
-credit_verdict m = order_verdict m (Credit (money_in m (number (text m 4))))
+credit_verdict m = order_verdict m (Credit (message_money m (number (text m 4))))
 
 -- the whole table
 unfoldable pub verdict : Contents → Verdict

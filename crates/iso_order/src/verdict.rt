@@ -4,7 +4,7 @@ ghost use Rattle.std.specs.Prelude.{◌≡◌, ◌==◌, ◌&&◌, ◌≤◌, �
 ghost use Rattle.std.specs.Prelude.{is_some, List, Bool, true, false, Some, None, IfSome, IsTrue};
 ghost use Rattle.iso_wire.specs.Elements.{has};
 ghost use Rattle.iso_order.specs.Fields.{version, class, function, origin, asks, key_of, is_original, kind, is_debit, is_credit};
-ghost use Rattle.iso_order.specs.Fields.{is_inquiry, money_in, part, is_replacement, left_of, completes, hold_of};
+ghost use Rattle.iso_order.specs.Fields.{is_inquiry, message_money, part, is_replacement, left_of, completes, hold_of};
 ghost use Rattle.iso_order.specs.Key.{class_digit, function_digit, is_valid_key};
 ghost use Rattle.iso_order.specs.Order.{is_valid, is_hold_for, is_account, is_currency, is_payment};
 ghost use Rattle.iso_order.specs.Text.{are_digits};
@@ -148,7 +148,7 @@ fn debited(money: Money, hold: Option<TxKey>) -> Act
 fn moved(message: &Message, key: &TxKey, hold: Option<TxKey>, code: u64, money: Money) -> Verdict
     requires key { key.now ≡ key_of message.now }
     requires code { code ≡ kind message.now }
-    requires money { money ≡ money_in message.now 0 }
+    requires money { money ≡ message_money message.now 0 }
     requires hold { hold ≡ hold_of message.now }
     requires own { IfSome hold (λ h. is_hold_for key.now h ≡ true) }
     requires advice { is_some hold ≡ true → (class_digit key.now ≡ 2) × (function_digit key.now ≡ 2) }
@@ -181,7 +181,7 @@ fn moved(message: &Message, key: &TxKey, hold: Option<TxKey>, code: u64, money: 
 fn asked(message: &Message, key: &TxKey, hold: Option<TxKey>, code: u64, money: Money) -> Verdict
     requires key { key.now ≡ key_of message.now }
     requires code { code ≡ kind message.now }
-    requires money { money ≡ money_in message.now 0 }
+    requires money { money ≡ message_money message.now 0 }
     requires hold { hold ≡ hold_of message.now }
     requires own { IfSome hold (λ h. is_hold_for key.now h ≡ true) }
     requires advice { is_some hold ≡ true → (class_digit key.now ≡ 2) × (function_digit key.now ≡ 2) }

@@ -3,7 +3,7 @@ use Rattle.iso_wire.specs.Contents.{Contents}
 use Rattle.iso_wire.specs.Elements.{is_number}
 use Rattle.iso_order.specs.Listing.{entry}
 use Rattle.iso_order.specs.Request.{request_value}
-use Rattle.iso_order.proofs.Ascending.{IsBelow-front, elements_at-more}
+use Rattle.iso_order.proofs.Ascending.{IsBelow-front, elements_with_value-more}
 use Rattle.iso_order.proofs.requests.add_all.Goals as goal
 
 pub add-requires-clause-behind : goal.add-requires-clause-behind
@@ -16,4 +16,4 @@ loop-n-preserved c =
     let n = get_or c.args.numbers.now c.loop-n.n-index 0 in
     c.in_ok-add.ensures
     ∙ ap (λ (made : Contents). record made { elements = made.elements ++ entry n (value n) }) c.loop-n.invariant
-    ∙ ap (λ (es : List (ℕ × List ℕ)). record c.args.request.now { elements = es }) (sym (elements_at-more value c.args.numbers.now c.loop-n.n-index c.loop-n-test.true))
+    ∙ ap (λ (es : List (ℕ × List ℕ)). record c.args.request.now { elements = es }) (sym (elements_with_value-more value c.args.numbers.now c.loop-n.n-index c.loop-n-test.true))

@@ -2,7 +2,7 @@ use Rattle.std.proofs.Common.{ℕ, List, ◌++◌, get_or, sym, ap, ◌∙◌}
 use Rattle.iso_wire.specs.Contents.{Contents}
 use Rattle.iso_order.specs.Listing.{entry}
 use Rattle.iso_order.specs.Response.{element, is_responded}
-use Rattle.iso_order.proofs.Ascending.{ascend-each, IsBelow-front, elements_at-more}
+use Rattle.iso_order.proofs.Ascending.{ascend-each, IsBelow-front, elements_with_value-more}
 use Rattle.iso_order.proofs.response.add_all.Goals as goal
 
 pub add-requires-clause-number : goal.add-requires-clause-number
@@ -18,4 +18,4 @@ loop-n-preserved c =
     let n = get_or c.args.numbers.now c.loop-n.n-index 0 in
     c.in_ok-add.ensures.ok
     ∙ ap (λ (made : Contents). record made { elements = made.elements ++ entry n (value n) }) c.loop-n.invariant
-    ∙ ap (λ (es : List (ℕ × List ℕ)). record c.args.response.now { elements = es }) (sym (elements_at-more value c.args.numbers.now c.loop-n.n-index c.loop-n-test.true))
+    ∙ ap (λ (es : List (ℕ × List ℕ)). record c.args.response.now { elements = es }) (sym (elements_with_value-more value c.args.numbers.now c.loop-n.n-index c.loop-n-test.true))

@@ -5,7 +5,7 @@ use Rattle.std.proofs.lemmas.Grind.{common_steps}
 use Rattle.iso_issuer.specs.declared.balances.Balance.{Balance}
 use Rattle.iso_issuer.specs.Account.{account_of}
 use Rattle.iso_issuer.specs.Balances.{accounts_of, opening_balance, balance_at}
-use Rattle.iso_issuer.proofs.ByKey.{row_of-push, account-at}
+use Rattle.iso_issuer.proofs.ByKey.{account_place-push, account-at}
 use Rattle.iso_issuer.proofs.Documents.{numbers-push}
 use Rattle.iso_issuer.proofs.balances.Balances.open.Goals as goal
 
@@ -19,6 +19,6 @@ invariant_of-self-2 c =
     let new : account_of accounts c.args.account.pan ≡ None = account-at rows c.args.account.pan ∙ ap (option_map (λ (b : Balance). b.account)) unknown in
     let count : c.len.result ≡ length accounts = grind (arith, common_steps, length-map) in
     rw grown (
-      λ q. c.in_ok-insert.ensures.updates.0 q ∙ rw (c.self.invariant.0 q, count) (sym (row_of-push accounts c.args.account q new)),
+      λ q. c.in_ok-insert.ensures.updates.0 q ∙ rw (c.self.invariant.0 q, count) (sym (account_place-push accounts c.args.account q new)),
       numbers-push accounts c.args.account c.self.invariant.1 new,
     )
