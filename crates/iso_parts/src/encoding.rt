@@ -212,10 +212,7 @@ impl Coding {
     {
         match self {
             Coding::Ascii | Coding::Raw => Ok(out.extend_from_slice(body)?),
-            Coding::Bcd => {
-                out.reserve(n as usize)?;
-                decode_bcd(n, body, out)
-            }
+            Coding::Bcd => decode_bcd(n, body, out),
             Coding::HexText => decode_hex(n, body, out),
         }
     }
