@@ -1,6 +1,6 @@
 -- A part takes at most as many bytes as its row's longest one, and bytes that end inside a part are fewer; and which
 -- faults its length and its body have.
-use Rattle.std.proofs.Common.{◌≡◌, ℕ, ◌+◌, ◌-◌, ◌*◌, ◌/◌, ◌%◌, ◌≤◌, ◌&&◌, ◌||◌, Bool, true, false, cond, eqb, ltb, List, [], ◌∷◌, length, take, drop, Result, Ok, Err, refl, subst, arith}
+use Rattle.std.proofs.Common.{◌≡◌, ℕ, ◌+◌, ◌-◌, ◌*◌, ◌/◌, ◌%◌, ◌≤◌, ◌&&◌, ◌||◌, Bool, true, false, cond, eqb, ltb, List, [], ◌∷◌, length, take, drop, Some, None, Result, Ok, Err, refl, subst, arith}
 use Rattle.hex.specs.Hex.{decode_of}
 use Rattle.hex.specs.declared.error.FromHexError.{FromHexError}
 use Rattle.std.proofs.lemmas.Bool.{ltb-true, ltb-false}
@@ -15,7 +15,7 @@ use Rattle.iso_parts.specs.declared.prefix.Length.TheVariants as lengths
 use Rattle.iso_parts.specs.Class.{is_digit, is_in_class}
 use Rattle.iso_parts.specs.Part.{characters}
 use Rattle.iso_parts.specs.PartLaws.{IsUpTo, IsLengthFault, IsBodyFault}
-use Rattle.iso_parts.specs.Reading.{◌>>=◌, number_of, prefix_size, prefix_of, count_of, behind_filler, or_bad_hex, text_of, unpadded, value_of, body_size, body_of, FieldReading, more, at_body, at_prefix, part_at}
+use Rattle.iso_parts.specs.Reading.{◌>>=◌, or_bad_length, number_of, prefix_size, prefix_of, count_of, behind_filler, or_bad_hex, text_of, unpadded, value_of, body_size, body_of, FieldReading, more, at_body, at_prefix, part_at}
 
 more_up_to : (t : Bool) (most len size : ℕ) (o : FieldReading) → ltb len size ≡ t → size ≤ most → IsUpTo most len o → IsUpTo most len (cond t more o)
 more_up_to true most len size o is le rest = omega (arith, ltb-true len size is)
@@ -62,7 +62,7 @@ over_fault : (t : Bool) (n : ℕ) (e : FieldFault) → cond t (Err LengthOver) (
 over_fault true n e is = let same : LengthOver ≡ e = cc in subst IsLengthFault same tt
 over_fault false n e is = absurd cc
 
-digits_fault : (t : Bool) (n : ℕ) (e : FieldFault) → cond t (Ok n) (Err BadLengthDigits) ≡ Err e → IsLengthFault e
+digits_fault : (t : Bool) (n : ℕ) (e : FieldFault) → or_bad_length (cond t (Some n) None) ≡ Err e → IsLengthFault e
 digits_fault true n e is = absurd cc
 digits_fault false n e is = let same : BadLengthDigits ≡ e = cc in subst IsLengthFault same tt
 

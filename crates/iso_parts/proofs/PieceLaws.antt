@@ -1,5 +1,5 @@
 -- What is read of a whole length and a whole body is what they tell, and a bad one is refused for what is wrong with it.
-use Rattle.std.proofs.Common.{◌≡◌, ℕ, ◌+◌, ◌-◌, ◌/◌, ◌%◌, ◌≤◌, ◌<◌, Bool, true, false, ◌||◌, cond, eqb, ltb, List, [], ◌∷◌, length, get_or, Result, Ok, Err, ◌⊎◌, refl, sym, ap, subst, ◌∙◌, inl, inr}
+use Rattle.std.proofs.Common.{◌≡◌, ℕ, ◌+◌, ◌-◌, ◌/◌, ◌%◌, ◌≤◌, ◌<◌, Bool, true, false, ◌||◌, cond, eqb, ltb, List, [], ◌∷◌, length, get_or, Some, None, Result, Ok, Err, ◌⊎◌, refl, sym, ap, subst, ◌∙◌, inl, inr}
 use Rattle.std.proofs.lemmas.Bool.{ltb-false, ltb-true, lt-ltb, cond-true, cond-false, le-ltb}
 use Rattle.std.proofs.lemmas.List.{nil_from_length}
 use Rattle.hex.specs.Hex.{decode_of}
@@ -17,7 +17,7 @@ use Rattle.iso_parts.specs.Part.{characters, prefix}
 use Rattle.iso_parts.specs.Row.{limit}
 use Rattle.iso_parts.specs.PieceLaws.{PieceLaws}
 use Rattle.iso_parts.specs.Pieces.{TellsCount, IsCount, IsText, IsBadCount, IsBadBody}
-use Rattle.iso_parts.specs.Reading.{◌>>=◌, prefix_size, number_of, count_of, prefix_of, body_size, behind_filler, or_bad_hex, text_of, unpadded, value_of, body_of}
+use Rattle.iso_parts.specs.Reading.{◌>>=◌, prefix_size, or_bad_length, number_of, count_of, prefix_of, body_size, behind_filler, or_bad_hex, text_of, unpadded, value_of, body_of}
 use Rattle.iso_parts.proofs.Pads.{unpadded-with_pads, IsUnpadded-unpadded}
 use Rattle.iso_parts.proofs.Prefixes.{count_again, count_takes}
 use Rattle.iso_parts.proofs.Texts.{text_again, text_takes}
@@ -49,12 +49,16 @@ chosen_err : {A : Type 0} (b : Bool) (d e : FieldFault) (x : A) → cond b (Ok x
 chosen_err true d e x h = absurd cc
 chosen_err false d e x h = (refl, cc)
 
+untold_length : (b : Bool) (n : ℕ) (e : FieldFault) → or_bad_length (cond b (Some n) None) ≡ Err e → faults.BadLengthDigits ≡ e
+untold_length true n e h = absurd cc
+untold_length false n e h = cc
+
 number_err : (l : List ℕ) (e : FieldFault) → number_of l ≡ Err e → faults.BadLengthDigits ≡ e
 number_err [] e h = cc
 number_err (a ∷ []) e h = cc
 number_err (a ∷ b ∷ []) e h = cc
 number_err (a ∷ b ∷ c ∷ []) e h = cc
-number_err (a ∷ b ∷ c ∷ d ∷ []) e h = (chosen_err _ _ e _ h).1
+number_err (a ∷ b ∷ c ∷ d ∷ []) e h = untold_length _ _ e h
 number_err (a ∷ b ∷ c ∷ d ∷ f ∷ l) e h = cc
 
 after_zero_err : (b : Bool) (l : List ℕ) (e : FieldFault) → cond b (number_of l) (Err faults.BadLengthDigits) ≡ Err e → faults.BadLengthDigits ≡ e

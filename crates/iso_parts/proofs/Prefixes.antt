@@ -1,5 +1,5 @@
 -- A length that is written is read again, and one that is read is the one that was written.
-use Rattle.std.proofs.Common.{◌≡◌, ℕ, ◌+◌, ◌-◌, ◌*◌, ◌/◌, ◌%◌, ◌≤◌, ◌<◌, Bool, true, false, cond, List, [], ◌∷◌, length, get_or, Result, Ok, Err, refl, sym, ap, ◌∙◌, arith}
+use Rattle.std.proofs.Common.{◌≡◌, ℕ, ◌+◌, ◌-◌, ◌*◌, ◌/◌, ◌%◌, ◌≤◌, ◌<◌, Bool, true, false, cond, List, [], ◌∷◌, length, get_or, Some, None, Result, Ok, Err, refl, sym, ap, ◌∙◌, arith}
 use Rattle.std.proofs.lemmas.List.{nil_from_length}
 use Rattle.std.proofs.lemmas.Bool.{and_parts, eqb-true}
 use Rattle.std.proofs.lemmas.Bool.Decides.{nat_tests}
@@ -10,7 +10,7 @@ use Rattle.iso_parts.specs.declared.fault.FieldFault.{FieldFault}
 use Rattle.iso_parts.specs.Class.{is_digit}
 use Rattle.iso_parts.specs.Row.{limit}
 use Rattle.iso_parts.specs.Part.{prefix}
-use Rattle.iso_parts.specs.Reading.{number_of, count_of, prefix_size}
+use Rattle.iso_parts.specs.Reading.{or_bad_length, number_of, count_of, prefix_size}
 
 -- four digits, and their number
 pub record AreDigits (k h t o n : ℕ) : Type 0 where
@@ -46,9 +46,13 @@ digit_low a h = grind (arith, nat_tests)
 digit_high : (a : ℕ) → is_digit a ≡ true → a ≤ 57
 digit_high a h = grind (arith, nat_tests)
 
+told_length : (b : Bool) (v n : ℕ) → or_bad_length (cond b (Some v) None) ≡ Ok n → (b ≡ true) × (v ≡ n)
+told_length true v n e = (refl, cc)
+told_length false v n e = absurd cc
+
 pub number_takes : (k h t o n : ℕ) → number_of (k ∷ h ∷ t ∷ o ∷ []) ≡ Ok n → AreDigits k h t o n
 number_takes k h t o n e =
-    let got = chosen_ok _ _ _ _ e in
+    let got = told_length _ _ _ e in
     let first = and_parts _ _ got.0 in
     let second = and_parts _ _ first.0 in
     let third = and_parts _ _ second.0 in

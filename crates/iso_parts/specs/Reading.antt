@@ -38,9 +38,19 @@ prefix_size (lengths.LLLL digits.Ascii) = 4
 prefix_size (lengths.LLLL digits.Bcd) = 2
 
 -- the number of four digits, given as characters
+abbrev pub four_digits : ℕ → ℕ → ℕ → ℕ → Option ℕ
+four_digits a b c d =
+    if is_digit a && is_digit b && is_digit c && is_digit d
+    then Some (1000 * (a - 48) + 100 * (b - 48) + 10 * (c - 48) + (d - 48))
+    else None
+
+abbrev pub or_bad_length : Option ℕ → Result ℕ FieldFault
+or_bad_length (Some n) = Ok n
+or_bad_length None = Err BadLengthDigits
+
+-- the number of the four characters of a length
 abbrev pub number_of : List ℕ → Result ℕ FieldFault
-number_of (k ∷ h ∷ t ∷ o ∷ []) =
-    if is_digit k && is_digit h && is_digit t && is_digit o then Ok (1000 * (k - 48) + 100 * (h - 48) + 10 * (t - 48) + (o - 48)) else Err BadLengthDigits
+number_of (k ∷ h ∷ t ∷ o ∷ []) = or_bad_length (four_digits k h t o)
 number_of other = Err BadLengthDigits
 
 -- the count that the digits of a length tell, with zeros before fewer than four; under BCD three digits have a 0 before them

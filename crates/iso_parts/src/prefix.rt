@@ -3,7 +3,7 @@
 ghost use Rattle.std.specs.Prelude.{◌≡◌, ◌≤◌, ◌∷◌, [], ◌++◌, length, OnOk, OnErr};
 ghost use Rattle.iso_parts.specs.Row.{limit, longest_value};
 ghost use Rattle.iso_parts.specs.Part.{prefix};
-ghost use Rattle.iso_parts.specs.Reading.{number_of, count_of, prefix_size};
+ghost use Rattle.iso_parts.specs.Reading.{four_digits, number_of, count_of, prefix_size};
 
 use crate::fault::FieldFault;
 use std::alloc::AllocError;
@@ -50,18 +50,27 @@ impl Digits {
     }
 }
 
+/// The number of four ASCII digits, `None` for any other characters. Takes no memory.
+#[inline(always)]
+pub fn four_digits(a: u8, b: u8, c: u8, d: u8) -> Option<u16>
+    ensures { result ≡ four_digits a b c d }
+{
+    match (a, b, c, d) {
+        (b'0'..=b'9', b'0'..=b'9', b'0'..=b'9', b'0'..=b'9') => Some(
+            1000 * (a - b'0') as u16
+                + 100 * (b - b'0') as u16
+                + 10 * (c - b'0') as u16
+                + (d - b'0') as u16,
+        ),
+        _ => None,
+    }
+}
+
+/// The number of the four characters of a length.
 fn number_of(k: u8, h: u8, t: u8, o: u8) -> Result<u16, FieldFault>
     ensures { result ≡ number_of (k ∷ h ∷ t ∷ o ∷ []) }
 {
-    match (k, h, t, o) {
-        (b'0'..=b'9', b'0'..=b'9', b'0'..=b'9', b'0'..=b'9') => Ok(
-            1000 * (k - b'0') as u16
-                + 100 * (h - b'0') as u16
-                + 10 * (t - b'0') as u16
-                + (o - b'0') as u16,
-        ),
-        _ => Err(FieldFault::BadLengthDigits),
-    }
+    four_digits(k, h, t, o).ok_or(FieldFault::BadLengthDigits)
 }
 
 /// Appends a length of four digits.

@@ -3,7 +3,7 @@ use Rattle.std.specs.Prelude.{◌≡◌, ℕ, ◌+◌, ◌*◌, ◌/◌, ◌%◌
 use Rattle.std.specs.List.{list_all}
 use Rattle.iso_parts.specs.Class.{is_digit}
 use Rattle.iso_parts.specs.Part.{characters}
-use Rattle.iso_wire.specs.Reading.{four_digits}
+use Rattle.iso_parts.specs.Reading.{four_digits}
 use Rattle.iso_wire.specs.declared.header.Header.{Header}
 use Rattle.iso_wire.specs.declared.header.Header.TheVariants.{Binary2, Ascii4, Bcd2}
 use Rattle.iso_wire.specs.declared.framing.Framed.{Framed}

@@ -11,11 +11,10 @@ use Rattle.iso_parts.specs.declared.mti.Mti.{Mti}
 use Rattle.iso_parts.specs.declared.spec.FieldSpec.{FieldSpec}
 use Rattle.iso_parts.specs.declared.fault.FieldFault.{FieldFault}
 use Rattle.iso_parts.specs.declared.fault.FieldFault.TheVariants as fields
-use Rattle.iso_parts.specs.Class.{is_digit}
 use Rattle.iso_parts.specs.Bits.{map_size}
 use Rattle.iso_parts.specs.Mti.{mti_size, mti_number}
 use Rattle.iso_parts.specs.BitmapReading.{word_in, top}
-use Rattle.iso_parts.specs.Reading.{FieldReading, got, more, fault, prefix_size, part_at}
+use Rattle.iso_parts.specs.Reading.{FieldReading, got, more, fault, four_digits, prefix_size, part_at}
 use Rattle.iso_wire.specs.declared.fault.UnpackFault.{UnpackFault}
 use Rattle.iso_wire.specs.declared.fault.UnpackCause.{UnpackCause}
 use Rattle.iso_wire.specs.declared.fault.UnpackCause.TheVariants.{Short, BadMti, WrongVersion, BadHex, ThirdBitmap, UnknownElement, Field, Memory}
@@ -35,12 +34,6 @@ abbrev pub halt : {A : Type 0} → ℕ → ℕ → UnpackCause → Result A Unpa
 halt element at cause = Err (record { at = at; element = element; cause = cause })
 
 -- ---- the message type
-
-abbrev pub four_digits : ℕ → ℕ → ℕ → ℕ → Option ℕ
-four_digits a b c d =
-    if is_digit a && is_digit b && is_digit c && is_digit d
-    then Some (1000 * (a - 48) + 100 * (b - 48) + 10 * (c - 48) + (d - 48))
-    else None
 
 -- the number that the bytes of a message type tell
 abbrev pub mti_of : Digits → List ℕ → Option ℕ

@@ -143,7 +143,7 @@ pub fn body_length(header: Header, input: &[u8]) -> Result<Option<usize>, FrameF
         return Ok(None);
     }
     match header.length_of(&input[..size]) {
-        Some(length) => Ok(Some(length)),
+        Some(length) => Ok(Some(length as usize)),
         None => Err(FrameFault::BadDigits),
     }
 }
@@ -168,6 +168,7 @@ pub fn unframe<'a>(header: Header, input: &'a [u8]) -> Result<Framed<'a>, FrameF
     let Some(length) = header.length_of(front) else {
         return Err(FrameFault::BadDigits);
     };
+    let length = length as usize;
     if rest.len() < length {
         return Ok(Framed::More);
     }

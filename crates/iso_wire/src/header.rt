@@ -1,8 +1,9 @@
 //! The header of a frame.
 
 ghost use Rattle.std.specs.Prelude.{◌≡◌, ◌≤◌, length};
-ghost use Rattle.iso_wire.specs.Reading.{four_digits};
 ghost use Rattle.iso_wire.specs.Frame.{largest, header_size, header_of, header_length};
+
+use iso_parts::four_digits;
 
 /// How a frame counts its body. The header's own bytes don't count.
 #[derive(Clone, Copy, Debug, PartialEq, Eq)]
@@ -13,21 +14,6 @@ pub enum Header {
     Ascii4,
     /// Two bytes of two BCD digits each.
     Bcd2,
-}
-
-/// The number of four digits.
-fn number_of(a: u8, b: u8, c: u8, d: u8) -> Option<usize>
-    ensures { result ≡ four_digits a b c d }
-{
-    match (a, b, c, d) {
-        (b'0'..=b'9', b'0'..=b'9', b'0'..=b'9', b'0'..=b'9') => Some(
-            1000 * (a - b'0') as usize
-                + 100 * (b - b'0') as usize
-                + 10 * (c - b'0') as usize
-                + (d - b'0') as usize,
-        ),
-        _ => None,
-    }
 }
 
 impl Header {
@@ -52,13 +38,13 @@ impl Header {
     }
 
     /// The body's length that a whole header tells, and `None` where the bytes aren't one of digits. Takes no memory.
-    pub(crate) fn length_of(self, header: &[u8]) -> Option<usize>
+    pub(crate) fn length_of(self, header: &[u8]) -> Option<u16>
         ensures { result ≡ header_length self header.now }
     {
         match (self, header) {
-            (Header::Binary2, [high, low]) => Some(256 * *high as usize + *low as usize),
-            (Header::Ascii4, [a, b, c, d]) => number_of(*a, *b, *c, *d),
-            (Header::Bcd2, [x, y]) => number_of(
+            (Header::Binary2, [high, low]) => Some(256 * *high as u16 + *low as u16),
+            (Header::Ascii4, [a, b, c, d]) => four_digits(*a, *b, *c, *d),
+            (Header::Bcd2, [x, y]) => four_digits(
                 b'0' + *x / 16,
                 b'0' + *x % 16,
                 b'0' + *y / 16,

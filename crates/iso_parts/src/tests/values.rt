@@ -361,3 +361,18 @@ fn other_spellings_are_read(rt: HostRuntime) -> Result<(), Fail> {
     }
     Ok(())
 }
+
+#[test]
+fn four_digits_are_a_number(rt: HostRuntime) -> Result<(), Fail> {
+    for (text, number) in [
+        (*b"0000", Some(0)),
+        (*b"0055", Some(55)),
+        (*b"9999", Some(9999)),
+        (*b"00A5", None),
+        (*b"/000", None),
+    ] {
+        let [a, b, c, d] = text;
+        assert_eq!(rt; four_digits(a, b, c, d), number);
+    }
+    Ok(())
+}
