@@ -5,7 +5,7 @@ use Rattle.iso_parts.specs.declared.prefix.Digits.TheVariants.{Ascii}
 use Rattle.iso_table.specs.Layout.{Layout}
 use Rattle.iso_table.specs.Edition87.{IsEdition87}
 use Rattle.iso_wire.specs.Contents.{Contents}
-use Rattle.iso_wire.specs.Spelling.{PlainSpelling, Converts}
+use Rattle.iso_wire.specs.Spelling.{Spelling, PlainSpelling, Converts}
 use Rattle.iso_order.specs.declared.verdict.Verdict.{Verdict}
 use Rattle.iso_order.specs.declared.verdict.Verdict.TheVariants.{Order, Reply, Silent}
 use Rattle.iso_order.specs.Verdict.{verdict}
