@@ -50,27 +50,26 @@ impl Digits {
     }
 }
 
-/// The number of four ASCII digits, `None` for any other characters. Takes no memory.
-#[inline(always)]
-pub fn four_digits(a: u8, b: u8, c: u8, d: u8) -> Option<u16>
-    ensures { result ≡ four_digits a b c d }
-{
-    match (a, b, c, d) {
-        (b'0'..=b'9', b'0'..=b'9', b'0'..=b'9', b'0'..=b'9') => Some(
-            1000 * (a - b'0') as u16
-                + 100 * (b - b'0') as u16
-                + 10 * (c - b'0') as u16
-                + (d - b'0') as u16,
-        ),
-        _ => None,
-    }
-}
-
 /// The number of the four characters of a length.
 fn number_of(k: u8, h: u8, t: u8, o: u8) -> Result<u16, FieldFault>
     ensures { result ≡ number_of (k ∷ h ∷ t ∷ o ∷ []) }
 {
-    four_digits(k, h, t, o).ok_or(FieldFault::BadLengthDigits)
+    match (k, h, t, o) {
+        (b'0'..=b'9', b'0'..=b'9', b'0'..=b'9', b'0'..=b'9') => Ok(
+            1000 * (k - b'0') as u16
+                + 100 * (h - b'0') as u16
+                + 10 * (t - b'0') as u16
+                + (o - b'0') as u16,
+        ),
+        _ => Err(FieldFault::BadLengthDigits),
+    }
+}
+
+/// The number of four ASCII digits, `None` for any other characters. Takes no memory.
+pub fn four_digits(a: u8, b: u8, c: u8, d: u8) -> Option<u16>
+    ensures { result ≡ four_digits a b c d }
+{
+    number_of(a, b, c, d).ok()
 }
 
 /// Appends a length of four digits.
