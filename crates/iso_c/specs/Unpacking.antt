@@ -1,4 +1,5 @@
 -- A message that is read into the caller's room.
+-- Inner, for bodies and proofs: `IsFound`, `IsFoundHeld`, `GivesFound`, `GivesMessage`.
 use Rattle.std.specs.Prelude.{◌≡◌, ◌≢◌, ℕ, ℤ, pos, negsuc, ◌≤◌, nat_lt, if◌then◌else◌, List, length, take, Option, Some, None, Result, Ok, Err}
 use Rattle.iso_table.specs.Layout.{Layout}
 use Rattle.iso_wire.specs.declared.fault.UnpackFault.{UnpackFault}

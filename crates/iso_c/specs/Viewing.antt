@@ -36,11 +36,11 @@ abbrev pub IsBodyAtHeld : Option Layout → List ℕ → ℕ → RumpadolPart �
 IsBodyAtHeld (Some t) b n p = IsBodyAt t b n p
 IsBodyAtHeld None b n p = ⊥
 
-abbrev pub IsBodyFaultHeld : Option Layout → List ℕ → ℕ → RumpadolFault → Type 0
-IsBodyFaultHeld (Some t) b n f = IsViewFault t b n f
-IsBodyFaultHeld None b n f = f ≡ empty_slot
+abbrev pub IsViewFaultHeld : Option Layout → List ℕ → ℕ → RumpadolFault → Type 0
+IsViewFaultHeld (Some t) b n f = IsViewFault t b n f
+IsViewFaultHeld None b n f = f ≡ empty_slot
 
 -- the length of the body, and where it lies; or -1 and the fault
 abbrev pub ViewsBody : Option Layout → List ℕ → ℕ → ℤ → RumpadolPart → RumpadolPart → RumpadolFault → Type 0
 ViewsBody t b n (pos size) old new f = IsBodyAtHeld t b n new × (size ≡ new.length)
-ViewsBody t b n (negsuc k) old new f = (k ≡ 0) × (new ≡ old) × IsBodyFaultHeld t b n f
+ViewsBody t b n (negsuc k) old new f = (k ≡ 0) × (new ≡ old) × IsViewFaultHeld t b n f

@@ -6,7 +6,7 @@ ghost use Rattle.iso_wire.specs.Elements.{IsAscending};
 ghost use Rattle.iso_wire.specs.Bodies.{front_of};
 ghost use Rattle.iso_c.specs.Causes.{no_element};
 ghost use Rattle.iso_c.specs.Parts.{from_number};
-ghost use Rattle.iso_c.specs.Viewing.{sizes_of, IsBodyAt, IsViewFault, IsBodyAtHeld, IsBodyFaultHeld, ViewsBody};
+ghost use Rattle.iso_c.specs.Viewing.{sizes_of, IsBodyAt, IsViewFault, IsBodyAtHeld, IsViewFaultHeld, ViewsBody};
 
 use crate::answering::refuse;
 use crate::fault::RumpadolFault;
@@ -89,7 +89,7 @@ pub(crate) fn body_of(
 /// The same under what a slot holds.
 fn body_by(table: &Option<Table>, bytes: &[u8], number: u32) -> Result<RumpadolPart, RumpadolFault>
     ensures ok { IfOk result (IsBodyAtHeld table.now bytes.now number) }
-    ensures fault { IfErr result (IsBodyFaultHeld table.now bytes.now number) }
+    ensures fault { IfErr result (IsViewFaultHeld table.now bytes.now number) }
 {
     match table {
         Some(table) => body_of(table, bytes, number),

@@ -145,7 +145,7 @@ impl<'t> Intake<'t> {
         feed_piece(self.alloc, &mut self.unpacker, piece, is_last)
     }
 
-    /// Gives a message's memory back, for the next message that is read.
+    /// Gives a message's memory back, for the next whole body that is read.
     pub fn reuse(&mut self, message: Message)
         ensures { self.new ≡ self.old }
     {

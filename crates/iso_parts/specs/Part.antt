@@ -19,7 +19,7 @@ with_pads pads.None n v = v
 with_pads (pads.Left p) n v = replicate n p ++ v
 with_pads (pads.Right p) n v = v ++ replicate n p
 
--- the characters on the wire: the value, filled up
+-- the characters on the wire: the value and its pads
 abbrev pub padded : FieldSpec → List ℕ → List ℕ
 padded s v = with_pads s.pad (s.max - length v) v
 

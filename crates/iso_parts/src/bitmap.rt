@@ -211,7 +211,7 @@ impl Bitmap {
         self.primary.count_ones() as usize + self.secondary.count_ones() as usize
     }
 
-    /// How many numbers of the set are below the number of an element.
+    /// How many numbers of the set are below a number of 2 to 128.
     pub fn count_below(&self, n: u8) -> usize
         requires low { 2 ≤ n }
         requires high { n ≤ 128 }
@@ -295,14 +295,14 @@ impl Bitmap {
     }
 
     /// Reads the raw bitmaps that the bytes begin with: `More` where one isn't whole, `ThirdBitmap` where the
-    /// second one has its first bit set.
+    /// secondary one has its first bit set.
     pub fn read_raw(bytes: &[u8]) -> Result<BitmapStep, BitmapFault>
         // A set that is got is the one that the first bytes spell.
         ensures found { FoundMaps BitmapCoding.Raw bytes.now result }
         // The set that bytes at the front spell is got.
         ensures only { (two : Bool) (set : ℕ → Bool) (front rest : List ℕ) → set 65 ≡ false → Bitmaps BitmapCoding.Raw two set front
             → bytes.now ≡ front ++ rest → IsSetRead set (length front) result }
-        // It has neither number 1, whose bit tells of the second bitmap, nor 0, 65 or one above 128.
+        // It has neither number 1, whose bit tells of the secondary bitmap, nor 0, 65 or one above 128.
         ensures numbers { IfRead result AreElements }
         // Which fault it is, and that bytes are missing.
         ensures exact { ReadsMaps result (maps_at BitmapCoding.Raw bytes.now) }
@@ -311,14 +311,14 @@ impl Bitmap {
     }
 
     /// Reads the hexadecimal bitmaps that the bytes begin with: `More` where one isn't whole, `BadHex` where it
-    /// isn't of digits, `ThirdBitmap` where the second one has its first bit set.
+    /// isn't of digits, `ThirdBitmap` where the secondary one has its first bit set.
     pub fn read_hex(bytes: &[u8]) -> Result<BitmapStep, BitmapFault>
         // A set that is got is the one that the first bytes spell.
         ensures found { FoundMaps BitmapCoding.Hex bytes.now result }
         // The set that bytes at the front spell is got.
         ensures only { (two : Bool) (set : ℕ → Bool) (front rest : List ℕ) → set 65 ≡ false → Bitmaps BitmapCoding.Hex two set front
             → bytes.now ≡ front ++ rest → IsSetRead set (length front) result }
-        // It has neither number 1, whose bit tells of the second bitmap, nor 0, 65 or one above 128.
+        // It has neither number 1, whose bit tells of the secondary bitmap, nor 0, 65 or one above 128.
         ensures numbers { IfRead result AreElements }
         // Which fault it is, and that bytes are missing.
         ensures exact { ReadsMaps result (maps_at BitmapCoding.Hex bytes.now) }

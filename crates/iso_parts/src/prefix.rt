@@ -11,7 +11,7 @@ use std::alloc::AllocError;
 /// The most characters of a value: the digits of a length can tell no more.
 pub const LONGEST_VALUE: usize = 9_999;
 
-/// The most characters of a value of a fixed length, so also of one that is filled up.
+/// The most characters of a value of a fixed length, so also of one that is padded.
 const LONGEST_FIXED: usize = 999;
 
 /// How decimal digits are written.

@@ -137,7 +137,7 @@ Some x >>= f = f x
 abbrev pub up_to : ℕ → ℕ → Option ℕ
 up_to most n = if nat_le n most then Some n else None
 
--- the whole number at a member
+-- the whole number at a member, where it fits a u64
 abbrev pub u64_at : List ℕ → Data → Option ℕ
 u64_at key d = get key d >>= as_number >>= as_u64
 

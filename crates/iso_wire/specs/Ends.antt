@@ -1,4 +1,5 @@
 -- Elements whose values lie one behind another in a buffer, each up to its end.
+-- Inner: bodies and proofs cite it, and no public clause does.
 use Rattle.std.specs.Prelude.{◌≡◌, ◌≢◌, ℕ, ◌+◌, ◌-◌, ◌<◌, ◌≤◌, true, List, [], ◌∷◌, ◌++◌, length, take, drop}
 use Rattle.iso_wire.specs.declared.elements.Elements.{Elements}
 use Rattle.iso_parts.specs.declared.bitmap.Bitmap.{Bitmap}
@@ -16,7 +17,7 @@ elements_of (n ∷ ns) start (e ∷ es) b = (n, take (e - start) (drop start b))
 abbrev pub views : Elements → List (ℕ × List ℕ)
 views x = elements_of (members x.numbers) 0 x.ends.items x.values.items
 
--- the ends ascend from start on, and the last one is given
+-- the ends don't descend from start on, and the last of them is given, or start where there is none
 abbrev pub Ascend : ℕ → List ℕ → ℕ → Type 0
 Ascend start [] last = start ≡ last
 Ascend start (e ∷ es) last = (start ≤ e) × Ascend e es last

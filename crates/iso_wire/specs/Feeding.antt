@@ -48,7 +48,7 @@ abbrev pub IsBuilt : ℕ → Result (Contents × ℕ) UnpackFault → Result (Co
 IsBuilt before (Ok x) read = read ≡ whole x.0 (before + x.1)
 IsBuilt before (Err e) read = e ≡ out_of_memory
 
--- and they are ready for a further piece
+-- and the bytes taken are ready for a further piece
 abbrev pub IsReadyAfter : Layout → List ℕ → Result Fed UnpackFault → Type 0
 IsReadyAfter t new (Ok fed) = IsShort (message_at t new)
 IsReadyAfter t new (Err e) = (e.cause ≡ Memory → IsShort (message_at t new)) × (e.cause ≢ Memory → (new ≡ []) × (e.cause ≢ Short))
