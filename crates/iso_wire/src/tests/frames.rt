@@ -184,7 +184,7 @@ fn a_frame_that_is_too_long_stays_open(rt: HostRuntime) -> Result<(), Fail> {
 
 #[test]
 fn headers_tell_lengths(rt: HostRuntime) -> Result<(), Fail> {
-    let cases: [(&str, Header, &[u8], Option<usize>); 5] = [
+    let cases: [(&str, Header, &[u8], Option<u16>); 5] = [
         ("two bytes", Binary2, b"\x27\x10", Some(10_000)),
         ("four digits", Ascii4, b"0055", Some(55)),
         ("two bytes of digits", Bcd2, b"\x00\x55", Some(55)),
