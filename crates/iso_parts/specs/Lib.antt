@@ -5,6 +5,7 @@ pub mod Bits
 pub mod Numbers
 pub mod BitmapReading
 pub mod FaultNumbers
+pub mod FourDigits
 pub mod Part
 pub mod Reading
 pub mod PartLaws

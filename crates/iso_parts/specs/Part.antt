@@ -11,6 +11,7 @@ use Rattle.iso_parts.specs.declared.prefix.Length.TheVariants as lengths
 use Rattle.iso_parts.specs.declared.padding.Pad.{Pad}
 use Rattle.iso_parts.specs.declared.padding.Pad.TheVariants as pads
 use Rattle.iso_parts.specs.declared.spec.FieldSpec.{FieldSpec}
+use Rattle.iso_parts.specs.FourDigits.{four_digits_of}
 use Rattle.iso_parts.specs.Row.{Fits}
 
 -- n pad bytes at the padded end
@@ -52,8 +53,7 @@ prefix (lengths.LL digits.Ascii) n = (48 + n / 10) ∷ (48 + n % 10) ∷ []
 prefix (lengths.LL digits.Bcd) n = (16 * (n / 10) + n % 10) ∷ []
 prefix (lengths.LLL digits.Ascii) n = (48 + n / 100) ∷ (48 + n / 10 % 10) ∷ (48 + n % 10) ∷ []
 prefix (lengths.LLL digits.Bcd) n = (n / 100) ∷ (16 * (n / 10 % 10) + n % 10) ∷ []
-prefix (lengths.LLLL digits.Ascii) n = (48 + n / 1000) ∷ (48 + n / 100 % 10) ∷ (48 + n / 10 % 10) ∷ (48 + n % 10) ∷ []
-prefix (lengths.LLLL digits.Bcd) n = (16 * (n / 1000) + n / 100 % 10) ∷ (16 * (n / 10 % 10) + n % 10) ∷ []
+prefix (lengths.LLLL d) n = four_digits_of d n
 
 -- the bytes are a part of the value: its length, where one is written, and a body
 abbrev pub Part : FieldSpec → List ℕ → List ℕ → Type 0

@@ -1,6 +1,6 @@
 -- Reading a part from the front of bytes: the length before it, and then its body.
 -- Inner, for bodies and proofs: `is_plain`, `Gives`, `Decodes`, `IsJudged`.
-use Rattle.std.specs.Prelude.{◌≡◌, ◌≢◌, ℕ, ◌++◌, Bool, true, false, Option, Some, None, ◌+◌, ◌-◌, ◌*◌, ◌/◌, ◌%◌, ◌==◌, ◌&&◌, ◌||◌, nat_lt, List, [], ◌∷◌, length, take, drop, reverse, Result, Ok, Err, if◌then◌else◌}
+use Rattle.std.specs.Prelude.{◌≡◌, ◌≢◌, ℕ, ◌++◌, Bool, true, false, Option, Some, None, ◌+◌, ◌*◌, ◌/◌, ◌%◌, ◌==◌, ◌||◌, nat_lt, List, [], ◌∷◌, length, take, drop, reverse, Result, Ok, Err, if◌then◌else◌}
 use Rattle.hex.specs.Hex.{decode_of}
 use Rattle.hex.specs.declared.error.FromHexError.{FromHexError}
 use Rattle.iso_parts.specs.declared.encoding.Coding.{Coding}
@@ -17,7 +17,8 @@ use Rattle.iso_parts.specs.declared.field.Step.{Step}
 use Rattle.iso_parts.specs.declared.field.Step.TheVariants as steps
 use Rattle.iso_parts.specs.declared.judging.Judged.{Judged}
 use Rattle.iso_parts.specs.declared.judging.Judged.TheVariants as judgements
-use Rattle.iso_parts.specs.Class.{is_digit, is_in_class}
+use Rattle.iso_parts.specs.Class.{is_in_class}
+use Rattle.iso_parts.specs.FourDigits.{four_digits}
 use Rattle.iso_parts.specs.Part.{characters, Keeps}
 
 infixl 10 ◌>>=◌
@@ -36,13 +37,6 @@ prefix_size (lengths.LLL digits.Ascii) = 3
 prefix_size (lengths.LLL digits.Bcd) = 2
 prefix_size (lengths.LLLL digits.Ascii) = 4
 prefix_size (lengths.LLLL digits.Bcd) = 2
-
--- the number of four digits, given as characters
-abbrev pub four_digits : ℕ → ℕ → ℕ → ℕ → Option ℕ
-four_digits a b c d =
-    if is_digit a && is_digit b && is_digit c && is_digit d
-    then Some (1000 * (a - 48) + 100 * (b - 48) + 10 * (c - 48) + (d - 48))
-    else None
 
 abbrev pub or_bad_length : Option ℕ → Result ℕ FieldFault
 or_bad_length (Some n) = Ok n

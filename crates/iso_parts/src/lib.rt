@@ -27,7 +27,7 @@ pub use field::{Step, decode_field, decode_value, encode_field};
 pub use judging::{Judged, judge_body, judge_field, judge_length};
 pub use mti::{Mti, MtiClass};
 pub use padding::Pad;
-pub use prefix::{Digits, LONGEST_VALUE, Length, four_digits};
+pub use prefix::{Digits, LONGEST_VALUE, Length, four_ascii_digits, four_bcd_digits, four_digits};
 pub use spec::{FieldSpec, SpecFault};
 
 #[cfg(test)]

@@ -3,7 +3,8 @@
 ghost use Rattle.std.specs.Prelude.{◌≡◌, ◌≤◌, ◌∷◌, [], ◌++◌, length, OnOk, OnErr};
 ghost use Rattle.iso_parts.specs.Row.{limit, longest_value};
 ghost use Rattle.iso_parts.specs.Part.{prefix};
-ghost use Rattle.iso_parts.specs.Reading.{four_digits, number_of, count_of, prefix_size};
+ghost use Rattle.iso_parts.specs.FourDigits.{four_digits, four_digits_of};
+ghost use Rattle.iso_parts.specs.Reading.{number_of, count_of, prefix_size};
 
 use crate::fault::FieldFault;
 use std::alloc::AllocError;
@@ -72,23 +73,28 @@ pub fn four_digits(a: u8, b: u8, c: u8, d: u8) -> Option<u16>
     number_of(a, b, c, d).ok()
 }
 
-/// Appends a length of four digits.
-fn encode_four(digits: Digits, n: usize, out: &mut Vec<u8>) -> Result<(), AllocError>
+/// A number in four ASCII digits. Takes no memory.
+pub fn four_ascii_digits(n: usize) -> [u8; 4]
     requires { n ≤ longest_value }
-    ensures ok { OnOk result (out.new.items ≡ out.old.items ++ prefix (Length.LLLL digits) n) }
-    ensures err { OnErr result (out.new.items ≡ out.old.items) }
+    ensures { result ≡ four_digits_of Digits.Ascii n }
 {
-    let (thousands, hundreds) = ((n / 1000) as u8, (n / 100 % 10) as u8);
-    let (tens, ones) = ((n / 10 % 10) as u8, (n % 10) as u8);
-    match digits {
-        Digits::Ascii => out.extend_from_slice(&[
-            b'0' + thousands,
-            b'0' + hundreds,
-            b'0' + tens,
-            b'0' + ones,
-        ]),
-        Digits::Bcd => out.extend_from_slice(&[16 * thousands + hundreds, 16 * tens + ones]),
-    }
+    [
+        b'0' + (n / 1000) as u8,
+        b'0' + (n / 100 % 10) as u8,
+        b'0' + (n / 10 % 10) as u8,
+        b'0' + (n % 10) as u8,
+    ]
+}
+
+/// A number in four BCD digits, two a byte. Takes no memory.
+pub fn four_bcd_digits(n: usize) -> [u8; 2]
+    requires { n ≤ longest_value }
+    ensures { result ≡ four_digits_of Digits.Bcd n }
+{
+    [
+        (16 * (n / 1000) + n / 100 % 10) as u8,
+        (16 * (n / 10 % 10) + n % 10) as u8,
+    ]
 }
 
 impl Length {
@@ -167,7 +173,8 @@ impl Length {
                 out.extend_from_slice(&[b'0' + hundreds, b'0' + tens, b'0' + ones])
             }
             Length::LLL(Digits::Bcd) => out.extend_from_slice(&[hundreds, 16 * tens + ones]),
-            Length::LLLL(digits) => encode_four(digits, n, out),
+            Length::LLLL(Digits::Ascii) => out.extend_from_slice(&four_ascii_digits(n)),
+            Length::LLLL(Digits::Bcd) => out.extend_from_slice(&four_bcd_digits(n)),
         }
     }
 

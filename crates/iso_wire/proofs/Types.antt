@@ -8,7 +8,7 @@ use Rattle.iso_parts.specs.declared.prefix.Digits.TheVariants as digits
 use Rattle.iso_parts.specs.Class.{is_digit}
 use Rattle.iso_wire.specs.Spelling.{mti_bytes}
 use Rattle.iso_parts.specs.Mti.{mti_size}
-use Rattle.iso_parts.specs.Reading.{four_digits}
+use Rattle.iso_parts.specs.FourDigits.{four_digits}
 use Rattle.iso_wire.specs.Reading.{mti_of}
 
 record AreDigits (a b c d n : ℕ) : Type 0 where

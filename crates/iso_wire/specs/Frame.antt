@@ -3,7 +3,8 @@ use Rattle.std.specs.Prelude.{◌≡◌, ℕ, ◌+◌, ◌*◌, ◌/◌, ◌%◌
 use Rattle.std.specs.List.{list_all}
 use Rattle.iso_parts.specs.Class.{is_digit}
 use Rattle.iso_parts.specs.Part.{characters}
-use Rattle.iso_parts.specs.Reading.{four_digits}
+use Rattle.iso_parts.specs.declared.prefix.Digits.TheVariants as digits
+use Rattle.iso_parts.specs.FourDigits.{four_digits, four_digits_of}
 use Rattle.iso_wire.specs.declared.header.Header.{Header}
 use Rattle.iso_wire.specs.declared.header.Header.TheVariants.{Binary2, Ascii4, Bcd2}
 use Rattle.iso_wire.specs.declared.framing.Framed.{Framed}
@@ -28,8 +29,8 @@ header_size Bcd2 = 2
 -- the header of a body of n bytes
 abbrev pub header_of : Header → ℕ → List ℕ
 header_of Binary2 n = n / 256 ∷ n % 256 ∷ []
-header_of Ascii4 n = (48 + n / 1000) ∷ (48 + n / 100 % 10) ∷ (48 + n / 10 % 10) ∷ (48 + n % 10) ∷ []
-header_of Bcd2 n = (16 * (n / 1000) + n / 100 % 10) ∷ (16 * (n / 10 % 10) + n % 10) ∷ []
+header_of Ascii4 n = four_digits_of digits.Ascii n
+header_of Bcd2 n = four_digits_of digits.Bcd n
 
 -- a body behind its header
 abbrev pub frame_of : Header → List ℕ → List ℕ

@@ -14,7 +14,8 @@ use Rattle.iso_parts.specs.declared.fault.FieldFault.TheVariants as fields
 use Rattle.iso_parts.specs.Bits.{map_size}
 use Rattle.iso_parts.specs.Mti.{mti_size, mti_number}
 use Rattle.iso_parts.specs.BitmapReading.{word_in, top}
-use Rattle.iso_parts.specs.Reading.{FieldReading, got, more, fault, four_digits, prefix_size, part_at}
+use Rattle.iso_parts.specs.FourDigits.{four_digits}
+use Rattle.iso_parts.specs.Reading.{FieldReading, got, more, fault, prefix_size, part_at}
 use Rattle.iso_wire.specs.declared.fault.UnpackFault.{UnpackFault}
 use Rattle.iso_wire.specs.declared.fault.UnpackCause.{UnpackCause}
 use Rattle.iso_wire.specs.declared.fault.UnpackCause.TheVariants.{Short, BadMti, WrongVersion, BadHex, ThirdBitmap, UnknownElement, Field, Memory}

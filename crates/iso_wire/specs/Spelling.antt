@@ -1,11 +1,11 @@
 -- The bytes that spell a message under a table (ISO 8583:1987, structure of a message): its type, its bitmaps, and
 -- the parts of its elements in ascending order.
-use Rattle.std.specs.Prelude.{◌≡◌, ℕ, ◌+◌, ◌*◌, ◌/◌, ◌%◌, ◌<◌, Bool, List, [], ◌∷◌, ◌++◌, Option, Some, None, ◌≤◌, take, length, slice_index}
+use Rattle.std.specs.Prelude.{◌≡◌, ℕ, ◌+◌, ◌/◌, ◌<◌, Bool, List, [], ◌∷◌, ◌++◌, Option, Some, None, ◌≤◌, take, length, slice_index}
 use Rattle.std.specs.List.{flat_map}
 use Rattle.iso_parts.specs.declared.prefix.Digits.{Digits}
-use Rattle.iso_parts.specs.declared.prefix.Digits.TheVariants as digits
 use Rattle.iso_parts.specs.declared.spec.FieldSpec.{FieldSpec}
 use Rattle.iso_parts.specs.Bits.{Bitmaps, PlainBitmaps}
+use Rattle.iso_parts.specs.FourDigits.{four_digits_of}
 use Rattle.iso_parts.specs.Part.{Part, plain_part}
 use Rattle.iso_wire.specs.Contents.{Contents}
 use Rattle.iso_wire.specs.Elements.{has, IsAscending}
@@ -13,8 +13,7 @@ use Rattle.iso_table.specs.Layout.{Layout, row_at}
 
 -- the four digits of a message type, a byte for each or two in a byte
 abbrev pub mti_bytes : Digits → ℕ → List ℕ
-mti_bytes digits.Ascii n = (48 + n / 1000) ∷ (48 + n / 100 % 10) ∷ (48 + n / 10 % 10) ∷ (48 + n % 10) ∷ []
-mti_bytes digits.Bcd n = (16 * (n / 1000) + n / 100 % 10) ∷ (16 * (n / 10 % 10) + n % 10) ∷ []
+mti_bytes d n = four_digits_of d n
 
 -- the bytes are a part of the value as element n
 abbrev pub PartAs : List (Option FieldSpec) → ℕ → List ℕ → List ℕ → Type 0

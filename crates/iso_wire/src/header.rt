@@ -3,7 +3,7 @@
 ghost use Rattle.std.specs.Prelude.{◌≡◌, ◌≤◌, length};
 ghost use Rattle.iso_wire.specs.Frame.{largest, header_size, header_of, header_length};
 
-use iso_parts::four_digits;
+use iso_parts::{four_ascii_digits, four_bcd_digits, four_digits};
 
 /// How a frame counts its body. The header's own bytes don't count.
 #[derive(Clone, Copy, Debug, PartialEq, Eq)]
@@ -60,16 +60,10 @@ impl Header {
         requires size { length room.old ≡ header_size self }
         ensures { room.new ≡ header_of self n }
     {
-        let (a, b, c, d) = (n / 1000, n / 100 % 10, n / 10 % 10, n % 10);
         match self {
             Header::Binary2 => room.copy_from_slice(&[(n / 256) as u8, (n % 256) as u8]),
-            Header::Ascii4 => room.copy_from_slice(&[
-                b'0' + a as u8,
-                b'0' + b as u8,
-                b'0' + c as u8,
-                b'0' + d as u8,
-            ]),
-            Header::Bcd2 => room.copy_from_slice(&[(16 * a + b) as u8, (16 * c + d) as u8]),
+            Header::Ascii4 => room.copy_from_slice(&four_ascii_digits(n)),
+            Header::Bcd2 => room.copy_from_slice(&four_bcd_digits(n)),
         }
     }
 }

@@ -15,7 +15,7 @@ use crate::fault::PackFault;
 use crate::iteration::Iter;
 use crate::laws::reads_spellings;
 use crate::message::Message;
-use iso_parts::{Digits, FieldFault, encode_field};
+use iso_parts::{Digits, FieldFault, encode_field, four_ascii_digits, four_bcd_digits};
 use iso_table::Table;
 use std::alloc::{AllocError, Global};
 
@@ -88,15 +88,10 @@ fn append_mti(digits: Digits, n: u16, out: &mut Vec<u8>) -> Result<(), AllocErro
     ensures ok { OnOk result (out.new.items ≡ out.old.items ++ mti_bytes digits n) }
     ensures unchanged { OnErr result (out.new.items ≡ out.old.items) }
 {
-    let (a, b, c, d) = (
-        (n / 1000) as u8,
-        (n / 100 % 10) as u8,
-        (n / 10 % 10) as u8,
-        (n % 10) as u8,
-    );
+    let number = usize::from(n);
     match digits {
-        Digits::Ascii => out.extend_from_slice(&[b'0' + a, b'0' + b, b'0' + c, b'0' + d]),
-        Digits::Bcd => out.extend_from_slice(&[16 * a + b, 16 * c + d]),
+        Digits::Ascii => out.extend_from_slice(&four_ascii_digits(number)),
+        Digits::Bcd => out.extend_from_slice(&four_bcd_digits(number)),
     }
 }
 

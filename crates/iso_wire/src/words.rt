@@ -5,6 +5,7 @@ ghost use Rattle.iso_parts.specs.declared.prefix.Digits.TheVariants.{Ascii};
 ghost use Rattle.iso_wire.specs.Spelling.{mti_bytes};
 ghost use Rattle.iso_wire.specs.Describing.{version_word, class_word, function_word, origin_word, word_or, type_line};
 
+use iso_parts::four_ascii_digits;
 use std::alloc::AllocError;
 
 /// The word for the version.
@@ -87,14 +88,8 @@ fn push_digits(n: u16, out: &mut Vec<u8>) -> Result<(), AllocError>
     requires { n < 10000 }
     ensures { OnOk result (out.new.items ≡ out.old.items ++ (codes "MTI=" ++ mti_bytes Ascii n)) }
 {
-    let (a, b, c, d) = (
-        (n / 1000) as u8,
-        (n / 100 % 10) as u8,
-        (n / 10 % 10) as u8,
-        (n % 10) as u8,
-    );
     out.extend_from_slice(b"MTI=")?;
-    out.extend_from_slice(&[b'0' + a, b'0' + b, b'0' + c, b'0' + d])
+    out.extend_from_slice(&four_ascii_digits(usize::from(n)))
 }
 
 /// Appends the line of a message type.

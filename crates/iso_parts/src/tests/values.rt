@@ -376,3 +376,16 @@ fn four_digits_are_a_number(rt: HostRuntime) -> Result<(), Fail> {
     }
     Ok(())
 }
+
+#[test]
+fn a_number_has_four_digits(rt: HostRuntime) {
+    for (number, ascii, bcd) in [
+        (0, b"0000", [0x00, 0x00]),
+        (55, b"0055", [0x00, 0x55]),
+        (1234, b"1234", [0x12, 0x34]),
+        (9999, b"9999", [0x99, 0x99]),
+    ] {
+        assert_eq!(rt; four_ascii_digits(number), *ascii, "{number}");
+        assert_eq!(rt; four_bcd_digits(number), bcd, "{number}");
+    }
+}
