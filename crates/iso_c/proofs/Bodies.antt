@@ -18,8 +18,8 @@ use Rattle.iso_wire.specs.Bodies.{front_of}
 use Rattle.iso_wire.specs.Viewing.{Viewed, Views, IsViewed, Wired}
 use Rattle.iso_c.specs.declared.fault.RumpadolFault.{RumpadolFault}
 use Rattle.iso_c.specs.Causes.{no_element}
-use Rattle.iso_c.specs.Parts.{from_number}
-use Rattle.iso_c.specs.Viewing.{sizes_of, body_fault}
+use Rattle.iso_c.specs.Later.{from_number, sizes_of}
+use Rattle.iso_c.specs.Viewing.{body_fault}
 use Rattle.iso_c.proofs.Spreads.{Values, some_is, none_below, from_all, from_found, from_missing, from_end}
 
 abbrev Rows : Type 0

@@ -11,7 +11,8 @@ use Rattle.iso_c.specs.declared.part.RumpadolPart.{RumpadolPart}
 use Rattle.iso_c.specs.declared.part.RumpadolMessage.{RumpadolMessage}
 use Rattle.iso_c.specs.declared.unpack.Found.{Found}
 use Rattle.iso_c.specs.Parts.{elements_in, parts_from, values_of}
-use Rattle.iso_c.specs.Unpacking.{IsFound, IsFoundHeld, IsReadFaultHeld, Unpacked, IsUnpackReply, GivesMessage, GivesFound, read_fault, given_fault, room_fault}
+use Rattle.iso_c.specs.Spreading.{IsFound, IsFoundHeld, GivesMessage, GivesFound}
+use Rattle.iso_c.specs.Unpacking.{IsReadFaultHeld, Unpacked, IsUnpackReply, read_fault, given_fault, room_fault}
 use Rattle.iso_c.proofs.Spreads.{Values, told, length_parts}
 
 pub within : (t : Option Layout) (b : List ℕ) (found : Found) → IsFoundHeld t b found → found.used ≤ length b

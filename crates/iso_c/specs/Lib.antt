@@ -6,7 +6,9 @@ pub mod Views
 pub mod Frames
 pub mod Parts
 pub mod Unpacking
+pub mod Spreading
 pub mod Packing
 pub mod Names
 pub mod Describing
 pub mod Viewing
+pub mod Later

@@ -1,5 +1,4 @@
 -- A message that is written from parts and values.
--- Inner, for bodies and proofs: `IsMessageFault`.
 use Rattle.std.specs.Prelude.{◌≡◌, ◌≢◌, ℕ, nat_le, if◌then◌else◌, List, [], Option, Some, None, Result, Ok, Err}
 use Rattle.iso_table.specs.Layout.{Layout}
 use Rattle.iso_wire.specs.declared.fault.PackFault.{PackFault}
@@ -25,9 +24,6 @@ message_by mti (Err f) = Err f
 -- a type of four digits, and then the parts in their order
 abbrev pub message_of : ℕ → List RumpadolPart → List ℕ → Result Contents RumpadolFault
 message_of mti parts values = if nat_le mti 9999 then message_by mti (elements_or_fault values parts []) else Err bad_type
-
-abbrev pub IsMessageFault : ℕ → List RumpadolPart → List ℕ → RumpadolFault → Type 0
-IsMessageFault mti parts values f = f ≢ no_memory → message_of mti parts values ≡ Err f
 
 -- ---- its bytes
 

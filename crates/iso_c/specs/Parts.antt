@@ -1,6 +1,5 @@
 -- Values that lie in bytes, and parts that tell where.
--- Inner, for bodies and proofs: `from_number`.
-use Rattle.std.specs.Prelude.{ℕ, ◌+◌, ◌-◌, ◌&&◌, nat_le, nat_lt, Bool, if◌then◌else◌, List, [], ◌∷◌, ◌++◌, length, take, drop, map, Option, Some, None, Result, Ok, Err}
+use Rattle.std.specs.Prelude.{ℕ, ◌+◌, ◌-◌, ◌&&◌, nat_le, Bool, if◌then◌else◌, List, [], ◌∷◌, ◌++◌, length, take, drop, map, Option, Some, None, Result, Ok, Err}
 use Rattle.iso_wire.specs.Elements.{is_number, put}
 use Rattle.iso_c.specs.declared.fault.RumpadolFault.{RumpadolFault}
 use Rattle.iso_c.specs.declared.part.RumpadolPart.{RumpadolPart}
@@ -16,11 +15,6 @@ element_in b p = (p.element, bytes_in b p)
 
 abbrev pub elements_in : List ℕ → List RumpadolPart → List (ℕ × List ℕ)
 elements_in b ps = map (element_in b) ps
-
--- the elements from a number on, of elements in ascending order
-abbrev pub from_number : ℕ → List (ℕ × List ℕ) → List (ℕ × List ℕ)
-from_number n [] = []
-from_number n (e ∷ es) = if nat_lt e.0 n then from_number n es else e ∷ es
 
 -- ---- values that lie end to end
 

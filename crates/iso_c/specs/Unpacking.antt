@@ -1,15 +1,13 @@
 -- A message that is read into the caller's room.
--- Inner, for bodies and proofs: `IsFound`, `IsFoundHeld`, `GivesFound`, `GivesMessage`.
 use Rattle.std.specs.Prelude.{◌≡◌, ◌≢◌, ℕ, ℤ, pos, negsuc, ◌≤◌, nat_lt, if◌then◌else◌, List, length, take, Option, Some, None, Result, Ok, Err}
 use Rattle.iso_table.specs.Layout.{Layout}
 use Rattle.iso_wire.specs.declared.fault.UnpackFault.{UnpackFault}
 use Rattle.iso_wire.specs.Contents.{Contents}
-use Rattle.iso_wire.specs.Reading.{message_at, whole}
+use Rattle.iso_wire.specs.Reading.{message_at}
 use Rattle.iso_wire.specs.Spelling.{BeginsWith}
 use Rattle.iso_c.specs.declared.fault.RumpadolFault.{RumpadolFault}
 use Rattle.iso_c.specs.declared.part.RumpadolPart.{RumpadolPart}
 use Rattle.iso_c.specs.declared.part.RumpadolMessage.{RumpadolMessage}
-use Rattle.iso_c.specs.declared.unpack.Found.{Found}
 use Rattle.iso_c.specs.Causes.{no_memory, empty_slot, short_parts, short_room, unpack_fault}
 use Rattle.iso_c.specs.Parts.{elements_in, parts_from, values_of}
 
@@ -20,21 +18,6 @@ read_fault (Err e) = Some (unpack_fault e)
 
 abbrev pub IsReadFault : Layout → List ℕ → RumpadolFault → Type 0
 IsReadFault t b f = f ≢ no_memory → read_fault (message_at t b) ≡ Some f
-
--- ---- what is found before it is given
-
--- the message that the bytes begin with, with its values end to end and their parts
-pub record IsFound (t : Layout) (b : List ℕ) (found : Found) : Type 0 where
-  pub m : Contents
-  pub begins : BeginsWith t m found.used b
-  pub read : message_at t b ≡ whole m found.used
-  pub mti : found.mti ≡ m.mti
-  pub parts : found.parts.items ≡ parts_from 0 m.elements
-  pub values : found.values.items ≡ values_of m.elements
-
-abbrev pub IsFoundHeld : Option Layout → List ℕ → Found → Type 0
-IsFoundHeld (Some t) b found = IsFound t b found
-IsFoundHeld None b found = ⊥
 
 abbrev pub IsReadFaultHeld : Option Layout → List ℕ → RumpadolFault → Type 0
 IsReadFaultHeld (Some t) b f = IsReadFault t b f
@@ -82,17 +65,3 @@ abbrev pub IsUnpackReply : Option Layout → List ℕ → ℤ → RumpadolMessag
 IsUnpackReply t b (pos used) old new parts_old parts values_old values f = UnpackedHeld t b used new parts values
 IsUnpackReply t b (negsuc k) old new parts_old parts values_old values f =
     (k ≡ 0) × Kept old new parts_old parts values_old values × IsGivenFault t b (length parts_old) (length values_old) f
-
--- what was found is given where there is room
-pub record GivesFound (found : Found) (used : ℕ) (told : RumpadolMessage) (parts : List RumpadolPart) (values : List ℕ) : Type 0 where
-  pub used_is : used ≡ found.used
-  pub message : told ≡ record { mti = found.mti; parts = length found.parts.items; values = length found.values.items }
-  pub few : length found.parts.items ≤ length parts
-  pub room : length found.values.items ≤ length values
-  pub parts_are : take (length found.parts.items) parts ≡ found.parts.items
-  pub values_are : take (length found.values.items) values ≡ found.values.items
-
-abbrev pub GivesMessage : Found → ℤ → RumpadolMessage → RumpadolMessage → List RumpadolPart → List RumpadolPart → List ℕ → List ℕ → RumpadolFault → Type 0
-GivesMessage found (pos used) old new parts_old parts values_old values f = GivesFound found used new parts values
-GivesMessage found (negsuc k) old new parts_old parts values_old values f =
-    (k ≡ 0) × Kept old new parts_old parts values_old values × (room_fault (length found.parts.items) (length found.values.items) (length parts_old) (length values_old) ≡ Some f)

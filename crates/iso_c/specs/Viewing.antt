@@ -1,23 +1,15 @@
 -- The body of an element, left where it lies.
--- Inner, for bodies and proofs: `sizes_of`.
-use Rattle.std.specs.Prelude.{◌≡◌, ℕ, ℤ, pos, negsuc, ◌+◌, ◌≤◌, if◌then◌else◌, List, [], ◌∷◌, length, Option, Some, None, Result, Ok, Err}
-use Rattle.iso_parts.specs.declared.spec.FieldSpec.{FieldSpec}
-use Rattle.iso_table.specs.Layout.{Layout, row_at}
+use Rattle.std.specs.Prelude.{◌≡◌, ℕ, ℤ, pos, negsuc, ◌+◌, ◌≤◌, if◌then◌else◌, List, length, Option, Some, None, Result, Ok, Err}
+use Rattle.iso_table.specs.Layout.{Layout}
 use Rattle.iso_wire.specs.declared.fault.UnpackFault.{UnpackFault}
 use Rattle.iso_wire.specs.Contents.{Contents}
 use Rattle.iso_wire.specs.Elements.{has, value_in}
 use Rattle.iso_wire.specs.Reading.{message_at}
-use Rattle.iso_wire.specs.Bodies.{front_of}
 use Rattle.iso_wire.specs.Viewing.{Viewed, IsViewed}
 use Rattle.iso_c.specs.declared.fault.RumpadolFault.{RumpadolFault}
 use Rattle.iso_c.specs.declared.part.RumpadolPart.{RumpadolPart}
 use Rattle.iso_c.specs.Causes.{empty_slot, no_element, unpack_fault}
 use Rattle.iso_c.specs.Parts.{bytes_in}
-
--- how many bytes the parts take whose bodies these are
-abbrev pub sizes_of : List (Option FieldSpec) → List (ℕ × List ℕ) → ℕ
-sizes_of rows [] = 0
-sizes_of rows (w ∷ ws) = (front_of (row_at rows w.0) + length w.1) + sizes_of rows ws
 
 -- the body of element n of the message that the bytes begin with lies there
 abbrev pub IsBodyAt : Layout → List ℕ → ℕ → RumpadolPart → Type 0

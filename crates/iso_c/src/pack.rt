@@ -6,7 +6,7 @@ ghost use Rattle.iso_wire.specs.Elements.{put};
 ghost use Rattle.iso_c.specs.Answers.{Replies};
 ghost use Rattle.iso_c.specs.Causes.{no_memory};
 ghost use Rattle.iso_c.specs.Parts.{bytes_in, elements_or_fault, is_part_within, part_refusal};
-ghost use Rattle.iso_c.specs.Packing.{message_of, IsMessageFault, Packs, IsPackingFault, PacksHeld, IsPackingFaultHeld};
+ghost use Rattle.iso_c.specs.Packing.{message_of, Packs, IsPackingFault, PacksHeld, IsPackingFaultHeld};
 
 use crate::answering::answer;
 use crate::fault::RumpadolFault;
@@ -86,7 +86,7 @@ fn message_of(
     values: &[u8],
 ) -> Result<Message, RumpadolFault>
     ensures ok { IfOk result (λ m. message_of mti parts.now values.now ≡ Ok m) }
-    ensures fault { IfErr result (IsMessageFault mti parts.now values.now) }
+    ensures fault { IfErr result (λ f. f ≢ no_memory → message_of mti parts.now values.now ≡ Err f) }
 {
     let Some(mti) = type_of(mti) else {
         return Err(RumpadolFault::only(8));

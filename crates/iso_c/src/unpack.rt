@@ -3,7 +3,8 @@
 ghost use Rattle.std.specs.Prelude.{◌≡◌, ◌≤◌, [], ◌∷◌, ◌++◌, length, OnOk, IfOk, IfErr};
 ghost use Rattle.iso_wire.specs.Elements.{IsAscending};
 ghost use Rattle.iso_c.specs.Parts.{part_of, parts_from, values_of};
-ghost use Rattle.iso_c.specs.Unpacking.{IsFound, IsReadFault, IsFoundHeld, IsReadFaultHeld, IsUnpackReply, GivesMessage};
+ghost use Rattle.iso_c.specs.Spreading.{IsFound, IsFoundHeld, GivesMessage};
+ghost use Rattle.iso_c.specs.Unpacking.{IsReadFault, IsReadFaultHeld, IsUnpackReply};
 
 use crate::answering::refuse;
 use crate::fault::RumpadolFault;
@@ -83,7 +84,11 @@ pub(crate) fn found_under(
 }
 
 /// The same under what a slot holds.
-fn found_by(alloc: Global, table: &Option<Table>, bytes: &[u8]) -> Result<Found, RumpadolFault>
+fn found_by(
+    alloc: Global,
+    table: &Option<Table>,
+    bytes: &[u8],
+) -> Result<Found, RumpadolFault>
     ensures ok { IfOk result (IsFoundHeld table.now bytes.now) }
     ensures fault { IfErr result (IsReadFaultHeld table.now bytes.now) }
 {

@@ -5,8 +5,8 @@ ghost use Rattle.iso_table.specs.Layout.{row_at};
 ghost use Rattle.iso_wire.specs.Elements.{IsAscending};
 ghost use Rattle.iso_wire.specs.Bodies.{front_of};
 ghost use Rattle.iso_c.specs.Causes.{no_element};
-ghost use Rattle.iso_c.specs.Parts.{from_number};
-ghost use Rattle.iso_c.specs.Viewing.{sizes_of, IsBodyAt, IsViewFault, IsBodyAtHeld, IsViewFaultHeld, ViewsBody};
+ghost use Rattle.iso_c.specs.Later.{from_number, sizes_of};
+ghost use Rattle.iso_c.specs.Viewing.{IsBodyAt, IsViewFault, IsBodyAtHeld, IsViewFaultHeld, ViewsBody};
 
 use crate::answering::refuse;
 use crate::fault::RumpadolFault;

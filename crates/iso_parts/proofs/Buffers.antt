@@ -1,7 +1,7 @@
 -- Buffers that grow at their end.
 use Rattle.std.proofs.Common.{◌≤◌, ℕ, List, ◌++◌, length, take, sym, ap, ◌∙◌, refl, arith}
 use Rattle.std.proofs.lemmas.List.{take-take, take_at, length-append}
-use Rattle.iso_parts.specs.Part.{Keeps}
+use Rattle.iso_parts.specs.Buffers.{Keeps}
 
 -- what begins with more than the old bytes begins with the old bytes
 pub Keeps-front : (a x new : List ℕ) → Keeps (a ++ x) new → Keeps a new

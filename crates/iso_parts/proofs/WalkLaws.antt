@@ -6,7 +6,8 @@ use Rattle.std.proofs.lemmas.Bool.Decides.{nat_tests}
 use Rattle.std.proofs.Math.Nat.{pow-suc}
 use Rattle.std.proofs.lemmas.Nat.Bits.{bit_at-zero, bit_at_above, bit_at_cat_low, bit_at_cat_high}
 use Rattle.iso_parts.specs.Bits.{in_words}
-use Rattle.iso_parts.specs.Numbers.{IsTaken, numbers_in}
+use Rattle.iso_parts.specs.FirstBit.{IsTaken}
+use Rattle.iso_parts.specs.Numbers.{numbers_in}
 use Rattle.iso_parts.proofs.NumberLaws.{IsLowest, numbers_lowest, numbers_agree, numbers_none}
 
 -- bit i is the first one of a word, and the rest has the others

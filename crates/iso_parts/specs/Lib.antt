@@ -2,11 +2,14 @@ pub mod Mti
 pub mod Class
 pub mod Row
 pub mod Bits
+pub mod FirstBit
 pub mod Numbers
 pub mod BitmapReading
 pub mod FaultNumbers
 pub mod FourDigits
 pub mod Part
+pub mod Buffers
+pub mod Texts
 pub mod Reading
 pub mod PartLaws
 pub mod MapLaws

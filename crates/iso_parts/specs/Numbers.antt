@@ -1,6 +1,5 @@
 -- The numbers of a bitmap's elements, in ascending order (ISO 8583:1987, primary and secondary bitmap).
--- Public promise: numbers_in, members, members_below, Takes, first_missing. Inner: numbers, IsTaken.
-use Rattle.std.specs.Prelude.{◌≡◌, ℕ, zero, suc, ◌+◌, ◌-◌, ◌<◌, ◌≤◌, ◌^◌, Bool, not, if◌then◌else◌, List, [], ◌∷◌, find, Option, Some, None}
+use Rattle.std.specs.Prelude.{◌≡◌, ℕ, zero, suc, ◌+◌, ◌-◌, Bool, not, if◌then◌else◌, List, [], ◌∷◌, find, Option, Some, None}
 use Rattle.iso_parts.specs.declared.bitmap.Bitmap.{Bitmap}
 use Rattle.iso_parts.specs.Bits.{in_words}
 
@@ -29,7 +28,3 @@ Takes old new (Some n) = old ≡ n ∷ new
 -- the first of the numbers that isn't in the set
 abbrev pub first_missing : (ℕ → Bool) → List ℕ → Option ℕ
 first_missing set ns = find (λ n. not (set n)) ns
-
--- the first bit of a word, behind so many others, was taken out of it
-abbrev pub IsTaken : ℕ → ℕ → ℕ → Type 0
-IsTaken old new before = (i : ℕ) × (before + suc i ≡ 64) × (2 ^ i ≤ old) × (old < 2 ^ suc i) × (new ≡ old - 2 ^ i)

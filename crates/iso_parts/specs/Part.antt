@@ -1,6 +1,5 @@
 -- How a value is written: the bytes of its body, and the length before them.
--- Inner, for bodies and proofs: `Keeps`.
-use Rattle.std.specs.Prelude.{◌≡◌, ℕ, take, ◌+◌, ◌-◌, ◌*◌, ◌/◌, ◌%◌, ◌==◌, List, [], ◌∷◌, ◌++◌, length, replicate, Ok, if◌then◌else◌, ◌⊎◌}
+use Rattle.std.specs.Prelude.{◌≡◌, ℕ, ◌+◌, ◌-◌, ◌*◌, ◌/◌, ◌%◌, ◌==◌, List, [], ◌∷◌, ◌++◌, length, replicate, Ok, if◌then◌else◌, ◌⊎◌}
 use Rattle.std.specs.List.{flat_map}
 use Rattle.hex.specs.Hex.{decode_of, encode_upper}
 use Rattle.iso_parts.specs.declared.encoding.Coding.{Coding}
@@ -75,7 +74,3 @@ plain codings.HexText w = encode_upper w
 
 abbrev pub plain_part : FieldSpec → List ℕ → List ℕ
 plain_part s v = prefix s.length (length v) ++ plain s.coding (padded s v)
-
--- the new list begins with the old one
-abbrev pub Keeps : List ℕ → List ℕ → Type 0
-Keeps old new = take (length old) new ≡ old

@@ -1,6 +1,5 @@
 -- Reading a part from the front of bytes: the length before it, and then its body.
--- Inner, for bodies and proofs: `is_plain`, `Gives`, `Decodes`, `IsJudged`.
-use Rattle.std.specs.Prelude.{◌≡◌, ◌≢◌, ℕ, ◌++◌, Bool, true, false, Option, Some, None, ◌+◌, ◌*◌, ◌/◌, ◌%◌, ◌==◌, ◌||◌, nat_lt, List, [], ◌∷◌, length, take, drop, reverse, Result, Ok, Err, if◌then◌else◌}
+use Rattle.std.specs.Prelude.{◌≡◌, ◌≢◌, ℕ, ◌++◌, Option, Some, None, ◌+◌, ◌*◌, ◌/◌, ◌%◌, ◌==◌, ◌||◌, nat_lt, List, [], ◌∷◌, length, take, drop, reverse, Result, Ok, Err, if◌then◌else◌}
 use Rattle.hex.specs.Hex.{decode_of}
 use Rattle.hex.specs.declared.error.FromHexError.{FromHexError}
 use Rattle.iso_parts.specs.declared.encoding.Coding.{Coding}
@@ -19,7 +18,7 @@ use Rattle.iso_parts.specs.declared.judging.Judged.{Judged}
 use Rattle.iso_parts.specs.declared.judging.Judged.TheVariants as judgements
 use Rattle.iso_parts.specs.Class.{is_in_class}
 use Rattle.iso_parts.specs.FourDigits.{four_digits}
-use Rattle.iso_parts.specs.Part.{characters, Keeps}
+use Rattle.iso_parts.specs.Part.{characters}
 
 infixl 10 ◌>>=◌
 abbrev pub ◌>>=◌ : {A B : Type 0} → Result A FieldFault → (A → Result B FieldFault) → Result B FieldFault
@@ -66,13 +65,6 @@ abbrev pub prefix_of : FieldSpec → List ℕ → Result ℕ FieldFault
 prefix_of s p = do
   n ← count_of s.length s.max p
   if nat_lt s.max n then Err LengthOver else Ok n
-
--- whether a character is a byte
-abbrev pub is_plain : Coding → Bool
-is_plain codings.Ascii = true
-is_plain codings.Raw = true
-is_plain codings.Bcd = false
-is_plain codings.HexText = false
 
 -- how many bytes n characters take
 abbrev pub body_size : Coding → ℕ → ℕ
@@ -142,16 +134,6 @@ part_at s b =
 
 -- ---- what functions answer
 
--- what a function answers, seen by view, is what reading gives, unless memory ran out
-abbrev pub Gives : {X Y : Type 0} → (X → Y) → Result X FieldFault → Result Y FieldFault → Type 0
-Gives view (Ok x) read = read ≡ Ok (view x)
-Gives view (Err e) read = e ≢ Memory → read ≡ Err e
-
--- a function appended what reading gives, unless memory ran out; on a fault what was there still stands in front
-abbrev pub Decodes : List ℕ → List ℕ → Result Unit FieldFault → Result (List ℕ) FieldFault → Type 0
-Decodes old new (Ok u) read = (text : List ℕ) × (read ≡ Ok text) × (new ≡ old ++ text)
-Decodes old new (Err e) read = (e ≢ Memory → read ≡ Err e) × Keeps old new
-
 -- a function appended the value of the part at the front, and says how many bytes it takes; or what else was read, and nothing was changed
 abbrev pub DecodesValue : List ℕ → List ℕ → Result (Option ℕ) FieldFault → FieldReading → Type 0
 DecodesValue old new (Ok (Some used)) o = (value : List ℕ) × (o ≡ got value used) × (new ≡ old ++ value)
@@ -170,11 +152,6 @@ IfGot (Ok steps.More) P = Unit {0}
 IfGot (Err e) P = Unit {0}
 
 -- ---- judging alone
-
--- a function judged what reading gives, without the value: it never runs out of memory
-abbrev pub IsJudged : Result Unit FieldFault → Result (List ℕ) FieldFault → Type 0
-IsJudged (Ok u) read = (text : List ℕ) × (read ≡ Ok text)
-IsJudged (Err e) read = read ≡ Err e
 
 abbrev pub some_count : Result ℕ FieldFault → Result (Option ℕ) FieldFault
 some_count (Ok n) = Ok (Some n)

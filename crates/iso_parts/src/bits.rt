@@ -2,7 +2,7 @@
 
 ghost use Rattle.std.specs.Int.{bit_at};
 ghost use Rattle.std.specs.Prelude.{◌≡◌, ◌≢◌, ◌/◌, ◌<◌, ◌≤◌, ◌^◌, ℕ, count_ones};
-ghost use Rattle.iso_parts.specs.Numbers.{IsTaken};
+ghost use Rattle.iso_parts.specs.FirstBit.{IsTaken};
 
 /// The first bit of a word. In a primary bitmap it tells that a secondary one follows; it is none of an element.
 pub const FIRST_BIT: u64 = 0x8000_0000_0000_0000;

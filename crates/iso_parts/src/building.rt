@@ -1,7 +1,8 @@
 //! Building the values of parts that were judged good, without judging them again.
 
 ghost use Rattle.std.specs.Prelude.{◌≡◌, ◌≤◌, length, IfOk};
-ghost use Rattle.iso_parts.specs.Building.{IsTold, IsPart, Builds, BuildsValue};
+ghost use Rattle.iso_parts.specs.Building.{IsPart, BuildsValue};
+ghost use Rattle.iso_parts.specs.Texts.{IsTold, Builds};
 ghost use Rattle.iso_parts.specs.Reading.{text_of, body_of, part_at};
 
 use crate::encoding::Coding;

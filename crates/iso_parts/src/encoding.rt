@@ -4,8 +4,10 @@ ghost use Rattle.std.specs.Prelude.{◌≡◌, ◌++◌, ◌≤◌, ◌*◌, len
 ghost use Rattle.std.specs.List.{list_all};
 ghost use Rattle.hex.specs.Hex.{is_hex_digit};
 ghost use Rattle.iso_parts.specs.Row.{is_coded, is_pad_byte};
-ghost use Rattle.iso_parts.specs.Part.{characters, pairs, plain, with_filler, Keeps};
-ghost use Rattle.iso_parts.specs.Reading.{Decodes, is_plain, body_size, text_of};
+ghost use Rattle.iso_parts.specs.Buffers.{Keeps};
+ghost use Rattle.iso_parts.specs.Part.{characters, pairs, plain, with_filler};
+ghost use Rattle.iso_parts.specs.Reading.{body_size, text_of};
+ghost use Rattle.iso_parts.specs.Texts.{Decodes, is_plain};
 
 use crate::class::CharClass;
 use crate::fault::FieldFault;

@@ -5,8 +5,10 @@ ghost use Rattle.std.specs.Prelude.{IfOk, IfSome};
 ghost use Rattle.std.specs.Prelude.{OnOk, OnErr, IfErr, IsTrue, None, Some};
 ghost use Rattle.iso_parts.specs.declared.fault.FieldFault.TheVariants.{Memory};
 ghost use Rattle.iso_parts.specs.Row.{is_length, refusal, IsGood, Fits};
-ghost use Rattle.iso_parts.specs.Part.{with_pads, padded, pairs, plain, plain_part, Part, Keeps};
-ghost use Rattle.iso_parts.specs.Reading.{prefix_size, Reads, Decodes, DecodesValue, IfGot, got, prefix_of, value_of, body_of, part_at};
+ghost use Rattle.iso_parts.specs.Part.{with_pads, padded, pairs, plain, plain_part, Part};
+ghost use Rattle.iso_parts.specs.Buffers.{Keeps};
+ghost use Rattle.iso_parts.specs.Texts.{Decodes};
+ghost use Rattle.iso_parts.specs.Reading.{prefix_size, Reads, DecodesValue, IfGot, got, prefix_of, value_of, body_of, part_at};
 
 use crate::encoding::Coding;
 use crate::fault::FieldFault;

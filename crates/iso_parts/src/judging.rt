@@ -6,7 +6,8 @@ ghost use Rattle.iso_parts.specs.Building.{IsPart};
 ghost use Rattle.iso_parts.specs.Row.{IsGood};
 ghost use Rattle.iso_parts.specs.declared.fault.FieldFault.TheVariants.{Memory};
 ghost use Rattle.iso_parts.specs.Part.{characters, Part};
-ghost use Rattle.iso_parts.specs.Reading.{IsJudged, Judges, IfJudged, is_plain, count_at, size_at, prefix_size, body_size, value_of, body_of, part_at};
+ghost use Rattle.iso_parts.specs.Texts.{IsJudged, is_plain};
+ghost use Rattle.iso_parts.specs.Reading.{Judges, IfJudged, count_at, size_at, prefix_size, body_size, value_of, body_of, part_at};
 
 use crate::class::CharClass;
 use crate::encoding::{Coding, are_hex_digits};

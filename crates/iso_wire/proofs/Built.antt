@@ -6,7 +6,7 @@ use Rattle.iso_parts.specs.Reading.{FieldReading, got, more, fault, part_at}
 use Rattle.iso_table.specs.Layout.{Layout, row_at}
 use Rattle.iso_wire.specs.declared.fault.UnpackFault.{UnpackFault}
 use Rattle.iso_wire.specs.Contents.{Contents}
-use Rattle.iso_wire.specs.Feeding.{IsRead}
+use Rattle.iso_wire.specs.Taking.{IsRead}
 use Rattle.iso_parts.specs.Numbers.{numbers_in}
 use Rattle.iso_parts.specs.Mti.{mti_size}
 use Rattle.iso_wire.specs.Reading.{◌>>=◌, type_at, words_at, answer, value_by, value_at, elements_at, message_at, whole}

@@ -11,11 +11,10 @@ use Rattle.iso_parts.specs.PartLaws.{PartLaws}
 use Rattle.iso_wire.specs.declared.fault.UnpackFault.{UnpackFault}
 use Rattle.iso_table.specs.Layout.{row_at, AreGood}
 use Rattle.iso_wire.specs.Elements.{has}
-use Rattle.iso_wire.specs.Numbers.{numbers_of}
 use Rattle.iso_wire.specs.Spelling.{AreBytes, Parts, PartAs}
 use Rattle.iso_wire.specs.Reading.{◌>>=◌, answer, value_by, value_at, elements_at}
 use Rattle.iso_wire.proofs.Bytes.{bytes_drop}
-use Rattle.iso_wire.proofs.Orders.{Values}
+use Rattle.iso_wire.proofs.Orders.{numbers_of, Values}
 use Rattle.iso_wire.proofs.Sets.{has_after}
 
 -- ---- the parts of elements are read

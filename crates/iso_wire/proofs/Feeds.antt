@@ -12,7 +12,8 @@ use Rattle.iso_wire.specs.declared.unpacker.Fed.{Fed}
 use Rattle.iso_wire.specs.declared.unpacker.Fed.TheVariants as fed
 use Rattle.iso_wire.specs.Contents.{Contents}
 use Rattle.iso_wire.specs.Faults.{out_of_memory}
-use Rattle.iso_wire.specs.Feeding.{Feeds, IsRead, KeepsTaken, FoundFed, IsReadyAfter}
+use Rattle.iso_wire.specs.Feeding.{Feeds, FoundFed}
+use Rattle.iso_wire.specs.Taking.{IsRead, KeepsTaken, IsReadyAfter}
 use Rattle.iso_parts.specs.Mti.{mti_size}
 use Rattle.iso_wire.specs.Reading.{IsFaultOf, message_at, whole}
 use Rattle.iso_wire.specs.ReadingLaws.{IsShort, ReadsSpellings, ReadingStays}

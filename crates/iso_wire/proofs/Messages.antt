@@ -13,13 +13,12 @@ use Rattle.iso_wire.specs.Contents.{Contents}
 use Rattle.iso_wire.specs.Elements.{has, IsAscending}
 use Rattle.iso_table.specs.Layout.{Layout, AreGood}
 use Rattle.iso_parts.specs.Numbers.{numbers_in}
-use Rattle.iso_wire.specs.Numbers.{numbers_of}
 use Rattle.iso_wire.specs.Spelling.{mti_bytes, AreBytes, BeginsWith, Spelling}
 use Rattle.iso_parts.specs.Mti.{mti_size}
 use Rattle.iso_wire.specs.Reading.{◌>>=◌, halt, mti_of, of_version, type_at, words_at, elements_at, message_at, whole}
 use Rattle.iso_wire.specs.ReadingLaws.{ReadsSpellings}
 use Rattle.iso_wire.proofs.Bytes.{bytes_take, bytes_drop}
-use Rattle.iso_wire.proofs.Orders.{Values}
+use Rattle.iso_wire.proofs.Orders.{numbers_of, Values}
 use Rattle.iso_wire.proofs.ElementLaws.{elements_again, elements_taken, has_row, bind_ok, ok_is}
 use Rattle.iso_wire.proofs.Sets.{numbers_from_set, made_from_set, has_after}
 use Rattle.iso_wire.proofs.Types.{length-mti_bytes, mti_again, mti_takes}

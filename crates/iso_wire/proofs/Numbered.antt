@@ -8,8 +8,7 @@ use Rattle.iso_parts.specs.Bits.{contains, AreElements}
 use Rattle.iso_parts.specs.Numbers.{members}
 use Rattle.iso_wire.specs.Elements.{has, put, without, IsAscending}
 use Rattle.iso_wire.specs.Ends.{Adds}
-use Rattle.iso_wire.specs.Numbers.{numbers_of}
-use Rattle.iso_wire.proofs.Orders.{Values}
+use Rattle.iso_wire.proofs.Orders.{numbers_of, Values}
 use Rattle.iso_wire.proofs.Sets.{has_below, has_here, has_after, made_from_set}
 
 -- the set has the numbers of these elements

@@ -1,5 +1,5 @@
 -- Elements in ascending order: what is put, left out and found.
-use Rattle.std.proofs.Common.{◌≡◌, ◌≢◌, ℕ, ◌+◌, ◌<◌, ◌≤◌, Bool, true, false, cond, eqb, ltb, Some, None, List, [], ◌∷◌, ◌++◌, refl, ap, subst, ◌∙◌, arith}
+use Rattle.std.proofs.Common.{◌≡◌, ◌≢◌, ℕ, ◌+◌, ◌<◌, ◌≤◌, Bool, true, false, cond, eqb, ltb, Some, None, List, [], ◌∷◌, ◌++◌, map, refl, ap, subst, ◌∙◌, arith}
 use Rattle.std.proofs.lemmas.Bool.{eqb-true, ltb-true}
 use Rattle.std.proofs.lemmas.Bool.Decides.{nat_tests}
 use Rattle.iso_wire.specs.Elements.{value_in, is_number, IsAscending, IsBelow, put, without}
@@ -7,6 +7,10 @@ use Rattle.iso_wire.specs.Ends.{IsAbove}
 
 abbrev pub Values : Type 0
 Values = List (ℕ × List ℕ)
+
+-- the numbers of a message's elements
+abbrev pub numbers_of : Values → List ℕ
+numbers_of es = map (λ e. e.0) es
 
 -- ---- bounds
 

@@ -18,13 +18,12 @@ use Rattle.iso_table.specs.Layout.{Layout, AreGood}
 use Rattle.iso_wire.specs.declared.fault.UnpackFault.{UnpackFault}
 use Rattle.iso_wire.specs.declared.fault.UnpackCause.{UnpackCause}
 use Rattle.iso_wire.specs.declared.fault.UnpackCause.TheVariants as causes
-use Rattle.iso_wire.specs.Numbers.{numbers_of}
 use Rattle.iso_wire.specs.Reading.{◌>>=◌, halt, fault_place, answer, value_by, value_at, elements_at}
 use Rattle.iso_wire.specs.Spelling.{AreBytes, Parts}
 use Rattle.iso_wire.specs.Stops.{count, body, Halts}
 use Rattle.iso_wire.proofs.Bytes.{bytes_take, bytes_drop}
 use Rattle.iso_wire.proofs.ElementLaws.{part_read, value_taken}
-use Rattle.iso_wire.proofs.Orders.{Values}
+use Rattle.iso_wire.proofs.Orders.{numbers_of, Values}
 use Rattle.iso_wire.proofs.StopsMaps.{fault_is, fault_at, HaltsAs}
 
 -- ---- where a part stops

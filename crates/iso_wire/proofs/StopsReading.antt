@@ -14,7 +14,6 @@ use Rattle.iso_wire.specs.declared.fault.UnpackFault.{UnpackFault}
 use Rattle.iso_wire.specs.declared.fault.UnpackCause.{UnpackCause}
 use Rattle.iso_wire.specs.Contents.{Contents}
 use Rattle.iso_parts.specs.Numbers.{numbers_in}
-use Rattle.iso_wire.specs.Numbers.{numbers_of}
 use Rattle.iso_parts.specs.Mti.{mti_size}
 use Rattle.iso_wire.specs.Reading.{◌>>=◌, halt, type_at, primary_at, secondary_at, words_by, words_at, value_by, value_at, elements_at, message_at, whole}
 use Rattle.iso_wire.specs.Spelling.{AreBytes}
@@ -23,7 +22,7 @@ use Rattle.iso_wire.specs.StopsLaws.{StopsAsRead}
 use Rattle.iso_wire.proofs.Bytes.{bytes_take, bytes_drop}
 use Rattle.iso_wire.proofs.Messages.{type_again}
 use Rattle.iso_wire.proofs.NumberLaws.{numbers_agree}
-use Rattle.iso_wire.proofs.Orders.{Values}
+use Rattle.iso_wire.proofs.Orders.{numbers_of, Values}
 use Rattle.iso_wire.proofs.Sets.{made_from_set, numbers_from_set}
 use Rattle.iso_wire.proofs.StopsHalted.{primary_is_halted, secondary_is_halted, first_of_two_read, good_maps_read, primary_taken, all_rows}
 use Rattle.iso_wire.proofs.StopsMaps.{fault_is, fault_at, HaltsAs, TypeTaken, type_halts, type_taken, type_is_halted, primary_halts, secondary_halts}

@@ -1,5 +1,4 @@
 -- A message as lines for human eyes: its type with the words for its digits, and each element.
--- Inner, for bodies and proofs: `word_or`.
 use Rattle.std.specs.Prelude.{ℕ, ◌+◌, ◌-◌, ◌/◌, ◌%◌, ◌==◌, nat_lt, Bool, if◌then◌else◌, List, [], ◌∷◌, ◌++◌, length, take, drop, replicate, Option, Some, None, codes}
 use Rattle.iso_parts.specs.declared.prefix.Digits.TheVariants.{Ascii}
 use Rattle.iso_parts.specs.declared.class.CharClass.{CharClass}
@@ -16,11 +15,6 @@ use Rattle.iso_wire.specs.Spelling.{mti_bytes}
 -- a digit without a meaning
 abbrev pub reserved : ℕ → List ℕ
 reserved d = codes "Reserved(" ++ (48 + d) ∷ 41 ∷ []
-
--- a word, or that the digit is reserved where there is none
-abbrev pub word_or : ℕ → List ℕ → List ℕ
-word_or d [] = reserved d
-word_or d (c ∷ word) = c ∷ word
 
 unfoldable pub version_word : ℕ → List ℕ
 version_word d =

@@ -1,13 +1,11 @@
 -- A message that comes in pieces: what was taken of it, and what is answered to each further piece.
--- Inner, for bodies and proofs: `KeepsTaken`, `IsRead`, `IsBuilt`, `IsReadyAfter`.
-use Rattle.std.specs.Prelude.{◌≡◌, ◌≢◌, ℕ, ◌+◌, ◌≤◌, List, [], ◌++◌, length, Option, Some, None, Result, Ok, Err}
+use Rattle.std.specs.Prelude.{◌≡◌, ◌≢◌, ℕ, ◌+◌, List, [], ◌++◌, Option, Some, Result, Ok, Err}
 use Rattle.iso_wire.specs.declared.fault.UnpackFault.{UnpackFault}
 use Rattle.iso_wire.specs.declared.fault.UnpackCause.TheVariants.{Short, Memory}
 use Rattle.iso_wire.specs.declared.unpacker.Fed.{Fed}
 use Rattle.iso_wire.specs.declared.unpacker.Fed.TheVariants as fed
 use Rattle.iso_wire.specs.Contents.{Contents}
-use Rattle.iso_wire.specs.Faults.{out_of_memory}
-use Rattle.iso_wire.specs.Reading.{IsFaultOf, message_at, whole}
+use Rattle.iso_wire.specs.Reading.{IsFaultOf, whole}
 use Rattle.iso_wire.specs.ReadingLaws.{IsShort}
 use Rattle.iso_wire.specs.Spelling.{AreBytes, BeginsWith, BeginsWithNone}
 use Rattle.iso_wire.specs.Stops.{Stops}
@@ -19,11 +17,6 @@ pub record Feeding : Type 0 where
   pub taken : List ℕ
   pub stopped : Option UnpackFault
 
--- what stands between two calls: a fault other than want of memory, and then nothing is taken; or a message's unfinished front
-abbrev pub IsReady : Layout → List ℕ → Option UnpackFault → Type 0
-IsReady t taken (Some e) = (taken ≡ []) × (e.cause ≢ Memory) × (e.cause ≢ Short)
-IsReady t taken None = IsShort (message_at t taken)
-
 -- ---- what is answered to a piece, behind the bytes taken before it
 
 -- the answer is what reading all the bytes gives, the message's end seen from the piece; unless memory ran out
@@ -31,27 +24,6 @@ abbrev pub Feeds : ℕ → Result Fed UnpackFault → Result (Contents × ℕ) U
 Feeds before (Ok (fed.Done message used)) read = read ≡ whole message (before + used)
 Feeds before (Ok fed.More) read = IsShort read
 Feeds before (Err e) read = IsFaultOf e read × (e.cause ≢ Short)
-
--- the bytes that are taken afterwards
-abbrev pub KeepsTaken : List ℕ → List ℕ → List ℕ → Result Fed UnpackFault → Type 0
-KeepsTaken old new piece (Ok (fed.Done message used)) = (new ≡ []) × (used ≤ length piece)
-KeepsTaken old new piece (Ok fed.More) = new ≡ old ++ piece
-KeepsTaken old new piece (Err e) = (e.cause ≡ Memory → new ≡ old) × (e.cause ≢ Memory → new ≡ [])
-
--- a message and no fault was read
-abbrev pub IsRead : {A : Type 0} → Result A UnpackFault → Type 0
-IsRead (Ok x) = Unit {0}
-IsRead (Err e) = ⊥
-
--- a message that was built is the one that reading gives, its end seen from behind the bytes taken before it; or memory ran out
-abbrev pub IsBuilt : ℕ → Result (Contents × ℕ) UnpackFault → Result (Contents × ℕ) UnpackFault → Type 0
-IsBuilt before (Ok x) read = read ≡ whole x.0 (before + x.1)
-IsBuilt before (Err e) read = e ≡ out_of_memory
-
--- and the bytes taken are ready for a further piece
-abbrev pub IsReadyAfter : Layout → List ℕ → Result Fed UnpackFault → Type 0
-IsReadyAfter t new (Ok fed) = IsShort (message_at t new)
-IsReadyAfter t new (Err e) = (e.cause ≡ Memory → IsShort (message_at t new)) × (e.cause ≢ Memory → (new ≡ []) × (e.cause ≢ Short))
 
 -- how it stands afterwards
 abbrev pub IsAfterFeed : Feeding → Feeding → List ℕ → Result Fed UnpackFault → Type 0

@@ -8,11 +8,13 @@ pub mod Refusal
 pub mod OneSpelling
 pub mod Faults
 pub mod Reading
+pub mod Appending
 pub mod Frame
 pub mod ReadingLaws
 pub mod Stops
 pub mod Resuming
 pub mod Feeding
+pub mod Taking
 pub mod Viewing
 pub mod Bodies
 pub mod FaultNumbers
@@ -20,3 +22,4 @@ pub mod Masking
 pub mod StopsLaws
 pub mod Equality
 pub mod Describing
+pub mod DigitWords

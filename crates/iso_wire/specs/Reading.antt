@@ -2,17 +2,15 @@
 -- bit of the primary says so, and then for each element its length and its body. A piece is judged when it is whole.
 -- A fault tells the offset of the piece, and whose it is: 0 for the type and the primary bitmap, 1 for the secondary
 -- bitmap, else the element's number.
--- Inner, for bodies and proofs: `AppendsPart`, `AppendsElement`, `ReadsInto`.
-use Rattle.std.specs.Prelude.{◌≡◌, ◌≢◌, ℕ, ◌+◌, ◌-◌, ◌*◌, ◌/◌, ◌%◌, ◌==◌, ◌&&◌, nat_lt, List, [], ◌∷◌, ◌++◌, length, take, drop, Option, Some, None, Result, Ok, Err, if◌then◌else◌}
+use Rattle.std.specs.Prelude.{◌≡◌, ◌≢◌, ℕ, ◌+◌, ◌/◌, ◌%◌, ◌==◌, nat_lt, List, [], ◌∷◌, length, take, drop, Option, Some, None, Result, Ok, Err, if◌then◌else◌}
 use Rattle.iso_parts.specs.declared.prefix.Digits.{Digits}
 use Rattle.iso_parts.specs.declared.prefix.Digits.TheVariants as digits
 use Rattle.iso_parts.specs.declared.bitmap.BitmapCoding.{BitmapCoding}
-use Rattle.iso_parts.specs.declared.mti.Mti.{Mti}
 use Rattle.iso_parts.specs.declared.spec.FieldSpec.{FieldSpec}
 use Rattle.iso_parts.specs.declared.fault.FieldFault.{FieldFault}
 use Rattle.iso_parts.specs.declared.fault.FieldFault.TheVariants as fields
 use Rattle.iso_parts.specs.Bits.{map_size}
-use Rattle.iso_parts.specs.Mti.{mti_size, mti_number}
+use Rattle.iso_parts.specs.Mti.{mti_size}
 use Rattle.iso_parts.specs.BitmapReading.{word_in, top}
 use Rattle.iso_parts.specs.FourDigits.{four_digits}
 use Rattle.iso_parts.specs.Reading.{FieldReading, got, more, fault, prefix_size, part_at}
@@ -149,21 +147,6 @@ IsFaultOf e read = (e.cause ≡ Memory → e ≡ out_of_memory) × (e.cause ≢ 
 abbrev pub Gives : {X Y : Type 0} → (X → Y) → Result X UnpackFault → Result Y UnpackFault → Type 0
 Gives view (Ok x) read = read ≡ Ok (view x)
 Gives view (Err e) read = IsFaultOf e read
-
--- a function appended the value that reading gives, and says how many bytes its part takes
-abbrev pub AppendsPart : List ℕ → List ℕ → Result ℕ UnpackFault → Result (List ℕ × ℕ) UnpackFault → Type 0
-AppendsPart old new (Ok used) read = (value : List ℕ) × (read ≡ Ok (value, used)) × (new ≡ old ++ value)
-AppendsPart old new (Err e) read = IsFaultOf e read
-
--- a function appended the value that reading gives as element n, and says how many bytes its part takes
-abbrev pub AppendsElement : List (ℕ × List ℕ) → List (ℕ × List ℕ) → ℕ → Result ℕ UnpackFault → Result (List ℕ × ℕ) UnpackFault → Type 0
-AppendsElement old new n (Ok used) read = (value : List ℕ) × (read ≡ Ok (value, used)) × (new ≡ old ++ (n, value) ∷ [])
-AppendsElement old new n (Err e) read = IsFaultOf e read
-
--- a function read these elements of the message that reading gives, and answers its type and how many bytes it takes
-abbrev pub ReadsInto : List (ℕ × List ℕ) → Result (Mti × ℕ) UnpackFault → Result (Contents × ℕ) UnpackFault → Type 0
-ReadsInto elements (Ok x) read = read ≡ Ok (record { mti = mti_number x.0; elements = elements }, x.1)
-ReadsInto elements (Err e) read = IsFaultOf e read
 
 -- what unpacking answers is what reading gives, unless memory ran out
 abbrev pub Unpacks : Result (Contents × ℕ) UnpackFault → Result (Contents × ℕ) UnpackFault → Type 0

@@ -3,8 +3,9 @@
 ghost use Rattle.std.specs.Prelude.{◌≡◌, ◌+◌, ◌≤◌, ◌∷◌, ℕ, List, drop, length, IfOk, OnOk};
 ghost use Rattle.iso_table.specs.Layout.{AreGood};
 ghost use Rattle.iso_wire.specs.Ends.{views, Awaits, IsWhole, IsNumbered};
-ghost use Rattle.iso_wire.specs.Feeding.{IsRead};
-ghost use Rattle.iso_wire.specs.Reading.{AppendsElement, Gives, Unpacks, value_at, elements_at, message_at};
+ghost use Rattle.iso_wire.specs.Taking.{IsRead};
+ghost use Rattle.iso_wire.specs.Appending.{AppendsElement};
+ghost use Rattle.iso_wire.specs.Reading.{Gives, Unpacks, value_at, elements_at, message_at};
 ghost use Rattle.iso_parts.specs.Bits.{contains, AreElements};
 ghost use Rattle.iso_parts.specs.Numbers.{members};
 

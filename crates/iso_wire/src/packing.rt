@@ -4,7 +4,7 @@ ghost use Rattle.std.specs.Prelude.{◌≡◌, ◌≢◌, ℕ, ◌++◌, ◌<◌
 ghost use Rattle.std.specs.List.{flat_map};
 ghost use Rattle.iso_wire.specs.declared.fault.PackFault.TheVariants as pack;
 ghost use Rattle.iso_wire.specs.Ends.{views, IsWhole};
-ghost use Rattle.iso_parts.specs.Part.{Keeps};
+ghost use Rattle.iso_parts.specs.Buffers.{Keeps};
 ghost use Rattle.iso_table.specs.Layout.{row_at, AreGood};
 ghost use Rattle.iso_wire.specs.Reading.{message_at, whole};
 ghost use Rattle.iso_wire.specs.Refusal.{as_pack, refused_by, refused, message_refusal};

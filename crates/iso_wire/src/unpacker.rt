@@ -3,7 +3,8 @@
 ghost use Rattle.std.specs.Prelude.{ℕ, ◌≡◌, ◌≢◌, ◌≤◌, ◌-◌, ◌++◌, [], take, length, List, IfOk, IfErr, None, Some};
 ghost use Rattle.iso_table.specs.Layout.{AreGood};
 ghost use Rattle.iso_table.specs.Sizes.{max_bytes};
-ghost use Rattle.iso_wire.specs.Feeding.{IsRead, IsBuilt, Feeds, KeepsTaken, IsReadyAfter, IsAfterFeed, StaysStopped, FoundFed, StopsFed};
+ghost use Rattle.iso_wire.specs.Feeding.{Feeds, IsAfterFeed, StaysStopped, FoundFed, StopsFed};
+ghost use Rattle.iso_wire.specs.Taking.{IsRead, IsBuilt, KeepsTaken, IsReadyAfter};
 ghost use Rattle.iso_wire.specs.declared.fault.UnpackCause.{UnpackCause};
 ghost use Rattle.iso_wire.specs.declared.fault.UnpackCause.TheVariants.{Short, Memory};
 ghost use Rattle.iso_wire.specs.Contents.{Contents};
@@ -47,7 +48,8 @@ pub struct Unpacker<'t> {
 }
 
 impl<'t> Model for Unpacker<'t> {
-    ghost use Rattle.iso_wire.specs.Feeding.{Feeding, IsReady};
+    ghost use Rattle.iso_wire.specs.Feeding.{Feeding};
+    ghost use Rattle.iso_wire.specs.Taking.{IsReady};
 
     ghost Value = { Feeding };
 

@@ -3,7 +3,8 @@
 ghost use Rattle.std.specs.Prelude.{◌≡◌, ◌<◌, ◌≤◌, ◌++◌, ◌∷◌, OnOk, codes};
 ghost use Rattle.iso_parts.specs.declared.prefix.Digits.TheVariants.{Ascii};
 ghost use Rattle.iso_wire.specs.Spelling.{mti_bytes};
-ghost use Rattle.iso_wire.specs.Describing.{version_word, class_word, function_word, origin_word, word_or, type_line};
+ghost use Rattle.iso_wire.specs.Describing.{version_word, class_word, function_word, origin_word, type_line};
+ghost use Rattle.iso_wire.specs.DigitWords.{word_or};
 
 use iso_parts::four_ascii_digits;
 use std::alloc::AllocError;

@@ -1,7 +1,8 @@
 use Rattle.std.proofs.Common.{◌≡◌, ℤ, ℕ, List, Option, subst, sym, w64, to_z, of_z}
 use Rattle.std.proofs.Math.Facts.{to_z-of_z}
 use Rattle.iso_table.specs.Layout.{Layout}
-use Rattle.iso_c.specs.Unpacking.{IsUnpackReply, IsFoundHeld, IsReadFaultHeld}
+use Rattle.iso_c.specs.Spreading.{IsFoundHeld}
+use Rattle.iso_c.specs.Unpacking.{IsUnpackReply, IsReadFaultHeld}
 use Rattle.iso_c.proofs.Unpacks.{within, given, not_read}
 use Rattle.iso_c.proofs.unpack.rumpadol_unpack.Goals as goal
 

@@ -1,6 +1,5 @@
 use Rattle.std.proofs.Common.{◌≡◌, ◌+◌}
-use Rattle.iso_c.specs.Parts.{from_number}
-use Rattle.iso_c.specs.Viewing.{sizes_of}
+use Rattle.iso_c.specs.Later.{from_number, sizes_of}
 use Rattle.iso_c.proofs.view.size_behind.Given as goal
 
 -- the sizes so far, and then those from the number on

@@ -1,5 +1,6 @@
 use Rattle.std.proofs.Common.{◌≡◌, ◌++◌, take}
-use Rattle.iso_parts.specs.Part.{characters, Keeps}
+use Rattle.iso_parts.specs.Buffers.{Keeps}
+use Rattle.iso_parts.specs.Part.{characters}
 use Rattle.iso_parts.proofs.encoding.decode_characters.Given as goal
 
 abbrev pub invariant-loop-b : goal.invariant-loop-b

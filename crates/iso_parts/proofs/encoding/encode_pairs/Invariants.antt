@@ -1,5 +1,6 @@
 use Rattle.std.proofs.Common.{◌≡◌, ◌++◌, length}
-use Rattle.iso_parts.specs.Part.{pairs, Keeps}
+use Rattle.iso_parts.specs.Buffers.{Keeps}
+use Rattle.iso_parts.specs.Part.{pairs}
 use Rattle.iso_parts.proofs.encoding.encode_pairs.Given as goal
 
 abbrev pub invariant-loop-rest : goal.invariant-loop-rest

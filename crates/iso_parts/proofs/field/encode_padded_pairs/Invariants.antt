@@ -1,5 +1,6 @@
 use Rattle.std.proofs.Common.{◌≡◌, ◌≤◌, ◌+◌, ◌-◌, ◌++◌, drop}
-use Rattle.iso_parts.specs.Part.{padded, pairs, Keeps}
+use Rattle.iso_parts.specs.Buffers.{Keeps}
+use Rattle.iso_parts.specs.Part.{padded, pairs}
 use Rattle.iso_parts.proofs.field.encode_padded_pairs.Given as goal
 
 abbrev pub invariant-loop-at : goal.invariant-loop-at

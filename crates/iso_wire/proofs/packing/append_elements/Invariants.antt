@@ -1,6 +1,6 @@
 use Rattle.std.proofs.Common.{◌≡◌, ◌++◌}
 use Rattle.std.specs.List.{flat_map}
-use Rattle.iso_parts.specs.Part.{Keeps}
+use Rattle.iso_parts.specs.Buffers.{Keeps}
 use Rattle.iso_wire.specs.Refusal.{refused}
 use Rattle.iso_wire.specs.Spelling.{plain_of, Parts}
 use Rattle.iso_wire.proofs.packing.append_elements.Given as goal

@@ -1,0 +1,40 @@
+-- A message that was read, with its values end to end, before it is given to the caller.
+-- Inner: bodies and proofs cite it, and no public clause does.
+use Rattle.std.specs.Prelude.{◌≡◌, ℕ, ℤ, pos, negsuc, ◌≤◌, List, length, take, Option, Some, None}
+use Rattle.iso_table.specs.Layout.{Layout}
+use Rattle.iso_wire.specs.Contents.{Contents}
+use Rattle.iso_wire.specs.Reading.{message_at, whole}
+use Rattle.iso_wire.specs.Spelling.{BeginsWith}
+use Rattle.iso_c.specs.declared.fault.RumpadolFault.{RumpadolFault}
+use Rattle.iso_c.specs.declared.part.RumpadolPart.{RumpadolPart}
+use Rattle.iso_c.specs.declared.part.RumpadolMessage.{RumpadolMessage}
+use Rattle.iso_c.specs.declared.unpack.Found.{Found}
+use Rattle.iso_c.specs.Parts.{parts_from, values_of}
+use Rattle.iso_c.specs.Unpacking.{Kept, room_fault}
+
+-- the message that the bytes begin with, with its values end to end and their parts
+pub record IsFound (t : Layout) (b : List ℕ) (found : Found) : Type 0 where
+  pub m : Contents
+  pub begins : BeginsWith t m found.used b
+  pub read : message_at t b ≡ whole m found.used
+  pub mti : found.mti ≡ m.mti
+  pub parts : found.parts.items ≡ parts_from 0 m.elements
+  pub values : found.values.items ≡ values_of m.elements
+
+abbrev pub IsFoundHeld : Option Layout → List ℕ → Found → Type 0
+IsFoundHeld (Some t) b found = IsFound t b found
+IsFoundHeld None b found = ⊥
+
+-- what was found is given where there is room
+pub record GivesFound (found : Found) (used : ℕ) (told : RumpadolMessage) (parts : List RumpadolPart) (values : List ℕ) : Type 0 where
+  pub used_is : used ≡ found.used
+  pub message : told ≡ record { mti = found.mti; parts = length found.parts.items; values = length found.values.items }
+  pub few : length found.parts.items ≤ length parts
+  pub room : length found.values.items ≤ length values
+  pub parts_are : take (length found.parts.items) parts ≡ found.parts.items
+  pub values_are : take (length found.values.items) values ≡ found.values.items
+
+abbrev pub GivesMessage : Found → ℤ → RumpadolMessage → RumpadolMessage → List RumpadolPart → List RumpadolPart → List ℕ → List ℕ → RumpadolFault → Type 0
+GivesMessage found (pos used) old new parts_old parts values_old values f = GivesFound found used new parts values
+GivesMessage found (negsuc k) old new parts_old parts values_old values f =
+    (k ≡ 0) × Kept old new parts_old parts values_old values × (room_fault (length found.parts.items) (length found.values.items) (length parts_old) (length values_old) ≡ Some f)
