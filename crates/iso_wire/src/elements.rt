@@ -104,7 +104,6 @@ impl Elements {
 
     /// No element, and room for some.
     pub fn with_room(alloc: Global, elements: usize, bytes: usize) -> Result<Elements, AllocError>
-        ensures none { IfOk result (λ made. views made ≡ []) }
         ensures whole { IfOk result IsWhole }
         ensures numbered { IfOk result IsNumbered }
         ensures empty { IfOk result (λ made. IsMadeOf made [] []) }
@@ -123,7 +122,6 @@ impl Elements {
 
     /// Drops all elements and makes room for some. The memory that was there is kept, and is enough where it has the room.
     pub fn start_over(&mut self, elements: usize, bytes: usize) -> Result<(), AllocError>
-        ensures none { views self.new ≡ [] }
         ensures whole { IsWhole self.new }
         ensures numbered { IsNumbered self.new }
         ensures empty { IsMadeOf self.new [] [] }
