@@ -36,11 +36,11 @@ none_below low n (e ∷ es) asc lt =
     none_below_by (eqb e.0 n) n e es refl over (none_below (e.0 + 1) n es asc.3 (omega (arith, over)))
 
 -- an element that is there comes next
-abbrev Next : ℕ → List ℕ → Values → Type 0
-Next n v es = value_in es n ≡ Some v → from_number n es ≡ (n, v) ∷ from_number (n + 1) es
+abbrev ComesNext : ℕ → List ℕ → Values → Type 0
+ComesNext n v es = value_in es n ≡ Some v → from_number n es ≡ (n, v) ∷ from_number (n + 1) es
 
 from_found_by : (t u s : Bool) (low n : ℕ) (v : List ℕ) (e : ℕ × List ℕ) (es : Values) → ltb e.0 n ≡ t → eqb e.0 n ≡ u → ltb e.0 (n + 1) ≡ s
-    → IsAscending low (e ∷ es) → Next n v es → cond u (Some e.1) (value_in es n) ≡ Some v → cond t (from_number n es) (e ∷ es) ≡ (n, v) ∷ cond s (from_number (n + 1) es) (e ∷ es)
+    → IsAscending low (e ∷ es) → ComesNext n v es → cond u (Some e.1) (value_in es n) ≡ Some v → cond t (from_number n es) (e ∷ es) ≡ (n, v) ∷ cond s (from_number (n + 1) es) (e ∷ es)
 from_found_by true true s low n v e es is same over asc next h = absurd (let lt : e.0 < n = ltb-true e.0 n is in let eq : e.0 ≡ n = eqb-true e.0 n same in omega (arith, lt, eq))
 from_found_by true false true low n v e es is same over asc next h = next h
 from_found_by true false false low n v e es is same over asc next h = absurd (grind (arith, nat_tests))
@@ -52,7 +52,7 @@ from_found_by false true false low n v e es is same over asc next h = absurd (gr
 from_found_by false false s low n v e es is same over asc next h =
     absurd (let lt : n < e.0 = grind (arith, nat_tests) in let none : value_in es n ≡ None = none_below (e.0 + 1) n es asc.3 (omega (arith, lt)) in let no : None ≡ Some v = sym none ∙ h in cc)
 
-pub from_found : (low n : ℕ) (v : List ℕ) (es : Values) → IsAscending low es → Next n v es
+pub from_found : (low n : ℕ) (v : List ℕ) (es : Values) → IsAscending low es → ComesNext n v es
 from_found low n v [] asc h = absurd cc
 from_found low n v (e ∷ es) asc h =
     from_found_by (ltb e.0 n) (eqb e.0 n) (ltb e.0 (n + 1)) low n v e es refl refl refl asc (from_found (e.0 + 1) n v es asc.3) h

@@ -9,18 +9,18 @@ use Rattle.iso_wire.specs.Spelling.{BeginsWith}
 use Rattle.iso_c.specs.declared.fault.RumpadolFault.{RumpadolFault}
 use Rattle.iso_c.specs.declared.part.RumpadolPart.{RumpadolPart}
 use Rattle.iso_c.specs.declared.part.RumpadolMessage.{RumpadolMessage}
-use Rattle.iso_c.specs.declared.unpack.Found.{Found}
+use Rattle.iso_c.specs.declared.unpack.SpreadMessage.{SpreadMessage}
 use Rattle.iso_c.specs.Parts.{elements_in, parts_from, values_of}
-use Rattle.iso_c.specs.Spreading.{IsFound, IsFoundHeld, GivesMessage, GivesFound}
+use Rattle.iso_c.specs.Spreading.{IsSpread, IsSpreadHeld, GivesMessage, GivesSpread}
 use Rattle.iso_c.specs.Unpacking.{IsReadFaultHeld, Unpacked, IsUnpackReply, read_fault, given_fault, room_fault}
 use Rattle.iso_c.proofs.Spreads.{Values, told, length_parts}
 
-pub within : (t : Option Layout) (b : List ℕ) (found : Found) → IsFoundHeld t b found → found.used ≤ length b
+pub within : (t : Option Layout) (b : List ℕ) (found : SpreadMessage) → IsSpreadHeld t b found → found.used ≤ length b
 within (Some t) b found is = is.begins.0
 within None b found is = absurd is
 
-unpacked : (t : Layout) (b : List ℕ) (found : Found) (used : ℕ) (new : RumpadolMessage) (parts : List RumpadolPart) (values : List ℕ)
-    → IsFound t b found → GivesFound found used new parts values → Unpacked t b used new parts values
+unpacked : (t : Layout) (b : List ℕ) (found : SpreadMessage) (used : ℕ) (new : RumpadolMessage) (parts : List RumpadolPart) (values : List ℕ)
+    → IsSpread t b found → GivesSpread found used new parts values → Unpacked t b used new parts values
 unpacked t b found used new parts values is gives =
     let es : Values = is.m.elements in
     let k : ℕ = length found.parts.items in
@@ -39,8 +39,8 @@ unpacked t b found used new parts values is gives =
       lies = ap (elements_in values) parts_are ∙ ap (λ (l : List ℕ). elements_in l (parts_from 0 es)) split ∙ told [] es (drop n values);
     })
 
-pub given : (t : Option Layout) (b : List ℕ) (found : Found) (z : ℤ) (old new : RumpadolMessage) (parts_old parts : List RumpadolPart) (values_old values : List ℕ) (f : RumpadolFault)
-    → IsFoundHeld t b found → GivesMessage found z old new parts_old parts values_old values f → IsUnpackReply t b z old new parts_old parts values_old values f
+pub given : (t : Option Layout) (b : List ℕ) (found : SpreadMessage) (z : ℤ) (old new : RumpadolMessage) (parts_old parts : List RumpadolPart) (values_old values : List ℕ) (f : RumpadolFault)
+    → IsSpreadHeld t b found → GivesMessage found z old new parts_old parts values_old values f → IsUnpackReply t b z old new parts_old parts values_old values f
 given None b found z old new parts_old parts values_old values f is gives = absurd is
 given (Some t) b found (pos used) old new parts_old parts values_old values f is gives = unpacked t b found used new parts values is gives
 given (Some t) b found (negsuc k) old new parts_old parts values_old values f is gives =

@@ -8,12 +8,12 @@ use Rattle.iso_wire.specs.Spelling.{BeginsWith}
 use Rattle.iso_c.specs.declared.fault.RumpadolFault.{RumpadolFault}
 use Rattle.iso_c.specs.declared.part.RumpadolPart.{RumpadolPart}
 use Rattle.iso_c.specs.declared.part.RumpadolMessage.{RumpadolMessage}
-use Rattle.iso_c.specs.declared.unpack.Found.{Found}
+use Rattle.iso_c.specs.declared.unpack.SpreadMessage.{SpreadMessage}
 use Rattle.iso_c.specs.Parts.{parts_from, values_of}
-use Rattle.iso_c.specs.Unpacking.{Kept, room_fault}
+use Rattle.iso_c.specs.Unpacking.{RoomsKept, room_fault}
 
 -- the message that the bytes begin with, with its values end to end and their parts
-pub record IsFound (t : Layout) (b : List ℕ) (found : Found) : Type 0 where
+pub record IsSpread (t : Layout) (b : List ℕ) (found : SpreadMessage) : Type 0 where
   pub m : Contents
   pub begins : BeginsWith t m found.used b
   pub read : message_at t b ≡ whole m found.used
@@ -21,12 +21,12 @@ pub record IsFound (t : Layout) (b : List ℕ) (found : Found) : Type 0 where
   pub parts : found.parts.items ≡ parts_from 0 m.elements
   pub values : found.values.items ≡ values_of m.elements
 
-abbrev pub IsFoundHeld : Option Layout → List ℕ → Found → Type 0
-IsFoundHeld (Some t) b found = IsFound t b found
-IsFoundHeld None b found = ⊥
+abbrev pub IsSpreadHeld : Option Layout → List ℕ → SpreadMessage → Type 0
+IsSpreadHeld (Some t) b found = IsSpread t b found
+IsSpreadHeld None b found = ⊥
 
 -- what was found is given where there is room
-pub record GivesFound (found : Found) (used : ℕ) (told : RumpadolMessage) (parts : List RumpadolPart) (values : List ℕ) : Type 0 where
+pub record GivesSpread (found : SpreadMessage) (used : ℕ) (told : RumpadolMessage) (parts : List RumpadolPart) (values : List ℕ) : Type 0 where
   pub used_is : used ≡ found.used
   pub message : told ≡ record { mti = found.mti; parts = length found.parts.items; values = length found.values.items }
   pub few : length found.parts.items ≤ length parts
@@ -34,7 +34,7 @@ pub record GivesFound (found : Found) (used : ℕ) (told : RumpadolMessage) (par
   pub parts_are : take (length found.parts.items) parts ≡ found.parts.items
   pub values_are : take (length found.values.items) values ≡ found.values.items
 
-abbrev pub GivesMessage : Found → ℤ → RumpadolMessage → RumpadolMessage → List RumpadolPart → List RumpadolPart → List ℕ → List ℕ → RumpadolFault → Type 0
-GivesMessage found (pos used) old new parts_old parts values_old values f = GivesFound found used new parts values
+abbrev pub GivesMessage : SpreadMessage → ℤ → RumpadolMessage → RumpadolMessage → List RumpadolPart → List RumpadolPart → List ℕ → List ℕ → RumpadolFault → Type 0
+GivesMessage found (pos used) old new parts_old parts values_old values f = GivesSpread found used new parts values
 GivesMessage found (negsuc k) old new parts_old parts values_old values f =
-    (k ≡ 0) × Kept old new parts_old parts values_old values × (room_fault (length found.parts.items) (length found.values.items) (length parts_old) (length values_old) ≡ Some f)
+    (k ≡ 0) × RoomsKept old new parts_old parts values_old values × (room_fault (length found.parts.items) (length found.values.items) (length parts_old) (length values_old) ≡ Some f)

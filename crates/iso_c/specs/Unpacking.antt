@@ -38,7 +38,7 @@ pub record Unpacked (t : Layout) (b : List ℕ) (used : ℕ) (told : RumpadolMes
   pub lies : elements_in values (take told.parts parts) ≡ m.elements
 
 -- the rooms as they were
-pub record Kept (old new : RumpadolMessage) (parts_old parts : List RumpadolPart) (values_old values : List ℕ) : Type 0 where
+pub record RoomsKept (old new : RumpadolMessage) (parts_old parts : List RumpadolPart) (values_old values : List ℕ) : Type 0 where
   pub message : new ≡ old
   pub parts_kept : parts ≡ parts_old
   pub values_kept : values ≡ values_old
@@ -64,4 +64,4 @@ UnpackedHeld None b used told parts values = ⊥
 abbrev pub IsUnpackReply : Option Layout → List ℕ → ℤ → RumpadolMessage → RumpadolMessage → List RumpadolPart → List RumpadolPart → List ℕ → List ℕ → RumpadolFault → Type 0
 IsUnpackReply t b (pos used) old new parts_old parts values_old values f = UnpackedHeld t b used new parts values
 IsUnpackReply t b (negsuc k) old new parts_old parts values_old values f =
-    (k ≡ 0) × Kept old new parts_old parts values_old values × IsGivenFault t b (length parts_old) (length values_old) f
+    (k ≡ 0) × RoomsKept old new parts_old parts values_old values × IsGivenFault t b (length parts_old) (length values_old) f

@@ -3,7 +3,7 @@
 ghost use Rattle.std.specs.Prelude.{◌≡◌, ◌≤◌, [], ◌∷◌, ◌++◌, length, OnOk, IfOk, IfErr};
 ghost use Rattle.iso_wire.specs.Elements.{IsAscending};
 ghost use Rattle.iso_c.specs.Parts.{part_of, parts_from, values_of};
-ghost use Rattle.iso_c.specs.Spreading.{IsFound, IsFoundHeld, GivesMessage};
+ghost use Rattle.iso_c.specs.Spreading.{IsSpread, IsSpreadHeld, GivesMessage};
 ghost use Rattle.iso_c.specs.Unpacking.{IsReadFault, IsReadFaultHeld, IsUnpackReply};
 
 use crate::answering::refuse;
@@ -17,7 +17,7 @@ use std::alloc::{AllocError, Global};
 
 /// A message that was read: its values end to end, and where each lies.
 #[derive(Debug, Drop)]
-pub struct Found {
+pub struct SpreadMessage {
     pub(crate) mti: u16,
     pub(crate) used: usize,
     pub(crate) parts: Vec<RumpadolPart>,
@@ -67,15 +67,15 @@ pub(crate) fn found_under(
     alloc: Global,
     table: &Table,
     bytes: &[u8],
-) -> Result<Found, RumpadolFault>
-    ensures ok { IfOk result (IsFound table.now bytes.now) }
+) -> Result<SpreadMessage, RumpadolFault>
+    ensures ok { IfOk result (IsSpread table.now bytes.now) }
     ensures fault { IfErr result (IsReadFault table.now bytes.now) }
 {
     let (message, used) = unpack(alloc, table, bytes)?;
     let mut parts = Vec::new(alloc);
     let mut values = Vec::new(alloc);
     spread(&message, &mut parts, &mut values)?;
-    Ok(Found {
+    Ok(SpreadMessage {
         mti: message.mti().number(),
         used,
         parts,
@@ -88,8 +88,8 @@ fn found_by(
     alloc: Global,
     table: &Option<Table>,
     bytes: &[u8],
-) -> Result<Found, RumpadolFault>
-    ensures ok { IfOk result (IsFoundHeld table.now bytes.now) }
+) -> Result<SpreadMessage, RumpadolFault>
+    ensures ok { IfOk result (IsSpreadHeld table.now bytes.now) }
     ensures fault { IfErr result (IsReadFaultHeld table.now bytes.now) }
 {
     match table {
@@ -100,7 +100,7 @@ fn found_by(
 
 /// Gives what was found where there is room, and answers how many bytes the message takes.
 fn give(
-    found: &Found,
+    found: &SpreadMessage,
     bytes: &[u8],
     message: &mut RumpadolMessage,
     parts: &mut [RumpadolPart],

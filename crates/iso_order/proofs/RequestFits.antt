@@ -11,7 +11,7 @@ use Rattle.iso_parts.specs.declared.spec.FieldSpec.{FieldSpec}
 use Rattle.iso_parts.specs.Class.{is_digit}
 use Rattle.iso_parts.specs.PartLaws.{PartLaws}
 use Rattle.iso_parts.specs.Row.{Fits}
-use Rattle.iso_table.specs.declared.edition87.Line.{Line}
+use Rattle.iso_table.specs.declared.edition87.EditionLine.{EditionLine}
 use Rattle.iso_table.specs.declared.edition87.LengthKind.TheVariants as kinds
 use Rattle.iso_table.specs.Edition87.{IsEdition87, line, none, spec_of, row87}
 use Rattle.iso_table.specs.Layout.{Layout}
@@ -126,7 +126,7 @@ replacement-codes left =
 
 module _ (laws : PartLaws) (d : Digits) (t : Layout) (edition : IsEdition87 d t) where
   -- a value is taken where it fits the row of its line
-  taken-by : (n : ℕ) (l : Line) (v : List ℕ) → row87 d n ≡ Some (spec_of d n l) → Fits (spec_of d n l) v → IsTaken t.rows n v
+  taken-by : (n : ℕ) (l : EditionLine) (v : List ℕ) → row87 d n ≡ Some (spec_of d n l) → Fits (spec_of d n l) v → IsTaken t.rows n v
   taken-by n l v row fits =
       ap (λ (r : Option FieldSpec). refused_by r n v) (edition.rows n ∙ row) ∙ ap (refused_field n) ((laws.fits (spec_of d n l) v).0 fits)
 

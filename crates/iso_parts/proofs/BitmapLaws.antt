@@ -161,8 +161,8 @@ is_read c b r fits h two set front rest no_65 maps split =
 
 -- ---- what is read is spelled
 
-abbrev pub Found : BitmapCoding → List ℕ → ℕ → ℕ → ℕ → Type 0
-Found c b w v used = (used ≤ length b) × ((two : Bool) × Bitmaps c two (in_words w v) (take used b))
+abbrev pub BeginsWithMaps : BitmapCoding → List ℕ → ℕ → ℕ → ℕ → Type 0
+BeginsWithMaps c b w v used = (used ≤ length b) × ((two : Bool) × Bitmaps c two (in_words w v) (take used b))
 
 more_or : (t : Bool) (o : Maps) (w v n : ℕ) → cond t more o ≡ got w v n → (t ≡ false) × (o ≡ got w v n)
 more_or true o w v n e = absurd cc
@@ -192,13 +192,13 @@ second_or : (t : Bool) (w v n w' v' n' at : ℕ) → cond t (got w v n) (fault a
 second_or true w v n w' v' n' at e = e
 second_or false w v n w' v' n' at e = absurd cc
 
-found_along : (c : BitmapCoding) (b : List ℕ) (w v n w' v' n' : ℕ) → got w v n ≡ got w' v' n' → Found c b w v n → Found c b w' v' n'
+found_along : (c : BitmapCoding) (b : List ℕ) (w v n w' v' n' : ℕ) → got w v n ≡ got w' v' n' → BeginsWithMaps c b w v n → BeginsWithMaps c b w' v' n'
 found_along c b w v n w' v' n' e found =
     let s = got_is w v n w' v' n' e in
-    subst (λ (k : ℕ). Found c b w' v' k) s.2 (subst (λ (k : ℕ). Found c b w' k n) s.1 (subst (λ (k : ℕ). Found c b k v n) s.0 found))
+    subst (λ (k : ℕ). BeginsWithMaps c b w' v' k) s.2 (subst (λ (k : ℕ). BeginsWithMaps c b w' k n) s.1 (subst (λ (k : ℕ). BeginsWithMaps c b k v n) s.0 found))
 
 by_second : (c : BitmapCoding) (b : List ℕ) (primary w v n : ℕ) (o : Option ℕ) → word_in c (take (map_size c) (drop (map_size c) b)) ≡ o → ((i : ℕ) → get_or b i 0 < 256) → map_size c + map_size c ≤ length b → word_in c (take (map_size c) b) ≡ Some primary → top ≤ primary
-    → secondary_by c (primary - top) o ≡ got w v n → Found c b w v n
+    → secondary_by c (primary - top) o ≡ got w v n → BeginsWithMaps c b w v n
 by_second c b primary w v n None is fits room front large e = absurd cc
 by_second c b primary w v n (Some secondary) is fits room front large e =
     let size = map_size c in
@@ -209,7 +209,7 @@ by_second c b primary w v n (Some secondary) is fits room front large e =
     let set = in_words (primary - top) secondary in
     let ahead : take size (take (size + size) b) ≡ p = take-take size (size + size) b (omega arith) in
     let behind : drop size (take (size + size) b) ≡ q = drop-take size size b in
-    let found : Found c b (primary - top) secondary (size + size) = (
+    let found : BeginsWithMaps c b (primary - top) secondary (size + size) = (
       room,
       (
         true,
@@ -222,7 +222,7 @@ by_second c b primary w v n (Some secondary) is fits room front large e =
     found_along c b (primary - top) secondary (size + size) w v n (second_or (ltb secondary top) (primary - top) secondary (size + size) w v n size e) found
 
 by_size : (t : Bool) (c : BitmapCoding) (b : List ℕ) (primary w v n : ℕ) → ltb primary top ≡ t → ((i : ℕ) → get_or b i 0 < 256) → map_size c ≤ length b → word_in c (take (map_size c) b) ≡ Some primary
-    → cond t (got primary 0 (map_size c)) (cond (ltb (length b) (map_size c + map_size c)) more (secondary_by c (primary - top) (word_in c (take (map_size c) (drop (map_size c) b))))) ≡ got w v n → Found c b w v n
+    → cond t (got primary 0 (map_size c)) (cond (ltb (length b) (map_size c + map_size c)) more (secondary_by c (primary - top) (word_in c (take (map_size c) (drop (map_size c) b))))) ≡ got w v n → BeginsWithMaps c b w v n
 by_size true c b primary w v n is fits room front e =
     let size = map_size c in
     let p : List ℕ = take size b in
@@ -243,11 +243,11 @@ by_size false c b primary w v n is fits room front e =
     let a = more_or (ltb (length b) (size + size)) (secondary_by c (primary - top) (word_in c (take size (drop size b)))) w v n e in
     by_second c b primary w v n (word_in c (take size (drop size b))) refl fits (ltb-false (length b) (size + size) a.0) front (ltb-false primary top is) a.1
 
-by_first : (c : BitmapCoding) (b : List ℕ) (w v n : ℕ) (o : Option ℕ) → word_in c (take (map_size c) b) ≡ o → ((i : ℕ) → get_or b i 0 < 256) → map_size c ≤ length b → primary_by c b o ≡ got w v n → Found c b w v n
+by_first : (c : BitmapCoding) (b : List ℕ) (w v n : ℕ) (o : Option ℕ) → word_in c (take (map_size c) b) ≡ o → ((i : ℕ) → get_or b i 0 < 256) → map_size c ≤ length b → primary_by c b o ≡ got w v n → BeginsWithMaps c b w v n
 by_first c b w v n None is fits room e = absurd cc
 by_first c b w v n (Some primary) is fits room e = by_size (ltb primary top) c b primary w v n refl fits room is e
 
-pub maps_taken : (c : BitmapCoding) (b : List ℕ) (w v n : ℕ) → ((i : ℕ) → get_or b i 0 < 256) → maps_at c b ≡ got w v n → Found c b w v n
+pub maps_taken : (c : BitmapCoding) (b : List ℕ) (w v n : ℕ) → ((i : ℕ) → get_or b i 0 < 256) → maps_at c b ≡ got w v n → BeginsWithMaps c b w v n
 maps_taken c b w v n fits e =
     let size = map_size c in
     let a = more_or (ltb (length b) size) (primary_by c b (word_in c (take size b))) w v n e in

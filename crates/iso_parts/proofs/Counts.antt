@@ -24,24 +24,24 @@ padded_is_fixed c (lengths.LLL d) h = absurd cc
 padded_is_fixed c (lengths.LLLL d) h = absurd cc
 
 -- what is known of the count
-pub record Counts (k : Length) (max n v : ℕ) : Type 0 where
+pub record IsWireCount (k : Length) (max n v : ℕ) : Type 0 where
   pub at_most : n ≤ max
   pub fixed : k ≡ lengths.Fixed → n ≡ max
   pub prefix : prefix k v ≡ prefix k n
 
-unpadded_counts : (k : Length) (max n : ℕ) → cond (is_exact k pads.None) (eqb n max) (leb n max) ≡ true → Counts k max n n
+unpadded_counts : (k : Length) (max n : ℕ) → cond (is_exact k pads.None) (eqb n max) (leb n max) ≡ true → IsWireCount k max n n
 unpadded_counts lengths.Fixed max n h = let e = eqb-true n max h in record { at_most = omega arith; fixed = λ _. e; prefix = refl }
 unpadded_counts (lengths.LL d) max n h = record { at_most = grind (arith, nat_tests); fixed = λ e. absurd cc; prefix = refl }
 unpadded_counts (lengths.LLL d) max n h = record { at_most = grind (arith, nat_tests); fixed = λ e. absurd cc; prefix = refl }
 unpadded_counts (lengths.LLLL d) max n h = record { at_most = grind (arith, nat_tests); fixed = λ e. absurd cc; prefix = refl }
 
-padded_counts : (k : Length) (max n v : ℕ) → k ≡ lengths.Fixed → n ≡ max → Counts k max n v
+padded_counts : (k : Length) (max n v : ℕ) → k ≡ lengths.Fixed → n ≡ max → IsWireCount k max n v
 padded_counts k max n v fixed e = record { at_most = omega arith; fixed = λ _. e; prefix = rw fixed refl }
 
 filled : (max p : ℕ) (v : List ℕ) → leb (length v) max ≡ true → length (replicate (max - length v) p) + length v ≡ max
 filled max p v h = let le : length v ≤ max = grind (arith, nat_tests) in omega (arith, length-replicate (max - length v) p)
 
-counts_by_pad : (s : FieldSpec) (pad : Pad) (v : List ℕ) → is_good_pad s pad ≡ true → cond (is_exact s.length pad) (eqb (length v) s.max) (leb (length v) s.max) ≡ true → Counts s.length s.max (length (with_pads pad (s.max - length v) v)) (length v)
+counts_by_pad : (s : FieldSpec) (pad : Pad) (v : List ℕ) → is_good_pad s pad ≡ true → cond (is_exact s.length pad) (eqb (length v) s.max) (leb (length v) s.max) ≡ true → IsWireCount s.length s.max (length (with_pads pad (s.max - length v) v)) (length v)
 counts_by_pad s pads.None v good fits = unpadded_counts s.length s.max (length v) fits
 counts_by_pad s (pads.Left p) v good fits =
     let fixed = padded_is_fixed s.class s.length (and_parts _ _ good).0 in
@@ -53,7 +53,7 @@ counts_by_pad s (pads.Right p) v good fits =
     let whole = filled s.max p v fits_filled in
     padded_counts s.length s.max (length (v ++ replicate (s.max - length v) p)) (length v) fixed (length-append v (replicate (s.max - length v) p) ∙ omega arith)
 
-pub counts : (s : FieldSpec) (v : List ℕ) → IsGood s → Fits s v → Counts s.length s.max (length (padded s v)) (length v)
+pub counts : (s : FieldSpec) (v : List ℕ) → IsGood s → Fits s v → IsWireCount s.length s.max (length (padded s v)) (length v)
 counts s v good fits = counts_by_pad s s.pad v good.pad fits.length
 
 -- the greatest count has a prefix

@@ -101,11 +101,11 @@ count_again (lengths.LLLL digits.Bcd) max n le fixed =
     digits_of n (48 + x / 16) (48 + x % 16) (48 + y / 16) (48 + y % 16) (omega arith) (omega arith) (omega arith) (omega arith) le
 
 -- the bytes of a length that was read are those of its count
-pub record IsPrefix (k : Length) (n : ℕ) (p : List ℕ) : Type 0 where
+pub record IsLengthPrefix (k : Length) (n : ℕ) (p : List ℕ) : Type 0 where
   pub bytes : p ≡ prefix k n
   pub small : n ≤ limit k
 
-pub count_takes : (k : Length) (max n : ℕ) (p : List ℕ) → (k ≡ lengths.Fixed → max ≤ limit k) → length p ≡ prefix_size k → ((i : ℕ) → get_or p i 0 < 256) → count_of k max p ≡ Ok n → IsPrefix k n p
+pub count_takes : (k : Length) (max n : ℕ) (p : List ℕ) → (k ≡ lengths.Fixed → max ≤ limit k) → length p ≡ prefix_size k → ((i : ℕ) → get_or p i 0 < 256) → count_of k max p ≡ Ok n → IsLengthPrefix k n p
 count_takes lengths.Fixed max n p small len fits h = record { bytes = nil_from_length p len; small = let e : max ≡ n = cc in omega (arith, small refl) }
 count_takes (lengths.LL digits.Ascii) max n (t ∷ o ∷ []) small len fits h =
     let d = number_takes 48 48 t o n h in

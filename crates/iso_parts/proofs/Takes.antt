@@ -72,12 +72,12 @@ length_fits (lengths.LLL d) pad max w v le full un = let lt : length v ≤ max =
 length_fits (lengths.LLLL d) pad max w v le full un = let lt : length v ≤ max = omega (arith, un.shorter) in grind (arith, nat_tests)
 
 -- what a body of the right size tells
-record Tells (s : FieldSpec) (m : ℕ) (body v : List ℕ) : Type 0 where
+record TellsValue (s : FieldSpec) (m : ℕ) (body v : List ℕ) : Type 0 where
   pub fits : Fits s v
   pub stands : Stands s.coding body (padded s v)
   pub count : length (padded s v) ≡ m
 
-body_takes : (s : FieldSpec) (m : ℕ) (body v : List ℕ) → IsGood s → m ≤ s.max → (s.length ≡ lengths.Fixed → m ≡ s.max) → length body ≡ body_size s.coding m → body_of s m body ≡ Ok v → Tells s m body v
+body_takes : (s : FieldSpec) (m : ℕ) (body v : List ℕ) → IsGood s → m ≤ s.max → (s.length ≡ lengths.Fixed → m ≡ s.max) → length body ≡ body_size s.coding m → body_of s m body ≡ Ok v → TellsValue s m body v
 body_takes s m body v good le full len e =
     let read = bind_ok (text_of s.coding m body) (value_of s) v e in
     let w : List ℕ = read.0 in

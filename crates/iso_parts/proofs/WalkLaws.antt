@@ -6,7 +6,7 @@ use Rattle.std.proofs.lemmas.Bool.Decides.{nat_tests}
 use Rattle.std.proofs.Math.Nat.{pow-suc}
 use Rattle.std.proofs.lemmas.Nat.Bits.{bit_at-zero, bit_at_above, bit_at_cat_low, bit_at_cat_high}
 use Rattle.iso_parts.specs.Bits.{in_words}
-use Rattle.iso_parts.specs.FirstBit.{IsTaken}
+use Rattle.iso_parts.specs.FirstBit.{TakesFirstBit}
 use Rattle.iso_parts.specs.Numbers.{numbers_in}
 use Rattle.iso_parts.proofs.NumberLaws.{IsLowest, numbers_lowest, numbers_agree, numbers_none}
 
@@ -68,7 +68,7 @@ not_first w before i small place low =
       | inr le ↦ le
     ]
 
-pub next_first : (w rest v before : ℕ) → w < 2 ^ 63 → IsTaken w rest before → numbers_in w v ≡ (before + 1) ∷ numbers_in rest v
+pub next_first : (w rest v before : ℕ) → w < 2 ^ 63 → TakesFirstBit w rest before → numbers_in w v ≡ (before + 1) ∷ numbers_in rest v
 next_first w rest v before small (i, place, low, high, is) =
     let behind : 1 ≤ before = not_first w before i small place low in
     let b : IsFirstBit w rest i = subst (λ (r : ℕ). IsFirstBit w r i) (sym is) (first_bit w i low high) in
@@ -94,7 +94,7 @@ second_is w rest before i k place is b =
       above = λ j low high. let h = b.same (128 - j) (omega arith) in grind (arith, nat_tests);
     }
 
-pub next_second : (w rest before : ℕ) → IsTaken w rest before → numbers_in 0 w ≡ (before + 65) ∷ numbers_in 0 rest
+pub next_second : (w rest before : ℕ) → TakesFirstBit w rest before → numbers_in 0 w ≡ (before + 65) ∷ numbers_in 0 rest
 next_second w rest before (i, place, low, high, is) =
     let b : IsFirstBit w rest i = subst (λ (r : ℕ). IsFirstBit w r i) (sym is) (first_bit w i low high) in
     numbers_lowest (in_words 0 w) (in_words 0 rest) 127 2 (before + 65) (second_is w rest before i (before + 65) place refl b)

@@ -21,9 +21,9 @@ abbrev pub members_below : Bitmap → ℕ → List ℕ
 members_below s n = numbers (in_words s.primary s.secondary) (n - 2) 2
 
 -- the first of the numbers, if there is one, and the others
-abbrev pub Takes : List ℕ → List ℕ → Option ℕ → Type 0
-Takes old new None = old ≡ []
-Takes old new (Some n) = old ≡ n ∷ new
+abbrev pub TakesFirst : List ℕ → List ℕ → Option ℕ → Type 0
+TakesFirst old new None = old ≡ []
+TakesFirst old new (Some n) = old ≡ n ∷ new
 
 -- the first of the numbers that isn't in the set
 abbrev pub first_missing : (ℕ → Bool) → List ℕ → Option ℕ

@@ -114,7 +114,7 @@ impl BitmapCoding {
 impl Bitmap {
     ghost use Rattle.iso_parts.specs.Bits.{contains, in_words, AreElements, Bitmaps, PlainBitmaps, HasAbove, IsHighest};
     ghost use Rattle.iso_parts.specs.BitmapReading.{ReadsMaps, FoundMaps, IfRead, IsSetRead, maps_at};
-    ghost use Rattle.iso_parts.specs.Numbers.{numbers_in, members, members_below, Takes, first_missing};
+    ghost use Rattle.iso_parts.specs.Numbers.{numbers_in, members, members_below, TakesFirst, first_missing};
 
     /// No number.
     pub fn new() -> Bitmap
@@ -189,7 +189,7 @@ impl Bitmap {
 
     /// Takes the least number out of the set, if it has one.
     pub fn take_first(&mut self) -> Option<u8>
-        ensures { Takes (members self.old) (members self.new) result }
+        ensures { TakesFirst (members self.old) (members self.new) result }
     {
         if self.primary != 0 {
             let (before, rest) = take_bit(self.primary);

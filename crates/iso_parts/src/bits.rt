@@ -2,7 +2,7 @@
 
 ghost use Rattle.std.specs.Int.{bit_at};
 ghost use Rattle.std.specs.Prelude.{◌≡◌, ◌≢◌, ◌/◌, ◌<◌, ◌≤◌, ◌^◌, ℕ, count_ones};
-ghost use Rattle.iso_parts.specs.FirstBit.{IsTaken};
+ghost use Rattle.iso_parts.specs.FirstBit.{TakesFirstBit};
 
 /// The first bit of a word. In a primary bitmap it tells that a secondary one follows; it is none of an element.
 pub const FIRST_BIT: u64 = 0x8000_0000_0000_0000;
@@ -10,7 +10,7 @@ pub const FIRST_BIT: u64 = 0x8000_0000_0000_0000;
 /// Takes the first bit that is set out of a word: how many bits stand before it, and the word without it.
 pub(crate) fn take_bit(word: u64) -> (u8, u64)
     requires { word ≢ 0 }
-    ensures { IsTaken word result.1 result.0 }
+    ensures { TakesFirstBit word result.1 result.0 }
 {
     let before = word.leading_zeros();
     (before as u8, word - (1 << (63 - before)))

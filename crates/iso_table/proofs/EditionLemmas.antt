@@ -16,7 +16,7 @@ use Rattle.iso_parts.specs.declared.spec.FieldSpec.{FieldSpec}
 use Rattle.iso_parts.specs.Row.{IsGood, is_good_max, is_coded, is_padded, is_pad_byte, is_good_pad}
 use Rattle.iso_table.specs.declared.edition87.LengthKind.{LengthKind}
 use Rattle.iso_table.specs.declared.edition87.LengthKind.TheVariants.{Fixed, LL, LLL}
-use Rattle.iso_table.specs.declared.edition87.Line.{Line}
+use Rattle.iso_table.specs.declared.edition87.EditionLine.{EditionLine}
 use Rattle.iso_table.specs.Layout.{Layout, IsAccepted, row_at, row_in, is_element}
 use Rattle.iso_table.specs.Edition87.{lines, has_number, length_of, coding_of, spec_of, row87}
 use Rattle.iso_table.proofs.RowLemmas.{row_at-set_same, row_at-set_other}
@@ -42,17 +42,17 @@ same_pad d n B LLL q = refl
 same_pad digits.Ascii n c k q = refl
 same_pad digits.Bcd n c k q = refl
 
-padded_same : (d : Digits) (n : ℕ) (g : Line) (p : Pad) → is_good_pad (spec_of d n g) p ≡ is_good_pad (spec_of d 0 g) p
+padded_same : (d : Digits) (n : ℕ) (g : EditionLine) (p : Pad) → is_good_pad (spec_of d n g) p ≡ is_good_pad (spec_of d 0 g) p
 padded_same d n g pads.None = refl
 padded_same d n g (pads.Left q) = same_pad d n g.class g.kind q
 padded_same d n g (pads.Right q) = same_pad d n g.class g.kind q
 
 -- ---- each line
 
-is_element_line : Line → Bool
+is_element_line : EditionLine → Bool
 is_element_line g = (nat_le 2 g.first && nat_le g.last 64) || (nat_le 66 g.first && nat_le g.last 128)
 
-is_good_line : Digits → Line → Bool
+is_good_line : Digits → EditionLine → Bool
 is_good_line d g = is_element_line g && (is_good_max (spec_of d 0 g) && is_good_pad (spec_of d 0 g) g.pad)
 
 good_lines : (d : Digits) → list_all (is_good_line d) lines ≡ true
@@ -64,7 +64,7 @@ both : (a b : Bool) → (a && b) ≡ true → (a ≡ true) × (b ≡ true)
 both true b h = (refl, h)
 both false b h = absurd (cc)
 
-found_by : (a b : Bool) (p q : Line → Bool) (x g : Line) (xs : List Line) → p x ≡ a → q x ≡ b → cond a (Some x) (find p xs) ≡ Some g → (b && list_all q xs) ≡ true
+found_by : (a b : Bool) (p q : EditionLine → Bool) (x g : EditionLine) (xs : List EditionLine) → p x ≡ a → q x ≡ b → cond a (Some x) (find p xs) ≡ Some g → (b && list_all q xs) ≡ true
     → (find p xs ≡ Some g → list_all q xs ≡ true → (p g ≡ true) × (q g ≡ true)) → (p g ≡ true) × (q g ≡ true)
 found_by true true p q x g xs here good h k rest =
     let is : x ≡ g = (cc) in
@@ -74,21 +74,21 @@ found_by false true p q x g xs here good h k rest = rest h k
 found_by false false p q x g xs here good h k rest = absurd (cc)
 
 -- what is found passes each test that all pass
-found : (p q : Line → Bool) (xs : List Line) (g : Line) → find p xs ≡ Some g → list_all q xs ≡ true → (p g ≡ true) × (q g ≡ true)
+found : (p q : EditionLine → Bool) (xs : List EditionLine) (g : EditionLine) → find p xs ≡ Some g → list_all q xs ≡ true → (p g ≡ true) × (q g ≡ true)
 found p q [] g h k = absurd (cc)
 found p q (x ∷ xs) g h k = found_by (p x) (q x) p q x g xs refl refl h k (λ h k. found p q xs g h k)
 
 element_by : (n first last : ℕ) → (nat_le first n && nat_le n last) ≡ true → ((nat_le 2 first && nat_le last 64) || (nat_le 66 first && nat_le last 128)) ≡ true → IsTrue (is_element n)
 element_by n first last h k = grind (arith, nat_tests)
 
-good_by : (d : Digits) (n : ℕ) (g : Line) → has_number n g ≡ true → is_good_line d g ≡ true → IsTrue (is_element n) × IsGood (spec_of d n g)
+good_by : (d : Digits) (n : ℕ) (g : EditionLine) → has_number n g ≡ true → is_good_line d g ≡ true → IsTrue (is_element n) × IsGood (spec_of d n g)
 unfolding is_good_line is_element_line
 good_by d n g has good =
     let parts = both (is_element_line g) _ good in
     let more = both (is_good_max (spec_of d 0 g)) _ parts.1 in
     (element_by n g.first g.last has parts.0, record { max = more.0; coding = coded d n g.class; pad = padded_same d n g g.pad ∙ more.1 })
 
-row_by : (d : Digits) (n : ℕ) (s : FieldSpec) (o : Option Line) → find (has_number n) lines ≡ o → option_map (spec_of d n) o ≡ Some s → IsTrue (is_element n) × IsGood s
+row_by : (d : Digits) (n : ℕ) (s : FieldSpec) (o : Option EditionLine) → find (has_number n) lines ≡ o → option_map (spec_of d n) o ≡ Some s → IsTrue (is_element n) × IsGood s
 row_by d n s None e h = absurd (cc)
 row_by d n s (Some g) e h =
     let is = found (has_number n) (is_good_line d) lines g e (good_lines d) in

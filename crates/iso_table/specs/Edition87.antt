@@ -15,11 +15,11 @@ use Rattle.iso_parts.specs.declared.bitmap.BitmapCoding.{BitmapCoding}
 use Rattle.iso_parts.specs.declared.bitmap.BitmapCoding.TheVariants as bitmaps
 use Rattle.iso_table.specs.declared.edition87.LengthKind.{LengthKind}
 use Rattle.iso_table.specs.declared.edition87.LengthKind.TheVariants.{Fixed, LL, LLL}
-use Rattle.iso_table.specs.declared.edition87.Line.{Line}
+use Rattle.iso_table.specs.declared.edition87.EditionLine.{EditionLine}
 use Rattle.iso_table.specs.Layout.{Layout, row_at}
 
 -- one line of the table below
-abbrev pub line : ℕ → ℕ → CharClass → LengthKind → ℕ → Pad → Line
+abbrev pub line : ℕ → ℕ → CharClass → LengthKind → ℕ → Pad → EditionLine
 line first last class kind max pad = record { first = first; last = last; class = class; kind = kind; max = max; pad = pad }
 
 -- no padding
@@ -31,7 +31,7 @@ abbrev pub blanks : Pad
 blanks = pads.Right 0x20
 
 -- the elements from a first to a last number, with their class, length, maximum and padding
-abbrev pub lines : List Line
+abbrev pub lines : List EditionLine
 lines =
     line 2 2 N LL 19 none ∷  -- primary account number (PAN)
     line 3 3 N Fixed 6 none ∷  -- processing code
@@ -90,7 +90,7 @@ lines =
     line 128 128 B Fixed 8 none ∷ []  -- message authentication code
 
 -- whether the line is of element n
-abbrev pub has_number : ℕ → Line → Bool
+abbrev pub has_number : ℕ → EditionLine → Bool
 has_number n l = nat_le l.first n && nat_le n l.last
 
 -- the length, written in these digits
@@ -108,7 +108,7 @@ coding_of digits.Ascii n B = if n == 55 then codings.Raw else codings.HexText
 coding_of digits.Ascii n c = codings.Ascii
 
 -- the row of element n by its line
-abbrev pub spec_of : Digits → ℕ → Line → FieldSpec
+abbrev pub spec_of : Digits → ℕ → EditionLine → FieldSpec
 spec_of d n l = record { class = l.class; coding = coding_of d n l.class; length = length_of l.kind d; max = l.max; pad = l.pad }
 
 -- the row of element n

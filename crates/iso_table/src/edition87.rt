@@ -24,7 +24,7 @@ pub enum LengthKind {
 
 /// A line of the table below: the elements from a first to a last number, and what their rows say.
 #[derive(Clone, Copy, Debug, PartialEq, Eq)]
-pub struct Line {
+pub struct EditionLine {
     first: u8,
     last: u8,
     class: CharClass,
@@ -36,7 +36,7 @@ pub struct Line {
 /// The line of the elements from a first to a last number, with their class, length, maximum and padding.
 macro_rules! line {
     ($first:literal, $last:literal, $class:ident, $kind:ident, $max:literal, $pad:ident) => {
-        Line {
+        EditionLine {
             first: $first,
             last: $last,
             class: $class,
@@ -51,7 +51,7 @@ macro_rules! line {
 const BLANKS: Pad = Right(0x20);
 
 /// The elements of the 1987 edition.
-const LINES: [Line; 55] = [
+const LINES: [EditionLine; 55] = [
     line!(2, 2, N, LL, 19, Unpadded), // primary account number (PAN)
     line!(3, 3, N, Fixed, 6, Unpadded), // processing code
     line!(4, 6, N, Fixed, 12, Unpadded), // amounts: transaction, settlement, cardholder billing
@@ -134,7 +134,7 @@ fn coding_of(digits: Digits, number: usize, class: CharClass) -> Coding
     }
 }
 
-impl Line {
+impl EditionLine {
     /// Whether the line is of this element.
     fn has_number(self, number: usize) -> bool
         ensures { result ≡ has_number number self }
@@ -157,14 +157,14 @@ impl Line {
 }
 
 /// The first line of an element.
-fn line_in(lines: &[Line], number: usize) -> Option<Line>
+fn line_in(lines: &[EditionLine], number: usize) -> Option<EditionLine>
     ensures { result ≡ find (has_number number) lines.now }
 {
     lines.iter().copied().find(|line| line.has_number(number))
 }
 
 /// The line of an element.
-fn line_of(number: usize) -> Option<Line>
+fn line_of(number: usize) -> Option<EditionLine>
     ensures { result ≡ find (has_number number) lines }
 {
     line_in(&LINES, number)

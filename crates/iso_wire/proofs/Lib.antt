@@ -20,7 +20,7 @@ pub mod Endings
 pub mod FrameHeaders
 pub mod FrameSplits
 pub mod NoMemory
-pub mod Stages
+pub mod Resumes
 pub mod Feeds
 pub mod Longest
 pub mod Wires

@@ -18,16 +18,16 @@ use Rattle.iso_wire.specs.StopsLaws.{StopsAsRead, SpellsOrStops, NeverBoth, Stop
 use Rattle.iso_wire.proofs.Bytes.{bytes_append}
 use Rattle.iso_wire.proofs.StopsMaps.{fault_is, fault_at}
 
-abbrev Outcome : Layout → List ℕ → Type 0
-Outcome t b = ((m : Contents) × (n : ℕ) × BeginsWith t m n b) ⊎ ((at : ℕ) × (element : ℕ) × (cause : UnpackCause) × Stops t b at element cause)
+abbrev SpelledOrStopped : Layout → List ℕ → Type 0
+SpelledOrStopped t b = ((m : Contents) × (n : ℕ) × BeginsWith t m n b) ⊎ ((at : ℕ) × (element : ℕ) × (cause : UnpackCause) × Stops t b at element cause)
 
 module _ (reads : ReadsSpellings) (stays : ReadingStays) (stops : StopsAsRead) where
-  outcome_by : (r : Result (Contents × ℕ) UnpackFault) (t : Layout) (b : List ℕ) → AreGood t.rows → AreBytes b → message_at t b ≡ r → Outcome t b
-  outcome_by (Ok x) t b good bytes is = inl (x.0, x.1, (reads t x.0 x.1 b good bytes).0 is)
-  outcome_by (Err e) t b good bytes is = inr (e.at, e.element, e.cause, (stops t b e.at e.element e.cause good bytes).0 is)
+  spelled_or_stopped_by : (r : Result (Contents × ℕ) UnpackFault) (t : Layout) (b : List ℕ) → AreGood t.rows → AreBytes b → message_at t b ≡ r → SpelledOrStopped t b
+  spelled_or_stopped_by (Ok x) t b good bytes is = inl (x.0, x.1, (reads t x.0 x.1 b good bytes).0 is)
+  spelled_or_stopped_by (Err e) t b good bytes is = inr (e.at, e.element, e.cause, (stops t b e.at e.element e.cause good bytes).0 is)
 
   pub spells_or_stops : SpellsOrStops
-  spells_or_stops t b good bytes = outcome_by (message_at t b) t b good bytes refl
+  spells_or_stops t b good bytes = spelled_or_stopped_by (message_at t b) t b good bytes refl
 
   pub never_both : NeverBoth
   never_both t b m n at element cause good bytes begins stop =

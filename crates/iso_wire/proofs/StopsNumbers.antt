@@ -99,24 +99,24 @@ some_is None h = absurd cc
 some_is (Some x) h = (x, refl)
 
 -- each number of the set in the range has a row
-abbrev Known : List (Option FieldSpec) → (ℕ → Bool) → ℕ → ℕ → Type 0
-Known rows set low end = (k : ℕ) → low ≤ k → k < end → set k ≡ true → is_some (row_at rows k) ≡ true
+abbrev AreKnownBetween : List (Option FieldSpec) → (ℕ → Bool) → ℕ → ℕ → Type 0
+AreKnownBetween rows set low end = (k : ℕ) → low ≤ k → k < end → set k ≡ true → is_some (row_at rows k) ≡ true
 
 pub record IsLowestUnknown (rows : List (Option FieldSpec)) (set : ℕ → Bool) (low end n : ℕ) : Type 0 where
   pub from : low ≤ n
   pub to : n < end
   pub there : set n ≡ true
   pub row : row_at rows n ≡ None
-  pub others : Known rows set low n
+  pub others : AreKnownBetween rows set low n
 
-one_known : (rows : List (Option FieldSpec)) (set : ℕ → Bool) (low end : ℕ) → (set low ≡ true → is_some (row_at rows low) ≡ true) → Known rows set (low + 1) end → Known rows set low end
+one_known : (rows : List (Option FieldSpec)) (set : ℕ → Bool) (low end : ℕ) → (set low ≡ true → is_some (row_at rows low) ≡ true) → AreKnownBetween rows set (low + 1) end → AreKnownBetween rows set low end
 one_known rows set low end first rest k from to here =
     elim (cases_eq low k) [
       | inl same ↦ subst (λ (n : ℕ). is_some (row_at rows n) ≡ true) same (first (ap set same ∙ here))
       | inr ne ↦ rest k (omega arith) to here
     ]
 
-known_by : (t u : Bool) (rows : List (Option FieldSpec)) (set : ℕ → Bool) (count low : ℕ) → set low ≡ t → is_none (row_at rows low) ≡ u → (unknown rows (numbers set count (low + 1)) ≡ None → Known rows set (low + 1) (low + suc count)) → unknown rows (numbers set (suc count) low) ≡ None → Known rows set low (low + suc count)
+known_by : (t u : Bool) (rows : List (Option FieldSpec)) (set : ℕ → Bool) (count low : ℕ) → set low ≡ t → is_none (row_at rows low) ≡ u → (unknown rows (numbers set count (low + 1)) ≡ None → AreKnownBetween rows set (low + 1) (low + suc count)) → unknown rows (numbers set (suc count) low) ≡ None → AreKnownBetween rows set low (low + suc count)
 known_by false u rows set count low is row next h =
     one_known rows set low (low + suc count) (λ here. absurd (let other : true ≡ false = sym here ∙ is in cc)) (next (ap (unknown rows) (sym (no_more set count low is)) ∙ h))
 known_by true true rows set count low is row next h =
@@ -126,7 +126,7 @@ known_by true false rows set count low is row next h =
     one_known rows set low (low + suc count) (λ here. there) (next (sym (ap (unknown rows) (one_more set count low is) ∙ known_next rows low (numbers set count (low + 1)) there) ∙ h))
 
 -- where none is unknown, each number has a row
-pub all_have_rows : (rows : List (Option FieldSpec)) (set : ℕ → Bool) (count low : ℕ) → unknown rows (numbers set count low) ≡ None → Known rows set low (low + count)
+pub all_have_rows : (rows : List (Option FieldSpec)) (set : ℕ → Bool) (count low : ℕ) → unknown rows (numbers set count low) ≡ None → AreKnownBetween rows set low (low + count)
 all_have_rows rows set zero low h = λ k from to here. absurd (omega arith)
 all_have_rows rows set (suc count) low h =
     known_by (set low) (is_none (row_at rows low)) rows set count low refl refl (λ none k from to here. all_have_rows rows set count (low + 1) none k from (omega arith) here) h

@@ -7,9 +7,9 @@ use Rattle.iso_parts.specs.Bits.{map_size}
 use Rattle.iso_parts.specs.Reading.{size_at}
 use Rattle.iso_wire.specs.declared.fault.UnpackFault.{UnpackFault}
 use Rattle.iso_wire.specs.declared.fault.UnpackCause.TheVariants.{Short, UnknownElement, Field}
-use Rattle.iso_wire.specs.declared.judging.Stage.{Stage}
-use Rattle.iso_wire.specs.declared.judging.Stage.TheVariants as stages
-use Rattle.iso_wire.specs.declared.judging.Stopped.{Stopped}
+use Rattle.iso_wire.specs.declared.judging.ResumePoint.{ResumePoint}
+use Rattle.iso_wire.specs.declared.judging.ResumePoint.TheVariants as points
+use Rattle.iso_wire.specs.declared.judging.JudgingStop.{JudgingStop}
 use Rattle.iso_parts.specs.declared.bitmap.Bitmap.{Bitmap}
 use Rattle.iso_table.specs.Layout.{Layout, row_at}
 use Rattle.iso_parts.specs.Numbers.{numbers_in}
@@ -55,37 +55,37 @@ secondary_words t primary b = do
   secondary ← secondary_at t (mti_size t.mti + map_size t.bitmap) (drop (map_size t.bitmap) (drop (mti_size t.mti) b))
   Ok (primary, secondary, map_size t.bitmap + map_size t.bitmap)
 
--- where the message ends that the bytes begin with, read on from a stage
-abbrev pub ends_from : Layout → Stage → List ℕ → Result ℕ UnpackFault
-ends_from t stages.Type b = end_of (message_at t b)
-ends_from t stages.Primary b = words_at t (mti_size t.mti) (drop (mti_size t.mti) b) >>= behind_maps t b
-ends_from t (stages.Secondary primary) b = secondary_words t primary b >>= behind_maps t b
-ends_from t (stages.Elements rest at) b = end_of_elements t.rows (members rest) at b
-ends_from t (stages.Body n count rest at) b = end_of_rest t.rows n count (members rest) at b
+-- where the message ends that the bytes begin with, read on from a point
+abbrev pub ends_from : Layout → ResumePoint → List ℕ → Result ℕ UnpackFault
+ends_from t points.Type b = end_of (message_at t b)
+ends_from t points.Primary b = words_at t (mti_size t.mti) (drop (mti_size t.mti) b) >>= behind_maps t b
+ends_from t (points.Secondary primary) b = secondary_words t primary b >>= behind_maps t b
+ends_from t (points.Elements rest at) b = end_of_elements t.rows (members rest) at b
+ends_from t (points.Body n count rest at) b = end_of_rest t.rows n count (members rest) at b
 
--- the bytes reach up to the stage's piece, and the count of a body is one that its row takes
-abbrev pub IsStageWithin : Layout → Stage → List ℕ → Type 0
-IsStageWithin t stages.Type b = Unit {0}
-IsStageWithin t stages.Primary b = mti_size t.mti ≤ length b
-IsStageWithin t (stages.Secondary primary) b = mti_size t.mti + map_size t.bitmap ≤ length b
-IsStageWithin t (stages.Elements rest at) b = at ≤ length b
-IsStageWithin t (stages.Body n count rest at) b = (at ≤ length b) × ((s : FieldSpec) → row_at t.rows n ≡ Some s → count ≤ s.max)
+-- the bytes reach up to the point's piece, and the count of a body is one that its row takes
+abbrev pub IsPointWithin : Layout → ResumePoint → List ℕ → Type 0
+IsPointWithin t points.Type b = Unit {0}
+IsPointWithin t points.Primary b = mti_size t.mti ≤ length b
+IsPointWithin t (points.Secondary primary) b = mti_size t.mti + map_size t.bitmap ≤ length b
+IsPointWithin t (points.Elements rest at) b = at ≤ length b
+IsPointWithin t (points.Body n count rest at) b = (at ≤ length b) × ((s : FieldSpec) → row_at t.rows n ≡ Some s → count ≤ s.max)
 
--- whatever follows the bytes, reading goes on alike from both stages
-abbrev pub GoesOn : Layout → Stage → Stage → List ℕ → Type 0
+-- whatever follows the bytes, reading goes on alike from both points
+abbrev pub GoesOn : Layout → ResumePoint → ResumePoint → List ℕ → Type 0
 GoesOn t from to b = (x : List ℕ) → ends_from t from (b ++ x) ≡ ends_from t to (b ++ x)
 
--- judging came from one stage to another one, and there the bytes end, the message ends, or a piece is bad
-pub record Resumes (t : Layout) (from : Stage) (b : List ℕ) (to : Stage) (answer : Result ℕ UnpackFault) : Type 0 where
+-- judging came from one point to another one, and there the bytes end, the message ends, or a piece is bad
+pub record Resumes (t : Layout) (from : ResumePoint) (b : List ℕ) (to : ResumePoint) (answer : Result ℕ UnpackFault) : Type 0 where
   pub read : ends_from t to b ≡ answer
   pub goes_on : GoesOn t from to b
-  pub within : IsStageWithin t to b
+  pub within : IsPointWithin t to b
 
 -- judging came behind a part, where the other elements go on; or it stopped within the part
-abbrev pub Steps : Layout → Stage → List ℕ → Bitmap → Result ℕ Stopped → Type 0
-Steps t from b rest (Ok end) = GoesOn t from (stages.Elements rest end) b × (end ≤ length b)
-Steps t from b rest (Err stopped) = Resumes t from b stopped.stage (Err stopped.fault)
+abbrev pub Steps : Layout → ResumePoint → List ℕ → Bitmap → Result ℕ JudgingStop → Type 0
+Steps t from b rest (Ok end) = GoesOn t from (points.Elements rest end) b × (end ≤ length b)
+Steps t from b rest (Err stop) = Resumes t from b stop.point (Err stop.fault)
 
--- reading the whole is reading on from the stage, whatever follows the bytes
-abbrev pub IsResumed : Layout → Stage → List ℕ → Type 0
-IsResumed t stage b = IsStageWithin t stage b × GoesOn t stages.Type stage b
+-- reading the whole is reading on from the point, whatever follows the bytes
+abbrev pub IsResumed : Layout → ResumePoint → List ℕ → Type 0
+IsResumed t point b = IsPointWithin t point b × GoesOn t points.Type point b

@@ -5,7 +5,7 @@ ghost use Rattle.iso_parts.specs.Bits.{map_size};
 ghost use Rattle.iso_parts.specs.Row.{IsGood};
 ghost use Rattle.iso_table.specs.Layout.{AreGood, row_at};
 ghost use Rattle.iso_parts.specs.Mti.{mti_size};
-ghost use Rattle.iso_wire.specs.Resuming.{IsStageWithin, Resumes, Steps, body_end};
+ghost use Rattle.iso_wire.specs.Resuming.{IsPointWithin, Resumes, Steps, body_end};
 ghost use Rattle.iso_parts.specs.Numbers.{members};
 
 use crate::bitmaps::{primary_of, secondary_of};
@@ -16,7 +16,7 @@ use iso_table::Table;
 
 /// The piece from which judging goes on, since it isn't whole yet.
 #[derive(Clone, Copy, Debug)]
-pub enum Stage {
+pub enum ResumePoint {
     /// The message type.
     Type,
     /// The primary bitmap.
@@ -39,8 +39,8 @@ pub enum Stage {
 
 /// Where judging stopped, and why.
 #[derive(Clone, Copy)]
-struct Stopped {
-    stage: Stage,
+struct JudgingStop {
+    point: ResumePoint,
     fault: UnpackFault,
 }
 
@@ -66,7 +66,7 @@ fn body_end(
     }
 }
 
-/// Judges the body of element `n`, of `count` characters, which begins at `at`: where it ends, or the stage and the
+/// Judges the body of element `n`, of `count` characters, which begins at `at`: where it ends, or the point and the
 /// fault at which judging stops.
 fn judge_value(
     table: &Table,
@@ -75,18 +75,18 @@ fn judge_value(
     rest: Bitmap,
     at: usize,
     bytes: &[u8],
-) -> Result<usize, Stopped>
-    requires { IsStageWithin table.now (Stage.Body n count rest at) bytes.now }
-    ensures { Steps table.now (Stage.Body n count rest at) bytes.now rest result }
+) -> Result<usize, JudgingStop>
+    requires { IsPointWithin table.now (ResumePoint.Body n count rest at) bytes.now }
+    ensures { Steps table.now (ResumePoint.Body n count rest at) bytes.now rest result }
 {
-    let stage = Stage::Body { n, count, rest, at };
+    let point = ResumePoint::Body { n, count, rest, at };
     let Some(row) = table.row(n) else {
         let fault = UnpackFault::stop(n, at, UnpackCause::UnknownElement(n));
-        return Err(Stopped { stage, fault });
+        return Err(JudgingStop { point, fault });
     };
     match body_end(row, n, count, at, bytes) {
         Ok(end) => Ok(end),
-        Err(fault) => Err(Stopped { stage, fault }),
+        Err(fault) => Err(JudgingStop { point, fault }),
     }
 }
 
@@ -98,16 +98,16 @@ fn judge_part(
     rest: Bitmap,
     at: usize,
     bytes: &[u8],
-) -> Result<usize, Stopped>
+) -> Result<usize, JudgingStop>
     requires first { members from ≡ n ∷ members rest }
     requires within { at ≤ length bytes.now }
-    ensures { Steps table.now (Stage.Elements from at) bytes.now rest result }
+    ensures { Steps table.now (ResumePoint.Elements from at) bytes.now rest result }
 {
     iso_parts::laws::parts();
-    let stage = Stage::Elements { rest: from, at };
+    let point = ResumePoint::Elements { rest: from, at };
     let Some(row) = table.row(n) else {
         let fault = UnpackFault::stop(n, at, UnpackCause::UnknownElement(n));
-        return Err(Stopped { stage, fault });
+        return Err(JudgingStop { point, fault });
     };
     let front = row.length.prefix_size();
     let (_, part) = bytes.split_at(at);
@@ -115,11 +115,11 @@ fn judge_part(
         Ok(Some(count)) => judge_value(table, n, count, rest, at + front, bytes),
         Ok(None) => {
             let fault = UnpackFault::stop(n, at, UnpackCause::Short);
-            Err(Stopped { stage, fault })
+            Err(JudgingStop { point, fault })
         }
         Err(fault) => {
             let fault = UnpackFault::stop(n, at, UnpackCause::Field(fault));
-            Err(Stopped { stage, fault })
+            Err(JudgingStop { point, fault })
         }
     }
 }
@@ -130,9 +130,9 @@ fn judge_elements(
     numbers: Bitmap,
     start: usize,
     bytes: &[u8],
-) -> (Stage, Result<usize, UnpackFault>)
+) -> (ResumePoint, Result<usize, UnpackFault>)
     requires { start ≤ length bytes.now }
-    ensures { Resumes table.now (Stage.Elements numbers start) bytes.now result.0 result.1 }
+    ensures { Resumes table.now (ResumePoint.Elements numbers start) bytes.now result.0 result.1 }
 {
     let mut walk = numbers;
     let mut rest = numbers;
@@ -143,10 +143,10 @@ fn judge_elements(
                 at = end;
                 rest = walk;
             }
-            Err(stopped) => return (stopped.stage, Err(stopped.fault)),
+            Err(stop) => return (stop.point, Err(stop.fault)),
         }
     }
-    (Stage::Elements { rest, at }, Ok(at))
+    (ResumePoint::Elements { rest, at }, Ok(at))
 }
 
 /// Judges a message from the body of element `n` on, of `count` characters, which begins at `at`.
@@ -157,20 +157,24 @@ fn judge_rest(
     rest: Bitmap,
     at: usize,
     bytes: &[u8],
-) -> (Stage, Result<usize, UnpackFault>)
-    requires { IsStageWithin table.now (Stage.Body n count rest at) bytes.now }
-    ensures { Resumes table.now (Stage.Body n count rest at) bytes.now result.0 result.1 }
+) -> (ResumePoint, Result<usize, UnpackFault>)
+    requires { IsPointWithin table.now (ResumePoint.Body n count rest at) bytes.now }
+    ensures { Resumes table.now (ResumePoint.Body n count rest at) bytes.now result.0 result.1 }
 {
     match judge_value(table, n, count, rest, at, bytes) {
         Ok(end) => judge_elements(table, rest, end, bytes),
-        Err(stopped) => (stopped.stage, Err(stopped.fault)),
+        Err(stop) => (stop.point, Err(stop.fault)),
     }
 }
 
 /// Judges a message from its secondary bitmap on.
-fn judge_secondary(table: &Table, primary: u64, bytes: &[u8]) -> (Stage, Result<usize, UnpackFault>)
+fn judge_secondary(
+    table: &Table,
+    primary: u64,
+    bytes: &[u8],
+) -> (ResumePoint, Result<usize, UnpackFault>)
     requires { mti_size table.now.mti + map_size table.now.bitmap ≤ length bytes.now }
-    ensures { Resumes table.now (Stage.Secondary primary) bytes.now result.0 result.1 }
+    ensures { Resumes table.now (ResumePoint.Secondary primary) bytes.now result.0 result.1 }
 {
     let start = table.mti().mti_size();
     let size = table.bitmap().size();
@@ -183,14 +187,14 @@ fn judge_secondary(table: &Table, primary: u64, bytes: &[u8]) -> (Stage, Result<
             start + (size + size),
             bytes,
         ),
-        Err(fault) => (Stage::Secondary(primary), Err(fault)),
+        Err(fault) => (ResumePoint::Secondary(primary), Err(fault)),
     }
 }
 
 /// Judges a message from its primary bitmap on.
-fn judge_primary(table: &Table, bytes: &[u8]) -> (Stage, Result<usize, UnpackFault>)
+fn judge_primary(table: &Table, bytes: &[u8]) -> (ResumePoint, Result<usize, UnpackFault>)
     requires { mti_size table.now.mti ≤ length bytes.now }
-    ensures { Resumes table.now Stage.Primary bytes.now result.0 result.1 }
+    ensures { Resumes table.now ResumePoint.Primary bytes.now result.0 result.1 }
 {
     let start = table.mti().mti_size();
     let (_, maps) = bytes.split_at(start);
@@ -207,31 +211,35 @@ fn judge_primary(table: &Table, bytes: &[u8]) -> (Stage, Result<usize, UnpackFau
                 judge_secondary(table, primary, bytes)
             }
         }
-        Err(fault) => (Stage::Primary, Err(fault)),
+        Err(fault) => (ResumePoint::Primary, Err(fault)),
     }
 }
 
 /// Judges a message from its type on.
-fn judge_type(table: &Table, bytes: &[u8]) -> (Stage, Result<usize, UnpackFault>)
-    ensures { Resumes table.now Stage.Type bytes.now result.0 result.1 }
+fn judge_type(table: &Table, bytes: &[u8]) -> (ResumePoint, Result<usize, UnpackFault>)
+    ensures { Resumes table.now ResumePoint.Type bytes.now result.0 result.1 }
 {
     match type_of(table, bytes) {
         Ok(_) => judge_primary(table, bytes),
-        Err(fault) => (Stage::Type, Err(fault)),
+        Err(fault) => (ResumePoint::Type, Err(fault)),
     }
 }
 
-/// Judges a message from a stage on: the stage of the piece that is bad or isn't whole, and where the message ends,
+/// Judges a message from a point on: the point of the piece that is bad or isn't whole, and where the message ends,
 /// or the fault. Takes no memory.
-pub fn judge_from(table: &Table, stage: Stage, bytes: &[u8]) -> (Stage, Result<usize, UnpackFault>)
-    requires { IsStageWithin table.now stage bytes.now }
-    ensures { Resumes table.now stage bytes.now result.0 result.1 }
+pub fn judge_from(
+    table: &Table,
+    point: ResumePoint,
+    bytes: &[u8],
+) -> (ResumePoint, Result<usize, UnpackFault>)
+    requires { IsPointWithin table.now point bytes.now }
+    ensures { Resumes table.now point bytes.now result.0 result.1 }
 {
-    match stage {
-        Stage::Type => judge_type(table, bytes),
-        Stage::Primary => judge_primary(table, bytes),
-        Stage::Secondary(primary) => judge_secondary(table, primary, bytes),
-        Stage::Elements { rest, at } => judge_elements(table, rest, at, bytes),
-        Stage::Body { n, count, rest, at } => judge_rest(table, n, count, rest, at, bytes),
+    match point {
+        ResumePoint::Type => judge_type(table, bytes),
+        ResumePoint::Primary => judge_primary(table, bytes),
+        ResumePoint::Secondary(primary) => judge_secondary(table, primary, bytes),
+        ResumePoint::Elements { rest, at } => judge_elements(table, rest, at, bytes),
+        ResumePoint::Body { n, count, rest, at } => judge_rest(table, n, count, rest, at, bytes),
     }
 }

@@ -18,7 +18,7 @@ ghost use Rattle.iso_wire.specs.Spelling.{AreBytes, BeginsWith, BeginsWithNone, 
 use crate::building::build_judged;
 use crate::elements::Elements;
 use crate::fault::{UnpackCause, UnpackFault};
-use crate::judging::{Stage, judge_from};
+use crate::judging::{ResumePoint, judge_from};
 use crate::laws::{reads_spellings, stops};
 use crate::message::Message;
 use crate::unpacking::read_message;
@@ -42,7 +42,7 @@ pub enum Fed {
 pub struct Unpacker<'t> {
     table: &'t Table,
     taken: Vec<u8>,
-    stage: Stage,
+    point: ResumePoint,
     stopped: Option<UnpackFault>,
     spare: Elements,
 }
@@ -57,7 +57,7 @@ impl<'t> Model for Unpacker<'t> {
 
     ghost use Rattle.iso_wire.specs.Resuming.{IsResumed};
 
-    ghost invariant = { λ u. IsReady u.table.now u.taken.items u.stopped × IsResumed u.table.now u.stage u.taken.items };
+    ghost invariant = { λ u. IsReady u.table.now u.taken.items u.stopped × IsResumed u.table.now u.point u.taken.items };
 }
 
 /// Shows how many bytes are taken, and none of them.
@@ -103,7 +103,7 @@ fn take_first(
     table: &Table,
     taken: &mut Vec<u8>,
     piece: &[u8],
-) -> (Stage, Result<Fed, UnpackFault>)
+) -> (ResumePoint, Result<Fed, UnpackFault>)
     requires { taken.old.items ≡ [] }
     ensures exact { Feeds (length taken.old.items) result.1 (message_at table.now (taken.old.items ++ piece.now)) }
     ensures kept { KeepsTaken taken.old.items taken.new.items piece.now result.1 }
@@ -112,32 +112,32 @@ fn take_first(
 {
     // any call on the table tells the proof that its rows are good
     let _version = table.version();
-    let (reached, read) = judge_from(table, Stage::Type, piece);
+    let (reached, read) = judge_from(table, ResumePoint::Type, piece);
     if let Err(fault) = read {
         if fault.cause != UnpackCause::Short {
-            return (Stage::Type, Err(fault));
+            return (ResumePoint::Type, Err(fault));
         }
         if taken.extend_from_slice(piece).is_err() {
-            return (Stage::Type, Err(UnpackFault::memory()));
+            return (ResumePoint::Type, Err(UnpackFault::memory()));
         }
         return (reached, Ok(Fed::More));
     }
     match build(alloc, table, 0, piece) {
-        Ok((message, used)) => (Stage::Type, Ok(Fed::Done { message, used })),
-        Err(fault) => (Stage::Type, Err(fault)),
+        Ok((message, used)) => (ResumePoint::Type, Ok(Fed::Done { message, used })),
+        Err(fault) => (ResumePoint::Type, Err(fault)),
     }
 }
 
-/// Takes a further piece behind the bytes that were taken before it: they are judged from the stage on.
+/// Takes a further piece behind the bytes that were taken before it: they are judged from the point on.
 fn take_next(
     alloc: Global,
     table: &Table,
-    stage: Stage,
+    point: ResumePoint,
     taken: &mut Vec<u8>,
     piece: &[u8],
-) -> (Stage, Result<Fed, UnpackFault>)
+) -> (ResumePoint, Result<Fed, UnpackFault>)
     requires short { IsShort (message_at table.now taken.old.items) }
-    requires resumed { IsResumed table.now stage taken.old.items }
+    requires resumed { IsResumed table.now point taken.old.items }
     ensures exact { Feeds (length taken.old.items) result.1 (message_at table.now (taken.old.items ++ piece.now)) }
     ensures kept { KeepsTaken taken.old.items taken.new.items piece.now result.1 }
     ensures resumed { IsResumed table.now result.0 taken.new.items }
@@ -147,24 +147,24 @@ fn take_next(
     let _version = table.version();
     let before = taken.len();
     if taken.extend_from_slice(piece).is_err() {
-        return (stage, Err(UnpackFault::memory()));
+        return (point, Err(UnpackFault::memory()));
     }
-    let (reached, read) = judge_from(table, stage, taken);
+    let (reached, read) = judge_from(table, point, taken);
     if let Err(fault) = read {
         if fault.cause == UnpackCause::Short {
             return (reached, Ok(Fed::More));
         }
         taken.clear();
-        return (Stage::Type, Err(fault));
+        return (ResumePoint::Type, Err(fault));
     }
     match build(alloc, table, before, taken) {
         Ok((message, used)) => {
             taken.clear();
-            (Stage::Type, Ok(Fed::Done { message, used }))
+            (ResumePoint::Type, Ok(Fed::Done { message, used }))
         }
         Err(fault) => {
             taken.truncate(before);
-            (stage, Err(fault))
+            (point, Err(fault))
         }
     }
 }
@@ -173,12 +173,12 @@ fn take_next(
 fn take_piece(
     alloc: Global,
     table: &Table,
-    stage: Stage,
+    point: ResumePoint,
     taken: &mut Vec<u8>,
     piece: &[u8],
-) -> (Stage, Result<Fed, UnpackFault>)
+) -> (ResumePoint, Result<Fed, UnpackFault>)
     requires short { IsShort (message_at table.now taken.old.items) }
-    requires resumed { IsResumed table.now stage taken.old.items }
+    requires resumed { IsResumed table.now point taken.old.items }
     ensures exact { Feeds (length taken.old.items) result.1 (message_at table.now (taken.old.items ++ piece.now)) }
     ensures kept { KeepsTaken taken.old.items taken.new.items piece.now result.1 }
     ensures resumed { IsResumed table.now result.0 taken.new.items }
@@ -187,7 +187,7 @@ fn take_piece(
     if taken.is_empty() {
         take_first(alloc, table, taken, piece)
     } else {
-        take_next(alloc, table, stage, taken, piece)
+        take_next(alloc, table, point, taken, piece)
     }
 }
 
@@ -195,12 +195,12 @@ fn take_piece(
 fn take(
     alloc: Global,
     table: &Table,
-    stage: Stage,
+    point: ResumePoint,
     taken: &mut Vec<u8>,
     piece: &[u8],
-) -> (Stage, Result<Fed, UnpackFault>)
+) -> (ResumePoint, Result<Fed, UnpackFault>)
     requires short { IsShort (message_at table.now taken.old.items) }
-    requires resumed { IsResumed table.now stage taken.old.items }
+    requires resumed { IsResumed table.now point taken.old.items }
     ensures exact { Feeds (length taken.old.items) result.1 (message_at table.now (taken.old.items ++ piece.now)) }
     ensures kept { KeepsTaken taken.old.items taken.new.items piece.now result.1 }
     ensures resumed { IsResumed table.now result.0 taken.new.items }
@@ -213,7 +213,7 @@ fn take(
     reads_spellings();
     stops();
     are_bytes(taken);
-    take_piece(alloc, table, stage, taken, piece)
+    take_piece(alloc, table, point, taken, piece)
 }
 
 /// The message that the bytes begin with, in the memory that is spare.
@@ -266,7 +266,7 @@ impl<'t> Unpacker<'t> {
         Unpacker {
             table,
             taken: Vec::new(alloc),
-            stage: Stage::Type,
+            point: ResumePoint::Type,
             stopped: None,
             spare: Elements::new(alloc),
         }
@@ -299,8 +299,8 @@ impl<'t> Unpacker<'t> {
         if let Some(fault) = self.stopped {
             return Err(fault);
         }
-        let (stage, fed) = take(alloc, self.table, self.stage, &mut self.taken, piece);
-        self.stage = stage;
+        let (point, fed) = take(alloc, self.table, self.point, &mut self.taken, piece);
+        self.point = point;
         match fed {
             Ok(fed) => Ok(fed),
             Err(fault) => {
@@ -365,7 +365,7 @@ impl<'t> Unpacker<'t> {
         ensures { self.new ≡ record self.old { taken = []; stopped = None } }
     {
         self.taken.clear();
-        self.stage = Stage::Type;
+        self.point = ResumePoint::Type;
         self.stopped = None;
     }
 }

@@ -6,17 +6,17 @@ use iso_parts::FieldFault;
 
 /// What is answered to a piece, but for the message itself.
 #[derive(Clone, Copy, Debug, PartialEq, Eq)]
-enum Told {
+enum FeedAnswer {
     More,
     Done(usize),
     Fault(UnpackFault),
 }
 
-fn told_by(fed: Result<Fed, UnpackFault>) -> Told {
+fn answer_to(fed: Result<Fed, UnpackFault>) -> FeedAnswer {
     match fed {
-        Ok(Fed::More) => Told::More,
-        Ok(Fed::Done { message: _, used }) => Told::Done(used),
-        Err(fault) => Told::Fault(fault),
+        Ok(Fed::More) => FeedAnswer::More,
+        Ok(Fed::Done { message: _, used }) => FeedAnswer::Done(used),
+        Err(fault) => FeedAnswer::Fault(fault),
     }
 }
 
@@ -62,18 +62,23 @@ fn pieces_are_judged_when_they_are_whole(rt: HostRuntime) -> Result<(), Fail> {
     let table = ascii(alloc)?;
     let mut unpacker = Unpacker::new(alloc, &table);
     let cases = [
-        ("no bytes", b"".as_slice(), Told::More, 0),
-        ("three digits of a type", b"08A", Told::More, 3),
-        ("the fourth", b"0", Told::Fault(BAD_TYPE), 0),
-        ("behind a fault", ECHO, Told::Fault(BAD_TYPE), 0),
-        ("no bytes behind a fault", b"", Told::Fault(BAD_TYPE), 0),
+        ("no bytes", b"".as_slice(), FeedAnswer::More, 0),
+        ("three digits of a type", b"08A", FeedAnswer::More, 3),
+        ("the fourth", b"0", FeedAnswer::Fault(BAD_TYPE), 0),
+        ("behind a fault", ECHO, FeedAnswer::Fault(BAD_TYPE), 0),
+        (
+            "no bytes behind a fault",
+            b"",
+            FeedAnswer::Fault(BAD_TYPE),
+            0,
+        ),
     ];
     for (name, piece, want, held) in &cases {
-        assert_eq!(rt; told_by(unpacker.feed(alloc, piece)), *want, "{name}");
+        assert_eq!(rt; answer_to(unpacker.feed(alloc, piece)), *want, "{name}");
         assert_eq!(rt; unpacker.held(), *held, "{name}");
     }
     unpacker.reset();
-    assert_eq!(rt; told_by(unpacker.feed(alloc, ECHO)), Told::Done(55));
+    assert_eq!(rt; answer_to(unpacker.feed(alloc, ECHO)), FeedAnswer::Done(55));
     Ok(())
 }
 
@@ -91,42 +96,46 @@ fn a_fault_is_told_from_the_start_of_the_message(rt: HostRuntime) -> Result<(), 
         (
             "a whole message and more",
             b"08000000000000000000020".as_slice(),
-            Told::Done(20),
+            FeedAnswer::Done(20),
         ),
-        ("a type and a bitmap", b"02007220000100008000", Told::More),
-        ("half a length", b"1", Told::More),
+        (
+            "a type and a bitmap",
+            b"02007220000100008000",
+            FeedAnswer::More,
+        ),
+        ("half a length", b"1", FeedAnswer::More),
         (
             "its end, and a body without its end",
             b"6411111",
-            Told::More,
+            FeedAnswer::More,
         ),
-        ("its end", b"1111111111", Told::More),
-        ("five digits of six", b"00000", Told::More),
+        ("its end", b"1111111111", FeedAnswer::More),
+        ("five digits of six", b"00000", FeedAnswer::More),
         (
             "a letter among digits",
             b"x000000001000",
-            Told::Fault(bad_class),
+            FeedAnswer::Fault(bad_class),
         ),
     ];
     for (name, piece, want) in &cases {
-        assert_eq!(rt; told_by(unpacker.feed(alloc, piece)), *want, "{name}");
+        assert_eq!(rt; answer_to(unpacker.feed(alloc, piece)), *want, "{name}");
     }
     unpacker.reset();
     assert_eq!(rt;
-        told_by(unpacker.feed(alloc, b"08A0")),
-        Told::Fault(BAD_TYPE)
+        answer_to(unpacker.feed(alloc, b"08A0")),
+        FeedAnswer::Fault(BAD_TYPE)
     );
     Ok(())
 }
 
 /// The answers to a message in pieces of one size: how often more was wanted, and the last answer.
-fn in_pieces_of(alloc: Global, table: &Table, size: usize, bytes: &[u8]) -> (usize, Told) {
+fn in_pieces_of(alloc: Global, table: &Table, size: usize, bytes: &[u8]) -> (usize, FeedAnswer) {
     let mut unpacker = Unpacker::new(alloc, table);
     let mut wanted: usize = 0;
-    let mut last = Told::More;
+    let mut last = FeedAnswer::More;
     for piece in bytes.chunks(size.max(1)) {
-        last = told_by(unpacker.feed(alloc, piece));
-        if last == Told::More {
+        last = answer_to(unpacker.feed(alloc, piece));
+        if last == FeedAnswer::More {
             wanted = wanted.saturating_add(1);
         }
     }
@@ -144,7 +153,7 @@ fn a_message_is_done_with_its_last_byte(rt: HostRuntime) -> Result<(), Fail> {
         ("all bytes", 55, 0, 55),
     ];
     for (name, size, wanted, used) in cases {
-        let want = (wanted, Told::Done(used));
+        let want = (wanted, FeedAnswer::Done(used));
         assert_eq!(rt; in_pieces_of(alloc, &table, size, ECHO), want, "{name}");
     }
     Ok(())
@@ -155,7 +164,7 @@ fn is_read_in_two(alloc: Global, table: &Table, bytes: &[u8], size: usize) -> Re
     let (whole, end) = unpack(alloc, table, bytes)?;
     let mut unpacker = Unpacker::new(alloc, table);
     let (front, back) = bytes.split_at(size.min(bytes.len()));
-    if told_by(unpacker.feed(alloc, front)) != Told::More || unpacker.held() != size {
+    if answer_to(unpacker.feed(alloc, front)) != FeedAnswer::More || unpacker.held() != size {
         return Ok(false);
     }
     match unpacker.feed(alloc, back)? {
@@ -178,7 +187,7 @@ fn each_split_gives_the_same_message(rt: HostRuntime) -> Result<(), Fail> {
             );
         }
         let last = in_pieces_of(rt.alloc(), &table, 1, bytes);
-        assert_eq!(rt; last, (bytes.len() - 1, Told::Done(1)), "{name}");
+        assert_eq!(rt; last, (bytes.len() - 1, FeedAnswer::Done(1)), "{name}");
     }
     Ok(())
 }
@@ -193,6 +202,6 @@ fn each_split_gives_the_same_packed_message(rt: HostRuntime) -> Result<(), Fail>
         );
     }
     let last = in_pieces_of(rt.alloc(), &table, 1, PACKED_ECHO);
-    assert_eq!(rt; last, (27, Told::Done(1)));
+    assert_eq!(rt; last, (27, FeedAnswer::Done(1)));
     Ok(())
 }

@@ -1,7 +1,7 @@
 use Rattle.std.proofs.Common.{◌≡◌, ℤ, ℕ, List, Option, subst, sym, w64, to_z, of_z}
 use Rattle.std.proofs.Math.Facts.{to_z-of_z}
 use Rattle.iso_table.specs.Layout.{Layout}
-use Rattle.iso_c.specs.Spreading.{IsFoundHeld}
+use Rattle.iso_c.specs.Spreading.{IsSpreadHeld}
 use Rattle.iso_c.specs.Unpacking.{IsUnpackReply, IsReadFaultHeld}
 use Rattle.iso_c.proofs.Unpacks.{within, given, not_read}
 use Rattle.iso_c.proofs.unpack.rumpadol_unpack.Goals as goal
@@ -14,8 +14,8 @@ returns-in-Ok-clause-reply c =
     let z : ℤ = c.give.result in
     let same : to_z w64 (of_z w64 z) ≡ z = to_z-of_z {w = w64} (record { sfits = c.give.type_inv }) in
     let reply = λ (t : Option Layout). λ (y : ℤ). IsUnpackReply t c.args.bytes.now y c.args.message.now c.give.new.message c.args.parts.now c.give.new.parts c.args.values.now c.give.new.values c.give.new.fault in
-    let is : IsFoundHeld c.args.slot.now.value c.args.bytes.now c.in-Ok.found =
-    subst (λ (t : Option Layout). IsFoundHeld t c.args.bytes.now c.in-Ok.found) c.replace-table.ensures.0 c.in-Ok.ensures.ok in
+    let is : IsSpreadHeld c.args.slot.now.value c.args.bytes.now c.in-Ok.found =
+    subst (λ (t : Option Layout). IsSpreadHeld t c.args.bytes.now c.in-Ok.found) c.replace-table.ensures.0 c.in-Ok.ensures.ok in
     subst (reply c.args.slot.now.value) (sym same)
     (given c.args.slot.now.value c.args.bytes.now c.in-Ok.found z c.args.message.now c.give.new.message c.args.parts.now c.give.new.parts c.args.values.now c.give.new.values c.give.new.fault is c.give.ensures)
 

@@ -4,7 +4,7 @@ use Rattle.iso_wire.specs.ReadingLaws.{IsShort}
 use Rattle.iso_wire.specs.Reading.{message_at}
 use Rattle.iso_wire.specs.Resuming.{end_of, Resumes}
 use Rattle.iso_wire.proofs.Feeds.{is_read}
-use Rattle.iso_wire.proofs.Stages.{resumed_read, resumed_fault, fault_no_memory}
+use Rattle.iso_wire.proofs.Resumes.{resumed_read, resumed_fault, fault_no_memory}
 use Rattle.iso_wire.proofs.unpacker.take_next.Goals as goal
 
 pub returns-then-eq-clause-exact : goal.returns-then-eq-clause-exact
@@ -15,8 +15,8 @@ returns-then-eq-clause-exact c =
     let all : c.deref.result.now ≡ old ++ piece = search rules in
     let reached = c.judge_from-reached.result.0 in
     let read = c.judge_from-reached.result.1 in
-    let resumes = subst (λ (l : List ℕ). Resumes t c.args.stage l reached read) all c.judge_from-reached.ensures in
-    let fault = resumed_fault t (old ++ piece) c.in-Err.fault (resumed_read t c.args.stage reached old piece read c.requires.resumed resumes ∙ c.in-Err.is) in
+    let resumes = subst (λ (l : List ℕ). Resumes t c.args.point l reached read) all c.judge_from-reached.ensures in
+    let fault = resumed_fault t (old ++ piece) c.in-Err.fault (resumed_read t c.args.point reached old piece read c.requires.resumed resumes ∙ c.in-Err.is) in
     let short : c.in-Err.fault.cause ≡ Short = search rules in
     subst IsShort (sym fault) short
 
@@ -28,8 +28,8 @@ returns-in-Err-clause-exact c =
     let all : c.deref.result.now ≡ old ++ piece = search rules in
     let reached = c.judge_from-reached.result.0 in
     let read = c.judge_from-reached.result.1 in
-    let resumes = subst (λ (l : List ℕ). Resumes t c.args.stage l reached read) all c.judge_from-reached.ensures in
-    let fault = resumed_fault t (old ++ piece) c.in-Err.fault (resumed_read t c.args.stage reached old piece read c.requires.resumed resumes ∙ c.in-Err.is) in
+    let resumes = subst (λ (l : List ℕ). Resumes t c.args.point l reached read) all c.judge_from-reached.ensures in
+    let fault = resumed_fault t (old ++ piece) c.in-Err.fault (resumed_read t c.args.point reached old piece read c.requires.resumed resumes ∙ c.in-Err.is) in
     let other : c.in-Err.fault.cause ≡ Short → ⊥ = search rules in
     ((λ memory. absurd (fault_no_memory t (old ++ piece) c.in-Err.fault fault memory), λ _. fault), other)
 
@@ -41,8 +41,8 @@ returns-in-Err-clause-kept c =
     let all : c.deref.result.now ≡ old ++ piece = search rules in
     let reached = c.judge_from-reached.result.0 in
     let read = c.judge_from-reached.result.1 in
-    let resumes = subst (λ (l : List ℕ). Resumes t c.args.stage l reached read) all c.judge_from-reached.ensures in
-    let fault = resumed_fault t (old ++ piece) c.in-Err.fault (resumed_read t c.args.stage reached old piece read c.requires.resumed resumes ∙ c.in-Err.is) in
+    let resumes = subst (λ (l : List ℕ). Resumes t c.args.point l reached read) all c.judge_from-reached.ensures in
+    let fault = resumed_fault t (old ++ piece) c.in-Err.fault (resumed_read t c.args.point reached old piece read c.requires.resumed resumes ∙ c.in-Err.is) in
     (λ memory. absurd (fault_no_memory t (old ++ piece) c.in-Err.fault fault memory), λ _. c.clear.ensures.items)
 
 pub build-requires-clause-read : goal.build-requires-clause-read
@@ -54,6 +54,6 @@ build-requires-clause-read c =
     let again : c.deref-2.result.now ≡ old ++ piece = search rules in
     let reached = c.judge_from-reached.result.0 in
     let answer = c.judge_from-reached.result.1 in
-    let resumes = subst (λ (l : List ℕ). Resumes t c.args.stage l reached answer) all c.judge_from-reached.ensures in
-    let read = resumed_read t c.args.stage reached old piece answer c.requires.resumed resumes in
+    let resumes = subst (λ (l : List ℕ). Resumes t c.args.point l reached answer) all c.judge_from-reached.ensures in
+    let read = resumed_read t c.args.point reached old piece answer c.requires.resumed resumes in
     is_read (message_at t c.deref-2.result.now) c.in_default.field-0 (ap (λ (l : List ℕ). end_of (message_at t l)) again ∙ read ∙ c.in_default.is)

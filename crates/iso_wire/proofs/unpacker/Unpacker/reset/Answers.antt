@@ -1,5 +1,5 @@
 use Rattle.iso_wire.proofs.Feeds.{start_is_short}
-use Rattle.iso_wire.proofs.Stages.{at_start}
+use Rattle.iso_wire.proofs.Resumes.{at_start}
 use Rattle.iso_wire.proofs.unpacker.Unpacker.reset.Goals as goal
 
 pub invariant_of-self : goal.invariant_of-self

@@ -1,4 +1,4 @@
--- Reading on from a stage gives what reading from the start gives.
+-- Reading on from a point gives what reading from the start gives.
 use Rattle.std.proofs.Common.{◌≡◌, ◌≢◌, ℕ, ◌+◌, ◌≤◌, Bool, true, false, cond, ltb, List, [], ◌∷◌, ◌++◌, length, take, drop, Option, Some, None, Result, Ok, Err, refl, sym, ap, subst, ◌∙◌, append_assoc, arith}
 use Rattle.std.proofs.lemmas.Bool.{cond-true, cond-false, ltb-true, ltb-false, lt-ltb, le-ltb}
 use Rattle.std.proofs.lemmas.List.{drop-append-le, take-append-le, drop-drop, length-append, length-drop, append-nil}
@@ -13,16 +13,16 @@ use Rattle.iso_table.specs.Layout.{Layout, row_at}
 use Rattle.iso_wire.specs.declared.fault.UnpackFault.{UnpackFault}
 use Rattle.iso_wire.specs.declared.fault.UnpackCause.TheVariants as causes
 use Rattle.iso_wire.specs.declared.fault.UnpackCause.TheVariants.{Short, UnknownElement, Field}
-use Rattle.iso_wire.specs.declared.judging.Stage.{Stage}
-use Rattle.iso_wire.specs.declared.judging.Stage.TheVariants as stages
-use Rattle.iso_wire.specs.declared.judging.Stopped.{Stopped}
+use Rattle.iso_wire.specs.declared.judging.ResumePoint.{ResumePoint}
+use Rattle.iso_wire.specs.declared.judging.ResumePoint.TheVariants as points
+use Rattle.iso_wire.specs.declared.judging.JudgingStop.{JudgingStop}
 use Rattle.iso_parts.specs.declared.bitmap.Bitmap.{Bitmap}
 use Rattle.iso_wire.specs.Contents.{Contents}
 use Rattle.iso_parts.specs.Numbers.{numbers_in}
 use Rattle.iso_parts.specs.Mti.{mti_size}
 use Rattle.iso_wire.specs.Reading.{◌>>=◌, halt, type_at, primary_at, secondary_at, words_by, words_at, fault_place, answer, value_by, elements_at, message_at, whole}
 use Rattle.iso_wire.specs.ReadingLaws.{IsShort}
-use Rattle.iso_wire.specs.Resuming.{end_of, end_of_elements, end_by, body_end, body_end_under, end_of_rest, behind_maps, secondary_words, ends_from, IsStageWithin, GoesOn, Resumes, Steps, IsResumed}
+use Rattle.iso_wire.specs.Resuming.{end_of, end_of_elements, end_by, body_end, body_end_under, end_of_rest, behind_maps, secondary_words, ends_from, IsPointWithin, GoesOn, Resumes, Steps, IsResumed}
 use Rattle.iso_wire.proofs.Endings.{Stays, type_stays, primary_stays, secondary_stays}
 use Rattle.iso_wire.proofs.NoMemory.{NoMemory, message}
 use Rattle.iso_wire.proofs.Orders.{Values}
@@ -225,17 +225,17 @@ body_ends rows s ns n count at b e row bad =
 pub no_row_body : (rows : List (Option FieldSpec)) (ns : List ℕ) (n count at : ℕ) (b : List ℕ) → row_at rows n ≡ None → end_of_rest rows n count ns at b ≡ halt n at (UnknownElement n)
 no_row_body rows ns n count at b none = ap (λ o. body_end_under o n count at b >>= λ end. end_of_elements rows ns end b) none
 
--- ---- from one stage to the next
+-- ---- from one point to the next
 
-pub steps_then : (t : Layout) (from : Stage) (rest : Bitmap) (end : ℕ) (b : List ℕ) (r : Result ℕ UnpackFault) → Steps t from b rest (Ok end) → (after : Stage) → Resumes t (stages.Elements rest end) b after r → Resumes t from b after r
+pub steps_then : (t : Layout) (from : ResumePoint) (rest : Bitmap) (end : ℕ) (b : List ℕ) (r : Result ℕ UnpackFault) → Steps t from b rest (Ok end) → (after : ResumePoint) → Resumes t (points.Elements rest end) b after r → Resumes t from b after r
 steps_then t from rest end b r one after others = record { read = others.read; goes_on = λ x. one.0 x ∙ others.goes_on x; within = others.within }
 
--- a step that begins where another stage goes on alike
-pub step_from : (t : Layout) (from mid : Stage) (rest : Bitmap) (b : List ℕ) (r : Result ℕ Stopped) → GoesOn t from mid b → Steps t mid b rest r → Steps t from b rest r
+-- a step that begins where another point goes on alike
+pub step_from : (t : Layout) (from mid : ResumePoint) (rest : Bitmap) (b : List ℕ) (r : Result ℕ JudgingStop) → GoesOn t from mid b → Steps t mid b rest r → Steps t from b rest r
 step_from t from mid rest b (Ok end) one others = (λ x. one x ∙ others.0 x, others.1)
 step_from t from mid rest b (Err stopped) one others = record { read = others.read; goes_on = λ x. one x ∙ others.goes_on x; within = others.within }
 
-pub resumes_then : (t : Layout) (from mid to : Stage) (b : List ℕ) (r : Result ℕ UnpackFault) → GoesOn t from mid b → Resumes t mid b to r → Resumes t from b to r
+pub resumes_then : (t : Layout) (from mid to : ResumePoint) (b : List ℕ) (r : Result ℕ UnpackFault) → GoesOn t from mid b → Resumes t mid b to r → Resumes t from b to r
 resumes_then t from mid to b r one rest = record { read = rest.read; goes_on = λ x. one x ∙ rest.goes_on x; within = rest.within }
 
 -- behind a good type
@@ -257,7 +257,7 @@ message_is : (t : Layout) (b : List ℕ) → message_at t b ≡ type_at t b >>= 
 unfolding message_at
 message_is t b = refl
 
-pub type_goes_on : (t : Layout) (b : List ℕ) (mti : ℕ) → type_at t b ≡ Ok mti → GoesOn t stages.Type stages.Primary b
+pub type_goes_on : (t : Layout) (b : List ℕ) (mti : ℕ) → type_at t b ≡ Ok mti → GoesOn t points.Type points.Primary b
 type_goes_on t b mti read = λ x.
     let stays : type_at t (b ++ x) ≡ Ok mti = stays_ok (type_at t b) (type_at t (b ++ x)) mti read (type_stays t b x) in
     let elements : ℕ × ℕ × ℕ → Result (Values × ℕ) UnpackFault = λ w. elements_at t.rows (numbers_in w.0 w.1) (mti_size t.mti + w.2) (drop (mti_size t.mti + w.2) (b ++ x)) in
@@ -279,17 +279,17 @@ abbrev words : ℕ → ℕ → ℕ → Result (ℕ × ℕ × ℕ) UnpackFault
 words first second size = Ok (first, second, size)
 
 pub one_map_goes_on : (t : Layout) (b : List ℕ) (first : ℕ) (numbers : List ℕ) → mti_size t.mti ≤ length b → primary_at t (mti_size t.mti) (drop (mti_size t.mti) b) ≡ Ok first → ltb first top ≡ true → numbers ≡ numbers_in first 0
-    → (x : List ℕ) → ends_from t stages.Primary (b ++ x) ≡ end_of_elements t.rows numbers (mti_size t.mti + map_size t.bitmap) (b ++ x)
+    → (x : List ℕ) → ends_from t points.Primary (b ++ x) ≡ end_of_elements t.rows numbers (mti_size t.mti + map_size t.bitmap) (b ++ x)
 one_map_goes_on t b first numbers within read low is = λ x.
     let size = map_size t.bitmap in
     ap (λ r. r >>= behind_maps t (b ++ x)) (primary_again t b x first within read ∙ cond-true (ltb first top) (words first 0 size) (secondary_words t first (b ++ x)) low)
     ∙ ap (λ (l : List ℕ). end_of_elements t.rows l (mti_size t.mti + size) (b ++ x)) (sym is)
 
-pub two_maps_go_on : (t : Layout) (b : List ℕ) (first : ℕ) → mti_size t.mti ≤ length b → primary_at t (mti_size t.mti) (drop (mti_size t.mti) b) ≡ Ok first → ltb first top ≡ false → GoesOn t stages.Primary (stages.Secondary first) b
+pub two_maps_go_on : (t : Layout) (b : List ℕ) (first : ℕ) → mti_size t.mti ≤ length b → primary_at t (mti_size t.mti) (drop (mti_size t.mti) b) ≡ Ok first → ltb first top ≡ false → GoesOn t points.Primary (points.Secondary first) b
 two_maps_go_on t b first within read high = λ x.
     ap (λ r. r >>= behind_maps t (b ++ x)) (primary_again t b x first within read ∙ cond-false (ltb first top) (words first 0 (map_size t.bitmap)) (secondary_words t first (b ++ x)) high)
 
-pub primary_ends : (t : Layout) (b : List ℕ) (e : UnpackFault) → primary_at t (mti_size t.mti) (drop (mti_size t.mti) b) ≡ Err e → ends_from t stages.Primary b ≡ Err e
+pub primary_ends : (t : Layout) (b : List ℕ) (e : UnpackFault) → primary_at t (mti_size t.mti) (drop (mti_size t.mti) b) ≡ Err e → ends_from t points.Primary b ≡ Err e
 primary_ends t b e read = ap (λ r. r >>= words_by t (mti_size t.mti) (drop (mti_size t.mti) b) >>= behind_maps t b) read
 
 -- behind a good secondary bitmap
@@ -297,7 +297,7 @@ abbrev second_at : Layout → List ℕ → Result ℕ UnpackFault
 second_at t b = secondary_at t (mti_size t.mti + map_size t.bitmap) (drop (map_size t.bitmap) (drop (mti_size t.mti) b))
 
 pub second_goes_on : (t : Layout) (b : List ℕ) (first second : ℕ) (numbers : List ℕ) → mti_size t.mti + map_size t.bitmap ≤ length b → second_at t b ≡ Ok second → numbers ≡ numbers_in first second
-    → (x : List ℕ) → ends_from t (stages.Secondary first) (b ++ x) ≡ end_of_elements t.rows numbers (mti_size t.mti + (map_size t.bitmap + map_size t.bitmap)) (b ++ x)
+    → (x : List ℕ) → ends_from t (points.Secondary first) (b ++ x) ≡ end_of_elements t.rows numbers (mti_size t.mti + (map_size t.bitmap + map_size t.bitmap)) (b ++ x)
 second_goes_on t b first second numbers within read is = λ x.
     let at = mti_size t.mti in
     let size = map_size t.bitmap in
@@ -307,32 +307,32 @@ second_goes_on t b first second numbers within read is = λ x.
     ap (λ r. r >>= (λ second. words first second (size + size)) >>= behind_maps t (b ++ x)) stays
     ∙ ap (λ (l : List ℕ). end_of_elements t.rows l (at + (size + size)) (b ++ x)) (sym is)
 
-pub second_ends : (t : Layout) (b : List ℕ) (first : ℕ) (e : UnpackFault) → second_at t b ≡ Err e → ends_from t (stages.Secondary first) b ≡ Err e
+pub second_ends : (t : Layout) (b : List ℕ) (first : ℕ) (e : UnpackFault) → second_at t b ≡ Err e → ends_from t (points.Secondary first) b ≡ Err e
 second_ends t b first e read = ap (λ r. r >>= (λ second. words first second (map_size t.bitmap + map_size t.bitmap)) >>= behind_maps t b) read
 
 -- ---- what is resumed
 
-pub at_start : (t : Layout) (b : List ℕ) → IsResumed t stages.Type b
+pub at_start : (t : Layout) (b : List ℕ) → IsResumed t points.Type b
 at_start t b = (tt, λ x. refl)
 
--- more bytes reach up to the stage too
-pub within_more : (t : Layout) (stage : Stage) (b x : List ℕ) → IsStageWithin t stage b → IsStageWithin t stage (b ++ x)
-within_more t stages.Type b x h = tt
-within_more t stages.Primary b x h = omega (arith, length-append b x)
-within_more t (stages.Secondary first) b x h = omega (arith, length-append b x)
-within_more t (stages.Elements rest at) b x h = omega (arith, length-append b x)
-within_more t (stages.Body n count rest at) b x h = (omega (arith, h.0, length-append b x), h.1)
+-- more bytes reach up to the point too
+pub within_more : (t : Layout) (point : ResumePoint) (b x : List ℕ) → IsPointWithin t point b → IsPointWithin t point (b ++ x)
+within_more t points.Type b x h = tt
+within_more t points.Primary b x h = omega (arith, length-append b x)
+within_more t (points.Secondary first) b x h = omega (arith, length-append b x)
+within_more t (points.Elements rest at) b x h = omega (arith, length-append b x)
+within_more t (points.Body n count rest at) b x h = (omega (arith, h.0, length-append b x), h.1)
 
-pub resumed_more : (t : Layout) (from to : Stage) (old piece : List ℕ) (r : Result ℕ UnpackFault) → IsResumed t from old → Resumes t from (old ++ piece) to r → IsResumed t to (old ++ piece)
+pub resumed_more : (t : Layout) (from to : ResumePoint) (old piece : List ℕ) (r : Result ℕ UnpackFault) → IsResumed t from old → Resumes t from (old ++ piece) to r → IsResumed t to (old ++ piece)
 resumed_more t from to old piece r so_far found = (
   found.within,
   λ x.
       let group : (old ++ piece) ++ x ≡ old ++ (piece ++ x) = append_assoc old piece x in
-      ap (ends_from t stages.Type) group ∙ so_far.1 (piece ++ x) ∙ ap (ends_from t from) (sym group) ∙ found.goes_on x,
+      ap (ends_from t points.Type) group ∙ so_far.1 (piece ++ x) ∙ ap (ends_from t from) (sym group) ∙ found.goes_on x,
 )
 
 -- what the whole gives
-pub resumed_read : (t : Layout) (from to : Stage) (old piece : List ℕ) (r : Result ℕ UnpackFault) → IsResumed t from old → Resumes t from (old ++ piece) to r → end_of (message_at t (old ++ piece)) ≡ r
+pub resumed_read : (t : Layout) (from to : ResumePoint) (old piece : List ℕ) (r : Result ℕ UnpackFault) → IsResumed t from old → Resumes t from (old ++ piece) to r → end_of (message_at t (old ++ piece)) ≡ r
 resumed_read t from to old piece r so_far found =
     let nothing : (old ++ piece) ++ [] ≡ old ++ piece = append-nil (old ++ piece) in
     so_far.1 piece ∙ ap (ends_from t from) (sym nothing) ∙ found.goes_on [] ∙ ap (ends_from t to) nothing ∙ found.read
