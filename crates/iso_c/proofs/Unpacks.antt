@@ -7,9 +7,9 @@ use Rattle.iso_wire.specs.Contents.{Contents}
 use Rattle.iso_wire.specs.Reading.{message_at}
 use Rattle.iso_wire.specs.Spelling.{BeginsWith}
 use Rattle.iso_c.specs.declared.fault.RumpadolFault.{RumpadolFault}
-use Rattle.iso_c.specs.declared.part.RumpadolPart.{RumpadolPart}
-use Rattle.iso_c.specs.declared.part.RumpadolMessage.{RumpadolMessage}
-use Rattle.iso_c.specs.declared.unpack.SpreadMessage.{SpreadMessage}
+use Rattle.iso_c.specs.declared.parts.RumpadolPart.{RumpadolPart}
+use Rattle.iso_c.specs.declared.parts.RumpadolMessage.{RumpadolMessage}
+use Rattle.iso_c.specs.declared.unpacking.SpreadMessage.{SpreadMessage}
 use Rattle.iso_c.specs.Parts.{elements_in, parts_from, values_of}
 use Rattle.iso_c.specs.Spreading.{IsSpread, IsSpreadHeld, GivesMessage, GivesSpread}
 use Rattle.iso_c.specs.Unpacking.{IsReadFaultHeld, Unpacked, IsUnpackReply, read_fault, given_fault, room_fault}

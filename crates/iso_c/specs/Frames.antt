@@ -3,9 +3,9 @@ use Rattle.std.specs.Prelude.{◌≡◌, ◌+◌, ℕ, zero, suc, ℤ, pos, negs
 use Rattle.iso_wire.specs.declared.header.Header.{Header}
 use Rattle.iso_wire.specs.declared.header.Header.TheVariants.{Binary2, Ascii4, Bcd2}
 use Rattle.iso_wire.specs.declared.framing.FrameFault.TheVariants.{TooLong, BadDigits}
-use Rattle.iso_wire.specs.Frame.{largest, Frames, Begins, NeedsMore, is_bad_header}
+use Rattle.iso_wire.specs.Framing.{largest, Frames, Begins, NeedsMore, is_bad_header}
 use Rattle.iso_c.specs.declared.fault.RumpadolFault.{RumpadolFault}
-use Rattle.iso_c.specs.declared.part.RumpadolPart.{RumpadolPart}
+use Rattle.iso_c.specs.declared.parts.RumpadolPart.{RumpadolPart}
 use Rattle.iso_c.specs.Causes.{no_memory, no_such_header, frame_fault}
 use Rattle.iso_c.specs.Parts.{bytes_in}
 

@@ -1,6 +1,6 @@
 pub mod Answers
 pub mod Causes
-pub mod Handle
+pub mod Slot
 pub mod Tables
 pub mod Views
 pub mod Frames

@@ -2,7 +2,7 @@
 use Rattle.std.specs.Prelude.{ℕ, ◌+◌, ◌-◌, ◌&&◌, nat_le, Bool, if◌then◌else◌, List, [], ◌∷◌, ◌++◌, length, take, drop, map, Option, Some, None, Result, Ok, Err}
 use Rattle.iso_wire.specs.Elements.{is_number, put}
 use Rattle.iso_c.specs.declared.fault.RumpadolFault.{RumpadolFault}
-use Rattle.iso_c.specs.declared.part.RumpadolPart.{RumpadolPart}
+use Rattle.iso_c.specs.declared.parts.RumpadolPart.{RumpadolPart}
 use Rattle.iso_c.specs.Causes.{bad_part, bad_number}
 
 -- the bytes that a part tells of

@@ -7,7 +7,7 @@ use Rattle.iso_wire.specs.Elements.{has, value_in}
 use Rattle.iso_wire.specs.Reading.{message_at}
 use Rattle.iso_wire.specs.Viewing.{Viewed, IsViewed}
 use Rattle.iso_c.specs.declared.fault.RumpadolFault.{RumpadolFault}
-use Rattle.iso_c.specs.declared.part.RumpadolPart.{RumpadolPart}
+use Rattle.iso_c.specs.declared.parts.RumpadolPart.{RumpadolPart}
 use Rattle.iso_c.specs.Causes.{empty_slot, no_element, unpack_fault}
 use Rattle.iso_c.specs.Parts.{bytes_in}
 

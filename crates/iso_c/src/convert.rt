@@ -5,7 +5,7 @@ ghost use Rattle.iso_wire.specs.Spelling.{Converts};
 ghost use Rattle.iso_c.specs.Answers.{Replies};
 ghost use Rattle.iso_c.specs.Tables.{IsConvertFault, ConvertsHeld, IsHeldConvertFault};
 
-use crate::answering::answer;
+use crate::answers::answer;
 use crate::fault::RumpadolFault;
 use crate::slot::RumpadolSlot;
 use iso_table::Table;

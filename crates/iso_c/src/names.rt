@@ -4,7 +4,7 @@ ghost use Rattle.std.specs.Prelude.{◌≡◌, codes};
 ghost use Rattle.iso_c.specs.Answers.{RepliesTo};
 ghost use Rattle.iso_c.specs.Names.{own_name, unpack_name, field_name, pack_name, table_name, frame_name, name_of};
 
-use crate::answering::give;
+use crate::answers::give;
 use crate::fault::RumpadolFault;
 
 /// The name of a fault of this library.

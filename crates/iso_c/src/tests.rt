@@ -1,14 +1,14 @@
 //! Each call under a table on an echo test, and the calls without a table by rows.
 
 use crate::convert::converted;
-use crate::describe::described;
+use crate::describing::described;
 use crate::fault::RumpadolFault;
-use crate::frame::{rumpadol_frame, rumpadol_unframe};
+use crate::frames::{rumpadol_frame, rumpadol_unframe};
 use crate::names::rumpadol_fault_name;
-use crate::pack::packed;
-use crate::part::RumpadolPart;
-use crate::unpack::found_under;
-use crate::view::body_of;
+use crate::packing::packed;
+use crate::parts::RumpadolPart;
+use crate::unpacking::found_under;
+use crate::viewing::body_of;
 use iso_table::Table;
 use std::test::*;
 

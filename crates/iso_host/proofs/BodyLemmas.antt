@@ -6,7 +6,7 @@ use Rattle.std.proofs.lemmas.Bool.{eqb-true, eq-eqb}
 use Rattle.iso_wire.specs.declared.fault.UnpackFault.{UnpackFault}
 use Rattle.iso_table.specs.Layout.{Layout, AreGood}
 use Rattle.iso_wire.specs.Contents.{Contents}
-use Rattle.iso_wire.specs.Feeding.{Feeding}
+use Rattle.iso_wire.specs.Unpacker.{Feeding}
 use Rattle.iso_wire.specs.Reading.{message_at, whole}
 use Rattle.iso_wire.specs.declared.fault.UnpackCause.TheVariants.{Short}
 use Rattle.iso_wire.specs.ReadingLaws.{IsShort, ReadingStays, ReadsSpellings}

@@ -3,7 +3,7 @@ use Rattle.std.proofs.Common.{◌≡◌, ℕ, ◌≤◌, List, [], ◌++◌, len
 use Rattle.std.proofs.lemmas.List.{drop_at, length-replicate}
 use Rattle.iso_wire.specs.declared.header.Header.{Header}
 use Rattle.iso_wire.specs.declared.header.Header.TheVariants.{Binary2, Ascii4, Bcd2}
-use Rattle.iso_wire.specs.Frame.{header_size, largest}
+use Rattle.iso_wire.specs.Framing.{header_size, largest}
 
 -- each header can count 9,999 bytes
 pub short_fits : (h : Header) (n : ℕ) → n ≤ 9999 → n ≤ largest h

@@ -4,7 +4,7 @@ use Rattle.std.proofs.Math.Seq.{take-append_seam}
 use Rattle.iso_table.specs.Layout.{Layout}
 use Rattle.iso_wire.specs.declared.header.Header.{Header}
 use Rattle.iso_wire.specs.Contents.{Contents}
-use Rattle.iso_wire.specs.Frame.{frame_of, frames_of, AllFit, largest}
+use Rattle.iso_wire.specs.Framing.{frame_of, frames_of, AllFit, largest}
 use Rattle.iso_wire.specs.OneSpelling.{PlainOnce}
 use Rattle.iso_issuer.specs.Books.{Books}
 use Rattle.iso_host.specs.Entering.{books_after}

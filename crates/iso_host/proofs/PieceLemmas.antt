@@ -7,8 +7,8 @@ use Rattle.iso_table.specs.Layout.{Layout}
 use Rattle.iso_wire.specs.declared.header.Header.{Header}
 use Rattle.iso_wire.specs.declared.header.Header.TheVariants.{Binary2, Ascii4, Bcd2}
 use Rattle.iso_wire.specs.Contents.{Contents}
-use Rattle.iso_wire.specs.Feeding.{Feeding}
-use Rattle.iso_wire.specs.Frame.{header_of, largest, CutNeedsMore}
+use Rattle.iso_wire.specs.Unpacker.{Feeding}
+use Rattle.iso_wire.specs.Framing.{header_of, largest, CutNeedsMore}
 use Rattle.iso_wire.specs.Spelling.{AreBytes}
 use Rattle.iso_host.proofs.Running.{SoFar, BodySoFar}
 use Rattle.iso_host.proofs.WindowLemmas.{passes, took_more}

@@ -4,7 +4,7 @@ use Rattle.std.specs.Io.KnownBytes.{Consumes}
 use Rattle.std.specs.declared.option.Option.{Option}
 use Rattle.iso_table.specs.Layout.{Layout}
 use Rattle.iso_wire.specs.declared.header.Header.{Header}
-use Rattle.iso_wire.specs.Feeding.{Feeding}
+use Rattle.iso_wire.specs.Unpacker.{Feeding}
 use Rattle.iso_wire.specs.Spelling.{AreBytes}
 use Rattle.iso_issuer.specs.Books.{Books}
 use Rattle.iso_host.specs.Bodies.{unpacker_holding}

@@ -8,7 +8,7 @@ use Rattle.std.specs.Io.KnownBytes.{Consumes, Keeps, IsAtEnd, prepend_known}
 use Rattle.iso_table.specs.Layout.{Layout}
 use Rattle.iso_wire.specs.declared.header.Header.{Header}
 use Rattle.iso_wire.specs.declared.header.Header.TheVariants.{Binary2, Ascii4, Bcd2}
-use Rattle.iso_wire.specs.Frame.{frame_of, frames_of, largest, NoFrame, is_bad_header, BadIsNoFrame, BadStays}
+use Rattle.iso_wire.specs.Framing.{frame_of, frames_of, largest, NoFrame, is_bad_header, BadIsNoFrame, BadStays}
 use Rattle.iso_order.specs.declared.verdict.Verdict.{Verdict}
 use Rattle.iso_issuer.specs.Books.{Books}
 use Rattle.iso_issuer.specs.Laws.{FirstsGoOn}

@@ -5,8 +5,8 @@ use Rattle.std.specs.Io.KnownBytes.{Consumes, Keeps, IsAtEnd}
 use Rattle.iso_table.specs.Layout.{Layout}
 use Rattle.iso_wire.specs.declared.header.Header.{Header}
 use Rattle.iso_wire.specs.Contents.{Contents}
-use Rattle.iso_wire.specs.Feeding.{Feeding}
-use Rattle.iso_wire.specs.Frame.{frame_of, largest}
+use Rattle.iso_wire.specs.Unpacker.{Feeding}
+use Rattle.iso_wire.specs.Framing.{frame_of, largest}
 use Rattle.iso_wire.specs.Spelling.{AreBytes, Spelling}
 use Rattle.iso_host.specs.Asking.{message_in}
 use Rattle.iso_host.specs.Counts.{Counts}

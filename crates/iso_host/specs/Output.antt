@@ -4,7 +4,7 @@ use Rattle.std.specs.Prelude.{◌≡◌, ℕ, ◌≤◌, List, [], ◌∷◌, �
 use Rattle.iso_table.specs.Layout.{Layout}
 use Rattle.iso_wire.specs.declared.header.Header.{Header}
 use Rattle.iso_wire.specs.Contents.{Contents}
-use Rattle.iso_wire.specs.Frame.{frame_of, largest}
+use Rattle.iso_wire.specs.Framing.{frame_of, largest}
 use Rattle.iso_wire.specs.Spelling.{PlainSpelling}
 use Rattle.iso_order.specs.declared.verdict.Verdict.{Verdict}
 use Rattle.iso_order.specs.declared.verdict.Verdict.TheVariants.{Order, Reply, Silent}

@@ -3,7 +3,7 @@
 use Rattle.std.specs.Prelude.{◌≡◌, ◌≢◌, ℕ, ◌+◌, ◌*◌, ◌<◌, ◌≤◌, List, [], ◌∷◌, length, true, Option, Some, None, Result, Ok, Err}
 use Rattle.std.specs.Io.KnownBytes.{Consumes, Keeps, IsAtEnd}
 use Rattle.iso_wire.specs.declared.header.Header.{Header}
-use Rattle.iso_wire.specs.Frame.{header_of, largest, NeedsMore, is_bad_header}
+use Rattle.iso_wire.specs.Framing.{header_of, largest, NeedsMore, is_bad_header}
 use Rattle.iso_host.specs.Counts.{Counts}
 use Rattle.iso_host.specs.Serving.{Spends}
 use Rattle.iso_host.specs.declared.fault.ServeFault.{ServeFault}

@@ -6,7 +6,7 @@ use Rattle.std.specs.Io.KnownBytes.{Appends, Consumes, IsAtEnd}
 use Rattle.std.specs.Io.Iter.{u64_saturate}
 use Rattle.iso_table.specs.Layout.{Layout}
 use Rattle.iso_wire.specs.declared.header.Header.{Header}
-use Rattle.iso_wire.specs.Frame.{frames_of, AllFit, NoFrame, is_bad_header}
+use Rattle.iso_wire.specs.Framing.{frames_of, AllFit, NoFrame, is_bad_header}
 use Rattle.iso_order.specs.declared.verdict.Verdict.{Verdict}
 use Rattle.iso_issuer.specs.Books.{Books}
 use Rattle.iso_host.specs.Counts.{Counts}

@@ -104,7 +104,7 @@ pub struct Intake<'t> {
 
 impl<'t> Model for Intake<'t> {
     ghost use Rattle.iso_table.specs.Layout.{AreGood};
-    ghost use Rattle.iso_wire.specs.Feeding.{Feeding};
+    ghost use Rattle.iso_wire.specs.Unpacker.{Feeding};
 
     ghost Value = { Feeding };
 

@@ -8,7 +8,7 @@ use Rattle.std.proofs.lemmas.List.Folds.{list_all-append}
 use Rattle.iso_parts.specs.declared.spec.FieldSpec.{FieldSpec}
 use Rattle.iso_parts.specs.Class.{is_digit}
 use Rattle.iso_parts.specs.PartLaws.{PartLaws}
-use Rattle.iso_table.specs.declared.host.Shape.TheVariants.{Text, Amounts}
+use Rattle.iso_table.specs.declared.host_ready.Shape.TheVariants.{Text, Amounts}
 use Rattle.iso_table.specs.HostReady.{host_row, IsHostReady}
 use Rattle.iso_table.specs.Layout.{Layout, row_at}
 use Rattle.iso_wire.specs.Contents.{Contents}

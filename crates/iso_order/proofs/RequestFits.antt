@@ -10,7 +10,7 @@ use Rattle.iso_parts.specs.declared.class.CharClass.TheVariants as classes
 use Rattle.iso_parts.specs.declared.spec.FieldSpec.{FieldSpec}
 use Rattle.iso_parts.specs.Class.{is_digit}
 use Rattle.iso_parts.specs.PartLaws.{PartLaws}
-use Rattle.iso_parts.specs.Row.{Fits}
+use Rattle.iso_parts.specs.Spec.{Fits}
 use Rattle.iso_table.specs.declared.edition87.EditionLine.{EditionLine}
 use Rattle.iso_table.specs.declared.edition87.LengthKind.TheVariants as kinds
 use Rattle.iso_table.specs.Edition87.{IsEdition87, line, none, spec_of, row87}

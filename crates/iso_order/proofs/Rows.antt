@@ -14,9 +14,9 @@ use Rattle.iso_parts.specs.declared.padding.Pad.TheVariants as pads
 use Rattle.iso_parts.specs.declared.spec.FieldSpec.{FieldSpec}
 use Rattle.iso_parts.specs.Class.{is_digit, is_member, is_in_class}
 use Rattle.iso_parts.specs.PartLaws.{PartLaws}
-use Rattle.iso_parts.specs.Row.{is_exact, has_pad_end, Fits}
-use Rattle.iso_table.specs.declared.host.HostRow.{HostRow}
-use Rattle.iso_table.specs.declared.host.Shape.TheVariants.{Text, Amounts}
+use Rattle.iso_parts.specs.Spec.{is_exact, has_pad_end, Fits}
+use Rattle.iso_table.specs.declared.host_ready.HostRow.{HostRow}
+use Rattle.iso_table.specs.declared.host_ready.Shape.TheVariants.{Text, Amounts}
 use Rattle.iso_table.specs.HostReady.{is_an, is_n_or_an, is_fixed, is_ll_or_lll, is_unpadded, is_shape, IsHostRow}
 use Rattle.iso_wire.specs.Decimal.{decimal}
 use Rattle.iso_wire.specs.Refusal.{refused_field, refused_by}

@@ -13,10 +13,10 @@ use Rattle.iso_parts.specs.declared.spec.FieldSpec.{FieldSpec}
 use Rattle.iso_parts.specs.MapLaws.{MapLaws}
 use Rattle.iso_parts.specs.Part.{with_pads, padded, prefix, plain, plain_part}
 use Rattle.iso_parts.specs.PartLaws.{PartLaws}
-use Rattle.iso_parts.specs.Row.{is_exact, refusal, Fits}
-use Rattle.iso_table.specs.declared.host.HostRow.{HostRow}
-use Rattle.iso_table.specs.declared.host.Shape.{Shape}
-use Rattle.iso_table.specs.declared.host.Shape.TheVariants as shapes
+use Rattle.iso_parts.specs.Spec.{is_exact, refusal, Fits}
+use Rattle.iso_table.specs.declared.host_ready.HostRow.{HostRow}
+use Rattle.iso_table.specs.declared.host_ready.Shape.{Shape}
+use Rattle.iso_table.specs.declared.host_ready.Shape.TheVariants as shapes
 use Rattle.iso_table.specs.HostReady.{is_n, is_an, is_n_or_an, is_fixed, is_ll_or_lll, is_unpadded, is_shape, host_rows, IsHostRow, AreHostRows}
 use Rattle.iso_table.specs.Layout.{row_at}
 use Rattle.iso_wire.specs.Contents.{Contents}

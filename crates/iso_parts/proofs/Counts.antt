@@ -9,7 +9,7 @@ use Rattle.iso_parts.specs.declared.prefix.Length.TheVariants as lengths
 use Rattle.iso_parts.specs.declared.padding.Pad.{Pad}
 use Rattle.iso_parts.specs.declared.padding.Pad.TheVariants as pads
 use Rattle.iso_parts.specs.declared.spec.FieldSpec.{FieldSpec}
-use Rattle.iso_parts.specs.Row.{is_padded, is_good_pad, is_exact, limit, IsGood, Fits}
+use Rattle.iso_parts.specs.Spec.{is_padded, is_good_pad, is_exact, limit, IsGood, Fits}
 use Rattle.iso_parts.specs.Part.{with_pads, padded, prefix}
 
 pub length-replicate : (n p : ℕ) → length (replicate n p) ≡ n

@@ -21,7 +21,7 @@ use Rattle.iso_parts.specs.declared.fault.FieldFault.TheVariants.{BadHex, NotInC
 use Rattle.iso_parts.specs.declared.judging.Judged.{Judged}
 use Rattle.iso_parts.specs.declared.judging.Judged.TheVariants as judgements
 use Rattle.iso_parts.specs.Class.{is_digit, is_within, is_in_class}
-use Rattle.iso_parts.specs.Row.{IsGood, is_coded}
+use Rattle.iso_parts.specs.Spec.{IsGood, is_coded}
 use Rattle.iso_parts.specs.Part.{characters, Part}
 use Rattle.iso_parts.specs.Reading.{◌>>=◌, or_bad_hex, text_of, without_front, unpadded, value_of, body_of, prefix_size, prefix_of, body_size, some_count, count_at, some_size, size_at, got, more, fault, at_prefix, at_body, part_at, Judges, IfJudged}
 use Rattle.iso_parts.proofs.Takes.{part_takes}

@@ -5,7 +5,7 @@ use Rattle.std.proofs.lemmas.List.{reverse-append, reverse-reverse, length-rever
 use Rattle.std.proofs.lemmas.Grind.{common_steps}
 use Rattle.iso_parts.specs.declared.padding.Pad.{Pad}
 use Rattle.iso_parts.specs.declared.padding.Pad.TheVariants as pads
-use Rattle.iso_parts.specs.Row.{begins_with, has_pad_end}
+use Rattle.iso_parts.specs.Spec.{begins_with, has_pad_end}
 use Rattle.iso_parts.specs.Part.{with_pads}
 use Rattle.iso_parts.specs.Reading.{without_front, unpadded}
 

@@ -6,7 +6,7 @@ use Rattle.iso_parts.specs.declared.prefix.Length.{Length}
 use Rattle.iso_parts.specs.declared.prefix.Digits.TheVariants as digits
 use Rattle.iso_parts.specs.declared.prefix.Length.TheVariants as lengths
 use Rattle.iso_parts.specs.declared.spec.FieldSpec.{FieldSpec}
-use Rattle.iso_parts.specs.Row.{IsGood, Fits, limit}
+use Rattle.iso_parts.specs.Spec.{IsGood, Fits, limit}
 use Rattle.iso_parts.specs.Part.{padded, prefix, Part, Stands}
 use Rattle.iso_parts.specs.Reading.{◌>>=◌, prefix_size, prefix_of, body_size, value_of, body_of, got, more, at_body, at_prefix, part_at}
 use Rattle.iso_parts.proofs.Pads.{unpadded-with_pads}

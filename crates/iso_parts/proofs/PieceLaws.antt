@@ -14,7 +14,7 @@ use Rattle.iso_parts.specs.declared.fault.FieldFault.{FieldFault}
 use Rattle.iso_parts.specs.declared.fault.FieldFault.TheVariants as faults
 use Rattle.iso_parts.specs.Class.{is_in_class}
 use Rattle.iso_parts.specs.Part.{characters, prefix}
-use Rattle.iso_parts.specs.Row.{limit}
+use Rattle.iso_parts.specs.Spec.{limit}
 use Rattle.iso_parts.specs.PieceLaws.{PieceLaws}
 use Rattle.iso_parts.specs.Pieces.{TellsCount, IsCount, IsText, IsBadCount, IsBadBody}
 use Rattle.iso_parts.specs.Reading.{◌>>=◌, prefix_size, or_bad_length, number_of, count_of, prefix_of, body_size, behind_filler, or_bad_hex, text_of, unpadded, value_of, body_of}

@@ -13,7 +13,7 @@ use Rattle.iso_parts.specs.declared.spec.FieldSpec.{FieldSpec}
 use Rattle.iso_parts.specs.declared.fault.FieldFault.{FieldFault}
 use Rattle.iso_parts.specs.declared.fault.FieldFault.TheVariants.{WrongLength, NotInClass, PadEnd}
 use Rattle.iso_parts.specs.Class.{is_within, is_digit, is_in_class}
-use Rattle.iso_parts.specs.Row.{is_coded, is_pad_byte, is_good_pad, is_length, has_pad_end, refusal, IsGood, Fits}
+use Rattle.iso_parts.specs.Spec.{is_coded, is_pad_byte, is_good_pad, is_length, has_pad_end, refusal, IsGood, Fits}
 use Rattle.iso_parts.specs.Part.{with_pads, padded, plain, plain_part, Part}
 use Rattle.iso_parts.proofs.Texts.{has_nibbles, AreCoded, plain_stands}
 

@@ -8,7 +8,7 @@ use Rattle.iso_parts.specs.declared.prefix.Length.{Length}
 use Rattle.iso_parts.specs.declared.prefix.Length.TheVariants as lengths
 use Rattle.iso_parts.specs.declared.fault.FieldFault.{FieldFault}
 use Rattle.iso_parts.specs.Class.{is_digit}
-use Rattle.iso_parts.specs.Row.{limit}
+use Rattle.iso_parts.specs.Spec.{limit}
 use Rattle.iso_parts.specs.Part.{prefix}
 use Rattle.iso_parts.specs.Reading.{or_bad_length, number_of, count_of, prefix_size}
 

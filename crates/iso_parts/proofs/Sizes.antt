@@ -18,7 +18,7 @@ use Rattle.iso_parts.specs.declared.prefix.Length.TheVariants as lengths
 use Rattle.iso_parts.specs.declared.spec.FieldSpec.{FieldSpec}
 use Rattle.iso_parts.specs.Bits.{Bitmaps, PlainBitmaps, in_coding}
 use Rattle.iso_parts.specs.Part.{with_pads, padded, with_filler, prefix, pairs, plain, plain_part}
-use Rattle.iso_parts.specs.Row.{is_exact, Fits}
+use Rattle.iso_parts.specs.Spec.{is_exact, Fits}
 
 -- ---- a part
 

@@ -14,7 +14,7 @@ use Rattle.iso_parts.specs.declared.fault.FieldFault.TheVariants.{LengthOver, No
 use Rattle.iso_parts.specs.declared.field.Step.{Step}
 use Rattle.iso_parts.specs.declared.field.Step.TheVariants as steps
 use Rattle.iso_parts.specs.Class.{is_in_class}
-use Rattle.iso_parts.specs.Row.{IsGood, Fits, is_exact, is_good_pad}
+use Rattle.iso_parts.specs.Spec.{IsGood, Fits, is_exact, is_good_pad}
 use Rattle.iso_parts.specs.Part.{padded, with_pads, prefix, Part, Stands}
 use Rattle.iso_parts.specs.Reading.{◌>>=◌, prefix_size, prefix_of, count_of, body_size, text_of, unpadded, value_of, body_of, FieldReading, got, more, at_body, at_prefix, part_at, Reads, IfGot}
 use Rattle.iso_parts.proofs.Pads.{IsUnpadded, IsUnpadded-unpadded}

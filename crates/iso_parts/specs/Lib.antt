@@ -1,6 +1,6 @@
 pub mod Mti
 pub mod Class
-pub mod Row
+pub mod Spec
 pub mod Bits
 pub mod FirstBit
 pub mod Numbers

@@ -11,7 +11,7 @@ use Rattle.iso_parts.specs.declared.padding.Pad.{Pad}
 use Rattle.iso_parts.specs.declared.padding.Pad.TheVariants as pads
 use Rattle.iso_parts.specs.declared.spec.FieldSpec.{FieldSpec}
 use Rattle.iso_parts.specs.FourDigits.{four_digits_of}
-use Rattle.iso_parts.specs.Row.{Fits}
+use Rattle.iso_parts.specs.Spec.{Fits}
 
 -- n pad bytes at the padded end
 abbrev pub with_pads : Pad → ℕ → List ℕ → List ℕ

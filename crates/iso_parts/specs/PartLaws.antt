@@ -6,7 +6,7 @@ use Rattle.iso_parts.specs.declared.fault.FieldFault.{FieldFault}
 use Rattle.iso_parts.specs.declared.fault.FieldFault.TheVariants.{BadLengthDigits, LengthOver, BadFiller, BadHex, NotInClass}
 use Rattle.iso_parts.specs.Part.{Part, Body, padded, plain_part}
 use Rattle.iso_parts.specs.Reading.{FieldReading, got, more, fault, prefix_size, prefix_of, body_size, body_of, part_at}
-use Rattle.iso_parts.specs.Row.{Fits, IsGood, refusal}
+use Rattle.iso_parts.specs.Spec.{Fits, IsGood, refusal}
 
 -- bytes are missing
 abbrev pub IsMore : FieldReading → Type 0

@@ -5,7 +5,7 @@ use Rattle.iso_parts.specs.declared.spec.FieldSpec.{FieldSpec}
 use Rattle.iso_parts.specs.declared.fault.FieldFault.{FieldFault}
 use Rattle.iso_parts.specs.Pieces.{IsCount, IsBadCount, IsBadBody}
 use Rattle.iso_parts.specs.Reading.{prefix_size, prefix_of, body_size, body_of}
-use Rattle.iso_parts.specs.Row.{IsGood}
+use Rattle.iso_parts.specs.Spec.{IsGood}
 
 pub record PieceLaws : Type 0 where
   -- a length is read as the count that it tells, if the row allows so many characters

@@ -9,7 +9,7 @@ use Rattle.iso_parts.specs.declared.fault.FieldFault.{FieldFault}
 use Rattle.iso_parts.specs.declared.fault.FieldFault.TheVariants.{BadLengthDigits, LengthOver, BadFiller, BadHex, NotInClass}
 use Rattle.iso_parts.specs.Class.{is_in_class}
 use Rattle.iso_parts.specs.Part.{prefix, with_pads, Stands}
-use Rattle.iso_parts.specs.Row.{has_pad_end, limit}
+use Rattle.iso_parts.specs.Spec.{has_pad_end, limit}
 
 -- the bytes are the digits of this count; no bytes tell the maximum of a fixed length
 abbrev pub TellsCount : Length → ℕ → ℕ → List ℕ → Type 0

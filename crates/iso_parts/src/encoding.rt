@@ -3,7 +3,7 @@
 ghost use Rattle.std.specs.Prelude.{◌≡◌, ◌++◌, ◌≤◌, ◌*◌, length, OnOk, OnErr};
 ghost use Rattle.std.specs.List.{list_all};
 ghost use Rattle.hex.specs.Hex.{is_hex_digit};
-ghost use Rattle.iso_parts.specs.Row.{is_coded, is_pad_byte};
+ghost use Rattle.iso_parts.specs.Spec.{is_coded, is_pad_byte};
 ghost use Rattle.iso_parts.specs.Buffers.{Keeps};
 ghost use Rattle.iso_parts.specs.Part.{characters, pairs, plain, with_filler};
 ghost use Rattle.iso_parts.specs.Reading.{body_size, text_of};

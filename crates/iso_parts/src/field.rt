@@ -4,7 +4,7 @@ ghost use Rattle.std.specs.Prelude.{◌≡◌, ◌≢◌, ◌≤◌, ◌+◌, �
 ghost use Rattle.std.specs.Prelude.{IfOk, IfSome};
 ghost use Rattle.std.specs.Prelude.{OnOk, OnErr, IfErr, IsTrue, None, Some};
 ghost use Rattle.iso_parts.specs.declared.fault.FieldFault.TheVariants.{Memory};
-ghost use Rattle.iso_parts.specs.Row.{is_length, refusal, IsGood, Fits};
+ghost use Rattle.iso_parts.specs.Spec.{is_length, refusal, IsGood, Fits};
 ghost use Rattle.iso_parts.specs.Part.{with_pads, padded, pairs, plain, plain_part, Part};
 ghost use Rattle.iso_parts.specs.Buffers.{Keeps};
 ghost use Rattle.iso_parts.specs.Texts.{Decodes};

@@ -3,7 +3,7 @@
 ghost use Rattle.std.specs.Prelude.{◌≡◌, ◌≢◌, ◌≤◌, ◌+◌, ◌*◌, ◌/◌, ℕ, List, take, drop, length};
 ghost use Rattle.std.specs.Prelude.{IfErr, IfOk, IfSome, true, false};
 ghost use Rattle.iso_parts.specs.Building.{IsPart};
-ghost use Rattle.iso_parts.specs.Row.{IsGood};
+ghost use Rattle.iso_parts.specs.Spec.{IsGood};
 ghost use Rattle.iso_parts.specs.declared.fault.FieldFault.TheVariants.{Memory};
 ghost use Rattle.iso_parts.specs.Part.{characters, Part};
 ghost use Rattle.iso_parts.specs.Texts.{IsJudged, is_plain};

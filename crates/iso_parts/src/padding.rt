@@ -1,7 +1,7 @@
 //! Padding.
 
 ghost use Rattle.std.specs.Prelude.{◌≡◌, ◌≤◌, ◌<◌, ◌-◌, ◌++◌, length, reverse, take, drop, vec_len, slice_index};
-ghost use Rattle.iso_parts.specs.Row.{has_pad_end};
+ghost use Rattle.iso_parts.specs.Spec.{has_pad_end};
 ghost use Rattle.iso_parts.specs.Part.{with_pads};
 ghost use Rattle.iso_parts.specs.Reading.{without_front, unpadded};
 

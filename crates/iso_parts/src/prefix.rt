@@ -1,7 +1,7 @@
 //! The length before a value.
 
 ghost use Rattle.std.specs.Prelude.{◌≡◌, ◌≤◌, ◌∷◌, [], ◌++◌, length, OnOk, OnErr};
-ghost use Rattle.iso_parts.specs.Row.{limit, longest_value};
+ghost use Rattle.iso_parts.specs.Spec.{limit, longest_value};
 ghost use Rattle.iso_parts.specs.Part.{prefix};
 ghost use Rattle.iso_parts.specs.FourDigits.{four_digits, four_digits_of};
 ghost use Rattle.iso_parts.specs.Reading.{number_of, count_of, prefix_size};

@@ -1,7 +1,7 @@
 //! The row of an element: how its values are laid out, which rows are good, and which values fit one.
 
 ghost use Rattle.std.specs.Prelude.{◌≡◌, ◌↔◌, length, IsOk, IfErr};
-ghost use Rattle.iso_parts.specs.Row.{is_padded, is_good_pad, spec_fault, is_exact, is_length, refusal, IsGood};
+ghost use Rattle.iso_parts.specs.Spec.{is_padded, is_good_pad, spec_fault, is_exact, is_length, refusal, IsGood};
 
 use crate::class::CharClass;
 use crate::encoding::Coding;

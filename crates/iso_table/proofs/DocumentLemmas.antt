@@ -8,7 +8,7 @@ use Rattle.serde_json.specs.View.{view, items_view}
 use Rattle.serde_json.specs.declared.value.Value.{Value}
 use Rattle.iso_parts.specs.declared.spec.SpecFault.{SpecFault}
 use Rattle.iso_parts.specs.declared.spec.SpecFault.TheVariants as specs
-use Rattle.iso_parts.specs.Row.{spec_fault}
+use Rattle.iso_parts.specs.Spec.{spec_fault}
 use Rattle.iso_table.specs.declared.draft.Row.{Row}
 use Rattle.iso_table.specs.declared.reading.Profile.{Profile}
 use Rattle.iso_table.specs.declared.fault.TableFault.{TableFault}

@@ -13,7 +13,7 @@ use Rattle.iso_parts.specs.declared.prefix.Digits.TheVariants as digits
 use Rattle.iso_parts.specs.declared.padding.Pad.{Pad}
 use Rattle.iso_parts.specs.declared.padding.Pad.TheVariants as pads
 use Rattle.iso_parts.specs.declared.spec.FieldSpec.{FieldSpec}
-use Rattle.iso_parts.specs.Row.{IsGood, is_good_max, is_coded, is_padded, is_pad_byte, is_good_pad}
+use Rattle.iso_parts.specs.Spec.{IsGood, is_good_max, is_coded, is_padded, is_pad_byte, is_good_pad}
 use Rattle.iso_table.specs.declared.edition87.LengthKind.{LengthKind}
 use Rattle.iso_table.specs.declared.edition87.LengthKind.TheVariants.{Fixed, LL, LLL}
 use Rattle.iso_table.specs.declared.edition87.EditionLine.{EditionLine}

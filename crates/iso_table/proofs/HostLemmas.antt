@@ -3,7 +3,7 @@ use Rattle.std.specs.Option.{option_or}
 use Rattle.std.proofs.Common.{◌≡◌, Bool, true, false, cond, eqb, List, [], ◌∷◌, Option, Some, None, refl, arith}
 use Rattle.std.proofs.lemmas.Bool.Decides.{nat_tests}
 use Rattle.iso_parts.specs.declared.spec.FieldSpec.{FieldSpec}
-use Rattle.iso_table.specs.declared.host.HostRow.{HostRow}
+use Rattle.iso_table.specs.declared.host_ready.HostRow.{HostRow}
 use Rattle.iso_table.specs.declared.fault.HostTableFault.{HostTableFault}
 use Rattle.iso_table.specs.declared.fault.HostTableFault.TheVariants.{NoRow, RowShape}
 use Rattle.iso_table.specs.Layout.{Layout, row_at}

@@ -20,7 +20,7 @@ use Rattle.iso_parts.specs.declared.padding.Pad.TheVariants as pads
 use Rattle.iso_parts.specs.declared.spec.FieldSpec.{FieldSpec}
 use Rattle.iso_parts.specs.declared.bitmap.BitmapCoding.{BitmapCoding}
 use Rattle.iso_parts.specs.declared.bitmap.BitmapCoding.TheVariants as bitmaps
-use Rattle.iso_parts.specs.Row.{IsGood, limit, is_pad_byte, is_good_pad, is_padded}
+use Rattle.iso_parts.specs.Spec.{IsGood, limit, is_pad_byte, is_good_pad, is_padded}
 use Rattle.iso_table.specs.declared.draft.Row.{Row}
 use Rattle.iso_table.specs.declared.reading.Profile.TheVariants.{Two}
 use Rattle.iso_table.specs.Layout.{Layout, IsAccepted, row_at, is_version, is_element}

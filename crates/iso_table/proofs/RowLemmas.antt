@@ -9,7 +9,7 @@ use Rattle.std.proofs.Math.Seq.{drop-cons}
 use Rattle.iso_parts.specs.declared.spec.FieldSpec.{FieldSpec}
 use Rattle.iso_parts.specs.declared.spec.SpecFault.{SpecFault}
 use Rattle.iso_parts.specs.declared.spec.SpecFault.TheVariants as specs
-use Rattle.iso_parts.specs.Row.{IsGood, is_good_max, is_coded, is_good_pad, spec_fault}
+use Rattle.iso_parts.specs.Spec.{IsGood, is_good_max, is_coded, is_good_pad, spec_fault}
 use Rattle.iso_table.specs.declared.draft.Row.{Row}
 use Rattle.iso_table.specs.declared.fault.TableFault.{TableFault}
 use Rattle.iso_table.specs.declared.fault.TableFault.TheVariants.{BadNumber, Twice}

@@ -5,7 +5,7 @@ use Rattle.iso_parts.specs.declared.prefix.Digits.{Digits}
 use Rattle.iso_parts.specs.declared.spec.FieldSpec.{FieldSpec}
 use Rattle.iso_parts.specs.declared.spec.SpecFault.{SpecFault}
 use Rattle.iso_parts.specs.declared.spec.SpecFault.TheVariants as specs
-use Rattle.iso_parts.specs.Row.{IsGood, spec_fault}
+use Rattle.iso_parts.specs.Spec.{IsGood, spec_fault}
 use Rattle.iso_parts.specs.declared.bitmap.BitmapCoding.{BitmapCoding}
 use Rattle.iso_table.specs.declared.draft.Row.{Row}
 use Rattle.iso_table.specs.declared.draft.Draft.{Draft}

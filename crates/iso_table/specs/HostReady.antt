@@ -8,9 +8,9 @@ use Rattle.iso_parts.specs.declared.prefix.Length.TheVariants as lengths
 use Rattle.iso_parts.specs.declared.padding.Pad.{Pad}
 use Rattle.iso_parts.specs.declared.padding.Pad.TheVariants as pads
 use Rattle.iso_parts.specs.declared.spec.FieldSpec.{FieldSpec}
-use Rattle.iso_table.specs.declared.host.Shape.{Shape}
-use Rattle.iso_table.specs.declared.host.Shape.TheVariants.{Digits, DigitsUpTo, Text, Amounts, AnyUpTo}
-use Rattle.iso_table.specs.declared.host.HostRow.{HostRow}
+use Rattle.iso_table.specs.declared.host_ready.Shape.{Shape}
+use Rattle.iso_table.specs.declared.host_ready.Shape.TheVariants.{Digits, DigitsUpTo, Text, Amounts, AnyUpTo}
+use Rattle.iso_table.specs.declared.host_ready.HostRow.{HostRow}
 use Rattle.iso_table.specs.declared.fault.HostTableFault.{HostTableFault}
 use Rattle.iso_table.specs.declared.fault.HostTableFault.TheVariants.{NotVersion0, NoRow, RowShape}
 use Rattle.iso_table.specs.Layout.{Layout, row_at}

@@ -3,7 +3,7 @@ use Rattle.std.specs.Prelude.{◌≡◌, ℕ, ◌==◌, ◌||◌, Bool, is_some,
 use Rattle.iso_parts.specs.declared.prefix.Digits.{Digits}
 use Rattle.iso_parts.specs.declared.spec.FieldSpec.{FieldSpec}
 use Rattle.iso_parts.specs.Class.{is_within}
-use Rattle.iso_parts.specs.Row.{IsGood}
+use Rattle.iso_parts.specs.Spec.{IsGood}
 use Rattle.iso_parts.specs.declared.bitmap.BitmapCoding.{BitmapCoding}
 
 -- how messages are written: place n of the rows has the row of element n, if the element has one

@@ -4,7 +4,7 @@
 mod draft;
 mod edition87;
 mod fault;
-mod host;
+mod host_ready;
 pub mod members;
 mod placing;
 mod reading;

@@ -16,7 +16,7 @@ ghost use Rattle.iso_table.specs.Sizes.{max_bytes};
 use crate::draft::Draft;
 use crate::edition87::{bitmap87, places87};
 use crate::fault::{HostTableFault, NoMemory, TableFault};
-use crate::host::host_rows_fault;
+use crate::host_ready::host_rows_fault;
 use crate::placing::{is_version, known_in, placed, row_at};
 use crate::reading::{draft_of, value_of};
 use crate::sizes::places_bytes;

@@ -5,7 +5,7 @@ use Rattle.std.proofs.lemmas.List.{drop_at, length-append, length-drop}
 use Rattle.std.proofs.Math.Seq.{take-add}
 use Rattle.iso_parts.specs.declared.spec.FieldSpec.{FieldSpec}
 use Rattle.iso_parts.specs.Part.{Part}
-use Rattle.iso_parts.specs.Row.{IsGood}
+use Rattle.iso_parts.specs.Spec.{IsGood}
 use Rattle.iso_parts.specs.Reading.{FieldReading, got, more, fault, part_at}
 use Rattle.iso_parts.specs.PartLaws.{PartLaws}
 use Rattle.iso_wire.specs.declared.fault.UnpackFault.{UnpackFault}

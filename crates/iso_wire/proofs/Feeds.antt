@@ -12,12 +12,12 @@ use Rattle.iso_wire.specs.declared.unpacker.Fed.{Fed}
 use Rattle.iso_wire.specs.declared.unpacker.Fed.TheVariants as fed
 use Rattle.iso_wire.specs.Contents.{Contents}
 use Rattle.iso_wire.specs.Faults.{out_of_memory}
-use Rattle.iso_wire.specs.Feeding.{Feeds, FoundFed}
+use Rattle.iso_wire.specs.Unpacker.{Feeds, FoundFed}
 use Rattle.iso_wire.specs.Taking.{IsRead, KeepsTaken, IsReadyAfter}
 use Rattle.iso_parts.specs.Mti.{mti_size}
 use Rattle.iso_wire.specs.Reading.{IsFaultOf, message_at, whole}
 use Rattle.iso_wire.specs.ReadingLaws.{IsShort, ReadsSpellings, ReadingStays}
-use Rattle.iso_wire.specs.Resuming.{end_of}
+use Rattle.iso_wire.specs.Judging.{end_of}
 use Rattle.iso_wire.specs.Spelling.{AreBytes, BeginsWithNone, Spelling}
 use Rattle.iso_wire.proofs.Bytes.{bytes_take}
 use Rattle.iso_wire.proofs.Unpacks.{is_refused, is_settled}

@@ -3,7 +3,7 @@ use Rattle.std.proofs.Common.{◌≡◌, ℕ, ◌+◌, ◌*◌, ◌/◌, ◌<◌
 use Rattle.std.proofs.lemmas.List.{length-take-le, take-append-drop}
 use Rattle.std.proofs.Math.Seq.{drop-append_seam}
 use Rattle.iso_parts.specs.declared.prefix.Digits.TheVariants as digits
-use Rattle.iso_wire.specs.Frame.{largest, header_size, header_of, frame_of, Begins, header_length}
+use Rattle.iso_wire.specs.Framing.{largest, header_size, header_of, frame_of, Begins, header_length}
 use Rattle.iso_wire.specs.declared.header.Header.{Header}
 use Rattle.iso_wire.specs.declared.header.Header.TheVariants.{Binary2, Ascii4, Bcd2}
 use Rattle.iso_wire.proofs.Types.{mti_takes}

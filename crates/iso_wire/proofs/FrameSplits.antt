@@ -3,7 +3,7 @@ use Rattle.std.proofs.Common.{rules, ◌≡◌, ℕ, true, false, zero, suc, ◌
 use Rattle.std.proofs.lemmas.List.{length-take-le}
 use Rattle.std.proofs.lemmas.Bool.{cases_lt, cases_eq}
 use Rattle.std.proofs.Math.Seq.{take-append_seam, drop-append_seam}
-use Rattle.iso_wire.specs.Frame.{largest, header_size, header_of, frame_of, frames_of, is_bad_header, AllFit, NoFrame, NeedsMore, Splits}
+use Rattle.iso_wire.specs.Framing.{largest, header_size, header_of, frame_of, frames_of, is_bad_header, AllFit, NoFrame, NeedsMore, Splits}
 use Rattle.iso_wire.specs.declared.header.Header.{Header}
 use Rattle.iso_wire.specs.declared.header.Header.TheVariants.{Binary2, Ascii4, Bcd2}
 use Rattle.iso_wire.proofs.FrameHeaders.{length-header_of}

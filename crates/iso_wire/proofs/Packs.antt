@@ -9,7 +9,7 @@ use Rattle.iso_parts.specs.declared.bitmap.BitmapCoding.TheVariants.{Raw}
 use Rattle.iso_parts.specs.declared.spec.FieldSpec.{FieldSpec}
 use Rattle.iso_parts.specs.Bits.{PlainBitmaps}
 use Rattle.iso_parts.specs.Buffers.{Keeps}
-use Rattle.iso_parts.specs.Row.{refusal, Fits}
+use Rattle.iso_parts.specs.Spec.{refusal, Fits}
 use Rattle.iso_wire.specs.declared.fault.PackFault.{PackFault}
 use Rattle.iso_wire.specs.declared.fault.PackFault.TheVariants.{WrongVersion, NoRow, WrongLength, NotInClass, PadEnd, Memory}
 use Rattle.iso_wire.specs.Contents.{Contents}

@@ -6,7 +6,7 @@ use Rattle.std.proofs.lemmas.Bool.{eqb-true}
 use Rattle.iso_parts.specs.declared.fault.FieldFault.{FieldFault}
 use Rattle.iso_parts.specs.declared.spec.FieldSpec.{FieldSpec}
 use Rattle.iso_parts.specs.Part.{Part}
-use Rattle.iso_parts.specs.Row.{refusal}
+use Rattle.iso_parts.specs.Spec.{refusal}
 use Rattle.iso_parts.specs.MapLaws.{MapLaws}
 use Rattle.iso_parts.specs.PartLaws.{PartLaws}
 use Rattle.iso_table.specs.Layout.{row_at, AreGood}

@@ -8,7 +8,7 @@ use Rattle.iso_wire.specs.declared.fault.UnpackCause.TheVariants.{Short, Memory}
 use Rattle.iso_wire.specs.declared.unpacker.Fed.{Fed}
 use Rattle.iso_wire.specs.declared.unpacker.Fed.TheVariants as fed
 use Rattle.iso_wire.specs.Contents.{Contents}
-use Rattle.iso_wire.specs.Feeding.{Feeds, StopsFed}
+use Rattle.iso_wire.specs.Unpacker.{Feeds, StopsFed}
 use Rattle.iso_wire.specs.Viewing.{Viewed, Views}
 use Rattle.iso_wire.specs.Reading.{halt, message_at, whole, Unpacks}
 use Rattle.iso_wire.specs.ReadingLaws.{IsShort, ReadsSpellings, ReadingStays}

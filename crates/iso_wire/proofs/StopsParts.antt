@@ -13,7 +13,7 @@ use Rattle.iso_parts.specs.PartLaws.{PartLaws}
 use Rattle.iso_parts.specs.PieceLaws.{PieceLaws}
 use Rattle.iso_parts.specs.Pieces.{TellsCount, IsCount, IsBadCount, IsBadBody}
 use Rattle.iso_parts.specs.Reading.{prefix_size, prefix_of, body_size, body_of, more, at_body, at_prefix, part_at}
-use Rattle.iso_parts.specs.Row.{IsGood}
+use Rattle.iso_parts.specs.Spec.{IsGood}
 use Rattle.iso_table.specs.Layout.{Layout, AreGood}
 use Rattle.iso_wire.specs.declared.fault.UnpackFault.{UnpackFault}
 use Rattle.iso_wire.specs.declared.fault.UnpackCause.{UnpackCause}

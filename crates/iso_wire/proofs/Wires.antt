@@ -12,7 +12,7 @@ use Rattle.iso_parts.specs.declared.prefix.Length.TheVariants as lengths
 use Rattle.iso_parts.specs.Bits.{in_words, contains, AreElements}
 use Rattle.iso_parts.specs.PartLaws.{PartLaws, IsUpTo}
 use Rattle.iso_parts.specs.Reading.{got, prefix_size, body_size, part_at}
-use Rattle.iso_parts.specs.Row.{IsGood, limit, longest_value}
+use Rattle.iso_parts.specs.Spec.{IsGood, limit, longest_value}
 use Rattle.iso_table.specs.Layout.{row_at}
 use Rattle.iso_wire.specs.declared.bodies.Bodies.{Bodies}
 use Rattle.iso_wire.specs.declared.fault.UnpackFault.{UnpackFault}

@@ -4,7 +4,7 @@ use Rattle.std.specs.Prelude.{◌≡◌, ℕ, ◌+◌, ◌-◌, ◌*◌, ◌≤�
 use Rattle.std.specs.List.{slice_index_or}
 use Rattle.iso_parts.specs.declared.spec.FieldSpec.{FieldSpec}
 use Rattle.iso_parts.specs.Reading.{prefix_size}
-use Rattle.iso_parts.specs.Row.{longest_value}
+use Rattle.iso_parts.specs.Spec.{longest_value}
 use Rattle.iso_wire.specs.declared.bodies.Bodies.{Bodies}
 use Rattle.iso_wire.specs.declared.fault.UnpackFault.{UnpackFault}
 use Rattle.iso_parts.specs.Numbers.{numbers_in}

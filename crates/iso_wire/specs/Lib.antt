@@ -9,11 +9,11 @@ pub mod OneSpelling
 pub mod Faults
 pub mod Reading
 pub mod Appending
-pub mod Frame
+pub mod Framing
 pub mod ReadingLaws
 pub mod Stops
-pub mod Resuming
-pub mod Feeding
+pub mod Judging
+pub mod Unpacker
 pub mod Taking
 pub mod Viewing
 pub mod Bodies

@@ -4,7 +4,7 @@ use Rattle.std.specs.Prelude.{ℕ, ◌/◌, ◌==◌, if◌then◌else◌, List,
 use Rattle.iso_parts.specs.declared.spec.FieldSpec.{FieldSpec}
 use Rattle.iso_parts.specs.declared.fault.FieldFault.{FieldFault}
 use Rattle.iso_parts.specs.declared.fault.FieldFault.TheVariants as fields
-use Rattle.iso_parts.specs.Row.{refusal}
+use Rattle.iso_parts.specs.Spec.{refusal}
 use Rattle.iso_wire.specs.declared.fault.PackFault.{PackFault}
 use Rattle.iso_wire.specs.declared.fault.PackFault.TheVariants.{WrongVersion, NoRow, WrongLength, NotInClass, PadEnd, Memory}
 use Rattle.iso_wire.specs.Contents.{Contents}

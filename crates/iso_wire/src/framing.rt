@@ -3,7 +3,7 @@
 ghost use Rattle.std.specs.Prelude.{◌≡◌, ◌↔◌, ◌+◌, ◌<◌, ◌≤◌, [], ◌∷◌, ◌++◌, drop, replicate};
 ghost use Rattle.std.specs.Prelude.{ℕ, List, length, IfOk, OnOk, OnErr, IsErrOf, IsOkUnless, true};
 ghost use Rattle.iso_wire.specs.declared.framing.FrameFault.TheVariants as faults;
-ghost use Rattle.iso_wire.specs.Frame.{largest, header_size, frame_of, Frames, frame_at, Unframes, AnswersFront, TellsLength, IsGot, is_bad_header};
+ghost use Rattle.iso_wire.specs.Framing.{largest, header_size, frame_of, Frames, frame_at, Unframes, AnswersFront, TellsLength, IsGot, is_bad_header};
 
 use crate::header::Header;
 use std::alloc::{AllocError, Global};

@@ -1,7 +1,7 @@
 //! The header of a frame.
 
 ghost use Rattle.std.specs.Prelude.{◌≡◌, ◌≤◌, length};
-ghost use Rattle.iso_wire.specs.Frame.{largest, header_size, header_of, header_length};
+ghost use Rattle.iso_wire.specs.Framing.{largest, header_size, header_of, header_length};
 
 use iso_parts::{four_ascii_digits, four_bcd_digits, four_digits};
 

@@ -2,10 +2,10 @@
 
 ghost use Rattle.std.specs.Prelude.{◌≡◌, ◌≤◌, ◌+◌, ◌∷◌, ◌<◌, ◌^◌, drop, length, IfOk, Some};
 ghost use Rattle.iso_parts.specs.Bits.{map_size};
-ghost use Rattle.iso_parts.specs.Row.{IsGood};
+ghost use Rattle.iso_parts.specs.Spec.{IsGood};
 ghost use Rattle.iso_table.specs.Layout.{AreGood, row_at};
 ghost use Rattle.iso_parts.specs.Mti.{mti_size};
-ghost use Rattle.iso_wire.specs.Resuming.{IsPointWithin, Resumes, Steps, body_end};
+ghost use Rattle.iso_wire.specs.Judging.{IsPointWithin, Resumes, Steps, body_end};
 ghost use Rattle.iso_parts.specs.Numbers.{members};
 
 use crate::bitmaps::{primary_of, secondary_of};

@@ -2,7 +2,7 @@
 
 ghost use Rattle.std.specs.Prelude.{ℕ, List};
 ghost use Rattle.iso_wire.specs.Ends.{elements_of};
-ghost use Rattle.iso_wire.specs.Frame.{BadIsNoFrame, BadStays, CutNeedsMore, FirstOfSplit, SplitsBehind, SplitsOnce, SplitsSomehow};
+ghost use Rattle.iso_wire.specs.Framing.{BadIsNoFrame, BadStays, CutNeedsMore, FirstOfSplit, SplitsBehind, SplitsOnce, SplitsSomehow};
 ghost use Rattle.iso_wire.specs.OneSpelling.{AreOfBytes, HasPlain, PlainOnce, WellFormed};
 ghost use Rattle.iso_wire.specs.ReadingLaws.{ReadingStays, ReadsSpellings};
 ghost use Rattle.iso_wire.specs.StopsLaws.{NeverBoth, SpellsOrStops, StopsAsRead, StopsOnce, StopsStay};

@@ -3,7 +3,7 @@
 ghost use Rattle.std.specs.Prelude.{ℕ, ◌≡◌, ◌≢◌, ◌≤◌, ◌-◌, ◌++◌, [], take, length, List, IfOk, IfErr, None, Some};
 ghost use Rattle.iso_table.specs.Layout.{AreGood};
 ghost use Rattle.iso_table.specs.Sizes.{max_bytes};
-ghost use Rattle.iso_wire.specs.Feeding.{Feeds, IsAfterFeed, StaysStopped, FoundFed, StopsFed};
+ghost use Rattle.iso_wire.specs.Unpacker.{Feeds, IsAfterFeed, StaysStopped, FoundFed, StopsFed};
 ghost use Rattle.iso_wire.specs.Taking.{IsRead, IsBuilt, KeepsTaken, IsReadyAfter};
 ghost use Rattle.iso_wire.specs.declared.fault.UnpackCause.{UnpackCause};
 ghost use Rattle.iso_wire.specs.declared.fault.UnpackCause.TheVariants.{Short, Memory};
@@ -12,7 +12,7 @@ ghost use Rattle.iso_wire.specs.Faults.{out_of_memory};
 ghost use Rattle.iso_wire.specs.Reading.{halt, message_at, whole, Unpacks};
 ghost use Rattle.iso_wire.specs.Stops.{Stops};
 ghost use Rattle.iso_wire.specs.ReadingLaws.{IsShort};
-ghost use Rattle.iso_wire.specs.Resuming.{IsResumed};
+ghost use Rattle.iso_wire.specs.Judging.{IsResumed};
 ghost use Rattle.iso_wire.specs.Spelling.{AreBytes, BeginsWith, BeginsWithNone, IsUnambiguous, Spelling};
 
 use crate::building::build_judged;
@@ -48,14 +48,14 @@ pub struct Unpacker<'t> {
 }
 
 impl<'t> Model for Unpacker<'t> {
-    ghost use Rattle.iso_wire.specs.Feeding.{Feeding};
+    ghost use Rattle.iso_wire.specs.Unpacker.{Feeding};
     ghost use Rattle.iso_wire.specs.Taking.{IsReady};
 
     ghost Value = { Feeding };
 
     ghost view = { λ u. record { table = u.table.now; taken = u.taken.items; stopped = u.stopped } };
 
-    ghost use Rattle.iso_wire.specs.Resuming.{IsResumed};
+    ghost use Rattle.iso_wire.specs.Judging.{IsResumed};
 
     ghost invariant = { λ u. IsReady u.table.now u.taken.items u.stopped × IsResumed u.table.now u.point u.taken.items };
 }
@@ -257,7 +257,7 @@ fn unpack_whole(
 }
 
 impl<'t> Unpacker<'t> {
-    ghost use Rattle.iso_wire.specs.Feeding.{Feeding};
+    ghost use Rattle.iso_wire.specs.Unpacker.{Feeding};
 
     /// An unpacker at the start of a message. Takes no memory.
     pub fn new(alloc: Global, table: &'t Table) -> Unpacker<'t>

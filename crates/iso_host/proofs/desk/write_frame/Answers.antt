@@ -1,6 +1,6 @@
 use Rattle.std.proofs.Common.{◌≡◌, length, drop, ap, ◌∙◌, arith}
 use Rattle.std.proofs.lemmas.List.{take_at}
-use Rattle.iso_wire.specs.Frame.{header_size, frame_of}
+use Rattle.iso_wire.specs.Framing.{header_size, frame_of}
 use Rattle.iso_host.proofs.FrameLemmas.{short_fits, behind_room}
 use Rattle.iso_host.proofs.desk.write_frame.Goals as goal
 

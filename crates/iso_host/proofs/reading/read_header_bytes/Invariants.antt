@@ -1,6 +1,6 @@
 use Rattle.std.proofs.Common.{◌-◌, ◌≤◌, take}
 use Rattle.std.specs.Io.KnownBytes.{Consumes, prepend_known}
-use Rattle.iso_wire.specs.Frame.{header_size}
+use Rattle.iso_wire.specs.Framing.{header_size}
 use Rattle.iso_host.specs.Pieces.{Draws}
 use Rattle.iso_host.specs.Serving.{TakesTurns}
 use Rattle.iso_host.proofs.reading.read_header_bytes.Given as goal

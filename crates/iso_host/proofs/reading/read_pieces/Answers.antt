@@ -1,5 +1,5 @@
 use Rattle.std.proofs.Common.{◌≤◌, length, ap, refl, arith}
-use Rattle.iso_wire.specs.Feeding.{Feeding}
+use Rattle.iso_wire.specs.Unpacker.{Feeding}
 use Rattle.iso_host.proofs.PieceLemmas.{body_here, body_known, body_ends, body_more, more_wanted, refill_ends, draws_refill}
 use Rattle.iso_host.proofs.reading.read_pieces.Goals as goal
 

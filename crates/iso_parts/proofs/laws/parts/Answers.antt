@@ -1,6 +1,6 @@
 use Rattle.std.proofs.Common.{◌≤◌, ◌+◌, ◌*◌, ℕ, List, length, arith}
 use Rattle.iso_parts.specs.declared.spec.FieldSpec.{FieldSpec}
-use Rattle.iso_parts.specs.Row.{Fits}
+use Rattle.iso_parts.specs.Spec.{Fits}
 use Rattle.iso_parts.specs.Part.{padded, plain_part}
 use Rattle.iso_parts.proofs.Extents.{part_up_to, length_fault, body_fault}
 use Rattle.iso_parts.proofs.Parts.{part_again}

@@ -1,5 +1,5 @@
 use Rattle.std.proofs.Common.{◌≡◌, ◌≤◌, ◌++◌, ℕ, List, length}
-use Rattle.iso_wire.specs.Resuming.{end_of_elements}
+use Rattle.iso_wire.specs.Judging.{end_of_elements}
 use Rattle.iso_parts.specs.Numbers.{members}
 use Rattle.iso_wire.proofs.judging.judge_elements.Given as goal
 

@@ -2,7 +2,7 @@ use Rattle.std.proofs.Common.{◌≡◌, ℕ, List, ◌++◌, subst, sym, ap, �
 use Rattle.iso_wire.specs.declared.fault.UnpackCause.TheVariants.{Short}
 use Rattle.iso_wire.specs.ReadingLaws.{IsShort}
 use Rattle.iso_wire.specs.Reading.{message_at}
-use Rattle.iso_wire.specs.Resuming.{end_of, Resumes}
+use Rattle.iso_wire.specs.Judging.{end_of, Resumes}
 use Rattle.iso_wire.proofs.Feeds.{is_read}
 use Rattle.iso_wire.proofs.Resumes.{resumed_read, resumed_fault, fault_no_memory}
 use Rattle.iso_wire.proofs.unpacker.take_next.Goals as goal

@@ -1,6 +1,6 @@
 use Rattle.std.proofs.Common.{length, refl, ap, subst}
 use Rattle.iso_table.specs.Layout.{Layout, AreGood}
-use Rattle.iso_wire.specs.Frame.{frame_of}
+use Rattle.iso_wire.specs.Framing.{frame_of}
 use Rattle.iso_order.specs.Fitting.{IsServed}
 use Rattle.iso_order.specs.Response.{response}
 use Rattle.iso_host.specs.Desk.{Laid}

@@ -1,6 +1,6 @@
 use Rattle.std.proofs.Common.{sym, subst}
 use Rattle.iso_table.specs.Layout.{AreGood}
-use Rattle.iso_wire.specs.Feeding.{Feeding}
+use Rattle.iso_wire.specs.Unpacker.{Feeding}
 use Rattle.iso_host.proofs.intake.Intake.new.Goals as goal
 
 pub invariant_of-result : goal.invariant_of-result

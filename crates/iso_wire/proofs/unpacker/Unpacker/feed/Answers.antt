@@ -4,7 +4,7 @@ use Rattle.iso_wire.specs.declared.fault.UnpackFault.{UnpackFault}
 use Rattle.iso_wire.specs.declared.unpacker.Fed.{Fed}
 use Rattle.iso_wire.specs.Reading.{halt}
 use Rattle.iso_wire.specs.Stops.{Stops}
-use Rattle.iso_wire.specs.Feeding.{Feeding, Feeds, FoundFed, StopsFed}
+use Rattle.iso_wire.specs.Unpacker.{Feeding, Feeds, FoundFed, StopsFed}
 use Rattle.iso_wire.proofs.unpacker.Unpacker.feed.Goals as goal
 
 pub returns-in-Ok-clause-found : goal.returns-in-Ok-clause-found

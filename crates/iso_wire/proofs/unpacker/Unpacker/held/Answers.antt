@@ -1,6 +1,6 @@
 use Rattle.std.proofs.Common.{◌≤◌, length, subst, ap, arith}
 use Rattle.iso_table.specs.Sizes.{max_bytes}
-use Rattle.iso_wire.specs.Feeding.{Feeding}
+use Rattle.iso_wire.specs.Unpacker.{Feeding}
 use Rattle.iso_wire.proofs.Longest.{ready_is_small}
 use Rattle.iso_wire.proofs.unpacker.Unpacker.held.Goals as goal
 

@@ -1,6 +1,6 @@
 use Rattle.std.proofs.Common.{◌≢◌, ℕ, List, ◌++◌, IfErr, subst}
 use Rattle.iso_wire.specs.declared.fault.UnpackCause.TheVariants.{Short, Memory}
-use Rattle.iso_wire.specs.Feeding.{Feeding}
+use Rattle.iso_wire.specs.Unpacker.{Feeding}
 use Rattle.iso_wire.specs.Spelling.{AreBytes, BeginsWithNone, IsUnambiguous}
 use Rattle.iso_wire.proofs.unpacker.Unpacker.unpack.Goals as goal
 

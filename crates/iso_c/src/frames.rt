@@ -4,9 +4,9 @@ ghost use Rattle.std.specs.Prelude.{◌≡◌, IfOk, IfErr};
 ghost use Rattle.iso_c.specs.Answers.{Replies};
 ghost use Rattle.iso_c.specs.Frames.{header_named, FramesBy, IsFrameFault, Unframed};
 
-use crate::answering::{answer, refuse};
+use crate::answers::{answer, refuse};
 use crate::fault::RumpadolFault;
-use crate::part::RumpadolPart;
+use crate::parts::RumpadolPart;
 use iso_wire::{Framed, Header, frame, unframe};
 use std::alloc::Global;
 

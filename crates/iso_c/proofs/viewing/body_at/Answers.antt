@@ -2,7 +2,7 @@ use Rattle.std.proofs.Common.{◌≡◌, ◌-◌, List, ℕ, Some, length, take,
 use Rattle.iso_wire.specs.Viewing.{Viewed}
 use Rattle.iso_wire.specs.Reading.{message_at}
 use Rattle.iso_c.proofs.Bodies.{placed, viewed_ascend, body_missing}
-use Rattle.iso_c.proofs.view.body_at.Goals as goal
+use Rattle.iso_c.proofs.viewing.body_at.Goals as goal
 
 pub returns-in_default-clause-fault : goal.returns-in_default-clause-fault
 returns-in_default-clause-fault c =

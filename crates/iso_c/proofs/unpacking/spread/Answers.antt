@@ -1,8 +1,8 @@
 use Rattle.std.proofs.Common.{◌≡◌, [], List, ℕ, sym, subst, arith}
-use Rattle.iso_c.specs.declared.part.RumpadolPart.{RumpadolPart}
+use Rattle.iso_c.specs.declared.parts.RumpadolPart.{RumpadolPart}
 use Rattle.iso_c.proofs.Spreads.{Values, Spread, spread_first, spread_next, spread_passed, spread_last}
-use Rattle.iso_c.proofs.unpack.spread.Goals.{in-Some+in_ok-add, in_default}
-use Rattle.iso_c.proofs.unpack.spread.Goals as goal
+use Rattle.iso_c.proofs.unpacking.spread.Goals.{in-Some+in_ok-add, in_default}
+use Rattle.iso_c.proofs.unpacking.spread.Goals as goal
 
 pub loop-n-init : goal.loop-n-init
 loop-n-init c =

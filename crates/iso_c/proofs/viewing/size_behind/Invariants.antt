@@ -1,6 +1,6 @@
 use Rattle.std.proofs.Common.{◌≡◌, ◌+◌}
 use Rattle.iso_c.specs.Later.{from_number, sizes_of}
-use Rattle.iso_c.proofs.view.size_behind.Given as goal
+use Rattle.iso_c.proofs.viewing.size_behind.Given as goal
 
 -- the sizes so far, and then those from the number on
 abbrev pub invariant-loop-k : goal.invariant-loop-k

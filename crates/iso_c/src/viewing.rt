@@ -8,9 +8,9 @@ ghost use Rattle.iso_c.specs.Causes.{no_element};
 ghost use Rattle.iso_c.specs.Later.{from_number, sizes_of};
 ghost use Rattle.iso_c.specs.Viewing.{IsBodyAt, IsViewFault, IsBodyAtHeld, IsViewFaultHeld, ViewsBody};
 
-use crate::answering::refuse;
+use crate::answers::refuse;
 use crate::fault::RumpadolFault;
-use crate::part::RumpadolPart;
+use crate::parts::RumpadolPart;
 use crate::slot::RumpadolSlot;
 use iso_table::Table;
 use iso_wire::{View, view};

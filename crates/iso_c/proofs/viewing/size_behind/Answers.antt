@@ -1,7 +1,7 @@
 use Rattle.std.proofs.Common.{◌≡◌, ◌+◌, ◌≤◌, arith}
 use Rattle.iso_c.proofs.Bodies.{behind_next, behind_passed, behind_last}
-use Rattle.iso_c.proofs.view.size_behind.Goals.{in-Some, in_default}
-use Rattle.iso_c.proofs.view.size_behind.Goals as goal
+use Rattle.iso_c.proofs.viewing.size_behind.Goals.{in-Some, in_default}
+use Rattle.iso_c.proofs.viewing.size_behind.Goals as goal
 
 pub overflow_add-size-in-Some : goal.overflow_add-size-in-Some
 overflow_add-size-in-Some c =

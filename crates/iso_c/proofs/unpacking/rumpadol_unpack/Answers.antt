@@ -4,7 +4,7 @@ use Rattle.iso_table.specs.Layout.{Layout}
 use Rattle.iso_c.specs.Spreading.{IsSpreadHeld}
 use Rattle.iso_c.specs.Unpacking.{IsUnpackReply, IsReadFaultHeld}
 use Rattle.iso_c.proofs.Unpacks.{within, given, not_read}
-use Rattle.iso_c.proofs.unpack.rumpadol_unpack.Goals as goal
+use Rattle.iso_c.proofs.unpacking.rumpadol_unpack.Goals as goal
 
 pub give-requires : goal.give-requires
 give-requires c = within c.replace-table.result c.args.bytes.now c.in-Ok.found c.in-Ok.ensures.ok

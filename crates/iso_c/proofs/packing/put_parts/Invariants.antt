@@ -1,6 +1,6 @@
 use Rattle.std.proofs.Common.{◌≡◌, drop}
 use Rattle.iso_c.specs.Parts.{elements_or_fault}
-use Rattle.iso_c.proofs.pack.put_parts.Given as goal
+use Rattle.iso_c.proofs.packing.put_parts.Given as goal
 
 -- the parts so far, and then the others
 abbrev pub invariant-loop-part : goal.invariant-loop-part

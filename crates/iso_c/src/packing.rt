@@ -8,9 +8,9 @@ ghost use Rattle.iso_c.specs.Causes.{no_memory};
 ghost use Rattle.iso_c.specs.Parts.{bytes_in, elements_or_fault, is_part_within, part_refusal};
 ghost use Rattle.iso_c.specs.Packing.{message_of, Packs, IsPackingFault, PacksHeld, IsPackingFaultHeld};
 
-use crate::answering::answer;
+use crate::answers::answer;
 use crate::fault::RumpadolFault;
-use crate::part::RumpadolPart;
+use crate::parts::RumpadolPart;
 use crate::slot::RumpadolSlot;
 use iso_parts::Mti;
 use iso_table::Table;

@@ -1,5 +1,5 @@
 use Rattle.iso_c.proofs.Spreads.{Spread}
-use Rattle.iso_c.proofs.unpack.spread.Given as goal
+use Rattle.iso_c.proofs.unpacking.spread.Given as goal
 
 -- the elements so far
 abbrev pub invariant-loop-n : goal.invariant-loop-n

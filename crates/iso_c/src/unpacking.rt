@@ -6,9 +6,9 @@ ghost use Rattle.iso_c.specs.Parts.{part_of, parts_from, values_of};
 ghost use Rattle.iso_c.specs.Spreading.{IsSpread, IsSpreadHeld, GivesMessage};
 ghost use Rattle.iso_c.specs.Unpacking.{IsReadFault, IsReadFaultHeld, IsUnpackReply};
 
-use crate::answering::refuse;
+use crate::answers::refuse;
 use crate::fault::RumpadolFault;
-use crate::part::{RumpadolMessage, RumpadolPart};
+use crate::parts::{RumpadolMessage, RumpadolPart};
 use crate::slot::RumpadolSlot;
 use iso_table::Table;
 use iso_wire::laws::well_formed;
