@@ -6,7 +6,7 @@ use Rattle.iso_order.specs.declared.act.Act.TheVariants.{Debit, Credit, Inquiry,
 use Rattle.iso_order.specs.declared.act.Money.{Money}
 use Rattle.iso_order.specs.Outcome.{Outcome}
 use Rattle.iso_order.specs.Key.{function_digit}
-use Rattle.iso_order.specs.Order.{Instruction, same_order, same_currency}
+use Rattle.iso_order.specs.Order.{Instruction, same_order, same_currency, money_of}
 use Rattle.iso_issuer.specs.declared.account.Account.{Account}
 use Rattle.iso_issuer.specs.declared.journal.Entry.{Entry}
 use Rattle.iso_issuer.specs.declared.effect.Effect.{Effect}
@@ -31,14 +31,6 @@ abbrev pub account_code : List Entry → Instruction → Money → Option Accoun
 account_code before o m None = 14
 account_code before o m (Some a) =
     if same_currency a.currency m.currency then amount_code before o.key (effect_of o) a else 12
-
--- the money that an order is about; a reversal is about none
-abbrev pub money_of : Act → Option Money
-money_of (Debit m) = Some m
-money_of (Credit m) = Some m
-money_of (Inquiry m) = Some m
-money_of (Undo original left) = None
-money_of (Complete m hold) = Some m
 
 -- 0 for a reversal, 21 for what is wholly reversed already
 abbrev pub money_code : List Account → List Entry → Instruction → Option Money → ℕ

@@ -9,7 +9,8 @@ ghost use Rattle.iso_issuer.specs.Balances.{accounts_of};
 ghost use Rattle.iso_issuer.specs.Effect.{effect_of};
 ghost use Rattle.iso_issuer.specs.Journal.{left_at, undone_key};
 ghost use Rattle.iso_issuer.specs.Index.{AreSums, balance_on};
-ghost use Rattle.iso_issuer.specs.Decision.{is_wide, amount_code, account_code, money_of, code_of, shown_by, new_answer, repeat_answer};
+ghost use Rattle.iso_issuer.specs.Decision.{is_wide, amount_code, account_code, code_of, shown_by, new_answer, repeat_answer};
+ghost use Rattle.iso_order.specs.Order.{money_of};
 
 use crate::balances::{Balance, Balances, Row};
 use crate::effect::effect_of;
@@ -61,22 +62,11 @@ fn account_code(order: Order, money: Money, balance: Option<Balance>, left: Opti
     }
 }
 
-/// The money that an order is about.
-fn money_of(order: Order) -> Option<Money>
-    ensures { result ≡ money_of order.act }
-{
-    match order.act() {
-        Act::Debit(money) | Act::Credit(money) | Act::Inquiry(money) => Some(money),
-        Act::Complete { money, .. } => Some(money),
-        Act::Undo { .. } => None,
-    }
-}
-
 /// What is on the account that an order is about, and the place of that account.
 pub fn row_for(balances: &Balances, order: Order) -> Option<Row>
     ensures { IsRowFor balances.now order result }
 {
-    match money_of(order) {
+    match order.act().money() {
         Some(money) => balances.find(money.pan),
         None => None,
     }
@@ -108,7 +98,7 @@ fn code_of(row: &Option<Row>, order: Order, left: Option<u64>) -> u8
         → (undone_key order.act ≡ None → left ≡ left_at entries order.key) → result ≡ code_of (accounts_of balances) entries order }
     ensures small { result ≤ 99 }
 {
-    match money_of(order) {
+    match order.act().money() {
         None => 0,
         Some(money) => {
             if is_nothing(left) {

@@ -16,7 +16,8 @@ use Rattle.iso_wire.specs.Decimal.{decimal}
 use Rattle.iso_wire.specs.Elements.{value_in}
 use Rattle.iso_wire.specs.Refusal.{refused_field, refused_by, refused, message_refusal}
 use Rattle.iso_wire.specs.Spelling.{PartAs, Parts}
-use Rattle.iso_order.specs.Fields.{text, asks}
+use Rattle.iso_order.specs.Fields.{text}
+use Rattle.iso_parts.specs.Mti.{is_answered}
 use Rattle.iso_order.specs.Fitting.{IsServed, ResponsesFit}
 use Rattle.iso_order.specs.Listing.{entry, elements_with_value}
 use Rattle.iso_order.specs.Order.{is_letter_or_digit}
@@ -37,7 +38,7 @@ Values = List (ℕ × List ℕ)
 -- ---- the type
 
 -- a function of 0 or 2 has no carry
-pub version_kept : (mti : ℕ) → asks (mti / 10 % 10) ≡ true → response_mti mti / 1000 ≡ mti / 1000
+pub version_kept : (mti : ℕ) → is_answered (mti / 10 % 10) ≡ true → response_mti mti / 1000 ≡ mti / 1000
 version_kept mti h =
     let small : mti / 10 % 10 ≤ 2 = grind (arith, nat_tests) in
     omega arith

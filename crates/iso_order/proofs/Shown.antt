@@ -9,7 +9,7 @@ use Rattle.iso_order.specs.declared.verdict.Verdict.TheVariants.{Reply}
 use Rattle.iso_order.specs.Fields.{text}
 use Rattle.iso_order.specs.Order.{is_currency, is_letter_or_digit}
 use Rattle.iso_order.specs.Response.{asks_balance, is_showable}
-use Rattle.iso_order.specs.Text.{are_digits}
+use Rattle.iso_wire.specs.Decimal.{are_digits}
 use Rattle.iso_order.specs.Verdict.{first_of, answered_lines, network_lines, key_lines, reversal_lines, completion_lines, act_lines, amount_lines, credit_verdict, verdict}
 
 abbrev Lines : Type 0

@@ -5,11 +5,12 @@ use Rattle.iso_wire.specs.Contents.{Contents}
 use Rattle.iso_order.specs.declared.act.Act.TheVariants.{Undo}
 use Rattle.iso_order.specs.declared.verdict.Verdict.{Verdict}
 use Rattle.iso_order.specs.declared.verdict.Verdict.TheVariants.{Reply}
-use Rattle.iso_order.specs.Fields.{version, class, function, origin, asks, text, has_key, original_mti, original_of, is_original, is_own, completes, is_hold, is_replacement, left_of}
+use Rattle.iso_order.specs.Fields.{version, class, function, origin, text, has_key, original_mti, original_of, is_original, is_own, completes, is_hold, is_replacement, left_of}
+use Rattle.iso_parts.specs.Mti.{is_answered}
 use Rattle.iso_order.specs.Order.{is_currency}
 use Rattle.iso_order.specs.AccountNumber.{AccountNumber}
 use Rattle.iso_order.specs.Pan.{pan_of}
-use Rattle.iso_order.specs.Text.{are_digits, number}
+use Rattle.iso_wire.specs.Decimal.{are_digits, number}
 use Rattle.std.proofs.lemmas.Bool.Decides.{nat_tests}
 use Rattle.iso_order.specs.Verdict.{first_of, answered_lines, network_lines, key_lines, reversal_lines, original_lines, completion_lines, account_lines, order_verdict}
 
@@ -29,8 +30,8 @@ module _ (m : Contents) (lines : List (Bool × Verdict)) (last : Verdict) where
   pub not_served : (class m == 1 || class m == 2 || class m == 4) ≡ false → first_of (key_lines m ++ lines) last ≡ Reply 12
   not_served h = rw h refl
 
-  pub is_answered : (version m == 0 && asks (function m)) ≡ true → nat_lt 5 (origin m) ≡ false → first_of (answered_lines m ++ lines) last ≡ first_of lines last
-  is_answered h k = rw (h, k) refl
+  pub past_answered : (version m == 0 && is_answered (function m)) ≡ true → nat_lt 5 (origin m) ≡ false → first_of (answered_lines m ++ lines) last ≡ first_of lines last
+  past_answered h k = rw (h, k) refl
 
   pub with_account : are_digits 1 19 (text m 2) ≡ true → are_digits 6 6 (text m 3) ≡ true → is_currency (text m 49) ≡ true → first_of (account_lines m ++ lines) last ≡ first_of lines last
   with_account a p c = rw (a, p, c) refl

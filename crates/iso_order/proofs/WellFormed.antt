@@ -8,7 +8,8 @@ use Rattle.iso_wire.specs.Decimal.{decimal}
 use Rattle.iso_wire.specs.Elements.{value_in, is_number, IsAscending}
 use Rattle.iso_wire.specs.OneSpelling.{AreOfBytes, WellFormed}
 use Rattle.iso_wire.specs.Spelling.{AreBytes}
-use Rattle.iso_order.specs.Fields.{asks, text}
+use Rattle.iso_order.specs.Fields.{text}
+use Rattle.iso_parts.specs.Mti.{is_answered}
 use Rattle.iso_order.specs.Fitting.{ResponsesAreWellFormed}
 use Rattle.iso_order.specs.Listing.{entry, elements_with_value, ascend}
 use Rattle.iso_order.specs.Outcome.{Outcome}
@@ -102,7 +103,7 @@ responded-number n h = (and_parts (is_number n) (n == 38 || n == 39 || n == 54 |
 -- ---- its type
 
 -- a function of 0 or 2 has no carry
-type_small : (mti : ℕ) → mti < 10000 → asks (mti / 10 % 10) ≡ true → response_mti mti < 10000
+type_small : (mti : ℕ) → mti < 10000 → is_answered (mti / 10 % 10) ≡ true → response_mti mti < 10000
 type_small mti small h =
     let low : mti / 10 % 10 ≤ 2 = grind (arith, nat_tests) in
     omega arith

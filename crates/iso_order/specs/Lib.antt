@@ -10,6 +10,5 @@ pub mod Outcome
 pub mod Pan
 pub mod Request
 pub mod Response
-pub mod Text
 pub mod Told
 pub mod Verdict

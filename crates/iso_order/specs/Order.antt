@@ -81,7 +81,15 @@ same_act _ _ = false
 abbrev pub same_order : Instruction → Instruction → Bool
 same_order a b = same_key a.key b.key && same_act a.act b.act
 
--- ---- amounts
+-- ---- what it is about
+
+-- the account, the amount and the currency; a reversal has none
+abbrev pub money_of : Act → Option Money
+money_of (Debit m) = Some m
+money_of (Credit m) = Some m
+money_of (Inquiry m) = Some m
+money_of (Undo original left) = None
+money_of (Complete m hold) = Some m
 
 -- the amount that an order names
 abbrev pub amount_of : Act → ℕ

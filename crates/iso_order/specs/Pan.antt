@@ -1,8 +1,7 @@
 -- The account number that a text is (ISO 8583:1987, element 2), and how logs show it.
 use Rattle.std.specs.Prelude.{ℕ, ◌-◌, List, ◌++◌, length, take, drop, replicate, nat_lt, if◌then◌else◌, Option, option_map}
-use Rattle.iso_wire.specs.Decimal.{decimal}
+use Rattle.iso_wire.specs.Decimal.{decimal, number_in}
 use Rattle.iso_order.specs.AccountNumber.{AccountNumber}
-use Rattle.iso_order.specs.Text.{number_in}
 
 -- the number of 1 to 19 digits, with how many there are
 abbrev pub pan_of : List ℕ → Option AccountNumber

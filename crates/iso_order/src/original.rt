@@ -5,15 +5,14 @@ ghost use Rattle.iso_order.specs.Fields.{class, function, text, key_of, is_origi
 ghost use Rattle.iso_order.specs.Key.{class_digit, function_digit, is_valid_key};
 ghost use Rattle.iso_order.specs.Order.{is_hold_for};
 ghost use Rattle.iso_order.specs.Original.{named_original};
-ghost use Rattle.iso_order.specs.Text.{are_digits};
+ghost use Rattle.iso_wire.specs.Decimal.{are_digits};
 ghost use Rattle.iso_order.specs.Verdict.{first_of, completion_lines};
 ghost use Rattle.iso_order.specs.declared.verdict.Verdict.{Verdict};
 ghost use Rattle.iso_order.specs.declared.verdict.Verdict.TheVariants.{Reply};
 
-use crate::fields::{base_of, has, text};
+use crate::fields::{base_of, has, mti_of, part, text};
 use crate::key::TxKey;
-use crate::text::{are_digits, part};
-use iso_wire::Message;
+use iso_wire::{Message, are_digits};
 
 /// What element 90 tells of the transaction.
 #[derive(Clone, Copy, Debug)]
@@ -40,7 +39,7 @@ pub(crate) fn original_of(message: &Message, key: &TxKey) -> Option<Original>
     let mti = part(data, 0, 4) as u16;
     let acquirer = part(data, 20, 11);
     let named = TxKey {
-        base: base_of(mti),
+        base: base_of(mti_of(mti)),
         stan: part(data, 4, 6) as u32,
         sent: part(data, 10, 10),
         acquirer: key.acquirer,

@@ -3,8 +3,7 @@
 ghost use Rattle.std.specs.Prelude.{◌≡◌, true, Some};
 ghost use Rattle.iso_order.specs.Pan.{masked_digits, masked_number, pan_of};
 
-use crate::text::number_of;
-use iso_wire::write_decimal;
+use iso_wire::{number_in, write_decimal};
 use std::marker::Model;
 use std::{fmt, str};
 
@@ -35,7 +34,7 @@ impl Pan {
     pub fn from_digits(text: &[u8]) -> Option<Pan>
         ensures { result ≡ pan_of text.now }
     {
-        let digits = number_of(text, 1, 19)?;
+        let digits = number_in(text, 1, 19)?;
         Some(Pan {
             digits,
             len: text.len() as u8,

@@ -4,7 +4,8 @@ ghost use Rattle.std.specs.Prelude.{◌≡◌, ℕ, ◌≤◌, ◌++◌, ◌∷�
 ghost use Rattle.iso_parts.specs.Mti.{mti_number};
 ghost use Rattle.iso_wire.specs.Decimal.{decimal};
 ghost use Rattle.iso_wire.specs.Elements.{value_in, is_number, IsBelow};
-ghost use Rattle.iso_order.specs.Fields.{class, function, asks, text};
+ghost use Rattle.iso_order.specs.Fields.{class, function, text};
+ghost use Rattle.iso_parts.specs.Mti.{is_answered};
 ghost use Rattle.iso_order.specs.Listing.{entry, elements_with_value, ascend};
 ghost use Rattle.iso_order.specs.Response.{response, response_mti, is_approved, sign, approval, additional, balance, element, is_responded, is_showable};
 
@@ -25,7 +26,7 @@ const ANSWERED: [u8; 18] = [
 
 /// The type of the response: the next function, and no repeat.
 fn response_type(message: &Message) -> Mti
-    requires { asks (function message.now) ≡ true }
+    requires { is_answered (function message.now) ≡ true }
     ensures { mti_number result ≡ response_mti message.now.mti }
 {
     message.mti().response().unwrap()
@@ -171,7 +172,7 @@ fn add_all(
 /// enough where it has the room. The other message and the answer are lent to be read, and stay.
 pub fn respond_into(message: &Message, answer: &Answer, into: &mut Message) -> Result<(), NoMemory>
     // A request or an advice.
-    requires asks { asks (function message.now) ≡ true }
+    requires asks { is_answered (function message.now) ≡ true }
     // A balance of at most twelve digits, shown where the verdict is an inquiry.
     requires shown { is_showable message.now answer.now.shown ≡ true }
     ensures whole { OnOk result (into.new ≡ response message.now answer.now) }
@@ -190,7 +191,7 @@ pub fn respond_into(message: &Message, answer: &Answer, into: &mut Message) -> R
 /// shown (54). Refuses only for want of memory: the message and the answer are lent to be read, and stay.
 pub fn respond(alloc: Global, message: &Message, answer: &Answer) -> Result<Message, NoMemory>
     // A request or an advice.
-    requires asks { asks (function message.now) ≡ true }
+    requires asks { is_answered (function message.now) ≡ true }
     // A balance of at most twelve digits, shown where the verdict is an inquiry.
     requires shown { is_showable message.now answer.now.shown ≡ true }
     ensures whole { IfOk result (λ made. made ≡ response message.now answer.now) }

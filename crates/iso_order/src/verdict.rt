@@ -3,23 +3,23 @@
 ghost use Rattle.std.specs.Prelude.{◌≡◌, ◌==◌, ◌&&◌, ◌≤◌, ◌++◌, ◌⊎◌, if◌then◌else◌};
 ghost use Rattle.std.specs.Prelude.{is_some, List, Bool, true, false, Some, None, IfSome, IsTrue};
 ghost use Rattle.iso_wire.specs.Elements.{has};
-ghost use Rattle.iso_order.specs.Fields.{version, class, function, origin, asks, key_of, is_original, kind, is_debit, is_credit};
+ghost use Rattle.iso_order.specs.Fields.{version, class, function, origin, key_of, is_original, kind, is_debit, is_credit};
+ghost use Rattle.iso_parts.specs.Mti.{is_answered};
 ghost use Rattle.iso_order.specs.Fields.{is_inquiry, message_money, part, is_replacement, left_of, completes, hold_of};
 ghost use Rattle.iso_order.specs.Key.{class_digit, function_digit, is_valid_key};
 ghost use Rattle.iso_order.specs.Order.{is_valid, is_hold_for, is_account, is_currency, is_payment};
-ghost use Rattle.iso_order.specs.Text.{are_digits};
+ghost use Rattle.iso_wire.specs.Decimal.{are_digits};
 ghost use Rattle.iso_order.specs.Verdict.{first_of, network_lines, key_lines, original_lines, reversal_lines, completion_lines};
 ghost use Rattle.iso_order.specs.Verdict.{account_lines, act_lines, amount_lines, debited_by, credit_verdict, verdict, IfReply, IfOrder};
 ghost use Rattle.iso_order.specs.Verdict.{IfAnswered};
 
 use crate::act::{Act, Money, currency_of};
-use crate::fields::{has, key_of, text, type_of};
+use crate::fields::{has, key_of, part, text, type_of};
 use crate::key::TxKey;
 use crate::order::Order;
 use crate::original::{completed, is_original, original_of};
 use crate::pan::Pan;
-use crate::text::{are_digits, number_of, part};
-use iso_wire::Message;
+use iso_wire::{Message, are_digits, number_in};
 
 /// What a message asks, and what it gets where it asks nothing of the issuer.
 #[derive(Clone, Copy, Debug, PartialEq, Eq)]
@@ -37,7 +37,7 @@ fn network(message: &Message) -> Verdict
     requires { class message.now ≡ 8 }
     ensures { result ≡ first_of (network_lines message.now) (Verdict.Reply 12) }
 {
-    match number_of(text(message, 70), 3, 3) {
+    match number_in(text(message, 70), 3, 3) {
         None => Verdict::Reply(30),
         Some(1 | 2 | 301) => Verdict::Reply(0),
         Some(_) => Verdict::Reply(12),
@@ -56,7 +56,7 @@ fn replacement(message: &Message) -> Option<u64>
     if amounts.len() != 42 {
         return None;
     }
-    number_of(&amounts[..12], 12, 12)
+    number_in(&amounts[..12], 12, 12)
 }
 
 /// Class 4: a reversal of the transaction that element 90 names, which leaves so much.
@@ -160,7 +160,7 @@ fn moved(message: &Message, key: &TxKey, hold: Option<TxKey>, code: u64, money: 
     ensures valid { IfOrder result (λ o. IsTrue (is_valid o)) }
     ensures key { IfOrder result (λ o. o.key ≡ key_of message.now) }
 {
-    let amount = match number_of(text(message, 4), 12, 12) {
+    let amount = match number_in(text(message, 4), 12, 12) {
         None => return Verdict::Reply(30),
         Some(0) => return Verdict::Reply(13),
         Some(amount) => amount,
@@ -273,7 +273,7 @@ fn payment(message: &Message, key: &TxKey) -> Verdict
 /// Classes 1, 2 and 4: what is asked under the message's key.
 fn keyed(message: &Message, digit: u8) -> Verdict
     requires version { version message.now ≡ 0 }
-    requires asks { asks (function message.now) ≡ true }
+    requires asks { is_answered (function message.now) ≡ true }
     requires origin { origin message.now ≤ 5 }
     requires class { digit ≡ class message.now }
     requires served { (digit ≡ 1) ⊎ (digit ≡ 2) ⊎ (digit ≡ 4) }
@@ -298,7 +298,7 @@ fn verdict_of(message: &Message) -> Verdict
     ensures verdict { result ≡ verdict message.now }
     ensures valid { IfOrder result (λ o. IsTrue (is_valid o)) }
     ensures key { IfOrder result (λ o. o.key ≡ key_of message.now) }
-    ensures answered { IfAnswered result (asks (function message.now) ≡ true) }
+    ensures answered { IfAnswered result (is_answered (function message.now) ≡ true) }
 {
     let mti = type_of(message);
     if mti.version != 0 || !matches!(mti.function, 0 | 2) {
@@ -321,7 +321,7 @@ pub fn order_of(message: &Message) -> Verdict
     // Each delivery of a transaction has one key: its type has no repeat, its acquirer no leading zeros.
     ensures key { IfOrder result (λ o. o.key ≡ key_of message.now) }
     // A message that is answered has a response.
-    ensures answered { IfAnswered result (asks (function message.now) ≡ true) }
+    ensures answered { IfAnswered result (is_answered (function message.now) ≡ true) }
     // A response code has two digits.
     ensures code { IfReply result (λ code. code ≤ 99) }
 {

@@ -3,7 +3,7 @@ use Rattle.iso_order.specs.declared.key.TxKey.{TxKey}
 use Rattle.iso_order.specs.declared.original.Original.{Original}
 use Rattle.iso_order.specs.Fields.{text, original_mti, original_of, is_hold, is_own}
 use Rattle.iso_order.specs.Original.{named_original}
-use Rattle.iso_order.specs.Text.{are_digits}
+use Rattle.iso_wire.specs.Decimal.{are_digits}
 use Rattle.std.specs.Prelude.{Some, None, if◌then◌else◌}
 use Rattle.iso_order.proofs.Table.{some_if, none_if, turned, no_hold, hold_of_another_type, hold_of_another_acquirer, with_hold}
 use Rattle.iso_order.proofs.Valid.{hold-valid}

@@ -1,7 +1,7 @@
 use Rattle.std.proofs.Common.{◌≡◌, true, sym, ◌∙◌, ◌++◌}
 use Rattle.iso_order.specs.Fields.{text}
 use Rattle.iso_order.specs.Order.{is_currency}
-use Rattle.iso_order.specs.Text.{are_digits}
+use Rattle.iso_wire.specs.Decimal.{are_digits}
 use Rattle.iso_order.specs.Verdict.{act_lines, amount_lines, credit_verdict}
 use Rattle.iso_order.proofs.Table.{with_account, some_if, read_digits}
 use Rattle.iso_order.proofs.verdict.account_asked.Goals as goal
