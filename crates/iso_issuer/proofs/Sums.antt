@@ -11,7 +11,7 @@ use Rattle.iso_issuer.specs.declared.effect.Side.{Side}
 use Rattle.iso_issuer.specs.declared.effect.Side.TheVariants.{Given, Taken, Held}
 use Rattle.iso_issuer.specs.declared.journal.Entry.{Entry}
 use Rattle.iso_issuer.specs.Effect.{effect_of, effect_amount, is_on, is_key, same_side}
-use Rattle.iso_issuer.specs.Journal.{left_at, smaller_of, undone_key, counts_with, is_ended, weight, weight_at, effect_at, reversed_by, released_by, ended_key, HasDistinctKeys}
+use Rattle.iso_issuer.specs.Journal.{left_at, smaller_of, undone_key, is_counted_with, is_ended, weight, weight_at, effect_at, reversed_by, released_by, ended_key, HasDistinctKeys}
 use Rattle.iso_issuer.specs.Balance.{share, total, ledger, available, ledger_share, available_share}
 use Rattle.iso_issuer.proofs.ByKey.{left-kept}
 use Rattle.iso_issuer.proofs.Touched.{at, sum-entered-two}
@@ -29,9 +29,9 @@ ended-kept es e key (Some f) distinct other = ap (λ b. same_side f.side Held &&
 pub weight-kept : (es : List Entry) (e x : Entry) → HasDistinctKeys (map (λ e. e.order) es) →
     is_key (undone_key e.order.act) x.order.key ≡ false → is_key (ended_key es e.order) x.order.key ≡ false → weight (es ++ e ∷ []) x ≡ weight es x
 weight-kept es e x distinct other apart =
-    ap (λ o. cond (counts_with o x && not (is_ended (es ++ e ∷ []) x.order.key (effect_of x.order))) (smaller_of (effect_amount (effect_of x.order)) o) 0)
+    ap (λ o. cond (is_counted_with o x && not (is_ended (es ++ e ∷ []) x.order.key (effect_of x.order))) (smaller_of (effect_amount (effect_of x.order)) o) 0)
     (left-kept es e x.order.key other)
-    ∙ ap (λ b. cond (counts_with (left_at es x.order.key) x && not b) (smaller_of (effect_amount (effect_of x.order)) (left_at es x.order.key)) 0)
+    ∙ ap (λ b. cond (is_counted_with (left_at es x.order.key) x && not b) (smaller_of (effect_amount (effect_of x.order)) (left_at es x.order.key)) 0)
     (ended-kept es e x.order.key (effect_of x.order) distinct apart)
 
 -- the keys that an order touches are two

@@ -11,7 +11,7 @@ use Rattle.iso_issuer.specs.declared.account.Account.{Account}
 use Rattle.iso_issuer.specs.declared.journal.Entry.{Entry}
 use Rattle.iso_issuer.specs.declared.effect.Effect.{Effect}
 use Rattle.iso_issuer.specs.Account.{account_of}
-use Rattle.iso_issuer.specs.Effect.{effect_of, takes}
+use Rattle.iso_issuer.specs.Effect.{effect_of, is_drawn}
 use Rattle.iso_issuer.specs.Journal.{is_reversed, left_at, smaller_of, entry_at}
 use Rattle.iso_issuer.specs.Balance.{available}
 
@@ -24,7 +24,7 @@ is_wide z = int_lt (pos 999999999999) z || int_lt z (negsuc 999999999998)
 -- on its account: an inquiry has 96 where it can't be shown, a debit that is a request 51 where what is left of it is over the available amount
 abbrev pub amount_code : List Entry → TxKey → Option Effect → Account → ℕ
 amount_code before key None a = if is_wide (available before a) then 96 else 0
-amount_code before key (Some f) a = if takes f.side && (function_digit key == 0) && int_lt (available before a) (pos (smaller_of f.amount (left_at before key))) then 51 else 0
+amount_code before key (Some f) a = if is_drawn f.side && (function_digit key == 0) && int_lt (available before a) (pos (smaller_of f.amount (left_at before key))) then 51 else 0
 
 -- 14 without an account, 12 in another currency
 abbrev pub account_code : List Entry → Instruction → Money → Option Account → ℕ

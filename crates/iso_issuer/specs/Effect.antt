@@ -31,11 +31,11 @@ abbrev pub effect_amount : Option Effect → ℕ
 effect_amount None = 0
 effect_amount (Some f) = f.amount
 
--- it is taken from what is available
-abbrev pub takes : Side → Bool
-takes Given = false
-takes Taken = true
-takes Held = true
+-- it is drawn from what is available
+abbrev pub is_drawn : Side → Bool
+is_drawn Given = false
+is_drawn Taken = true
+is_drawn Held = true
 
 abbrev pub same_side : Side → Side → Bool
 same_side Given Given = true

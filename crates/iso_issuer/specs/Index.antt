@@ -15,7 +15,7 @@ use Rattle.iso_issuer.specs.declared.balances.Balance.{Balance}
 use Rattle.iso_order.specs.Order.{Instruction}
 use Rattle.iso_issuer.specs.declared.index.Index.{Index}
 use Rattle.iso_issuer.specs.declared.journal.Entry.{Entry}
-use Rattle.iso_issuer.specs.Journal.{left_at, entry_at, is_counted, counts_with}
+use Rattle.iso_issuer.specs.Journal.{left_at, entry_at, is_counted, is_counted_with}
 use Rattle.iso_issuer.specs.Effect.{effect_of, is_end_of}
 use Rattle.iso_issuer.specs.declared.effect.Effect.{Effect}
 use Rattle.iso_issuer.specs.declared.effect.Hold.{Hold}
@@ -91,7 +91,7 @@ added_by entries e = if is_counted entries e then hold_by (effect_of e.order) el
 -- the hold that an entry no longer completes, after a reversal that leaves so much
 abbrev pub dropped_of : Option ℕ → ℕ → Entry → Option Hold
 dropped_of (Some n) left r = None
-dropped_of None left r = if counts_with None r && (left == 0) then hold_by (effect_of r.order) else None
+dropped_of None left r = if is_counted_with None r && (left == 0) then hold_by (effect_of r.order) else None
 
 abbrev pub dropped_at : List Entry → TxKey → ℕ → Option Entry → Option Hold
 dropped_at entries key left None = None

@@ -74,12 +74,12 @@ smaller_of amount None = amount
 smaller_of amount (Some left) = min amount left
 
 -- a debit, a credit or a completion that was granted, of which something is left
-abbrev pub counts_with : Option ℕ → Entry → Bool
-counts_with left e = is_some (effect_of e.order) && (e.answer.code == 0) && not (is_nothing left)
+abbrev pub is_counted_with : Option ℕ → Entry → Bool
+is_counted_with left e = is_some (effect_of e.order) && (e.answer.code == 0) && not (is_nothing left)
 
 -- one that was granted, and that isn't wholly reversed in the whole journal, earlier or later (our own rule)
 abbrev pub is_counted : List Entry → Entry → Bool
-is_counted journal e = counts_with (left_at journal e.order.key) e
+is_counted journal e = is_counted_with (left_at journal e.order.key) e
 
 -- some entry that counts completes the hold of this key on this account
 abbrev pub is_completed : List Entry → TxKey → AccountNumber → Bool

@@ -12,7 +12,7 @@ ghost use Rattle.iso_issuer.specs.Shown.{is_shown_for};
 
 use crate::accounts::Accounts;
 use crate::balances::Balances;
-use crate::decision::{new_answer, place_in, repeated, row_for};
+use crate::decision::{new_answer, place_in, repeat_answer, row_for};
 use crate::fault::Refused;
 use crate::journal::{Entry, Journal};
 use crate::posting::settle;
@@ -107,7 +107,7 @@ impl Issuer {
         ensures unchanged { OnErr result (self.new ≡ self.old) }
     {
         match self.journal.get(order.key()) {
-            Some(entry) => Ok(repeated(entry, order)),
+            Some(entry) => Ok(repeat_answer(entry, order)),
             None => {
                 if self.journal.len() >= self.limit as usize {
                     return Err(Refused::Full);

@@ -9,7 +9,7 @@ use Rattle.iso_order.specs.declared.act.Money.{Money}
 use Rattle.iso_order.specs.declared.key.TxKey.{TxKey}
 use Rattle.iso_order.specs.declared.verdict.Verdict.{Verdict}
 use Rattle.iso_order.specs.declared.verdict.Verdict.TheVariants.{Order}
-use Rattle.iso_order.specs.Fields.{version, class, function, origin, text, has_key, key_of, message_money, original_mti, is_original, is_own, original_of, completes, hold_of, is_replacement, left_of, kind}
+use Rattle.iso_order.specs.Fields.{version, class, function, origin, text, has_key, key_of, message_money, original_mti, is_original, is_own, original_of, is_completion, hold_of, is_replacement, left_of, kind}
 use Rattle.iso_parts.specs.Mti.{is_answered}
 use Rattle.iso_order.specs.Order.{is_currency}
 use Rattle.iso_wire.specs.Decimal.{are_digits, number}
@@ -86,7 +86,7 @@ pub debit-verdict : (m : Contents) (k : TxKey) (money : Money) (hold : Option Tx
 debit-verdict m k money hold p moving named =
     paying-verdict m k money 0 p ∙ rw (p.of_kind, moving.digits, moving.amount, moving.some, named, p.told, p.keyed.key) refl
 
-pub credit-verdict : (m : Contents) (k : TxKey) (money : Money) → Paying m k money 20 → Moving m money → (class m == 1) ≡ false → completes m ≡ false → verdict m ≡ Order (record { key = k; act = Credit money })
+pub credit-verdict : (m : Contents) (k : TxKey) (money : Money) → Paying m k money 20 → Moving m money → (class m == 1) ≡ false → is_completion m ≡ false → verdict m ≡ Order (record { key = k; act = Credit money })
 credit-verdict m k money p moving two plain =
     paying-verdict m k money 20 p ∙ rw (p.of_kind, two, plain, moving.digits, moving.amount, moving.some, p.told, p.keyed.key) refl
 

@@ -15,7 +15,7 @@ use Rattle.iso_order.specs.declared.key.TxKey.{TxKey}
 use Rattle.iso_order.specs.declared.verdict.Verdict.{Verdict}
 use Rattle.iso_order.specs.declared.verdict.Verdict.TheVariants.{Order}
 use Rattle.iso_order.specs.AccountNumber.{AccountNumber, is_pan}
-use Rattle.iso_order.specs.Fields.{class, function, base_of, text, part, original_mti, is_original, is_own, original_of, completes, is_hold, hold_of, is_replacement, left_of}
+use Rattle.iso_order.specs.Fields.{class, function, base_of, text, part, original_mti, is_original, is_own, original_of, is_completion, is_hold, hold_of, is_replacement, left_of}
 use Rattle.iso_parts.specs.Mti.{is_answered}
 use Rattle.iso_order.specs.Key.{class_digit, function_digit, is_valid_key}
 use Rattle.iso_order.specs.Order.{is_currency, is_account, has_amount, is_payment, is_hold_for, is_valid_act, money_of}
@@ -138,7 +138,7 @@ module _ (key : TxKey) (act : Act) (valid : is_valid_key key ≡ true) where
   naming : has m.elements 90 ≡ is_some (option_map original_data (named_by act))
   naming = ap (λ (v : Option (List ℕ)). is_some v) (value-is 90 (omega arith) (omega arith))
 
-  not_naming : named_by act ≡ None → completes m ≡ false
+  not_naming : named_by act ≡ None → is_completion m ≡ false
   not_naming none = off (class m == 2 && function m == 2) (has m.elements 90) (naming ∙ ap (λ (o : Option TxKey). is_some (option_map original_data o)) none)
     where
       off : (p q : Bool) → q ≡ false → (p && q) ≡ false
@@ -186,7 +186,7 @@ module _ (key : TxKey) (act : Act) (valid : is_valid_key key ≡ true) where
         ap is_hold named-mti
         ∙ and_from _ _ (and_from _ _ (and_from _ _ (eq-eqb (k.base / 1000) 0 named-facts.version) one) named-facts.asking) (le-leb (k.base % 10) 5 named-facts.origin)
 
-    is_naming : class_digit key ≡ 2 → function_digit key ≡ 2 → completes m ≡ true
+    is_naming : class_digit key ≡ 2 → function_digit key ≡ 2 → is_completion m ≡ true
     is_naming two advice =
         and_from _ _ (and_from _ _ (eq-eqb (class m) 2 (class-is ∙ two)) (eq-eqb (function m) 2 (function-is ∙ advice)))
         (naming ∙ ap (λ (o : Option TxKey). is_some (option_map original_data o)) named)

@@ -5,7 +5,7 @@ use Rattle.iso_wire.specs.Contents.{Contents}
 use Rattle.iso_order.specs.declared.act.Act.TheVariants.{Undo}
 use Rattle.iso_order.specs.declared.verdict.Verdict.{Verdict}
 use Rattle.iso_order.specs.declared.verdict.Verdict.TheVariants.{Reply}
-use Rattle.iso_order.specs.Fields.{version, class, function, origin, text, has_key, original_mti, original_of, is_original, is_own, completes, is_hold, is_replacement, left_of}
+use Rattle.iso_order.specs.Fields.{version, class, function, origin, text, has_key, original_mti, original_of, is_original, is_own, is_completion, is_hold, is_replacement, left_of}
 use Rattle.iso_parts.specs.Mti.{is_answered}
 use Rattle.iso_order.specs.Order.{is_currency}
 use Rattle.iso_order.specs.AccountNumber.{AccountNumber}
@@ -48,19 +48,19 @@ module _ (m : Contents) (lines : List (Bool × Verdict)) (last : Verdict) where
   pub with_original : (class m == 4) ≡ true → are_digits 42 42 (text m 90) ≡ true → is_original (original_mti m) ≡ true → is_own m ≡ true → first_of (original_lines m ++ lines) last ≡ order_verdict m (Undo (original_of m) (left_of m))
   with_original h d o a = rw (h, d, o, a) refl
 
-  pub not_completing : completes m ≡ false → first_of (completion_lines m ++ lines) last ≡ first_of lines last
+  pub not_completing : is_completion m ≡ false → first_of (completion_lines m ++ lines) last ≡ first_of lines last
   not_completing h = rw h refl
 
-  pub no_hold : completes m ≡ true → are_digits 42 42 (text m 90) ≡ false → first_of (completion_lines m ++ lines) last ≡ Reply 30
+  pub no_hold : is_completion m ≡ true → are_digits 42 42 (text m 90) ≡ false → first_of (completion_lines m ++ lines) last ≡ Reply 30
   no_hold h d = rw (h, d) refl
 
-  pub hold_of_another_type : completes m ≡ true → are_digits 42 42 (text m 90) ≡ true → is_hold (original_mti m) ≡ false → first_of (completion_lines m ++ lines) last ≡ Reply 12
+  pub hold_of_another_type : is_completion m ≡ true → are_digits 42 42 (text m 90) ≡ true → is_hold (original_mti m) ≡ false → first_of (completion_lines m ++ lines) last ≡ Reply 12
   hold_of_another_type h d o = rw (h, d, o) refl
 
-  pub hold_of_another_acquirer : completes m ≡ true → are_digits 42 42 (text m 90) ≡ true → is_hold (original_mti m) ≡ true → is_own m ≡ false → first_of (completion_lines m ++ lines) last ≡ Reply 12
+  pub hold_of_another_acquirer : is_completion m ≡ true → are_digits 42 42 (text m 90) ≡ true → is_hold (original_mti m) ≡ true → is_own m ≡ false → first_of (completion_lines m ++ lines) last ≡ Reply 12
   hold_of_another_acquirer h d o a = rw (h, d, o, a) refl
 
-  pub with_hold : completes m ≡ true → are_digits 42 42 (text m 90) ≡ true → is_hold (original_mti m) ≡ true → is_own m ≡ true → first_of (completion_lines m ++ lines) last ≡ first_of lines last
+  pub with_hold : is_completion m ≡ true → are_digits 42 42 (text m 90) ≡ true → is_hold (original_mti m) ≡ true → is_own m ≡ true → first_of (completion_lines m ++ lines) last ≡ first_of lines last
   with_hold h d o a = rw (h, d, o, a) refl
 
   pub is_replaced : is_replacement m ≡ true → first_of (reversal_lines m ++ lines) last ≡ first_of (original_lines m ++ lines) last

@@ -77,8 +77,8 @@ original_of m = record { base = base_of (original_mti m); stan = original_stan m
 -- ---- the hold that an advice of class 2 completes (element 90)
 
 -- an advice of class 2 that names another transaction
-abbrev pub completes : Contents → Bool
-completes m = class m == 2 && function m == 2 && has m.elements 90
+abbrev pub is_completion : Contents → Bool
+is_completion m = class m == 2 && function m == 2 && has m.elements 90
 
 -- a request or an advice of class 1, or a repeat of one
 abbrev pub is_hold : ℕ → Bool
@@ -86,7 +86,7 @@ is_hold mti = mti / 1000 == 0 && mti / 100 % 10 == 1 && is_answered (mti / 10 % 
 
 -- the key of that hold, where one is named
 abbrev pub hold_of : Contents → Option TxKey
-hold_of m = if completes m then Some (original_of m) else None
+hold_of m = if is_completion m then Some (original_of m) else None
 
 -- ---- what a reversal leaves (element 95, replacement amounts)
 

@@ -94,7 +94,7 @@ impl Money {
     }
 
     /// Whether it is an amount that can be moved: 1 to 999,999,999,999.
-    fn is_moved(&self) -> bool
+    fn has_amount(&self) -> bool
         ensures { result ≡ has_amount self.now }
     {
         self.is_account() && 1 <= self.amount && self.amount <= 999_999_999_999
@@ -169,8 +169,8 @@ impl Act {
         ensures { result ≡ is_valid_act key.now self.now }
     {
         match self {
-            Act::Debit(money) => matches!(key.class(), 1 | 2) && money.is_moved(),
-            Act::Credit(money) => key.class() == 2 && money.is_moved(),
+            Act::Debit(money) => matches!(key.class(), 1 | 2) && money.has_amount(),
+            Act::Credit(money) => key.class() == 2 && money.has_amount(),
             Act::Inquiry(money) => {
                 matches!(key.class(), 1 | 2)
                     && key.function() == 0
@@ -187,7 +187,7 @@ impl Act {
             Act::Complete { money, hold } => {
                 key.class() == 2
                     && key.function() == 2
-                    && money.is_moved()
+                    && money.has_amount()
                     && is_hold_for(key, hold)
             }
         }

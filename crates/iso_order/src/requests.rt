@@ -39,7 +39,7 @@ fn processing_code(act: &Act) -> Option<u64>
 }
 
 /// The amount that is moved.
-fn moved_by(act: &Act) -> Option<u64>
+fn moved_amount(act: &Act) -> Option<u64>
     ensures { result ≡ moved_amount act.now }
 {
     match act {
@@ -61,7 +61,7 @@ fn named_by(act: &Act) -> Option<TxKey>
 }
 
 /// What a reversal leaves, where it leaves a part.
-fn left_by(act: &Act) -> Option<u64>
+fn partial_left(act: &Act) -> Option<u64>
     ensures { result ≡ partial_left act.now }
 {
     match act {
@@ -179,7 +179,7 @@ fn add_replacement(act: &Act, request: &mut Message) -> Result<(), AllocError>
       elements = request.old.elements ++ entry 95 (option_map replacement_amounts (partial_left act.now));
     }) }
 {
-    match left_by(act) {
+    match partial_left(act) {
         Some(left) => request.append(95, &replacement_amounts(left)),
         None => Ok(()),
     }
@@ -196,7 +196,7 @@ fn add(key: &TxKey, act: &Act, n: u8, request: &mut Message) -> Result<(), Alloc
     match n {
         2 => add_account(act, request),
         3 => add_some(3, processing_code(act), 6, request),
-        4 => add_some(4, moved_by(act), 12, request),
+        4 => add_some(4, moved_amount(act), 12, request),
         7 => add_number(7, key.sent, 10, request),
         11 => add_number(11, key.stan as u64, 6, request),
         32 => add_acquirer(key, request),

@@ -6,7 +6,7 @@ use Rattle.iso_order.specs.Original.{named_original}
 use Rattle.iso_wire.specs.Decimal.{are_digits}
 use Rattle.iso_order.proofs.Table.{some_if, none_if, turned, no_original, of_another_type, of_another_acquirer, with_original}
 use Rattle.iso_order.proofs.Valid.{undo-valid}
-use Rattle.iso_order.proofs.verdict.leaving.Goals as goal
+use Rattle.iso_order.proofs.verdict.original_verdict.Goals as goal
 
 pub valid-requires : goal.valid-requires
 valid-requires c =
