@@ -6,7 +6,7 @@ ghost use Rattle.iso_order.specs.Fields.{function};
 ghost use Rattle.iso_parts.specs.Mti.{is_answered};
 ghost use Rattle.iso_order.specs.Response.{is_showable};
 ghost use Rattle.iso_order.specs.Verdict.{verdict};
-ghost use Rattle.iso_issuer.specs.Shown.{is_shown_for};
+ghost use Rattle.iso_issuer.specs.Decision.{is_shown_for};
 ghost use Rattle.iso_host.specs.Asking.{orders_in};
 ghost use Rattle.iso_host.specs.Desk.{IsSameDesk};
 ghost use Rattle.iso_host.specs.Entering.{entered_by, with_orders};

@@ -11,7 +11,7 @@ use Rattle.std.proofs.lemmas.List.Sums.{sum_by-cons}
 use Rattle.std.specs.BTreeMap as tree
 use Rattle.std.specs.BTreeMap.{BTreeMap}
 use Rattle.iso_order.specs.declared.key.TxKey.{TxKey}
-use Rattle.iso_order.specs.AccountNumber.{AccountNumber}
+use Rattle.iso_order.specs.Pan.{AccountNumber}
 use Rattle.iso_order.specs.Key.{same_key}
 use Rattle.iso_order.specs.Order.{same_pan}
 use Rattle.iso_issuer.proofs.Keys.{same_key_is, same_pan_is}
@@ -22,7 +22,8 @@ use Rattle.iso_order.specs.declared.act.Act.TheVariants.{Debit, Credit, Inquiry,
 use Rattle.iso_issuer.specs.declared.effect.Effect.{Effect}
 use Rattle.iso_issuer.specs.declared.journal.Entry.{Entry}
 use Rattle.iso_issuer.specs.Effect.{effect_of, effect_by, is_key, is_end_of}
-use Rattle.iso_issuer.specs.Journal.{entry_at, undone_key, left_by, left_at, reversed_by, is_counted_with, is_counted, HasDistinctKeys}
+use Rattle.iso_issuer.specs.Journal.{entry_at, undone_key, left_by, left_at, is_counted_with, is_counted, HasDistinctKeys}
+use Rattle.iso_issuer.specs.Found.{reversed_by}
 use Rattle.iso_issuer.proofs.ByKey.{key_tied, pan_tied, left-push}
 use Rattle.iso_issuer.proofs.Touched.{at, found-key}
 use Rattle.iso_issuer.proofs.Completions.{counted-kept, completions-entered, passed-most}

@@ -3,7 +3,7 @@ use Rattle.std.proofs.Common.{◌≡◌, ℕ, Bool, true, false, not, refl, arit
 use Rattle.std.specs.Prelude.{◌&&◌, Option, Some, None, map, ℤ, pos, ◌+ℤ◌, ◌-ℤ◌}
 use Rattle.std.proofs.lemmas.Int.{ints}
 use Rattle.iso_order.specs.declared.key.TxKey.{TxKey}
-use Rattle.iso_order.specs.AccountNumber.{AccountNumber}
+use Rattle.iso_order.specs.Pan.{AccountNumber}
 use Rattle.iso_order.specs.Order.{Instruction}
 use Rattle.iso_issuer.specs.declared.account.Account.{Account}
 use Rattle.iso_issuer.specs.declared.effect.Effect.{Effect}
@@ -11,8 +11,10 @@ use Rattle.iso_issuer.specs.declared.effect.Side.{Side}
 use Rattle.iso_issuer.specs.declared.effect.Side.TheVariants.{Given, Taken, Held}
 use Rattle.iso_issuer.specs.declared.journal.Entry.{Entry}
 use Rattle.iso_issuer.specs.Effect.{effect_of, effect_amount, is_on, is_key, same_side}
-use Rattle.iso_issuer.specs.Journal.{left_at, smaller_of, undone_key, is_counted_with, is_ended, weight, weight_at, effect_at, reversed_by, released_by, ended_key, HasDistinctKeys}
-use Rattle.iso_issuer.specs.Balance.{share, total, ledger, available, ledger_share, available_share}
+use Rattle.iso_issuer.specs.Journal.{left_at, smaller_of, undone_key, is_counted_with, is_ended, weight, HasDistinctKeys}
+use Rattle.iso_issuer.specs.Found.{weight_at, effect_at, reversed_by, released_by, ended_key}
+use Rattle.iso_issuer.specs.Balance.{share, total, ledger, available}
+use Rattle.iso_issuer.specs.Posting.{ledger_share, available_share}
 use Rattle.iso_issuer.proofs.ByKey.{left-kept}
 use Rattle.iso_issuer.proofs.Touched.{at, sum-entered-two}
 use Rattle.iso_issuer.proofs.Completions.{completed-kept}

@@ -1,10 +1,11 @@
 -- How an order is answered. Which case gets which code is our own rule.
-use Rattle.std.specs.Prelude.{ℕ, Bool, List, [], ◌∷◌, ◌++◌, ◌==◌, ◌&&◌, ◌||◌, ◌+◌, length, Option, Some, None, option_map, if◌then◌else◌, ℤ, pos, negsuc, int_lt}
+use Rattle.std.specs.Prelude.{ℕ, Bool, List, [], ◌∷◌, ◌++◌, ◌==◌, ◌&&◌, ◌||◌, ◌+◌, length, Option, Some, None, option_map, if◌then◌else◌, ℤ, pos, negsuc, int_lt, true, nat_le, unsigned_abs}
 use Rattle.iso_order.specs.declared.key.TxKey.{TxKey}
 use Rattle.iso_order.specs.declared.act.Act.{Act}
 use Rattle.iso_order.specs.declared.act.Act.TheVariants.{Debit, Credit, Inquiry, Undo, Complete}
 use Rattle.iso_order.specs.declared.act.Money.{Money}
 use Rattle.iso_order.specs.Outcome.{Outcome}
+use Rattle.iso_order.specs.Response.{is_inquiry_order}
 use Rattle.iso_order.specs.Key.{function_digit}
 use Rattle.iso_order.specs.Order.{Instruction, same_order, same_currency, money_of}
 use Rattle.iso_issuer.specs.declared.account.Account.{Account}
@@ -87,3 +88,10 @@ reply_by accounts journal o (Some e) = repeat_answer e o
 -- that of the entry of its key, where there is one, else a new answer
 abbrev pub reply : List Account → List Entry → Instruction → Outcome
 reply accounts journal o = reply_by accounts journal o (entry_at journal o.key)
+
+-- ---- what an answer shows
+
+-- a balance of at most twelve digits is shown for an inquiry, and none for another act
+abbrev pub is_shown_for : Act → Option ℤ → Bool
+is_shown_for act None = true
+is_shown_for act (Some z) = nat_le (unsigned_abs z) 999999999999 && is_inquiry_order act

@@ -7,15 +7,15 @@ use Rattle.std.specs.declared.cmp.Ordering.{Ordering}
 use Rattle.std.specs.BTreeMap as tree
 use Rattle.std.specs.BTreeMap.{BTreeMap}
 use Rattle.iso_order.specs.declared.key.TxKey.{TxKey}
-use Rattle.iso_order.specs.AccountNumber.{AccountNumber}
+use Rattle.iso_order.specs.Pan.{AccountNumber}
 use Rattle.iso_order.specs.Key.{same_key}
-use Rattle.iso_order.specs.Order.{same_pan}
+use Rattle.iso_order.specs.Order.{same_pan, Instruction}
 use Rattle.iso_issuer.specs.declared.account.Account.{Account}
 use Rattle.iso_issuer.specs.declared.balances.Balance.{Balance}
-use Rattle.iso_order.specs.Order.{Instruction}
 use Rattle.iso_issuer.specs.declared.index.Index.{Index}
 use Rattle.iso_issuer.specs.declared.journal.Entry.{Entry}
-use Rattle.iso_issuer.specs.Journal.{left_at, entry_at, is_counted, is_counted_with}
+use Rattle.iso_issuer.specs.Decision.{journal_of}
+use Rattle.iso_issuer.specs.Journal.{left_at, entry_at, is_counted, is_counted_with, HasDistinctKeys}
 use Rattle.iso_issuer.specs.Effect.{effect_of, is_end_of}
 use Rattle.iso_issuer.specs.declared.effect.Effect.{Effect}
 use Rattle.iso_issuer.specs.declared.effect.Hold.{Hold}
@@ -159,3 +159,12 @@ AreSums entries balances = balances ≡ map (balance_on entries) (accounts_of ba
 pub record IsSummed (entries : List Entry) (balances : List Balance) : Type 0 where
   pub sums : AreSums entries balances
   pub near : All (IsNear (3 * length entries)) balances
+
+-- ---- the issuer
+
+-- how the entries are kept: few, each decided on those before it, no two of one key
+pub record IsKept (accounts : List Account) (limit : ℕ) (entries : List Entry) : Type 0 where
+  pub few : length entries ≤ limit
+  pub limited : limit ≤ 999999
+  pub decided : entries ≡ journal_of accounts (map (λ e. e.order) entries)
+  pub distinct : HasDistinctKeys (map (λ e. e.order) entries)

@@ -42,7 +42,7 @@ impl Model for Balances {
 
     ghost Value = { List Balance };
 
-    ghost use Rattle.iso_issuer.specs.Account.{HasDistinctNumbers};
+    ghost use Rattle.iso_issuer.specs.Balances.{HasDistinctNumbers};
     ghost use Rattle.iso_issuer.specs.Balances.{accounts_of};
     ghost use Rattle.iso_issuer.specs.Index.{AreAccountPlaces};
 

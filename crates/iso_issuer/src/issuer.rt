@@ -8,7 +8,7 @@ ghost use Rattle.iso_issuer.specs.Journal.{firsts, is_entered, HasDistinctKeys};
 ghost use Rattle.iso_issuer.specs.Balance.{ledger, available};
 ghost use Rattle.iso_issuer.specs.Decision.{new_answer, reply};
 ghost use Rattle.iso_issuer.specs.Books.{journal, IsFullFor, IsRoomFor, IsRun, answered_of};
-ghost use Rattle.iso_issuer.specs.Shown.{is_shown_for};
+ghost use Rattle.iso_issuer.specs.Decision.{is_shown_for};
 
 use crate::accounts::Accounts;
 use crate::balances::Balances;
@@ -32,7 +32,8 @@ pub struct Issuer {
 
 impl Model for Issuer {
     ghost use Rattle.std.specs.Prelude.{map};
-    ghost use Rattle.iso_issuer.specs.Books.{Books, IsKept};
+    ghost use Rattle.iso_issuer.specs.Books.{Books};
+    ghost use Rattle.iso_issuer.specs.Index.{IsKept};
     ghost use Rattle.iso_issuer.specs.Balances.{accounts_of};
     ghost use Rattle.iso_issuer.specs.Index.{IsSummed};
 

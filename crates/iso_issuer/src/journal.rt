@@ -9,7 +9,8 @@ ghost use Rattle.std.specs.BTreeMap as tree;
 ghost use Rattle.std.specs.Ordering.{nat_cmp};
 ghost use Rattle.iso_issuer.specs.Index.{added_by, dropped_of, dropped_by};
 ghost use Rattle.iso_issuer.specs.Journal.{entry_at, undone_key, left_at, is_nothing, smaller_of, is_counted_with, is_completed, is_ended, weight};
-ghost use Rattle.iso_issuer.specs.Journal.{reversed_by, ended_key, released_by, HasDistinctKeys};
+ghost use Rattle.iso_issuer.specs.Journal.{HasDistinctKeys};
+ghost use Rattle.iso_issuer.specs.Found.{reversed_by, ended_key, released_by};
 
 use crate::effect::{Effect, Hold, Side, effect_amount, effect_of, ended_by, hold_by};
 use crate::found::{Found, Touched};

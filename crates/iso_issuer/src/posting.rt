@@ -2,16 +2,18 @@
 
 ghost use Rattle.std.specs.Prelude.{◌≡◌, ◌≤◌, ◌+◌, ℕ, ◌-ℤ◌, All, map, Some, option_map};
 ghost use Rattle.std.specs.Option.{option_or};
-ghost use Rattle.iso_order.specs.AccountNumber.{AccountNumber};
+ghost use Rattle.iso_order.specs.Pan.{AccountNumber};
 ghost use Rattle.iso_issuer.specs.Effect.{effect_of};
 ghost use Rattle.iso_issuer.specs.declared.found.Touched.{Touched};
-ghost use Rattle.iso_issuer.specs.Journal.{effect_at, left_at, weight, weight_at};
+ghost use Rattle.iso_issuer.specs.Journal.{left_at, weight};
+ghost use Rattle.iso_issuer.specs.Found.{effect_at, weight_at};
 ghost use Rattle.iso_issuer.specs.Found.{entry_in, weight_in, amount_left, WasFoundFor};
-ghost use Rattle.iso_issuer.specs.Range.{IsAmount};
-ghost use Rattle.iso_issuer.specs.Balance.{ledger_share, available_share};
+ghost use Rattle.iso_issuer.specs.Change.{IsAmount};
+ghost use Rattle.iso_issuer.specs.Posting.{ledger_share, available_share};
 ghost use Rattle.iso_issuer.specs.declared.effect.Effect.{Effect};
 ghost use Rattle.iso_issuer.specs.Index.{account_place};
-ghost use Rattle.iso_issuer.specs.Balances.{accounts_of, ledger_grown, available_grown, balance_by_weights, on_ledger, on_available, IsNear};
+ghost use Rattle.iso_issuer.specs.Balances.{accounts_of, IsNear};
+ghost use Rattle.iso_issuer.specs.Posting.{ledger_grown, available_grown, balance_by_weights, on_ledger, on_available};
 
 use crate::balances::Balances;
 use crate::change::Change;

@@ -4,7 +4,7 @@ use Rattle.std.specs.Prelude.{Some, None, nat_le, ◌^◌, if◌then◌else◌}
 use Rattle.std.specs.List.{list_all}
 use Rattle.std.proofs.lemmas.Bool.{and_parts, leb-true}
 use Rattle.std.proofs.lemmas.Bool.Decides.{nat_tests}
-use Rattle.iso_order.specs.AccountNumber.{is_pan}
+use Rattle.iso_order.specs.Pan.{is_pan}
 use Rattle.iso_wire.specs.Decimal.{are_digits, number, number_in}
 use Rattle.iso_parts.specs.Class.{is_digit}
 

@@ -24,11 +24,11 @@ use Rattle.iso_order.specs.declared.act.Act.{Act}
 use Rattle.iso_order.specs.declared.act.Act.TheVariants.{Debit, Credit, Inquiry, Undo, Complete}
 use Rattle.iso_order.specs.declared.act.Money.{Money}
 use Rattle.iso_order.specs.declared.key.TxKey.{TxKey}
-use Rattle.iso_order.specs.AccountNumber.{AccountNumber, is_pan}
+use Rattle.iso_order.specs.Pan.{AccountNumber, is_pan}
 use Rattle.iso_order.specs.Key.{class_digit, function_digit}
-use Rattle.iso_order.specs.Listing.{elements_with_value}
+use Rattle.iso_order.specs.Adding.{elements_with_value}
 use Rattle.iso_order.specs.Order.{Instruction, is_letter_or_digit, is_currency, is_account, has_amount, is_payment, is_hold_for, is_valid_act, money_of}
-use Rattle.iso_order.specs.Request.{RequestsFit, RequestsAreWellFormed, processing_code, moved_amount, named_by, partial_left, account_number, acquirer_code, original_data, replacement_amounts, no_fee, request_value, request}
+use Rattle.iso_order.specs.Requests.{RequestsFit, RequestsAreWellFormed, processing_code, moved_amount, named_by, partial_left, account_number, acquirer_code, original_data, replacement_amounts, no_fee, request_value, request}
 use Rattle.iso_order.proofs.Decimals.{are_digits-acquirer}
 use Rattle.iso_order.proofs.Digits.{are_digits-most}
 use Rattle.iso_order.proofs.Fits.{IsTaken, refused-at}

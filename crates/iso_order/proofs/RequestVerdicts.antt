@@ -14,12 +14,12 @@ use Rattle.iso_order.specs.declared.act.Money.{Money}
 use Rattle.iso_order.specs.declared.key.TxKey.{TxKey}
 use Rattle.iso_order.specs.declared.verdict.Verdict.{Verdict}
 use Rattle.iso_order.specs.declared.verdict.Verdict.TheVariants.{Order}
-use Rattle.iso_order.specs.AccountNumber.{AccountNumber, is_pan}
+use Rattle.iso_order.specs.Pan.{AccountNumber, is_pan}
 use Rattle.iso_order.specs.Fields.{class, function, base_of, text, part, original_mti, is_original, is_own, original_of, is_completion, is_hold, hold_of, is_replacement, left_of}
 use Rattle.iso_parts.specs.Mti.{is_answered}
 use Rattle.iso_order.specs.Key.{class_digit, function_digit, is_valid_key}
 use Rattle.iso_order.specs.Order.{is_currency, is_account, has_amount, is_payment, is_hold_for, is_valid_act, money_of}
-use Rattle.iso_order.specs.Request.{RequestsAsk, processing_code, moved_amount, named_by, account_number, acquirer_code, original_data, replacement_amounts, request_value, request}
+use Rattle.iso_order.specs.Requests.{RequestsAsk, processing_code, moved_amount, named_by, account_number, acquirer_code, original_data, replacement_amounts, request_value, request}
 use Rattle.iso_parts.specs.Class.{is_digit}
 use Rattle.iso_order.specs.Verdict.{first_of, completion_lines, verdict}
 use Rattle.iso_order.proofs.Ascending.{value_in-from}

@@ -8,8 +8,7 @@ use Rattle.iso_order.specs.declared.verdict.Verdict.TheVariants.{Reply}
 use Rattle.iso_order.specs.Fields.{version, class, function, origin, text, has_key, original_mti, original_of, is_original, is_own, is_completion, is_hold, is_replacement, left_of}
 use Rattle.iso_parts.specs.Mti.{is_answered}
 use Rattle.iso_order.specs.Order.{is_currency}
-use Rattle.iso_order.specs.AccountNumber.{AccountNumber}
-use Rattle.iso_order.specs.Pan.{pan_of}
+use Rattle.iso_order.specs.Pan.{AccountNumber, pan_of}
 use Rattle.iso_wire.specs.Decimal.{are_digits, number}
 use Rattle.std.proofs.lemmas.Bool.Decides.{nat_tests}
 use Rattle.iso_order.specs.Verdict.{first_of, answered_lines, network_lines, key_lines, reversal_lines, original_lines, completion_lines, account_lines, order_verdict}

@@ -6,7 +6,7 @@ use Rattle.iso_order.specs.declared.key.TxKey.{TxKey}
 use Rattle.iso_order.specs.declared.act.Act.{Act}
 use Rattle.iso_order.specs.declared.act.Act.TheVariants.{Debit, Credit, Inquiry, Undo, Complete}
 use Rattle.iso_order.specs.declared.act.Money.{Money}
-use Rattle.iso_order.specs.AccountNumber.{AccountNumber, is_pan}
+use Rattle.iso_order.specs.Pan.{AccountNumber, is_pan}
 use Rattle.iso_order.specs.Key.{class_digit, function_digit, is_valid_key, same_key}
 
 -- the key under which it is asked, and what is asked

@@ -16,7 +16,7 @@ pub struct Pan {
 
 impl Model for Pan {
     ghost use Rattle.std.specs.Prelude.{◌≡◌, true};
-    ghost use Rattle.iso_order.specs.AccountNumber.{AccountNumber, is_pan};
+    ghost use Rattle.iso_order.specs.Pan.{AccountNumber, is_pan};
 
     ghost Value = { AccountNumber };
 
@@ -28,7 +28,7 @@ impl Model for Pan {
 }
 
 impl Pan {
-    ghost use Rattle.iso_order.specs.AccountNumber.{is_pan};
+    ghost use Rattle.iso_order.specs.Pan.{is_pan};
 
     /// The account number that a text of 1 to 19 digits is; `None` for every other text. Takes no memory.
     pub fn from_digits(text: &[u8]) -> Option<Pan>

@@ -3,10 +3,11 @@
 ghost use Rattle.std.specs.Prelude.{◌≡◌, ℕ, ◌≤◌, ◌++◌, ◌∷◌, [], true, OnOk, IfOk, option_map};
 ghost use Rattle.iso_wire.specs.Decimal.{decimal};
 ghost use Rattle.iso_wire.specs.Elements.{value_in, is_number, IsBelow};
-ghost use Rattle.iso_order.specs.Listing.{entry, elements_with_value, ascend};
-ghost use Rattle.iso_order.specs.Request.{processing_code, moved_amount, named_by, partial_left, acquirer_code, account_number};
+ghost use Rattle.iso_order.specs.Listing.{entry};
+ghost use Rattle.iso_order.specs.Adding.{elements_with_value, are_ascending};
+ghost use Rattle.iso_order.specs.Requests.{processing_code, moved_amount, named_by, partial_left, acquirer_code, account_number};
 ghost use Rattle.iso_order.specs.Order.{money_of};
-ghost use Rattle.iso_order.specs.Request.{original_data, replacement_amounts, request_value, request, AsksFor, FitsEdition87};
+ghost use Rattle.iso_order.specs.Requests.{original_data, replacement_amounts, request_value, request, AsksFor, FitsEdition87};
 
 use crate::act::Act;
 use crate::fields::mti_of;
@@ -209,7 +210,7 @@ fn add(key: &TxKey, act: &Act, n: u8, request: &mut Message) -> Result<(), Alloc
 
 /// Adds the elements of those numbers.
 fn add_all(key: &TxKey, act: &Act, numbers: &[u8], request: &mut Message) -> Result<(), AllocError>
-    requires numbers { ascend is_number 2 numbers.now ≡ true }
+    requires numbers { are_ascending is_number 2 numbers.now ≡ true }
     requires empty { request.old.elements ≡ [] }
     requires acquirer { key.now.acquirer ≤ 99999999999 }
     ensures { OnOk result (request.new ≡ record request.old {

@@ -6,8 +6,10 @@ ghost use Rattle.iso_wire.specs.Decimal.{decimal};
 ghost use Rattle.iso_wire.specs.Elements.{value_in, is_number, IsBelow};
 ghost use Rattle.iso_order.specs.Fields.{class, function, text};
 ghost use Rattle.iso_parts.specs.Mti.{is_answered};
-ghost use Rattle.iso_order.specs.Listing.{entry, elements_with_value, ascend};
-ghost use Rattle.iso_order.specs.Response.{response, response_mti, is_approved, sign, approval, additional, balance, element, is_responded, is_showable};
+ghost use Rattle.iso_order.specs.Listing.{entry};
+ghost use Rattle.iso_order.specs.Adding.{elements_with_value, are_ascending};
+ghost use Rattle.iso_order.specs.Response.{response, response_mti, is_approved, sign, approval, additional, balance, element, is_showable};
+ghost use Rattle.iso_order.specs.Adding.{is_responded};
 
 use crate::answer::Answer;
 use crate::fields::{text, type_of};
@@ -155,7 +157,7 @@ fn add_all(
     numbers: &[u8],
     response: &mut Message,
 ) -> Result<(), AllocError>
-    requires numbers { ascend is_responded 2 numbers.now ≡ true }
+    requires numbers { are_ascending is_responded 2 numbers.now ≡ true }
     requires empty { response.old.elements ≡ [] }
     requires shown { is_showable message.now answer.now.shown ≡ true }
     ensures { OnOk result (response.new ≡ record response.old {

@@ -3,9 +3,9 @@ use Rattle.std.specs.Prelude.{IsTrue}
 use Rattle.iso_wire.specs.Contents.{Contents}
 use Rattle.iso_order.specs.declared.act.Act.{Act}
 use Rattle.iso_order.specs.declared.key.TxKey.{TxKey}
-use Rattle.iso_order.specs.Listing.{elements_with_value}
+use Rattle.iso_order.specs.Adding.{elements_with_value}
 use Rattle.iso_order.specs.Order.{Instruction, is_valid}
-use Rattle.iso_order.specs.Request.{AsksFor, FitsEdition87, request_value}
+use Rattle.iso_order.specs.Requests.{AsksFor, FitsEdition87, request_value}
 use Rattle.iso_order.proofs.RequestFits.{request-listed}
 use Rattle.iso_order.proofs.RequestVerdicts.{value-is}
 use Rattle.iso_order.proofs.Valid.{KeyFacts, key_facts, valid-parts}

@@ -4,8 +4,7 @@ use Rattle.std.proofs.lemmas.Grind.{common_steps}
 use Rattle.std.proofs.lemmas.List.{length-map}
 use Rattle.iso_order.specs.Outcome.{Outcome}
 use Rattle.iso_issuer.specs.declared.journal.Entry.{Entry}
-use Rattle.iso_issuer.specs.Decision.{reply, reply_by, journal_of}
-use Rattle.iso_issuer.specs.Shown.{is_shown_for}
+use Rattle.iso_issuer.specs.Decision.{reply, reply_by, journal_of, is_shown_for}
 use Rattle.iso_issuer.specs.Journal.{firsts, entry_at}
 use Rattle.iso_issuer.specs.Balances.{accounts_of}
 use Rattle.iso_issuer.proofs.Firsts.{firsts-known, firsts-new, firsts-distinct}
