@@ -2,6 +2,7 @@
 use Rattle.std.specs.Prelude.{ℕ, Bool, false, List, length, ◌==◌, ◌&&◌, ◌||◌, nat_le, Option, Some, None, if◌then◌else◌}
 use Rattle.std.specs.List.{list_all}
 use Rattle.std.specs.Str.{bytes_eq}
+use Rattle.iso_parts.specs.Class.{is_digit, is_letter}
 use Rattle.iso_order.specs.declared.key.TxKey.{TxKey}
 use Rattle.iso_order.specs.declared.act.Act.{Act}
 use Rattle.iso_order.specs.declared.act.Act.TheVariants.{Debit, Credit, Inquiry, Undo, Complete}
@@ -17,7 +18,7 @@ pub record Instruction : Type 0 where
 -- ---- which orders are valid
 
 abbrev pub is_letter_or_digit : ℕ → Bool
-is_letter_or_digit b = (nat_le 48 b && nat_le b 57) || (nat_le 65 b && nat_le b 90) || (nat_le 97 b && nat_le b 122)
+is_letter_or_digit b = is_digit b || is_letter b
 
 -- three letters or digits (element 49, currency code)
 abbrev pub is_currency : List ℕ → Bool
