@@ -6,7 +6,7 @@ use Rattle.std.proofs.lemmas.Grind.{common_steps}
 use Rattle.iso_order.specs.declared.key.TxKey.{TxKey}
 use Rattle.iso_order.specs.declared.act.Act.TheVariants.{Debit, Undo}
 use Rattle.iso_order.specs.declared.act.Money.{Money}
-use Rattle.iso_order.specs.AccountNumber.{is_pan}
+use Rattle.iso_order.specs.Pan.{is_pan}
 use Rattle.iso_order.specs.Key.{class_digit, is_valid_key}
 use Rattle.iso_order.specs.Order.{Instruction, is_account, is_currency, has_amount, is_payment, is_valid, is_valid_act}
 use Rattle.iso_acquirer.specs.Slots.{IsFair}

@@ -3,7 +3,7 @@ use Rattle.std.specs.Prelude.{◌≡◌, ℕ, Bool, true, false, List, Option, S
 use Rattle.std.specs.List.{AllByRecursion}
 use Rattle.iso_order.specs.declared.act.Act.{Act}
 use Rattle.iso_order.specs.declared.act.Act.TheVariants.{Debit, Credit, Inquiry, Undo, Complete}
-use Rattle.iso_order.specs.AccountNumber.{AccountNumber}
+use Rattle.iso_order.specs.Pan.{AccountNumber}
 use Rattle.iso_order.specs.Order.{Instruction, same_pan}
 use Rattle.iso_issuer.specs.declared.account.Account.{Account}
 use Rattle.iso_issuer.specs.declared.journal.Entry.{Entry}

@@ -3,7 +3,8 @@ ghost use Rattle.std.specs.Prelude.{◌≡◌, ℕ, ◌≤◌, List, [], length,
 ghost use Rattle.iso_table.specs.HostReady.{IsHostReady};
 ghost use Rattle.iso_wire.specs.Refusal.{message_refusal};
 ghost use Rattle.iso_wire.specs.Spelling.{PlainSpelling, Spelling};
-ghost use Rattle.iso_order.specs.Fields.{function, asks};
+ghost use Rattle.iso_order.specs.Fields.{function};
+ghost use Rattle.iso_parts.specs.Mti.{is_answered};
 ghost use Rattle.iso_order.specs.Response.{response, is_showable};
 ghost use Rattle.iso_host.specs.Desk.{IsSameDesk};
 ghost use Rattle.iso_host.specs.Output.{IsFramed};
@@ -91,7 +92,7 @@ impl<'t> Desk<'t> {
     pub fn lay_response(&mut self, message: &Message, answer: &Answer) -> Result<(), NoMemory>
         requires ready { IsHostReady self.old.table }
         requires read { (bytes : List ℕ) × Spelling self.old.table message.now bytes }
-        requires asks { asks (function message.now) ≡ true }
+        requires asks { is_answered (function message.now) ≡ true }
         requires shown { is_showable message.now answer.now.shown ≡ true }
         ensures framed { OnOk result (IsFramed self.old.table self.old.header (Some (response message.now answer.now)) self.new.frame) }
         ensures kept { IsSameDesk self.old self.new }
@@ -106,7 +107,7 @@ impl<'t> Desk<'t> {
     pub fn has_frame(&self, message: &Message, answer: &Answer)
         requires ready { IsHostReady self.now.table }
         requires read { (bytes : List ℕ) × Spelling self.now.table message.now bytes }
-        requires asks { asks (function message.now) ≡ true }
+        requires asks { is_answered (function message.now) ≡ true }
         requires shown { is_showable message.now answer.now.shown ≡ true }
         ensures { (bytes : List ℕ) × IsFramed self.now.table self.now.header (Some (response message.now answer.now)) bytes }
     {

@@ -2,10 +2,11 @@
 ghost use Rattle.std.specs.Prelude.{◌≡◌, ℕ, List, [], ◌∷◌, true, IfOk, OnOk, OnErr, IfSome, Some};
 ghost use Rattle.iso_table.specs.HostReady.{IsHostReady};
 ghost use Rattle.iso_wire.specs.Spelling.{Spelling};
-ghost use Rattle.iso_order.specs.Fields.{function, asks};
+ghost use Rattle.iso_order.specs.Fields.{function};
+ghost use Rattle.iso_parts.specs.Mti.{is_answered};
 ghost use Rattle.iso_order.specs.Response.{is_showable};
 ghost use Rattle.iso_order.specs.Verdict.{verdict};
-ghost use Rattle.iso_issuer.specs.Shown.{is_shown_for};
+ghost use Rattle.iso_issuer.specs.Decision.{is_shown_for};
 ghost use Rattle.iso_host.specs.Asking.{orders_in};
 ghost use Rattle.iso_host.specs.Desk.{IsSameDesk};
 ghost use Rattle.iso_host.specs.Entering.{entered_by, with_orders};
@@ -57,7 +58,7 @@ pub fn enters_nothing(issuer: &Issuer)
 /// The answer to a message, if it gets one. An order is entered before it is answered.
 fn answer_to(issuer: &mut Issuer, message: &Message) -> Result<Option<Answer>, NoMemory>
     ensures answer { IfOk result (λ answer. answer ≡ outcome_of issuer.old (verdict message.now)) }
-    ensures asks { IfOk result (λ answer. IfSome answer (λ a. asks (function message.now) ≡ true)) }
+    ensures asks { IfOk result (λ answer. IfSome answer (λ a. is_answered (function message.now) ≡ true)) }
     ensures shown { IfOk result (λ answer. IfSome answer (λ a. is_showable message.now a.shown ≡ true)) }
     ensures entered { OnOk result (issuer.new ≡ with_orders issuer.old (orders_in (Some (verdict message.now)))) }
     ensures unchanged { OnErr result (issuer.new ≡ issuer.old) }

@@ -9,7 +9,7 @@ use Rattle.iso_order.specs.declared.key.TxKey.{TxKey}
 use Rattle.iso_order.specs.declared.act.Act.{Act}
 use Rattle.iso_order.specs.declared.act.Act.TheVariants.{Debit, Credit, Inquiry, Undo, Complete}
 use Rattle.iso_order.specs.declared.act.Money.{Money}
-use Rattle.iso_order.specs.AccountNumber.{AccountNumber}
+use Rattle.iso_order.specs.Pan.{AccountNumber}
 use Rattle.iso_order.specs.Key.{function_digit}
 use Rattle.iso_order.specs.Order.{Instruction, same_currency}
 use Rattle.iso_issuer.specs.declared.account.Account.{Account}
@@ -18,8 +18,8 @@ use Rattle.iso_issuer.specs.declared.effect.Side.{Side}
 use Rattle.iso_issuer.specs.declared.effect.Side.TheVariants.{Given, Taken, Held}
 use Rattle.iso_issuer.specs.declared.journal.Entry.{Entry}
 use Rattle.iso_issuer.specs.Account.{account_of}
-use Rattle.iso_issuer.specs.Effect.{effect_of, effect_amount, is_key, is_end_of, same_side, side_of, takes}
-use Rattle.iso_issuer.specs.Journal.{undone_key, left_by, left_at, is_nothing, is_reversed, smaller_of, counts_with, is_counted, is_completed, is_ended, weight}
+use Rattle.iso_issuer.specs.Effect.{effect_of, effect_amount, is_key, is_end_of, same_side, side_of, is_drawn}
+use Rattle.iso_issuer.specs.Journal.{undone_key, left_by, left_at, is_nothing, is_reversed, smaller_of, is_counted_with, is_counted, is_completed, is_ended, weight}
 use Rattle.iso_issuer.specs.Balance.{share, total, ledger, available}
 use Rattle.iso_issuer.specs.Decision.{account_code, code_of, new_entry, entries_after, journal_of}
 use Rattle.iso_issuer.specs.Laws.{NoneShort, AreReordered}
@@ -76,7 +76,7 @@ debit_good : (before : List Entry) (key : TxKey) (m : Money) (f : Option Account
     (account_code before (record { key = key; act = Debit m }) m f == 0) ≡ on_account m f
 debit_good before key m None long = refl
 debit_good before key m (Some a) long =
-    by_code (same_currency a.currency m.currency) (takes (side_of key) && (function_digit key == 0) && int_lt (available before a) (pos (smaller_of m.amount (left_at before key)))) long
+    by_code (same_currency a.currency m.currency) (is_drawn (side_of key) && (function_digit key == 0) && int_lt (available before a) (pos (smaller_of m.amount (left_at before key)))) long
 
 credit_good : (before : List Entry) (key : TxKey) (m : Money) (f : Option Account) → account_code before (record { key = key; act = Credit m }) m f ≢ 51 →
     (account_code before (record { key = key; act = Credit m }) m f == 0) ≡ on_account m f
@@ -103,7 +103,7 @@ counts_by false r code good later same long = ap (λ b. b && not r) (same long)
 -- `left` tells what is left of each key in the end
 new_counts : (accounts : List Account) (before : List Entry) (key : TxKey) (act : Act) (left : Option ℕ) →
     (is_reversed before key ≡ true → is_nothing left ≡ true) → code_of accounts before (record { key = key; act = act }) ≢ 51 →
-    counts_with left (new_entry accounts before (record { key = key; act = act })) ≡ is_good accounts act && not (is_nothing left)
+    is_counted_with left (new_entry accounts before (record { key = key; act = act })) ≡ is_good accounts act && not (is_nothing left)
 new_counts accounts before key (Debit m) left later long =
     counts_by (is_reversed before key) (is_nothing left) (account_code before (record { key = key; act = Debit m }) m (account_of accounts m.pan)) (on_account m (account_of accounts m.pan))
     later (debit_good before key m (account_of accounts m.pan)) long
@@ -131,7 +131,7 @@ all-weaker P Q [] f all = tt
 all-weaker P Q (x ∷ xs) f all = (f x all.0, all-weaker P Q xs f all.1)
 
 abbrev Counts : List Account → (TxKey → Option ℕ) → Entry → Type 0
-Counts accounts left e = counts_with (left e.order.key) e ≡ is_good accounts e.order.act && not (is_nothing (left e.order.key))
+Counts accounts left e = is_counted_with (left e.order.key) e ≡ is_good accounts e.order.act && not (is_nothing (left e.order.key))
 
 each_counts : (accounts : List Account) (left : TxKey → Option ℕ) (before : List Entry) (os : List Instruction) →
     ((k : TxKey) → is_reversed (entries_after accounts before os) k ≡ true → is_nothing (left k) ≡ true) →

@@ -7,8 +7,8 @@ use Rattle.iso_order.specs.Order.{same_pan}
 use Rattle.iso_issuer.specs.declared.account.Account.{Account}
 use Rattle.iso_issuer.specs.declared.balances.Balance.{Balance}
 use Rattle.iso_issuer.specs.declared.change.Change.{Change}
-use Rattle.iso_issuer.specs.Account.{account_of, HasDistinctNumbers}
-use Rattle.iso_issuer.specs.Balances.{accounts_of, balance_with, balance_after}
+use Rattle.iso_issuer.specs.Account.{account_of}
+use Rattle.iso_issuer.specs.Balances.{HasDistinctNumbers, accounts_of, balance_with, balance_after}
 use Rattle.iso_issuer.specs.Index.{account_place}
 use Rattle.iso_issuer.proofs.Keys.{same_pan_is, same_pan_sym}
 use Rattle.iso_issuer.proofs.Places.{place-map}

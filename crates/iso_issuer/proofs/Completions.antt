@@ -7,12 +7,13 @@ use Rattle.std.proofs.lemmas.List.Sums.{sum_by-cons}
 use Rattle.iso_order.specs.declared.key.TxKey.{TxKey}
 use Rattle.iso_order.specs.declared.act.Act.{Act}
 use Rattle.iso_order.specs.declared.act.Act.TheVariants.{Debit, Credit, Inquiry, Undo, Complete}
-use Rattle.iso_order.specs.AccountNumber.{AccountNumber}
+use Rattle.iso_order.specs.Pan.{AccountNumber}
 use Rattle.iso_order.specs.Order.{same_pan}
 use Rattle.iso_issuer.specs.declared.effect.Effect.{Effect}
 use Rattle.iso_issuer.specs.declared.journal.Entry.{Entry}
-use Rattle.iso_issuer.specs.Effect.{effect_of, effect_by, is_key, ended_by, is_end_of}
-use Rattle.iso_issuer.specs.Journal.{entry_at, undone_key, effect_at, reversed_by, ended_key, counts_with, is_counted, is_completed, HasDistinctKeys}
+use Rattle.iso_issuer.specs.Effect.{effect_of, effect_by, is_key, is_end_of}
+use Rattle.iso_issuer.specs.Found.{ended_by, effect_at, reversed_by, ended_key}
+use Rattle.iso_issuer.specs.Journal.{entry_at, undone_key, is_counted_with, is_counted, is_completed, HasDistinctKeys}
 use Rattle.iso_issuer.specs.Index.{bit, completions}
 use Rattle.iso_issuer.proofs.ByKey.{left-kept}
 use Rattle.iso_issuer.proofs.Touched.{at, sum-entered}
@@ -48,7 +49,7 @@ passed-most p (x ∷ xs) = omega (arith, sum_by-cons (λ x. bit (p x)) x xs, mos
 
 -- an entry that another doesn't reverse goes on to count
 pub counted-kept : (es : List Entry) (e x : Entry) → is_key (undone_key e.order.act) x.order.key ≡ false → is_counted (es ++ e ∷ []) x ≡ is_counted es x
-counted-kept es e x other = ap (λ l. counts_with l x) (left-kept es e x.order.key other)
+counted-kept es e x other = ap (λ l. is_counted_with l x) (left-kept es e x.order.key other)
 
 -- the law: the number of completions grows by the new entry, and by the one that it reverses, after less before
 pub completions-entered : (es : List Entry) (e : Entry) (key : TxKey) (pan : AccountNumber) → HasDistinctKeys (map (λ e. e.order) es) →

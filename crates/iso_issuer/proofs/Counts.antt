@@ -11,7 +11,7 @@ use Rattle.std.proofs.lemmas.List.Sums.{sum_by-cons}
 use Rattle.std.specs.BTreeMap as tree
 use Rattle.std.specs.BTreeMap.{BTreeMap}
 use Rattle.iso_order.specs.declared.key.TxKey.{TxKey}
-use Rattle.iso_order.specs.AccountNumber.{AccountNumber}
+use Rattle.iso_order.specs.Pan.{AccountNumber}
 use Rattle.iso_order.specs.Key.{same_key}
 use Rattle.iso_order.specs.Order.{same_pan}
 use Rattle.iso_issuer.proofs.Keys.{same_key_is, same_pan_is}
@@ -22,7 +22,8 @@ use Rattle.iso_order.specs.declared.act.Act.TheVariants.{Debit, Credit, Inquiry,
 use Rattle.iso_issuer.specs.declared.effect.Effect.{Effect}
 use Rattle.iso_issuer.specs.declared.journal.Entry.{Entry}
 use Rattle.iso_issuer.specs.Effect.{effect_of, effect_by, is_key, is_end_of}
-use Rattle.iso_issuer.specs.Journal.{entry_at, undone_key, left_by, left_at, reversed_by, counts_with, is_counted, HasDistinctKeys}
+use Rattle.iso_issuer.specs.Journal.{entry_at, undone_key, left_by, left_at, is_counted_with, is_counted, HasDistinctKeys}
+use Rattle.iso_issuer.specs.Found.{reversed_by}
 use Rattle.iso_issuer.proofs.ByKey.{key_tied, pan_tied, left-push}
 use Rattle.iso_issuer.proofs.Touched.{at, found-key}
 use Rattle.iso_issuer.proofs.Completions.{counted-kept, completions-entered, passed-most}
@@ -114,7 +115,7 @@ added-mark k (Complete m hold) b c key pan same = by_test b ∙ ap (λ t. bit (t
 
 -- what a reversal drops is what its entry counted for and counts for no more
 dropped-mark : (l : Option ℕ) (left : ℕ) (r : Entry) (key : TxKey) (pan : AccountNumber) →
-    mark_at (dropped_of l left r) key pan + bit (counts_with (option_or l (Some left)) r && is_end_of key pan (effect_of r.order)) ≡ bit (counts_with l r && is_end_of key pan (effect_of r.order))
+    mark_at (dropped_of l left r) key pan + bit (is_counted_with (option_or l (Some left)) r && is_end_of key pan (effect_of r.order)) ≡ bit (is_counted_with l r && is_end_of key pan (effect_of r.order))
 dropped-mark (Some n) left r key pan = omega arith
 dropped-mark None left r key pan = by_tests (is_some (effect_of r.order) && (r.answer.code == 0)) (left == 0) (is_end_of key pan (effect_of r.order)) (mark-hold (effect_of r.order) key pan)
   where
@@ -136,7 +137,7 @@ reversed-mark es e original left key pan act (Some r) found =
     left-push es e r.order.key ∙ ap (λ a. option_or (left_at es r.order.key) (cond (is_key (undone_key a) r.order.key) (Some (left_by a)) None)) act
     ∙ ap (λ b. option_or (left_at es r.order.key) (cond b (Some left) None)) same in
     ap (λ k. mark_at (dropped_of (left_at es k) left r) key pan + bit (is_counted (es ++ e ∷ []) r && is_end_of key pan (effect_of r.order))) is
-    ∙ ap (λ l. mark_at (dropped_of (left_at es r.order.key) left r) key pan + bit (counts_with l r && is_end_of key pan (effect_of r.order))) after
+    ∙ ap (λ l. mark_at (dropped_of (left_at es r.order.key) left r) key pan + bit (is_counted_with l r && is_end_of key pan (effect_of r.order))) after
     ∙ dropped-mark (left_at es r.order.key) left r key pan
 
 -- what a new entry adds, and what it drops

@@ -5,13 +5,13 @@ use Rattle.std.specs.Prelude.{is_some, ◌||◌, option_and_then}
 use Rattle.std.proofs.Math.Seq.{drop-cons}
 use Rattle.serde_json.specs.View.{view, items_view}
 use Rattle.serde_json.specs.declared.value.Value.{Value}
-use Rattle.iso_order.specs.AccountNumber.{AccountNumber}
+use Rattle.iso_order.specs.Pan.{AccountNumber}
 use Rattle.iso_order.specs.Order.{same_pan}
 use Rattle.iso_issuer.specs.declared.account.Account.{Account}
 use Rattle.iso_issuer.specs.declared.document.Listed.{Listed}
-use Rattle.iso_issuer.specs.Account.{account_of, HasDistinctNumbers}
+use Rattle.iso_issuer.specs.Account.{account_of}
+use Rattle.iso_issuer.specs.Balances.{HasDistinctNumbers, accounts_of, balance_at}
 use Rattle.iso_issuer.specs.declared.balances.Balance.{Balance}
-use Rattle.iso_issuer.specs.Balances.{accounts_of, balance_at}
 use Rattle.iso_issuer.specs.declared.fault.AccountsFault.{AccountsFault}
 use Rattle.iso_issuer.specs.declared.fault.AccountsFault.TheVariants.{Twice, OutOfRange}
 use Rattle.iso_issuer.specs.Document.{listed_in, listed_rows, is_listed, as_listed, is_out_of_range, account_fault, accounts_fault}

@@ -9,7 +9,7 @@ use Rattle.iso_issuer.specs.declared.account.Account.{Account}
 use Rattle.iso_issuer.specs.declared.journal.Entry.{Entry}
 use Rattle.iso_issuer.specs.Journal.{is_entered, entry_at}
 use Rattle.iso_issuer.specs.Decision.{entries_after, new_entry}
-use Rattle.iso_issuer.specs.Books.{IsKept}
+use Rattle.iso_issuer.specs.Index.{IsKept}
 use Rattle.iso_issuer.proofs.Firsts.{distinct-push}
 
 -- an order more is one entry more, decided on those before it

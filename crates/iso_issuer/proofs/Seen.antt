@@ -6,17 +6,16 @@ use Rattle.iso_order.specs.declared.key.TxKey.{TxKey}
 use Rattle.iso_order.specs.declared.act.Act.{Act}
 use Rattle.iso_order.specs.declared.act.Act.TheVariants.{Debit, Credit, Inquiry, Undo, Complete}
 use Rattle.iso_order.specs.declared.act.Money.{Money}
-use Rattle.iso_order.specs.Order.{Instruction}
+use Rattle.iso_order.specs.Order.{Instruction, money_of}
 use Rattle.iso_issuer.specs.declared.journal.Entry.{Entry}
-use Rattle.iso_order.specs.AccountNumber.{AccountNumber}
+use Rattle.iso_order.specs.Pan.{AccountNumber}
 use Rattle.iso_issuer.specs.declared.effect.Effect.{Effect}
 use Rattle.iso_issuer.specs.declared.found.Touched.{Touched}
 use Rattle.iso_issuer.specs.declared.found.Found.{Found}
 use Rattle.iso_issuer.specs.Effect.{effect_by, is_key}
-use Rattle.iso_issuer.specs.Journal.{entry_at, undone_key, left_by, left_at, weight, weight_at, reversed_by, released_by, ended_key}
+use Rattle.iso_issuer.specs.Journal.{entry_at, undone_key, left_by, left_at, weight}
+use Rattle.iso_issuer.specs.Found.{weight_at, reversed_by, released_by, ended_key, touched_at, entry_in, weight_in, amount_left, IsFoundFor, WasFoundFor}
 use Rattle.iso_issuer.specs.Index.{dropped_of, dropped_at, dropped_by}
-use Rattle.iso_issuer.specs.Decision.{money_of}
-use Rattle.iso_issuer.specs.Found.{touched_at, entry_in, weight_in, amount_left, IsFoundFor, WasFoundFor}
 use Rattle.iso_issuer.proofs.ByKey.{left-push, left-kept}
 use Rattle.iso_issuer.proofs.Keys.{same_key_is}
 use Rattle.iso_issuer.proofs.Sums.{AreApart}

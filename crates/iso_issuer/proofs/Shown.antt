@@ -13,9 +13,8 @@ use Rattle.iso_issuer.specs.declared.account.Account.{Account}
 use Rattle.iso_issuer.specs.declared.journal.Entry.{Entry}
 use Rattle.iso_issuer.specs.Account.{account_of}
 use Rattle.iso_issuer.specs.Balance.{available}
-use Rattle.iso_issuer.specs.Decision.{is_wide, account_code, code_of, new_answer, new_entry, entries_after, journal_of, repeat_answer, reply_by, reply}
+use Rattle.iso_issuer.specs.Decision.{is_wide, account_code, code_of, new_answer, new_entry, entries_after, journal_of, repeat_answer, reply_by, reply, is_shown_for}
 use Rattle.iso_issuer.specs.Journal.{is_reversed, entry_at}
-use Rattle.iso_issuer.specs.Shown.{is_shown_for}
 
 -- ---- a new answer
 

@@ -2,7 +2,7 @@
 use Rattle.std.proofs.Common.{◌≡◌, ℕ, Bool, true, false, cond, arith, refl, ap, sym, ◌∙◌, List, [], ◌∷◌, ◌++◌}
 use Rattle.std.specs.Prelude.{map, Option, Some, None, option_map, ◌&&◌, ℤ, pos, ◌+ℤ◌, ◌-ℤ◌}
 use Rattle.std.proofs.lemmas.Int.{ints}
-use Rattle.iso_order.specs.AccountNumber.{AccountNumber}
+use Rattle.iso_order.specs.Pan.{AccountNumber}
 use Rattle.iso_order.specs.Order.{same_pan}
 use Rattle.iso_issuer.specs.declared.account.Account.{Account}
 use Rattle.iso_issuer.specs.declared.balances.Balance.{Balance}
@@ -12,9 +12,11 @@ use Rattle.iso_issuer.specs.declared.effect.Effect.{Effect}
 use Rattle.iso_issuer.specs.declared.effect.Side.{Side}
 use Rattle.iso_issuer.specs.declared.effect.Side.TheVariants.{Given, Taken, Held}
 use Rattle.iso_issuer.specs.Effect.{effect_of, same_side}
-use Rattle.iso_issuer.specs.Journal.{weight, weight_at, effect_at, reversed_by, released_by, HasDistinctKeys}
-use Rattle.iso_issuer.specs.Balance.{ledger, available, ledger_share, available_share}
-use Rattle.iso_issuer.specs.Balances.{accounts_of, balance_with, balance_at, opening_balance, balance_after, balance_by_weights, ledger_grown, available_grown, on_ledger, on_available}
+use Rattle.iso_issuer.specs.Journal.{weight, HasDistinctKeys}
+use Rattle.iso_issuer.specs.Found.{weight_at, effect_at, reversed_by, released_by}
+use Rattle.iso_issuer.specs.Balance.{ledger, available}
+use Rattle.iso_issuer.specs.Posting.{ledger_share, available_share, balance_by_weights, ledger_grown, available_grown, on_ledger, on_available}
+use Rattle.iso_issuer.specs.Balances.{accounts_of, balance_with, balance_at, opening_balance, balance_after}
 use Rattle.iso_issuer.specs.Index.{balance_on, AreSums, IsSummed}
 use Rattle.iso_issuer.specs.declared.change.Change.{Change}
 use Rattle.iso_issuer.proofs.Places.{found-map}

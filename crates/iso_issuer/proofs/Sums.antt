@@ -3,7 +3,7 @@ use Rattle.std.proofs.Common.{◌≡◌, ℕ, Bool, true, false, not, refl, arit
 use Rattle.std.specs.Prelude.{◌&&◌, Option, Some, None, map, ℤ, pos, ◌+ℤ◌, ◌-ℤ◌}
 use Rattle.std.proofs.lemmas.Int.{ints}
 use Rattle.iso_order.specs.declared.key.TxKey.{TxKey}
-use Rattle.iso_order.specs.AccountNumber.{AccountNumber}
+use Rattle.iso_order.specs.Pan.{AccountNumber}
 use Rattle.iso_order.specs.Order.{Instruction}
 use Rattle.iso_issuer.specs.declared.account.Account.{Account}
 use Rattle.iso_issuer.specs.declared.effect.Effect.{Effect}
@@ -11,8 +11,10 @@ use Rattle.iso_issuer.specs.declared.effect.Side.{Side}
 use Rattle.iso_issuer.specs.declared.effect.Side.TheVariants.{Given, Taken, Held}
 use Rattle.iso_issuer.specs.declared.journal.Entry.{Entry}
 use Rattle.iso_issuer.specs.Effect.{effect_of, effect_amount, is_on, is_key, same_side}
-use Rattle.iso_issuer.specs.Journal.{left_at, smaller_of, undone_key, counts_with, is_ended, weight, weight_at, effect_at, reversed_by, released_by, ended_key, HasDistinctKeys}
-use Rattle.iso_issuer.specs.Balance.{share, total, ledger, available, ledger_share, available_share}
+use Rattle.iso_issuer.specs.Journal.{left_at, smaller_of, undone_key, is_counted_with, is_ended, weight, HasDistinctKeys}
+use Rattle.iso_issuer.specs.Found.{weight_at, effect_at, reversed_by, released_by, ended_key}
+use Rattle.iso_issuer.specs.Balance.{share, total, ledger, available}
+use Rattle.iso_issuer.specs.Posting.{ledger_share, available_share}
 use Rattle.iso_issuer.proofs.ByKey.{left-kept}
 use Rattle.iso_issuer.proofs.Touched.{at, sum-entered-two}
 use Rattle.iso_issuer.proofs.Completions.{completed-kept}
@@ -29,9 +31,9 @@ ended-kept es e key (Some f) distinct other = ap (λ b. same_side f.side Held &&
 pub weight-kept : (es : List Entry) (e x : Entry) → HasDistinctKeys (map (λ e. e.order) es) →
     is_key (undone_key e.order.act) x.order.key ≡ false → is_key (ended_key es e.order) x.order.key ≡ false → weight (es ++ e ∷ []) x ≡ weight es x
 weight-kept es e x distinct other apart =
-    ap (λ o. cond (counts_with o x && not (is_ended (es ++ e ∷ []) x.order.key (effect_of x.order))) (smaller_of (effect_amount (effect_of x.order)) o) 0)
+    ap (λ o. cond (is_counted_with o x && not (is_ended (es ++ e ∷ []) x.order.key (effect_of x.order))) (smaller_of (effect_amount (effect_of x.order)) o) 0)
     (left-kept es e x.order.key other)
-    ∙ ap (λ b. cond (counts_with (left_at es x.order.key) x && not b) (smaller_of (effect_amount (effect_of x.order)) (left_at es x.order.key)) 0)
+    ∙ ap (λ b. cond (is_counted_with (left_at es x.order.key) x && not b) (smaller_of (effect_amount (effect_of x.order)) (left_at es x.order.key)) 0)
     (ended-kept es e x.order.key (effect_of x.order) distinct apart)
 
 -- the keys that an order touches are two

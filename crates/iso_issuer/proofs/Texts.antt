@@ -4,9 +4,8 @@ use Rattle.std.specs.Prelude.{◌&&◌, nat_le, Some, None, option_map, if◌the
 use Rattle.std.specs.List.{list_all}
 use Rattle.std.proofs.lemmas.Bool.{and_parts}
 use Rattle.std.proofs.lemmas.Bool.Decides.{nat_tests}
-use Rattle.iso_order.specs.AccountNumber.{AccountNumber}
-use Rattle.iso_order.specs.Text.{is_digit, are_digits, number_after, number}
-use Rattle.iso_order.specs.Pan.{pan_of}
+use Rattle.iso_order.specs.Pan.{AccountNumber, pan_of}
+use Rattle.iso_wire.specs.Decimal.{are_digits, number_after, number, is_digit}
 
 digit-bounds : (d : ℕ) → is_digit d ≡ true → (48 ≤ d) × (d ≤ 57)
 digit-bounds d h =

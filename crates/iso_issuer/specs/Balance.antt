@@ -1,7 +1,6 @@
 -- What is on an account: sums over the whole journal.
--- Inner, for bodies and proofs: `ledger_share`, `available_share`.
 use Rattle.std.specs.Prelude.{ℕ, ℤ, pos, ◌+ℤ◌, ◌-ℤ◌, List, sum_by, Option, if◌then◌else◌}
-use Rattle.iso_order.specs.AccountNumber.{AccountNumber}
+use Rattle.iso_order.specs.Pan.{AccountNumber}
 use Rattle.iso_issuer.specs.declared.account.Account.{Account}
 use Rattle.iso_issuer.specs.declared.effect.Effect.{Effect}
 use Rattle.iso_issuer.specs.declared.effect.Side.{Side}
@@ -25,11 +24,3 @@ ledger journal a = a.opening +ℤ pos (total Given a.pan journal) -ℤ pos (tota
 -- the ledger, less what is held
 abbrev pub available : List Entry → Account → ℤ
 available journal a = ledger journal a -ℤ pos (total Held a.pan journal)
-
--- ---- what a weight does to a balance
-
-abbrev pub ledger_share : AccountNumber → Option Effect → ℕ → ℤ
-ledger_share pan f n = pos (share Given pan f n) -ℤ pos (share Taken pan f n)
-
-abbrev pub available_share : AccountNumber → Option Effect → ℕ → ℤ
-available_share pan f n = ledger_share pan f n -ℤ pos (share Held pan f n)

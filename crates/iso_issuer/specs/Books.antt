@@ -1,5 +1,5 @@
 -- An issuer as contracts see it, and what handling orders does to it.
-use Rattle.std.specs.Prelude.{◌≡◌, ◌<◌, ◌≤◌, ℕ, false, List, [], ◌∷◌, ◌++◌, length, map, Result, Ok, Err}
+use Rattle.std.specs.Prelude.{◌≡◌, ◌<◌, ℕ, false, List, [], ◌∷◌, ◌++◌, length, Result, Ok, Err}
 use Rattle.iso_order.specs.declared.key.TxKey.{TxKey}
 use Rattle.iso_order.specs.Outcome.{Outcome}
 use Rattle.iso_order.specs.Order.{Instruction}
@@ -7,7 +7,7 @@ use Rattle.iso_issuer.specs.declared.account.Account.{Account}
 use Rattle.iso_issuer.specs.declared.journal.Entry.{Entry}
 use Rattle.iso_issuer.specs.declared.fault.Refused.{Refused}
 use Rattle.iso_issuer.specs.declared.fault.Refused.TheVariants.{Full, Memory}
-use Rattle.iso_issuer.specs.Journal.{firsts, is_entered, HasDistinctKeys}
+use Rattle.iso_issuer.specs.Journal.{firsts, is_entered}
 use Rattle.iso_issuer.specs.Decision.{journal_of, reply}
 
 -- its accounts, its limit, and the orders that were entered, in order
@@ -19,13 +19,6 @@ pub record Books : Type 0 where
 -- the orders entered, each with its answer
 abbrev pub journal : Books → List Entry
 journal b = journal_of b.accounts b.orders
-
--- how the entries are kept: few, each decided on those before it, no two of one key
-pub record IsKept (accounts : List Account) (limit : ℕ) (entries : List Entry) : Type 0 where
-  pub few : length entries ≤ limit
-  pub limited : limit ≤ 999999
-  pub decided : entries ≡ journal_of accounts (map (λ e. e.order) entries)
-  pub distinct : HasDistinctKeys (map (λ e. e.order) entries)
 
 -- the journal is at its limit, and the key is new
 pub record IsFullFor (b : Books) (key : TxKey) : Type 0 where

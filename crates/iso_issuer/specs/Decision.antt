@@ -1,17 +1,18 @@
 -- How an order is answered. Which case gets which code is our own rule.
-use Rattle.std.specs.Prelude.{ℕ, Bool, List, [], ◌∷◌, ◌++◌, ◌==◌, ◌&&◌, ◌||◌, ◌+◌, length, Option, Some, None, option_map, if◌then◌else◌, ℤ, pos, negsuc, int_lt}
+use Rattle.std.specs.Prelude.{ℕ, Bool, List, [], ◌∷◌, ◌++◌, ◌==◌, ◌&&◌, ◌||◌, ◌+◌, length, Option, Some, None, option_map, if◌then◌else◌, ℤ, pos, negsuc, int_lt, true, nat_le, unsigned_abs}
 use Rattle.iso_order.specs.declared.key.TxKey.{TxKey}
 use Rattle.iso_order.specs.declared.act.Act.{Act}
 use Rattle.iso_order.specs.declared.act.Act.TheVariants.{Debit, Credit, Inquiry, Undo, Complete}
 use Rattle.iso_order.specs.declared.act.Money.{Money}
 use Rattle.iso_order.specs.Outcome.{Outcome}
+use Rattle.iso_order.specs.Response.{is_inquiry_order}
 use Rattle.iso_order.specs.Key.{function_digit}
-use Rattle.iso_order.specs.Order.{Instruction, same_order, same_currency}
+use Rattle.iso_order.specs.Order.{Instruction, same_order, same_currency, money_of}
 use Rattle.iso_issuer.specs.declared.account.Account.{Account}
 use Rattle.iso_issuer.specs.declared.journal.Entry.{Entry}
 use Rattle.iso_issuer.specs.declared.effect.Effect.{Effect}
 use Rattle.iso_issuer.specs.Account.{account_of}
-use Rattle.iso_issuer.specs.Effect.{effect_of, takes}
+use Rattle.iso_issuer.specs.Effect.{effect_of, is_drawn}
 use Rattle.iso_issuer.specs.Journal.{is_reversed, left_at, smaller_of, entry_at}
 use Rattle.iso_issuer.specs.Balance.{available}
 
@@ -24,21 +25,13 @@ is_wide z = int_lt (pos 999999999999) z || int_lt z (negsuc 999999999998)
 -- on its account: an inquiry has 96 where it can't be shown, a debit that is a request 51 where what is left of it is over the available amount
 abbrev pub amount_code : List Entry → TxKey → Option Effect → Account → ℕ
 amount_code before key None a = if is_wide (available before a) then 96 else 0
-amount_code before key (Some f) a = if takes f.side && (function_digit key == 0) && int_lt (available before a) (pos (smaller_of f.amount (left_at before key))) then 51 else 0
+amount_code before key (Some f) a = if is_drawn f.side && (function_digit key == 0) && int_lt (available before a) (pos (smaller_of f.amount (left_at before key))) then 51 else 0
 
 -- 14 without an account, 12 in another currency
 abbrev pub account_code : List Entry → Instruction → Money → Option Account → ℕ
 account_code before o m None = 14
 account_code before o m (Some a) =
     if same_currency a.currency m.currency then amount_code before o.key (effect_of o) a else 12
-
--- the money that an order is about; a reversal is about none
-abbrev pub money_of : Act → Option Money
-money_of (Debit m) = Some m
-money_of (Credit m) = Some m
-money_of (Inquiry m) = Some m
-money_of (Undo original left) = None
-money_of (Complete m hold) = Some m
 
 -- 0 for a reversal, 21 for what is wholly reversed already
 abbrev pub money_code : List Account → List Entry → Instruction → Option Money → ℕ
@@ -95,3 +88,10 @@ reply_by accounts journal o (Some e) = repeat_answer e o
 -- that of the entry of its key, where there is one, else a new answer
 abbrev pub reply : List Account → List Entry → Instruction → Outcome
 reply accounts journal o = reply_by accounts journal o (entry_at journal o.key)
+
+-- ---- what an answer shows
+
+-- a balance of at most twelve digits is shown for an inquiry, and none for another act
+abbrev pub is_shown_for : Act → Option ℤ → Bool
+is_shown_for act None = true
+is_shown_for act (Some z) = nat_le (unsigned_abs z) 999999999999 && is_inquiry_order act

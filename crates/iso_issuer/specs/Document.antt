@@ -7,9 +7,8 @@ use Rattle.serde_json.specs.Data.{Data, Items, no_items, item}
 use Rattle.serde_json.specs.Find.{get, as_array, as_number, as_i64}
 use Rattle.serde_json.specs.Read.{read}
 use Rattle.iso_table.specs.Members.{has_size, text_at}
-use Rattle.iso_order.specs.AccountNumber.{AccountNumber}
+use Rattle.iso_order.specs.Pan.{AccountNumber, pan_of}
 use Rattle.iso_order.specs.Order.{same_pan, currency_of}
-use Rattle.iso_order.specs.Pan.{pan_of}
 use Rattle.iso_issuer.specs.declared.account.Account.{Account}
 use Rattle.iso_issuer.specs.declared.document.Listed.{Listed}
 use Rattle.iso_issuer.specs.declared.fault.AccountsFault.{AccountsFault}

@@ -1,10 +1,9 @@
 -- What an order does to its account, as long as it stands.
--- Inner, for bodies and proofs: `ended_by`.
 use Rattle.std.specs.Prelude.{ℕ, Bool, true, false, ◌==◌, ◌&&◌, Option, Some, None, if◌then◌else◌}
 use Rattle.iso_order.specs.declared.key.TxKey.{TxKey}
 use Rattle.iso_order.specs.declared.act.Act.{Act}
 use Rattle.iso_order.specs.declared.act.Act.TheVariants.{Debit, Credit, Inquiry, Undo, Complete}
-use Rattle.iso_order.specs.AccountNumber.{AccountNumber}
+use Rattle.iso_order.specs.Pan.{AccountNumber}
 use Rattle.iso_order.specs.Key.{class_digit, same_key}
 use Rattle.iso_order.specs.Order.{Instruction, same_pan}
 use Rattle.iso_issuer.specs.declared.effect.Effect.{Effect}
@@ -31,11 +30,11 @@ abbrev pub effect_amount : Option Effect → ℕ
 effect_amount None = 0
 effect_amount (Some f) = f.amount
 
--- it is taken from what is available
-abbrev pub takes : Side → Bool
-takes Given = false
-takes Taken = true
-takes Held = true
+-- it is drawn from what is available
+abbrev pub is_drawn : Side → Bool
+is_drawn Given = false
+is_drawn Taken = true
+is_drawn Held = true
 
 abbrev pub same_side : Side → Side → Bool
 same_side Given Given = true
@@ -47,11 +46,6 @@ same_side _ _ = false
 abbrev pub is_key : Option TxKey → TxKey → Bool
 is_key None key = false
 is_key (Some k) key = same_key k key
-
--- the key of the hold that an effect ends
-abbrev pub ended_by : Option Effect → Option TxKey
-ended_by None = None
-ended_by (Some f) = f.ends
 
 -- an effect that ends the hold of this key on this account
 abbrev pub is_end_of : TxKey → AccountNumber → Option Effect → Bool

@@ -1,20 +1,53 @@
 -- What an order finds in the journal, before it is entered.
 -- Inner: bodies and proofs cite it, and no public clause does.
-use Rattle.std.specs.Prelude.{◌≡◌, ℕ, Bool, true, false, List, Option, Some, None, option_map}
+use Rattle.std.specs.Prelude.{◌≡◌, ℕ, Bool, true, false, List, Option, Some, None, option_map, option_and_then}
 use Rattle.std.specs.Option.{option_or}
+use Rattle.iso_order.specs.declared.key.TxKey.{TxKey}
 use Rattle.iso_order.specs.declared.act.Act.{Act}
 use Rattle.iso_order.specs.declared.act.Act.TheVariants.{Debit, Credit, Inquiry, Undo, Complete}
-use Rattle.iso_order.specs.Order.{Instruction}
+use Rattle.iso_order.specs.Order.{Instruction, money_of}
 use Rattle.iso_issuer.specs.declared.journal.Entry.{Entry}
 use Rattle.iso_issuer.specs.declared.found.Touched.{Touched}
 use Rattle.iso_issuer.specs.declared.found.Found.{Found}
 use Rattle.iso_order.specs.declared.act.Money.{Money}
 use Rattle.iso_issuer.specs.declared.balances.Balance.{Balance}
-use Rattle.iso_issuer.specs.declared.balances.Row.{Row}
+use Rattle.iso_issuer.specs.declared.balances.AccountRow.{AccountRow}
 use Rattle.iso_issuer.specs.Balances.{accounts_of, balance_at}
 use Rattle.iso_issuer.specs.Index.{account_place}
-use Rattle.iso_issuer.specs.Decision.{money_of}
-use Rattle.iso_issuer.specs.Journal.{undone_key, left_at, weight, reversed_by, released_by}
+use Rattle.iso_issuer.specs.declared.effect.Effect.{Effect}
+use Rattle.iso_issuer.specs.Effect.{effect_of}
+use Rattle.iso_issuer.specs.Journal.{entry_at, undone_key, left_at, weight}
+
+-- ---- what an order may change
+
+-- the effect of an entry, where there is one
+abbrev pub effect_at : Option Entry → Option Effect
+effect_at None = None
+effect_at (Some e) = effect_of e.order
+
+-- its weight
+abbrev pub weight_at : List Entry → Option Entry → ℕ
+weight_at journal None = 0
+weight_at journal (Some e) = weight journal e
+
+-- the key of the hold that an effect ends
+abbrev pub ended_by : Option Effect → Option TxKey
+ended_by None = None
+ended_by (Some f) = f.ends
+
+-- the entry that an order reverses, where there is one
+abbrev pub reversed_by : List Entry → Instruction → Option Entry
+reversed_by journal o = option_and_then (entry_at journal) (undone_key o.act)
+
+-- the key of the hold that an order ends, or that it gives back by reversing what ended it
+abbrev pub ended_key : List Entry → Instruction → Option TxKey
+ended_key journal o = option_or (ended_by (effect_of o)) (ended_by (effect_at (reversed_by journal o)))
+
+-- the hold itself, where it is there
+abbrev pub released_by : List Entry → Instruction → Option Entry
+released_by journal o = option_and_then (entry_at journal) (ended_key journal o)
+
+-- ---- what is found of it
 
 -- an entry, what the first reversal of it leaves, and its weight
 abbrev pub touched_at : List Entry → Option Entry → Option Touched
@@ -59,6 +92,6 @@ pub record WasFoundFor (journal : List Entry) (o : Instruction) (found : Found) 
   pub released : (t : Touched) → found.released ≡ Some t → t.left ≡ left_at journal t.entry.order.key
 
 -- the balance of the account that an order is about, and its place
-pub record IsRowFor (balances : List Balance) (o : Instruction) (row : Option Row) : Type 0 where
+pub record IsRowFor (balances : List Balance) (o : Instruction) (row : Option AccountRow) : Type 0 where
   pub place : (m : Money) → Some m ≡ money_of o.act → option_map (λ r. r.place) row ≡ account_place (accounts_of balances) m.pan
   pub balance : (m : Money) → Some m ≡ money_of o.act → option_map (λ r. r.balance) row ≡ balance_at balances m.pan

@@ -7,15 +7,15 @@ use Rattle.std.specs.declared.cmp.Ordering.{Ordering}
 use Rattle.std.specs.BTreeMap as tree
 use Rattle.std.specs.BTreeMap.{BTreeMap}
 use Rattle.iso_order.specs.declared.key.TxKey.{TxKey}
-use Rattle.iso_order.specs.AccountNumber.{AccountNumber}
+use Rattle.iso_order.specs.Pan.{AccountNumber}
 use Rattle.iso_order.specs.Key.{same_key}
-use Rattle.iso_order.specs.Order.{same_pan}
+use Rattle.iso_order.specs.Order.{same_pan, Instruction}
 use Rattle.iso_issuer.specs.declared.account.Account.{Account}
 use Rattle.iso_issuer.specs.declared.balances.Balance.{Balance}
-use Rattle.iso_order.specs.Order.{Instruction}
 use Rattle.iso_issuer.specs.declared.index.Index.{Index}
 use Rattle.iso_issuer.specs.declared.journal.Entry.{Entry}
-use Rattle.iso_issuer.specs.Journal.{left_at, entry_at, is_counted, counts_with}
+use Rattle.iso_issuer.specs.Decision.{journal_of}
+use Rattle.iso_issuer.specs.Journal.{left_at, entry_at, is_counted, is_counted_with, HasDistinctKeys}
 use Rattle.iso_issuer.specs.Effect.{effect_of, is_end_of}
 use Rattle.iso_issuer.specs.declared.effect.Effect.{Effect}
 use Rattle.iso_issuer.specs.declared.effect.Hold.{Hold}
@@ -91,7 +91,7 @@ added_by entries e = if is_counted entries e then hold_by (effect_of e.order) el
 -- the hold that an entry no longer completes, after a reversal that leaves so much
 abbrev pub dropped_of : Option ℕ → ℕ → Entry → Option Hold
 dropped_of (Some n) left r = None
-dropped_of None left r = if counts_with None r && (left == 0) then hold_by (effect_of r.order) else None
+dropped_of None left r = if is_counted_with None r && (left == 0) then hold_by (effect_of r.order) else None
 
 abbrev pub dropped_at : List Entry → TxKey → ℕ → Option Entry → Option Hold
 dropped_at entries key left None = None
@@ -159,3 +159,12 @@ AreSums entries balances = balances ≡ map (balance_on entries) (accounts_of ba
 pub record IsSummed (entries : List Entry) (balances : List Balance) : Type 0 where
   pub sums : AreSums entries balances
   pub near : All (IsNear (3 * length entries)) balances
+
+-- ---- the issuer
+
+-- how the entries are kept: few, each decided on those before it, no two of one key
+pub record IsKept (accounts : List Account) (limit : ℕ) (entries : List Entry) : Type 0 where
+  pub few : length entries ≤ limit
+  pub limited : limit ≤ 999999
+  pub decided : entries ≡ journal_of accounts (map (λ e. e.order) entries)
+  pub distinct : HasDistinctKeys (map (λ e. e.order) entries)

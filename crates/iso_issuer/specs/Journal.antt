@@ -1,18 +1,16 @@
 -- The journal: which orders are entered, which entries stand, and for how much.
--- Inner, for bodies and proofs: `effect_at`, `weight_at`, `reversed_by`, `ended_key`, `released_by`.
-use Rattle.std.specs.Prelude.{◌≡◌, ℕ, Bool, false, not, is_some, List, [], ◌∷◌, ◌==◌, ◌&&◌, find, filter, Option, Some, None, option_map, min, option_and_then, if◌then◌else◌}
+use Rattle.std.specs.Prelude.{◌≡◌, ℕ, Bool, false, not, is_some, List, [], ◌∷◌, ◌==◌, ◌&&◌, find, filter, Option, Some, None, option_map, min, if◌then◌else◌}
 use Rattle.std.specs.List.{list_any}
-use Rattle.std.specs.Option.{option_or}
 use Rattle.iso_order.specs.declared.key.TxKey.{TxKey}
 use Rattle.iso_order.specs.declared.act.Act.{Act}
 use Rattle.iso_order.specs.declared.act.Act.TheVariants.{Debit, Credit, Inquiry, Undo, Complete}
-use Rattle.iso_order.specs.AccountNumber.{AccountNumber}
+use Rattle.iso_order.specs.Pan.{AccountNumber}
 use Rattle.iso_order.specs.Key.{same_key}
 use Rattle.iso_order.specs.Order.{Instruction}
 use Rattle.iso_issuer.specs.declared.journal.Entry.{Entry}
 use Rattle.iso_issuer.specs.declared.effect.Effect.{Effect}
 use Rattle.iso_issuer.specs.declared.effect.Side.TheVariants.{Held}
-use Rattle.iso_issuer.specs.Effect.{effect_of, effect_amount, is_key, ended_by, is_end_of, same_side}
+use Rattle.iso_issuer.specs.Effect.{effect_of, effect_amount, is_key, is_end_of, same_side}
 
 -- ---- orders
 
@@ -74,12 +72,12 @@ smaller_of amount None = amount
 smaller_of amount (Some left) = min amount left
 
 -- a debit, a credit or a completion that was granted, of which something is left
-abbrev pub counts_with : Option ℕ → Entry → Bool
-counts_with left e = is_some (effect_of e.order) && (e.answer.code == 0) && not (is_nothing left)
+abbrev pub is_counted_with : Option ℕ → Entry → Bool
+is_counted_with left e = is_some (effect_of e.order) && (e.answer.code == 0) && not (is_nothing left)
 
 -- one that was granted, and that isn't wholly reversed in the whole journal, earlier or later (our own rule)
 abbrev pub is_counted : List Entry → Entry → Bool
-is_counted journal e = counts_with (left_at journal e.order.key) e
+is_counted journal e = is_counted_with (left_at journal e.order.key) e
 
 -- some entry that counts completes the hold of this key on this account
 abbrev pub is_completed : List Entry → TxKey → AccountNumber → Bool
@@ -97,27 +95,3 @@ stands journal e = is_counted journal e && not (is_ended journal e.order.key (ef
 -- what is left of the amount of an entry that stands, else 0
 abbrev pub weight : List Entry → Entry → ℕ
 weight journal e = if stands journal e then smaller_of (effect_amount (effect_of e.order)) (left_at journal e.order.key) else 0
-
--- ---- what an order may change
-
--- the effect of an entry, where there is one
-abbrev pub effect_at : Option Entry → Option Effect
-effect_at None = None
-effect_at (Some e) = effect_of e.order
-
--- its weight
-abbrev pub weight_at : List Entry → Option Entry → ℕ
-weight_at journal None = 0
-weight_at journal (Some e) = weight journal e
-
--- the entry that an order reverses, where there is one
-abbrev pub reversed_by : List Entry → Instruction → Option Entry
-reversed_by journal o = option_and_then (entry_at journal) (undone_key o.act)
-
--- the key of the hold that an order ends, or that it gives back by reversing what ended it
-abbrev pub ended_key : List Entry → Instruction → Option TxKey
-ended_key journal o = option_or (ended_by (effect_of o)) (ended_by (effect_at (reversed_by journal o)))
-
--- the hold itself, where it is there
-abbrev pub released_by : List Entry → Instruction → Option Entry
-released_by journal o = option_and_then (entry_at journal) (ended_key journal o)

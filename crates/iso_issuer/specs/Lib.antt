@@ -1,14 +1,15 @@
+pub mod Change
 pub mod Range
 pub mod Account
 pub mod Effect
 pub mod Journal
 pub mod Balance
 pub mod Balances
+pub mod Posting
 pub mod Decision
 pub mod Books
 pub mod Index
 pub mod Found
 pub mod Document
-pub mod Shown
 pub mod Laws
 pub mod FaultNumbers

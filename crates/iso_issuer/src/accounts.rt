@@ -2,7 +2,7 @@
 
 ghost use Rattle.std.specs.Prelude.{◌≡◌, ◌≢◌, IfOk, IfErr, IsErrOf, None, Some, map, [], option_map, if◌then◌else◌};
 ghost use Rattle.iso_issuer.specs.declared.fault.AccountsFault.TheVariants.{NotJson, Shape, Memory};
-ghost use Rattle.iso_issuer.specs.Account.{HasDistinctNumbers};
+ghost use Rattle.iso_issuer.specs.Balances.{HasDistinctNumbers};
 ghost use Rattle.iso_issuer.specs.Balances.{accounts_of, opening_balance};
 ghost use Rattle.iso_table.specs.Document.{IsNotJson};
 ghost use Rattle.iso_issuer.specs.Document.{is_out_of_range, accounts_fault, as_listed, ListsAccounts, HasFault};
@@ -37,7 +37,7 @@ impl Model for Accounts {
 const MOST: i64 = 9_000_000_000_000_000;
 
 /// The account that is listed, unless its opening amount is out of range.
-fn in_range(row: Listed) -> Option<Account>
+fn account_in_range(row: Listed) -> Option<Account>
     ensures { option_map as_listed result ≡ (if is_out_of_range row.opening then None else Some row) }
 {
     if row.opening < -MOST || MOST < row.opening {
@@ -56,7 +56,7 @@ fn in_range(row: Listed) -> Option<Account>
 }
 
 /// The listed accounts as they are at first, each of which is in range and has a number of its own.
-fn judged(alloc: Global, listed: &[Listed]) -> Result<Balances, AccountsFault>
+fn opening_balances(alloc: Global, listed: &[Listed]) -> Result<Balances, AccountsFault>
     ensures ok { IfOk result (λ balances. map as_listed (accounts_of balances) ≡ listed.now) }
     ensures opened { IfOk result (λ balances. balances ≡ map opening_balance (accounts_of balances)) }
     ensures none { IfOk result (λ _. accounts_fault [] listed.now ≡ None) }
@@ -65,7 +65,7 @@ fn judged(alloc: Global, listed: &[Listed]) -> Result<Balances, AccountsFault>
 {
     let mut balances = Balances::new(alloc);
     for (i, row) in listed.iter().enumerate() {
-        let Some(account) = in_range(*row) else {
+        let Some(account) = account_in_range(*row) else {
             return Err(AccountsFault::OutOfRange(i));
         };
         if balances.get(account.pan).is_some() {
@@ -88,7 +88,7 @@ impl Accounts {
     {
         let value = value_of(alloc, text)?;
         let listed = document_in(alloc, &value)?;
-        let balances = judged(alloc, &listed)?;
+        let balances = opening_balances(alloc, &listed)?;
         Ok(Accounts { balances })
     }
 

@@ -23,7 +23,7 @@ pub struct Balance {
 
 /// A balance, and its place among the balances.
 #[derive(Clone, Copy, Debug)]
-pub struct Row {
+pub struct AccountRow {
     pub place: usize,
     pub balance: Balance,
 }
@@ -42,7 +42,7 @@ impl Model for Balances {
 
     ghost Value = { List Balance };
 
-    ghost use Rattle.iso_issuer.specs.Account.{HasDistinctNumbers};
+    ghost use Rattle.iso_issuer.specs.Balances.{HasDistinctNumbers};
     ghost use Rattle.iso_issuer.specs.Balances.{accounts_of};
     ghost use Rattle.iso_issuer.specs.Index.{AreAccountPlaces};
 
@@ -52,7 +52,7 @@ impl Model for Balances {
 }
 
 /// The balance of an account at first.
-fn opened(account: Account) -> Balance
+fn opening_balance(account: Account) -> Balance
     ensures { result ≡ opening_balance account }
 {
     let opening = account.opening;
@@ -64,7 +64,7 @@ fn opened(account: Account) -> Balance
 }
 
 /// A balance with a change added.
-fn changed(balance: Balance, change: Change) -> Balance
+fn balance_with(change: Change, balance: Balance) -> Balance
     requires { IsNear 2999999 balance }
     ensures { result ≡ balance_with change balance }
 {
@@ -94,7 +94,7 @@ impl Balances {
     {
         self.rows.reserve(1)?;
         self.places.insert(account.pan, self.rows.len())?;
-        let _ = self.rows.push(opened(account));
+        let _ = self.rows.push(opening_balance(account));
         Ok(())
     }
 
@@ -106,12 +106,12 @@ impl Balances {
     }
 
     /// The balance of a number and its place, where it has an account.
-    pub fn find(&self, pan: Pan) -> Option<Row>
+    pub fn find(&self, pan: Pan) -> Option<AccountRow>
         ensures place { option_map (λ r. r.place) result ≡ account_place (accounts_of self.now) pan }
         ensures balance { option_map (λ r. r.balance) result ≡ balance_at self.now pan }
     {
         let place = *self.places.get(&pan)?;
-        Some(Row {
+        Some(AccountRow {
             place,
             balance: self.rows[place],
         })
@@ -131,7 +131,7 @@ impl Balances {
         ensures { self.new ≡ map (balance_after change) self.old }
     {
         if let Some(place) = place {
-            self.rows[place] = changed(self.rows[place], change);
+            self.rows[place] = balance_with(change, self.rows[place]);
         }
     }
 

@@ -1,6 +1,6 @@
 //! Changes of balances.
 
-ghost use Rattle.iso_issuer.specs.Range.{IsAmount};
+ghost use Rattle.iso_issuer.specs.Change.{IsAmount};
 
 use iso_order::Pan;
 

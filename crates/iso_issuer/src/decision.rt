@@ -9,11 +9,12 @@ ghost use Rattle.iso_issuer.specs.Balances.{accounts_of};
 ghost use Rattle.iso_issuer.specs.Effect.{effect_of};
 ghost use Rattle.iso_issuer.specs.Journal.{left_at, undone_key};
 ghost use Rattle.iso_issuer.specs.Index.{AreSums, balance_on};
-ghost use Rattle.iso_issuer.specs.Decision.{is_wide, amount_code, account_code, money_of, code_of, shown_by, new_answer, repeat_answer};
+ghost use Rattle.iso_issuer.specs.Decision.{is_wide, amount_code, account_code, code_of, shown_by, new_answer, repeat_answer};
+ghost use Rattle.iso_order.specs.Order.{money_of};
 
-use crate::balances::{Balance, Balances, Row};
+use crate::balances::{AccountRow, Balance, Balances};
 use crate::effect::effect_of;
-use crate::journal::{Entry, Journal, is_nothing, smaller};
+use crate::journal::{Entry, Journal, is_nothing, smaller_of};
 use iso_order::{Act, Answer, Money, Order};
 
 /// Whether an amount has more than twelve digits.
@@ -32,9 +33,9 @@ fn amount_code(order: Order, balance: Balance, left: Option<u64>) -> u8
     match effect_of(order) {
         None => { if is_wide(balance.available) { 96 } else { 0 } }
         Some(effect) => {
-            if effect.side.takes()
+            if effect.side.is_drawn()
                 && order.key().function() == 0
-                && balance.available < smaller(effect.amount, left) as i64
+                && balance.available < smaller_of(effect.amount, left) as i64
             {
                 51
             } else {
@@ -61,29 +62,18 @@ fn account_code(order: Order, money: Money, balance: Option<Balance>, left: Opti
     }
 }
 
-/// The money that an order is about.
-fn money_of(order: Order) -> Option<Money>
-    ensures { result ≡ money_of order.act }
-{
-    match order.act() {
-        Act::Debit(money) | Act::Credit(money) | Act::Inquiry(money) => Some(money),
-        Act::Complete { money, .. } => Some(money),
-        Act::Undo { .. } => None,
-    }
-}
-
 /// What is on the account that an order is about, and the place of that account.
-pub fn row_for(balances: &Balances, order: Order) -> Option<Row>
+pub fn row_for(balances: &Balances, order: Order) -> Option<AccountRow>
     ensures { IsRowFor balances.now order result }
 {
-    match money_of(order) {
+    match order.act().money() {
         Some(money) => balances.find(money.pan),
         None => None,
     }
 }
 
 /// The balance of a row.
-fn balance_in(row: &Option<Row>) -> Option<Balance>
+fn balance_in(row: &Option<AccountRow>) -> Option<Balance>
     ensures { result ≡ option_map (λ r. r.balance) row.now }
 {
     match row {
@@ -93,7 +83,7 @@ fn balance_in(row: &Option<Row>) -> Option<Balance>
 }
 
 /// The place of a row.
-pub fn place_in(row: &Option<Row>) -> Option<usize>
+pub fn place_in(row: &Option<AccountRow>) -> Option<usize>
     ensures { result ≡ option_map (λ r. r.place) row.now }
 {
     match row {
@@ -103,12 +93,12 @@ pub fn place_in(row: &Option<Row>) -> Option<usize>
 }
 
 /// The code of a new order, of whose key the first reversal leaves so much.
-fn code_of(row: &Option<Row>, order: Order, left: Option<u64>) -> u8
+fn code_of(row: &Option<AccountRow>, order: Order, left: Option<u64>) -> u8
     ensures value { (entries : List Entry) → (balances : List Balance) → AreSums entries balances → IsRowFor balances order row.now
         → (undone_key order.act ≡ None → left ≡ left_at entries order.key) → result ≡ code_of (accounts_of balances) entries order }
     ensures small { result ≤ 99 }
 {
-    match money_of(order) {
+    match order.act().money() {
         None => 0,
         Some(money) => {
             if is_nothing(left) {
@@ -121,7 +111,7 @@ fn code_of(row: &Option<Row>, order: Order, left: Option<u64>) -> u8
 }
 
 /// What an order of code 0 shows.
-fn shown_by(row: &Option<Row>, order: Order) -> Option<i64>
+fn shown_by(row: &Option<AccountRow>, order: Order) -> Option<i64>
     ensures { (entries : List Entry) → (balances : List Balance) → AreSums entries balances → IsRowFor balances order row.now
         → result ≡ shown_by (accounts_of balances) entries order.act }
 {
@@ -132,7 +122,12 @@ fn shown_by(row: &Option<Row>, order: Order) -> Option<i64>
 }
 
 /// The answer to a new order, of whose key the first reversal leaves so much.
-pub fn new_answer(journal: &Journal, row: &Option<Row>, order: Order, left: Option<u64>) -> Answer
+pub fn new_answer(
+    journal: &Journal,
+    row: &Option<AccountRow>,
+    order: Order,
+    left: Option<u64>,
+) -> Answer
     requires few { length journal.now < 999999 }
     requires left { undone_key order.act ≡ None → left ≡ left_at journal.now order.key }
     ensures { (balances : List Balance) → AreSums journal.now balances → IsRowFor balances order row.now
@@ -151,7 +146,7 @@ pub fn new_answer(journal: &Journal, row: &Option<Row>, order: Order, left: Opti
 }
 
 /// The answer to an order whose key has an entry: the first answer again, or 94 to another order.
-pub fn repeated(entry: Entry, order: Order) -> Answer
+pub fn repeat_answer(entry: Entry, order: Order) -> Answer
     ensures { result ≡ repeat_answer entry order }
 {
     if entry.order.is_same(&order) {

@@ -5,7 +5,8 @@ ghost use Rattle.iso_order.specs.declared.key.TxKey.{TxKey};
 ghost use Rattle.iso_order.specs.Key.{class_digit};
 ghost use Rattle.iso_issuer.specs.Journal.{undone_key};
 ghost use Rattle.iso_issuer.specs.Index.{hold_by};
-ghost use Rattle.iso_issuer.specs.Effect.{effect_amount, effect_of, ended_by, is_key, side_of, takes};
+ghost use Rattle.iso_issuer.specs.Effect.{effect_amount, effect_of, is_key, side_of, is_drawn};
+ghost use Rattle.iso_issuer.specs.Found.{ended_by};
 
 use iso_order::{Act, Order, Pan, TxKey};
 
@@ -66,9 +67,9 @@ fn side_of(key: TxKey) -> Side
 }
 
 impl Side {
-    /// Whether the amount is taken from what is available.
-    pub fn takes(self) -> bool
-        ensures { result ≡ takes self }
+    /// Whether the amount is drawn from what is available.
+    pub fn is_drawn(self) -> bool
+        ensures { result ≡ is_drawn self }
     {
         match self {
             Side::Given => false,

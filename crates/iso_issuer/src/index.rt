@@ -1,6 +1,6 @@
 //! The index of the journal: what is found of a key and of a hold without looking through the entries.
 
-ghost use Rattle.iso_order.specs.AccountNumber.{AccountNumber};
+ghost use Rattle.iso_order.specs.Pan.{AccountNumber};
 ghost use Rattle.iso_issuer.specs.Effect.{is_key};
 ghost use Rattle.std.specs.Prelude.{◌≡◌, ◌≤◌, ◌<◌, ◌+◌, ◌-◌, IfSome, Some, None, [], if◌then◌else◌, OnOk, OnErr};
 ghost use Rattle.std.specs.BTreeMap as tree;

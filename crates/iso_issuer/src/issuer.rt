@@ -8,11 +8,11 @@ ghost use Rattle.iso_issuer.specs.Journal.{firsts, is_entered, HasDistinctKeys};
 ghost use Rattle.iso_issuer.specs.Balance.{ledger, available};
 ghost use Rattle.iso_issuer.specs.Decision.{new_answer, reply};
 ghost use Rattle.iso_issuer.specs.Books.{journal, IsFullFor, IsRoomFor, IsRun, answered_of};
-ghost use Rattle.iso_issuer.specs.Shown.{is_shown_for};
+ghost use Rattle.iso_issuer.specs.Decision.{is_shown_for};
 
 use crate::accounts::Accounts;
 use crate::balances::Balances;
-use crate::decision::{new_answer, place_in, repeated, row_for};
+use crate::decision::{new_answer, place_in, repeat_answer, row_for};
 use crate::fault::Refused;
 use crate::journal::{Entry, Journal};
 use crate::posting::settle;
@@ -32,7 +32,8 @@ pub struct Issuer {
 
 impl Model for Issuer {
     ghost use Rattle.std.specs.Prelude.{map};
-    ghost use Rattle.iso_issuer.specs.Books.{Books, IsKept};
+    ghost use Rattle.iso_issuer.specs.Books.{Books};
+    ghost use Rattle.iso_issuer.specs.Index.{IsKept};
     ghost use Rattle.iso_issuer.specs.Balances.{accounts_of};
     ghost use Rattle.iso_issuer.specs.Index.{IsSummed};
 
@@ -107,7 +108,7 @@ impl Issuer {
         ensures unchanged { OnErr result (self.new ≡ self.old) }
     {
         match self.journal.get(order.key()) {
-            Some(entry) => Ok(repeated(entry, order)),
+            Some(entry) => Ok(repeat_answer(entry, order)),
             None => {
                 if self.journal.len() >= self.limit as usize {
                     return Err(Refused::Full);

@@ -8,8 +8,9 @@ ghost use Rattle.std.specs.Prelude.{ℕ, List, is_some, true, false, map, None, 
 ghost use Rattle.std.specs.BTreeMap as tree;
 ghost use Rattle.std.specs.Ordering.{nat_cmp};
 ghost use Rattle.iso_issuer.specs.Index.{added_by, dropped_of, dropped_by};
-ghost use Rattle.iso_issuer.specs.Journal.{entry_at, undone_key, left_at, is_nothing, smaller_of, counts_with, is_completed, is_ended, weight};
-ghost use Rattle.iso_issuer.specs.Journal.{reversed_by, ended_key, released_by, HasDistinctKeys};
+ghost use Rattle.iso_issuer.specs.Journal.{entry_at, undone_key, left_at, is_nothing, smaller_of, is_counted_with, is_completed, is_ended, weight};
+ghost use Rattle.iso_issuer.specs.Journal.{HasDistinctKeys};
+ghost use Rattle.iso_issuer.specs.Found.{reversed_by, ended_key, released_by};
 
 use crate::effect::{Effect, Hold, Side, effect_amount, effect_of, ended_by, hold_by};
 use crate::found::{Found, Touched};
@@ -50,7 +51,7 @@ impl Model for Journal {
 }
 
 /// The key that a reversal names.
-fn undone(order: Order) -> Option<TxKey>
+fn undone_key(order: Order) -> Option<TxKey>
     ensures { result ≡ undone_key order.act }
 {
     match order.act() {
@@ -60,7 +61,7 @@ fn undone(order: Order) -> Option<TxKey>
 }
 
 /// Whether an order may reverse an entry or end a hold.
-fn touches(order: Order) -> bool
+fn is_of_earlier(order: Order) -> bool
     ensures { result ≡ is_of_earlier order.act }
 {
     match order.act() {
@@ -80,7 +81,7 @@ pub fn is_nothing(left: Option<u64>) -> bool
 }
 
 /// The smaller of an amount and what is left of it.
-pub fn smaller(amount: u64, left: Option<u64>) -> u64
+pub fn smaller_of(amount: u64, left: Option<u64>) -> u64
     ensures value { result ≡ smaller_of amount left }
     ensures small { result ≤ amount }
 {
@@ -91,8 +92,8 @@ pub fn smaller(amount: u64, left: Option<u64>) -> u64
 }
 
 /// Whether an entry counts of which so much is left.
-fn counts_with(left: Option<u64>, entry: &Entry) -> bool
-    ensures { result ≡ counts_with left entry.now }
+fn is_counted_with(left: Option<u64>, entry: &Entry) -> bool
+    ensures { result ≡ is_counted_with left entry.now }
 {
     effect_of(entry.order).is_some() && entry.answer.code == 0 && !is_nothing(left)
 }
@@ -104,7 +105,7 @@ fn dropped_of(before: Option<u64>, left: u64, reversed: &Entry) -> Option<Hold>
     match before {
         Some(_) => None,
         None => {
-            if counts_with(None, reversed) && left == 0 {
+            if is_counted_with(None, reversed) && left == 0 {
                 hold_by(effect_of(reversed.order))
             } else {
                 None
@@ -119,7 +120,7 @@ fn added_by(left: Option<u64>, entry: &Entry) -> Option<Hold>
 {
     match hold_by(effect_of(entry.order)) {
         Some(hold) => {
-            if counts_with(left, entry) {
+            if is_counted_with(left, entry) {
                 Some(hold)
             } else {
                 None
@@ -224,15 +225,15 @@ impl Journal {
         ensures small { result ≤ 999999999999 }
     {
         let effect = effect_of(entry.order);
-        if counts_with(left, entry) && !self.is_ended(entry.order.key(), &effect) {
-            smaller(effect_amount(effect), left)
+        if is_counted_with(left, entry) && !self.is_ended(entry.order.key(), &effect) {
+            smaller_of(effect_amount(effect), left)
         } else {
             0
         }
     }
 
     /// An entry with what the first reversal of it leaves, and its weight.
-    fn touched(&self, entry: Option<Entry>) -> Option<Touched>
+    fn touched_at(&self, entry: Option<Entry>) -> Option<Touched>
         ensures value { result ≡ touched_at self.now entry }
         ensures small { weight_in result ≤ 999999999999 }
     {
@@ -254,7 +255,7 @@ impl Journal {
     fn reversed_by(&self, order: Order) -> Option<Entry>
         ensures { result ≡ reversed_by self.now order }
     {
-        match undone(order) {
+        match undone_key(order) {
             Some(original) => self.get(original),
             None => None,
         }
@@ -291,7 +292,7 @@ impl Journal {
     fn own_left(&self, order: Order) -> Option<u64>
         ensures { undone_key order.act ≡ None → result ≡ left_at self.now order.key }
     {
-        match undone(order) {
+        match undone_key(order) {
             Some(_) => None,
             None => self.left_at(order.key()),
         }
@@ -304,7 +305,7 @@ impl Journal {
         ensures released { weight_in result.released ≤ 999999999999 }
         ensures apart { (q : TxKey) → is_key (ended_key self.now order) q ≡ true → is_key (undone_key order.act) q ≡ false }
     {
-        if !touches(order) {
+        if !is_of_earlier(order) {
             return Found {
                 left: self.left_at(order.key()),
                 reversed: None,
@@ -315,8 +316,8 @@ impl Journal {
         let released = self.released_by(order, &reversed);
         Found {
             left: self.own_left(order),
-            reversed: self.touched(reversed),
-            released: self.touched(released),
+            reversed: self.touched_at(reversed),
+            released: self.touched_at(released),
         }
     }
 

@@ -2,16 +2,18 @@
 
 ghost use Rattle.std.specs.Prelude.{◌≡◌, ◌≤◌, ◌+◌, ℕ, ◌-ℤ◌, All, map, Some, option_map};
 ghost use Rattle.std.specs.Option.{option_or};
-ghost use Rattle.iso_order.specs.AccountNumber.{AccountNumber};
+ghost use Rattle.iso_order.specs.Pan.{AccountNumber};
 ghost use Rattle.iso_issuer.specs.Effect.{effect_of};
 ghost use Rattle.iso_issuer.specs.declared.found.Touched.{Touched};
-ghost use Rattle.iso_issuer.specs.Journal.{effect_at, left_at, weight, weight_at};
+ghost use Rattle.iso_issuer.specs.Journal.{left_at, weight};
+ghost use Rattle.iso_issuer.specs.Found.{effect_at, weight_at};
 ghost use Rattle.iso_issuer.specs.Found.{entry_in, weight_in, amount_left, WasFoundFor};
-ghost use Rattle.iso_issuer.specs.Range.{IsAmount};
-ghost use Rattle.iso_issuer.specs.Balance.{ledger_share, available_share};
+ghost use Rattle.iso_issuer.specs.Change.{IsAmount};
+ghost use Rattle.iso_issuer.specs.Posting.{ledger_share, available_share};
 ghost use Rattle.iso_issuer.specs.declared.effect.Effect.{Effect};
 ghost use Rattle.iso_issuer.specs.Index.{account_place};
-ghost use Rattle.iso_issuer.specs.Balances.{accounts_of, ledger_grown, available_grown, balance_by_weights, on_ledger, on_available, IsNear};
+ghost use Rattle.iso_issuer.specs.Balances.{accounts_of, IsNear};
+ghost use Rattle.iso_issuer.specs.Posting.{ledger_grown, available_grown, balance_by_weights, on_ledger, on_available};
 
 use crate::balances::Balances;
 use crate::change::Change;
@@ -21,7 +23,7 @@ use crate::journal::{Entry, Journal};
 use iso_order::{Act, Order};
 
 /// What an effect does to its account when its weight grows by an amount, or shrinks by one.
-fn grown_by(effect: Effect, grown: i64) -> Change
+fn change_by(effect: Effect, grown: i64) -> Change
     requires { IsAmount grown }
     ensures pan { result.pan ≡ effect.pan }
     ensures ledger { result.ledger ≡ ledger_grown effect.side grown }
@@ -57,7 +59,7 @@ fn change_of(entry: Entry, before: u64, after: u64) -> Option<Change>
         ≡ available_share pan (effect_of entry.order) after -ℤ available_share pan (effect_of entry.order) before }
 {
     let effect = effect_of(entry.order)?;
-    Some(grown_by(effect, after as i64 - before as i64))
+    Some(change_by(effect, after as i64 - before as i64))
 }
 
 /// Posts what the weight of an entry changed, where the place of its account is known.
@@ -90,24 +92,24 @@ fn post_touched(
     journal: &Journal,
     balances: &mut Balances,
     touched: &Option<Touched>,
-    leaves: Option<u64>,
+    left_now: Option<u64>,
 )
     requires near { All (IsNear 2999999) balances.old }
     requires before { weight_in touched.now ≤ 999999999999 }
-    requires left { (t : Touched) → touched.now ≡ Some t → option_or t.left leaves ≡ left_at journal.now t.entry.order.key }
+    requires left { (t : Touched) → touched.now ≡ Some t → option_or t.left left_now ≡ left_at journal.now t.entry.order.key }
     ensures moved { balances.new ≡ map (balance_by_weights (effect_at (entry_in touched.now)) (weight_in touched.now)
         (weight_at journal.now (entry_in touched.now))) balances.old }
     ensures near { (n : ℕ) → All (IsNear n) balances.old → All (IsNear (n + 1)) balances.new }
 {
     if let Some(touched) = touched {
-        let after = journal.weight(&touched.entry, touched.left.or(leaves));
+        let after = journal.weight(&touched.entry, touched.left.or(left_now));
         let place = place_for(balances, touched.entry);
         post_at(balances, touched.entry, touched.weight, after, place);
     }
 }
 
 /// What an order leaves of the entry that it reverses.
-fn leaves(order: Order) -> Option<u64>
+fn amount_left(order: Order) -> Option<u64>
     ensures { result ≡ amount_left order.act }
 {
     match order.act() {
@@ -140,6 +142,6 @@ pub fn settle(
 {
     let own = journal.weight(&entry, found.left);
     post_at(balances, entry, 0, own, place);
-    post_touched(journal, balances, &found.reversed, leaves(entry.order));
+    post_touched(journal, balances, &found.reversed, amount_left(entry.order));
     post_touched(journal, balances, &found.released, None);
 }

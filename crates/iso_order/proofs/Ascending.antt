@@ -7,44 +7,45 @@ use Rattle.std.proofs.lemmas.List.{append-nil}
 use Rattle.std.proofs.Math.Seq.{take-suc}
 use Rattle.iso_wire.specs.Contents.{Contents}
 use Rattle.iso_wire.specs.Elements.{IsBelow, value_in}
-use Rattle.iso_order.specs.Listing.{entry, elements_with_value, elements_from, ascend}
+use Rattle.iso_order.specs.Listing.{entry, elements_from}
+use Rattle.iso_order.specs.Adding.{elements_with_value, are_ascending}
 use Rattle.iso_order.specs.Outcome.{Outcome}
 use Rattle.iso_order.specs.Response.{element, response, response_mti}
 
 abbrev Values : Type 0
 Values = List (ℕ × List ℕ)
 
-pub ascend_parts : (test : ℕ → Bool) (low n : ℕ) (ns : List ℕ) → ascend test low (n ∷ ns) ≡ true → (low ≤ n) × (test n ≡ true) × (ascend test (n + 1) ns ≡ true)
-ascend_parts test low n ns h =
-    let rest = and_parts (nat_le low n && test n) (ascend test (n + 1) ns) h in
+pub are_ascending-parts : (test : ℕ → Bool) (low n : ℕ) (ns : List ℕ) → are_ascending test low (n ∷ ns) ≡ true → (low ≤ n) × (test n ≡ true) × (are_ascending test (n + 1) ns ≡ true)
+are_ascending-parts test low n ns h =
+    let rest = and_parts (nat_le low n && test n) (are_ascending test (n + 1) ns) h in
     let first = and_parts (nat_le low n) (test n) rest.0 in
     (leb-true low n first.0, first.1, rest.1)
 
-ascend-least : (test : ℕ → Bool) (low : ℕ) (ns : List ℕ) (i : ℕ) → ascend test low ns ≡ true → i < length ns → low ≤ get_or ns i 0
-ascend-least test low [] i h lt = absurd (omega arith)
-ascend-least test low (n ∷ ns) zero h lt = (ascend_parts test low n ns h).0
-ascend-least test low (n ∷ ns) (suc i) h lt =
-    let parts = ascend_parts test low n ns h in
-    let rest = ascend-least test (n + 1) ns i parts.2 (omega arith) in
+are_ascending-least : (test : ℕ → Bool) (low : ℕ) (ns : List ℕ) (i : ℕ) → are_ascending test low ns ≡ true → i < length ns → low ≤ get_or ns i 0
+are_ascending-least test low [] i h lt = absurd (omega arith)
+are_ascending-least test low (n ∷ ns) zero h lt = (are_ascending-parts test low n ns h).0
+are_ascending-least test low (n ∷ ns) (suc i) h lt =
+    let parts = are_ascending-parts test low n ns h in
+    let rest = are_ascending-least test (n + 1) ns i parts.2 (omega arith) in
     omega (arith, parts.0)
 
 -- each of the numbers passes the test
-pub ascend-each : (test : ℕ → Bool) (low : ℕ) (ns : List ℕ) (i : ℕ) → ascend test low ns ≡ true → i < length ns → test (get_or ns i 0) ≡ true
-ascend-each test low [] i h lt = absurd (omega arith)
-ascend-each test low (n ∷ ns) zero h lt = (ascend_parts test low n ns h).1
-ascend-each test low (n ∷ ns) (suc i) h lt = ascend-each test (n + 1) ns i (ascend_parts test low n ns h).2 (omega arith)
+pub are_ascending-each : (test : ℕ → Bool) (low : ℕ) (ns : List ℕ) (i : ℕ) → are_ascending test low ns ≡ true → i < length ns → test (get_or ns i 0) ≡ true
+are_ascending-each test low [] i h lt = absurd (omega arith)
+are_ascending-each test low (n ∷ ns) zero h lt = (are_ascending-parts test low n ns h).1
+are_ascending-each test low (n ∷ ns) (suc i) h lt = are_ascending-each test (n + 1) ns i (are_ascending-parts test low n ns h).2 (omega arith)
 
 IsBelow-entry : (k n : ℕ) (v : Option (List ℕ)) (es : Values) → n < k → IsBelow k es → IsBelow k (entry n v ++ es)
 IsBelow-entry k n (Some v) es lt below = (lt, below)
 IsBelow-entry k n None es lt below = below
 
 -- the elements of the numbers in front are below the next number
-pub IsBelow-front : (test : ℕ → Bool) (value : ℕ → Option (List ℕ)) (low : ℕ) (ns : List ℕ) (i : ℕ) → ascend test low ns ≡ true → i < length ns → IsBelow (get_or ns i 0) (elements_with_value value (take i ns))
+pub IsBelow-front : (test : ℕ → Bool) (value : ℕ → Option (List ℕ)) (low : ℕ) (ns : List ℕ) (i : ℕ) → are_ascending test low ns ≡ true → i < length ns → IsBelow (get_or ns i 0) (elements_with_value value (take i ns))
 IsBelow-front test value low [] i h lt = absurd (omega arith)
 IsBelow-front test value low (n ∷ ns) zero h lt = tt
 IsBelow-front test value low (n ∷ ns) (suc i) h lt =
-    let parts = ascend_parts test low n ns h in
-    let next = ascend-least test (n + 1) ns i parts.2 (omega arith) in
+    let parts = are_ascending-parts test low n ns h in
+    let next = are_ascending-least test (n + 1) ns i parts.2 (omega arith) in
     IsBelow-entry (get_or ns i 0) n (value n) (elements_with_value value (take i ns)) (omega (arith, next)) (IsBelow-front test value (n + 1) ns i parts.2 (omega arith))
 
 elements_with_value-push : (value : ℕ → Option (List ℕ)) (ns : List ℕ) (n : ℕ) → elements_with_value value (ns ++ n ∷ []) ≡ elements_with_value value ns ++ entry n (value n)

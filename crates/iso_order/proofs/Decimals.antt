@@ -6,9 +6,9 @@ use Rattle.std.proofs.Math.Nat.{pow-le-pow_right}
 use Rattle.std.specs.List.{list_all}
 use Rattle.std.proofs.lemmas.Bool.{and_parts, and_from, cases_lt}
 use Rattle.std.proofs.lemmas.Bool.Decides.{nat_tests}
-use Rattle.iso_wire.specs.Decimal.{decimal}
-use Rattle.iso_order.specs.Request.{shortest, acquirer_code}
-use Rattle.iso_order.specs.Text.{is_digit, are_digits, number_after, number}
+use Rattle.iso_wire.specs.Decimal.{decimal, are_digits, number_after, number}
+use Rattle.iso_order.specs.Requests.{shortest, acquirer_code}
+use Rattle.iso_parts.specs.Class.{is_digit}
 use Rattle.iso_order.proofs.Numbers.{number_after-push, power-up}
 use Rattle.iso_order.proofs.Rows.{list_all-decimal, length-decimal}
 

@@ -4,8 +4,9 @@ use Rattle.std.specs.Prelude.{Some, None, nat_le, ◌^◌, if◌then◌else◌}
 use Rattle.std.specs.List.{list_all}
 use Rattle.std.proofs.lemmas.Bool.{and_parts, leb-true}
 use Rattle.std.proofs.lemmas.Bool.Decides.{nat_tests}
-use Rattle.iso_order.specs.AccountNumber.{is_pan}
-use Rattle.iso_order.specs.Text.{is_digit, are_digits, number, number_in}
+use Rattle.iso_order.specs.Pan.{is_pan}
+use Rattle.iso_wire.specs.Decimal.{are_digits, number, number_in}
+use Rattle.iso_parts.specs.Class.{is_digit}
 
 pub list_all-take : {X : Type 0} (p : X → Bool) (n : ℕ) (xs : List X) → list_all p xs ≡ true → list_all p (take n xs) ≡ true
 list_all-take p zero xs all = refl

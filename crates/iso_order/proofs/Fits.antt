@@ -16,16 +16,18 @@ use Rattle.iso_wire.specs.Decimal.{decimal}
 use Rattle.iso_wire.specs.Elements.{value_in}
 use Rattle.iso_wire.specs.Refusal.{refused_field, refused_by, refused, message_refusal}
 use Rattle.iso_wire.specs.Spelling.{PartAs, Parts}
-use Rattle.iso_order.specs.Fields.{text, asks}
+use Rattle.iso_order.specs.Fields.{text}
+use Rattle.iso_parts.specs.Mti.{is_answered}
 use Rattle.iso_order.specs.Fitting.{IsServed, ResponsesFit}
-use Rattle.iso_order.specs.Listing.{entry, elements_with_value}
+use Rattle.iso_order.specs.Listing.{entry}
+use Rattle.iso_order.specs.Adding.{elements_with_value}
 use Rattle.iso_order.specs.Order.{is_letter_or_digit}
 use Rattle.iso_order.specs.Outcome.{Outcome}
-use Rattle.iso_order.specs.Response.{response_mti, is_echoed, is_approved, approval, sign, additional, balance, element, asks_balance, is_showable}
+use Rattle.iso_order.specs.Response.{response_mti, is_echoed, is_approved, approval, sign, additional, balance, element, is_balance_inquiry, is_showable}
 use Rattle.iso_order.specs.Verdict.{verdict}
 use Rattle.iso_order.proofs.Ascending.{response-listed}
 use Rattle.iso_order.proofs.Rows.{list_all-decimal, length-decimal, list_all-more, digit_code, digits_fit, amount_fits, row_taken}
-use Rattle.iso_order.proofs.Shown.{asks_balance-currency, shown-currency}
+use Rattle.iso_order.proofs.Shown.{balance_inquiry-currency, shown-currency}
 
 -- the table doesn't refuse the value as element n
 abbrev pub IsTaken : List (Option FieldSpec) → ℕ → List ℕ → Type 0
@@ -37,7 +39,7 @@ Values = List (ℕ × List ℕ)
 -- ---- the type
 
 -- a function of 0 or 2 has no carry
-pub version_kept : (mti : ℕ) → asks (mti / 10 % 10) ≡ true → response_mti mti / 1000 ≡ mti / 1000
+pub version_kept : (mti : ℕ) → is_answered (mti / 10 % 10) ≡ true → response_mti mti / 1000 ≡ mti / 1000
 version_kept mti h =
     let small : mti / 10 % 10 ≤ 2 = grind (arith, nat_tests) in
     omega arith
@@ -99,8 +101,8 @@ balance_by m (Some z) P shown each = each z shown
 
 shown_codes : (m : Contents) (z : ℤ) → is_showable m (Some z) ≡ true → list_all is_letter_or_digit (text m 49) ≡ true
 shown_codes m z shown =
-    let asked = (and_parts (nat_le (unsigned_abs z) 999999999999) (asks_balance (verdict m)) shown).1 in
-    (and_parts (length (text m 49) == 3) (list_all is_letter_or_digit (text m 49)) (asks_balance-currency m asked)).1
+    let asked = (and_parts (nat_le (unsigned_abs z) 999999999999) (is_balance_inquiry (verdict m)) shown).1 in
+    (and_parts (length (text m 49) == 3) (list_all is_letter_or_digit (text m 49)) (balance_inquiry-currency m asked)).1
 
 balance_taken : PartLaws → (t : Layout) (m : Contents) (a : Outcome) → IsHostReady t → is_showable m a.shown ≡ true → IfSome (balance m a) (IsTaken t.rows 54)
 balance_taken laws t m a ready shown =

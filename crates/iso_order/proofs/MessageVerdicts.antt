@@ -9,17 +9,18 @@ use Rattle.iso_order.specs.declared.act.Money.{Money}
 use Rattle.iso_order.specs.declared.key.TxKey.{TxKey}
 use Rattle.iso_order.specs.declared.verdict.Verdict.{Verdict}
 use Rattle.iso_order.specs.declared.verdict.Verdict.TheVariants.{Order}
-use Rattle.iso_order.specs.Fields.{version, class, function, origin, asks, text, has_key, key_of, message_money, original_mti, is_original, is_own, original_of, completes, hold_of, is_replacement, left_of, kind}
+use Rattle.iso_order.specs.Fields.{version, class, function, origin, text, has_key, key_of, message_money, original_mti, is_original, is_own, original_of, is_completion, hold_of, is_replacement, left_of, kind}
+use Rattle.iso_parts.specs.Mti.{is_answered}
 use Rattle.iso_order.specs.Order.{is_currency}
-use Rattle.iso_order.specs.Text.{are_digits, number}
+use Rattle.iso_wire.specs.Decimal.{are_digits, number}
 use Rattle.iso_order.specs.Verdict.{first_of, network_lines, key_lines, reversal_lines, completion_lines, account_lines, act_lines, amount_lines, credit_verdict, order_verdict, debited_by, verdict}
-use Rattle.iso_order.proofs.Table.{is_answered, not_network, with_key, not_reversal, is_replaced, with_original, with_account}
+use Rattle.iso_order.proofs.Table.{past_answered, not_network, with_key, not_reversal, is_replaced, with_original, with_account}
 
 -- ---- messages of a key
 
 -- the message is under the key, and asks
 pub record Keyed (m : Contents) (k : TxKey) : Type 0 where
-  pub answered : (version m == 0 && asks (function m)) ≡ true
+  pub answered : (version m == 0 && is_answered (function m)) ≡ true
   pub origin : nat_lt 5 (origin m) ≡ false
   pub named : has_key m ≡ true
   pub key : key_of m ≡ k
@@ -30,7 +31,7 @@ keyed-verdict : (m : Contents) (k : TxKey) → Keyed m k → (class m == 8) ≡ 
 unfolding verdict
 keyed-verdict m k keyed other served =
     let rest = reversal_lines m ++ completion_lines m ++ account_lines m ++ act_lines m ++ amount_lines m in
-    is_answered m (network_lines m ++ key_lines m ++ rest) (credit_verdict m) keyed.answered keyed.origin
+    past_answered m (network_lines m ++ key_lines m ++ rest) (credit_verdict m) keyed.answered keyed.origin
     ∙ not_network m (key_lines m ++ rest) (credit_verdict m) other
     ∙ with_key m rest (credit_verdict m) served keyed.named
 
@@ -85,7 +86,7 @@ pub debit-verdict : (m : Contents) (k : TxKey) (money : Money) (hold : Option Tx
 debit-verdict m k money hold p moving named =
     paying-verdict m k money 0 p ∙ rw (p.of_kind, moving.digits, moving.amount, moving.some, named, p.told, p.keyed.key) refl
 
-pub credit-verdict : (m : Contents) (k : TxKey) (money : Money) → Paying m k money 20 → Moving m money → (class m == 1) ≡ false → completes m ≡ false → verdict m ≡ Order (record { key = k; act = Credit money })
+pub credit-verdict : (m : Contents) (k : TxKey) (money : Money) → Paying m k money 20 → Moving m money → (class m == 1) ≡ false → is_completion m ≡ false → verdict m ≡ Order (record { key = k; act = Credit money })
 credit-verdict m k money p moving two plain =
     paying-verdict m k money 20 p ∙ rw (p.of_kind, two, plain, moving.digits, moving.amount, moving.some, p.told, p.keyed.key) refl
 

@@ -1,43 +1,11 @@
 -- The numbers that digits write.
-use Rattle.std.proofs.Common.{◌≡◌, ℕ, zero, suc, ◌+◌, ◌-◌, ◌*◌, ◌^◌, ◌<◌, ◌≤◌, true, List, [], ◌∷◌, ◌++◌, length, get_or, take, refl, ap, ◌∙◌, arith, add-one}
+use Rattle.std.proofs.Common.{◌≡◌, ℕ, ◌+◌, ◌-◌, ◌*◌, ◌^◌, ◌<◌, ◌≤◌, List, [], ◌∷◌, ◌++◌, refl, arith}
 use Rattle.std.proofs.Math.Nat.{pow-le-pow_right}
-use Rattle.std.proofs.Math.Seq.{take-suc}
-use native.Mathlib.Numerals.{unary_clauses}
-use Rattle.std.specs.List.{list_all}
-use Rattle.std.proofs.lemmas.Bool.{and_parts}
-use Rattle.std.proofs.lemmas.Bool.Decides.{nat_tests}
-use Rattle.iso_order.specs.Text.{is_digit, number_after, number}
+use Rattle.iso_wire.specs.Decimal.{number_after}
 
 pub number_after-push : (n : ℕ) (ds : List ℕ) (d : ℕ) → number_after n (ds ++ d ∷ []) ≡ 10 * number_after n ds + (d - 48)
 number_after-push n [] d = refl
 number_after-push n (c ∷ cs) d = number_after-push (10 * n + (c - 48)) cs d
-
--- one digit more
-pub number-more : (ds : List ℕ) (i : ℕ) → i < length ds → number (take (i + 1) ds) ≡ 10 * number (take i ds) + (get_or ds i 0 - 48)
-number-more ds i lt =
-    rw add-one (ap number (take-suc ds i 0 lt) ∙ number_after-push 0 (take i ds) (get_or ds i 0))
-
--- every place of digits has one
-pub digit_at : (ds : List ℕ) (i : ℕ) → list_all is_digit ds ≡ true → i < length ds → (48 ≤ get_or ds i 0) × (get_or ds i 0 ≤ 57)
-digit_at [] i all lt = absurd (omega arith)
-digit_at (d ∷ ds) zero all lt = let first = and_parts (is_digit d) (list_all is_digit ds) all in grind (arith, nat_tests)
-digit_at (d ∷ ds) (suc i) all lt = digit_at ds i (and_parts (is_digit d) (list_all is_digit ds) all).1 (omega arith)
-
--- one digit more is below the next power of ten
-pub power-more : (n i d : ℕ) → n < 10 ^ i → d ≤ 9 → 10 * n + d < 10 ^ (i + 1)
-power-more n i d lt le =
-    let next : 10 ^ (i + 1) ≡ 10 ^ i * 10 = simp unary_clauses refl in
-    omega arith
-
--- nineteen digits fit 64 bits
-pub power-fits : (n i k : ℕ) → n < 10 ^ i → i < k → k ≤ 19 → 10 * n + 9 < 2 ^ 64
-power-fits n i k lt less le =
-    let ten : 0 < 10 = omega arith in
-    let within : i + 1 ≤ 19 = omega arith in
-    let most : 10 ^ (i + 1) ≤ 10 ^ 19 = pow-le-pow_right ten {i = i + 1} {j = 19} within in
-    let more_of = power-more n i 9 lt (omega arith) in
-    let whole : 10 ^ 19 < 2 ^ 64 = omega arith in
-    omega arith
 
 -- fewer digits than there may be
 pub power-up : (n i k : ℕ) → n < 10 ^ i → i ≤ k → n < 10 ^ k

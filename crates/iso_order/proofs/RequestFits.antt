@@ -24,11 +24,11 @@ use Rattle.iso_order.specs.declared.act.Act.{Act}
 use Rattle.iso_order.specs.declared.act.Act.TheVariants.{Debit, Credit, Inquiry, Undo, Complete}
 use Rattle.iso_order.specs.declared.act.Money.{Money}
 use Rattle.iso_order.specs.declared.key.TxKey.{TxKey}
-use Rattle.iso_order.specs.AccountNumber.{AccountNumber, is_pan}
+use Rattle.iso_order.specs.Pan.{AccountNumber, is_pan}
 use Rattle.iso_order.specs.Key.{class_digit, function_digit}
-use Rattle.iso_order.specs.Listing.{elements_with_value}
-use Rattle.iso_order.specs.Order.{Instruction, is_letter_or_digit, is_currency, is_account, has_amount, is_payment, is_hold_for, is_valid_act}
-use Rattle.iso_order.specs.Request.{RequestsFit, RequestsAreWellFormed, money_in, processing_code, moved_amount, named_by, partial_left, account_number, acquirer_code, original_data, replacement_amounts, no_fee, request_value, request}
+use Rattle.iso_order.specs.Adding.{elements_with_value}
+use Rattle.iso_order.specs.Order.{Instruction, is_letter_or_digit, is_currency, is_account, has_amount, is_payment, is_hold_for, is_valid_act, money_of}
+use Rattle.iso_order.specs.Requests.{RequestsFit, RequestsAreWellFormed, processing_code, moved_amount, named_by, partial_left, account_number, acquirer_code, original_data, replacement_amounts, no_fee, request_value, request}
 use Rattle.iso_order.proofs.Decimals.{are_digits-acquirer}
 use Rattle.iso_order.proofs.Digits.{are_digits-most}
 use Rattle.iso_order.proofs.Fits.{IsTaken, refused-at}
@@ -44,7 +44,7 @@ request-listed o = refl
 
 -- ---- the money of a valid order
 
-pub money-account : (key : TxKey) (act : Act) → is_valid_act key act ≡ true → IfSome (money_in act) (λ m. is_account m ≡ true)
+pub money-account : (key : TxKey) (act : Act) → is_valid_act key act ≡ true → IfSome (money_of act) (λ m. is_account m ≡ true)
 money-account key (Debit m) h = moved-account m (and_parts (is_payment key) (has_amount m) h).1
 money-account key (Credit m) h = moved-account m (and_parts (class_digit key == 2) (has_amount m) h).1
 money-account key (Inquiry m) h = (and_parts (is_payment key && function_digit key == 0 && m.amount == 0) (is_account m) h).1
@@ -151,17 +151,17 @@ module _ (laws : PartLaws) (d : Digits) (t : Layout) (edition : IsEdition87 d t)
   number-taken : (n size v : ℕ) → row87 d n ≡ Some (spec_of d n (line n n classes.N kinds.Fixed size none)) → IsTaken t.rows n (decimal size v)
   number-taken n size v row = fixed-taken n size (decimal size v) row (length-decimal size v) (list_all-decimal size v)
 
-  each-taken : (key : TxKey) (act : Act) → IfSome (money_in act) (λ m. is_account m ≡ true) → Each key act (IsTaken t.rows)
+  each-taken : (key : TxKey) (act : Act) → IfSome (money_of act) (λ m. is_account m ≡ true) → Each key act (IsTaken t.rows)
   each-taken key act good =
       record {
-        account = some-money account_number (money_in act) (IsTaken t.rows 2) good
+        account = some-money account_number (money_of act) (IsTaken t.rows 2) good
             (λ m account. counted-taken 2 19 (account_number m) refl (omega (arith, length-decimal m.pan.len m.pan.digits, few_digits m.pan (account-facts m account).0)) (list_all-decimal m.pan.len m.pan.digits));
         code = some-map (decimal 6) (processing_code act) (IsTaken t.rows 3) (λ v. number-taken 3 6 v refl);
         amount = some-map (decimal 12) (moved_amount act) (IsTaken t.rows 4) (λ v. number-taken 4 12 v refl);
         sent = number-taken 7 10 key.sent refl;
         stan = number-taken 11 6 key.stan refl;
         acquirer = counted-taken 32 11 (acquirer_code key.acquirer) refl (are_digits-most 1 11 (acquirer_code key.acquirer) (are_digits-acquirer key.acquirer)) (acquirer-all key.acquirer);
-        currency = some-money (λ (m : Money). m.currency) (money_in act) (IsTaken t.rows 49) good (λ m account. let facts = account-facts m account in code-taken 49 3 m.currency refl facts.1 facts.2);
+        currency = some-money (λ (m : Money). m.currency) (money_of act) (IsTaken t.rows 49) good (λ m account. let facts = account-facts m account in code-taken 49 3 m.currency refl facts.1 facts.2);
         original = some-map original_data (named_by act) (IsTaken t.rows 90) (λ k. fixed-taken 90 42 (original_data k) refl refl (original-digits k));
         replacement = some-map replacement_amounts (partial_left act) (IsTaken t.rows 95) (λ left. code-taken 95 42 (replacement_amounts left) refl refl (replacement-codes left));
       }
@@ -191,16 +191,16 @@ bytes-codes (b ∷ v) all = let both = and_parts (is_letter_or_digit b) (list_al
 bytes-digits : (v : List ℕ) → list_all is_digit v ≡ true → AreBytes v
 bytes-digits v all = bytes-codes v (list_all-more is_digit is_letter_or_digit digit_code v all)
 
-each-bytes : (key : TxKey) (act : Act) → IfSome (money_in act) (λ m. is_account m ≡ true) → Each key act (λ n v. AreBytes v)
+each-bytes : (key : TxKey) (act : Act) → IfSome (money_of act) (λ m. is_account m ≡ true) → Each key act (λ n v. AreBytes v)
 each-bytes key act good =
     record {
-      account = some-map account_number (money_in act) AreBytes (λ m. bytes-decimal m.pan.len m.pan.digits);
+      account = some-map account_number (money_of act) AreBytes (λ m. bytes-decimal m.pan.len m.pan.digits);
       code = some-map (decimal 6) (processing_code act) AreBytes (λ v. bytes-decimal 6 v);
       amount = some-map (decimal 12) (moved_amount act) AreBytes (λ v. bytes-decimal 12 v);
       sent = bytes-decimal 10 key.sent;
       stan = bytes-decimal 6 key.stan;
       acquirer = bytes-digits (acquirer_code key.acquirer) (acquirer-all key.acquirer);
-      currency = some-money (λ (m : Money). m.currency) (money_in act) AreBytes good (λ m account. bytes-codes m.currency (account-facts m account).2);
+      currency = some-money (λ (m : Money). m.currency) (money_of act) AreBytes good (λ m account. bytes-codes m.currency (account-facts m account).2);
       original = some-map original_data (named_by act) AreBytes (λ k. bytes-digits (original_data k) (original-digits k));
       replacement = some-map replacement_amounts (partial_left act) AreBytes (λ left. bytes-codes (replacement_amounts left) (replacement-codes left));
     }

@@ -6,7 +6,7 @@ use Rattle.std.proofs.lemmas.Bool.{and_parts, and_from, eqb-true, leb-true}
 use Rattle.std.proofs.lemmas.Bool.Decides.{nat_tests}
 use Rattle.std.proofs.lemmas.List.Folds.{list_all-append}
 use Rattle.iso_wire.specs.Contents.{Contents}
-use Rattle.iso_wire.specs.Decimal.{decimal}
+use Rattle.iso_wire.specs.Decimal.{decimal, are_digits, number}
 use Rattle.iso_wire.specs.Elements.{has, value_in}
 use Rattle.iso_order.specs.declared.act.Act.{Act}
 use Rattle.iso_order.specs.declared.act.Act.TheVariants.{Debit, Credit, Inquiry, Undo, Complete}
@@ -14,12 +14,13 @@ use Rattle.iso_order.specs.declared.act.Money.{Money}
 use Rattle.iso_order.specs.declared.key.TxKey.{TxKey}
 use Rattle.iso_order.specs.declared.verdict.Verdict.{Verdict}
 use Rattle.iso_order.specs.declared.verdict.Verdict.TheVariants.{Order}
-use Rattle.iso_order.specs.AccountNumber.{AccountNumber, is_pan}
-use Rattle.iso_order.specs.Fields.{class, function, asks, base_of, text, part, original_mti, is_original, is_own, original_of, completes, is_hold, hold_of, is_replacement, left_of}
+use Rattle.iso_order.specs.Pan.{AccountNumber, is_pan}
+use Rattle.iso_order.specs.Fields.{class, function, base_of, text, part, original_mti, is_original, is_own, original_of, is_completion, is_hold, hold_of, is_replacement, left_of}
+use Rattle.iso_parts.specs.Mti.{is_answered}
 use Rattle.iso_order.specs.Key.{class_digit, function_digit, is_valid_key}
-use Rattle.iso_order.specs.Order.{is_currency, is_account, has_amount, is_payment, is_hold_for, is_valid_act}
-use Rattle.iso_order.specs.Request.{RequestsAsk, money_in, processing_code, moved_amount, named_by, account_number, acquirer_code, original_data, replacement_amounts, request_value, request}
-use Rattle.iso_order.specs.Text.{is_digit, are_digits, number}
+use Rattle.iso_order.specs.Order.{is_currency, is_account, has_amount, is_payment, is_hold_for, is_valid_act, money_of}
+use Rattle.iso_order.specs.Requests.{RequestsAsk, processing_code, moved_amount, named_by, account_number, acquirer_code, original_data, replacement_amounts, request_value, request}
+use Rattle.iso_parts.specs.Class.{is_digit}
 use Rattle.iso_order.specs.Verdict.{first_of, completion_lines, verdict}
 use Rattle.iso_order.proofs.Ascending.{value_in-from}
 use Rattle.iso_order.proofs.Decimals.{number-decimal, are_digits-decimal, digits-by, are_digits-acquirer, number-acquirer}
@@ -84,7 +85,7 @@ module _ (key : TxKey) (act : Act) (valid : is_valid_key key ≡ true) where
       let origin_small : nat_lt 5 (key.base % 10) ≡ false = let low = facts.origin in grind (arith, nat_tests) in
       let version_zero : (key.base / 1000 == 0) ≡ true = eq-eqb (key.base / 1000) 0 facts.version in
       record {
-        answered = ap (λ (n : ℕ). n / 1000 == 0 && asks (n / 10 % 10)) mti-is ∙ and_from _ _ version_zero facts.asking;
+        answered = ap (λ (n : ℕ). n / 1000 == 0 && is_answered (n / 10 % 10)) mti-is ∙ and_from _ _ version_zero facts.asking;
         origin = ap (λ (n : ℕ). nat_lt 5 (n % 10)) mti-is ∙ origin_small;
         named =
             and_from _ _ (and_from _ _ (ap (are_digits 10 10) sent-text ∙ are_digits-decimal 10 key.sent) (ap (are_digits 6 6) stan-text ∙ are_digits-decimal 6 key.stan))
@@ -97,7 +98,7 @@ module _ (key : TxKey) (act : Act) (valid : is_valid_key key ≡ true) where
   pan-parts : (p : AccountNumber) → is_pan p ≡ true → (1 ≤ p.len) × (p.len ≤ 19) × (p.digits < 10 ^ p.len)
   pan-parts p h = (grind (arith, nat_tests), grind (arith, nat_tests), grind (arith, nat_tests))
 
-  paying : (money : Money) (code digits : ℕ) → money_in act ≡ Some money → processing_code act ≡ Some digits → part 0 2 (decimal 6 digits) ≡ code → is_account money ≡ true → is_payment key ≡ true
+  paying : (money : Money) (code digits : ℕ) → money_of act ≡ Some money → processing_code act ≡ Some digits → part 0 2 (decimal 6 digits) ≡ code → is_account money ≡ true → is_payment key ≡ true
       → ((lines : List (Bool × Verdict)) (last : Verdict) → first_of (completion_lines m ++ lines) last ≡ first_of lines last) → Paying m key money code
   paying money code digits has_money has_code kind-is account payment completing =
       let account-text : text m 2 ≡ account_number money = text-is 2 (omega arith) (omega arith) ∙ ap (λ (o : Option Money). unwrap_or (option_map account_number o) []) has_money in
@@ -137,7 +138,7 @@ module _ (key : TxKey) (act : Act) (valid : is_valid_key key ≡ true) where
   naming : has m.elements 90 ≡ is_some (option_map original_data (named_by act))
   naming = ap (λ (v : Option (List ℕ)). is_some v) (value-is 90 (omega arith) (omega arith))
 
-  not_naming : named_by act ≡ None → completes m ≡ false
+  not_naming : named_by act ≡ None → is_completion m ≡ false
   not_naming none = off (class m == 2 && function m == 2) (has m.elements 90) (naming ∙ ap (λ (o : Option TxKey). is_some (option_map original_data o)) none)
     where
       off : (p q : Bool) → q ≡ false → (p && q) ≡ false
@@ -185,7 +186,7 @@ module _ (key : TxKey) (act : Act) (valid : is_valid_key key ≡ true) where
         ap is_hold named-mti
         ∙ and_from _ _ (and_from _ _ (and_from _ _ (eq-eqb (k.base / 1000) 0 named-facts.version) one) named-facts.asking) (le-leb (k.base % 10) 5 named-facts.origin)
 
-    is_naming : class_digit key ≡ 2 → function_digit key ≡ 2 → completes m ≡ true
+    is_naming : class_digit key ≡ 2 → function_digit key ≡ 2 → is_completion m ≡ true
     is_naming two advice =
         and_from _ _ (and_from _ _ (eq-eqb (class m) 2 (class-is ∙ two)) (eq-eqb (function m) 2 (function-is ∙ advice)))
         (naming ∙ ap (λ (o : Option TxKey). is_some (option_map original_data o)) named)

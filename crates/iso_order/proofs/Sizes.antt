@@ -24,7 +24,8 @@ use Rattle.iso_wire.specs.Refusal.{refused_field, refused_by}
 use Rattle.iso_wire.specs.Spelling.{mti_bytes, plain_by, plain_of}
 use Rattle.iso_order.specs.Fields.{text}
 use Rattle.iso_order.specs.Fitting.{ResponsesAreShort}
-use Rattle.iso_order.specs.Listing.{entry, elements_with_value}
+use Rattle.iso_order.specs.Listing.{entry}
+use Rattle.iso_order.specs.Adding.{elements_with_value}
 use Rattle.iso_order.specs.Outcome.{Outcome}
 use Rattle.iso_order.specs.Response.{element, response, is_showable}
 use Rattle.iso_order.proofs.Ascending.{response-listed}

@@ -5,11 +5,11 @@ use Rattle.iso_wire.specs.Contents.{Contents}
 use Rattle.iso_order.specs.declared.act.Act.TheVariants.{Undo}
 use Rattle.iso_order.specs.declared.verdict.Verdict.{Verdict}
 use Rattle.iso_order.specs.declared.verdict.Verdict.TheVariants.{Reply}
-use Rattle.iso_order.specs.Fields.{version, class, function, origin, asks, text, has_key, original_mti, original_of, is_original, is_own, completes, is_hold, is_replacement, left_of}
+use Rattle.iso_order.specs.Fields.{version, class, function, origin, text, has_key, original_mti, original_of, is_original, is_own, is_completion, is_hold, is_replacement, left_of}
+use Rattle.iso_parts.specs.Mti.{is_answered}
 use Rattle.iso_order.specs.Order.{is_currency}
-use Rattle.iso_order.specs.AccountNumber.{AccountNumber}
-use Rattle.iso_order.specs.Pan.{pan_of}
-use Rattle.iso_order.specs.Text.{are_digits, number}
+use Rattle.iso_order.specs.Pan.{AccountNumber, pan_of}
+use Rattle.iso_wire.specs.Decimal.{are_digits, number}
 use Rattle.std.proofs.lemmas.Bool.Decides.{nat_tests}
 use Rattle.iso_order.specs.Verdict.{first_of, answered_lines, network_lines, key_lines, reversal_lines, original_lines, completion_lines, account_lines, order_verdict}
 
@@ -29,8 +29,8 @@ module _ (m : Contents) (lines : List (Bool × Verdict)) (last : Verdict) where
   pub not_served : (class m == 1 || class m == 2 || class m == 4) ≡ false → first_of (key_lines m ++ lines) last ≡ Reply 12
   not_served h = rw h refl
 
-  pub is_answered : (version m == 0 && asks (function m)) ≡ true → nat_lt 5 (origin m) ≡ false → first_of (answered_lines m ++ lines) last ≡ first_of lines last
-  is_answered h k = rw (h, k) refl
+  pub past_answered : (version m == 0 && is_answered (function m)) ≡ true → nat_lt 5 (origin m) ≡ false → first_of (answered_lines m ++ lines) last ≡ first_of lines last
+  past_answered h k = rw (h, k) refl
 
   pub with_account : are_digits 1 19 (text m 2) ≡ true → are_digits 6 6 (text m 3) ≡ true → is_currency (text m 49) ≡ true → first_of (account_lines m ++ lines) last ≡ first_of lines last
   with_account a p c = rw (a, p, c) refl
@@ -47,19 +47,19 @@ module _ (m : Contents) (lines : List (Bool × Verdict)) (last : Verdict) where
   pub with_original : (class m == 4) ≡ true → are_digits 42 42 (text m 90) ≡ true → is_original (original_mti m) ≡ true → is_own m ≡ true → first_of (original_lines m ++ lines) last ≡ order_verdict m (Undo (original_of m) (left_of m))
   with_original h d o a = rw (h, d, o, a) refl
 
-  pub not_completing : completes m ≡ false → first_of (completion_lines m ++ lines) last ≡ first_of lines last
+  pub not_completing : is_completion m ≡ false → first_of (completion_lines m ++ lines) last ≡ first_of lines last
   not_completing h = rw h refl
 
-  pub no_hold : completes m ≡ true → are_digits 42 42 (text m 90) ≡ false → first_of (completion_lines m ++ lines) last ≡ Reply 30
+  pub no_hold : is_completion m ≡ true → are_digits 42 42 (text m 90) ≡ false → first_of (completion_lines m ++ lines) last ≡ Reply 30
   no_hold h d = rw (h, d) refl
 
-  pub hold_of_another_type : completes m ≡ true → are_digits 42 42 (text m 90) ≡ true → is_hold (original_mti m) ≡ false → first_of (completion_lines m ++ lines) last ≡ Reply 12
+  pub hold_of_another_type : is_completion m ≡ true → are_digits 42 42 (text m 90) ≡ true → is_hold (original_mti m) ≡ false → first_of (completion_lines m ++ lines) last ≡ Reply 12
   hold_of_another_type h d o = rw (h, d, o) refl
 
-  pub hold_of_another_acquirer : completes m ≡ true → are_digits 42 42 (text m 90) ≡ true → is_hold (original_mti m) ≡ true → is_own m ≡ false → first_of (completion_lines m ++ lines) last ≡ Reply 12
+  pub hold_of_another_acquirer : is_completion m ≡ true → are_digits 42 42 (text m 90) ≡ true → is_hold (original_mti m) ≡ true → is_own m ≡ false → first_of (completion_lines m ++ lines) last ≡ Reply 12
   hold_of_another_acquirer h d o a = rw (h, d, o, a) refl
 
-  pub with_hold : completes m ≡ true → are_digits 42 42 (text m 90) ≡ true → is_hold (original_mti m) ≡ true → is_own m ≡ true → first_of (completion_lines m ++ lines) last ≡ first_of lines last
+  pub with_hold : is_completion m ≡ true → are_digits 42 42 (text m 90) ≡ true → is_hold (original_mti m) ≡ true → is_own m ≡ true → first_of (completion_lines m ++ lines) last ≡ first_of lines last
   with_hold h d o a = rw (h, d, o, a) refl
 
   pub is_replaced : is_replacement m ≡ true → first_of (reversal_lines m ++ lines) last ≡ first_of (original_lines m ++ lines) last

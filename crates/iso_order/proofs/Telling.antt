@@ -4,15 +4,15 @@ use Rattle.std.specs.Prelude.{◌==◌, ◌||◌, nat_le, nat_lt, not, unwrap_or
 use Rattle.std.proofs.lemmas.Bool.{and_parts, and_from, eqb-true, leb-true}
 use Rattle.std.proofs.lemmas.Bool.Decides.{nat_tests}
 use Rattle.iso_wire.specs.Contents.{Contents}
-use Rattle.iso_wire.specs.Decimal.{decimal}
+use Rattle.iso_wire.specs.Decimal.{decimal, are_digits, number}
 use Rattle.iso_order.specs.declared.key.TxKey.{TxKey}
 use Rattle.iso_order.specs.declared.verdict.Verdict.{Verdict}
 use Rattle.iso_order.specs.declared.verdict.Verdict.TheVariants.{Order, Reply, Silent}
-use Rattle.iso_order.specs.Fields.{version, class, function, origin, asks, base_of, text, has_key, key_of}
+use Rattle.iso_order.specs.Fields.{version, class, function, origin, base_of, text, has_key, key_of}
+use Rattle.iso_parts.specs.Mti.{is_answered}
 use Rattle.iso_order.specs.Key.{is_valid_key}
 use Rattle.iso_order.specs.Outcome.{Outcome}
 use Rattle.iso_order.specs.Response.{response, response_mti, element}
-use Rattle.iso_order.specs.Text.{are_digits, number}
 use Rattle.iso_order.specs.Told.{ResponsesTell, told_of, is_answer, answered_base, answered_key}
 use Rattle.iso_order.specs.Verdict.{first_of, answered_lines, network_lines, key_lines, reversal_lines, completion_lines, account_lines, act_lines, amount_lines, credit_verdict, verdict, IfOrder}
 use Rattle.iso_order.proofs.Ascending.{response-each}
@@ -39,7 +39,7 @@ passed : (line : Bool × Verdict) (lines : Lines) (last : Verdict) → is_order 
 passed line lines last none h = passed_by line.0 line.1 (first_of lines last) h none
 
 record Ordered (m : Contents) : Type 0 where
-  answered : (version m == 0 && asks (function m)) ≡ true
+  answered : (version m == 0 && is_answered (function m)) ≡ true
   origin : nat_lt 5 (origin m) ≡ false
   served : (class m == 1 || class m == 2 || class m == 4) ≡ true
   keyed : has_key m ≡ true
@@ -50,14 +50,14 @@ unfolding verdict
 ordered m h =
     let rest = reversal_lines m ++ completion_lines m ++ account_lines m ++ act_lines m ++ amount_lines m in
     let last = credit_verdict m in
-    let first = passed (not (version m == 0 && asks (function m)), Silent) ((nat_lt 5 (origin m), Reply 12) ∷ (network_lines m ++ key_lines m ++ rest)) last refl h in
+    let first = passed (not (version m == 0 && is_answered (function m)), Silent) ((nat_lt 5 (origin m), Reply 12) ∷ (network_lines m ++ key_lines m ++ rest)) last refl h in
     let second = passed (nat_lt 5 (origin m), Reply 12) (network_lines m ++ key_lines m ++ rest) last refl first.1 in
     let third = passed (class m == 8 && not (are_digits 3 3 (text m 70)), Reply 30) ((class m == 8 && (number (text m 70) == 1 || number (text m 70) == 2 || number (text m 70) == 301), Reply 0) ∷ (key_lines m ++ rest)) last refl second.1 in
     let fourth = passed (class m == 8 && (number (text m 70) == 1 || number (text m 70) == 2 || number (text m 70) == 301), Reply 0) (key_lines m ++ rest) last refl third.1 in
     let fifth = passed (not (class m == 1 || class m == 2 || class m == 4), Reply 12) ((not (has_key m), Reply 30) ∷ rest) last refl fourth.1 in
     let sixth = passed (not (has_key m), Reply 30) rest last refl fifth.1 in
     record {
-      answered = not_false (version m == 0 && asks (function m)) first.0;
+      answered = not_false (version m == 0 && is_answered (function m)) first.0;
       origin = second.0;
       served = not_false (class m == 1 || class m == 2 || class m == 4) fifth.0;
       keyed = not_false (has_key m) sixth.0;
@@ -90,7 +90,7 @@ verdict-key m =
 
 -- ---- the response
 
-type-parts : (mti : ℕ) → mti / 1000 ≡ 0 → asks (mti / 10 % 10) ≡ true → mti % 10 ≤ 5
+type-parts : (mti : ℕ) → mti / 1000 ≡ 0 → is_answered (mti / 10 % 10) ≡ true → mti % 10 ≤ 5
     → (response_mti mti / 1000 ≡ 0) × (response_mti mti / 100 % 10 ≡ mti / 100 % 10) × ((response_mti mti / 10 % 10 == 1 || response_mti mti / 10 % 10 == 3) ≡ true) × (response_mti mti % 10 ≤ 5) × (answered_base (response_mti mti) ≡ base_of mti)
 type-parts mti version asking origin =
     let low : mti / 10 % 10 ≤ 2 = grind (arith, nat_tests) in
@@ -129,7 +129,7 @@ module _ (m : Contents) (a : Outcome) (h : is_order (verdict m) ≡ true) (few :
 
   type-is : (is_answer r ≡ true) × (answered_base r.mti ≡ base_of m.mti)
   type-is =
-      let asked = and_parts (version m == 0) (asks (function m)) facts.answered in
+      let asked = and_parts (version m == 0) (is_answered (function m)) facts.answered in
       let parts = type-parts m.mti (eqb-true (version m) 0 asked.0) asked.1 (small-origin (origin m) facts.origin) in
       let class-same : (response_mti m.mti / 100 % 10 == 1 || response_mti m.mti / 100 % 10 == 2 || response_mti m.mti / 100 % 10 == 4) ≡ true = ap (λ (c : ℕ). c == 1 || c == 2 || c == 4) parts.1 ∙ facts.served in
       let whole = and_from _ _ (and_from _ _ (and_from _ _ (eq-eqb (response_mti m.mti / 1000) 0 parts.0) class-same) parts.2) (le-leb (response_mti m.mti % 10) 5 parts.3) in
@@ -155,12 +155,12 @@ responses_tell_lem m a o is few =
 
 -- the message type of a request or advice that is answered
 told-type : (mti : ℕ) → mti / 1000 ≡ 0 → (mti / 10 % 10 == 1 || mti / 10 % 10 == 3) ≡ true → mti % 10 ≤ 5
-    → (answered_base mti < 1000) × (asks (answered_base mti / 10 % 10) ≡ true) × ((answered_base mti % 10 == 0 || answered_base mti % 10 == 2 || answered_base mti % 10 == 4) ≡ true)
+    → (answered_base mti < 1000) × (is_answered (answered_base mti / 10 % 10) ≡ true) × ((answered_base mti % 10 == 0 || answered_base mti % 10 == 2 || answered_base mti % 10 == 4) ≡ true)
 told-type mti version answering origin =
     let low : 1 ≤ mti / 10 % 10 = grind (arith, nat_tests) in
     let before : answered_base mti / 10 % 10 ≡ mti / 10 % 10 - 1 = omega arith in
     let asking : (mti / 10 % 10 - 1 == 0 || mti / 10 % 10 - 1 == 2) ≡ true = grind (arith, nat_tests) in
-    (omega arith, ap asks before ∙ asking, even_digit (answered_base mti % 10) (omega arith) (omega arith))
+    (omega arith, ap is_answered before ∙ asking, even_digit (answered_base mti % 10) (omega arith) (omega arith))
 
 answer-parts : (m : Contents) → is_answer m ≡ true → (version m ≡ 0) × ((function m == 1 || function m == 3) ≡ true) × (origin m ≤ 5)
 answer-parts m h =
@@ -174,4 +174,4 @@ pub told-valid : (m : Contents) (k : TxKey) → is_answer m ≡ true → k.base 
 told-valid m k h base stan sent acquirer =
     let parts = answer-parts m h in
     let type = told-type m.mti parts.0 parts.1 parts.2 in
-    key-valid k (rw base type.0) (ap (λ (b : ℕ). asks (b / 10 % 10)) base ∙ type.1) (ap (λ (b : ℕ). b % 10 == 0 || b % 10 == 2 || b % 10 == 4) base ∙ type.2) stan sent acquirer
+    key-valid k (rw base type.0) (ap (λ (b : ℕ). is_answered (b / 10 % 10)) base ∙ type.1) (ap (λ (b : ℕ). b % 10 == 0 || b % 10 == 2 || b % 10 == 4) base ∙ type.2) stan sent acquirer

@@ -7,7 +7,8 @@ use Rattle.iso_order.specs.declared.act.Act.{Act}
 use Rattle.iso_order.specs.declared.act.Act.TheVariants.{Debit, Credit, Inquiry, Undo, Complete}
 use Rattle.iso_order.specs.declared.act.Money.{Money}
 use Rattle.std.specs.Prelude.{IsTrue, IfSome, is_some, Option, Some, None, ◌==◌, ◌||◌, nat_le, nat_lt}
-use Rattle.iso_order.specs.Fields.{asks, base_of, is_hold, is_original}
+use Rattle.iso_order.specs.Fields.{base_of, is_hold, is_original}
+use Rattle.iso_parts.specs.Mti.{is_answered}
 use Rattle.iso_order.specs.Key.{class_digit, function_digit, is_valid_key}
 use Rattle.iso_order.specs.Verdict.{debited_by}
 use Rattle.iso_order.specs.Order.{Instruction, is_account, has_amount, is_payment, is_hold_for, is_valid_act, is_valid, amount_of}
@@ -54,7 +55,7 @@ base-keeps mti version origin =
       origin = even_digit (base_of mti % 10) (omega arith) (omega arith);
     }
 
-pub key-valid : (k : TxKey) → k.base < 1000 → asks (function_digit k) ≡ true → (k.base % 10 == 0 || k.base % 10 == 2 || k.base % 10 == 4) ≡ true → k.stan ≤ 999999 → k.sent ≤ 9999999999 → k.acquirer ≤ 99999999999 → is_valid_key k ≡ true
+pub key-valid : (k : TxKey) → k.base < 1000 → is_answered (function_digit k) ≡ true → (k.base % 10 == 0 || k.base % 10 == 2 || k.base % 10 == 4) ≡ true → k.stan ≤ 999999 → k.sent ≤ 9999999999 → k.acquirer ≤ 99999999999 → is_valid_key k ≡ true
 key-valid k base function origin stan sent acquirer = grind (arith, nat_tests)
 
 pub key-acquirer : (k : TxKey) → is_valid_key k ≡ true → k.acquirer ≤ 99999999999
@@ -65,26 +66,26 @@ key-request k h request = grind (arith, nat_tests)
 
 -- ---- orders
 
-original_parts : (mti : ℕ) → is_original mti ≡ true → (mti / 1000 ≡ 0) × ((mti / 100 % 10 == 1 || mti / 100 % 10 == 2) ≡ true) × (asks (mti / 10 % 10) ≡ true) × (mti % 10 ≤ 5)
+original_parts : (mti : ℕ) → is_original mti ≡ true → (mti / 1000 ≡ 0) × ((mti / 100 % 10 == 1 || mti / 100 % 10 == 2) ≡ true) × (is_answered (mti / 10 % 10) ≡ true) × (mti % 10 ≤ 5)
 original_parts mti h =
-    let origin = and_parts (mti / 1000 == 0 && (mti / 100 % 10 == 1 || mti / 100 % 10 == 2) && asks (mti / 10 % 10)) (nat_le (mti % 10) 5) h in
-    let function = and_parts (mti / 1000 == 0 && (mti / 100 % 10 == 1 || mti / 100 % 10 == 2)) (asks (mti / 10 % 10)) origin.0 in
+    let origin = and_parts (mti / 1000 == 0 && (mti / 100 % 10 == 1 || mti / 100 % 10 == 2) && is_answered (mti / 10 % 10)) (nat_le (mti % 10) 5) h in
+    let function = and_parts (mti / 1000 == 0 && (mti / 100 % 10 == 1 || mti / 100 % 10 == 2)) (is_answered (mti / 10 % 10)) origin.0 in
     let class = and_parts (mti / 1000 == 0) (mti / 100 % 10 == 1 || mti / 100 % 10 == 2) function.0 in
     (eqb-true (mti / 1000) 0 class.0, class.1, function.1, leb-true (mti % 10) 5 origin.1)
 
 pub both_true : (p q : Bool) → p ≡ true → q ≡ true → (p && q) ≡ true
 both_true p q h k = rw h k
 
-hold_parts : (mti : ℕ) → is_hold mti ≡ true → (mti / 1000 ≡ 0) × ((mti / 100 % 10 == 1) ≡ true) × (asks (mti / 10 % 10) ≡ true) × (mti % 10 ≤ 5)
+hold_parts : (mti : ℕ) → is_hold mti ≡ true → (mti / 1000 ≡ 0) × ((mti / 100 % 10 == 1) ≡ true) × (is_answered (mti / 10 % 10) ≡ true) × (mti % 10 ≤ 5)
 hold_parts mti h =
-    let origin = and_parts (mti / 1000 == 0 && mti / 100 % 10 == 1 && asks (mti / 10 % 10)) (nat_le (mti % 10) 5) h in
-    let function = and_parts (mti / 1000 == 0 && mti / 100 % 10 == 1) (asks (mti / 10 % 10)) origin.0 in
+    let origin = and_parts (mti / 1000 == 0 && mti / 100 % 10 == 1 && is_answered (mti / 10 % 10)) (nat_le (mti % 10) 5) h in
+    let function = and_parts (mti / 1000 == 0 && mti / 100 % 10 == 1) (is_answered (mti / 10 % 10)) origin.0 in
     let class = and_parts (mti / 1000 == 0) (mti / 100 % 10 == 1) function.0 in
     (eqb-true (mti / 1000) 0 class.0, class.1, function.1, leb-true (mti % 10) 5 origin.1)
 
 -- a key that a message names under its own acquirer
 module _ (key named : TxKey) (mti : ℕ) (valid : is_valid_key key ≡ true) (base : named.base ≡ base_of mti) (acquirer : named.acquirer ≡ key.acquirer) (stan : named.stan ≤ 999999) (sent : named.sent ≤ 9999999999) where
-  named-valid : Base mti (base_of mti) → asks (mti / 10 % 10) ≡ true → is_valid_key named ≡ true
+  named-valid : Base mti (base_of mti) → is_answered (mti / 10 % 10) ≡ true → is_valid_key named ≡ true
   named-valid kept asking =
       key-valid named (rw base kept.below) (rw (base, kept.function) asking) (rw base kept.origin) stan sent (rw acquirer (key-acquirer key valid))
 
@@ -153,7 +154,7 @@ module _ (key : TxKey) (m : Money) (valid : is_valid_key key ≡ true) (account 
 -- what holds of the type and the numbers of a key
 pub record KeyFacts (k : TxKey) : Type 0 where
   pub version : k.base / 1000 ≡ 0
-  pub asking : asks (k.base / 10 % 10) ≡ true
+  pub asking : is_answered (k.base / 10 % 10) ≡ true
   pub origin : k.base % 10 ≤ 5
   pub first : base_of k.base ≡ k.base
   pub small : k.base < 10 ^ 4

@@ -8,12 +8,14 @@ use Rattle.iso_wire.specs.Decimal.{decimal}
 use Rattle.iso_wire.specs.Elements.{value_in, is_number, IsAscending}
 use Rattle.iso_wire.specs.OneSpelling.{AreOfBytes, WellFormed}
 use Rattle.iso_wire.specs.Spelling.{AreBytes}
-use Rattle.iso_order.specs.Fields.{asks, text}
+use Rattle.iso_order.specs.Fields.{text}
+use Rattle.iso_parts.specs.Mti.{is_answered}
 use Rattle.iso_order.specs.Fitting.{ResponsesAreWellFormed}
-use Rattle.iso_order.specs.Listing.{entry, elements_with_value, ascend}
+use Rattle.iso_order.specs.Listing.{entry}
+use Rattle.iso_order.specs.Adding.{elements_with_value, are_ascending, is_responded}
 use Rattle.iso_order.specs.Outcome.{Outcome}
-use Rattle.iso_order.specs.Response.{response_mti, is_echoed, is_approved, approval, sign, additional, balance, element, is_responded}
-use Rattle.iso_order.proofs.Ascending.{ascend_parts, response-listed}
+use Rattle.iso_order.specs.Response.{response_mti, is_echoed, is_approved, approval, sign, additional, balance, element}
+use Rattle.iso_order.proofs.Ascending.{are_ascending-parts, response-listed}
 use Rattle.iso_order.proofs.Fits.{Values, value_by, approval_by, element_by}
 
 -- ---- its values
@@ -89,10 +91,10 @@ ascending-entry : (low n : ℕ) (v : Option (List ℕ)) (es : Values) → low �
 ascending-entry low n (Some v) es le number rest = let range = in-range n number in (le, range.0, range.1, rest)
 ascending-entry low n None es le number rest = ascending-from low (n + 1) es (omega arith) rest
 
-pub ascending-at : (test : ℕ → Bool) (value : ℕ → Option (List ℕ)) → ((n : ℕ) → test n ≡ true → is_number n ≡ true) → (low : ℕ) (ns : List ℕ) → ascend test low ns ≡ true → IsAscending low (elements_with_value value ns)
+pub ascending-at : (test : ℕ → Bool) (value : ℕ → Option (List ℕ)) → ((n : ℕ) → test n ≡ true → is_number n ≡ true) → (low : ℕ) (ns : List ℕ) → are_ascending test low ns ≡ true → IsAscending low (elements_with_value value ns)
 ascending-at test value number low [] h = tt
 ascending-at test value number low (n ∷ ns) h =
-    let parts = ascend_parts test low n ns h in
+    let parts = are_ascending-parts test low n ns h in
     ascending-entry low n (value n) (elements_with_value value ns) parts.0 (number n parts.1) (ascending-at test value number (n + 1) ns parts.2)
 
 -- a number that an element of a response can have
@@ -102,7 +104,7 @@ responded-number n h = (and_parts (is_number n) (n == 38 || n == 39 || n == 54 |
 -- ---- its type
 
 -- a function of 0 or 2 has no carry
-type_small : (mti : ℕ) → mti < 10000 → asks (mti / 10 % 10) ≡ true → response_mti mti < 10000
+type_small : (mti : ℕ) → mti < 10000 → is_answered (mti / 10 % 10) ≡ true → response_mti mti < 10000
 type_small mti small h =
     let low : mti / 10 % 10 ≤ 2 = grind (arith, nat_tests) in
     omega arith

@@ -1,10 +1,11 @@
 -- What is read in a message.
-use Rattle.std.specs.Prelude.{ℕ, Bool, ◌-◌, ◌/◌, ◌%◌, ◌==◌, ◌&&◌, ◌||◌, nat_le, not, if◌then◌else◌, unwrap_or, Option, Some, None, List, [], length, take, drop}
+use Rattle.std.specs.Prelude.{ℕ, Bool, ◌+◌, ◌*◌, ◌/◌, ◌%◌, ◌==◌, ◌&&◌, ◌||◌, nat_le, not, if◌then◌else◌, unwrap_or, Option, Some, None, List, [], length, take, drop}
+use Rattle.iso_parts.specs.Mti.{is_answered, first_origin}
 use Rattle.iso_wire.specs.Contents.{Contents}
 use Rattle.iso_wire.specs.Elements.{has, value_in}
 use Rattle.iso_order.specs.declared.act.Money.{Money}
 use Rattle.iso_order.specs.declared.key.TxKey.{TxKey}
-use Rattle.iso_order.specs.Text.{are_digits, number}
+use Rattle.iso_wire.specs.Decimal.{are_digits, number}
 
 -- ---- its type: version, class, function and origin (ISO 8583:1987, message type identifier)
 
@@ -20,13 +21,9 @@ function m = m.mti / 10 % 10
 abbrev pub origin : Contents → ℕ
 origin m = m.mti % 10
 
--- a request and an advice ask for a response
-abbrev pub asks : ℕ → Bool
-asks f = f == 0 || f == 2
-
--- the type without a repeat: the origin is rounded down to even
+-- the type without a repeat: its origin is that of the first delivery
 abbrev pub base_of : ℕ → ℕ
-base_of mti = mti - mti % 2
+base_of mti = mti / 10 * 10 + first_origin (mti % 10)
 
 -- ---- its elements
 
@@ -67,7 +64,7 @@ original_acquirer m = part 20 11 (text m 90)
 
 -- a request or an advice of class 1 or 2, or a repeat of one
 abbrev pub is_original : ℕ → Bool
-is_original mti = mti / 1000 == 0 && (mti / 100 % 10 == 1 || mti / 100 % 10 == 2) && asks (mti / 10 % 10) && nat_le (mti % 10) 5
+is_original mti = mti / 1000 == 0 && (mti / 100 % 10 == 1 || mti / 100 % 10 == 2) && is_answered (mti / 10 % 10) && nat_le (mti % 10) 5
 
 -- no acquirer, or the message's own
 abbrev pub is_own : Contents → Bool
@@ -80,16 +77,16 @@ original_of m = record { base = base_of (original_mti m); stan = original_stan m
 -- ---- the hold that an advice of class 2 completes (element 90)
 
 -- an advice of class 2 that names another transaction
-abbrev pub completes : Contents → Bool
-completes m = class m == 2 && function m == 2 && has m.elements 90
+abbrev pub is_completion : Contents → Bool
+is_completion m = class m == 2 && function m == 2 && has m.elements 90
 
 -- a request or an advice of class 1, or a repeat of one
 abbrev pub is_hold : ℕ → Bool
-is_hold mti = mti / 1000 == 0 && mti / 100 % 10 == 1 && asks (mti / 10 % 10) && nat_le (mti % 10) 5
+is_hold mti = mti / 1000 == 0 && mti / 100 % 10 == 1 && is_answered (mti / 10 % 10) && nat_le (mti % 10) 5
 
 -- the key of that hold, where one is named
 abbrev pub hold_of : Contents → Option TxKey
-hold_of m = if completes m then Some (original_of m) else None
+hold_of m = if is_completion m then Some (original_of m) else None
 
 -- ---- what a reversal leaves (element 95, replacement amounts)
 

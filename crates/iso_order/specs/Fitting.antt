@@ -6,13 +6,14 @@ use Rattle.iso_wire.specs.Contents.{Contents}
 use Rattle.iso_wire.specs.OneSpelling.{WellFormed}
 use Rattle.iso_wire.specs.Refusal.{message_refusal}
 use Rattle.iso_wire.specs.Spelling.{Spelling, PlainSpelling}
-use Rattle.iso_order.specs.Fields.{function, asks}
+use Rattle.iso_order.specs.Fields.{function}
+use Rattle.iso_parts.specs.Mti.{is_answered}
 use Rattle.iso_order.specs.Outcome.{Outcome}
 use Rattle.iso_order.specs.Response.{response, is_showable}
 
 -- a response to a request or an advice is well formed
 abbrev pub ResponsesAreWellFormed : Type 0
-ResponsesAreWellFormed = (m : Contents) (a : Outcome) → WellFormed m → asks (function m) ≡ true → WellFormed (response m a)
+ResponsesAreWellFormed = (m : Contents) (a : Outcome) → WellFormed m → is_answered (function m) ≡ true → WellFormed (response m a)
 
 -- the message was read under a table that is ready for a host, and what is shown can be shown
 pub record IsServed (t : Layout) (m : Contents) (a : Outcome) : Type 0 where
@@ -23,7 +24,7 @@ pub record IsServed (t : Layout) (m : Contents) (a : Outcome) : Type 0 where
 
 -- the table refuses no response to a request or an advice
 abbrev pub ResponsesFit : Type 0
-ResponsesFit = (t : Layout) (m : Contents) (a : Outcome) → IsServed t m a → asks (function m) ≡ true → message_refusal t (response m a) ≡ None
+ResponsesFit = (t : Layout) (m : Contents) (a : Outcome) → IsServed t m a → is_answered (function m) ≡ true → message_refusal t (response m a) ≡ None
 
 -- a response that is written has at most 9,999 bytes: four digits tell its length
 abbrev pub ResponsesAreShort : Type 0

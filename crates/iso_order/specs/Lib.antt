@@ -1,4 +1,4 @@
-pub mod AccountNumber
+pub mod Adding
 pub mod Comparisons
 pub mod Fields
 pub mod Fitting
@@ -8,8 +8,7 @@ pub mod Order
 pub mod Original
 pub mod Outcome
 pub mod Pan
-pub mod Request
+pub mod Requests
 pub mod Response
-pub mod Text
 pub mod Told
 pub mod Verdict

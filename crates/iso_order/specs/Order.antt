@@ -2,11 +2,12 @@
 use Rattle.std.specs.Prelude.{ℕ, Bool, false, List, length, ◌==◌, ◌&&◌, ◌||◌, nat_le, Option, Some, None, if◌then◌else◌}
 use Rattle.std.specs.List.{list_all}
 use Rattle.std.specs.Str.{bytes_eq}
+use Rattle.iso_parts.specs.Class.{is_digit, is_letter}
 use Rattle.iso_order.specs.declared.key.TxKey.{TxKey}
 use Rattle.iso_order.specs.declared.act.Act.{Act}
 use Rattle.iso_order.specs.declared.act.Act.TheVariants.{Debit, Credit, Inquiry, Undo, Complete}
 use Rattle.iso_order.specs.declared.act.Money.{Money}
-use Rattle.iso_order.specs.AccountNumber.{AccountNumber, is_pan}
+use Rattle.iso_order.specs.Pan.{AccountNumber, is_pan}
 use Rattle.iso_order.specs.Key.{class_digit, function_digit, is_valid_key, same_key}
 
 -- the key under which it is asked, and what is asked
@@ -17,7 +18,7 @@ pub record Instruction : Type 0 where
 -- ---- which orders are valid
 
 abbrev pub is_letter_or_digit : ℕ → Bool
-is_letter_or_digit b = (nat_le 48 b && nat_le b 57) || (nat_le 65 b && nat_le b 90) || (nat_le 97 b && nat_le b 122)
+is_letter_or_digit b = is_digit b || is_letter b
 
 -- three letters or digits (element 49, currency code)
 abbrev pub is_currency : List ℕ → Bool
@@ -81,7 +82,15 @@ same_act _ _ = false
 abbrev pub same_order : Instruction → Instruction → Bool
 same_order a b = same_key a.key b.key && same_act a.act b.act
 
--- ---- amounts
+-- ---- what it is about
+
+-- the account, the amount and the currency; a reversal has none
+abbrev pub money_of : Act → Option Money
+money_of (Debit m) = Some m
+money_of (Credit m) = Some m
+money_of (Inquiry m) = Some m
+money_of (Undo original left) = None
+money_of (Complete m hold) = Some m
 
 -- the amount that an order names
 abbrev pub amount_of : Act → ℕ

@@ -1,4 +1,5 @@
--- The transaction that a message names (element 90, original data elements).
+-- The transaction that a message names (element 90, original data elements), as `original_of` gives it.
+-- Inner: bodies and proofs cite it, and no public clause does.
 use Rattle.iso_wire.specs.Contents.{Contents}
 use Rattle.iso_order.specs.declared.original.Original.{Original}
 use Rattle.iso_order.specs.Fields.{is_own, original_mti, original_of}

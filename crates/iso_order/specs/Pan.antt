@@ -1,8 +1,15 @@
--- The account number that a text is (ISO 8583:1987, element 2), and how logs show it.
-use Rattle.std.specs.Prelude.{ℕ, ◌-◌, List, ◌++◌, length, take, drop, replicate, nat_lt, if◌then◌else◌, Option, option_map}
-use Rattle.iso_wire.specs.Decimal.{decimal}
-use Rattle.iso_order.specs.AccountNumber.{AccountNumber}
-use Rattle.iso_order.specs.Text.{number_in}
+-- Account numbers (ISO 8583:1987, element 2, primary account number): what one is, which text one is, and how logs show it.
+use Rattle.std.specs.Prelude.{ℕ, Bool, ◌-◌, ◌^◌, ◌&&◌, nat_lt, nat_le, List, ◌++◌, length, take, drop, replicate, if◌then◌else◌, Option, option_map}
+use Rattle.iso_wire.specs.Decimal.{decimal, number_in}
+
+-- the digits as a number, and how many there are
+pub record AccountNumber : Type 0 where
+  pub digits : ℕ
+  pub len : ℕ
+
+-- 1 to 19 digits
+abbrev pub is_pan : AccountNumber → Bool
+is_pan p = nat_le 1 p.len && nat_le p.len 19 && nat_lt p.digits (10 ^ p.len)
 
 -- the number of 1 to 19 digits, with how many there are
 abbrev pub pan_of : List ℕ → Option AccountNumber

@@ -1,9 +1,8 @@
 -- The response to a message.
--- Inner, for bodies and proofs: `is_responded`.
 use Rattle.std.specs.Prelude.{ℕ, ℤ, pos, int_lt, unsigned_abs, ◌+◌, Bool, true, false, ◌==◌, ◌&&◌, ◌||◌, nat_le, nat_lt, if◌then◌else◌, List, ◌∷◌, ◌++◌, Option, Some, None, option_map}
 use Rattle.iso_wire.specs.Contents.{Contents}
 use Rattle.iso_wire.specs.Decimal.{decimal}
-use Rattle.iso_wire.specs.Elements.{value_in, is_number}
+use Rattle.iso_wire.specs.Elements.{value_in}
 use Rattle.iso_order.specs.declared.act.Act.{Act}
 use Rattle.iso_order.specs.declared.act.Act.TheVariants.{Debit, Credit, Inquiry, Undo, Complete}
 use Rattle.iso_order.specs.declared.verdict.Verdict.{Verdict}
@@ -70,18 +69,12 @@ is_inquiry_order (Undo k left) = false
 is_inquiry_order (Complete m hold) = false
 
 -- the message asks for what is available
-abbrev pub asks_balance : Verdict → Bool
-asks_balance (Order o) = is_inquiry_order o.act
-asks_balance (Reply code) = false
-asks_balance Silent = false
+abbrev pub is_balance_inquiry : Verdict → Bool
+is_balance_inquiry (Order o) = is_inquiry_order o.act
+is_balance_inquiry (Reply code) = false
+is_balance_inquiry Silent = false
 
 -- an amount of at most twelve digits, shown in answer to an inquiry alone
 abbrev pub is_showable : Contents → Option ℤ → Bool
 is_showable m None = true
-is_showable m (Some z) = nat_le (unsigned_abs z) 999999999999 && asks_balance (verdict m)
-
--- ---- which elements it has
-
--- a number that an element of a response can have
-abbrev pub is_responded : ℕ → Bool
-is_responded n = is_number n && (n == 38 || n == 39 || n == 54 || is_echoed n)
+is_showable m (Some z) = nat_le (unsigned_abs z) 999999999999 && is_balance_inquiry (verdict m)

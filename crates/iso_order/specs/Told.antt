@@ -8,7 +8,7 @@ use Rattle.iso_order.specs.Fields.{version, class, function, origin, text, base_
 use Rattle.iso_order.specs.Order.{Instruction}
 use Rattle.iso_order.specs.Outcome.{Outcome}
 use Rattle.iso_order.specs.Response.{response}
-use Rattle.iso_order.specs.Text.{are_digits, number}
+use Rattle.iso_wire.specs.Decimal.{are_digits, number}
 use Rattle.iso_order.specs.Verdict.{verdict}
 
 -- a response of version 0, class 1, 2 or 4 and origin 0 to 5 (ISO 8583:1987, message type identifier)

@@ -7,9 +7,10 @@ use Rattle.iso_order.specs.declared.act.Money.{Money}
 use Rattle.iso_order.specs.declared.key.TxKey.{TxKey}
 use Rattle.iso_order.specs.declared.verdict.Verdict.{Verdict}
 use Rattle.iso_order.specs.declared.verdict.Verdict.TheVariants.{Order, Reply, Silent}
-use Rattle.iso_order.specs.Fields.{version, class, function, origin, asks, text, has_key, key_of, message_money, original_mti, is_original, is_own, original_of, completes, is_hold, hold_of, is_replacement, left_of, kind, is_debit, is_credit, is_inquiry}
+use Rattle.iso_order.specs.Fields.{version, class, function, origin, text, has_key, key_of, message_money, original_mti, is_original, is_own, original_of, is_completion, is_hold, hold_of, is_replacement, left_of, kind, is_debit, is_credit, is_inquiry}
+use Rattle.iso_parts.specs.Mti.{is_answered}
 use Rattle.iso_order.specs.Order.{Instruction, is_currency}
-use Rattle.iso_order.specs.Text.{are_digits, number}
+use Rattle.iso_wire.specs.Decimal.{are_digits, number}
 
 -- the verdict of the first case that holds, else the last one
 abbrev pub first_of : List (Bool × Verdict) → Verdict → Verdict
@@ -25,7 +26,7 @@ order_verdict m act = Order (record { key = key_of m; act = act })
 -- who is answered at all
 abbrev pub answered_lines : Contents → List (Bool × Verdict)
 answered_lines m =
-    (not (version m == 0 && asks (function m)), Silent)
+    (not (version m == 0 && is_answered (function m)), Silent)
     ∷ (nat_lt 5 (origin m), Reply 12)
     ∷ []
 
@@ -59,9 +60,9 @@ reversal_lines m = (class m == 4 && not (is_replacement m), Reply 30) ∷ origin
 -- class 2, an advice that names a transaction: a completion of its own acquirer's hold (element 90)
 abbrev pub completion_lines : Contents → List (Bool × Verdict)
 completion_lines m =
-    (completes m && not (are_digits 42 42 (text m 90)), Reply 30)
-    ∷ (completes m && not (is_hold (original_mti m)), Reply 12)
-    ∷ (completes m && not (is_own m), Reply 12)
+    (is_completion m && not (are_digits 42 42 (text m 90)), Reply 30)
+    ∷ (is_completion m && not (is_hold (original_mti m)), Reply 12)
+    ∷ (is_completion m && not (is_own m), Reply 12)
     ∷ []
 
 -- classes 1 and 2: the account, the processing code and the currency (elements 2, 3, 49)
@@ -74,7 +75,7 @@ account_lines m =
 abbrev pub act_lines : Contents → List (Bool × Verdict)
 act_lines m =
     (not (is_debit (kind m) || is_credit (kind m) || is_inquiry (kind m)), Reply 12)
-    ∷ ((is_credit (kind m) && (class m == 1 || completes m)) || (is_inquiry (kind m) && function m == 2), Reply 12)
+    ∷ ((is_credit (kind m) && (class m == 1 || is_completion m)) || (is_inquiry (kind m) && function m == 2), Reply 12)
     ∷ (is_inquiry (kind m), order_verdict m (Inquiry (message_money m 0)))
     ∷ []
 

@@ -2,7 +2,7 @@
 
 ghost use Rattle.std.specs.Prelude.{◌≡◌};
 ghost use Rattle.std.specs.List.{list_all};
-ghost use Rattle.iso_order.specs.Order.{is_letter_or_digit, is_currency, currency_of, is_account, has_amount, is_hold_for, is_valid_act, same_money, same_act};
+ghost use Rattle.iso_order.specs.Order.{is_letter_or_digit, is_currency, currency_of, is_account, has_amount, is_hold_for, is_valid_act, same_money, same_act, money_of};
 
 use crate::key::TxKey;
 use crate::pan::Pan;
@@ -94,7 +94,7 @@ impl Money {
     }
 
     /// Whether it is an amount that can be moved: 1 to 999,999,999,999.
-    fn is_moved(&self) -> bool
+    fn has_amount(&self) -> bool
         ensures { result ≡ has_amount self.now }
     {
         self.is_account() && 1 <= self.amount && self.amount <= 999_999_999_999
@@ -102,6 +102,18 @@ impl Money {
 }
 
 impl Act {
+    /// The account, the amount and the currency that it is about; `None` for a reversal, which names a transaction alone.
+    /// Takes no memory.
+    pub fn money(&self) -> Option<Money>
+        ensures { result ≡ money_of self.now }
+    {
+        match self {
+            Act::Debit(money) | Act::Credit(money) | Act::Inquiry(money) => Some(*money),
+            Act::Complete { money, .. } => Some(*money),
+            Act::Undo { .. } => None,
+        }
+    }
+
     /// Whether two orders ask the same.
     pub(crate) fn is_same(&self, other: &Act) -> bool
         ensures { result ≡ same_act self.now other.now }
@@ -157,8 +169,8 @@ impl Act {
         ensures { result ≡ is_valid_act key.now self.now }
     {
         match self {
-            Act::Debit(money) => matches!(key.class(), 1 | 2) && money.is_moved(),
-            Act::Credit(money) => key.class() == 2 && money.is_moved(),
+            Act::Debit(money) => matches!(key.class(), 1 | 2) && money.has_amount(),
+            Act::Credit(money) => key.class() == 2 && money.has_amount(),
             Act::Inquiry(money) => {
                 matches!(key.class(), 1 | 2)
                     && key.function() == 0
@@ -175,7 +187,7 @@ impl Act {
             Act::Complete { money, hold } => {
                 key.class() == 2
                     && key.function() == 2
-                    && money.is_moved()
+                    && money.has_amount()
                     && is_hold_for(key, hold)
             }
         }

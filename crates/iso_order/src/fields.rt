@@ -1,14 +1,16 @@
 //! What is read in a message.
 
-ghost use Rattle.std.specs.Prelude.{◌≡◌, ◌≤◌, true, Some, None, IfSome, if◌then◌else◌};
+ghost use Rattle.std.specs.Prelude.{◌≡◌, ◌≤◌, ◌<◌, ◌+◌, ◌^◌, true, length, Some, None, IfSome, if◌then◌else◌};
+ghost use Rattle.std.specs.List.{list_all};
+ghost use Rattle.iso_parts.specs.Class.{is_digit};
 ghost use Rattle.iso_wire.specs.Elements.{has};
-ghost use Rattle.iso_order.specs.Fields.{version, class, function, origin, asks, text, base_of, has_key, key_of};
+ghost use Rattle.iso_order.specs.Fields.{version, class, function, origin, text, part, base_of, has_key, key_of};
+ghost use Rattle.iso_parts.specs.Mti.{is_answered, mti_number};
 ghost use Rattle.iso_order.specs.Key.{class_digit, function_digit, is_valid_key};
 
 use crate::key::TxKey;
-use crate::text::number_of;
 use iso_parts::Mti;
-use iso_wire::Message;
+use iso_wire::{Message, number, number_in};
 
 /// The digits of a message's type.
 pub(crate) fn type_of(message: &Message) -> Mti
@@ -30,6 +32,17 @@ pub(crate) fn text(message: &Message, n: u8) -> &[u8]
     }
 }
 
+/// The number of some of the digits of a text.
+pub(crate) fn part(text: &[u8], from: usize, count: usize) -> u64
+    requires digits { list_all is_digit text.now ≡ true }
+    requires within { from + count ≤ length text.now }
+    requires few { count ≤ 19 }
+    ensures value { result ≡ part from count text.now }
+    ensures below { result < 10 ^ count }
+{
+    number(&text[from..from + count])
+}
+
 /// Whether the element is there.
 pub(crate) fn has(message: &Message, n: u8) -> bool
     ensures { result ≡ has message.now.elements n }
@@ -37,11 +50,19 @@ pub(crate) fn has(message: &Message, n: u8) -> bool
     message.get(n).is_some()
 }
 
-/// The message type without a repeat.
-pub(crate) fn base_of(mti: u16) -> u16
-    ensures { result ≡ base_of mti }
+/// The type that a number of four digits writes.
+pub(crate) fn mti_of(number: u16) -> Mti
+    requires { number ≤ 9999 }
+    ensures { mti_number result ≡ number }
 {
-    mti - mti % 2
+    Mti::from_digits(number).unwrap()
+}
+
+/// The number of the type without a repeat.
+pub(crate) fn base_of(mti: Mti) -> u16
+    ensures { result ≡ base_of (mti_number mti) }
+{
+    mti.base().number()
 }
 
 /// The key under that type of message, where the elements are there.
@@ -51,9 +72,9 @@ pub(crate) fn key_under(message: &Message, base: u16) -> Option<TxKey>
     ensures sent { IfSome result (λ k. k.sent ≤ 9999999999) }
     ensures acquirer { IfSome result (λ k. k.acquirer ≤ 99999999999) }
 {
-    let sent = number_of(text(message, 7), 10, 10)?;
-    let stan = number_of(text(message, 11), 6, 6)?;
-    let acquirer = number_of(text(message, 32), 1, 11)?;
+    let sent = number_in(text(message, 7), 10, 10)?;
+    let stan = number_in(text(message, 11), 6, 6)?;
+    let acquirer = number_in(text(message, 32), 1, 11)?;
     Some(TxKey {
         base,
         stan: stan as u32,
@@ -65,12 +86,12 @@ pub(crate) fn key_under(message: &Message, base: u16) -> Option<TxKey>
 /// The key of a message, where it has the elements.
 pub(crate) fn key_of(message: &Message) -> Option<TxKey>
     requires version { version message.now ≡ 0 }
-    requires asks { asks (function message.now) ≡ true }
+    requires asks { is_answered (function message.now) ≡ true }
     requires origin { origin message.now ≤ 5 }
     ensures value { result ≡ (if has_key message.now then Some (key_of message.now) else None) }
     ensures valid { IfSome result (λ k. is_valid_key k ≡ true) }
     ensures class { IfSome result (λ k. class_digit k ≡ class message.now) }
     ensures function { IfSome result (λ k. function_digit k ≡ function message.now) }
 {
-    key_under(message, base_of(message.mti().number()))
+    key_under(message, base_of(message.mti()))
 }

@@ -3,7 +3,7 @@
 
 ghost use Rattle.iso_order.specs.Comparisons.{Comparisons};
 ghost use Rattle.iso_order.specs.Fitting.{ResponsesAreShort, ResponsesAreWellFormed, ResponsesFit};
-ghost use Rattle.iso_order.specs.Request.{RequestsAreWellFormed, RequestsAsk, RequestsFit};
+ghost use Rattle.iso_order.specs.Requests.{RequestsAreWellFormed, RequestsAsk, RequestsFit};
 ghost use Rattle.iso_order.specs.Told.{ResponsesTell};
 
 use iso_parts::laws::{bitmaps, parts};

@@ -13,7 +13,6 @@ mod requests;
 mod response;
 #[cfg(test)]
 mod tests;
-mod text;
 mod told;
 mod verdict;
 

@@ -68,7 +68,7 @@ impl Order {
         self.act
     }
 
-    fn equals(&self, other: &Order) -> bool
+    fn is_same_order(&self, other: &Order) -> bool
         ensures { result ≡ same_order self.now other.now }
     {
         self.key.is_same(&other.key) && self.act.is_same(&other.act)
@@ -79,6 +79,6 @@ impl Order {
         ensures same { result ≡ same_order self.now other.now }
         ensures equal { IsTrue result ↔ (self.now ≡ other.now) }
     {
-        self.equals(other)
+        self.is_same_order(other)
     }
 }

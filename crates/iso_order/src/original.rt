@@ -1,19 +1,18 @@
 //! The transaction that a message names (element 90, original data elements).
 
 ghost use Rattle.std.specs.Prelude.{◌≡◌, ◌≤◌, ◌++◌, List, Bool, Some, None, true, IfSome, IfOk, IfErr, OnOk, if◌then◌else◌};
-ghost use Rattle.iso_order.specs.Fields.{class, function, text, key_of, is_original, is_hold, completes, hold_of};
+ghost use Rattle.iso_order.specs.Fields.{class, function, text, key_of, is_original, is_hold, is_completion, hold_of};
 ghost use Rattle.iso_order.specs.Key.{class_digit, function_digit, is_valid_key};
 ghost use Rattle.iso_order.specs.Order.{is_hold_for};
 ghost use Rattle.iso_order.specs.Original.{named_original};
-ghost use Rattle.iso_order.specs.Text.{are_digits};
+ghost use Rattle.iso_wire.specs.Decimal.{are_digits};
 ghost use Rattle.iso_order.specs.Verdict.{first_of, completion_lines};
 ghost use Rattle.iso_order.specs.declared.verdict.Verdict.{Verdict};
 ghost use Rattle.iso_order.specs.declared.verdict.Verdict.TheVariants.{Reply};
 
-use crate::fields::{base_of, has, text};
+use crate::fields::{base_of, has, mti_of, part, text};
 use crate::key::TxKey;
-use crate::text::{are_digits, part};
-use iso_wire::Message;
+use iso_wire::{Message, are_digits};
 
 /// What element 90 tells of the transaction.
 #[derive(Clone, Copy, Debug)]
@@ -40,7 +39,7 @@ pub(crate) fn original_of(message: &Message, key: &TxKey) -> Option<Original>
     let mti = part(data, 0, 4) as u16;
     let acquirer = part(data, 20, 11);
     let named = TxKey {
-        base: base_of(mti),
+        base: base_of(mti_of(mti)),
         stan: part(data, 4, 6) as u32,
         sent: part(data, 10, 10),
         acquirer: key.acquirer,
@@ -70,17 +69,17 @@ fn is_hold(mti: u16) -> bool
 }
 
 /// Whether it is an advice of class 2 that names another transaction.
-fn completes(message: &Message, key: &TxKey) -> bool
+fn is_completion(message: &Message, key: &TxKey) -> bool
     requires class { class_digit key.now ≡ class message.now }
     requires function { function_digit key.now ≡ function message.now }
-    ensures { result ≡ completes message.now }
+    ensures { result ≡ is_completion message.now }
 {
     key.class() == 2 && key.function() == 2 && has(message, 90)
 }
 
 /// The hold that element 90 names, else the code that the message is answered with.
 fn named_hold(message: &Message, key: &TxKey) -> Result<TxKey, u8>
-    requires completes { completes message.now ≡ true }
+    requires completion { is_completion message.now ≡ true }
     requires key { key.now ≡ key_of message.now }
     requires valid { is_valid_key key.now ≡ true }
     ensures refused { IfErr result (λ code. (lines : List (Bool × Verdict)) (last : Verdict)
@@ -104,7 +103,7 @@ fn named_hold(message: &Message, key: &TxKey) -> Result<TxKey, u8>
 
 /// The hold that a message completes, where it is an advice of class 2 that names a transaction; else the code that it is
 /// answered with.
-pub(crate) fn completed(message: &Message, key: &TxKey) -> Result<Option<TxKey>, u8>
+pub(crate) fn hold_of(message: &Message, key: &TxKey) -> Result<Option<TxKey>, u8>
     requires key { key.now ≡ key_of message.now }
     requires valid { is_valid_key key.now ≡ true }
     requires class { class_digit key.now ≡ class message.now }
@@ -116,7 +115,7 @@ pub(crate) fn completed(message: &Message, key: &TxKey) -> Result<Option<TxKey>,
     ensures hold { IfOk result (λ hold. hold ≡ hold_of message.now) }
     ensures valid { IfOk result (λ hold. IfSome hold (λ h. is_hold_for key.now h ≡ true)) }
 {
-    if !completes(message, key) {
+    if !is_completion(message, key) {
         return Ok(None);
     }
     match named_hold(message, key) {

@@ -3,8 +3,7 @@
 ghost use Rattle.std.specs.Prelude.{◌≡◌, true, Some};
 ghost use Rattle.iso_order.specs.Pan.{masked_digits, masked_number, pan_of};
 
-use crate::text::number_of;
-use iso_wire::write_decimal;
+use iso_wire::{number_in, write_decimal};
 use std::marker::Model;
 use std::{fmt, str};
 
@@ -17,7 +16,7 @@ pub struct Pan {
 
 impl Model for Pan {
     ghost use Rattle.std.specs.Prelude.{◌≡◌, true};
-    ghost use Rattle.iso_order.specs.AccountNumber.{AccountNumber, is_pan};
+    ghost use Rattle.iso_order.specs.Pan.{AccountNumber, is_pan};
 
     ghost Value = { AccountNumber };
 
@@ -29,13 +28,13 @@ impl Model for Pan {
 }
 
 impl Pan {
-    ghost use Rattle.iso_order.specs.AccountNumber.{is_pan};
+    ghost use Rattle.iso_order.specs.Pan.{is_pan};
 
     /// The account number that a text of 1 to 19 digits is; `None` for every other text. Takes no memory.
     pub fn from_digits(text: &[u8]) -> Option<Pan>
         ensures { result ≡ pan_of text.now }
     {
-        let digits = number_of(text, 1, 19)?;
+        let digits = number_in(text, 1, 19)?;
         Some(Pan {
             digits,
             len: text.len() as u8,

@@ -1,18 +1,19 @@
 //! The message that asks for an order.
 
 ghost use Rattle.std.specs.Prelude.{◌≡◌, ℕ, ◌≤◌, ◌++◌, ◌∷◌, [], true, OnOk, IfOk, option_map};
-ghost use Rattle.iso_parts.specs.Mti.{mti_number};
 ghost use Rattle.iso_wire.specs.Decimal.{decimal};
 ghost use Rattle.iso_wire.specs.Elements.{value_in, is_number, IsBelow};
-ghost use Rattle.iso_order.specs.Listing.{entry, elements_with_value, ascend};
-ghost use Rattle.iso_order.specs.Request.{money_in, processing_code, moved_amount, named_by, partial_left, acquirer_code, account_number};
-ghost use Rattle.iso_order.specs.Request.{original_data, replacement_amounts, request_value, request, AsksFor, FitsEdition87};
+ghost use Rattle.iso_order.specs.Listing.{entry};
+ghost use Rattle.iso_order.specs.Adding.{elements_with_value, are_ascending};
+ghost use Rattle.iso_order.specs.Requests.{processing_code, moved_amount, named_by, partial_left, acquirer_code, account_number};
+ghost use Rattle.iso_order.specs.Order.{money_of};
+ghost use Rattle.iso_order.specs.Requests.{original_data, replacement_amounts, request_value, request, AsksFor, FitsEdition87};
 
-use crate::act::{Act, Money};
+use crate::act::Act;
+use crate::fields::mti_of;
 use crate::key::TxKey;
 use crate::laws::{requests_ask, requests_fit};
 use crate::order::Order;
-use iso_parts::Mti;
 use iso_table::NoMemory;
 use iso_wire::{Message, digits_of, write_decimal};
 use std::alloc::{AllocError, Global};
@@ -25,25 +26,6 @@ const MOST_ELEMENTS: usize = 8;
 
 /// The most bytes of its values: those of a reversal that leaves a part.
 const MOST_BYTES: usize = 111;
-
-/// The type of the request.
-fn request_type(key: &TxKey) -> Mti
-    requires { key.now.base ≤ 9999 }
-    ensures { mti_number result ≡ key.now.base }
-{
-    Mti::from_digits(key.base).unwrap()
-}
-
-/// The account, the amount and the currency, where the act has them.
-fn money_in(act: &Act) -> Option<Money>
-    ensures { result ≡ money_in act.now }
-{
-    match act {
-        Act::Debit(money) | Act::Credit(money) | Act::Inquiry(money) => Some(*money),
-        Act::Complete { money, .. } => Some(*money),
-        Act::Undo { .. } => None,
-    }
-}
 
 /// The processing code: goods and services, a return, or a balance inquiry.
 fn processing_code(act: &Act) -> Option<u64>
@@ -58,7 +40,7 @@ fn processing_code(act: &Act) -> Option<u64>
 }
 
 /// The amount that is moved.
-fn moved_by(act: &Act) -> Option<u64>
+fn moved_amount(act: &Act) -> Option<u64>
     ensures { result ≡ moved_amount act.now }
 {
     match act {
@@ -80,7 +62,7 @@ fn named_by(act: &Act) -> Option<TxKey>
 }
 
 /// What a reversal leaves, where it leaves a part.
-fn left_by(act: &Act) -> Option<u64>
+fn partial_left(act: &Act) -> Option<u64>
     ensures { result ≡ partial_left act.now }
 {
     match act {
@@ -123,10 +105,10 @@ fn add_some(n: u8, v: Option<u64>, digits: usize, request: &mut Message) -> Resu
 fn add_account(act: &Act, request: &mut Message) -> Result<(), AllocError>
     requires { IsBelow 2 request.old.elements }
     ensures { OnOk result (request.new ≡ record request.old {
-      elements = request.old.elements ++ entry 2 (option_map account_number (money_in act.now));
+      elements = request.old.elements ++ entry 2 (option_map account_number (money_of act.now));
     }) }
 {
-    match money_in(act) {
+    match act.money() {
         Some(money) => add_number(2, money.pan.digits(), money.pan.len() as usize, request),
         None => Ok(()),
     }
@@ -148,10 +130,10 @@ fn add_acquirer(key: &TxKey, request: &mut Message) -> Result<(), AllocError>
 fn add_currency(act: &Act, request: &mut Message) -> Result<(), AllocError>
     requires { IsBelow 49 request.old.elements }
     ensures { OnOk result (request.new ≡ record request.old {
-      elements = request.old.elements ++ entry 49 (option_map (λ m. m.currency) (money_in act.now));
+      elements = request.old.elements ++ entry 49 (option_map (λ m. m.currency) (money_of act.now));
     }) }
 {
-    match money_in(act) {
+    match act.money() {
         Some(money) => request.append(49, &money.currency),
         None => Ok(()),
     }
@@ -198,7 +180,7 @@ fn add_replacement(act: &Act, request: &mut Message) -> Result<(), AllocError>
       elements = request.old.elements ++ entry 95 (option_map replacement_amounts (partial_left act.now));
     }) }
 {
-    match left_by(act) {
+    match partial_left(act) {
         Some(left) => request.append(95, &replacement_amounts(left)),
         None => Ok(()),
     }
@@ -215,7 +197,7 @@ fn add(key: &TxKey, act: &Act, n: u8, request: &mut Message) -> Result<(), Alloc
     match n {
         2 => add_account(act, request),
         3 => add_some(3, processing_code(act), 6, request),
-        4 => add_some(4, moved_by(act), 12, request),
+        4 => add_some(4, moved_amount(act), 12, request),
         7 => add_number(7, key.sent, 10, request),
         11 => add_number(11, key.stan as u64, 6, request),
         32 => add_acquirer(key, request),
@@ -228,7 +210,7 @@ fn add(key: &TxKey, act: &Act, n: u8, request: &mut Message) -> Result<(), Alloc
 
 /// Adds the elements of those numbers.
 fn add_all(key: &TxKey, act: &Act, numbers: &[u8], request: &mut Message) -> Result<(), AllocError>
-    requires numbers { ascend is_number 2 numbers.now ≡ true }
+    requires numbers { are_ascending is_number 2 numbers.now ≡ true }
     requires empty { request.old.elements ≡ [] }
     requires acquirer { key.now.acquirer ≤ 99999999999 }
     ensures { OnOk result (request.new ≡ record request.old {
@@ -258,7 +240,7 @@ pub fn request(alloc: Global, order: &Order) -> Result<Message, NoMemory>
     requests_fit();
     let key = order.key();
     let act = order.act();
-    let mti = request_type(&key);
+    let mti = mti_of(key.base);
     let mut request = Message::with_room(alloc, mti, MOST_ELEMENTS, MOST_BYTES)?;
     add_all(&key, &act, &ASKED, &mut request)?;
     Ok(request)

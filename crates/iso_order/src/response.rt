@@ -4,9 +4,12 @@ ghost use Rattle.std.specs.Prelude.{◌≡◌, ℕ, ◌≤◌, ◌++◌, ◌∷�
 ghost use Rattle.iso_parts.specs.Mti.{mti_number};
 ghost use Rattle.iso_wire.specs.Decimal.{decimal};
 ghost use Rattle.iso_wire.specs.Elements.{value_in, is_number, IsBelow};
-ghost use Rattle.iso_order.specs.Fields.{class, function, asks, text};
-ghost use Rattle.iso_order.specs.Listing.{entry, elements_with_value, ascend};
-ghost use Rattle.iso_order.specs.Response.{response, response_mti, is_approved, sign, approval, additional, balance, element, is_responded, is_showable};
+ghost use Rattle.iso_order.specs.Fields.{class, function, text};
+ghost use Rattle.iso_parts.specs.Mti.{is_answered};
+ghost use Rattle.iso_order.specs.Listing.{entry};
+ghost use Rattle.iso_order.specs.Adding.{elements_with_value, are_ascending};
+ghost use Rattle.iso_order.specs.Response.{response, response_mti, is_approved, sign, approval, additional, balance, element, is_showable};
+ghost use Rattle.iso_order.specs.Adding.{is_responded};
 
 use crate::answer::Answer;
 use crate::fields::{text, type_of};
@@ -25,7 +28,7 @@ const ANSWERED: [u8; 18] = [
 
 /// The type of the response: the next function, and no repeat.
 fn response_type(message: &Message) -> Mti
-    requires { asks (function message.now) ≡ true }
+    requires { is_answered (function message.now) ≡ true }
     ensures { mti_number result ≡ response_mti message.now.mti }
 {
     message.mti().response().unwrap()
@@ -154,7 +157,7 @@ fn add_all(
     numbers: &[u8],
     response: &mut Message,
 ) -> Result<(), AllocError>
-    requires numbers { ascend is_responded 2 numbers.now ≡ true }
+    requires numbers { are_ascending is_responded 2 numbers.now ≡ true }
     requires empty { response.old.elements ≡ [] }
     requires shown { is_showable message.now answer.now.shown ≡ true }
     ensures { OnOk result (response.new ≡ record response.old {
@@ -171,7 +174,7 @@ fn add_all(
 /// enough where it has the room. The other message and the answer are lent to be read, and stay.
 pub fn respond_into(message: &Message, answer: &Answer, into: &mut Message) -> Result<(), NoMemory>
     // A request or an advice.
-    requires asks { asks (function message.now) ≡ true }
+    requires asks { is_answered (function message.now) ≡ true }
     // A balance of at most twelve digits, shown where the verdict is an inquiry.
     requires shown { is_showable message.now answer.now.shown ≡ true }
     ensures whole { OnOk result (into.new ≡ response message.now answer.now) }
@@ -190,7 +193,7 @@ pub fn respond_into(message: &Message, answer: &Answer, into: &mut Message) -> R
 /// shown (54). Refuses only for want of memory: the message and the answer are lent to be read, and stay.
 pub fn respond(alloc: Global, message: &Message, answer: &Answer) -> Result<Message, NoMemory>
     // A request or an advice.
-    requires asks { asks (function message.now) ≡ true }
+    requires asks { is_answered (function message.now) ≡ true }
     // A balance of at most twelve digits, shown where the verdict is an inquiry.
     requires shown { is_showable message.now answer.now.shown ≡ true }
     ensures whole { IfOk result (λ made. made ≡ response message.now answer.now) }

@@ -1,14 +1,15 @@
 //! What a response tells the acquirer.
 
 ghost use Rattle.std.specs.Prelude.{◌≡◌, ◌≤◌, true, IfSome};
+ghost use Rattle.iso_parts.specs.Mti.{mti_number};
 ghost use Rattle.iso_order.specs.Fields.{has_key, text};
 ghost use Rattle.iso_order.specs.Key.{is_valid_key};
 ghost use Rattle.iso_order.specs.Told.{is_answer, answered_base, told_of};
 
 use crate::fields::{base_of, key_under, text, type_of};
 use crate::key::TxKey;
-use crate::text::number_of;
-use iso_wire::Message;
+use iso_parts::Mti;
+use iso_wire::{Message, number_in};
 
 /// What a response tells of a transaction.
 #[derive(Clone, Copy, Debug, PartialEq, Eq)]
@@ -31,9 +32,9 @@ fn is_answer(message: &Message) -> bool
 }
 
 /// The type of the request or advice that a response answers, without a repeat.
-fn answered_base(mti: u16) -> u16
-    requires { 10 ≤ mti }
-    ensures { result ≡ answered_base mti }
+fn answered_base(mti: Mti) -> u16
+    requires { 10 ≤ mti_number mti }
+    ensures { result ≡ answered_base (mti_number mti) }
 {
     base_of(mti) - 10
 }
@@ -50,8 +51,8 @@ pub fn answer_of(message: &Message) -> Option<Told>
     if !is_answer(message) {
         return None;
     }
-    let key = key_under(message, answered_base(message.mti().number()))?;
-    let code = number_of(text(message, 39), 2, 2)?;
+    let key = key_under(message, answered_base(message.mti()))?;
+    let code = number_in(text(message, 39), 2, 2)?;
     Some(Told {
         key,
         code: code as u8,

@@ -3,23 +3,23 @@
 ghost use Rattle.std.specs.Prelude.{◌≡◌, ◌==◌, ◌&&◌, ◌≤◌, ◌++◌, ◌⊎◌, if◌then◌else◌};
 ghost use Rattle.std.specs.Prelude.{is_some, List, Bool, true, false, Some, None, IfSome, IsTrue};
 ghost use Rattle.iso_wire.specs.Elements.{has};
-ghost use Rattle.iso_order.specs.Fields.{version, class, function, origin, asks, key_of, is_original, kind, is_debit, is_credit};
-ghost use Rattle.iso_order.specs.Fields.{is_inquiry, message_money, part, is_replacement, left_of, completes, hold_of};
+ghost use Rattle.iso_order.specs.Fields.{version, class, function, origin, key_of, is_original, kind, is_debit, is_credit};
+ghost use Rattle.iso_parts.specs.Mti.{is_answered};
+ghost use Rattle.iso_order.specs.Fields.{is_inquiry, message_money, part, is_replacement, left_of, is_completion, hold_of};
 ghost use Rattle.iso_order.specs.Key.{class_digit, function_digit, is_valid_key};
 ghost use Rattle.iso_order.specs.Order.{is_valid, is_hold_for, is_account, is_currency, is_payment};
-ghost use Rattle.iso_order.specs.Text.{are_digits};
+ghost use Rattle.iso_wire.specs.Decimal.{are_digits};
 ghost use Rattle.iso_order.specs.Verdict.{first_of, network_lines, key_lines, original_lines, reversal_lines, completion_lines};
 ghost use Rattle.iso_order.specs.Verdict.{account_lines, act_lines, amount_lines, debited_by, credit_verdict, verdict, IfReply, IfOrder};
 ghost use Rattle.iso_order.specs.Verdict.{IfAnswered};
 
 use crate::act::{Act, Money, currency_of};
-use crate::fields::{has, key_of, text, type_of};
+use crate::fields::{has, key_of, part, text, type_of};
 use crate::key::TxKey;
 use crate::order::Order;
-use crate::original::{completed, is_original, original_of};
+use crate::original::{hold_of, is_original, original_of};
 use crate::pan::Pan;
-use crate::text::{are_digits, number_of, part};
-use iso_wire::Message;
+use iso_wire::{Message, are_digits, number_in};
 
 /// What a message asks, and what it gets where it asks nothing of the issuer.
 #[derive(Clone, Copy, Debug, PartialEq, Eq)]
@@ -33,11 +33,11 @@ pub enum Verdict {
 }
 
 /// Class 8: sign on, sign off and the echo test.
-fn network(message: &Message) -> Verdict
+fn network_verdict(message: &Message) -> Verdict
     requires { class message.now ≡ 8 }
     ensures { result ≡ first_of (network_lines message.now) (Verdict.Reply 12) }
 {
-    match number_of(text(message, 70), 3, 3) {
+    match number_in(text(message, 70), 3, 3) {
         None => Verdict::Reply(30),
         Some(1 | 2 | 301) => Verdict::Reply(0),
         Some(_) => Verdict::Reply(12),
@@ -45,7 +45,7 @@ fn network(message: &Message) -> Verdict
 }
 
 /// What a reversal leaves: nothing, or the first of the replacement amounts.
-fn replacement(message: &Message) -> Option<u64>
+fn left_of(message: &Message) -> Option<u64>
     ensures value { result ≡ (if is_replacement message.now then Some (left_of message.now) else None) }
     ensures small { IfSome result (λ left. left ≤ 999999999999) }
 {
@@ -56,11 +56,11 @@ fn replacement(message: &Message) -> Option<u64>
     if amounts.len() != 42 {
         return None;
     }
-    number_of(&amounts[..12], 12, 12)
+    number_in(&amounts[..12], 12, 12)
 }
 
 /// Class 4: a reversal of the transaction that element 90 names, which leaves so much.
-fn leaving(message: &Message, key: &TxKey, left: u64) -> Verdict
+fn original_verdict(message: &Message, key: &TxKey, left: u64) -> Verdict
     requires left { left ≡ left_of message.now }
     requires small { left ≤ 999999999999 }
     requires class { class message.now ≡ 4 }
@@ -86,7 +86,7 @@ fn leaving(message: &Message, key: &TxKey, left: u64) -> Verdict
 }
 
 /// Class 4: a reversal, and what it leaves.
-fn reversal(message: &Message, key: &TxKey) -> Verdict
+fn reversal_verdict(message: &Message, key: &TxKey) -> Verdict
     requires class { class message.now ≡ 4 }
     requires key { key.now ≡ key_of message.now }
     requires valid { is_valid_key key.now ≡ true }
@@ -96,8 +96,8 @@ fn reversal(message: &Message, key: &TxKey) -> Verdict
     ensures valid { IfOrder result (λ o. IsTrue (is_valid o)) }
     ensures key { IfOrder result (λ o. o.key ≡ key_of message.now) }
 {
-    match replacement(message) {
-        Some(left) => leaving(message, key, left),
+    match left_of(message) {
+        Some(left) => original_verdict(message, key, left),
         None => Verdict::Reply(30),
     }
 }
@@ -135,7 +135,7 @@ fn is_inquiry(code: u64) -> bool
 }
 
 /// A debit, or the completion of a hold.
-fn debited(money: Money, hold: Option<TxKey>) -> Act
+fn debited_by(money: Money, hold: Option<TxKey>) -> Act
     ensures { result ≡ debited_by money hold }
 {
     match hold {
@@ -145,7 +145,13 @@ fn debited(money: Money, hold: Option<TxKey>) -> Act
 }
 
 /// A debit, a completion or a credit of the amount in element 4.
-fn moved(message: &Message, key: &TxKey, hold: Option<TxKey>, code: u64, money: Money) -> Verdict
+fn amount_verdict(
+    message: &Message,
+    key: &TxKey,
+    hold: Option<TxKey>,
+    code: u64,
+    money: Money,
+) -> Verdict
     requires key { key.now ≡ key_of message.now }
     requires code { code ≡ kind message.now }
     requires money { money ≡ message_money message.now 0 }
@@ -160,7 +166,7 @@ fn moved(message: &Message, key: &TxKey, hold: Option<TxKey>, code: u64, money: 
     ensures valid { IfOrder result (λ o. IsTrue (is_valid o)) }
     ensures key { IfOrder result (λ o. o.key ≡ key_of message.now) }
 {
-    let amount = match number_of(text(message, 4), 12, 12) {
+    let amount = match number_in(text(message, 4), 12, 12) {
         None => return Verdict::Reply(30),
         Some(0) => return Verdict::Reply(13),
         Some(amount) => amount,
@@ -172,13 +178,19 @@ fn moved(message: &Message, key: &TxKey, hold: Option<TxKey>, code: u64, money: 
         currency,
     };
     if is_debit(code) {
-        return Verdict::Order(Order::valid(*key, debited(moved, hold)));
+        return Verdict::Order(Order::valid(*key, debited_by(moved, hold)));
     }
     Verdict::Order(Order::valid(*key, Act::Credit(moved)))
 }
 
 /// What the processing code asks of the account.
-fn asked(message: &Message, key: &TxKey, hold: Option<TxKey>, code: u64, money: Money) -> Verdict
+fn act_verdict(
+    message: &Message,
+    key: &TxKey,
+    hold: Option<TxKey>,
+    code: u64,
+    money: Money,
+) -> Verdict
     requires key { key.now ≡ key_of message.now }
     requires code { code ≡ kind message.now }
     requires money { money ≡ message_money message.now 0 }
@@ -207,7 +219,7 @@ fn asked(message: &Message, key: &TxKey, hold: Option<TxKey>, code: u64, money: 
         }
         return Verdict::Order(Order::valid(*key, Act::Inquiry(money)));
     }
-    moved(message, key, hold, code, money)
+    amount_verdict(message, key, hold, code, money)
 }
 
 /// The account and the currency that are there, with no amount.
@@ -226,7 +238,7 @@ fn account(pan: Pan, currency: [u8; 3]) -> Money
 }
 
 /// Classes 1 and 2: what is asked of which account, and the hold that it completes.
-fn account_asked(message: &Message, key: &TxKey, hold: Option<TxKey>) -> Verdict
+fn account_verdict(message: &Message, key: &TxKey, hold: Option<TxKey>) -> Verdict
     requires key { key.now ≡ key_of message.now }
     requires hold { hold ≡ hold_of message.now }
     requires own { IfSome hold (λ h. is_hold_for key.now h ≡ true) }
@@ -249,11 +261,11 @@ fn account_asked(message: &Message, key: &TxKey, hold: Option<TxKey>) -> Verdict
         return Verdict::Reply(30);
     };
     let money = account(pan, currency);
-    asked(message, key, hold, code, money)
+    act_verdict(message, key, hold, code, money)
 }
 
 /// Classes 1 and 2: a payment, an inquiry, or an advice that completes a hold.
-fn payment(message: &Message, key: &TxKey) -> Verdict
+fn payment_verdict(message: &Message, key: &TxKey) -> Verdict
     requires key { key.now ≡ key_of message.now }
     requires valid { is_valid_key key.now ≡ true }
     requires payment { is_payment key.now ≡ true }
@@ -264,16 +276,16 @@ fn payment(message: &Message, key: &TxKey) -> Verdict
     ensures valid { IfOrder result (λ o. IsTrue (is_valid o)) }
     ensures key { IfOrder result (λ o. o.key ≡ key_of message.now) }
 {
-    match completed(message, key) {
-        Ok(hold) => account_asked(message, key, hold),
+    match hold_of(message, key) {
+        Ok(hold) => account_verdict(message, key, hold),
         Err(code) => Verdict::Reply(code),
     }
 }
 
 /// Classes 1, 2 and 4: what is asked under the message's key.
-fn keyed(message: &Message, digit: u8) -> Verdict
+fn key_verdict(message: &Message, digit: u8) -> Verdict
     requires version { version message.now ≡ 0 }
-    requires asks { asks (function message.now) ≡ true }
+    requires asks { is_answered (function message.now) ≡ true }
     requires origin { origin message.now ≤ 5 }
     requires class { digit ≡ class message.now }
     requires served { (digit ≡ 1) ⊎ (digit ≡ 2) ⊎ (digit ≡ 4) }
@@ -286,9 +298,9 @@ fn keyed(message: &Message, digit: u8) -> Verdict
         return Verdict::Reply(30);
     };
     if digit == 4 {
-        reversal(message, &key)
+        reversal_verdict(message, &key)
     } else {
-        payment(message, &key)
+        payment_verdict(message, &key)
     }
 }
 
@@ -298,7 +310,7 @@ fn verdict_of(message: &Message) -> Verdict
     ensures verdict { result ≡ verdict message.now }
     ensures valid { IfOrder result (λ o. IsTrue (is_valid o)) }
     ensures key { IfOrder result (λ o. o.key ≡ key_of message.now) }
-    ensures answered { IfAnswered result (asks (function message.now) ≡ true) }
+    ensures answered { IfAnswered result (is_answered (function message.now) ≡ true) }
 {
     let mti = type_of(message);
     if mti.version != 0 || !matches!(mti.function, 0 | 2) {
@@ -308,8 +320,8 @@ fn verdict_of(message: &Message) -> Verdict
         return Verdict::Reply(12);
     }
     match mti.class {
-        8 => network(message),
-        1 | 2 | 4 => keyed(message, mti.class),
+        8 => network_verdict(message),
+        1 | 2 | 4 => key_verdict(message, mti.class),
         _ => Verdict::Reply(12),
     }
 }
@@ -321,7 +333,7 @@ pub fn order_of(message: &Message) -> Verdict
     // Each delivery of a transaction has one key: its type has no repeat, its acquirer no leading zeros.
     ensures key { IfOrder result (λ o. o.key ≡ key_of message.now) }
     // A message that is answered has a response.
-    ensures answered { IfAnswered result (asks (function message.now) ≡ true) }
+    ensures answered { IfAnswered result (is_answered (function message.now) ≡ true) }
     // A response code has two digits.
     ensures code { IfReply result (λ code. code ≤ 99) }
 {

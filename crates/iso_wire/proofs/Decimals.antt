@@ -3,11 +3,12 @@ use Rattle.std.proofs.Common.{◌≡◌, ℕ, zero, suc, ◌+◌, ◌-◌, ◌*�
 use Rattle.std.proofs.Math.Nat.{pow-le-pow_right}
 use Rattle.std.proofs.Math.Seq.{take-suc}
 use native.Mathlib.Numerals.{unary_clauses}
+use Rattle.std.specs.Prelude.{◌&&◌, nat_le}
 use Rattle.std.specs.List.{list_all}
-use Rattle.std.proofs.lemmas.Bool.{and_parts}
+use Rattle.std.proofs.lemmas.Bool.{and_parts, leb-true}
 use Rattle.std.proofs.lemmas.Bool.Decides.{nat_tests}
 use Rattle.iso_parts.specs.Class.{is_digit}
-use Rattle.iso_wire.specs.Decimal.{number_after, number}
+use Rattle.iso_wire.specs.Decimal.{are_digits, number_after, number}
 
 number_after-push : (n : ℕ) (ds : List ℕ) (d : ℕ) → number_after n (ds ++ d ∷ []) ≡ 10 * number_after n ds + (d - 48)
 number_after-push n [] d = refl
@@ -39,3 +40,16 @@ power-fits n i k lt less le =
     let more_of = power-more n i 9 lt (omega arith) in
     let whole : 10 ^ 19 < 2 ^ 64 = omega arith in
     omega arith
+
+-- fewer digits than there may be
+pub power-up : (n i k : ℕ) → n < 10 ^ i → i ≤ k → n < 10 ^ k
+power-up n i k lt le =
+    let ten : 0 < 10 = omega arith in
+    let most : 10 ^ i ≤ 10 ^ k = pow-le-pow_right ten {i = i} {j = k} le in
+    omega arith
+
+-- how many digits there may be
+pub are_digits-most : (least most : ℕ) (text : List ℕ) → are_digits least most text ≡ true → length text ≤ most
+are_digits-most least most text h =
+    let sizes = and_parts (nat_le least (length text) && nat_le (length text) most) (list_all is_digit text) h in
+    leb-true (length text) most (and_parts (nat_le least (length text)) (nat_le (length text) most) sizes.0).1

@@ -1,7 +1,7 @@
 -- Numbers in decimal.
 use Rattle.std.specs.Prelude.{ℕ, zero, suc, ◌+◌, ◌-◌, ◌*◌, ◌/◌, ◌%◌, Bool, ◌&&◌, nat_le, List, [], ◌∷◌, ◌++◌, length, Option, Some, None, option_and_then, if◌then◌else◌}
 use Rattle.std.specs.List.{list_all}
-use Rattle.iso_parts.specs.Class.{is_digit}
+pub use Rattle.iso_parts.specs.Class.{is_digit}
 use Rattle.iso_wire.specs.Elements.{value_in}
 
 -- the last digits of a number, as characters

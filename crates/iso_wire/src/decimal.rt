@@ -1,6 +1,6 @@
 //! Numbers in decimal.
 
-ghost use Rattle.std.specs.Prelude.{◌≡◌, ◌-◌, ◌^◌, ◌<◌, ◌≤◌, ◌⊎◌, true, length};
+ghost use Rattle.std.specs.Prelude.{◌≡◌, ◌-◌, ◌^◌, ◌<◌, ◌≤◌, ◌⊎◌, true, IfSome, length};
 ghost use Rattle.std.specs.List.{list_all};
 ghost use Rattle.iso_parts.specs.Class.{is_digit};
 ghost use Rattle.iso_wire.specs.Decimal.{decimal, are_digits, number, number_in};
@@ -43,18 +43,20 @@ fn all_digits(text: &[u8]) -> bool
     text.iter().all(|byte| is_digit(*byte))
 }
 
-/// Whether these are from `least` to `most` digits.
-fn are_digits(text: &[u8], least: usize, most: usize) -> bool
+/// Whether a text is of `least` to `most` decimal digits, and of nothing else. Takes no memory.
+pub fn are_digits(text: &[u8], least: usize, most: usize) -> bool
     ensures { result ≡ are_digits least most text.now }
 {
     least <= text.len() && text.len() <= most && all_digits(text)
 }
 
-/// The number of a text of digits.
-fn number(text: &[u8]) -> u64
+/// The number that a text of at most 19 decimal digits writes, 0 where there is none; leading zeros don't count. Takes no
+/// memory.
+pub fn number(text: &[u8]) -> u64
     requires digits { list_all is_digit text.now ≡ true }
     requires few { length text.now ≤ 19 }
-    ensures { result ≡ number text.now }
+    ensures value { result ≡ number text.now }
+    ensures below { result < 10 ^ length text.now }
 {
     let mut so_far = 0;
     for byte in text {
@@ -63,11 +65,15 @@ fn number(text: &[u8]) -> u64
     so_far
 }
 
-/// The number of a text of 1 to 19 digits, `None` for any other text.
-pub(crate) fn read_decimal(text: &[u8]) -> Option<u64>
-    ensures { result ≡ number_in 1 19 text.now }
+/// The number that a text of `least` to `most` decimal digits writes; leading zeros don't count. `None` for any other text.
+/// Takes no memory.
+pub fn number_in(text: &[u8], least: usize, most: usize) -> Option<u64>
+    requires { most ≤ 19 }
+    ensures value { result ≡ number_in least most text.now }
+    ensures below { IfSome result (λ n. n < 10 ^ most) }
+    ensures within { IfSome result (λ n. n < 10 ^ length text.now) }
 {
-    if are_digits(text, 1, 19) {
+    if are_digits(text, least, most) {
         Some(number(text))
     } else {
         None

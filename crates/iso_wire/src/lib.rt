@@ -25,7 +25,7 @@ mod viewing;
 mod words;
 
 pub use bodies::View;
-pub use decimal::{digits_of, write_decimal};
+pub use decimal::{are_digits, digits_of, number, number_in, write_decimal};
 pub use describing::{describe, describe_clear};
 pub use fault::{PackFault, SetFault, UnpackCause, UnpackFault};
 pub use framing::{

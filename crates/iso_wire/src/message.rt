@@ -12,7 +12,7 @@ ghost use Rattle.iso_wire.specs.Ends.{IsSame};
 ghost use Rattle.iso_wire.specs.Equality.{same_contents, same_contents_equiv};
 ghost use Rattle.std.specs.Cmp.{partial_equiv_from_equiv};
 
-use crate::decimal::{read_decimal, write_decimal};
+use crate::decimal::{number_in, write_decimal};
 use crate::elements::Elements;
 use crate::fault::SetFault;
 use crate::iteration::Iter;
@@ -182,7 +182,7 @@ impl Message {
         ensures { result ≡ number_at self.now.elements n }
     {
         let value = self.get(n)?;
-        read_decimal(value)
+        number_in(value, 1, 19)
     }
 
     /// Puts a value at its number, in place of the one that was there.

@@ -4,7 +4,8 @@ use Rattle.std.proofs.lemmas.Int.{ints}
 use mir.Val.{to_z, of_z}
 use mir.Syntax.{w64}
 use Rattle.iso_issuer.specs.declared.balances.Balance.{Balance}
-use Rattle.iso_issuer.specs.Decision.{shown_by, money_of}
+use Rattle.iso_issuer.specs.Decision.{shown_by}
+use Rattle.iso_order.specs.Order.{money_of}
 use Rattle.iso_issuer.specs.Balances.{accounts_of, balance_at}
 use Rattle.iso_issuer.proofs.Summed.{available-of}
 use Rattle.iso_issuer.proofs.decision.shown_by.Goals as goal

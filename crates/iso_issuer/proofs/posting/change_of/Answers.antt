@@ -9,10 +9,10 @@ pub returns-clause-ledger : goal.returns-clause-ledger
 returns-clause-ledger c = λ pan.
     let f = c.in_ok-effect.effect in
     let grown : to_z w64 (of_z w64 (to_z w64 (of_z w64 (pos c.args.after)) -ℤ to_z w64 (of_z w64 (pos c.args.before)))) ≡ pos c.args.after -ℤ pos c.args.before = omega (arith, ints, c.requires.before, c.requires.after) in
-    rw (c.grown_by.ensures.pan, c.grown_by.ensures.ledger, grown, ← c.in_ok-effect.ensures.value) (grown-ledger f pan c.args.before c.args.after)
+    rw (c.change_by.ensures.pan, c.change_by.ensures.ledger, grown, ← c.in_ok-effect.ensures.value) (grown-ledger f pan c.args.before c.args.after)
 
 pub returns-clause-available : goal.returns-clause-available
 returns-clause-available c = λ pan.
     let f = c.in_ok-effect.effect in
     let grown : to_z w64 (of_z w64 (to_z w64 (of_z w64 (pos c.args.after)) -ℤ to_z w64 (of_z w64 (pos c.args.before)))) ≡ pos c.args.after -ℤ pos c.args.before = omega (arith, ints, c.requires.before, c.requires.after) in
-    rw (c.grown_by.ensures.pan, c.grown_by.ensures.available, grown, ← c.in_ok-effect.ensures.value) (grown-available f pan c.args.before c.args.after)
+    rw (c.change_by.ensures.pan, c.change_by.ensures.available, grown, ← c.in_ok-effect.ensures.value) (grown-available f pan c.args.before c.args.after)

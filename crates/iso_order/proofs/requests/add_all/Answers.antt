@@ -2,7 +2,7 @@ use Rattle.std.proofs.Common.{ℕ, List, ◌++◌, get_or, sym, ap, ◌∙◌}
 use Rattle.iso_wire.specs.Contents.{Contents}
 use Rattle.iso_wire.specs.Elements.{is_number}
 use Rattle.iso_order.specs.Listing.{entry}
-use Rattle.iso_order.specs.Request.{request_value}
+use Rattle.iso_order.specs.Requests.{request_value}
 use Rattle.iso_order.proofs.Ascending.{IsBelow-front, elements_with_value-more}
 use Rattle.iso_order.proofs.requests.add_all.Goals as goal
 

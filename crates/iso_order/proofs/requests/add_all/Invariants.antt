@@ -1,6 +1,6 @@
 use Rattle.std.proofs.Common.{◌≡◌, take}
-use Rattle.iso_order.specs.Listing.{elements_with_value}
-use Rattle.iso_order.specs.Request.{request_value}
+use Rattle.iso_order.specs.Adding.{elements_with_value}
+use Rattle.iso_order.specs.Requests.{request_value}
 use Rattle.iso_order.proofs.requests.add_all.Given as goal
 
 abbrev pub invariant-loop-n : goal.invariant-loop-n

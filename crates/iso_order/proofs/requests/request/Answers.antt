@@ -3,9 +3,9 @@ use Rattle.std.specs.Prelude.{IsTrue}
 use Rattle.iso_wire.specs.Contents.{Contents}
 use Rattle.iso_order.specs.declared.act.Act.{Act}
 use Rattle.iso_order.specs.declared.key.TxKey.{TxKey}
-use Rattle.iso_order.specs.Listing.{elements_with_value}
+use Rattle.iso_order.specs.Adding.{elements_with_value}
 use Rattle.iso_order.specs.Order.{Instruction, is_valid}
-use Rattle.iso_order.specs.Request.{AsksFor, FitsEdition87, request_value}
+use Rattle.iso_order.specs.Requests.{AsksFor, FitsEdition87, request_value}
 use Rattle.iso_order.proofs.RequestFits.{request-listed}
 use Rattle.iso_order.proofs.RequestVerdicts.{value-is}
 use Rattle.iso_order.proofs.Valid.{KeyFacts, key_facts, valid-parts}
@@ -15,8 +15,8 @@ use Rattle.iso_order.proofs.requests.request.Goals as goal
 order-key : (o : Instruction) → IsTrue (is_valid o) → KeyFacts o.key
 order-key o h = key_facts o.key (valid-parts o h).0
 
-pub request_type-mti-requires : goal.request_type-mti-requires
-request_type-mti-requires c = rw c.key-key.ensures.value (omega (arith, (order-key c.args.order.now c.key-key.ensures.valid).small))
+pub mti_of-mti-requires : goal.mti_of-mti-requires
+mti_of-mti-requires c = rw c.key-key.ensures.value (omega (arith, (order-key c.args.order.now c.key-key.ensures.valid).small))
 
 pub add_all-requires-clause-acquirer : goal.add_all-requires-clause-acquirer
 add_all-requires-clause-acquirer c = rw c.key-key.ensures.value (omega (arith, (order-key c.args.order.now c.key-key.ensures.valid).acquirer))
@@ -27,7 +27,7 @@ returns-clause-whole c =
     let value = request_value c.key-key.result c.act-act.result in
     c.in_ok-add_all.ensures
     ∙ ap (λ (made : Contents). record made { elements = elements_with_value value numbers }) c.in_ok-request.ensures
-    ∙ ap (λ (mti : ℕ). record { mti = mti; elements = elements_with_value value numbers }) c.request_type-mti.ensures
+    ∙ ap (λ (mti : ℕ). record { mti = mti; elements = elements_with_value value numbers }) c.mti_of-mti.ensures
     ∙ ap (λ (k : TxKey). record { mti = k.base; elements = elements_with_value (request_value k c.act-act.result) numbers }) c.key-key.ensures.value
     ∙ ap (λ (a : Act). record { mti = c.args.order.now.key.base; elements = elements_with_value (request_value c.args.order.now.key a) numbers }) c.act-act.ensures.value
     ∙ sym (request-listed c.args.order.now)

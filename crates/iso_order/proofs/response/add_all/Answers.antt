@@ -1,12 +1,13 @@
 use Rattle.std.proofs.Common.{ℕ, List, ◌++◌, get_or, sym, ap, ◌∙◌}
 use Rattle.iso_wire.specs.Contents.{Contents}
 use Rattle.iso_order.specs.Listing.{entry}
-use Rattle.iso_order.specs.Response.{element, is_responded}
-use Rattle.iso_order.proofs.Ascending.{ascend-each, IsBelow-front, elements_with_value-more}
+use Rattle.iso_order.specs.Response.{element}
+use Rattle.iso_order.specs.Adding.{is_responded}
+use Rattle.iso_order.proofs.Ascending.{are_ascending-each, IsBelow-front, elements_with_value-more}
 use Rattle.iso_order.proofs.response.add_all.Goals as goal
 
 pub add-requires-clause-number : goal.add-requires-clause-number
-add-requires-clause-number c = ascend-each is_responded 2 c.args.numbers.now c.loop-n.n-index c.requires.numbers c.loop-n-test.true
+add-requires-clause-number c = are_ascending-each is_responded 2 c.args.numbers.now c.loop-n.n-index c.requires.numbers c.loop-n-test.true
 
 pub add-requires-clause-behind : goal.add-requires-clause-behind
 add-requires-clause-behind c =

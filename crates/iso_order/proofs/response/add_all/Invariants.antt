@@ -1,5 +1,5 @@
 use Rattle.std.proofs.Common.{◌≡◌, take}
-use Rattle.iso_order.specs.Listing.{elements_with_value}
+use Rattle.iso_order.specs.Adding.{elements_with_value}
 use Rattle.iso_order.specs.Response.{element}
 use Rattle.iso_order.proofs.response.add_all.Given as goal
 

@@ -1,6 +1,6 @@
 use Rattle.std.proofs.Common.{ℕ, List, [], ◌∷◌, sym, ap, ◌∙◌}
 use Rattle.iso_wire.specs.Contents.{Contents}
-use Rattle.iso_order.specs.Listing.{elements_with_value}
+use Rattle.iso_order.specs.Adding.{elements_with_value}
 use Rattle.iso_order.specs.Response.{element}
 use Rattle.iso_order.proofs.Ascending.{response-listed, response-each}
 use Rattle.iso_order.proofs.response.respond_into.Goals as goal

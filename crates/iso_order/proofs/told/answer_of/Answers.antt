@@ -12,5 +12,5 @@ returns-clause-valid c =
     let key = c.in_ok-key.ensures in
     let told = some_if (has_key m) (record (key_of m) { base = c.answered_base.result }) c.in_ok-key.key key.value in
     let answer : is_answer m ≡ true = sym c.is_answer.ensures ∙ c.if-not-is_answer.false in
-    let base = ap (λ (k : TxKey). k.base) told.1 ∙ c.answered_base.ensures ∙ ap answered_base (c.number.ensures ∙ c.mti.ensures) in
+    let base = ap (λ (k : TxKey). k.base) told.1 ∙ c.answered_base.ensures ∙ ap answered_base c.mti.ensures in
     told-valid m c.in_ok-key.key answer base key.stan key.sent key.acquirer

@@ -19,8 +19,8 @@ index-requires c =
     let at : account_place (accounts_of rows) c.args.change.pan ≡ Some c.in-Some.place = sym told ∙ c.in-Some.is in
     omega (arith, place-below (λ (a : Account). same_pan a.pan c.args.change.pan) 0 (accounts_of rows) c.in-Some.place at, length-map rows (λ (b : Balance). b.account))
 
-pub changed-requires : goal.changed-requires
-changed-requires c =
+pub balance_with-requires : goal.balance_with-requires
+balance_with-requires c =
     let rows = c.self.inside.rows.items in
     let told : c.args.place ≡ account_place (accounts_of rows) c.args.change.pan = rw c.self.view_is c.requires.place in
     let at : account_place (accounts_of rows) c.args.change.pan ≡ Some c.in-Some.place = sym told ∙ c.in-Some.is in
@@ -41,8 +41,8 @@ invariant_of-self c =
     let rows = c.self.inside.rows.items in
     let told : c.args.place ≡ account_place (accounts_of rows) c.args.change.pan = rw c.self.view_is c.requires.place in
     let at : account_place (accounts_of rows) c.args.change.pan ≡ Some c.in-Some.place = sym told ∙ c.in-Some.is in
-    let value : c.changed.result ≡ balance_with c.args.change (get_or rows c.in-Some.place c.index.result.now) = c.changed.ensures ∙ ap (balance_with c.args.change) c.index.ensures in
-    let written : set rows c.in-Some.place c.changed.result ≡ map (balance_after c.args.change) rows =
+    let value : c.balance_with.result ≡ balance_with c.args.change (get_or rows c.in-Some.place c.index.result.now) = c.balance_with.ensures ∙ ap (balance_with c.args.change) c.index.ensures in
+    let written : set rows c.in-Some.place c.balance_with.result ≡ map (balance_after c.args.change) rows =
     ap (set rows c.in-Some.place) value ∙ posted-at c.args.change rows c.index.result.now c.in-Some.place c.self.invariant.1 at in
     rw (written, accounts-posted c.args.change rows) c.self.invariant
 
@@ -51,7 +51,7 @@ returns-in-Some c =
     let rows = c.self.inside.rows.items in
     let told : c.args.place ≡ account_place (accounts_of rows) c.args.change.pan = rw c.self.view_is c.requires.place in
     let at : account_place (accounts_of rows) c.args.change.pan ≡ Some c.in-Some.place = sym told ∙ c.in-Some.is in
-    let value : c.changed.result ≡ balance_with c.args.change (get_or rows c.in-Some.place c.index.result.now) = c.changed.ensures ∙ ap (balance_with c.args.change) c.index.ensures in
+    let value : c.balance_with.result ≡ balance_with c.args.change (get_or rows c.in-Some.place c.index.result.now) = c.balance_with.ensures ∙ ap (balance_with c.args.change) c.index.ensures in
     rw (← c.self.view_is)
     (ap (set rows c.in-Some.place) value ∙ posted-at c.args.change rows c.index.result.now c.in-Some.place c.self.invariant.1 at)
 

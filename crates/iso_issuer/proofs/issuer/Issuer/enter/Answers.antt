@@ -4,7 +4,8 @@ use Rattle.std.proofs.lemmas.List.{map-append, length-map}
 use Rattle.iso_order.specs.Order.{Instruction}
 use Rattle.iso_issuer.specs.declared.account.Account.{Account}
 use Rattle.iso_issuer.specs.declared.journal.Entry.{Entry}
-use Rattle.iso_issuer.specs.Journal.{entry_at, reversed_by, released_by}
+use Rattle.iso_issuer.specs.Journal.{entry_at}
+use Rattle.iso_issuer.specs.Found.{reversed_by, released_by}
 use Rattle.iso_issuer.specs.Decision.{new_answer}
 use Rattle.iso_issuer.specs.Balances.{accounts_of, IsNear}
 use Rattle.iso_issuer.specs.Index.{account_place}

@@ -1,7 +1,7 @@
 use Rattle.std.proofs.Common.{◌∙◌, ap}
 use Rattle.iso_order.specs.declared.act.Money.{Money}
 use Rattle.iso_order.proofs.Valid.{inquiry-valid}
-use Rattle.iso_order.proofs.verdict.asked.Goals as goal
+use Rattle.iso_order.proofs.verdict.act_verdict.Goals as goal
 
 pub valid-requires : goal.valid-requires
 valid-requires c =

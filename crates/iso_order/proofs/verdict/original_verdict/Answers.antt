@@ -3,10 +3,10 @@ use Rattle.iso_order.specs.declared.key.TxKey.{TxKey}
 use Rattle.iso_order.specs.declared.original.Original.{Original}
 use Rattle.iso_order.specs.Fields.{class, text, original_mti, is_original, is_own}
 use Rattle.iso_order.specs.Original.{named_original}
-use Rattle.iso_order.specs.Text.{are_digits}
+use Rattle.iso_wire.specs.Decimal.{are_digits}
 use Rattle.iso_order.proofs.Table.{some_if, none_if, turned, no_original, of_another_type, of_another_acquirer, with_original}
 use Rattle.iso_order.proofs.Valid.{undo-valid}
-use Rattle.iso_order.proofs.verdict.leaving.Goals as goal
+use Rattle.iso_order.proofs.verdict.original_verdict.Goals as goal
 
 pub valid-requires : goal.valid-requires
 valid-requires c =

@@ -8,7 +8,7 @@ use Rattle.iso_issuer.specs.declared.document.Listed.{Listed}
 use Rattle.iso_issuer.specs.declared.fault.AccountsFault.TheVariants.{Twice}
 use Rattle.iso_issuer.specs.Document.{as_listed, is_listed, is_out_of_range}
 use Rattle.iso_issuer.proofs.Documents.{listed-found, fault_at, fault-twice, fault-none, ranged, is_none-of}
-use Rattle.iso_issuer.proofs.accounts.judged.Goals as goal
+use Rattle.iso_issuer.proofs.accounts.opening_balances.Goals as goal
 
 pub open-requires : goal.open-requires
 open-requires c =

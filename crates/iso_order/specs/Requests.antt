@@ -13,18 +13,10 @@ use Rattle.iso_order.specs.declared.act.Money.{Money}
 use Rattle.iso_order.specs.declared.key.TxKey.{TxKey}
 use Rattle.iso_order.specs.declared.verdict.Verdict.TheVariants.{Order}
 use Rattle.iso_order.specs.Listing.{elements_from}
-use Rattle.iso_order.specs.Order.{Instruction, is_valid}
+use Rattle.iso_order.specs.Order.{Instruction, is_valid, money_of}
 use Rattle.iso_order.specs.Verdict.{verdict}
 
 -- ---- what an act tells
-
--- the account, the amount and the currency; a reversal has none
-abbrev pub money_in : Act → Option Money
-money_in (Debit m) = Some m
-money_in (Credit m) = Some m
-money_in (Inquiry m) = Some m
-money_in (Undo k left) = None
-money_in (Complete m hold) = Some m
 
 -- goods and services, a return, or a balance inquiry (ISO 8583:1987, element 3, processing code)
 abbrev pub processing_code : Act → Option ℕ
@@ -91,13 +83,13 @@ replacement_amounts left = decimal 12 left ++ decimal 12 0 ++ no_fee ++ no_fee
 -- the value of an element of the request for an act under a key, if it has it
 abbrev pub request_value : TxKey → Act → ℕ → Option (List ℕ)
 request_value key act n =
-    if n == 2 then option_map account_number (money_in act)
+    if n == 2 then option_map account_number (money_of act)
     else if n == 3 then option_map (decimal 6) (processing_code act)
     else if n == 4 then option_map (decimal 12) (moved_amount act)
     else if n == 7 then Some (decimal 10 key.sent)
     else if n == 11 then Some (decimal 6 key.stan)
     else if n == 32 then Some (acquirer_code key.acquirer)
-    else if n == 49 then option_map (λ m. m.currency) (money_in act)
+    else if n == 49 then option_map (λ m. m.currency) (money_of act)
     else if n == 90 then option_map original_data (named_by act)
     else if n == 95 then option_map replacement_amounts (partial_left act)
     else None

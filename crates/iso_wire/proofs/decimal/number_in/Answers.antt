@@ -1,7 +1,6 @@
 use Rattle.std.proofs.Common.{length, sym, ◌∙◌}
-use Rattle.iso_order.proofs.Numbers.{power-up}
-use Rattle.iso_order.proofs.Digits.{are_digits-most}
-use Rattle.iso_order.proofs.text.number_of.Goals as goal
+use Rattle.iso_wire.proofs.Decimals.{are_digits-most, power-up}
+use Rattle.iso_wire.proofs.decimal.number_in.Goals as goal
 
 pub returns-then-are_digits-clause-below : goal.returns-then-are_digits-clause-below
 returns-then-are_digits-clause-below c =

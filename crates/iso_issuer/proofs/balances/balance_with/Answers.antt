@@ -3,7 +3,7 @@ use Rattle.std.specs.Prelude.{◌+ℤ◌}
 use Rattle.std.proofs.lemmas.Int.{ints}
 use mir.Val.{to_z, of_z}
 use mir.Syntax.{w64}
-use Rattle.iso_issuer.proofs.balances.changed.Goals as goal
+use Rattle.iso_issuer.proofs.balances.balance_with.Goals as goal
 
 pub returns : goal.returns
 returns c =

@@ -1,7 +1,7 @@
 use Rattle.std.proofs.Common.{◌≡◌, take, drop, map, []}
 use Rattle.iso_issuer.specs.Balances.{accounts_of, opening_balance}
 use Rattle.iso_issuer.specs.Document.{accounts_fault, as_listed}
-use Rattle.iso_issuer.proofs.accounts.judged.Given as goal
+use Rattle.iso_issuer.proofs.accounts.opening_balances.Given as goal
 
 -- the accounts so far are those listed, each as it is at first, and the first fault is among the rest
 abbrev pub invariant-loop-i : goal.invariant-loop-i
