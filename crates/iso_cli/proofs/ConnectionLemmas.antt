@@ -11,7 +11,7 @@ use Rattle.iso_table.specs.Layout.{Layout}
 use Rattle.iso_issuer.specs.Books.{Books}
 use Rattle.iso_wire.specs.declared.header.Header.{Header}
 use Rattle.iso_host.specs.Served.{Outcome}
-use Rattle.iso_host.specs.Entering.{books_after, BodiesGoOn, StaysWithout}
+use Rattle.iso_host.specs.Entering.{books_after_bodies, BodiesGoOn, StaysWithout}
 use Rattle.iso_host.specs.declared.fault.Report.{Report}
 use Rattle.iso_host.specs.declared.fault.ServeFault.{ServeFault}
 use Rattle.iso_host.specs.declared.fault.ServeFault.TheVariants.{Read, Write, BadHeader, CutFrame, Memory, TooManyTurns}
@@ -38,8 +38,8 @@ one_more : BodiesGoOn → (t : Layout) (old mid new : Books) (served most : ℕ)
 one_more go_on t old mid new served most connections ended so_far room next = record {
   few = rw (length-append connections (record { bodies = next.bodies; ended = ended } ∷ [])) (omega (arith, so_far.few, room));
   journal =
-      next.journal ∙ ap (λ (b : Books). books_after t b next.bodies) so_far.journal ∙ go_on t old (flat_map (λ c. c.bodies) connections) next.bodies
-      ∙ ap (books_after t old) (ap (λ (l : List (List ℕ)). flat_map (λ c. c.bodies) connections ++ l) (sym (append-nil next.bodies))
+      next.journal ∙ ap (λ (b : Books). books_after_bodies t b next.bodies) so_far.journal ∙ go_on t old (flat_map (λ c. c.bodies) connections) next.bodies
+      ∙ ap (books_after_bodies t old) (ap (λ (l : List (List ℕ)). flat_map (λ c. c.bodies) connections ++ l) (sym (append-nil next.bodies))
       ∙ sym (flat_map-append (λ c. c.bodies) connections (record { bodies = next.bodies; ended = ended } ∷ [])));
   counted = All-push (λ c. CountsBodies t c.bodies c.ended) connections (record { bodies = next.bodies; ended = ended }) so_far.counted next.counted;
 }

@@ -10,7 +10,7 @@ use Rattle.iso_issuer.specs.Document.{ListsAccounts}
 use Rattle.iso_host.specs.declared.fault.Report.{Report}
 use Rattle.iso_host.specs.declared.fault.ServeFault.{ServeFault}
 use Rattle.iso_host.specs.declared.fault.ServeFault.TheVariants.{Memory}
-use Rattle.iso_host.specs.Entering.{books_after}
+use Rattle.iso_host.specs.Entering.{books_after_bodies}
 use Rattle.iso_host.specs.Served.{Reports}
 use Rattle.iso_cli.specs.declared.prepare.Serving.{Serving}
 use Rattle.iso_cli.specs.declared.listening.Listening.{Listening}
@@ -47,7 +47,7 @@ CountsBodies t bodies (Err fault) = Unit {0}
 -- the orders of some bodies were entered, and no other
 pub record IsConnection (t : Layout) (old new : Books) (ended : Result Report ServeFault) : Type 0 where
   pub bodies : List (List ℕ)
-  pub journal : new ≡ books_after t old bodies
+  pub journal : new ≡ books_after_bodies t old bodies
   pub counted : CountsBodies t bodies ended
 
 -- ---- its lines
@@ -83,7 +83,7 @@ TellsEnd held written heard told ended status = ((status ≡ 0) × EndTold held 
 -- at most so many were served, on one journal: it holds the first orders of the bodies of all of them, in their order
 pub record OneJournal (t : Layout) (old new : Books) (count : ℕ) (connections : List Connection) : Type 0 where
   pub few : length connections ≤ count
-  pub journal : new ≡ books_after t old (flat_map (λ c. c.bodies) connections)
+  pub journal : new ≡ books_after_bodies t old (flat_map (λ c. c.bodies) connections)
   pub counted : All (λ c. CountsBodies t c.bodies c.ended) connections
 
 -- all of them were served and told, one after the other, and none ended for want of memory

@@ -11,13 +11,13 @@ use Rattle.iso_wire.specs.declared.header.Header.TheVariants.{Binary2, Ascii4, B
 use Rattle.iso_wire.specs.Frame.{frame_of, frames_of, largest, NoFrame, is_bad_header, BadIsNoFrame, BadStays}
 use Rattle.iso_order.specs.declared.verdict.Verdict.{Verdict}
 use Rattle.iso_issuer.specs.Books.{Books}
-use Rattle.iso_issuer.specs.Laws.{FirstsGoOn}
+use Rattle.iso_issuer.specs.Laws.{FirstsGoOn, books_after}
 use Rattle.iso_host.proofs.JournalLemmas.{books_more, books_none}
 use Rattle.iso_host.proofs.OutputLemmas.{frames_more, AllFit_more, output_none, output_more, output_front, front_more}
 use Rattle.iso_host.proofs.Running.{Going, Running}
 use Rattle.iso_host.specs.Asking.{message_in, asked_of, count_asked, has_answer, is_silent, is_unreadable}
 use Rattle.iso_host.specs.Counts.{Counts}
-use Rattle.iso_host.specs.Entering.{books_after, books_after_body, with_orders}
+use Rattle.iso_host.specs.Entering.{books_after_bodies, books_after_body}
 use Rattle.iso_host.specs.Output.{IsAnswer, IsAnswerTo, IsOutput}
 use Rattle.iso_host.specs.Pieces.{EndsInside}
 use Rattle.iso_host.specs.Served.{Served, Outcome, Cut, Reports, ReportsOneMore, one_more}
@@ -55,7 +55,7 @@ no_byte Bcd2 body more fits e = cc
 
 module _ (t : Layout) (h : Header) (unread held : Option (List ℕ)) (old : Books) where
   -- nothing is handled yet
-  pub served_none : with_orders old [] ≡ old → (window : List ℕ) → window ≡ [] → Served t h unread (prepend_known window unread) held held old old [] []
+  pub served_none : books_after old [] ≡ old → (window : List ℕ) → window ≡ [] → Served t h unread (prepend_known window unread) held held old old [] []
   served_none kept window none = record {
     read = subst (λ (w : List ℕ). Consumes unread (prepend_known w unread) []) (sym none) (none_waits unread);
     fit = tt;
@@ -67,7 +67,7 @@ module _ (t : Layout) (h : Header) (unread held : Option (List ℕ)) (old : Book
 
   module _ (go_on : FirstsGoOn) (pending written : Option (List ℕ)) (mid : Books) (bodies : List (List ℕ)) (served : Served t h unread pending held written old mid bodies []) where
     -- the journal goes on by the body's order
-    entered_more : (new : Books) (body : List ℕ) → new ≡ books_after_body t mid body → new ≡ books_after t old (bodies ++ body ∷ [])
+    entered_more : (new : Books) (body : List ℕ) → new ≡ books_after_body t mid body → new ≡ books_after_bodies t old (bodies ++ body ∷ [])
     entered_more new body enters = enters ∙ ap (λ (b : Books). books_after_body t b body) served.books ∙ sym (books_more go_on t old bodies body)
 
     -- the frame is the next one
@@ -86,7 +86,7 @@ module _ (t : Layout) (h : Header) (unread held : Option (List ℕ)) (old : Book
         (taken_behind unread left ((frames_of h bodies ++ []) ++ part) window (Consumes-trans unread pending (prepend_known window left) _ _ served.read taken))
 
     -- the answer is the next one of the output
-    answer_more : (body answer : List ℕ) → IsAnswer t h mid body answer → IsAnswer t h (books_after t old bodies) body answer
+    answer_more : (body answer : List ℕ) → IsAnswer t h mid body answer → IsAnswer t h (books_after_bodies t old bodies) body answer
     answer_more body answer is = subst (λ (b : Books). IsAnswer t h b body answer) served.books is
 
     -- one more body is handled and answered

@@ -15,7 +15,7 @@ use Rattle.iso_order.specs.Verdict.{verdict}
 use Rattle.iso_issuer.specs.Books.{Books, journal}
 use Rattle.iso_issuer.specs.Decision.{reply}
 use Rattle.iso_host.specs.Asking.{message_in}
-use Rattle.iso_host.specs.Entering.{books_after, is_full}
+use Rattle.iso_host.specs.Entering.{books_after_bodies, is_full}
 
 -- ---- the response to a body
 
@@ -60,7 +60,7 @@ IsAnswer t h books body bytes = IsFramed t h (response_to books (message_in t bo
 abbrev pub IsOutputFrom : Layout → Header → Books → List (List ℕ) → List (List ℕ) → List ℕ → Type 0
 IsOutputFrom t h books earlier [] bytes = bytes ≡ []
 IsOutputFrom t h books earlier (body ∷ bodies) bytes =
-    (first : List ℕ) × (others : List ℕ) × IsAnswer t h (books_after t books earlier) body first
+    (first : List ℕ) × (others : List ℕ) × IsAnswer t h (books_after_bodies t books earlier) body first
     × IsOutputFrom t h books (earlier ++ body ∷ []) bodies others × (bytes ≡ first ++ others)
 
 -- what is written for these bodies

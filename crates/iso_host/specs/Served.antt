@@ -10,7 +10,7 @@ use Rattle.iso_wire.specs.Frame.{frames_of, AllFit, NoFrame, is_bad_header}
 use Rattle.iso_order.specs.declared.verdict.Verdict.{Verdict}
 use Rattle.iso_issuer.specs.Books.{Books}
 use Rattle.iso_host.specs.Counts.{Counts}
-use Rattle.iso_host.specs.Entering.{books_after}
+use Rattle.iso_host.specs.Entering.{books_after_bodies}
 use Rattle.iso_host.specs.Asking.{has_answer, is_silent, is_unreadable, count_asked}
 use Rattle.iso_host.specs.Output.{IsOutput}
 use Rattle.iso_host.specs.declared.fault.Report.{Report}
@@ -23,7 +23,7 @@ use Rattle.iso_host.specs.declared.fault.ServeFault.TheVariants.{Read, Write, Ba
 pub record Served (t : Layout) (h : Header) (unread left held written : Option (List ℕ)) (old new : Books) (bodies : List (List ℕ)) (rest : List ℕ) : Type 0 where
   pub read : Consumes unread left (frames_of h bodies ++ rest)
   pub fit : AllFit h bodies
-  pub books : new ≡ books_after t old bodies
+  pub books : new ≡ books_after_bodies t old bodies
   pub bytes : List ℕ
   pub output : IsOutput t h old bodies bytes
   pub answers : Appends held written bytes
@@ -40,7 +40,7 @@ IsPrefix xs ys = (more : List ℕ) × (ys ≡ xs ++ more)
 pub record Stopped (t : Layout) (h : Header) (unread left held written : Option (List ℕ)) (old new : Books) (bodies : List (List ℕ)) (rest bytes : List ℕ) : Type 0 where
   pub read : Consumes unread left (frames_of h bodies ++ rest)
   pub fit : AllFit h bodies
-  pub books : new ≡ books_after t old bodies
+  pub books : new ≡ books_after_bodies t old bodies
   pub answers : Appends held written bytes
   pub less : List ℕ
   pub less_output : IsOutput t h old (front bodies) less

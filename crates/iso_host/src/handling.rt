@@ -5,10 +5,11 @@ ghost use Rattle.iso_wire.specs.Spelling.{Spelling};
 ghost use Rattle.iso_order.specs.Fields.{function, asks};
 ghost use Rattle.iso_order.specs.Response.{is_showable};
 ghost use Rattle.iso_order.specs.Verdict.{verdict};
+ghost use Rattle.iso_issuer.specs.Laws.{books_after};
 ghost use Rattle.iso_issuer.specs.Shown.{is_shown_for};
 ghost use Rattle.iso_host.specs.Asking.{orders_in};
 ghost use Rattle.iso_host.specs.Desk.{IsSameDesk};
-ghost use Rattle.iso_host.specs.Entering.{entered_by, with_orders};
+ghost use Rattle.iso_host.specs.Entering.{entered_by};
 ghost use Rattle.iso_host.specs.Handled.{Handles, EntersOrKeeps};
 ghost use Rattle.iso_host.specs.Output.{outcome_for, outcome_of};
 
@@ -33,7 +34,7 @@ pub enum Handled {
 fn answer_order(issuer: &mut Issuer, order: Order) -> Result<Answer, NoMemory>
     ensures answer { IfOk result (λ answer. answer ≡ outcome_for issuer.old order) }
     ensures shown { IfOk result (λ answer. is_shown_for order.act answer.shown ≡ true) }
-    ensures entered { OnOk result (issuer.new ≡ with_orders issuer.old (order ∷ [])) }
+    ensures entered { OnOk result (issuer.new ≡ books_after issuer.old (order ∷ [])) }
     ensures unchanged { OnErr result (issuer.new ≡ issuer.old) }
 {
     // any call on the issuer tells the proof what holds of every issuer
@@ -47,7 +48,7 @@ fn answer_order(issuer: &mut Issuer, order: Order) -> Result<Answer, NoMemory>
 
 /// Where no order comes, the books stay as they are.
 pub fn enters_nothing(issuer: &Issuer)
-    ensures { with_orders issuer.now [] ≡ issuer.now }
+    ensures { books_after issuer.now [] ≡ issuer.now }
 {
     firsts_stay();
     // any call on the issuer tells the proof what holds of every issuer
@@ -59,7 +60,7 @@ fn answer_to(issuer: &mut Issuer, message: &Message) -> Result<Option<Answer>, N
     ensures answer { IfOk result (λ answer. answer ≡ outcome_of issuer.old (verdict message.now)) }
     ensures asks { IfOk result (λ answer. IfSome answer (λ a. asks (function message.now) ≡ true)) }
     ensures shown { IfOk result (λ answer. IfSome answer (λ a. is_showable message.now a.shown ≡ true)) }
-    ensures entered { OnOk result (issuer.new ≡ with_orders issuer.old (orders_in (Some (verdict message.now)))) }
+    ensures entered { OnOk result (issuer.new ≡ books_after issuer.old (orders_in (Some (verdict message.now)))) }
     ensures unchanged { OnErr result (issuer.new ≡ issuer.old) }
 {
     enters_nothing(issuer);
