@@ -93,7 +93,7 @@ fn step(world: &mut World, event: &Event) -> Result<(), StepFault>
 }
 
 /// An event, what comes of it, the state that the acquirer then holds of a transaction, and what is then on the account.
-type Row = (Event, Result<(), StepFault>, Option<State>, i64);
+type PlayedEvent = (Event, Result<(), StepFault>, Option<State>, i64);
 
 /// The event, which begins no other debits than `begin` makes.
 fn fair(event: Event) -> Result<Event, Fail>
@@ -106,7 +106,7 @@ fn fair(event: Event) -> Result<Event, Fail>
 }
 
 /// Plays events.
-fn play(rt: &impl Abort, world: &mut World, stan: u32, rows: &[Row]) -> Result<(), Fail> {
+fn play(rt: &impl Abort, world: &mut World, stan: u32, rows: &[PlayedEvent]) -> Result<(), Fail> {
     for (event, told, state, ledger) in rows {
         let event = fair(*event)?;
         assert_eq!(rt; step(world, &event), *told, "{event:?}");

@@ -4,7 +4,7 @@ use std::alloc::{AllocError, Global};
 
 /// What is measured.
 #[derive(Debug, Drop)]
-pub enum Job {
+pub enum Measurement {
     /// Messages, read and written so many times.
     Codec {
         /// How often.
@@ -42,7 +42,7 @@ fn numbers_of(alloc: Global, words: &[String]) -> Result<Option<Vec<u32>>, Alloc
 }
 
 /// What the words ask, if they ask anything.
-pub fn job_of(alloc: Global, words: &[String]) -> Result<Option<Job>, AllocError> {
+pub fn measurement_of(alloc: Global, words: &[String]) -> Result<Option<Measurement>, AllocError> {
     let Some((first, rest)) = words.split_first() else {
         return Ok(None);
     };
@@ -50,8 +50,8 @@ pub fn job_of(alloc: Global, words: &[String]) -> Result<Option<Job>, AllocError
         return Ok(None);
     };
     match (first.as_str(), numbers.as_slice()) {
-        ("codec", [times]) => Ok(Some(Job::Codec { times: *times })),
-        ("issuer", [_, ..]) => Ok(Some(Job::Issuer { sizes: numbers })),
+        ("codec", [times]) => Ok(Some(Measurement::Codec { times: *times })),
+        ("issuer", [_, ..]) => Ok(Some(Measurement::Issuer { sizes: numbers })),
         _ => Ok(None),
     }
 }

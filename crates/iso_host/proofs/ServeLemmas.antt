@@ -20,7 +20,7 @@ use Rattle.iso_host.specs.Counts.{Counts}
 use Rattle.iso_host.specs.Entering.{books_after_bodies, books_after_body}
 use Rattle.iso_host.specs.Output.{IsAnswer, IsAnswerTo, IsOutput}
 use Rattle.iso_host.specs.Pieces.{EndsInside}
-use Rattle.iso_host.specs.Served.{Served, Outcome, Cut, Reports, ReportsOneMore, one_more}
+use Rattle.iso_host.specs.Served.{Served, Leaves, Cut, Reports, ReportsOneMore, one_more}
 use Rattle.iso_host.specs.Serving.{AnswersPart, AnswersWhole, SpendsOnWrite, Spends, TakesTurns}
 use Rattle.iso_host.specs.Writing.{WritesSome}
 use Rattle.iso_host.specs.declared.fault.Report.{Report}
@@ -158,7 +158,7 @@ module _ (t : Layout) (h : Header) (unread held : Option (List ℕ)) (old : Book
 
     pub stop_at : (T : Type 0) (left after : Option (List ℕ)) (window : List ℕ) (new : Books) (c0 c1 : Counts) (before turns : ℕ) (body : List ℕ) (fault : ServeFault)
         → Consumes pending (prepend_known window left) (frame_of h body) → length body ≤ largest h → AnswersPart t h mid new (message_in t body) written after
-        → SpendsOnWrite {T = T} c0 c1 before turns (Err fault) → Outcome t h unread left held after old new (Err fault)
+        → SpendsOnWrite {T = T} c0 c1 before turns (Err fault) → Leaves t h unread left held after old new (Err fault)
     stop_at T left after window new c0 c1 before turns body Read taken fits part spent = absurd spent
     stop_at T left after window new c0 c1 before turns body BadHeader taken fits part spent = absurd spent
     stop_at T left after window new c0 c1 before turns body CutFrame taken fits part spent = absurd spent
@@ -179,7 +179,7 @@ module _ (t : Layout) (h : Header) (unread held : Option (List ℕ)) (old : Book
 
     -- a frame doesn't come to its end
     pub stop_inside : BadIsNoFrame → BadStays → (left : Option (List ℕ)) (window : List ℕ) (fault : ServeFault) → EndsInside h pending (prepend_known window left) window left fault
-        → Outcome t h unread left held written old mid (Err fault)
+        → Leaves t h unread left held written old mid (Err fault)
     stop_inside bad stays left window Read (part, taken, none, needs) =
         let all : part ++ window ≡ part = ap (λ (l : List ℕ). part ++ l) none ∙ append-nil part in
         (bodies, part ++ window, served_part left window part taken, subst (NoFrame h) (sym all) needs.no_frame, tt)
@@ -200,7 +200,7 @@ module _ (t : Layout) (h : Header) (unread held : Option (List ℕ)) (old : Book
 
     -- the input ends between two frames
     pub ends_whole : (left : Option (List ℕ)) (window : List ℕ) (report : Report) → Keeps pending (prepend_known window left) → window ≡ [] → IsAtEnd left → Reports t report bodies
-        → Outcome t h unread left held written old mid (Ok report)
+        → Leaves t h unread left held written old mid (Ok report)
     ends_whole left window report kept none end reports =
         let read = served_part left window [] (none_taken pending (prepend_known window left) kept) in
         (bodies, window, read, subst (NoFrame h) (sym none) (no_byte h), (none, end, reports))

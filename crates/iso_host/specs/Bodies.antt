@@ -10,12 +10,12 @@ use Rattle.iso_wire.specs.Frame.{frame_of, largest}
 use Rattle.iso_wire.specs.Spelling.{AreBytes, Spelling}
 use Rattle.iso_host.specs.Asking.{message_in}
 use Rattle.iso_host.specs.Counts.{Counts}
-use Rattle.iso_host.specs.Pieces.{EndsInside, TakesBytes, Draws, EndsReads}
+use Rattle.iso_host.specs.Pieces.{EndsInside, TakesBytes, TakesReads, EndsReads}
 use Rattle.iso_host.specs.declared.fault.ServeFault.{ServeFault}
 use Rattle.iso_host.specs.declared.reading.Next.{Next}
 use Rattle.iso_host.specs.declared.reading.Next.TheVariants as next
-use Rattle.iso_host.specs.declared.intake.Told.{Told}
-use Rattle.iso_host.specs.declared.intake.Told.TheVariants as told
+use Rattle.iso_host.specs.declared.intake.Progress.{Progress}
+use Rattle.iso_host.specs.declared.intake.Progress.TheVariants as progress
 
 -- an unpacker of the table that holds these bytes of a message
 abbrev pub unpacker_holding : Layout → List ℕ → Feeding
@@ -31,9 +31,9 @@ abbrev pub IsSpelled : Layout → Option Contents → Type 0
 IsSpelled t message = IfSome message (λ m. (bytes : List ℕ) × Spelling t m bytes)
 
 -- these bytes at the front of a body tell what the body is, whatever stands behind them; or they are not all of it
-abbrev pub TellsBody : Layout → List ℕ → Bool → Feeding → Told → Type 0
-TellsBody t bytes is_last new told.Unfinished = (is_last ≡ false) × (new ≡ unpacker_holding t bytes) × AreBytes bytes
-TellsBody t bytes is_last new (told.Known message) =
+abbrev pub TellsBody : Layout → List ℕ → Bool → Feeding → Progress → Type 0
+TellsBody t bytes is_last new progress.Unfinished = (is_last ≡ false) × (new ≡ unpacker_holding t bytes) × AreBytes bytes
+TellsBody t bytes is_last new (progress.Known message) =
     ((rest : List ℕ) → IsRest is_last rest → message_in t (bytes ++ rest) ≡ message) × IsSpelled t message × (new ≡ unpacker_holding t [])
 
 -- a body of so many bytes is taken, and its message is given; or the frame doesn't come to its end
@@ -50,6 +50,6 @@ ReadsFrame t h old new window left (Ok next.End) = Keeps old new × (window ≡ 
 ReadsFrame t h old new window left (Err e) = EndsInside h old new window left e
 
 abbrev pub SpendsOnFrame : Counts → Counts → ℕ → ℕ → List ℕ → List ℕ → Result Next ServeFault → Type 0
-SpendsOnFrame old new before left window after (Ok (next.Body message)) = Draws old new before left window after 1
+SpendsOnFrame old new before left window after (Ok (next.Body message)) = TakesReads old new before left window after 1
 SpendsOnFrame old new before left window after (Ok next.End) = new.failures ≡ old.failures
 SpendsOnFrame old new before left window after (Err e) = EndsReads old new before left e

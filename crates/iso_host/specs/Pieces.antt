@@ -54,7 +54,7 @@ TakesHeader h old new window left (Err e) = EndsInside h old new window left e
 -- ---- the turns
 
 -- each read took a turn and gave at least one byte, at most 4,096, and so many bytes were taken
-pub record Draws (old new : Counts) (before left : ℕ) (window after : List ℕ) (taken : ℕ) : Type 0 where
+pub record TakesReads (old new : Counts) (before left : ℕ) (window after : List ℕ) (taken : ℕ) : Type 0 where
   pub spends : Spends old new before left
   pub falls : 4097 * left + length after + taken ≤ 4097 * before + length window
 
@@ -68,11 +68,11 @@ EndsReads old new before left Memory = new.failures ≡ old.failures
 EndsReads old new before left Write = ⊥
 
 abbrev pub SpendsOnReads : {T : Type 0} → Counts → Counts → ℕ → ℕ → List ℕ → List ℕ → ℕ → Result T ServeFault → Type 0
-SpendsOnReads old new before left window after taken (Ok x) = Draws old new before left window after taken
+SpendsOnReads old new before left window after taken (Ok x) = TakesReads old new before left window after taken
 SpendsOnReads old new before left window after taken (Err e) = EndsReads old new before left e
 
 -- the end of the input is told by a read that gave no byte
 abbrev pub SpendsOnHeader : Counts → Counts → ℕ → ℕ → List ℕ → List ℕ → Result (Option ℕ) ServeFault → Type 0
-SpendsOnHeader old new before left window after (Ok (Some n)) = Draws old new before left window after 2
+SpendsOnHeader old new before left window after (Ok (Some n)) = TakesReads old new before left window after 2
 SpendsOnHeader old new before left window after (Ok None) = new.failures ≡ old.failures
 SpendsOnHeader old new before left window after (Err e) = EndsReads old new before left e

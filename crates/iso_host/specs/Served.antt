@@ -80,14 +80,14 @@ module _ (t : Layout) (h : Header) (unread left held written : Option (List ℕ)
   Cut = (bodies : List (List ℕ)) × (rest : List ℕ) × (bytes : List ℕ) × Stopped t h unread left held written old new bodies rest bytes
 
   -- what is read, written and entered, by what `serve` answers
-  abbrev pub Outcome : Result Report ServeFault → Type 0
-  Outcome (Ok report) = Whole (λ bodies rest. (rest ≡ []) × IsAtEnd left × Reports t report bodies)
-  Outcome (Err Read) = Whole (λ bodies rest. Unit {0})
-  Outcome (Err BadHeader) = Whole (λ bodies rest. is_bad_header h rest ≡ true)
-  Outcome (Err CutFrame) = Whole (λ bodies rest. (rest ≢ []) × IsAtEnd left × (is_bad_header h rest ≡ false))
-  Outcome (Err Write) = Cut
-  Outcome (Err Memory) = Cut
-  Outcome (Err TooManyTurns) = Cut
+  abbrev pub Leaves : Result Report ServeFault → Type 0
+  Leaves (Ok report) = Whole (λ bodies rest. (rest ≡ []) × IsAtEnd left × Reports t report bodies)
+  Leaves (Err Read) = Whole (λ bodies rest. Unit {0})
+  Leaves (Err BadHeader) = Whole (λ bodies rest. is_bad_header h rest ≡ true)
+  Leaves (Err CutFrame) = Whole (λ bodies rest. (rest ≢ []) × IsAtEnd left × (is_bad_header h rest ≡ false))
+  Leaves (Err Write) = Cut
+  Leaves (Err Memory) = Cut
+  Leaves (Err TooManyTurns) = Cut
 
 -- ---- flushing
 

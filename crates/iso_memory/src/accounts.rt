@@ -20,10 +20,10 @@ fn reads_json(alloc: Global) -> Ended {
 }
 
 /// An order, and after it the ledger and what is available.
-type Step = (Order, (i64, i64));
+type DayOrder = (Order, (i64, i64));
 
 /// A purchase, a hold and its completion, a reversal that comes early, one that comes late, and a purchase that is declined.
-fn day() -> Option<[Step; 8]> {
+fn day() -> Option<[DayOrder; 8]> {
     Some([
         (debit(200, 1, 1000)?, (4000, 4000)),
         (debit(100, 2, 500)?, (4000, 3500)),

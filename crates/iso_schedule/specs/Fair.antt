@@ -1,10 +1,10 @@
 -- Lines of a schedule.
 use Rattle.iso_acquirer.specs.World.{IsFairEvent}
-use Rattle.iso_schedule.specs.declared.line.Line.{Line}
-use Rattle.iso_schedule.specs.declared.line.Line.TheVariants.{Said, Event, Unknown}
+use Rattle.iso_schedule.specs.declared.line.ScheduleLine.{ScheduleLine}
+use Rattle.iso_schedule.specs.declared.line.ScheduleLine.TheVariants.{Said, Event, Unknown}
 
 -- an event of a line is one that can be played
-abbrev pub IsFairLine : Line → Type 0
+abbrev pub IsFairLine : ScheduleLine → Type 0
 IsFairLine Said = Unit {0}
 IsFairLine (Event event) = IsFairEvent event
 IsFairLine Unknown = Unit {0}

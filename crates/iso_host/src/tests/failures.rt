@@ -197,14 +197,14 @@ fn is_answered_again(alloc: Global, run: &mut Run<'_>, day: &Day) -> Result<bool
 
 /// How the day ends where no call fails, or the first call whose failure has another end than it should have.
 #[derive(Clone, Copy, Debug, PartialEq, Eq)]
-enum Judged {
+enum DayEnd {
     Ended(Result<Report, ServeFault>),
     WrongAt(u32),
 }
 
 /// How the day ends where no call fails, and how many calls it takes.
 #[derive(Clone, Copy)]
-struct Whole {
+struct WholeDay {
     ended: Result<Report, ServeFault>,
     reads: u32,
     writes: u32,
@@ -212,9 +212,9 @@ struct Whole {
 }
 
 /// Serves the day where no call fails.
-fn serve_whole(alloc: Global, piece: usize, day: &Day) -> Result<Whole, Fail> {
+fn serve_whole(alloc: Global, piece: usize, day: &Day) -> Result<WholeDay, Fail> {
     let run = serve_day(alloc, day, piece, (0, 0), 1000)?;
-    Ok(Whole {
+    Ok(WholeDay {
         ended: run.ended,
         reads: run.reader.reads,
         writes: run.writer.writes,
@@ -248,36 +248,36 @@ fn ends_at_turn(alloc: Global, piece: usize, day: &Day, turns: u32) -> Result<bo
 }
 
 /// Serves the day with each of its reads failing in turn.
-fn each_read(alloc: Global, piece: usize, day: &Day) -> Result<Judged, Fail> {
+fn each_read(alloc: Global, piece: usize, day: &Day) -> Result<DayEnd, Fail> {
     let whole = serve_whole(alloc, piece, day)?;
     for failing in 1..=whole.reads {
         if !ends_at_read(alloc, piece, day, failing)? {
-            return Ok(Judged::WrongAt(failing));
+            return Ok(DayEnd::WrongAt(failing));
         }
     }
-    Ok(Judged::Ended(whole.ended))
+    Ok(DayEnd::Ended(whole.ended))
 }
 
 /// Serves the day with each of its writes and flushes failing in turn.
-fn each_write(alloc: Global, piece: usize, day: &Day) -> Result<Judged, Fail> {
+fn each_write(alloc: Global, piece: usize, day: &Day) -> Result<DayEnd, Fail> {
     let whole = serve_whole(alloc, piece, day)?;
     for failing in 1..=whole.writes.saturating_add(whole.flushes) {
         if !ends_at_write(alloc, piece, day, failing)? {
-            return Ok(Judged::WrongAt(failing));
+            return Ok(DayEnd::WrongAt(failing));
         }
     }
-    Ok(Judged::Ended(whole.ended))
+    Ok(DayEnd::Ended(whole.ended))
 }
 
 /// Serves the day with fewer turns than it takes, each number of them in turn.
-fn each_turn(alloc: Global, piece: usize, day: &Day) -> Result<Judged, Fail> {
+fn each_turn(alloc: Global, piece: usize, day: &Day) -> Result<DayEnd, Fail> {
     let whole = serve_whole(alloc, piece, day)?;
     for turns in 0..whole.reads.saturating_add(whole.writes) {
         if !ends_at_turn(alloc, piece, day, turns)? {
-            return Ok(Judged::WrongAt(turns));
+            return Ok(DayEnd::WrongAt(turns));
         }
     }
-    Ok(Judged::Ended(whole.ended))
+    Ok(DayEnd::Ended(whole.ended))
 }
 
 #[test]
@@ -285,7 +285,7 @@ fn each_read_fails(rt: HostRuntime) -> Result<(), Fail> {
     let day = Day::new(rt.alloc())?;
     for piece in 1..=day.frames.len().saturating_add(1) {
         let judged = each_read(rt.alloc(), piece, &day)?;
-        assert_eq!(rt; judged, Judged::Ended(Ok(WHOLE)), "{piece} bytes a call");
+        assert_eq!(rt; judged, DayEnd::Ended(Ok(WHOLE)), "{piece} bytes a call");
     }
     Ok(())
 }
@@ -295,7 +295,7 @@ fn each_write_and_flush_fails(rt: HostRuntime) -> Result<(), Fail> {
     let day = Day::new(rt.alloc())?;
     for piece in 1..=day.frames.len().saturating_add(1) {
         let judged = each_write(rt.alloc(), piece, &day)?;
-        assert_eq!(rt; judged, Judged::Ended(Ok(WHOLE)), "{piece} bytes a call");
+        assert_eq!(rt; judged, DayEnd::Ended(Ok(WHOLE)), "{piece} bytes a call");
     }
     Ok(())
 }
@@ -305,7 +305,7 @@ fn the_turns_are_spent(rt: HostRuntime) -> Result<(), Fail> {
     let day = Day::new(rt.alloc())?;
     for piece in [7, 64, 4096] {
         let judged = each_turn(rt.alloc(), piece, &day)?;
-        assert_eq!(rt; judged, Judged::Ended(Ok(WHOLE)), "{piece} bytes a call");
+        assert_eq!(rt; judged, DayEnd::Ended(Ok(WHOLE)), "{piece} bytes a call");
     }
     Ok(())
 }

@@ -106,7 +106,7 @@ impl<'a> Session<'a> {
 /// What comes of it: how serving ends, what is written in how many writes, how often it is flushed, and the account's
 /// ledger and the number of entries then.
 #[derive(Drop)]
-pub struct Outcome {
+pub struct SessionEnd {
     pub ended: Result<Report, ServeFault>,
     pub written: Vec<u8>,
     /// The writes that were left.
@@ -190,7 +190,7 @@ fn end_of(
 }
 
 /// Serves once. The tests call this alone, so that their proofs don't look through what a host and an issuer promise.
-pub fn serve_once(alloc: Global, session: Session<'_>) -> Result<Outcome, Fail> {
+pub fn serve_once(alloc: Global, session: Session<'_>) -> Result<SessionEnd, Fail> {
     let mut issuer = if session.is_small {
         small_issuer(alloc)?
     } else {
@@ -198,7 +198,7 @@ pub fn serve_once(alloc: Global, session: Session<'_>) -> Result<Outcome, Fail> 
     };
     let mut writer = FewTaken::new(alloc, session.taken, session.writes, session.fails_to_flush);
     let ended = end_of(alloc, &mut issuer, session, &mut writer)?;
-    Ok(Outcome {
+    Ok(SessionEnd {
         ended,
         left: writer.calls,
         flushes: writer.flushes,

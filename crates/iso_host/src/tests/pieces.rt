@@ -1,7 +1,7 @@
 //! Bodies that are no message, and frames that come piece by piece.
 
 use super::frames::{
-    ECHO, ECHOED, GRANTED, Outcome, PURCHASE, REPEAT, Session, joined, serve_once,
+    ECHO, ECHOED, GRANTED, SessionEnd, PURCHASE, REPEAT, Session, joined, serve_once,
 };
 use crate::fault::{Report, ServeFault};
 use iso_wire::Header;
@@ -9,7 +9,7 @@ use std::alloc::Global;
 use std::test::Fail;
 
 /// What comes of these frames, where a read gives so many bytes.
-fn pieced(alloc: Global, input: &[u8], piece: usize) -> Result<Outcome, Fail> {
+fn pieced(alloc: Global, input: &[u8], piece: usize) -> Result<SessionEnd, Fail> {
     let session = Session {
         piece,
         ..Session::new(input)
@@ -18,7 +18,7 @@ fn pieced(alloc: Global, input: &[u8], piece: usize) -> Result<Outcome, Fail> {
 }
 
 /// What comes of frames behind two bytes, where a read gives so many bytes.
-fn pieced_behind_two(alloc: Global, input: &[u8], piece: usize) -> Result<Outcome, Fail> {
+fn pieced_behind_two(alloc: Global, input: &[u8], piece: usize) -> Result<SessionEnd, Fail> {
     let session = Session {
         header: Header::Binary2,
         piece,

@@ -56,7 +56,7 @@ fn gets(
 
 /// What is told of so many connections: the output, the fault stream and the status. Then how many orders are entered.
 #[derive(Drop)]
-struct Ended {
+struct ConnectionsEnd {
     output: Vec<u8>,
     faults: Vec<u8>,
     status: u8,
@@ -95,7 +95,7 @@ fn serve(
     listener: &TcpListener,
     serving: &mut Serving,
     count: u32,
-) -> Result<Ended, Fail> {
+) -> Result<ConnectionsEnd, Fail> {
     let mut output = Vec::new(alloc);
     let mut faults = Vec::new(alloc);
     let status = status_of(alloc, listener, serving, count, &mut output, &mut faults)?;
@@ -103,7 +103,7 @@ fn serve(
     if status == 3 && faults.ends_with(b"failed: Memory\n") {
         return Err(Fail::from(AllocError));
     }
-    Ok(Ended {
+    Ok(ConnectionsEnd {
         output,
         faults,
         status,
@@ -117,7 +117,7 @@ fn serve_first(
     listener: &TcpListener,
     header: &str,
     count: u32,
-) -> Result<Ended, Fail> {
+) -> Result<ConnectionsEnd, Fail> {
     let mut serving = serving(alloc, header)?;
     serve(alloc, listener, &mut serving, count)
 }
@@ -125,7 +125,7 @@ fn serve_first(
 /// Compares the lines of a host whose status is 0, and those of its fault stream.
 fn tells(
     rt: &(impl Abort + AllocGlobal),
-    ended: &Ended,
+    ended: &ConnectionsEnd,
     lines: &[&[u8]],
     faults: &[u8],
     name: &str,

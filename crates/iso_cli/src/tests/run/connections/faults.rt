@@ -62,18 +62,18 @@ fn serve_three(
 
 /// What comes of streams that fail: the status, how many orders are entered, and what was taken.
 #[derive(Drop)]
-struct Failed {
+struct FailingEnd {
     ended: (u8, u32),
     output: Vec<u8>,
     faults: Vec<u8>,
 }
 
 /// Serves over streams that fail.
-fn serve_failing(rt: &HostRuntime, case: &Failing) -> Result<Failed, Fail> {
+fn serve_failing(rt: &HostRuntime, case: &Failing) -> Result<FailingEnd, Fail> {
     let mut output = FewTaken::new(rt.alloc(), 4096, case.writes, case.flush_fails);
     let mut faults = FewTaken::new(rt.alloc(), 4096, case.tells, false);
     let ended = serve_three(rt, &mut output, &mut faults)?;
-    Ok(Failed {
+    Ok(FailingEnd {
         ended,
         output: output.taken,
         faults: faults.taken,

@@ -7,7 +7,7 @@ const ONE_ANSWERED: &[u8] = b"frames=1 answered=1 silent=0 unreadable=0\n";
 /// What is told of three peers, and what each is answered.
 #[derive(Drop)]
 struct Met {
-    ended: Ended,
+    ended: ConnectionsEnd,
     first: Vec<u8>,
     second: Vec<u8>,
     third: Vec<u8>,
