@@ -60,21 +60,21 @@ undo_of (Denied c) = None
 undo_of (Undone u) = Some u
 
 -- how many reversals of a transaction may still be made: one or none
-abbrev pub may_reverse : Stage → ℕ
-may_reverse (Asked n) = 1
-may_reverse (Undoing u) = 0
-may_reverse Granted = 0
-may_reverse (Denied c) = 0
-may_reverse (Undone u) = 0
+abbrev pub reversals_at : Stage → ℕ
+reversals_at (Asked n) = 1
+reversals_at (Undoing u) = 0
+reversals_at Granted = 0
+reversals_at (Denied c) = 0
+reversals_at (Undone u) = 0
 
 -- a reversal isn't reversed
-abbrev pub to_reverse : Role → ℕ
-to_reverse (Transaction stage) = may_reverse stage
-to_reverse (Reversal stan) = 0
+abbrev pub reversals_of : Role → ℕ
+reversals_of (Transaction stage) = reversals_at stage
+reversals_of (Reversal stan) = 0
 
 -- how many reversals may still be made
-abbrev pub waiting : List Slot → ℕ
-waiting slots = sum_by (λ s. to_reverse s.role) slots
+abbrev pub reversals_left : List Slot → ℕ
+reversals_left slots = sum_by (λ s. reversals_of s.role) slots
 
 -- ---- changes
 
@@ -164,17 +164,17 @@ stage_after code (Denied c) = Denied c
 stage_after code (Undone u) = Undone u
 
 -- the stage after an answer to its reversal
-abbrev pub stage_undone : ℕ → Stage → Stage
-stage_undone code (Asked n) = Asked n
-stage_undone code (Undoing u) = if code == 0 then Undone u else Undoing u
-stage_undone code Granted = Granted
-stage_undone code (Denied c) = Denied c
-stage_undone code (Undone u) = Undone u
+abbrev pub stage_after_undo : ℕ → Stage → Stage
+stage_after_undo code (Asked n) = Asked n
+stage_after_undo code (Undoing u) = if code == 0 then Undone u else Undoing u
+stage_after_undo code Granted = Granted
+stage_after_undo code (Denied c) = Denied c
+stage_after_undo code (Undone u) = Undone u
 
 -- an answer comes: to a transaction's order, or to the reversal of a transaction
 abbrev pub slots_after_answer_in : List Slot → ℕ → ℕ → Role → List Slot
 slots_after_answer_in slots stan code (Transaction stage) = slots_at_stage (stage_after code) stan slots
-slots_after_answer_in slots stan code (Reversal original) = slots_at_stage (stage_undone code) original slots
+slots_after_answer_in slots stan code (Reversal original) = slots_at_stage (stage_after_undo code) original slots
 
 abbrev pub slots_after_answer_at : List Slot → TxKey → ℕ → Option Slot → List Slot
 slots_after_answer_at slots key code None = slots
@@ -196,6 +196,6 @@ pub record IsRoomKept (id : ℕ) (slots : List Slot) (open_ones : ℕ) (len capa
   pub id_fits : id ≤ 99999999999
   pub numbered : AreNumbered 1 slots
   pub few : length slots ≤ 999999
-  pub counted : open_ones ≡ waiting slots
+  pub counted : open_ones ≡ reversals_left slots
   pub room : len + open_ones ≤ capacity
   pub requests : AllByRecursion (λ s. IsRequest s.role s.order) slots

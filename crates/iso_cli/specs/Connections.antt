@@ -16,7 +16,7 @@ use Rattle.iso_cli.specs.declared.prepare.Serving.{Serving}
 use Rattle.iso_cli.specs.declared.listening.Listening.{Listening}
 use Rattle.iso_cli.specs.Listening.{AsksServe}
 use Rattle.iso_cli.specs.Runs.{fresh_books}
-use Rattle.iso_cli.specs.Stops.{line_of, stop_of_serving}
+use Rattle.iso_cli.specs.Stops.{stop_line, stop_of_serving}
 use Rattle.iso_cli.specs.Tables.{IsNamed}
 
 -- what a host on a port serves with is what these words name, with an empty journal
@@ -66,7 +66,7 @@ output_line (Err fault) = []
 -- the line on the fault stream: its fault, if it ended with one
 abbrev pub fault_line : Result Report ServeFault → List ℕ
 fault_line (Ok report) = []
-fault_line (Err fault) = unwrap_or (line_of (stop_of_serving fault)) []
+fault_line (Err fault) = unwrap_or (stop_line (stop_of_serving fault)) []
 
 -- the lines were written, and it didn't end for want of memory
 pub record EndTold (held written heard told : Option (List ℕ)) (ended : Result Report ServeFault) : Type 0 where

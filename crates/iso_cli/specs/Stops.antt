@@ -48,8 +48,8 @@ stop_text (Unpack fault) = None
 stop_text (Pack fault) = None
 
 -- the fault line: the text, and one newline
-abbrev pub line_of : Stop → Option (List ℕ)
-line_of stop = option_map (λ text. text ++ 10 ∷ []) (stop_text stop)
+abbrev pub stop_line : Stop → Option (List ℕ)
+stop_line stop = option_map (λ text. text ++ 10 ∷ []) (stop_text stop)
 
 -- the stop that a fault of an input is
 abbrev pub stop_of_input : InputFault → Stop

@@ -6,7 +6,7 @@ use Rattle.std.specs.Io.KnownBytes.{Appends}
 use Rattle.iso_host.specs.Counts.{Counts}
 use Rattle.iso_host.specs.Writing.{WritesSome}
 use Rattle.iso_cli.specs.declared.stop.Stop.{Stop}
-use Rattle.iso_cli.specs.Stops.{status_of, line_of}
+use Rattle.iso_cli.specs.Stops.{status_of, stop_line}
 
 -- the whole line was written, no call failed, and the status is the stop's own
 pub record LineTold (held written : Option (List ℕ)) (old new : Counts) (line : List ℕ) (status given : ℕ) : Type 0 where
@@ -26,7 +26,7 @@ TellsLine held written old new line status given = LineTold held written old new
 
 -- the same of a stop whose line names no further fault, with this status
 abbrev pub TellsAs : Option (List ℕ) → Option (List ℕ) → Counts → Counts → Stop → ℕ → ℕ → Type 0
-TellsAs held written old new stop status given = IfSome (line_of stop) (λ line. TellsLine held written old new line status given)
+TellsAs held written old new stop status given = IfSome (stop_line stop) (λ line. TellsLine held written old new line status given)
 
 -- the same with the stop's own status
 abbrev pub Tells : Option (List ℕ) → Option (List ℕ) → Counts → Counts → Stop → ℕ → Type 0
