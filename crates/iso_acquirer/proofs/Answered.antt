@@ -16,7 +16,7 @@ use Rattle.iso_acquirer.specs.declared.slot.Role.{Role}
 use Rattle.iso_acquirer.specs.declared.slot.Role.TheVariants.{Transaction, Reversal}
 use Rattle.iso_acquirer.specs.declared.slot.Stage.{Stage}
 use Rattle.iso_acquirer.specs.declared.slot.Stage.TheVariants.{Asked, Undoing, Granted, Denied, Undone}
-use Rattle.iso_acquirer.specs.Slots.{slot_at, undo_of, stage_after, stage_after_undo, slots_after_answer, slots_after_answer_in, slots_after_answer_at}
+use Rattle.iso_acquirer.specs.Acquirer.{slot_at, undo_of, stage_after, stage_after_undo, slots_after_answer, slots_after_answer_in, slots_after_answer_at}
 use Rattle.iso_acquirer.specs.Agreed.{answer_at, code_at, IsHeld, IsReversal, IsRole, IsAgreed}
 use Rattle.iso_acquirer.proofs.Keys.{same_key_is, same_key_self, same_number, some_is}
 use Rattle.iso_acquirer.proofs.Numbered.{found}

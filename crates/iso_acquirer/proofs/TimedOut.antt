@@ -11,7 +11,7 @@ use Rattle.iso_acquirer.specs.declared.slot.Role.{Role}
 use Rattle.iso_acquirer.specs.declared.slot.Role.TheVariants.{Transaction, Reversal}
 use Rattle.iso_acquirer.specs.declared.slot.Stage.{Stage}
 use Rattle.iso_acquirer.specs.declared.slot.Stage.TheVariants.{Asked, Undoing, Granted, Denied, Undone}
-use Rattle.iso_acquirer.specs.Slots.{slot_at, undo_of, slots_at_stage, timeout, timeout_at, timeout_in, timeout_by, next_reversal, reversing}
+use Rattle.iso_acquirer.specs.Acquirer.{slot_at, undo_of, slots_at_stage, timeout, timeout_at, timeout_in, timeout_by, next_reversal, reversing}
 use Rattle.iso_acquirer.specs.Agreed.{IsAgreed}
 use Rattle.iso_acquirer.proofs.Keys.{some_is, none_is_not}
 use Rattle.iso_acquirer.proofs.Numbered.{found}

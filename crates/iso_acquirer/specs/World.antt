@@ -1,4 +1,5 @@
 -- Both ends, and what may happen to them.
+-- Public: the calls of `World` promise it.
 use Rattle.std.specs.Prelude.{◌≡◌, ◌≢◌, ◌<◌, ℕ, List, [], ◌∷◌, ◌++◌, ◌+◌, length, Option, Some, None, slice_get, Ok, Err}
 use Rattle.iso_order.specs.Order.{Instruction}
 use Rattle.iso_issuer.specs.Decision.{reply}
@@ -10,7 +11,7 @@ use Rattle.iso_acquirer.specs.declared.fault.AcqFault.TheVariants as acquirer
 use Rattle.iso_acquirer.specs.declared.fault.StepFault.{StepFault}
 use Rattle.iso_acquirer.specs.declared.fault.StepFault.TheVariants as fault
 use Rattle.iso_acquirer.specs.declared.slot.Slot.{Slot}
-use Rattle.iso_acquirer.specs.Slots.{Party, slots_with, debit_of, IsFair, timeout, slots_after_answer}
+use Rattle.iso_acquirer.specs.Acquirer.{Party, slots_with, debit_of, IsFair, timeout, slots_after_answer}
 
 -- the acquirer and the issuer, with all that was ever sent and given
 pub record World : Type 0 where

@@ -1,14 +1,14 @@
 //! The acquirer.
 
-ghost use Rattle.std.specs.Prelude.{◌≡◌, ◌≢◌, ◌≤◌, ◌<◌, ◌↔◌, []};
-ghost use Rattle.std.specs.Prelude.{length, true, Ok, Err, Some, IfSome, List, slice_get, IfOk, OnOk, OnErr, IfErr};
+ghost use Rattle.std.specs.Prelude.{◌≡◌, ◌≢◌, ◌≤◌, ◌<◌, ◌↔◌, [], length, true, Ok, Err, Some, IfSome, List, slice_get, IfOk, OnOk, OnErr, IfErr};
 ghost use Rattle.iso_order.specs.Key.{is_valid_key, same_key};
 ghost use Rattle.iso_order.specs.declared.act.Act.TheVariants.{Debit};
 ghost use Rattle.iso_acquirer.specs.declared.fault.AcqFault.TheVariants.{NoMoreTrace, Memory};
 ghost use Rattle.iso_acquirer.specs.declared.slot.Role.TheVariants.{Transaction};
-ghost use Rattle.iso_acquirer.specs.Slots.{AreNumbered, slot_at, state_by, state_of, reversals_at, reversals_of, on_stage, slots_at_stage, slots_with};
-ghost use Rattle.iso_acquirer.specs.Slots.{debit_of, IsFair, IsRequest, next_reversal, reversing, timeout, timeout_by, slots_after_answer_in};
-ghost use Rattle.iso_acquirer.specs.Slots.{stage_after, stage_after_undo, slots_after_answer};
+ghost use Rattle.iso_acquirer.specs.Acquirer.{AreNumbered, slot_at, state_by, state_of, on_stage, slots_at_stage, slots_with};
+ghost use Rattle.iso_acquirer.specs.Room.{reversals_at, reversals_of, IsRequest};
+ghost use Rattle.iso_acquirer.specs.Acquirer.{debit_of, IsFair, next_reversal, reversing, timeout, timeout_by, slots_after_answer_in};
+ghost use Rattle.iso_acquirer.specs.Acquirer.{stage_after, stage_after_undo, slots_after_answer};
 
 use crate::fault::AcqFault;
 use crate::slot::{Role, Slot, Stage};
@@ -29,7 +29,8 @@ pub struct Acquirer {
 
 impl Model for Acquirer {
     ghost use Rattle.std.specs.Prelude.{vec_len, vec_capacity};
-    ghost use Rattle.iso_acquirer.specs.Slots.{Party, IsRoomKept};
+    ghost use Rattle.iso_acquirer.specs.Acquirer.{Party};
+    ghost use Rattle.iso_acquirer.specs.Room.{IsRoomKept};
 
     ghost Value = { Party };
 

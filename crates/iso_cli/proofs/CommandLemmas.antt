@@ -8,7 +8,8 @@ use Rattle.iso_wire.specs.declared.header.Header.{Header}
 use Rattle.iso_wire.specs.declared.header.Header.TheVariants.{Binary2, Ascii4, Bcd2}
 use Rattle.std.specs.Prelude.{IfNone, Some, None}
 use Rattle.std.specs.declared.option.Option.{Option}
-use Rattle.iso_cli.specs.Asks.{header_name, is_name, AsksShow, Asks, AsksNoCodec, AsksNoRun, AsksNothing}
+use Rattle.iso_cli.specs.Words.{header_name, is_name, AsksShow, Asks, AsksNothing}
+use Rattle.iso_cli.specs.NoJob.{AsksNoCodec, AsksNoRun}
 use Rattle.iso_cli.specs.CommandLine.{IsCommand, iso_app}
 use Rattle.iso_cli.specs.declared.words.Job.{Job}
 use Rattle.iso_cli.specs.declared.words.Job.TheVariants.{Echo, Check, Show, Convert, Run}

@@ -10,12 +10,13 @@ use Rattle.std.specs.Io.KnownBytes.{Appends}
 use Rattle.iso_table.specs.Layout.{Layout}
 use Rattle.iso_issuer.specs.Books.{Books}
 use Rattle.iso_wire.specs.declared.header.Header.{Header}
-use Rattle.iso_host.specs.Served.{Leaves}
+use Rattle.iso_host.specs.Serving.{Leaves}
 use Rattle.iso_host.specs.Entering.{books_after_bodies, BodiesGoOn, StaysWithout}
 use Rattle.iso_host.specs.declared.fault.Report.{Report}
 use Rattle.iso_host.specs.declared.fault.ServeFault.{ServeFault}
 use Rattle.iso_host.specs.declared.fault.ServeFault.TheVariants.{Read, Write, BadHeader, CutFrame, Memory, TooManyTurns}
-use Rattle.iso_cli.specs.Connections.{AllTold, Connection, CountsBodies, EndTold, IsConnection, OneJournal, Serves, TellsEnd, fault_line, output_line}
+use Rattle.iso_cli.specs.Connections.{AllTold, Connection, CountsBodies, OneJournal, Serves, fault_line, output_line}
+use Rattle.iso_cli.specs.OneConnection.{EndTold, IsConnection, TellsEnd}
 
 -- ---- so far
 

@@ -6,7 +6,7 @@ use Rattle.std.specs.Io.KnownBytes.{Appends}
 use Rattle.iso_host.specs.Counts.{Counts}
 use Rattle.iso_host.specs.Writing.{WritesSome}
 use Rattle.iso_cli.specs.declared.stop.Stop.{Stop}
-use Rattle.iso_cli.specs.Stops.{status_of, stop_line}
+use Rattle.iso_cli.specs.Stop.{status_of, stop_line}
 
 -- the whole line was written, no call failed, and the status is the stop's own
 pub record LineTold (held written : Option (List ℕ)) (old new : Counts) (line : List ℕ) (status given : ℕ) : Type 0 where

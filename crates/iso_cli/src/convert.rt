@@ -2,7 +2,7 @@
 
 ghost use Rattle.std.specs.Prelude.{IfOk, OnOk};
 ghost use Rattle.iso_wire.specs.Spelling.{Converts};
-ghost use Rattle.iso_cli.specs.Acts.{ConvertsOver};
+ghost use Rattle.iso_cli.specs.Convert.{ConvertsOver};
 
 use crate::source::Source;
 use crate::stop::Stop;

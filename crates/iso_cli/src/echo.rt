@@ -1,7 +1,7 @@
 //! The echo: one message in, its lines and its answer out.
 
 ghost use Rattle.std.specs.Prelude.{◌≡◌, ◌++◌, IfOk, OnOk};
-ghost use Rattle.iso_cli.specs.Acts.{Answers, Echoes, EchoesOver, answer_line};
+ghost use Rattle.iso_cli.specs.Echo.{Answers, Echoes, EchoesOver, answer_line};
 
 use crate::describe::describe;
 use crate::stop::Stop;

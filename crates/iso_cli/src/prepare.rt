@@ -1,7 +1,7 @@
 //! A host on a port, before the port is bound.
 
 ghost use Rattle.std.specs.Prelude.{◌≡◌, ◌≤◌, IfErr, IfOk, OnOk, map};
-ghost use Rattle.iso_cli.specs.Connections.{Prepares};
+ghost use Rattle.iso_cli.specs.Prepare.{Prepares};
 
 use crate::listening::parse_serve;
 use crate::run::{MOST_ENTRIES, accounts_at, host_table};

@@ -3,7 +3,7 @@
 ghost use Rattle.std.specs.Prelude.{◌≡◌, IfOk, IfSome, OnOk};
 ghost use Rattle.iso_issuer.specs.Document.{ListsAccounts};
 ghost use Rattle.iso_table.specs.HostReady.{IsHostReady};
-ghost use Rattle.iso_cli.specs.Runs.{RunsOver};
+ghost use Rattle.iso_cli.specs.Run.{RunsOver};
 ghost use Rattle.iso_cli.specs.Tables.{IsNamed};
 
 use crate::documents::document;

@@ -3,7 +3,8 @@
 //! `clap` judges the words, and what it lets pass is matched word by word, so that contracts can speak of the words.
 ghost use Rattle.std.specs.Prelude.{◌≡◌, IfOk, IfSome, IfNone, IfErr, IsErrOf, map, true};
 ghost use Rattle.clap.specs.Words.{takes};
-ghost use Rattle.iso_cli.specs.Asks.{Asks, AsksNoCodec, AsksNothing, AsksNoRun, header_name, is_name};
+ghost use Rattle.iso_cli.specs.Words.{Asks, AsksNothing, header_name, is_name};
+ghost use Rattle.iso_cli.specs.NoJob.{AsksNoCodec, AsksNoRun};
 ghost use Rattle.iso_cli.specs.CommandLine.{FollowsRule, IsCommand, bare_app, check_app, clear_rule, codec_app, convert_app, iso_alone};
 ghost use Rattle.iso_cli.specs.CommandLine.{iso_app, name_rule, run_app, show_app};
 

@@ -12,7 +12,7 @@ use Rattle.iso_wire.specs.declared.fault.UnpackCause.TheVariants.{Short}
 use Rattle.iso_wire.specs.ReadingLaws.{IsShort, ReadingStays, ReadsSpellings}
 use Rattle.iso_wire.specs.Spelling.{AreBytes, Spelling}
 use Rattle.iso_host.specs.Asking.{whole_by, message_in, BodiesAreSpellings}
-use Rattle.iso_host.specs.Bodies.{IsRest, TellsBody}
+use Rattle.iso_host.specs.Intake.{IsRest, TellsBody}
 use Rattle.iso_host.specs.declared.intake.Progress.{Progress}
 use Rattle.iso_host.specs.declared.intake.Progress.TheVariants as progress
 

@@ -6,7 +6,8 @@ use Rattle.iso_issuer.specs.Books.{Books}
 use Rattle.iso_issuer.specs.Journal.{firsts}
 use Rattle.iso_issuer.specs.Laws.{FirstsGoOn, books_after}
 use Rattle.iso_host.specs.Asking.{asked_of, orders_in, orders_of}
-use Rattle.iso_host.specs.Entering.{books_after_bodies, books_after_body, BodiesGoOn, StaysWithout}
+use Rattle.iso_host.specs.Entering.{books_after_bodies, BodiesGoOn, StaysWithout}
+use Rattle.iso_host.specs.Handling.{books_after_body}
 
 orders_of_more : (t : Layout) (bodies : List (List ℕ)) (body : List ℕ) → orders_of t (bodies ++ body ∷ []) ≡ orders_of t bodies ++ orders_in (asked_of t body)
 orders_of_more t [] body = append-nil (orders_in (asked_of t body))

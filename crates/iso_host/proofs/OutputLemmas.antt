@@ -10,7 +10,7 @@ use Rattle.iso_issuer.specs.Books.{Books}
 use Rattle.iso_host.specs.Entering.{books_after_bodies}
 use Rattle.iso_host.specs.Asking.{message_in}
 use Rattle.iso_host.specs.Output.{response_to, IsFramed, IsAnswer, IsOutputFrom, IsOutput, OutputOnce}
-use Rattle.iso_host.specs.Served.{front, IsPrefix}
+use Rattle.iso_host.specs.Serving.{front, IsPrefix}
 
 -- ---- the stream
 

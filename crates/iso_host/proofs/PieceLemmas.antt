@@ -13,10 +13,10 @@ use Rattle.iso_wire.specs.Spelling.{AreBytes}
 use Rattle.iso_host.proofs.Running.{SoFar, BodySoFar}
 use Rattle.iso_host.proofs.WindowLemmas.{passes, took_more}
 use Rattle.iso_host.specs.Asking.{message_in}
-use Rattle.iso_host.specs.Bodies.{IsRest, unpacker_holding}
+use Rattle.iso_host.specs.Intake.{IsRest, unpacker_holding}
 use Rattle.iso_host.specs.Counts.{Counts}
-use Rattle.iso_host.specs.Pieces.{EndsInside, Refills, TakesBytes, TakesReads, EndsReads}
-use Rattle.iso_host.specs.Serving.{Spends}
+use Rattle.iso_host.specs.Reading.{EndsInside, Refills, TakesBytes, TakesReads, EndsReads}
+use Rattle.iso_host.specs.Turns.{Spends}
 use Rattle.iso_host.specs.declared.fault.ServeFault.{ServeFault}
 use Rattle.iso_host.specs.declared.fault.ServeFault.TheVariants.{Read, Write, BadHeader, CutFrame, Memory, TooManyTurns}
 

@@ -17,11 +17,14 @@ use Rattle.iso_host.proofs.OutputLemmas.{frames_more, AllFit_more, output_none, 
 use Rattle.iso_host.proofs.Running.{Going, Running}
 use Rattle.iso_host.specs.Asking.{message_in, asked_of, count_asked, has_answer, is_silent, is_unreadable}
 use Rattle.iso_host.specs.Counts.{Counts}
-use Rattle.iso_host.specs.Entering.{books_after_bodies, books_after_body}
-use Rattle.iso_host.specs.Output.{IsAnswer, IsAnswerTo, IsOutput}
-use Rattle.iso_host.specs.Pieces.{EndsInside}
-use Rattle.iso_host.specs.Served.{Served, Leaves, Cut, Reports, ReportsOneMore, one_more}
-use Rattle.iso_host.specs.Serving.{AnswersPart, AnswersWhole, SpendsOnWrite, Spends, TakesTurns}
+use Rattle.iso_host.specs.Entering.{books_after_bodies}
+use Rattle.iso_host.specs.Handling.{books_after_body, IsAnswerTo}
+use Rattle.iso_host.specs.Output.{IsAnswer, IsOutput}
+use Rattle.iso_host.specs.Reading.{EndsInside}
+use Rattle.iso_host.specs.Serving.{Served, Leaves, Cut, Reports}
+use Rattle.iso_host.specs.Reporting.{ReportsOneMore, count_with}
+use Rattle.iso_host.specs.Answering.{AnswersPart, AnswersWhole, SpendsOnWrite}
+use Rattle.iso_host.specs.Turns.{Spends, TakesTurns}
 use Rattle.iso_host.specs.Writing.{WritesSome}
 use Rattle.iso_host.specs.declared.fault.Report.{Report}
 use Rattle.iso_host.specs.declared.fault.ServeFault.{ServeFault}
@@ -208,13 +211,13 @@ module _ (t : Layout) (h : Header) (unread held : Option (List ℕ)) (old : Book
 -- ---- the report
 
 -- one more of a kind, or none
-saturated : (is_kind : Bool) (c total n m : ℕ) → n ≡ u64_saturate c → m ≡ one_more is_kind n → total ≡ c + cond is_kind 1 0 → m ≡ u64_saturate total
+saturated : (is_kind : Bool) (c total n m : ℕ) → n ≡ u64_saturate c → m ≡ count_with is_kind n → total ≡ c + cond is_kind 1 0 → m ≡ u64_saturate total
 saturated true c total n m e f g = omega arith
 saturated false c total n m e f g = omega arith
 
 -- the counts of one kind of body
 counts_more : (t : Layout) (kind : Option Verdict → Bool) (bodies : List (List ℕ)) (body : List ℕ) (n m : ℕ) → n ≡ u64_saturate (count_asked t kind bodies)
-    → m ≡ one_more (kind (asked_of t body)) n → m ≡ u64_saturate (count_asked t kind (bodies ++ body ∷ []))
+    → m ≡ count_with (kind (asked_of t body)) n → m ≡ u64_saturate (count_asked t kind (bodies ++ body ∷ []))
 counts_more t kind bodies body n m e f =
     saturated (kind (asked_of t body)) (count_asked t kind bodies) (count_asked t kind (bodies ++ body ∷ [])) n m e f
     (sum_by-append (λ b. cond (kind (asked_of t b)) 1 0) bodies (body ∷ []) ∙ ap (λ k. count_asked t kind bodies + k) (zero-add (cond (kind (asked_of t body)) 1 0)))

@@ -1,26 +1,16 @@
 -- The journal while bodies are handled: the first order of each key, up to the limit.
--- Inner, for bodies and proofs: `entered_by`, `books_after_body`.
-use Rattle.std.specs.Prelude.{◌≡◌, ℕ, Bool, not, ◌&&◌, nat_le, List, [], ◌++◌, length, Option, option_map}
+-- Public: `serve` and `laws::one_journal` promise it.
+use Rattle.std.specs.Prelude.{◌≡◌, ℕ, Bool, not, ◌&&◌, nat_le, List, [], ◌++◌, length}
 use Rattle.iso_table.specs.Layout.{Layout}
-use Rattle.iso_wire.specs.Contents.{Contents}
 use Rattle.iso_order.specs.declared.key.TxKey.{TxKey}
-use Rattle.iso_order.specs.Verdict.{verdict}
 use Rattle.iso_issuer.specs.Books.{Books}
 use Rattle.iso_issuer.specs.Journal.{is_entered}
 use Rattle.iso_issuer.specs.Laws.{books_after}
-use Rattle.iso_host.specs.Asking.{asked_of, orders_in, orders_of}
+use Rattle.iso_host.specs.Asking.{orders_of}
 
 -- the books once these bodies are handled
 unfoldable pub books_after_bodies : Layout → Books → List (List ℕ) → Books
 books_after_bodies t books bodies = books_after books (orders_of t bodies)
-
--- the books once the message that a body is, or none, is handled
-abbrev pub entered_by : Books → Option Contents → Books
-entered_by books message = books_after books (orders_in (option_map verdict message))
-
--- the books once this body is handled
-abbrev pub books_after_body : Layout → Books → List ℕ → Books
-books_after_body t books body = books_after books (orders_in (asked_of t body))
 
 -- no bodies leave the books as they are
 abbrev pub StaysWithout : Books → Type 0

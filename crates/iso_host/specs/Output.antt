@@ -1,5 +1,5 @@
 -- What is written for a stream of frames.
--- Inner, for bodies and proofs: `IsAnswerTo`.
+-- Public: `serve` and `laws::one_output` promise it.
 use Rattle.std.specs.Prelude.{◌≡◌, ℕ, ◌≤◌, List, [], ◌∷◌, ◌++◌, length, Option, Some, None, option_map, if◌then◌else◌}
 use Rattle.iso_table.specs.Layout.{Layout}
 use Rattle.iso_wire.specs.declared.header.Header.{Header}
@@ -45,10 +45,6 @@ response_to books (Some m) = response_with m (outcome_of books (verdict m))
 abbrev pub IsFramed : Layout → Header → Option Contents → List ℕ → Type 0
 IsFramed t h None bytes = bytes ≡ []
 IsFramed t h (Some r) bytes = (plain : List ℕ) × PlainSpelling t r plain × (length plain ≤ largest h) × (bytes ≡ frame_of h plain)
-
--- what is written at these books for the message that a body is
-unfoldable pub IsAnswerTo : Layout → Header → Books → Option Contents → List ℕ → Type 0
-IsAnswerTo t h books message bytes = IsFramed t h (response_to books message) bytes
 
 -- what is written for a body at these books
 unfoldable pub IsAnswer : Layout → Header → Books → List ℕ → List ℕ → Type 0

@@ -9,8 +9,7 @@ ghost use Rattle.iso_issuer.specs.Laws.{books_after};
 ghost use Rattle.iso_issuer.specs.Shown.{is_shown_for};
 ghost use Rattle.iso_host.specs.Asking.{orders_in};
 ghost use Rattle.iso_host.specs.Desk.{IsSameDesk};
-ghost use Rattle.iso_host.specs.Entering.{entered_by};
-ghost use Rattle.iso_host.specs.Handled.{Handles, EntersOrKeeps};
+ghost use Rattle.iso_host.specs.Handling.{entered_by, Handles, EntersOrKeeps};
 ghost use Rattle.iso_host.specs.Output.{outcome_for, outcome_of};
 
 use crate::desk::Desk;
@@ -76,7 +75,7 @@ fn answer_to(issuer: &mut Issuer, message: &Message) -> Result<Option<Answer>, N
 
 /// Handles what a body is: the order of its message is entered, and then the frame of the response is laid on the desk.
 /// After an `Err` the order may be entered: then the message has an answer, though it wasn't made.
-#[tactic(auto, unfolding(crate::specs::Output::IsAnswerTo))]
+#[tactic(auto, unfolding(crate::specs::Handling::IsAnswerTo))]
 pub fn handle_message(
     issuer: &mut Issuer,
     message: &Option<Message>,

@@ -4,7 +4,7 @@ ghost use Rattle.std.specs.Prelude.{◌≡◌, ◌++◌, ℕ, List, [], None, If
 ghost use Rattle.iso_table.specs.Layout.{AreGood};
 ghost use Rattle.iso_wire.specs.Spelling.{AreBytes, Spelling};
 ghost use Rattle.iso_host.specs.Asking.{message_in};
-ghost use Rattle.iso_host.specs.Bodies.{TellsBody, unpacker_holding};
+ghost use Rattle.iso_host.specs.Intake.{TellsBody, unpacker_holding};
 
 use iso_order::NoMemory;
 use iso_table::Table;

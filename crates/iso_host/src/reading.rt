@@ -2,9 +2,9 @@
 
 ghost use Rattle.std.specs.Prelude.{◌≡◌, [], IfOk, OnOk};
 ghost use Rattle.std.specs.Io.KnownBytes.{prepend_known};
-ghost use Rattle.iso_host.specs.Bodies.{IsSpelled, ReadsBody, ReadsFrame, SpendsOnFrame, unpacker_holding};
-ghost use Rattle.iso_host.specs.Pieces.{TakesByte, TakesBytes, TakesHeader, SpendsOnHeader, SpendsOnReads};
-ghost use Rattle.iso_host.specs.Serving.{TakesTurns};
+ghost use Rattle.iso_host.specs.Reading.{ReadsBody, ReadsFrame, SpendsOnFrame, TakesByte, TakesBytes, TakesHeader, SpendsOnHeader, SpendsOnReads};
+ghost use Rattle.iso_host.specs.Intake.{IsSpelled, unpacker_holding};
+ghost use Rattle.iso_host.specs.Turns.{TakesTurns};
 
 use crate::fault::ServeFault;
 use crate::intake::{Intake, Progress};

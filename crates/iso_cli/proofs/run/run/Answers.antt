@@ -3,8 +3,8 @@ use Rattle.std.specs.Prelude.{Ok}
 use Rattle.iso_table.specs.Layout.{Layout}
 use Rattle.iso_issuer.specs.declared.account.Account.{Account}
 use Rattle.iso_issuer.specs.Books.{Books}
-use Rattle.iso_host.specs.Served.{Leaves}
-use Rattle.iso_cli.specs.Runs.{fresh_books}
+use Rattle.iso_host.specs.Serving.{Leaves}
+use Rattle.iso_cli.specs.Run.{fresh_books}
 use Rattle.iso_cli.proofs.RunLemmas.{runs_over}
 use Rattle.iso_cli.proofs.run.run.Goals as goal
 

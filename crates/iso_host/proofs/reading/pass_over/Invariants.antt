@@ -1,8 +1,8 @@
 use Rattle.std.proofs.Common.{◌-◌}
 use Rattle.std.specs.Io.KnownBytes.{prepend_known}
 use Rattle.iso_host.proofs.Running.{SoFar}
-use Rattle.iso_host.specs.Pieces.{TakesReads}
-use Rattle.iso_host.specs.Serving.{TakesTurns}
+use Rattle.iso_host.specs.Reading.{TakesReads}
+use Rattle.iso_host.specs.Turns.{TakesTurns}
 use Rattle.iso_host.proofs.reading.pass_over.Given as goal
 
 abbrev pub invariant-pieces : goal.invariant-pieces

@@ -1,8 +1,8 @@
 use Rattle.std.proofs.Common.{◌-◌, ◌≤◌, take}
 use Rattle.std.specs.Io.KnownBytes.{Consumes, prepend_known}
 use Rattle.iso_wire.specs.Frame.{header_size}
-use Rattle.iso_host.specs.Pieces.{TakesReads}
-use Rattle.iso_host.specs.Serving.{TakesTurns}
+use Rattle.iso_host.specs.Reading.{TakesReads}
+use Rattle.iso_host.specs.Turns.{TakesTurns}
 use Rattle.iso_host.proofs.reading.read_header_bytes.Given as goal
 
 abbrev pub invariant-bytes : goal.invariant-bytes

@@ -1,5 +1,5 @@
 use Rattle.std.proofs.Common.{◌≡◌, arith, ◌∙◌, ap, ◌+◌, ◌++◌, ◌∷◌, [], length}
-use Rattle.iso_acquirer.specs.Slots.{slots_with, transaction_of}
+use Rattle.iso_acquirer.specs.Acquirer.{slots_with, transaction_of}
 use Rattle.iso_acquirer.proofs.Kept.{kept-begun}
 use Rattle.iso_acquirer.proofs.acquirer.Acquirer.begin.Goals as goal
 

@@ -1,6 +1,6 @@
 use Rattle.std.proofs.Common.{◌≡◌, sym, ◌∙◌, ap, refl, length, subst, Some}
 use Rattle.std.proofs.lemmas.List.{with_items_is}
-use Rattle.iso_acquirer.specs.Slots.{Party, slot_at, on_stage, slots_at_stage}
+use Rattle.iso_acquirer.specs.Acquirer.{Party, slot_at, on_stage, slots_at_stage}
 use Rattle.iso_acquirer.proofs.Kept.{kept-brought, open-counted}
 use Rattle.iso_acquirer.proofs.Numbered.{length-changed}
 use Rattle.iso_acquirer.proofs.acquirer.Acquirer.bring.Goals as goal

@@ -4,7 +4,8 @@ use Rattle.iso_order.specs.Order.{Instruction}
 use Rattle.iso_acquirer.specs.declared.slot.Role.{Role}
 use Rattle.iso_acquirer.specs.declared.slot.Role.TheVariants.{Transaction, Reversal}
 use Rattle.iso_acquirer.specs.declared.slot.Stage.TheVariants.{Undoing}
-use Rattle.iso_acquirer.specs.Slots.{Party, slot_at, reversal_for, on_stage, reversals_of, slots_at_stage, reversing, next_reversal}
+use Rattle.iso_acquirer.specs.Acquirer.{Party, slot_at, reversal_for, on_stage, slots_at_stage, reversing, next_reversal}
+use Rattle.iso_acquirer.specs.Room.{reversals_of}
 use Rattle.iso_acquirer.proofs.Kept.{kept-reversing, open-counted, request-found}
 use Rattle.iso_acquirer.proofs.Numbered.{length-changed}
 use Rattle.iso_acquirer.proofs.acquirer.Acquirer.reverse.Goals as goal

@@ -1,6 +1,6 @@
 use Rattle.std.proofs.Common.{ap}
 use Rattle.iso_acquirer.specs.declared.slot.Stage.TheVariants.{Asked}
-use Rattle.iso_acquirer.specs.Slots.{on_stage}
+use Rattle.iso_acquirer.specs.Acquirer.{on_stage}
 use Rattle.iso_acquirer.proofs.acquirer.Acquirer.timeout_by.Goals as goal
 
 pub returns-then-count-eq1-clause-own : goal.returns-then-count-eq1-clause-own

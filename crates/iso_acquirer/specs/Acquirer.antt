@@ -1,6 +1,6 @@
 -- What an acquirer keeps, by trace number, and what its calls do to it.
-use Rattle.std.specs.Prelude.{◌≡◌, ◌≤◌, ℕ, true, List, [], ◌∷◌, ◌++◌, ◌==◌, ◌||◌, ◌+◌, length, nat_lt, find, map, sum_by, Option, Some, None, option_map, option_and_then, Result, Ok, Err, if◌then◌else◌}
-use Rattle.std.specs.List.{AllByRecursion}
+-- Public: the calls of `Acquirer` promise it, and both ends are told by it.
+use Rattle.std.specs.Prelude.{◌≡◌, ◌≤◌, ℕ, true, List, [], ◌∷◌, ◌++◌, ◌==◌, ◌||◌, ◌+◌, length, nat_lt, find, map, Option, Some, None, option_map, option_and_then, Result, Ok, Err, if◌then◌else◌}
 use Rattle.iso_order.specs.declared.key.TxKey.{TxKey}
 use Rattle.iso_order.specs.declared.act.Act.TheVariants.{Debit, Undo}
 use Rattle.iso_order.specs.AccountNumber.{AccountNumber}
@@ -58,23 +58,6 @@ undo_of (Undoing u) = Some u
 undo_of Granted = None
 undo_of (Denied c) = None
 undo_of (Undone u) = Some u
-
--- how many reversals of a transaction may still be made: one or none
-abbrev pub reversals_at : Stage → ℕ
-reversals_at (Asked n) = 1
-reversals_at (Undoing u) = 0
-reversals_at Granted = 0
-reversals_at (Denied c) = 0
-reversals_at (Undone u) = 0
-
--- a reversal isn't reversed
-abbrev pub reversals_of : Role → ℕ
-reversals_of (Transaction stage) = reversals_at stage
-reversals_of (Reversal stan) = 0
-
--- how many reversals may still be made
-abbrev pub reversals_left : List Slot → ℕ
-reversals_left slots = sum_by (λ s. reversals_of s.role) slots
 
 -- ---- changes
 
@@ -183,19 +166,3 @@ slots_after_answer_at slots key code (Some s) = if same_key s.order.key key then
 -- an answer to any other key changes nothing
 abbrev pub slots_after_answer : List Slot → TxKey → ℕ → List Slot
 slots_after_answer slots key code = slots_after_answer_at slots key code (slot_at slots key.stan)
-
--- ---- how it is kept
-
--- a transaction's order is a request of class 2
-abbrev pub IsRequest : Role → Instruction → Type 0
-IsRequest (Transaction stage) o = o.key.base ≡ 200
-IsRequest (Reversal stan) o = Unit {0}
-
--- the numbers are in a row and few, and there is room for each reversal that may come
-pub record IsRoomKept (id : ℕ) (slots : List Slot) (open_ones : ℕ) (len capacity : ℕ) : Type 0 where
-  pub id_fits : id ≤ 99999999999
-  pub numbered : AreNumbered 1 slots
-  pub few : length slots ≤ 999999
-  pub counted : open_ones ≡ reversals_left slots
-  pub room : len + open_ones ≤ capacity
-  pub requests : AllByRecursion (λ s. IsRequest s.role s.order) slots
