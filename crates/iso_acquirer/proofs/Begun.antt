@@ -13,7 +13,8 @@ use Rattle.iso_acquirer.specs.declared.slot.Slot.{Slot}
 use Rattle.iso_acquirer.specs.declared.slot.Role.{Role}
 use Rattle.iso_acquirer.specs.declared.slot.Role.TheVariants.{Transaction, Reversal}
 use Rattle.iso_acquirer.specs.declared.slot.Stage.TheVariants.{Asked, Undoing}
-use Rattle.iso_acquirer.specs.Acquirer.{AreNumbered, slot_at, order_at, undo_of, on_stage, slot_at_stage, slots_at_stage, transaction_of, reversal_for, slots_with, reversing}
+use Rattle.iso_acquirer.specs.Acquirer.{slot_at, order_at, undo_of, on_stage, slot_at_stage, slots_at_stage, transaction_of, reversal_for, slots_with, reversing}
+use Rattle.iso_acquirer.specs.Room.{AreNumbered}
 use Rattle.iso_acquirer.specs.Agreed.{answer_at, IsRole, IsSlot, IsKnown, IsAgreed}
 use Rattle.iso_acquirer.proofs.Keys.{some_is, none_is_not, number_self}
 use Rattle.iso_acquirer.proofs.Lists.{all-push, all-weaker, find-more}

@@ -15,7 +15,8 @@ use Rattle.iso_acquirer.specs.declared.slot.Role.TheVariants.{Transaction, Rever
 use Rattle.iso_acquirer.specs.declared.slot.Stage.{Stage}
 use Rattle.iso_acquirer.specs.declared.slot.Stage.TheVariants.{Asked, Undoing, Granted, Denied, Undone}
 use Rattle.iso_acquirer.specs.declared.state.State.{State}
-use Rattle.iso_acquirer.specs.Acquirer.{AreNumbered, slot_at, state_by, state_in, state_of, on_stage, slot_at_stage, slots_at_stage, reversal_for, stage_after, stage_after_undo, slots_after_answer, slots_after_answer_in, slots_after_answer_at, next_reversal, reversing, timeout, timeout_at, timeout_in, timeout_by}
+use Rattle.iso_acquirer.specs.Acquirer.{slot_at, state_by, state_in, state_of, on_stage, slot_at_stage, slots_at_stage, reversal_for, stage_after, stage_after_undo, slots_after_answer, slots_after_answer_in, slots_after_answer_at, next_reversal, reversing, timeout, timeout_at, timeout_in, timeout_by}
+use Rattle.iso_acquirer.specs.Room.{AreNumbered}
 use Rattle.iso_acquirer.specs.World.{World, IsMade, IsRan, IsStep, refusal_count}
 use Rattle.iso_acquirer.specs.Agreed.{IsSound}
 use Rattle.iso_acquirer.specs.Agreement.{is_closed, StaysClosed}

@@ -9,8 +9,8 @@ use Rattle.iso_acquirer.specs.declared.slot.Role.{Role}
 use Rattle.iso_acquirer.specs.declared.slot.Role.TheVariants.{Transaction, Reversal}
 use Rattle.iso_acquirer.specs.declared.slot.Stage.{Stage}
 use Rattle.iso_acquirer.specs.declared.slot.Stage.TheVariants.{Asked, Undoing, Granted, Denied, Undone}
-use Rattle.iso_acquirer.specs.Acquirer.{AreNumbered, slot_at, on_stage, slots_at_stage, transaction_of, reversal_for, slots_with, reversing, stage_after, stage_after_undo}
-use Rattle.iso_acquirer.specs.Room.{reversals_at, reversals_of, reversals_left, IsRequest, IsRoomKept}
+use Rattle.iso_acquirer.specs.Acquirer.{slot_at, on_stage, slots_at_stage, transaction_of, reversal_for, slots_with, reversing, stage_after, stage_after_undo}
+use Rattle.iso_acquirer.specs.Room.{AreNumbered, reversals_at, reversals_of, reversals_left, IsRequest, IsRoomKept}
 use Rattle.iso_acquirer.proofs.Lists.{all-push}
 use Rattle.iso_acquirer.proofs.Numbered.{summed, numbered-changed, numbered-push, length-changed, all-changed, all-found}
 

@@ -21,11 +21,6 @@ pub record Party : Type 0 where
   pub id : ℕ
   pub slots : List Slot
 
--- the orders have the trace numbers from n on
-abbrev pub AreNumbered : ℕ → List Slot → Type 0
-AreNumbered n [] = Unit {0}
-AreNumbered n (s ∷ ss) = (s.order.key.stan ≡ n) × AreNumbered (n + 1) ss
-
 -- what is kept under a trace number
 abbrev pub slot_at : List Slot → ℕ → Option Slot
 slot_at slots stan = find (λ s. s.order.key.stan == stan) slots

@@ -1,14 +1,18 @@
--- The room that an acquirer keeps for the reversals that may still be made.
+-- How an acquirer keeps what it made: in the order of trace numbers, with room for the reversals that may still be made.
 -- Inner: bodies and proofs cite it, and no public clause does.
-use Rattle.std.specs.Prelude.{◌≡◌, ◌≤◌, ℕ, List, ◌+◌, length, sum_by}
+use Rattle.std.specs.Prelude.{◌≡◌, ◌≤◌, ℕ, List, [], ◌∷◌, ◌+◌, length, sum_by}
 use Rattle.std.specs.List.{AllByRecursion}
 use Rattle.iso_order.specs.Order.{Instruction}
-use Rattle.iso_acquirer.specs.Acquirer.{AreNumbered}
 use Rattle.iso_acquirer.specs.declared.slot.Slot.{Slot}
 use Rattle.iso_acquirer.specs.declared.slot.Role.{Role}
 use Rattle.iso_acquirer.specs.declared.slot.Role.TheVariants.{Transaction, Reversal}
 use Rattle.iso_acquirer.specs.declared.slot.Stage.{Stage}
 use Rattle.iso_acquirer.specs.declared.slot.Stage.TheVariants.{Asked, Undoing, Granted, Denied, Undone}
+
+-- the orders have the trace numbers from n on
+abbrev pub AreNumbered : ℕ → List Slot → Type 0
+AreNumbered n [] = Unit {0}
+AreNumbered n (s ∷ ss) = (s.order.key.stan ≡ n) × AreNumbered (n + 1) ss
 
 -- how many reversals of a transaction may still be made: one or none
 abbrev pub reversals_at : Stage → ℕ

@@ -1,6 +1,7 @@
 use Rattle.std.proofs.Common.{◌≡◌, sym, ◌∙◌, ap, subst, Some, None}
 use Rattle.iso_acquirer.specs.declared.slot.Role.TheVariants.{Transaction}
-use Rattle.iso_acquirer.specs.Acquirer.{Party, AreNumbered, slot_at, on_stage, slots_at_stage, stage_after_undo}
+use Rattle.iso_acquirer.specs.Acquirer.{Party, slot_at, on_stage, slots_at_stage, stage_after_undo}
+use Rattle.iso_acquirer.specs.Room.{AreNumbered}
 use Rattle.iso_acquirer.proofs.Numbered.{found, unchanged, reversal-stays}
 use Rattle.iso_acquirer.proofs.acquirer.Acquirer.answer_reversal.Goals as goal
 
