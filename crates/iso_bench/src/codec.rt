@@ -13,7 +13,13 @@ use std::time::Instant;
 const FEWER: u32 = 100;
 
 /// Reads the bytes so many times.
-fn read_speed(rt: &impl Clock, alloc: Global, table: &Table, bytes: &[u8], times: u32) -> Result<Speed> {
+fn read_speed(
+    rt: &impl Clock,
+    alloc: Global,
+    table: &Table,
+    bytes: &[u8],
+    times: u32,
+) -> Result<Speed> {
     let start = Instant::now(rt)?;
     for _ in 0..times {
         let (_message, used) = unpack(alloc, table, bytes)?;
@@ -39,7 +45,13 @@ fn write_speed(
 }
 
 /// Views the bytes so many times, and looks each time where the body of that element lies.
-fn view_speed(rt: &impl Clock, table: &Table, bytes: &[u8], element: u8, times: u32) -> Result<Speed> {
+fn view_speed(
+    rt: &impl Clock,
+    table: &Table,
+    bytes: &[u8],
+    element: u8,
+    times: u32,
+) -> Result<Speed> {
     let start = Instant::now(rt)?;
     for _ in 0..times {
         let view = view(table, bytes)?;

@@ -81,7 +81,10 @@ fn steps_one(world: &mut World, event: Event) -> (bool, bool)
     let before = both_ends(world);
     let told = world.step(event);
     if wants_memory(&told) {
-        return (true, both_ends(world) == before && world.step(event).is_ok());
+        return (
+            true,
+            both_ends(world) == before && world.step(event).is_ok(),
+        );
     }
     (false, told.is_ok())
 }

@@ -1,7 +1,7 @@
 //! Bodies that are no message, and frames that come piece by piece.
 
 use super::frames::{
-    ECHO, ECHOED, GRANTED, SessionEnd, PURCHASE, REPEAT, Session, joined, serve_once,
+    ECHO, ECHOED, GRANTED, PURCHASE, REPEAT, Session, SessionEnd, joined, serve_once,
 };
 use crate::fault::{Report, ServeFault};
 use iso_wire::Header;
