@@ -96,7 +96,7 @@ fn step(world: &mut World, event: &Event) -> Result<(), StepFault>
 type PlayedEvent = (Event, Result<(), StepFault>, Option<State>, i64);
 
 /// The event, which begins no other debits than `begin` makes.
-fn fair(event: Event) -> Result<Event, Fail>
+fn fair_event(event: Event) -> Result<Event, Fail>
     ensures { IfOk result IsFairEvent }
 {
     match event {
@@ -108,7 +108,7 @@ fn fair(event: Event) -> Result<Event, Fail>
 /// Plays events.
 fn play(rt: &impl Abort, world: &mut World, stan: u32, rows: &[PlayedEvent]) -> Result<(), Fail> {
     for (event, told, state, ledger) in rows {
-        let event = fair(*event)?;
+        let event = fair_event(*event)?;
         assert_eq!(rt; step(world, &event), *told, "{event:?}");
         assert_eq!(rt; world.acquirer().state(stan), *state, "{event:?}");
         assert_eq!(rt;

@@ -3,8 +3,8 @@
 
 use super::ends::{Reader, Writer};
 use super::frames::{
-    GRANTED, PURCHASE, REPEAT, REVERSAL, REVERSED, SECOND, SECOND_GRANTED, entries, issuer, joined,
-    ledger, served_between,
+    GRANTED, PURCHASE, REPEAT, REVERSAL, REVERSED, SECOND, SECOND_GRANTED, entries, issuer, join,
+    ledger, serving_end_between,
 };
 use crate::fault::{Report, ServeFault};
 use iso_issuer::Issuer;
@@ -75,7 +75,7 @@ impl Day {
 
 /// The frames of the day.
 fn frames(alloc: Global) -> Result<Vec<u8>, Fail> {
-    joined(
+    join(
         alloc,
         &[
             b"0082", PURCHASE, b"0082", REPEAT, b"0003abc", b"0082", SECOND, b"0101", REVERSAL,
@@ -85,7 +85,7 @@ fn frames(alloc: Global) -> Result<Vec<u8>, Fail> {
 
 /// The frames of the answers.
 fn answers(alloc: Global) -> Result<Vec<u8>, Fail> {
-    joined(
+    join(
         alloc,
         &[
             b"0090",
@@ -149,7 +149,7 @@ fn serve_day<'a>(
     let mut issuer = issuer(alloc)?;
     let mut reader = Reader::new(&day.frames, piece, failing.0);
     let mut writer = Writer::new(alloc, piece, failing.1)?;
-    let ended = served_between(
+    let ended = serving_end_between(
         alloc,
         &day.table,
         Header::Ascii4,
@@ -183,7 +183,7 @@ fn stands_as_written(run: &Run<'_>, day: &Day) -> Result<bool, Fail> {
 fn is_answered_again(alloc: Global, run: &mut Run<'_>, day: &Day) -> Result<bool, Fail> {
     let mut reader = Reader::new(&day.frames, 4096, 0);
     let mut writer = Writer::new(alloc, 4096, 0)?;
-    let ended = served_between(
+    let ended = serving_end_between(
         alloc,
         &day.table,
         Header::Ascii4,
@@ -318,10 +318,10 @@ fn serve_purchase(
     fails_at: u32,
 ) -> Result<(Option<ServeFault>, Vec<u8>), Fail> {
     let table = Table::ascii87(alloc)?;
-    let frame = joined(alloc, &[b"0082", PURCHASE])?;
+    let frame = join(alloc, &[b"0082", PURCHASE])?;
     let mut reader = Reader::new(&frame, 4096, 0);
     let mut writer = Writer::new(alloc, piece, fails_at)?;
-    let ended = served_between(
+    let ended = serving_end_between(
         alloc,
         &table,
         Header::Ascii4,
@@ -335,7 +335,7 @@ fn serve_purchase(
 
 #[test]
 fn an_answer_is_cut_and_comes_again(rt: HostRuntime) -> Result<(), Fail> {
-    let answer = joined(rt.alloc(), &[b"0090", GRANTED])?;
+    let answer = join(rt.alloc(), &[b"0090", GRANTED])?;
     let mut issuer = issuer(rt.alloc())?;
     let (cut, front) = serve_purchase(rt.alloc(), &mut issuer, 10, 2)?;
     assert_eq!(rt; cut, Some(ServeFault::Write));

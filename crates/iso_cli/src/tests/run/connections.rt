@@ -43,13 +43,13 @@ fn answers(alloc: Global, peer: &mut TcpStream) -> Result<Vec<u8>, Fail> {
 }
 
 /// Compares what a peer is answered.
-fn gets(
+fn check_answers(
     rt: &(impl Abort + AllocGlobal),
     answered: &[u8],
     wanted: &[&[u8]],
     name: &str,
 ) -> Result<(), Fail> {
-    let wanted = joined(rt.alloc(), wanted)?;
+    let wanted = join(rt.alloc(), wanted)?;
     assert_eq!(rt; answered, wanted.as_slice(), "{name}");
     Ok(())
 }
@@ -123,14 +123,14 @@ fn serve_first(
 }
 
 /// Compares the lines of a host whose status is 0, and those of its fault stream.
-fn tells(
+fn check_told(
     rt: &(impl Abort + AllocGlobal),
     ended: &ConnectionsEnd,
     lines: &[&[u8]],
     faults: &[u8],
     name: &str,
 ) -> Result<(), Fail> {
-    let lines = joined(rt.alloc(), lines)?;
+    let lines = join(rt.alloc(), lines)?;
     assert_eq!(rt; ended.status, 0, "{name}");
     assert_eq!(rt; ended.output.as_slice(), lines.as_slice(), "{name}");
     assert_eq!(rt; ended.faults.as_slice(), faults, "{name}");
