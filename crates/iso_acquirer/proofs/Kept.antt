@@ -9,7 +9,7 @@ use Rattle.iso_acquirer.specs.declared.slot.Role.{Role}
 use Rattle.iso_acquirer.specs.declared.slot.Role.TheVariants.{Transaction, Reversal}
 use Rattle.iso_acquirer.specs.declared.slot.Stage.{Stage}
 use Rattle.iso_acquirer.specs.declared.slot.Stage.TheVariants.{Asked, Undoing, Granted, Denied, Undone}
-use Rattle.iso_acquirer.specs.Acquirer.{slot_at, on_stage, slots_at_stage, transaction_of, reversal_for, slots_with, reversing, stage_after, stage_after_undo}
+use Rattle.iso_acquirer.specs.Acquirer.{slot_at, on_stage, slots_at_stage, transaction_of, reversal_for, slots_with, slots_with_reversal, stage_after, stage_after_undo}
 use Rattle.iso_acquirer.specs.Room.{AreNumbered, reversals_at, reversals_of, reversals_left, IsRequest, IsRoomKept}
 use Rattle.iso_acquirer.proofs.Lists.{all-push}
 use Rattle.iso_acquirer.proofs.Numbered.{summed, numbered-changed, numbered-push, length-changed, all-changed, all-found}
@@ -76,7 +76,7 @@ open-counted id slots w len cap m before s kept there is =
 -- a transaction is reversed
 pub kept-reversing : (id : ℕ) (slots : List Slot) (w len cap len_after cap_after m : ℕ) (s : Slot) (u : Instruction) → IsRoomKept id slots w len cap →
     slot_at slots m ≡ Some s → reversals_of s.role ≡ 1 → u.key.stan ≡ length slots + 1 → length slots < 999999 →
-    len_after ≡ len + 1 → cap_after ≡ cap → IsRoomKept id (reversing slots m u) (w - 1) len_after cap_after
+    len_after ≡ len + 1 → cap_after ≡ cap → IsRoomKept id (slots_with_reversal slots m u) (w - 1) len_after cap_after
 kept-reversing id slots w len cap len_after cap_after m s u kept there one next few same_len same_cap =
     let after = slots_at_stage (λ _. Undoing u) m slots in
     let length_after : length after ≡ length slots = length-changed (λ _. Undoing u) m slots in

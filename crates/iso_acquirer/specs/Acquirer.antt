@@ -106,14 +106,14 @@ next_reversal slots o = record {
 }
 
 -- the transaction is reversed, by an order that is made
-abbrev pub reversing : List Slot → ℕ → Instruction → List Slot
-reversing slots stan undo = slots_at_stage (λ _. Undoing undo) stan slots ++ reversal_for stan undo ∷ []
+abbrev pub slots_with_reversal : List Slot → ℕ → Instruction → List Slot
+slots_with_reversal slots stan undo = slots_at_stage (λ _. Undoing undo) stan slots ++ reversal_for stan undo ∷ []
 
 -- the order that is sent, and what is kept: the order again, after the second time its reversal, and then that again
 abbrev pub timeout_by : List Slot → Instruction → Stage → Result (Instruction × List Slot) AcqFault
 timeout_by slots o (Asked n) =
     if n == 1 then Ok (o, slots_at_stage (λ _. Asked 2) o.key.stan slots)
-    else if nat_lt (length slots) 999999 then Ok (next_reversal slots o, reversing slots o.key.stan (next_reversal slots o))
+    else if nat_lt (length slots) 999999 then Ok (next_reversal slots o, slots_with_reversal slots o.key.stan (next_reversal slots o))
     else Err NoMoreTrace
 timeout_by slots o (Undoing u) = Ok (u, slots)
 timeout_by slots o Granted = Err Closed

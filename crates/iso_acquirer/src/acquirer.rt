@@ -7,7 +7,7 @@ ghost use Rattle.iso_acquirer.specs.declared.fault.AcqFault.TheVariants.{NoMoreT
 ghost use Rattle.iso_acquirer.specs.declared.slot.Role.TheVariants.{Transaction};
 ghost use Rattle.iso_acquirer.specs.Acquirer.{slot_at, state_by, state_of, on_stage, slots_at_stage, slots_with};
 ghost use Rattle.iso_acquirer.specs.Room.{AreNumbered, reversals_at, reversals_of, IsRequest};
-ghost use Rattle.iso_acquirer.specs.Acquirer.{debit_of, IsFair, next_reversal, reversing, timeout, timeout_by, slots_after_answer_in};
+ghost use Rattle.iso_acquirer.specs.Acquirer.{debit_of, IsFair, next_reversal, slots_with_reversal, timeout, timeout_by, slots_after_answer_in};
 ghost use Rattle.iso_acquirer.specs.Acquirer.{stage_after, stage_after_undo, slots_after_answer};
 
 use crate::fault::AcqFault;
@@ -267,7 +267,7 @@ impl Acquirer {
         requires asked { reversals_of slot.now.role ≡ 1 }
         ensures order { IfOk result (λ order. order ≡ next_reversal self.old.slots slot.now.order) }
         ensures reversing { let stan = slot.now.order.key.stan in
-            OnOk result (self.new ≡ record self.old { slots = reversing self.old.slots stan (next_reversal self.old.slots slot.now.order) }) }
+            OnOk result (self.new ≡ record self.old { slots = slots_with_reversal self.old.slots stan (next_reversal self.old.slots slot.now.order) }) }
         ensures few { OnOk result (length self.old.slots < 999999) }
         ensures no_more { IfErr result (λ e. (e ≡ NoMoreTrace) × (length self.old.slots ≡ 999999)) }
         ensures unchanged { OnErr result (self.new ≡ self.old) }

@@ -50,7 +50,7 @@ fn judge<'a>(alloc: Global, words: &'a [&'a str]) -> Result<(), WordsFault> {
 }
 
 /// The number that a word is, if it is 1 to `most`: decimal digits, with a plus in front or none.
-fn number_in(word: &str, most: u16) -> Option<u16>
+fn whole_number(word: &str, most: u16) -> Option<u16>
     ensures { IfSome result (IsWholeNumber 1 most word.now) }
 {
     match word.parse::<u16>() {
@@ -76,8 +76,8 @@ fn listening_by<'a>(
         table,
         accounts,
         header: header_of_word(header)?,
-        port: number_in(port, 65_535)?,
-        count: number_in(count, 1_000)?,
+        port: whole_number(port, 65_535)?,
+        count: whole_number(count, 1_000)?,
     })
 }
 

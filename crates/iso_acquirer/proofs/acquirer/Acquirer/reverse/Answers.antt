@@ -4,7 +4,7 @@ use Rattle.iso_order.specs.Order.{Instruction}
 use Rattle.iso_acquirer.specs.declared.slot.Role.{Role}
 use Rattle.iso_acquirer.specs.declared.slot.Role.TheVariants.{Transaction, Reversal}
 use Rattle.iso_acquirer.specs.declared.slot.Stage.TheVariants.{Undoing}
-use Rattle.iso_acquirer.specs.Acquirer.{Party, slot_at, reversal_for, on_stage, slots_at_stage, reversing, next_reversal}
+use Rattle.iso_acquirer.specs.Acquirer.{Party, slot_at, reversal_for, on_stage, slots_at_stage, slots_with_reversal, next_reversal}
 use Rattle.iso_acquirer.specs.Room.{reversals_of}
 use Rattle.iso_acquirer.proofs.Kept.{kept-reversing, open-counted, request-found}
 use Rattle.iso_acquirer.proofs.Numbered.{length-changed}
@@ -43,7 +43,7 @@ invariant_of-self c =
     ∙ ap (slots_at_stage (λ _. Undoing c.next_reversal-undo.result) c.args.slot.now.order.key.stan) c.deref_mut.ensures.value in
     let same : length c.put_stage.new.slots ≡ c.self.inside.slots.len =
     ap length put ∙ length-changed (λ _. Undoing c.next_reversal-undo.result) c.args.slot.now.order.key.stan slots ∙ sym c.self.inside.slots.ok.0 in
-    let items : c.push_reserved.new.self.items ≡ reversing slots c.args.slot.now.order.key.stan c.next_reversal-undo.result =
+    let items : c.push_reserved.new.self.items ≡ slots_with_reversal slots c.args.slot.now.order.key.stan c.next_reversal-undo.result =
     c.push_reserved.ensures.items ∙ ap (λ xs. xs ++ reversal_for c.key.result.stan c.next_reversal-undo.result ∷ []) (with_items_is c.self.inside.slots c.put_stage.new.slots same ∙ put)
     ∙ ap (λ k. slots_at_stage (λ _. Undoing c.next_reversal-undo.result) c.args.slot.now.order.key.stan slots ++ reversal_for k.stan c.next_reversal-undo.result ∷ []) c.key.ensures.value in
     rw items
