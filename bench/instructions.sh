@@ -56,7 +56,7 @@ while read -r verb bytes rest; do
 done < "$folder/many.told"
 
 # the program measures so many orders of each kind, or as many as the journal has entries
-most=2000 line=0 collect='--toggle-collect=*iso_bench::issuer::handed*'
+most=2000 line=0 collect='--toggle-collect=*iso_bench::issuer::hand_over*'
 count orders issuer issuer "$@"
 while read -r kind entries rest; do
     line=$((line + 1))

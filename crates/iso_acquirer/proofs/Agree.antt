@@ -8,7 +8,7 @@ use Rattle.iso_acquirer.specs.declared.slot.Role.TheVariants.{Transaction, Rever
 use Rattle.iso_acquirer.specs.declared.slot.Stage.{Stage}
 use Rattle.iso_acquirer.specs.declared.slot.Stage.TheVariants.{Asked, Undoing, Granted, Denied, Undone}
 use Rattle.iso_acquirer.specs.declared.state.State.{State}
-use Rattle.iso_acquirer.specs.Slots.{slot_at, state_by, state_in}
+use Rattle.iso_acquirer.specs.Acquirer.{slot_at, state_by, state_in}
 use Rattle.iso_acquirer.specs.World.{World}
 use Rattle.iso_acquirer.specs.Agreed.{IsSound}
 use Rattle.iso_acquirer.specs.Agreement.{AgreesIn, BothAgree}

@@ -16,7 +16,7 @@ use Rattle.iso_acquirer.specs.declared.slot.Role.{Role}
 use Rattle.iso_acquirer.specs.declared.slot.Role.TheVariants.{Transaction, Reversal}
 use Rattle.iso_acquirer.specs.declared.slot.Stage.{Stage}
 use Rattle.iso_acquirer.specs.declared.slot.Stage.TheVariants.{Asked, Undoing, Granted, Denied, Undone}
-use Rattle.iso_acquirer.specs.Slots.{slot_at, undo_of, stage_after, stage_undone, slots_after_answer, slots_after_answer_in, slots_after_answer_at}
+use Rattle.iso_acquirer.specs.Acquirer.{slot_at, undo_of, stage_after, stage_after_undo, slots_after_answer, slots_after_answer_in, slots_after_answer_at}
 use Rattle.iso_acquirer.specs.Agreed.{answer_at, code_at, IsHeld, IsReversal, IsRole, IsAgreed}
 use Rattle.iso_acquirer.proofs.Keys.{same_key_is, same_key_self, same_number, some_is}
 use Rattle.iso_acquirer.proofs.Numbered.{found}
@@ -43,7 +43,7 @@ held-after entries k a (Denied c) kept h = h
 held-after entries k a (Undone u) kept h = h
 
 -- an answer to its reversal
-held-undone : (entries : List Entry) (k : TxKey) (code : ℕ) (stage : Stage) → is_reversed entries k ≡ true → IsHeld entries k stage → IsHeld entries k (stage_undone code stage)
+held-undone : (entries : List Entry) (k : TxKey) (code : ℕ) (stage : Stage) → is_reversed entries k ≡ true → IsHeld entries k stage → IsHeld entries k (stage_after_undo code stage)
 held-undone entries k code (Asked n) r h = h
 held-undone entries k code (Undoing u) r h = go (code == 0)
   where
@@ -67,7 +67,7 @@ after-undo code Granted = refl
 after-undo code (Denied c) = refl
 after-undo code (Undone u) = refl
 
-undone-undo : (code : ℕ) (stage : Stage) → undo_of (stage_undone code stage) ≡ undo_of stage
+undone-undo : (code : ℕ) (stage : Stage) → undo_of (stage_after_undo code stage) ≡ undo_of stage
 undone-undo code (Asked n) = refl
 undone-undo code (Undoing u) = go (code == 0)
   where
@@ -111,7 +111,7 @@ module _ (wholly : WhollyIsReversed) (id : ℕ) (slots : List Slot) (sent : List
       held-after entries t.order.key a from (ap (answer_at entries) (ap (λ (x : Slot). x.order.key) (sym same) ∙ is) ∙ kept) h)
       (λ t from u there held undo. (transaction_at id slots sent given entries w key.stan t from there held).undone u (sym (after-undo a.code from) ∙ undo))
   by_role s (Reversal n) here is role h =
-      agreed-changed id slots sent given entries (stage_undone a.code) n w
+      agreed-changed id slots sent given entries (stage_after_undo a.code) n w
       (λ t from u there held undo. undone-undo a.code from ∙ undo)
       (λ t from there held g. held-undone entries t.order.key a.code from (entered-undo s n t from here is h there held) g)
       (λ t from u there held undo. (transaction_at id slots sent given entries w n t from there held).undone u (sym (undone-undo a.code from) ∙ undo))

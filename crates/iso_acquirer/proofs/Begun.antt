@@ -13,7 +13,8 @@ use Rattle.iso_acquirer.specs.declared.slot.Slot.{Slot}
 use Rattle.iso_acquirer.specs.declared.slot.Role.{Role}
 use Rattle.iso_acquirer.specs.declared.slot.Role.TheVariants.{Transaction, Reversal}
 use Rattle.iso_acquirer.specs.declared.slot.Stage.TheVariants.{Asked, Undoing}
-use Rattle.iso_acquirer.specs.Slots.{AreNumbered, slot_at, order_at, undo_of, on_stage, slot_at_stage, slots_at_stage, transaction_of, reversal_for, slots_with, reversing}
+use Rattle.iso_acquirer.specs.Acquirer.{slot_at, order_at, undo_of, on_stage, slot_at_stage, slots_at_stage, transaction_of, reversal_for, slots_with, slots_with_reversal}
+use Rattle.iso_acquirer.specs.Room.{AreNumbered}
 use Rattle.iso_acquirer.specs.Agreed.{answer_at, IsRole, IsSlot, IsKnown, IsAgreed}
 use Rattle.iso_acquirer.proofs.Keys.{some_is, none_is_not, number_self}
 use Rattle.iso_acquirer.proofs.Lists.{all-push, all-weaker, find-more}
@@ -128,20 +129,20 @@ module _ (id : ℕ) (slots : List Slot) (sent : List Instruction) (given : List 
   numbered_marked : AreNumbered 1 marked
   numbered_marked = numbered-changed (λ _. Undoing u) stan slots 1 w.numbered
 
-  pub order_reversing : order_at (reversing slots stan u) u.key.stan ≡ Some u
+  pub order_reversing : order_at (slots_with_reversal slots stan u) u.key.stan ≡ Some u
   order_reversing = order-new marked (reversal_for stan u) numbered_marked next_marked
 
-  role_marked : (x : Slot) (r : Role) → IsRole entries slots x.order r → IsRole entries (reversing slots stan u) x.order (on_stage (λ _. Undoing u) r)
+  role_marked : (x : Slot) (r : Role) → IsRole entries slots x.order r → IsRole entries (slots_with_reversal slots stan u) x.order (on_stage (λ _. Undoing u) r)
   role_marked x (Transaction stage) h = record {
     base = h.base;
     money = h.money;
     debit = h.debit;
     held = tt;
-    undone = λ v is. subst (λ (z : Instruction). order_at (reversing slots stan u) z.key.stan ≡ Some z) (some_is u v is) order_reversing;
+    undone = λ v is. subst (λ (z : Instruction). order_at (slots_with_reversal slots stan u) z.key.stan ≡ Some z) (some_is u v is) order_reversing;
   }
   role_marked x (Reversal k) h = role-more entries marked (reversal_for stan u) x.order (Reversal k) (reversal-changed (λ _. Undoing u) stan slots k x.order w.numbered keeps h)
 
-  role_other : (x : Slot) (r : Role) → IsRole entries slots x.order r → IsRole entries (reversing slots stan u) x.order r
+  role_other : (x : Slot) (r : Role) → IsRole entries slots x.order r → IsRole entries (slots_with_reversal slots stan u) x.order r
   role_other x (Transaction stage) h = record {
     base = h.base;
     money = h.money;
@@ -152,18 +153,18 @@ module _ (id : ℕ) (slots : List Slot) (sent : List Instruction) (given : List 
   role_other x (Reversal k) h = role-more entries marked (reversal_for stan u) x.order (Reversal k) (reversal-changed (λ _. Undoing u) stan slots k x.order w.numbered keeps h)
 
   -- what was kept before the reversal
-  before : (k : ℕ) (t : Slot) → slot_at marked k ≡ Some t → IsSlot id entries (reversing slots stan u) t
+  before : (k : ℕ) (t : Slot) → slot_at marked k ≡ Some t → IsSlot id entries (slots_with_reversal slots stan u) t
   before k t there =
       let back = changed-back (λ _. Undoing u) stan slots k t there in
-      subst (IsSlot id entries (reversing slots stan u)) back.2 (by_test back.0 back.1 (back.0.order.key.stan == stan))
+      subst (IsSlot id entries (slots_with_reversal slots stan u)) back.2 (by_test back.0 back.1 (back.0.order.key.stan == stan))
     where
-      by_test : (x : Slot) → slot_at slots k ≡ Some x → (b : Bool) → IsSlot id entries (reversing slots stan u) (cond b (slot_at_stage (λ _. Undoing u) x) x)
+      by_test : (x : Slot) → slot_at slots k ≡ Some x → (b : Bool) → IsSlot id entries (slots_with_reversal slots stan u) (cond b (slot_at_stage (λ _. Undoing u) x) x)
       by_test x at true = let old = w.slots_hold k x at in record { own = old.own; role = role_marked x x.role old.role }
       by_test x at false = let old = w.slots_hold k x at in record { own = old.own; role = role_other x x.role old.role }
 
-  pub agreed-reversing : IsAgreed id (reversing slots stan u) (sent ++ u ∷ []) given entries
+  pub agreed-reversing : IsAgreed id (slots_with_reversal slots stan u) (sent ++ u ∷ []) given entries
   agreed-reversing =
-      agreed-sent id (reversing slots stan u) sent given entries u
+      agreed-sent id (slots_with_reversal slots stan u) sent given entries u
       (agreed-made id marked sent given entries (reversal_for stan u) numbered_marked before
       (known-changed id (λ _. Undoing u) stan slots entries w.entries_known) (sent-changed (λ _. Undoing u) stan slots sent w.sent_known) w.given_kept next_marked
       (record {

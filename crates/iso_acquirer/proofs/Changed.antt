@@ -9,7 +9,8 @@ use Rattle.iso_acquirer.specs.declared.slot.Slot.{Slot}
 use Rattle.iso_acquirer.specs.declared.slot.Role.{Role}
 use Rattle.iso_acquirer.specs.declared.slot.Role.TheVariants.{Transaction, Reversal}
 use Rattle.iso_acquirer.specs.declared.slot.Stage.{Stage}
-use Rattle.iso_acquirer.specs.Slots.{AreNumbered, slot_at, order_at, undo_of, on_stage, slot_at_stage, slots_at_stage}
+use Rattle.iso_acquirer.specs.Acquirer.{slot_at, order_at, undo_of, on_stage, slot_at_stage, slots_at_stage}
+use Rattle.iso_acquirer.specs.Room.{AreNumbered}
 use Rattle.iso_acquirer.specs.Agreed.{IsHeld, IsReversal, IsRole, IsSlot, IsKnown, IsAgreed}
 use Rattle.iso_acquirer.proofs.Keys.{same_number, some_is}
 use Rattle.iso_acquirer.proofs.Lists.{all-weaker}

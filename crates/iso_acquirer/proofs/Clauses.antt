@@ -20,7 +20,7 @@ use Rattle.iso_acquirer.specs.declared.slot.Role.{Role}
 use Rattle.iso_acquirer.specs.declared.slot.Role.TheVariants.{Transaction, Reversal}
 use Rattle.iso_acquirer.specs.declared.slot.Stage.{Stage}
 use Rattle.iso_acquirer.specs.declared.slot.Stage.TheVariants.{Granted, Denied, Undone}
-use Rattle.iso_acquirer.specs.Slots.{slot_at, order_at, undo_of}
+use Rattle.iso_acquirer.specs.Acquirer.{slot_at, order_at, undo_of}
 use Rattle.iso_acquirer.specs.Agreed.{code_at, IsTransaction, IsRole, IsKnown, IsAgreed}
 use Rattle.iso_acquirer.specs.Agreement.{StandsIn}
 use Rattle.iso_acquirer.proofs.Keys.{same_key_is, some_is, none_is_not}

@@ -15,7 +15,8 @@ use Rattle.iso_acquirer.specs.declared.slot.Role.TheVariants.{Transaction, Rever
 use Rattle.iso_acquirer.specs.declared.slot.Stage.{Stage}
 use Rattle.iso_acquirer.specs.declared.slot.Stage.TheVariants.{Asked, Undoing, Granted, Denied, Undone}
 use Rattle.iso_acquirer.specs.declared.state.State.{State}
-use Rattle.iso_acquirer.specs.Slots.{AreNumbered, slot_at, state_by, state_in, state_of, on_stage, slot_at_stage, slots_at_stage, reversal_for, stage_after, stage_undone, slots_after_answer, slots_after_answer_in, slots_after_answer_at, next_reversal, reversing, timeout, timeout_at, timeout_in, timeout_by}
+use Rattle.iso_acquirer.specs.Acquirer.{slot_at, state_by, state_in, state_of, on_stage, slot_at_stage, slots_at_stage, reversal_for, stage_after, stage_after_undo, slots_after_answer, slots_after_answer_in, slots_after_answer_at, next_reversal, slots_with_reversal, timeout, timeout_at, timeout_in, timeout_by}
+use Rattle.iso_acquirer.specs.Room.{AreNumbered}
 use Rattle.iso_acquirer.specs.World.{World, IsMade, IsRan, IsStep, refusal_count}
 use Rattle.iso_acquirer.specs.Agreed.{IsSound}
 use Rattle.iso_acquirer.specs.Agreement.{is_closed, StaysClosed}
@@ -68,7 +69,7 @@ after-stays code Granted h = refl
 after-stays code (Denied c) h = refl
 after-stays code (Undone u) h = refl
 
-undone-stays : (code : ℕ) (stage : Stage) → is_closed (state_by stage) ≡ true → state_by (stage_undone code stage) ≡ state_by stage
+undone-stays : (code : ℕ) (stage : Stage) → is_closed (state_by stage) ≡ true → state_by (stage_after_undo code stage) ≡ state_by stage
 undone-stays code (Asked n) h = cc
 undone-stays code (Undoing u) h = cc
 undone-stays code Granted h = refl
@@ -80,7 +81,7 @@ stays-answered slots key code numbered = by_slot (slot_at slots key.stan)
   where
     by_role : (role : Role) → StaysIn slots (slots_after_answer_in slots key.stan code role)
     by_role (Transaction stage) = stays-changed (stage_after code) key.stan slots numbered (λ s from here is closed. after-stays code from closed)
-    by_role (Reversal k) = stays-changed (stage_undone code) k slots numbered (λ s from here is closed. undone-stays code from closed)
+    by_role (Reversal k) = stays-changed (stage_after_undo code) k slots numbered (λ s from here is closed. undone-stays code from closed)
 
     by_test : (s : Slot) (b : Bool) → StaysIn slots (cond b (slots_after_answer_in slots key.stan code s.role) slots)
     by_test s true = by_role s.role
@@ -107,10 +108,10 @@ module _ (slots : List Slot) (numbered : AreNumbered 1 slots) where
     where
       by_tests : (b t : Bool) →
           ◌≡◌ {A = Result (Instruction × List Slot) AcqFault} (cond b (Ok (s.order, slots_at_stage (λ _. Asked 2) s.order.key.stan slots))
-          (cond t (Ok (next_reversal slots s.order, reversing slots s.order.key.stan (next_reversal slots s.order))) (Err NoMoreTrace))) (Ok r) → StaysIn slots r.1
+          (cond t (Ok (next_reversal slots s.order, slots_with_reversal slots s.order.key.stan (next_reversal slots s.order))) (Err NoMoreTrace))) (Ok r) → StaysIn slots r.1
       by_tests true t h = subst (λ (r : Instruction × List Slot). StaysIn slots r.1) (ok_is (s.order, slots_at_stage (λ _. Asked 2) s.order.key.stan slots) r h) (open-stays (Asked 2) s n here role)
       by_tests false true h =
-          subst (λ (r : Instruction × List Slot). StaysIn slots r.1) (ok_is (next_reversal slots s.order, reversing slots s.order.key.stan (next_reversal slots s.order)) r h)
+          subst (λ (r : Instruction × List Slot). StaysIn slots r.1) (ok_is (next_reversal slots s.order, slots_with_reversal slots s.order.key.stan (next_reversal slots s.order)) r h)
           (λ stan state told closed. stays-pushed (slots_at_stage (λ _. Undoing (next_reversal slots s.order)) s.order.key.stan slots) (reversal_for s.order.key.stan (next_reversal slots s.order)) stan state
           (open-stays (Undoing (next_reversal slots s.order)) s n here role stan state told closed) closed)
       by_tests false false h = absurd (err_not NoMoreTrace r h)

@@ -16,7 +16,7 @@ use Rattle.iso_acquirer.specs.declared.slot.Role.{Role}
 use Rattle.iso_acquirer.specs.declared.slot.Role.TheVariants.{Transaction, Reversal}
 use Rattle.iso_acquirer.specs.declared.slot.Stage.{Stage}
 use Rattle.iso_acquirer.specs.declared.slot.Stage.TheVariants.{Asked, Undoing, Granted, Denied, Undone}
-use Rattle.iso_acquirer.specs.Slots.{order_at}
+use Rattle.iso_acquirer.specs.Acquirer.{order_at}
 use Rattle.iso_acquirer.specs.Agreed.{answer_at, code_at, IsHeld, IsRole, IsKnown, IsAgreed}
 use Rattle.iso_acquirer.proofs.Lists.{all-push, all-weaker, find-more}
 use Rattle.iso_acquirer.proofs.Clauses.{own_order, slot_of_order}

@@ -9,7 +9,8 @@ use Rattle.iso_acquirer.specs.declared.slot.Role.{Role}
 use Rattle.iso_acquirer.specs.declared.slot.Role.TheVariants.{Transaction, Reversal}
 use Rattle.iso_acquirer.specs.declared.slot.Stage.{Stage}
 use Rattle.iso_acquirer.specs.declared.slot.Stage.TheVariants.{Asked, Undoing, Granted, Denied, Undone}
-use Rattle.iso_acquirer.specs.Slots.{AreNumbered, slot_at, may_reverse, to_reverse, waiting, on_stage, slots_at_stage, transaction_of, reversal_for, slots_with, reversing, stage_after, stage_undone, IsRequest, IsRoomKept}
+use Rattle.iso_acquirer.specs.Acquirer.{slot_at, on_stage, slots_at_stage, transaction_of, reversal_for, slots_with, slots_with_reversal, stage_after, stage_after_undo}
+use Rattle.iso_acquirer.specs.Room.{AreNumbered, reversals_at, reversals_of, reversals_left, IsRequest, IsRoomKept}
 use Rattle.iso_acquirer.proofs.Lists.{all-push}
 use Rattle.iso_acquirer.proofs.Numbered.{summed, numbered-changed, numbered-push, length-changed, all-changed, all-found}
 
@@ -24,10 +25,10 @@ requests-changed step m slots all = all-changed (λ s. IsRequest s.role s.order)
     by_role (Reversal k) o is = is
 
 -- the order of a transaction that is found
-pub request-found : (slots : List Slot) (m : ℕ) (s : Slot) → AreRequests slots → slot_at slots m ≡ Some s → to_reverse s.role ≡ 1 → s.order.key.base ≡ 200
+pub request-found : (slots : List Slot) (m : ℕ) (s : Slot) → AreRequests slots → slot_at slots m ≡ Some s → reversals_of s.role ≡ 1 → s.order.key.base ≡ 200
 request-found slots m s all there one = by_role s.role (all-found (λ s. IsRequest s.role s.order) slots m s all there) one
   where
-    by_role : (r : Role) → IsRequest r s.order → to_reverse r ≡ 1 → s.order.key.base ≡ 200
+    by_role : (r : Role) → IsRequest r s.order → reversals_of r ≡ 1 → s.order.key.base ≡ 200
     by_role (Transaction stage) is one = is
     by_role (Reversal k) is one = cc
 
@@ -38,44 +39,44 @@ kept-begun id slots w len cap len_after cap_after o kept next base few room = re
   id_fits = kept.id_fits;
   numbered = numbered-push slots (transaction_of o) 1 kept.numbered (omega (arith, next));
   few = omega (arith, length-append slots (transaction_of o ∷ []));
-  counted = omega (arith, kept.counted, sum_by_push (λ (s : Slot). to_reverse s.role) slots (transaction_of o));
+  counted = omega (arith, kept.counted, sum_by_push (λ (s : Slot). reversals_of s.role) slots (transaction_of o));
   room = room;
   requests = all-push (λ (s : Slot). IsRequest s.role s.order) slots (transaction_of o) kept.requests base;
 }
 
 -- one change changes how many reversals may still be made
 open-sum : (slots : List Slot) (m : ℕ) (s : Slot) (step : Stage → Stage) → AreNumbered 1 slots → slot_at slots m ≡ Some s →
-    waiting (slots_at_stage step m slots) + to_reverse s.role ≡ waiting slots + to_reverse (on_stage step s.role)
-open-sum slots m s step h there = summed (λ (s : Slot). to_reverse s.role) step slots 1 m s h there
+    reversals_left (slots_at_stage step m slots) + reversals_of s.role ≡ reversals_left slots + reversals_of (on_stage step s.role)
+open-sum slots m s step h there = summed (λ (s : Slot). reversals_of s.role) step slots 1 m s h there
 
 -- a transaction comes to a stage
 pub kept-brought : (id : ℕ) (slots : List Slot) (w len cap len_after cap_after m before after : ℕ) (s : Slot) (from stage : Stage) → IsRoomKept id slots w len cap →
-    slot_at slots m ≡ Some s → s.role ≡ Transaction from → before ≡ to_reverse s.role → after ≡ may_reverse stage → after ≤ before → before ≤ w →
+    slot_at slots m ≡ Some s → s.role ≡ Transaction from → before ≡ reversals_of s.role → after ≡ reversals_at stage → after ≤ before → before ≤ w →
     len_after ≡ len → cap_after ≡ cap →
     IsRoomKept id (slots_at_stage (λ _. stage) m slots) (w - before + after) len_after cap_after
 kept-brought id slots w len cap len_after cap_after m before after s from stage kept there role was is less enough same_len same_cap = record {
   id_fits = kept.id_fits;
   numbered = numbered-changed (λ _. stage) m slots 1 kept.numbered;
   few = rw (length-changed (λ _. stage) m slots) kept.few;
-  counted = omega (arith, kept.counted, was, is, enough, less, open-sum slots m s (λ _. stage) kept.numbered there, ap (λ r. to_reverse (on_stage (λ _. stage) r)) role);
+  counted = omega (arith, kept.counted, was, is, enough, less, open-sum slots m s (λ _. stage) kept.numbered there, ap (λ r. reversals_of (on_stage (λ _. stage) r)) role);
   room = omega (arith, kept.room);
   requests = requests-changed (λ _. stage) m slots kept.requests;
 }
 
 -- what may still be reversed is counted
 pub open-counted : (id : ℕ) (slots : List Slot) (w len cap m before : ℕ) (s : Slot) → IsRoomKept id slots w len cap → slot_at slots m ≡ Some s →
-    before ≡ to_reverse s.role → before ≤ w
+    before ≡ reversals_of s.role → before ≤ w
 open-counted id slots w len cap m before s kept there is =
     omega (arith, kept.counted, is, open-sum slots m s (λ _. Granted) kept.numbered there, closed s.role)
   where
-    closed : (r : Role) → to_reverse (on_stage (λ _. Granted) r) ≡ 0
+    closed : (r : Role) → reversals_of (on_stage (λ _. Granted) r) ≡ 0
     closed (Transaction stage) = refl
     closed (Reversal k) = refl
 
 -- a transaction is reversed
 pub kept-reversing : (id : ℕ) (slots : List Slot) (w len cap len_after cap_after m : ℕ) (s : Slot) (u : Instruction) → IsRoomKept id slots w len cap →
-    slot_at slots m ≡ Some s → to_reverse s.role ≡ 1 → u.key.stan ≡ length slots + 1 → length slots < 999999 →
-    len_after ≡ len + 1 → cap_after ≡ cap → IsRoomKept id (reversing slots m u) (w - 1) len_after cap_after
+    slot_at slots m ≡ Some s → reversals_of s.role ≡ 1 → u.key.stan ≡ length slots + 1 → length slots < 999999 →
+    len_after ≡ len + 1 → cap_after ≡ cap → IsRoomKept id (slots_with_reversal slots m u) (w - 1) len_after cap_after
 kept-reversing id slots w len cap len_after cap_after m s u kept there one next few same_len same_cap =
     let after = slots_at_stage (λ _. Undoing u) m slots in
     let length_after : length after ≡ length slots = length-changed (λ _. Undoing u) m slots in
@@ -84,21 +85,21 @@ kept-reversing id slots w len cap len_after cap_after m s u kept there one next 
       id_fits = kept.id_fits;
       numbered = numbered-push after (reversal_for m u) 1 (numbered-changed (λ _. Undoing u) m slots 1 kept.numbered) (omega (arith, next, length_after));
       few = omega (arith, length-append after (reversal_for m u ∷ []), length_after, few);
-      counted = omega (arith, kept.counted, open-sum slots m s (λ _. Undoing u) kept.numbered there, sum_by_push (λ (s : Slot). to_reverse s.role) after (reversal_for m u), one, none s.role, enough);
+      counted = omega (arith, kept.counted, open-sum slots m s (λ _. Undoing u) kept.numbered there, sum_by_push (λ (s : Slot). reversals_of s.role) after (reversal_for m u), one, none s.role, enough);
       room = omega (arith, kept.room, enough);
       requests = all-push (λ (s : Slot). IsRequest s.role s.order) after (reversal_for m u) (requests-changed (λ _. Undoing u) m slots kept.requests) tt;
     }
   where
-    none : (r : Role) → to_reverse (on_stage (λ _. Undoing u) r) ≡ 0
+    none : (r : Role) → reversals_of (on_stage (λ _. Undoing u) r) ≡ 0
     none (Transaction stage) = refl
     none (Reversal k) = refl
 
 -- ---- an answer opens nothing
 
-pub after-fewer : (stage : Stage) (code : ℕ) → may_reverse (stage_after code stage) ≤ may_reverse stage
+pub after-fewer : (stage : Stage) (code : ℕ) → reversals_at (stage_after code stage) ≤ reversals_at stage
 after-fewer (Asked n) code = by_code (code == 0) ((code == 94) || (code == 96))
   where
-    by_code : (b t : Bool) → may_reverse (cond b Granted (cond t (Asked n) (Denied code))) ≤ 1
+    by_code : (b t : Bool) → reversals_at (cond b Granted (cond t (Asked n) (Denied code))) ≤ 1
     by_code true t = omega arith
     by_code false true = omega arith
     by_code false false = omega arith
@@ -107,11 +108,11 @@ after-fewer Granted code = omega arith
 after-fewer (Denied c) code = omega arith
 after-fewer (Undone u) code = omega arith
 
-pub undone-fewer : (stage : Stage) (code : ℕ) → may_reverse (stage_undone code stage) ≤ may_reverse stage
+pub undone-fewer : (stage : Stage) (code : ℕ) → reversals_at (stage_after_undo code stage) ≤ reversals_at stage
 undone-fewer (Asked n) code = omega arith
 undone-fewer (Undoing u) code = by_code (code == 0)
   where
-    by_code : (b : Bool) → may_reverse (cond b (Undone u) (Undoing u)) ≤ 0
+    by_code : (b : Bool) → reversals_at (cond b (Undone u) (Undoing u)) ≤ 0
     by_code true = omega arith
     by_code false = omega arith
 undone-fewer Granted code = omega arith

@@ -9,7 +9,7 @@ use Rattle.iso_order.specs.declared.act.Money.{Money}
 use Rattle.iso_order.specs.Pan.{is_pan}
 use Rattle.iso_order.specs.Key.{class_digit, is_valid_key}
 use Rattle.iso_order.specs.Order.{Instruction, is_account, is_currency, has_amount, is_payment, is_valid, is_valid_act}
-use Rattle.iso_acquirer.specs.Slots.{IsFair}
+use Rattle.iso_acquirer.specs.Acquirer.{IsFair}
 use Rattle.iso_acquirer.proofs.Keys.{both, both_true, number_self}
 
 -- a test that holds gives what it asks for

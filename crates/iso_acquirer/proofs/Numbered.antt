@@ -6,7 +6,8 @@ use Rattle.std.proofs.lemmas.List.Sums.{sum_by-cons}
 use Rattle.iso_acquirer.specs.declared.slot.Slot.{Slot}
 use Rattle.iso_acquirer.specs.declared.slot.Role.TheVariants.{Reversal}
 use Rattle.iso_acquirer.specs.declared.slot.Stage.{Stage}
-use Rattle.iso_acquirer.specs.Slots.{AreNumbered, slot_at, slots_at_stage, slot_at_stage}
+use Rattle.iso_acquirer.specs.Acquirer.{slot_at, slots_at_stage, slot_at_stage}
+use Rattle.iso_acquirer.specs.Room.{AreNumbered}
 use Rattle.iso_acquirer.proofs.Keys.{same_number, number_self, other_number, some_is}
 
 -- below the first number there is nothing

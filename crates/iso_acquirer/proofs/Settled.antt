@@ -23,7 +23,7 @@ use Rattle.iso_acquirer.specs.declared.slot.Role.{Role}
 use Rattle.iso_acquirer.specs.declared.slot.Role.TheVariants.{Transaction, Reversal}
 use Rattle.iso_acquirer.specs.declared.slot.Stage.{Stage}
 use Rattle.iso_acquirer.specs.declared.slot.Stage.TheVariants.{Asked, Undoing, Granted, Denied, Undone}
-use Rattle.iso_acquirer.specs.Slots.{slot_at, state_by, state_in}
+use Rattle.iso_acquirer.specs.Acquirer.{slot_at, state_by, state_in}
 use Rattle.iso_acquirer.specs.World.{World}
 use Rattle.iso_acquirer.specs.Agreed.{IsTransaction, IsRole, IsKnown, IsSound}
 use Rattle.iso_acquirer.specs.Agreement.{is_closed, is_state_approved, debit_amount, approved_total, IsSettled, BooksAgree}

@@ -10,7 +10,8 @@ use Rattle.iso_order.specs.Order.{Instruction}
 use Rattle.iso_issuer.specs.declared.journal.Entry.{Entry}
 use Rattle.iso_issuer.specs.Journal.{entry_at, is_entered, HasDistinctKeys}
 use Rattle.iso_acquirer.specs.declared.slot.Slot.{Slot}
-use Rattle.iso_acquirer.specs.Slots.{AreNumbered, slot_at, order_at}
+use Rattle.iso_acquirer.specs.Acquirer.{slot_at, order_at}
+use Rattle.iso_acquirer.specs.Room.{AreNumbered}
 use Rattle.iso_acquirer.proofs.Keys.{same_key_is, same_key_self, same_number, number_self, other_number, some_is}
 use Rattle.iso_acquirer.proofs.Numbered.{found}
 use Rattle.iso_acquirer.proofs.Clauses.{slot_of_order}

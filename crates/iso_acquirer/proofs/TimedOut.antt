@@ -11,7 +11,7 @@ use Rattle.iso_acquirer.specs.declared.slot.Role.{Role}
 use Rattle.iso_acquirer.specs.declared.slot.Role.TheVariants.{Transaction, Reversal}
 use Rattle.iso_acquirer.specs.declared.slot.Stage.{Stage}
 use Rattle.iso_acquirer.specs.declared.slot.Stage.TheVariants.{Asked, Undoing, Granted, Denied, Undone}
-use Rattle.iso_acquirer.specs.Slots.{slot_at, undo_of, slots_at_stage, timeout, timeout_at, timeout_in, timeout_by, next_reversal, reversing}
+use Rattle.iso_acquirer.specs.Acquirer.{slot_at, undo_of, slots_at_stage, timeout, timeout_at, timeout_in, timeout_by, next_reversal, slots_with_reversal}
 use Rattle.iso_acquirer.specs.Agreed.{IsAgreed}
 use Rattle.iso_acquirer.proofs.Keys.{some_is, none_is_not}
 use Rattle.iso_acquirer.proofs.Numbered.{found}
@@ -43,10 +43,10 @@ module _ (id : ℕ) (slots : List Slot) (sent : List Instruction) (given : List 
     where
       by_tests : (b t : Bool) →
           ◌≡◌ {A = Result (Instruction × List Slot) AcqFault} (cond b (Ok (s.order, slots_at_stage (λ _. Asked 2) s.order.key.stan slots))
-          (cond t (Ok (next_reversal slots s.order, reversing slots s.order.key.stan (next_reversal slots s.order))) (Err NoMoreTrace))) (Ok r) → IsSent r
+          (cond t (Ok (next_reversal slots s.order, slots_with_reversal slots s.order.key.stan (next_reversal slots s.order))) (Err NoMoreTrace))) (Ok r) → IsSent r
       by_tests true t h = subst IsSent (ok_is (s.order, slots_at_stage (λ _. Asked 2) s.order.key.stan slots) r h) (again s n here role)
       by_tests false true h =
-          subst IsSent (ok_is (next_reversal slots s.order, reversing slots s.order.key.stan (next_reversal slots s.order)) r h)
+          subst IsSent (ok_is (next_reversal slots s.order, slots_with_reversal slots s.order.key.stan (next_reversal slots s.order)) r h)
           (agreed-reversing id slots sent given entries s.order.key.stan n s (next_reversal slots s.order) w here role refl (w.slots_hold s.order.key.stan s here).own refl)
       by_tests false false h = absurd (err_not NoMoreTrace r h)
   asked-by s (Undoing u) here role r e =

@@ -1,4 +1,5 @@
 -- What both ends agree on.
+-- Public: `World::both_agree`, `World::books_agree`, `World::step` and `World::run` promise it.
 use Rattle.std.specs.Prelude.{◌≡◌, ℕ, Bool, true, false, List, Option, Some, None, sum_by, pos, ◌-ℤ◌, if◌then◌else◌}
 use Rattle.std.specs.List.{AllByRecursion}
 use Rattle.iso_order.specs.declared.act.Act.{Act}
@@ -14,7 +15,7 @@ use Rattle.iso_issuer.specs.Laws.{NeverStands}
 use Rattle.iso_acquirer.specs.declared.slot.Slot.{Slot}
 use Rattle.iso_acquirer.specs.declared.state.State.{State}
 use Rattle.iso_acquirer.specs.declared.state.State.TheVariants.{Waiting, Reversing, Approved, Declined, Reversed}
-use Rattle.iso_acquirer.specs.Slots.{order_at, state_in, state_of}
+use Rattle.iso_acquirer.specs.Acquirer.{order_at, state_in, state_of}
 use Rattle.iso_acquirer.specs.World.{World}
 
 -- ---- each transaction

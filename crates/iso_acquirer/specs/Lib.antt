@@ -1,5 +1,6 @@
-pub mod FaultNumbers
-pub mod Slots
-pub mod World
+pub mod Acquirer
 pub mod Agreed
 pub mod Agreement
+pub mod FaultNumbers
+pub mod Room
+pub mod World

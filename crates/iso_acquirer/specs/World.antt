@@ -1,10 +1,9 @@
 -- Both ends, and what may happen to them.
+-- Public: the calls of `World` promise it.
 use Rattle.std.specs.Prelude.{◌≡◌, ◌≢◌, ◌<◌, ℕ, List, [], ◌∷◌, ◌++◌, ◌+◌, length, Option, Some, None, slice_get, Ok, Err}
 use Rattle.iso_order.specs.Order.{Instruction}
-use Rattle.iso_issuer.specs.declared.fault.Refused.{Refused}
-use Rattle.iso_issuer.specs.declared.fault.Refused.TheVariants.{Full, Memory}
 use Rattle.iso_issuer.specs.Decision.{reply}
-use Rattle.iso_issuer.specs.Books.{Books, journal, books_with, IsFullFor, IsRoomFor}
+use Rattle.iso_issuer.specs.Books.{Books, journal, books_with, IsFullFor, IsReply}
 use Rattle.iso_acquirer.specs.declared.event.Event.{Event}
 use Rattle.iso_acquirer.specs.declared.event.Event.TheVariants.{Begin, Timeout, Deliver, Answer, Other}
 use Rattle.iso_acquirer.specs.declared.event.Given.{Given}
@@ -12,7 +11,7 @@ use Rattle.iso_acquirer.specs.declared.fault.AcqFault.TheVariants as acquirer
 use Rattle.iso_acquirer.specs.declared.fault.StepFault.{StepFault}
 use Rattle.iso_acquirer.specs.declared.fault.StepFault.TheVariants as fault
 use Rattle.iso_acquirer.specs.declared.slot.Slot.{Slot}
-use Rattle.iso_acquirer.specs.Slots.{Party, slots_with, debit_of, IsFair, timeout, slots_after_answer}
+use Rattle.iso_acquirer.specs.Acquirer.{Party, slots_with, debit_of, IsFair, timeout, slots_after_answer}
 
 -- the acquirer and the issuer, with all that was ever sent and given
 pub record World : Type 0 where
@@ -95,11 +94,6 @@ IsMade old (Other o) new = IsOther old o new
 
 -- ---- why one isn't made
 
--- the issuer has no room for a new key, or no memory for it
-abbrev pub IsRefused : Books → Instruction → Refused → Type 0
-IsRefused b o Full = IsFullFor b o.key
-IsRefused b o Memory = IsRoomFor b o.key
-
 -- all trace numbers are used, or memory ran out
 abbrev pub IsNotBegun : World → StepFault → Type 0
 IsNotBegun old (fault.Acquirer e) = (e ≡ acquirer.NoMoreTrace → length old.acquirer.slots ≡ 999999) × (e ≢ acquirer.NoMoreTrace → e ≡ acquirer.Memory)
@@ -119,7 +113,7 @@ IsNotAsked old stan (fault.Issuer e) = ⊥
 -- no order was sent at that place, or the issuer refuses it, or memory ran out
 abbrev pub IsNotDelivered : World → ℕ → StepFault → Type 0
 IsNotDelivered old place fault.NoSuch = slice_get old.sent place ≡ None
-IsNotDelivered old place (fault.Issuer e) = (o : Instruction) × (slice_get old.sent place ≡ Some o) × IsRefused old.issuer o e
+IsNotDelivered old place (fault.Issuer e) = (o : Instruction) × (slice_get old.sent place ≡ Some o) × IsReply old.issuer o (Err e)
 IsNotDelivered old place fault.Memory = (o : Instruction) × (slice_get old.sent place ≡ Some o)
 IsNotDelivered old place fault.OwnKey = ⊥
 IsNotDelivered old place (fault.Acquirer e) = ⊥
@@ -135,7 +129,7 @@ IsNotTold old place (fault.Issuer e) = ⊥
 -- the order has this acquirer's number, or the issuer refuses it
 abbrev pub IsNotOther : World → Instruction → StepFault → Type 0
 IsNotOther old o fault.OwnKey = o.key.acquirer ≡ old.acquirer.id
-IsNotOther old o (fault.Issuer e) = (o.key.acquirer ≢ old.acquirer.id) × IsRefused old.issuer o e
+IsNotOther old o (fault.Issuer e) = (o.key.acquirer ≢ old.acquirer.id) × IsReply old.issuer o (Err e)
 IsNotOther old o fault.Memory = ⊥
 IsNotOther old o fault.NoSuch = ⊥
 IsNotOther old o (fault.Acquirer e) = ⊥

@@ -1,14 +1,14 @@
 //! The acquirer.
 
-ghost use Rattle.std.specs.Prelude.{◌≡◌, ◌≢◌, ◌≤◌, ◌<◌, ◌↔◌, []};
-ghost use Rattle.std.specs.Prelude.{length, true, Ok, Err, Some, IfSome, List, slice_get, IfOk, OnOk, OnErr, IfErr};
+ghost use Rattle.std.specs.Prelude.{◌≡◌, ◌≢◌, ◌≤◌, ◌<◌, ◌↔◌, [], length, true, Ok, Err, Some, IfSome, List, slice_get, IfOk, OnOk, OnErr, IfErr};
 ghost use Rattle.iso_order.specs.Key.{is_valid_key, same_key};
 ghost use Rattle.iso_order.specs.declared.act.Act.TheVariants.{Debit};
 ghost use Rattle.iso_acquirer.specs.declared.fault.AcqFault.TheVariants.{NoMoreTrace, Memory};
 ghost use Rattle.iso_acquirer.specs.declared.slot.Role.TheVariants.{Transaction};
-ghost use Rattle.iso_acquirer.specs.Slots.{AreNumbered, slot_at, state_by, state_of, may_reverse, to_reverse, on_stage, slots_at_stage, slots_with};
-ghost use Rattle.iso_acquirer.specs.Slots.{debit_of, IsFair, IsRequest, next_reversal, reversing, timeout, timeout_by, slots_after_answer_in};
-ghost use Rattle.iso_acquirer.specs.Slots.{stage_after, stage_undone, slots_after_answer};
+ghost use Rattle.iso_acquirer.specs.Acquirer.{slot_at, state_by, state_of, on_stage, slots_at_stage, slots_with};
+ghost use Rattle.iso_acquirer.specs.Room.{AreNumbered, reversals_at, reversals_of, IsRequest};
+ghost use Rattle.iso_acquirer.specs.Acquirer.{debit_of, IsFair, next_reversal, slots_with_reversal, timeout, timeout_by, slots_after_answer_in};
+ghost use Rattle.iso_acquirer.specs.Acquirer.{stage_after, stage_after_undo, slots_after_answer};
 
 use crate::fault::AcqFault;
 use crate::slot::{Role, Slot, Stage};
@@ -24,18 +24,19 @@ pub struct Acquirer {
     /// Each order that was made: that of trace number 1 first.
     slots: Vec<Slot>,
     /// How many reversals may still be made.
-    waiting: usize,
+    reversals_left: usize,
 }
 
 impl Model for Acquirer {
     ghost use Rattle.std.specs.Prelude.{vec_len, vec_capacity};
-    ghost use Rattle.iso_acquirer.specs.Slots.{Party, IsRoomKept};
+    ghost use Rattle.iso_acquirer.specs.Acquirer.{Party};
+    ghost use Rattle.iso_acquirer.specs.Room.{IsRoomKept};
 
     ghost Value = { Party };
 
     ghost view = { λ a. record { id = a.id; slots = a.slots.items } };
 
-    ghost invariant = { λ a. IsRoomKept a.id a.slots.items a.waiting (vec_len a.slots) (vec_capacity a.slots) };
+    ghost invariant = { λ a. IsRoomKept a.id a.slots.items a.reversals_left (vec_len a.slots) (vec_capacity a.slots) };
 }
 
 fn slot_in(slots: &[Slot], place: usize) -> Option<Slot>
@@ -57,7 +58,7 @@ fn slot_at(slots: &[Slot], stan: u32) -> Option<Slot>
 }
 
 /// Brings the transaction of a trace number to a stage.
-fn put(slots: &mut [Slot], slot: &Slot, stage: Stage)
+fn put_stage(slots: &mut [Slot], slot: &Slot, stage: Stage)
     requires numbered { AreNumbered 1 slots.old }
     requires there { slot_at slots.old slot.now.order.key.stan ≡ Some slot.now }
     ensures { (step : Stage → Stage) → on_stage step slot.now.role ≡ Transaction stage
@@ -83,8 +84,8 @@ fn state_by(stage: Stage) -> State
 }
 
 /// How many reversals of a transaction at that stage may still be made: one or none.
-fn may_reverse(stage: &Stage) -> usize
-    ensures { result ≡ may_reverse stage.now }
+fn reversals_at(stage: &Stage) -> usize
+    ensures { result ≡ reversals_at stage.now }
 {
     match stage {
         Stage::Asked(_) => 1,
@@ -93,16 +94,16 @@ fn may_reverse(stage: &Stage) -> usize
 }
 
 /// How many reversals of an order may still be made: a reversal isn't reversed.
-fn to_reverse(role: &Role) -> usize
-    ensures { result ≡ to_reverse role.now }
+fn reversals_of(role: &Role) -> usize
+    ensures { result ≡ reversals_of role.now }
 {
     match role {
-        Role::Transaction(stage) => may_reverse(stage),
+        Role::Transaction(stage) => reversals_at(stage),
         Role::Reversal(_) => 0,
     }
 }
 
-fn is_key(a: TxKey, b: TxKey) -> bool
+fn same_key(a: TxKey, b: TxKey) -> bool
     ensures { result ≡ same_key a b }
 {
     a.base == b.base && a.stan == b.stan && a.sent == b.sent && a.acquirer == b.acquirer
@@ -123,8 +124,8 @@ fn stage_after(stage: Stage, code: u8) -> Stage
 }
 
 /// The stage after an answer to the transaction's reversal.
-fn stage_undone(stage: Stage, code: u8) -> Stage
-    ensures { result ≡ stage_undone code stage }
+fn stage_after_undo(stage: Stage, code: u8) -> Stage
+    ensures { result ≡ stage_after_undo code stage }
 {
     match stage {
         Stage::Undoing(undo) => {
@@ -151,7 +152,7 @@ fn debit(key: TxKey, money: Money) -> Order
 }
 
 /// The reversal of a transaction's order, under the next trace number.
-fn reversal(used: usize, order: Order) -> Order
+fn next_reversal(used: usize, order: Order) -> Order
     requires few { used < 999999 }
     requires base { order.key.base ≡ 200 }
     ensures { (slots : List Slot) → length slots ≡ used → result ≡ next_reversal slots order }
@@ -175,7 +176,7 @@ impl Acquirer {
         Acquirer {
             id,
             slots: Vec::new(alloc),
-            waiting: 0,
+            reversals_left: 0,
         }
     }
 
@@ -225,7 +226,7 @@ impl Acquirer {
         if used >= 999_999 {
             return Err(AcqFault::NoMoreTrace);
         }
-        self.slots.reserve(self.waiting + 2)?;
+        self.slots.reserve(self.reversals_left + 2)?;
         let key = TxKey {
             base: 200,
             stan: used as u32 + 1,
@@ -242,31 +243,31 @@ impl Acquirer {
             order,
             role: Role::Transaction(Stage::Asked(1)),
         });
-        self.waiting += 1;
+        self.reversals_left += 1;
         Ok(order)
     }
 
     /// Brings a transaction to a stage.
     fn bring(&mut self, slot: &Slot, stage: Stage)
         requires there { slot_at self.old.slots slot.now.order.key.stan ≡ Some slot.now }
-        requires fewer { may_reverse stage ≤ to_reverse slot.now.role }
+        requires fewer { reversals_at stage ≤ reversals_of slot.now.role }
         requires transaction { (before : Stage) × (slot.now.role ≡ Transaction before) }
         ensures { (step : Stage → Stage) → on_stage step slot.now.role ≡ Transaction stage →
             self.new ≡ record self.old { slots = slots_at_stage step slot.now.order.key.stan self.old.slots } }
     {
-        let before = to_reverse(&slot.role);
-        let after = may_reverse(&stage);
-        put(&mut self.slots, slot, stage);
-        self.waiting = self.waiting - before + after;
+        let before = reversals_of(&slot.role);
+        let after = reversals_at(&stage);
+        put_stage(&mut self.slots, slot, stage);
+        self.reversals_left = self.reversals_left - before + after;
     }
 
     /// Makes the reversal of a transaction under the next trace number. Its room is there.
     fn reverse(&mut self, slot: &Slot) -> Result<Order, AcqFault>
         requires there { slot_at self.old.slots slot.now.order.key.stan ≡ Some slot.now }
-        requires asked { to_reverse slot.now.role ≡ 1 }
+        requires asked { reversals_of slot.now.role ≡ 1 }
         ensures order { IfOk result (λ order. order ≡ next_reversal self.old.slots slot.now.order) }
         ensures reversing { let stan = slot.now.order.key.stan in
-            OnOk result (self.new ≡ record self.old { slots = reversing self.old.slots stan (next_reversal self.old.slots slot.now.order) }) }
+            OnOk result (self.new ≡ record self.old { slots = slots_with_reversal self.old.slots stan (next_reversal self.old.slots slot.now.order) }) }
         ensures few { OnOk result (length self.old.slots < 999999) }
         ensures no_more { IfErr result (λ e. (e ≡ NoMoreTrace) × (length self.old.slots ≡ 999999)) }
         ensures unchanged { OnErr result (self.new ≡ self.old) }
@@ -275,13 +276,13 @@ impl Acquirer {
         if used >= 999_999 {
             return Err(AcqFault::NoMoreTrace);
         }
-        let undo = reversal(used, slot.order);
-        put(&mut self.slots, slot, Stage::Undoing(undo));
+        let undo = next_reversal(used, slot.order);
+        put_stage(&mut self.slots, slot, Stage::Undoing(undo));
         self.slots.push_reserved(Slot {
             order: undo,
             role: Role::Reversal(slot.order.key().stan),
         });
-        self.waiting -= 1;
+        self.reversals_left -= 1;
         Ok(undo)
     }
 
@@ -300,12 +301,12 @@ impl Acquirer {
         };
         let role = slot.role;
         match role {
-            Role::Transaction(stage) => self.timed_out(&slot, stage),
+            Role::Transaction(stage) => self.timeout_by(&slot, stage),
             Role::Reversal(_) => Err(AcqFault::NoSuch),
         }
     }
 
-    fn timed_out(&mut self, slot: &Slot, stage: Stage) -> Result<Order, AcqFault>
+    fn timeout_by(&mut self, slot: &Slot, stage: Stage) -> Result<Order, AcqFault>
         requires there { slot_at self.old.slots slot.now.order.key.stan ≡ Some slot.now }
         requires transaction { slot.now.role ≡ Transaction stage }
         ensures ok { IfOk result (λ order. timeout_by self.old.slots slot.now.order stage ≡ Ok (order, self.new.slots)) }
@@ -336,31 +337,31 @@ impl Acquirer {
         let Some(slot) = slot_at(&self.slots, key.stan) else {
             return;
         };
-        if is_key(slot.order.key(), key) {
-            self.answer_to(&slot, code);
+        if same_key(slot.order.key(), key) {
+            self.answer_slot(&slot, code);
         }
     }
 
-    fn answer_to(&mut self, slot: &Slot, code: u8)
+    fn answer_slot(&mut self, slot: &Slot, code: u8)
         requires there { slot_at self.old.slots slot.now.order.key.stan ≡ Some slot.now }
         ensures { self.new ≡ record self.old { slots = slots_after_answer_in self.old.slots slot.now.order.key.stan code slot.now.role } }
     {
         match slot.role {
             Role::Transaction(stage) => self.bring(slot, stage_after(stage, code)),
-            Role::Reversal(original) => self.undo_answered(original, code),
+            Role::Reversal(original) => self.answer_reversal(original, code),
         }
     }
 
     /// Takes an answer to the reversal of the transaction of that trace number.
-    fn undo_answered(&mut self, original: u32, code: u8)
-        ensures { self.new ≡ record self.old { slots = slots_at_stage (stage_undone code) original self.old.slots } }
+    fn answer_reversal(&mut self, original: u32, code: u8)
+        ensures { self.new ≡ record self.old { slots = slots_at_stage (stage_after_undo code) original self.old.slots } }
     {
         let Some(slot) = slot_at(&self.slots, original) else {
             return;
         };
         let role = slot.role;
         match role {
-            Role::Transaction(stage) => self.bring(&slot, stage_undone(stage, code)),
+            Role::Transaction(stage) => self.bring(&slot, stage_after_undo(stage, code)),
             Role::Reversal(_) => {}
         }
     }

@@ -93,10 +93,10 @@ fn step(world: &mut World, event: &Event) -> Result<(), StepFault>
 }
 
 /// An event, what comes of it, the state that the acquirer then holds of a transaction, and what is then on the account.
-type Row = (Event, Result<(), StepFault>, Option<State>, i64);
+type PlayedEvent = (Event, Result<(), StepFault>, Option<State>, i64);
 
 /// The event, which begins no other debits than `begin` makes.
-fn fair(event: Event) -> Result<Event, Fail>
+fn fair_event(event: Event) -> Result<Event, Fail>
     ensures { IfOk result IsFairEvent }
 {
     match event {
@@ -106,9 +106,9 @@ fn fair(event: Event) -> Result<Event, Fail>
 }
 
 /// Plays events.
-fn play(rt: &impl Abort, world: &mut World, stan: u32, rows: &[Row]) -> Result<(), Fail> {
+fn play(rt: &impl Abort, world: &mut World, stan: u32, rows: &[PlayedEvent]) -> Result<(), Fail> {
     for (event, told, state, ledger) in rows {
-        let event = fair(*event)?;
+        let event = fair_event(*event)?;
         assert_eq!(rt; step(world, &event), *told, "{event:?}");
         assert_eq!(rt; world.acquirer().state(stan), *state, "{event:?}");
         assert_eq!(rt;

@@ -2,7 +2,7 @@
 
 ghost use Rattle.std.specs.Prelude.{◌≡◌, Option, All, length, ◌<◌, [], OnOk, OnErr, IfErr, slice_get};
 ghost use Rattle.iso_acquirer.specs.declared.fault.StepFault;
-ghost use Rattle.iso_acquirer.specs.Slots.{debit_of, IsFair, slots_after_answer};
+ghost use Rattle.iso_acquirer.specs.Acquirer.{debit_of, IsFair, slots_after_answer};
 ghost use Rattle.iso_acquirer.specs.World.{World as Both, IsDelivered, IsNotDelivered, IsAnswerGiven, IsNotTold, IsOther, IsNotOther, IsBegun};
 ghost use Rattle.iso_acquirer.specs.World.{IsNotBegun, IsAsked, IsNotAsked, IsFairEvent, IsMade, IsNotMade, IsStep, IsRan, refusal_count};
 ghost use Rattle.iso_acquirer.specs.Agreement.{BothAgree, StaysClosed, BooksAgree};
@@ -39,7 +39,7 @@ impl Model for World {
     ghost invariant = { λ w. IsSound (record { acquirer = w.acquirer; sent = w.sent.items; given = w.given.items; issuer = w.issuer }) };
 }
 
-fn order_at(sent: &[Order], place: usize) -> Option<Order>
+fn sent_at(sent: &[Order], place: usize) -> Option<Order>
     ensures { result ≡ slice_get sent.now place }
 {
     sent.get(place).copied()
@@ -52,7 +52,7 @@ fn given_at(given: &[Given], place: usize) -> Option<Given>
 }
 
 /// Hands a given answer to the acquirer.
-fn tell(acquirer: &mut Acquirer, given: &Given)
+fn hand_answer(acquirer: &mut Acquirer, given: &Given)
     ensures { acquirer.new ≡ record { id = acquirer.old.id; slots = slots_after_answer acquirer.old.slots given.now.key given.now.answer.code } }
 {
     acquirer.answer(given.key, given.answer.code);
@@ -136,7 +136,7 @@ impl World {
         ensures fault { IfErr result (IsNotDelivered self.old place) }
         ensures unchanged { OnErr result (self.new ≡ self.old) }
     {
-        let Some(order) = order_at(&self.sent, place) else {
+        let Some(order) = sent_at(&self.sent, place) else {
             return Err(StepFault::NoSuch);
         };
         self.given.reserve(1)?;
@@ -166,7 +166,7 @@ impl World {
             return Err(StepFault::NoSuch);
         };
         reversals_stay();
-        tell(&mut self.acquirer, &given);
+        hand_answer(&mut self.acquirer, &given);
         Ok(())
     }
 

@@ -1,6 +1,6 @@
 //! The speed of the codec.
 
-use crate::messages::{PAYMENT, large};
+use crate::messages::{PAYMENT, large_message};
 use crate::speed::Speed;
 use anyhow::{Result, ensure};
 use iso_table::Table;
@@ -13,7 +13,13 @@ use std::time::Instant;
 const FEWER: u32 = 100;
 
 /// Reads the bytes so many times.
-fn read(rt: &impl Clock, alloc: Global, table: &Table, bytes: &[u8], times: u32) -> Result<Speed> {
+fn read_speed(
+    rt: &impl Clock,
+    alloc: Global,
+    table: &Table,
+    bytes: &[u8],
+    times: u32,
+) -> Result<Speed> {
     let start = Instant::now(rt)?;
     for _ in 0..times {
         let (_message, used) = unpack(alloc, table, bytes)?;
@@ -23,7 +29,7 @@ fn read(rt: &impl Clock, alloc: Global, table: &Table, bytes: &[u8], times: u32)
 }
 
 /// Writes the message so many times.
-fn written(
+fn write_speed(
     rt: &impl Clock,
     alloc: Global,
     table: &Table,
@@ -39,7 +45,13 @@ fn written(
 }
 
 /// Views the bytes so many times, and looks each time where the body of that element lies.
-fn viewed(rt: &impl Clock, table: &Table, bytes: &[u8], element: u8, times: u32) -> Result<Speed> {
+fn view_speed(
+    rt: &impl Clock,
+    table: &Table,
+    bytes: &[u8],
+    element: u8,
+    times: u32,
+) -> Result<Speed> {
     let start = Instant::now(rt)?;
     for _ in 0..times {
         let view = view(table, bytes)?;
@@ -68,19 +80,19 @@ fn measure_one(
     let (message, _used) = unpack(alloc, table, bytes)?;
     let again = pack(alloc, table, &message)?;
     ensure!(again.as_slice() == bytes, "other bytes are written");
-    let speed = read(rt, alloc, table, bytes, times)?;
+    let speed = read_speed(rt, alloc, table, bytes, times)?;
     print(rt, "unpack", bytes.len(), speed)?;
-    let speed = written(rt, alloc, table, &message, times)?;
+    let speed = write_speed(rt, alloc, table, &message, times)?;
     print(rt, "pack", bytes.len(), speed)?;
     let last = message.elements().highest();
-    let speed = viewed(rt, table, bytes, last, times)?;
+    let speed = view_speed(rt, table, bytes, last, times)?;
     print(rt, "view", bytes.len(), speed)
 }
 
 /// Measures the payment so many times, and the large message a hundredth as often.
 pub fn measure(rt: &(impl Clock + Print), alloc: Global, times: u32) -> Result<()> {
     let table = Table::ascii87(alloc)?;
-    let large = large(alloc)?;
+    let large = large_message(alloc)?;
     let bytes = pack(alloc, &table, &large)?;
     measure_one(rt, alloc, &table, PAYMENT, times)?;
     measure_one(rt, alloc, &table, &bytes, (times / FEWER).max(1))

@@ -27,7 +27,7 @@ struct Load {
 const TENTH: u32 = 10;
 
 /// Hands the orders over, each of which has to be granted.
-fn handed(rt: &impl Clock, issuer: &mut Issuer, orders: &[Order]) -> Result<Speed> {
+fn hand_over(rt: &impl Clock, issuer: &mut Issuer, orders: &[Order]) -> Result<Speed> {
     let start = Instant::now(rt)?;
     for order in orders {
         let answer = issuer.handle(*order)?;
@@ -37,7 +37,7 @@ fn handed(rt: &impl Clock, issuer: &mut Issuer, orders: &[Order]) -> Result<Spee
 }
 
 /// The place of the `i`th of `count` that are spread over the places from `from` to `to`.
-fn spread(from: u32, to: u32, count: u32, i: u32) -> u32 {
+fn spread_place(from: u32, to: u32, count: u32, i: u32) -> u32 {
     let step = to.saturating_sub(from) / count.max(1);
     from.saturating_add(step.saturating_mul(i))
 }
@@ -46,7 +46,7 @@ fn spread(from: u32, to: u32, count: u32, i: u32) -> u32 {
 fn repeats(alloc: Global, purchases: u32, count: u32) -> Result<Vec<Order>> {
     let mut orders = Vec::new(alloc);
     for i in 0..count {
-        orders.push(purchase(spread(0, purchases, count, i))?)?;
+        orders.push(purchase(spread_place(0, purchases, count, i))?)?;
     }
     Ok(orders)
 }
@@ -61,18 +61,18 @@ fn purchases(alloc: Global, from: u32, count: u32) -> Result<Vec<Order>> {
 }
 
 /// The `i`th purchase that filling doesn't reverse: it reverses only those whose number 9 divides.
-fn kept(i: u32) -> u32 {
+fn standing_purchase(i: u32) -> u32 {
     i.saturating_add(i / (TENTH - 2)).saturating_add(1)
 }
 
 /// How many of so many purchases filling doesn't reverse.
-fn kept_among(purchases: u32) -> u32 {
+fn standing_count(purchases: u32) -> u32 {
     purchases - purchases.div_ceil(TENTH - 1)
 }
 
 /// The next reversals, each of another purchase that stands. They are spread over those from `from` to `to`.
 fn reversals(alloc: Global, next: u32, from: u32, to: u32, count: u32) -> Result<Vec<Order>> {
-    let (first, behind) = (kept_among(from), kept_among(to));
+    let (first, behind) = (standing_count(from), standing_count(to));
     let stand = behind.saturating_sub(first);
     ensure!(
         stand >= count,
@@ -80,7 +80,7 @@ fn reversals(alloc: Global, next: u32, from: u32, to: u32, count: u32) -> Result
     );
     let mut orders = Vec::new(alloc);
     for i in 0..count {
-        let original = kept(spread(first, behind, count, i));
+        let original = standing_purchase(spread_place(first, behind, count, i));
         orders.push(reversal(next.saturating_add(i), original)?)?;
     }
     Ok(orders)
@@ -122,17 +122,17 @@ impl Load {
     fn hand_new(&mut self, rt: &impl Clock, alloc: Global, count: u32) -> Result<Speed> {
         let orders = purchases(alloc, self.purchases, count)?;
         self.purchases = self.purchases.saturating_add(count);
-        handed(rt, &mut self.issuer, &orders)
+        hand_over(rt, &mut self.issuer, &orders)
     }
 
     /// Hands over so many purchases again.
     fn hand_again(&mut self, rt: &impl Clock, alloc: Global, count: u32) -> Result<Speed> {
         let orders = repeats(alloc, self.purchases, count)?;
-        handed(rt, &mut self.issuer, &orders)
+        hand_over(rt, &mut self.issuer, &orders)
     }
 
     /// What all accounts have together.
-    fn held(&self) -> Result<i64> {
+    fn total_ledger(&self) -> Result<i64> {
         let mut held: i64 = 0;
         for n in 0..ACCOUNTS {
             let ledger = self.issuer.ledger(pan(n)?).context("an account")?;
@@ -151,9 +151,9 @@ impl Load {
     ) -> Result<Speed> {
         let orders = reversals(alloc, self.reversals, from, self.purchases, count)?;
         self.reversals = self.reversals.saturating_add(count);
-        let before = self.held()?;
-        let speed = handed(rt, &mut self.issuer, &orders)?;
-        let given_back = self.held()?.saturating_sub(before);
+        let before = self.total_ledger()?;
+        let speed = hand_over(rt, &mut self.issuer, &orders)?;
+        let given_back = self.total_ledger()?.saturating_sub(before);
         let wanted = i64::from(count) * i64::from(AMOUNT);
         ensure!(given_back == wanted, "a reversed purchase didn't stand");
         Ok(speed)

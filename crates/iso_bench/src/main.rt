@@ -16,7 +16,7 @@ mod words;
 use anyhow::{Context, Result};
 use std::alloc::AllocError;
 use std::env;
-use words::{Job, job_of};
+use words::{Measurement, measurement_of};
 
 const USAGE: &str = "usage: iso_bench codec TIMES | iso_bench issuer SIZE ..";
 
@@ -30,9 +30,9 @@ fn given_words(rt: &HostRuntime) -> Result<Vec<String>> {
 fn main(rt: HostRuntime) -> Result<()> {
     let alloc = rt.alloc();
     let words = given_words(&rt)?;
-    match job_of(alloc, &words)? {
-        Some(Job::Codec { times }) => codec::measure(&rt, alloc, times),
-        Some(Job::Issuer { sizes }) => issuer::measure(&rt, alloc, &sizes),
+    match measurement_of(alloc, &words)? {
+        Some(Measurement::Codec { times }) => codec::measure(&rt, alloc, times),
+        Some(Measurement::Issuer { sizes }) => issuer::measure(&rt, alloc, &sizes),
         None => {
             println!(rt; "{USAGE}")?;
             Ok(())

@@ -16,7 +16,7 @@ const LARGE: [u8; 30] = [
 ];
 
 /// A message with thirty elements of 999 characters.
-pub fn large(alloc: Global) -> Result<Message> {
+pub fn large_message(alloc: Global) -> Result<Message> {
     let mti = Mti::from_digits(200).context("four digits")?;
     let mut message = Message::new(alloc, mti);
     for n in LARGE {

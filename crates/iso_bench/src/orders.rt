@@ -52,7 +52,7 @@ fn money(n: u32) -> Result<Money> {
 }
 
 /// A number that looks random. Each `n` has another one.
-fn scattered(n: u32) -> u32 {
+fn scattered_number(n: u32) -> u32 {
     let n = (n ^ (n >> 16)).wrapping_mul(0x85EB_CA6B);
     let n = (n ^ (n >> 13)).wrapping_mul(0xC2B2_AE35);
     n ^ (n >> 16)
@@ -62,7 +62,7 @@ fn scattered(n: u32) -> u32 {
 fn key(base: u16, n: u32) -> TxKey {
     TxKey {
         base,
-        stan: scattered(n) % STANS,
+        stan: scattered_number(n) % STANS,
         sent: FIRST_SENT + u64::from(n),
         acquirer: 12_345,
     }

@@ -4,7 +4,7 @@ use std::alloc::{AllocError, Global};
 
 /// What is measured.
 #[derive(Debug, Drop)]
-pub enum Job {
+pub enum Measurement {
     /// Messages, read and written so many times.
     Codec {
         /// How often.
@@ -21,7 +21,7 @@ pub enum Job {
 const MOST: u32 = 10_000_000;
 
 /// The number that a word spells, from 1.
-fn number_of(word: &str) -> Option<u32> {
+fn count_in_word(word: &str) -> Option<u32> {
     let number = word.parse::<u32>().ok()?;
     if number == 0 {
         return None;
@@ -30,10 +30,10 @@ fn number_of(word: &str) -> Option<u32> {
 }
 
 /// The numbers that the words spell.
-fn numbers_of(alloc: Global, words: &[String]) -> Result<Option<Vec<u32>>, AllocError> {
+fn counts_in_words(alloc: Global, words: &[String]) -> Result<Option<Vec<u32>>, AllocError> {
     let mut numbers = Vec::new(alloc);
     for word in words {
-        let Some(number) = number_of(word.as_str()) else {
+        let Some(number) = count_in_word(word.as_str()) else {
             return Ok(None);
         };
         numbers.push(number)?;
@@ -42,16 +42,16 @@ fn numbers_of(alloc: Global, words: &[String]) -> Result<Option<Vec<u32>>, Alloc
 }
 
 /// What the words ask, if they ask anything.
-pub fn job_of(alloc: Global, words: &[String]) -> Result<Option<Job>, AllocError> {
+pub fn measurement_of(alloc: Global, words: &[String]) -> Result<Option<Measurement>, AllocError> {
     let Some((first, rest)) = words.split_first() else {
         return Ok(None);
     };
-    let Some(numbers) = numbers_of(alloc, rest)? else {
+    let Some(numbers) = counts_in_words(alloc, rest)? else {
         return Ok(None);
     };
     match (first.as_str(), numbers.as_slice()) {
-        ("codec", [times]) => Ok(Some(Job::Codec { times: *times })),
-        ("issuer", [_, ..]) => Ok(Some(Job::Issuer { sizes: numbers })),
+        ("codec", [times]) => Ok(Some(Measurement::Codec { times: *times })),
+        ("issuer", [_, ..]) => Ok(Some(Measurement::Issuer { sizes: numbers })),
         _ => Ok(None),
     }
 }

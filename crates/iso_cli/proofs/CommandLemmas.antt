@@ -8,7 +8,8 @@ use Rattle.iso_wire.specs.declared.header.Header.{Header}
 use Rattle.iso_wire.specs.declared.header.Header.TheVariants.{Binary2, Ascii4, Bcd2}
 use Rattle.std.specs.Prelude.{IfNone, Some, None}
 use Rattle.std.specs.declared.option.Option.{Option}
-use Rattle.iso_cli.specs.Asks.{header_name, is_name, AsksShow, Asks, AsksNoCodec, AsksNoRun, AsksNothing}
+use Rattle.iso_cli.specs.Words.{header_name, is_name, AsksShow, Asks, AsksNothing}
+use Rattle.iso_cli.specs.NoJob.{AsksNoCodec, AsksNoRun}
 use Rattle.iso_cli.specs.CommandLine.{IsCommand, iso_app}
 use Rattle.iso_cli.specs.declared.words.Job.{Job}
 use Rattle.iso_cli.specs.declared.words.Job.TheVariants.{Echo, Check, Show, Convert, Run}
@@ -59,22 +60,22 @@ takes_run (x ∷ xs) (y ∷ ys) Binary2 h k = let e = not-true (x == 45) h in le
 takes_run (x ∷ xs) (y ∷ ys) Ascii4 h k = let e = not-true (x == 45) h in let d = not-true (y == 45) k in rw e (rw e (rw d (rw d (refl {a = true}))))
 takes_run (x ∷ xs) (y ∷ ys) Bcd2 h k = let e = not-true (x == 45) h in let d = not-true (y == 45) k in rw e (rw e (rw d (rw d (refl {a = true}))))
 
-abbrev pub Takes : List (List ℕ) → Type 0
-Takes words = takes iso_app words ≡ true
+abbrev pub Passes : List (List ℕ) → Type 0
+Passes words = takes iso_app words ≡ true
 
 takes_asked_show : (words : List (List ℕ)) (table : List ℕ) (clear : Bool) → IsTrue (is_name table)
-    → AsksShow words table clear → Takes words
-takes_asked_show words table false name e = subst Takes (sym e) (takes_show table name)
-takes_asked_show words table true name (inl e) = subst Takes (sym e) (takes_clear_first table name)
-takes_asked_show words table true name (inr e) = subst Takes (sym e) (takes_clear_last table name)
+    → AsksShow words table clear → Passes words
+takes_asked_show words table false name e = subst Passes (sym e) (takes_show table name)
+takes_asked_show words table true name (inl e) = subst Passes (sym e) (takes_clear_first table name)
+takes_asked_show words table true name (inr e) = subst Passes (sym e) (takes_clear_last table name)
 
 -- what asks a job passes
-pub takes_asked : (words : List (List ℕ)) (job : Job) → (words ≡ [] → ⊥) → Asks words job → Takes words
+pub takes_asked : (words : List (List ℕ)) (job : Job) → (words ≡ [] → ⊥) → Asks words job → Passes words
 takes_asked words Echo some e = absurd (some e)
-takes_asked words (Check table) some asks = subst Takes (sym asks.1) (takes_check table.now asks.0)
+takes_asked words (Check table) some asks = subst Passes (sym asks.1) (takes_check table.now asks.0)
 takes_asked words (Show table clear) some asks = takes_asked_show words table.now clear asks.0 asks.1
-takes_asked words (Convert from to) some asks = subst Takes (sym asks.2) (takes_convert from.now to.now asks.0 asks.1)
-takes_asked words (Run table accounts header) some asks = subst Takes (sym asks.2) (takes_run table.now accounts.now header asks.0 asks.1)
+takes_asked words (Convert from to) some asks = subst Passes (sym asks.2) (takes_convert from.now to.now asks.0 asks.1)
+takes_asked words (Run table accounts header) some asks = subst Passes (sym asks.2) (takes_run table.now accounts.now header asks.0 asks.1)
 
 -- words that ask no host on a stream and nothing else ask nothing
 pub asks_nothing : (words : List (List ℕ)) (job : Option Job) → AsksNoCodec words → IfNone job (AsksNoRun words) → IfNone job (AsksNothing words)

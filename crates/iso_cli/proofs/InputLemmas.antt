@@ -2,7 +2,7 @@
 use Rattle.std.proofs.Common.{◌≡◌, ℕ, ◌≤◌, List, ◌++◌, length, Option, Some, None, IfSome, OnOk, Result, Ok, Err, sym, ap, subst, ◌∙◌}
 use Rattle.std.proofs.lemmas.List.{append-nil}
 use Rattle.std.specs.Io.KnownBytes.{Consumes, IsAtEnd}
-use Rattle.iso_cli.specs.Files.{read_of}
+use Rattle.iso_cli.specs.Source.{read_of}
 use Rattle.iso_cli.proofs.SourceLemmas.{read_of-short}
 
 -- what was consumed to the end is all that there was

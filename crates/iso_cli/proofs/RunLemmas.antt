@@ -11,8 +11,8 @@ use Rattle.iso_wire.specs.Framing.{frames_of}
 use Rattle.iso_issuer.specs.declared.account.Account.{Account}
 use Rattle.iso_issuer.specs.Books.{Books}
 use Rattle.iso_issuer.specs.Document.{ListsAccounts}
-use Rattle.iso_host.specs.Served.{Served}
-use Rattle.iso_cli.specs.Runs.{Runs, RunsOver, fresh_books}
+use Rattle.iso_host.specs.Serving.{Served}
+use Rattle.iso_cli.specs.Run.{Runs, RunsOver, fresh_books}
 use Rattle.iso_cli.specs.Tables.{IsNamed}
 use Rattle.iso_cli.proofs.InputLemmas.{consumed_all, known_all}
 

@@ -2,7 +2,7 @@
 use Rattle.std.proofs.Common.{◌≡◌, ℕ, ◌≤◌, List, [], ◌++◌, length, take, Option, Some, None, option_map, IfSome, sym, ap, ◌∙◌, arith, min}
 use Rattle.std.proofs.lemmas.List.{length-take, take_min}
 use Rattle.std.proofs.Math.Seq.{take-length}
-use Rattle.iso_cli.specs.Files.{read_of}
+use Rattle.iso_cli.specs.Source.{read_of}
 
 -- a file of which no more is read than an input may have is read whole
 pub read_of-short : (held : List ℕ) → length (read_of held) ≤ 1048576 → read_of held ≡ held

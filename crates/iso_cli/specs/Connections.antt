@@ -1,36 +1,15 @@
--- A host on a port: what it serves with, and what its connections leave.
--- Inner, for bodies and proofs: `IsConnection`.
-use Rattle.std.specs.Prelude.{◌≡◌, ◌≢◌, ◌⊎◌, ◌≤◌, ℕ, List, [], ◌∷◌, ◌++◌, length, flat_map, All, Option, IfSome, unwrap_or, codes, decimal, Result, Ok, Err}
+-- What the connections of a host on a port leave.
+-- Public: `serve_connections` promises it.
+use Rattle.std.specs.Prelude.{◌≡◌, ◌≢◌, ◌⊎◌, ◌≤◌, ℕ, List, [], ◌++◌, length, flat_map, All, Option, unwrap_or, codes, decimal, Result, Ok, Err}
 use Rattle.std.specs.Io.KnownBytes.{Appends}
 use Rattle.iso_table.specs.Layout.{Layout}
-use Rattle.iso_table.specs.HostReady.{IsHostReady}
-use Rattle.iso_issuer.specs.declared.account.Account.{Account}
 use Rattle.iso_issuer.specs.Books.{Books}
-use Rattle.iso_issuer.specs.Document.{ListsAccounts}
 use Rattle.iso_host.specs.declared.fault.Report.{Report}
 use Rattle.iso_host.specs.declared.fault.ServeFault.{ServeFault}
 use Rattle.iso_host.specs.declared.fault.ServeFault.TheVariants.{Memory}
-use Rattle.iso_host.specs.Entering.{books_after}
-use Rattle.iso_host.specs.Served.{Reports}
-use Rattle.iso_cli.specs.declared.prepare.Serving.{Serving}
-use Rattle.iso_cli.specs.declared.listening.Listening.{Listening}
-use Rattle.iso_cli.specs.Listening.{AsksServe}
-use Rattle.iso_cli.specs.Runs.{fresh_books}
-use Rattle.iso_cli.specs.Stops.{line_of, stop_of_serving}
-use Rattle.iso_cli.specs.Tables.{IsNamed}
-
--- what a host on a port serves with is what these words name, with an empty journal
-pub record Prepares (words : List (List ℕ)) (file : List ℕ → Option (List ℕ)) (serving : Serving) : Type 0 where
-  pub asked : Listening
-  pub asks : AsksServe words asked
-  pub header : serving.header ≡ asked.header
-  pub port : serving.port ≡ asked.port
-  pub count : serving.count ≡ asked.count
-  pub named : IsNamed file asked.table.now serving.table
-  pub ready : IsHostReady serving.table
-  pub listed : List Account
-  pub lists : IfSome (file asked.accounts.now) (λ text. ListsAccounts text listed)
-  pub issuer : serving.issuer ≡ fresh_books listed
+use Rattle.iso_host.specs.Entering.{books_after_bodies}
+use Rattle.iso_host.specs.Serving.{Reports}
+use Rattle.iso_cli.specs.Stop.{stop_line, stop_of_serving}
 
 -- ---- one connection
 
@@ -43,12 +22,6 @@ pub record Connection : Type 0 where
 abbrev pub CountsBodies : Layout → List (List ℕ) → Result Report ServeFault → Type 0
 CountsBodies t bodies (Ok report) = Reports t report bodies
 CountsBodies t bodies (Err fault) = Unit {0}
-
--- the orders of some bodies were entered, and no other
-pub record IsConnection (t : Layout) (old new : Books) (ended : Result Report ServeFault) : Type 0 where
-  pub bodies : List (List ℕ)
-  pub journal : new ≡ books_after t old bodies
-  pub counted : CountsBodies t bodies ended
 
 -- ---- its lines
 
@@ -66,24 +39,14 @@ output_line (Err fault) = []
 -- the line on the fault stream: its fault, if it ended with one
 abbrev pub fault_line : Result Report ServeFault → List ℕ
 fault_line (Ok report) = []
-fault_line (Err fault) = unwrap_or (line_of (stop_of_serving fault)) []
-
--- the lines were written, and it didn't end for want of memory
-pub record EndTold (held written heard told : Option (List ℕ)) (ended : Result Report ServeFault) : Type 0 where
-  pub output : Appends held written (output_line ended)
-  pub faults : Appends heard told (fault_line ended)
-  pub memory : ended ≢ Err Memory
-
--- the status is 0 where that is so, and else 3
-abbrev pub TellsEnd : Option (List ℕ) → Option (List ℕ) → Option (List ℕ) → Option (List ℕ) → Result Report ServeFault → ℕ → Type 0
-TellsEnd held written heard told ended status = ((status ≡ 0) × EndTold held written heard told ended) ⊎ (status ≡ 3)
+fault_line (Err fault) = unwrap_or (stop_line (stop_of_serving fault)) []
 
 -- ---- all of them
 
 -- at most so many were served, on one journal: it holds the first orders of the bodies of all of them, in their order
 pub record OneJournal (t : Layout) (old new : Books) (count : ℕ) (connections : List Connection) : Type 0 where
   pub few : length connections ≤ count
-  pub journal : new ≡ books_after t old (flat_map (λ c. c.bodies) connections)
+  pub journal : new ≡ books_after_bodies t old (flat_map (λ c. c.bodies) connections)
   pub counted : All (λ c. CountsBodies t c.bodies c.ended) connections
 
 -- all of them were served and told, one after the other, and none ended for want of memory

@@ -1,8 +1,9 @@
 -- What the words of a host on a port ask.
+-- Public: `parse_serve` and `prepare` promise it.
 use Rattle.std.specs.Prelude.{◌≡◌, ◌≤◌, ℕ, List, [], ◌∷◌, codes}
 use Rattle.std.specs.Str.Parse.{IsNumeral, digits_value, without_leading_plus}
 use Rattle.iso_cli.specs.declared.listening.Listening.{Listening}
-use Rattle.iso_cli.specs.Asks.{header_name}
+use Rattle.iso_cli.specs.Words.{header_name}
 
 -- the word writes this number, which lies in these bounds: decimal digits, with a plus in front or none
 pub record IsWholeNumber (low high : ℕ) (word : List ℕ) (n : ℕ) : Type 0 where

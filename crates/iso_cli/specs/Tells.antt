@@ -6,27 +6,27 @@ use Rattle.std.specs.Io.KnownBytes.{Appends}
 use Rattle.iso_host.specs.Counts.{Counts}
 use Rattle.iso_host.specs.Writing.{WritesSome}
 use Rattle.iso_cli.specs.declared.stop.Stop.{Stop}
-use Rattle.iso_cli.specs.Stops.{status_of, line_of}
+use Rattle.iso_cli.specs.Stop.{status_of, stop_line}
 
 -- the whole line was written, no call failed, and the status is the stop's own
-pub record Told (held written : Option (List ℕ)) (old new : Counts) (line : List ℕ) (status given : ℕ) : Type 0 where
+pub record LineTold (held written : Option (List ℕ)) (old new : Counts) (line : List ℕ) (status given : ℕ) : Type 0 where
   pub whole : Appends held written line
   pub failures : new.failures ≡ old.failures
   pub given_is : given ≡ status
 
 -- the last call failed and no other, no more than the front of the line was written, and the status is 3
-pub record Untold (held written : Option (List ℕ)) (old new : Counts) (line : List ℕ) (given : ℕ) : Type 0 where
+pub record LineUntold (held written : Option (List ℕ)) (old new : Counts) (line : List ℕ) (given : ℕ) : Type 0 where
   pub front : WritesSome held written line
   pub failures : new.failures ≡ old.failures + 1
   pub status : given ≡ 3
 
 -- the line was told, or its writer failed
 abbrev pub TellsLine : Option (List ℕ) → Option (List ℕ) → Counts → Counts → List ℕ → ℕ → ℕ → Type 0
-TellsLine held written old new line status given = Told held written old new line status given ⊎ Untold held written old new line given
+TellsLine held written old new line status given = LineTold held written old new line status given ⊎ LineUntold held written old new line given
 
 -- the same of a stop whose line names no further fault, with this status
 abbrev pub TellsAs : Option (List ℕ) → Option (List ℕ) → Counts → Counts → Stop → ℕ → ℕ → Type 0
-TellsAs held written old new stop status given = IfSome (line_of stop) (λ line. TellsLine held written old new line status given)
+TellsAs held written old new stop status given = IfSome (stop_line stop) (λ line. TellsLine held written old new line status given)
 
 -- the same with the stop's own status
 abbrev pub Tells : Option (List ℕ) → Option (List ℕ) → Counts → Counts → Stop → ℕ → Type 0

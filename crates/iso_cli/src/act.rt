@@ -1,8 +1,9 @@
 //! What the command does.
 
 ghost use Rattle.std.specs.Prelude.{◌≡◌, ◌≤◌, [], map, OnOk};
-ghost use Rattle.iso_cli.specs.Acts.{ConvertsAsked, EchoesOver};
-ghost use Rattle.iso_cli.specs.Runs.{RunsAsked};
+ghost use Rattle.iso_cli.specs.Echo.{EchoesOver};
+ghost use Rattle.iso_cli.specs.Convert.{ConvertsAsked};
+ghost use Rattle.iso_cli.specs.Run.{RunsAsked};
 
 use crate::check::check;
 use crate::convert::convert;

@@ -1,7 +1,8 @@
 //! Connections, one after the other, with one journal.
 
 ghost use Rattle.iso_table.specs.HostReady.{IsHostReady};
-ghost use Rattle.iso_cli.specs.Connections.{IsConnection, Serves, TellsEnd};
+ghost use Rattle.iso_cli.specs.Connections.{Serves};
+ghost use Rattle.iso_cli.specs.OneConnection.{IsConnection, TellsEnd};
 
 use crate::report::write_report;
 use crate::run::MOST_TURNS;

@@ -2,7 +2,7 @@
 
 ghost use Rattle.std.specs.Prelude.{IfOk, OnOk};
 ghost use Rattle.iso_wire.specs.Spelling.{Converts};
-ghost use Rattle.iso_cli.specs.Acts.{ConvertsOver};
+ghost use Rattle.iso_cli.specs.Convert.{ConvertsOver};
 
 use crate::source::Source;
 use crate::stop::Stop;
@@ -14,7 +14,7 @@ use iso_wire::{pack, unpack};
 use std::alloc::Global;
 
 /// The plain bytes, under the second table, of the message that the bytes spell under the first.
-fn converted(alloc: Global, from: &Table, to: &Table, bytes: &[u8]) -> Result<Vec<u8>, Stop>
+fn conversion(alloc: Global, from: &Table, to: &Table, bytes: &[u8]) -> Result<Vec<u8>, Stop>
     ensures { IfOk result (λ packed. Converts from.now to.now bytes.now packed.items) }
 {
     let (message, used) = unpack(alloc, from, bytes)?;
@@ -38,6 +38,6 @@ pub fn convert<S: Source, I: Inlet, O: Outlet>(
     let from = table_named(alloc, source, from)?;
     let to = table_named(alloc, source, to)?;
     let bytes = read_input(alloc, input)?;
-    let packed = converted(alloc, &from, &to, &bytes)?;
+    let packed = conversion(alloc, &from, &to, &bytes)?;
     write_output(output, &packed)
 }

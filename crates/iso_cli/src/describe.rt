@@ -1,7 +1,7 @@
 //! A message for human eyes: the lines that tell it, and one for the bytes that it took.
 
 ghost use Rattle.std.specs.Prelude.{IfOk};
-ghost use Rattle.iso_cli.specs.Acts.{AreLines};
+ghost use Rattle.iso_cli.specs.Echo.{AreLines};
 
 use iso_table::Table;
 use iso_wire::{Message, describe_clear};

@@ -7,7 +7,7 @@ use crate::stop::Stop;
 use std::alloc::Global;
 
 /// The bytes of the document at a path.
-pub fn document<S: Source>(alloc: Global, source: &S, path: &str) -> Result<Vec<u8>, Stop>
+pub fn document_at<S: Source>(alloc: Global, source: &S, path: &str) -> Result<Vec<u8>, Stop>
     ensures { IfOk result (λ text. IfSome (S.file source.now path.now) (λ held. held ≡ text.items)) }
 {
     let text = source.read(alloc, path)?;

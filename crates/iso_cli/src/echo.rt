@@ -1,7 +1,7 @@
 //! The echo: one message in, its lines and its answer out.
 
 ghost use Rattle.std.specs.Prelude.{◌≡◌, ◌++◌, IfOk, OnOk};
-ghost use Rattle.iso_cli.specs.Acts.{Answers, Echoes, EchoesOver, answer_line};
+ghost use Rattle.iso_cli.specs.Echo.{Answers, Echoes, EchoesOver, answer_line};
 
 use crate::describe::describe;
 use crate::stop::Stop;
@@ -13,7 +13,7 @@ use iso_wire::{Message, pack, unpack};
 use std::alloc::{AllocError, Global};
 
 /// The bytes of the response where the message itself decides it, else `none`.
-fn answer_of(alloc: Global, table: &Table, message: &Message) -> Result<Vec<u8>, Stop>
+fn answer_bytes(alloc: Global, table: &Table, message: &Message) -> Result<Vec<u8>, Stop>
     ensures { IfOk result (λ answer. Answers table.now message.now answer.items) }
 {
     let Verdict::Reply(code) = order_of(message) else {
@@ -33,12 +33,12 @@ fn push_answer(answer: &[u8], text: &mut Vec<u8>) -> Result<(), AllocError>
 }
 
 /// The lines of the message that the bytes begin with, and the line of its answer.
-fn echoed(alloc: Global, table: &Table, bytes: &[u8]) -> Result<Vec<u8>, Stop>
+fn echo_text(alloc: Global, table: &Table, bytes: &[u8]) -> Result<Vec<u8>, Stop>
     ensures { IfOk result (λ text. Echoes table.now bytes.now text.items) }
 {
     let (message, used) = unpack(alloc, table, bytes)?;
     let mut text = describe(alloc, table, &message, used, bytes.len(), false)?;
-    let answer = answer_of(alloc, table, &message)?;
+    let answer = answer_bytes(alloc, table, &message)?;
     push_answer(&answer, &mut text)?;
     Ok(text)
 }
@@ -50,6 +50,6 @@ pub fn echo<I: Inlet, O: Outlet>(alloc: Global, input: &mut I, output: &mut O) -
 {
     let bytes = read_input(alloc, input)?;
     let table = Table::ascii87(alloc)?;
-    let text = echoed(alloc, &table, &bytes)?;
+    let text = echo_text(alloc, &table, &bytes)?;
     write_output(output, &text)
 }

@@ -4,7 +4,7 @@
 ghost use Rattle.std.specs.Prelude.{IfOk, IfSome, map};
 ghost use Rattle.iso_cli.specs.Listening.{AsksServe, IsWholeNumber, Listens};
 
-use crate::words::{WordsFault, alone, bare, header_named, is_name, required};
+use crate::words::{WordsFault, bare_command, header_of_word, is_name, iso_alone, name_argument};
 use clap::Command;
 use clap::error::ErrorKind;
 use iso_wire::Header;
@@ -26,12 +26,12 @@ pub struct Listening<'a> {
 }
 
 fn serve_command<'a>(alloc: Global) -> Result<Command<'a>, AllocError> {
-    bare(alloc, "serve")
-        .arg(required(alloc, "table"))?
-        .arg(required(alloc, "accounts"))?
-        .arg(required(alloc, "header"))?
-        .arg(required(alloc, "port"))?
-        .arg(required(alloc, "count"))
+    bare_command(alloc, "serve")
+        .arg(name_argument(alloc, "table"))?
+        .arg(name_argument(alloc, "accounts"))?
+        .arg(name_argument(alloc, "header"))?
+        .arg(name_argument(alloc, "port"))?
+        .arg(name_argument(alloc, "count"))
 }
 
 /// Whether `clap` lets the words pass.
@@ -39,7 +39,7 @@ fn judge<'a>(alloc: Global, words: &'a [&'a str]) -> Result<(), WordsFault> {
     let Ok(command) = serve_command(alloc) else {
         return Err(WordsFault::Memory);
     };
-    let Ok(command) = alone(alloc).subcommand(command) else {
+    let Ok(command) = iso_alone(alloc).subcommand(command) else {
         return Err(WordsFault::Memory);
     };
     match command.try_get_matches_from(words) {
@@ -50,7 +50,7 @@ fn judge<'a>(alloc: Global, words: &'a [&'a str]) -> Result<(), WordsFault> {
 }
 
 /// The number that a word is, if it is 1 to `most`: decimal digits, with a plus in front or none.
-fn number_in(word: &str, most: u16) -> Option<u16>
+fn whole_number(word: &str, most: u16) -> Option<u16>
     ensures { IfSome result (IsWholeNumber 1 most word.now) }
 {
     match word.parse::<u16>() {
@@ -75,9 +75,9 @@ fn listening_by<'a>(
     Some(Listening {
         table,
         accounts,
-        header: header_named(header)?,
-        port: number_in(port, 65_535)?,
-        count: number_in(count, 1_000)?,
+        header: header_of_word(header)?,
+        port: whole_number(port, 65_535)?,
+        count: whole_number(count, 1_000)?,
     })
 }
 

@@ -1,7 +1,7 @@
 //! A host on a port, before the port is bound.
 
 ghost use Rattle.std.specs.Prelude.{◌≡◌, ◌≤◌, IfErr, IfOk, OnOk, map};
-ghost use Rattle.iso_cli.specs.Connections.{Prepares};
+ghost use Rattle.iso_cli.specs.Prepare.{Prepares};
 
 use crate::listening::parse_serve;
 use crate::run::{MOST_ENTRIES, accounts_at, host_table};
@@ -29,7 +29,7 @@ pub struct Serving {
 }
 
 /// Reads what the words name, the table before the accounts.
-fn prepared<S: Source>(alloc: Global, words: &[&str], source: &S) -> Result<Serving, Stop>
+fn serving_of<S: Source>(alloc: Global, words: &[&str], source: &S) -> Result<Serving, Stop>
     ensures { IfOk result (Prepares (map (λ w. w.now) words.now) (S.file source.now)) }
 {
     let asked = parse_serve(alloc, words)?;
@@ -59,7 +59,7 @@ pub fn prepare<S: Source, F: Outlet>(
     // Then nothing is told.
     ensures quiet { OnOk result (F.contents faults.new ≡ F.contents faults.old) }
 {
-    match prepared(alloc, words, source) {
+    match serving_of(alloc, words, source) {
         Ok(serving) => Ok(serving),
         Err(stop) => Err(tell(alloc, faults, stop)),
     }

@@ -8,7 +8,7 @@ use iso_wire::{PackFault, UnpackCause, UnpackFault};
 use std::alloc::{AllocError, Global};
 
 /// A fault's name, and the element that it names.
-fn table_fault(fault: TableFault) -> (&'static str, Option<u16>) {
+fn table_fault_name(fault: TableFault) -> (&'static str, Option<u16>) {
     match fault {
         TableFault::NotJson => ("NotJson", None),
         TableFault::Shape => ("Shape", None),
@@ -24,7 +24,7 @@ fn table_fault(fault: TableFault) -> (&'static str, Option<u16>) {
 }
 
 /// A fault's name, and the element that it names.
-fn host_fault(fault: HostTableFault) -> (&'static str, Option<u16>) {
+fn host_fault_name(fault: HostTableFault) -> (&'static str, Option<u16>) {
     match fault {
         HostTableFault::NotVersion0 => ("NotVersion0", None),
         HostTableFault::NoRow(n) => ("NoRow", Some(u16::from(n))),
@@ -33,7 +33,7 @@ fn host_fault(fault: HostTableFault) -> (&'static str, Option<u16>) {
 }
 
 /// A fault's name, and the account that it names, counted from 0.
-fn accounts_fault(fault: AccountsFault) -> (&'static str, Option<usize>) {
+fn accounts_fault_name(fault: AccountsFault) -> (&'static str, Option<usize>) {
     match fault {
         AccountsFault::NotJson => ("NotJson", None),
         AccountsFault::Shape => ("Shape", None),
@@ -44,7 +44,7 @@ fn accounts_fault(fault: AccountsFault) -> (&'static str, Option<usize>) {
 }
 
 /// A fault's name, and the element that it names.
-fn pack_fault(fault: PackFault) -> (&'static str, Option<u16>) {
+fn pack_fault_name(fault: PackFault) -> (&'static str, Option<u16>) {
     match fault {
         PackFault::WrongVersion => ("WrongVersion", None),
         PackFault::NoRow(n) => ("NoRow", Some(u16::from(n))),
@@ -55,7 +55,7 @@ fn pack_fault(fault: PackFault) -> (&'static str, Option<u16>) {
     }
 }
 
-fn field_fault(fault: FieldFault) -> &'static str {
+fn field_fault_name(fault: FieldFault) -> &'static str {
     match fault {
         FieldFault::WrongLength => "WrongLength",
         FieldFault::NotInClass => "NotInClass",
@@ -68,7 +68,7 @@ fn field_fault(fault: FieldFault) -> &'static str {
     }
 }
 
-fn unpack_cause(cause: UnpackCause) -> &'static str {
+fn unpack_cause_name(cause: UnpackCause) -> &'static str {
     match cause {
         UnpackCause::Short => "Short",
         UnpackCause::BadMti => "BadMti",
@@ -76,7 +76,7 @@ fn unpack_cause(cause: UnpackCause) -> &'static str {
         UnpackCause::BadHex => "BadHex",
         UnpackCause::ThirdBitmap => "ThirdBitmap",
         UnpackCause::UnknownElement(_) => "UnknownElement",
-        UnpackCause::Field(fault) => field_fault(fault),
+        UnpackCause::Field(fault) => field_fault_name(fault),
         UnpackCause::Memory => "Memory",
     }
 }
@@ -95,14 +95,14 @@ fn named_line(
 
 /// `refused: accounts NAME`, and the account where one is named.
 fn accounts_line(alloc: Global, fault: AccountsFault) -> Result<String, AllocError> {
-    match accounts_fault(fault) {
+    match accounts_fault_name(fault) {
         (name, Some(i)) => format!(in alloc; "refused: accounts {name} {i}\n"),
         (name, None) => format!(in alloc; "refused: accounts {name}\n"),
     }
 }
 
 fn unpack_line(alloc: Global, fault: UnpackFault) -> Result<String, AllocError> {
-    let name = unpack_cause(fault.cause);
+    let name = unpack_cause_name(fault.cause);
     let (element, at) = (fault.element, fault.at);
     format!(in alloc; "refused: unpack {name} element {element} at {at}\n")
 }
@@ -110,10 +110,10 @@ fn unpack_line(alloc: Global, fault: UnpackFault) -> Result<String, AllocError> 
 /// The fault line of a stop that names a fault of a table, of accounts, of an input or of a message.
 pub fn refusal_line(alloc: Global, stop: Stop) -> Result<String, AllocError> {
     match stop {
-        Stop::Table(fault) => named_line(alloc, "table", table_fault(fault)),
-        Stop::Host(fault) => named_line(alloc, "host", host_fault(fault)),
+        Stop::Table(fault) => named_line(alloc, "table", table_fault_name(fault)),
+        Stop::Host(fault) => named_line(alloc, "host", host_fault_name(fault)),
         Stop::Accounts(fault) => accounts_line(alloc, fault),
-        Stop::Pack(fault) => named_line(alloc, "pack", pack_fault(fault)),
+        Stop::Pack(fault) => named_line(alloc, "pack", pack_fault_name(fault)),
         Stop::Unpack(fault) => unpack_line(alloc, fault),
         _ => String::from_str(alloc, "failed: Memory\n"),
     }

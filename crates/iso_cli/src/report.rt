@@ -1,7 +1,8 @@
 //! The line that tells what came of the frames.
 
 ghost use Rattle.std.specs.Prelude.{◌≡◌, ◌⊎◌, IfOk, Ok, string_bytes};
-ghost use Rattle.iso_cli.specs.Connections.{TellsEnd, report_text};
+ghost use Rattle.iso_cli.specs.Connections.{report_text};
+ghost use Rattle.iso_cli.specs.OneConnection.{TellsEnd};
 
 use crate::stop::{Stop, tell, tell_line};
 use iso_host::{Failed, Outlet, Report, write_all};

@@ -3,10 +3,10 @@
 ghost use Rattle.std.specs.Prelude.{◌≡◌, IfOk, IfSome, OnOk};
 ghost use Rattle.iso_issuer.specs.Document.{ListsAccounts};
 ghost use Rattle.iso_table.specs.HostReady.{IsHostReady};
-ghost use Rattle.iso_cli.specs.Runs.{RunsOver};
+ghost use Rattle.iso_cli.specs.Run.{RunsOver};
 ghost use Rattle.iso_cli.specs.Tables.{IsNamed};
 
-use crate::documents::document;
+use crate::documents::document_at;
 use crate::source::Source;
 use crate::stop::Stop;
 use crate::tables::table_named;
@@ -36,7 +36,7 @@ pub fn host_table<S: Source>(alloc: Global, source: &S, word: &str) -> Result<Ta
 pub fn accounts_at<S: Source>(alloc: Global, source: &S, path: &str) -> Result<Accounts, Stop>
     ensures { IfOk result (λ accounts. IfSome (S.file source.now path.now) (λ text. ListsAccounts text accounts)) }
 {
-    let text = document(alloc, source, path)?;
+    let text = document_at(alloc, source, path)?;
     Ok(Accounts::from_json(alloc, &text)?)
 }
 

@@ -2,7 +2,7 @@
 ghost use Rattle.std.specs.Prelude.{◌≡◌, List, ℕ, IfOk, IfSome, None};
 ghost use Rattle.std.specs.declared.option.Option.{Option};
 ghost use Rattle.iso_cli.specs.FaultNumbers.{source_fault_number};
-ghost use Rattle.iso_cli.specs.Files.{read_of};
+ghost use Rattle.iso_cli.specs.Source.{read_of};
 
 use std::alloc::Global;
 use std::io::{ErrorKind, Read};

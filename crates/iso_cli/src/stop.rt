@@ -1,6 +1,6 @@
 //! How the command stops where it doesn't end well: a line on the fault stream, and a status.
 ghost use Rattle.std.specs.Prelude.{◌≡◌, ◌<◌, ◌≤◌, option_map};
-ghost use Rattle.iso_cli.specs.Stops.{status_of, line_of, stop_of_input, stop_of_serving, stop_of_source, stop_of_words};
+ghost use Rattle.iso_cli.specs.Stop.{status_of, stop_line, stop_of_input, stop_of_serving, stop_of_source, stop_of_words};
 ghost use Rattle.iso_cli.specs.Tells.{Tells, TellsAs, TellsLine};
 
 use crate::refusal::refusal_line;
@@ -65,7 +65,7 @@ impl Stop {
 
     /// The fault line, which ends with a newline, where it names no further fault.
     fn line(self) -> Option<&'static str>
-        ensures { option_map (λ line. line.now) result ≡ line_of self }
+        ensures { option_map (λ line. line.now) result ≡ stop_line self }
     {
         match self {
             Stop::Words => Some("command line refused\n"),

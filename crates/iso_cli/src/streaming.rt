@@ -1,7 +1,7 @@
 //! A whole input.
 ghost use Rattle.std.specs.Prelude.{◌≡◌, ◌≤◌, ◌<◌, IfOk, IfSome, OnOk, IsErrOf, vec_len, length};
 ghost use Rattle.std.specs.Io.KnownBytes.{Appends, Consumes, IsAtEnd};
-ghost use Rattle.iso_cli.specs.Inputs.{ReadCause};
+ghost use Rattle.iso_cli.specs.Streaming.{ReadCause};
 
 use crate::source::MOST_BYTES;
 use crate::stop::Stop;

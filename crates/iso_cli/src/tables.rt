@@ -4,7 +4,7 @@ ghost use Rattle.std.specs.Prelude.{IfOk, IfSome};
 ghost use Rattle.iso_table.specs.Document.{IsTableOf};
 ghost use Rattle.iso_cli.specs.Tables.{IsNamed};
 
-use crate::documents::document;
+use crate::documents::document_at;
 use crate::source::Source;
 use crate::stop::Stop;
 use iso_table::Table;
@@ -14,7 +14,7 @@ use std::alloc::Global;
 fn table_at<S: Source>(alloc: Global, source: &S, path: &str) -> Result<Table, Stop>
     ensures { IfOk result (λ table. IfSome (S.file source.now path.now) (λ text. IsTableOf text table)) }
 {
-    let text = document(alloc, source, path)?;
+    let text = document_at(alloc, source, path)?;
     Ok(Table::from_json(alloc, &text)?)
 }
 

@@ -3,7 +3,8 @@
 //! `clap` judges the words, and what it lets pass is matched word by word, so that contracts can speak of the words.
 ghost use Rattle.std.specs.Prelude.{◌≡◌, IfOk, IfSome, IfNone, IfErr, IsErrOf, map, true};
 ghost use Rattle.clap.specs.Words.{takes};
-ghost use Rattle.iso_cli.specs.Asks.{Asks, AsksNoCodec, AsksNothing, AsksNoRun, header_name, is_name};
+ghost use Rattle.iso_cli.specs.Words.{Asks, AsksNothing, header_name, is_name};
+ghost use Rattle.iso_cli.specs.NoJob.{AsksNoCodec, AsksNoRun};
 ghost use Rattle.iso_cli.specs.CommandLine.{FollowsRule, IsCommand, bare_app, check_app, clear_rule, codec_app, convert_app, iso_alone};
 ghost use Rattle.iso_cli.specs.CommandLine.{iso_app, name_rule, run_app, show_app};
 
@@ -56,7 +57,7 @@ pub enum WordsFault {
     Memory,
 }
 
-pub fn required<'a>(alloc: Global, id: &'a str) -> Arg<'a>
+pub fn name_argument<'a>(alloc: Global, id: &'a str) -> Arg<'a>
     ensures { FollowsRule (name_rule id.now) result }
 {
     Arg::new(alloc, id).required(true)
@@ -71,7 +72,7 @@ fn clear_flag<'a>(alloc: Global) -> Arg<'a>
 }
 
 /// A command with no help and no version of its own.
-pub fn bare<'a>(alloc: Global, name: &'static str) -> Command<'a>
+pub fn bare_command<'a>(alloc: Global, name: &'static str) -> Command<'a>
     ensures { IsCommand (bare_app name.now) result }
 {
     Command::new(alloc, name)
@@ -83,39 +84,39 @@ pub fn bare<'a>(alloc: Global, name: &'static str) -> Command<'a>
 fn check_command<'a>(alloc: Global) -> Result<Command<'a>, AllocError>
     ensures { IfOk result (IsCommand check_app) }
 {
-    bare(alloc, "check").arg(required(alloc, "table"))
+    bare_command(alloc, "check").arg(name_argument(alloc, "table"))
 }
 
 fn show_command<'a>(alloc: Global) -> Result<Command<'a>, AllocError>
     ensures { IfOk result (IsCommand show_app) }
 {
-    bare(alloc, "show")
-        .arg(required(alloc, "table"))?
+    bare_command(alloc, "show")
+        .arg(name_argument(alloc, "table"))?
         .arg(clear_flag(alloc))
 }
 
 fn convert_command<'a>(alloc: Global) -> Result<Command<'a>, AllocError>
     ensures { IfOk result (IsCommand convert_app) }
 {
-    bare(alloc, "convert")
-        .arg(required(alloc, "from"))?
-        .arg(required(alloc, "to"))
+    bare_command(alloc, "convert")
+        .arg(name_argument(alloc, "from"))?
+        .arg(name_argument(alloc, "to"))
 }
 
 fn run_command<'a>(alloc: Global) -> Result<Command<'a>, AllocError>
     ensures { IfOk result (IsCommand run_app) }
 {
-    bare(alloc, "run")
-        .arg(required(alloc, "table"))?
-        .arg(required(alloc, "accounts"))?
-        .arg(required(alloc, "header"))
+    bare_command(alloc, "run")
+        .arg(name_argument(alloc, "table"))?
+        .arg(name_argument(alloc, "accounts"))?
+        .arg(name_argument(alloc, "header"))
 }
 
 /// The command before its subcommands.
-pub fn alone<'a>(alloc: Global) -> Command<'a>
+pub fn iso_alone<'a>(alloc: Global) -> Command<'a>
     ensures { IsCommand iso_alone result }
 {
-    bare(alloc, "iso")
+    bare_command(alloc, "iso")
         .no_binary_name(true)
         .subcommand_required(true)
 }
@@ -125,7 +126,7 @@ pub fn alone<'a>(alloc: Global) -> Command<'a>
 fn codec_command<'a>(alloc: Global) -> Result<Command<'a>, AllocError>
     ensures { IfOk result (IsCommand codec_app) }
 {
-    alone(alloc)
+    iso_alone(alloc)
         .subcommand(check_command(alloc)?)?
         .subcommand(show_command(alloc)?)?
         .subcommand(convert_command(alloc)?)
@@ -161,7 +162,7 @@ pub fn is_name(word: &str) -> bool
 }
 
 /// The header of this name.
-pub fn header_named(word: &str) -> Option<Header>
+pub fn header_of_word(word: &str) -> Option<Header>
     ensures found { IfSome result (λ header. word.now ≡ header_name header) }
     ensures none { IfNone result ((header : Header) → word.now ≡ header_name header → ⊥) }
 {
@@ -182,7 +183,7 @@ fn run_of<'a>(words: &'a [&'a str]) -> Option<Job<'a>>
         ["run", table, accounts, header] if is_name(table) && is_name(accounts) => Some(Job::Run {
             table,
             accounts,
-            header: header_named(header)?,
+            header: header_of_word(header)?,
         }),
         _ => None,
     }

@@ -12,9 +12,9 @@ use Rattle.iso_wire.specs.declared.fault.UnpackCause.TheVariants.{Short}
 use Rattle.iso_wire.specs.ReadingLaws.{IsShort, ReadingStays, ReadsSpellings}
 use Rattle.iso_wire.specs.Spelling.{AreBytes, Spelling}
 use Rattle.iso_host.specs.Asking.{whole_by, message_in, BodiesAreSpellings}
-use Rattle.iso_host.specs.Bodies.{IsRest, TellsBody}
-use Rattle.iso_host.specs.declared.intake.Told.{Told}
-use Rattle.iso_host.specs.declared.intake.Told.TheVariants as told
+use Rattle.iso_host.specs.Intake.{IsRest, TellsBody}
+use Rattle.iso_host.specs.declared.intake.Progress.{Progress}
+use Rattle.iso_host.specs.declared.intake.Progress.TheVariants as progress
 
 -- what is read takes the whole body
 takes_all : (size : ℕ) (r : Result (Contents × ℕ) UnpackFault) (m : Contents) → whole_by size r ≡ Some m → r ≡ whole m size
@@ -96,7 +96,7 @@ no_other taken piece rest used false room is short e =
     omega (arith, e, length-append (taken ++ piece) rest, length-append taken piece, is, room)
 
 -- a piece leaves the table as it was
-pub same_table : (E : Type 0) (old new : Feeding) (bytes : List ℕ) (is_last : Bool) (result : Result Told E) → IfOk result (TellsBody old.table bytes is_last new) → OnErr result (new ≡ old) → new.table ≡ old.table
-same_table E old new bytes is_last (Ok told.Unfinished) tells unchanged = ap (λ (f : Feeding). f.table) tells.1
-same_table E old new bytes is_last (Ok (told.Known message)) tells unchanged = ap (λ (f : Feeding). f.table) tells.2
+pub same_table : (E : Type 0) (old new : Feeding) (bytes : List ℕ) (is_last : Bool) (result : Result Progress E) → IfOk result (TellsBody old.table bytes is_last new) → OnErr result (new ≡ old) → new.table ≡ old.table
+same_table E old new bytes is_last (Ok progress.Unfinished) tells unchanged = ap (λ (f : Feeding). f.table) tells.1
+same_table E old new bytes is_last (Ok (progress.Known message)) tells unchanged = ap (λ (f : Feeding). f.table) tells.2
 same_table E old new bytes is_last (Err e) tells unchanged = ap (λ (f : Feeding). f.table) unchanged

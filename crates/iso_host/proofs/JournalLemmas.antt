@@ -4,9 +4,10 @@ use Rattle.iso_table.specs.Layout.{Layout}
 use Rattle.iso_order.specs.Order.{Instruction}
 use Rattle.iso_issuer.specs.Books.{Books}
 use Rattle.iso_issuer.specs.Journal.{firsts}
-use Rattle.iso_issuer.specs.Laws.{FirstsGoOn}
+use Rattle.iso_issuer.specs.Laws.{FirstsGoOn, books_after}
 use Rattle.iso_host.specs.Asking.{asked_of, orders_in, orders_of}
-use Rattle.iso_host.specs.Entering.{books_after, books_after_body, with_orders, BodiesGoOn, StaysWithout}
+use Rattle.iso_host.specs.Entering.{books_after_bodies, BodiesGoOn, StaysWithout}
+use Rattle.iso_host.specs.Handling.{books_after_body}
 
 orders_of_more : (t : Layout) (bodies : List (List ℕ)) (body : List ℕ) → orders_of t (bodies ++ body ∷ []) ≡ orders_of t bodies ++ orders_in (asked_of t body)
 orders_of_more t [] body = append-nil (orders_in (asked_of t body))
@@ -15,8 +16,8 @@ orders_of_more t (x ∷ xs) body =
     ∙ sym (append_assoc (orders_in (asked_of t x)) (orders_of t xs) (orders_in (asked_of t body)))
 
 -- what was kept for the earlier bodies stands for all of them
-pub books_more : FirstsGoOn → (t : Layout) (books : Books) (bodies : List (List ℕ)) (body : List ℕ) → books_after t books (bodies ++ body ∷ []) ≡ books_after_body t (books_after t books bodies) body
-unfolding books_after
+pub books_more : FirstsGoOn → (t : Layout) (books : Books) (bodies : List (List ℕ)) (body : List ℕ) → books_after_bodies t books (bodies ++ body ∷ []) ≡ books_after_body t (books_after_bodies t books bodies) body
+unfolding books_after_bodies
 books_more go_on t books bodies body =
     ap (λ (l : List Instruction). record books { orders = l })
     (ap (λ (l : List Instruction). take books.limit (firsts (books.orders ++ l))) (orders_of_more t bodies body)
@@ -24,8 +25,8 @@ books_more go_on t books bodies body =
     ∙ sym (go_on books.limit (books.orders ++ orders_of t bodies) (orders_in (asked_of t body))))
 
 -- before any body the books are as they were
-pub books_none : (t : Layout) (books : Books) → with_orders books [] ≡ books → books_after t books [] ≡ books
-unfolding books_after
+pub books_none : (t : Layout) (books : Books) → books_after books [] ≡ books → books_after_bodies t books [] ≡ books
+unfolding books_after_bodies
 books_none t books kept = kept
 
 orders_of_append : (t : Layout) (earlier later : List (List ℕ)) → orders_of t (earlier ++ later) ≡ orders_of t earlier ++ orders_of t later
@@ -36,7 +37,7 @@ orders_of_append t (x ∷ xs) later =
 
 -- bodies that follow others are handled as all of them
 pub bodies_go_on : FirstsGoOn → BodiesGoOn
-unfolding books_after
+unfolding books_after_bodies
 bodies_go_on go_on t books earlier later =
     ap (λ (l : List Instruction). record books { orders = l })
     (go_on books.limit (books.orders ++ orders_of t earlier) (orders_of t later)
@@ -45,5 +46,5 @@ bodies_go_on go_on t books earlier later =
     ∙ ap (λ (l : List Instruction). books.orders ++ l) (sym (orders_of_append t earlier later))))
 
 -- none leave the books as they are
-pub stays_without : (books : Books) → with_orders books [] ≡ books → StaysWithout books
+pub stays_without : (books : Books) → books_after books [] ≡ books → StaysWithout books
 stays_without books kept = λ t. books_none t books kept

@@ -7,10 +7,10 @@ use Rattle.iso_wire.specs.Contents.{Contents}
 use Rattle.iso_wire.specs.Framing.{frame_of, frames_of, AllFit, largest}
 use Rattle.iso_wire.specs.OneSpelling.{PlainOnce}
 use Rattle.iso_issuer.specs.Books.{Books}
-use Rattle.iso_host.specs.Entering.{books_after}
+use Rattle.iso_host.specs.Entering.{books_after_bodies}
 use Rattle.iso_host.specs.Asking.{message_in}
 use Rattle.iso_host.specs.Output.{response_to, IsFramed, IsAnswer, IsOutputFrom, IsOutput, OutputOnce}
-use Rattle.iso_host.specs.Served.{front, IsPrefix}
+use Rattle.iso_host.specs.Serving.{front, IsPrefix}
 
 -- ---- the stream
 
@@ -32,16 +32,16 @@ front_more bodies body =
 -- ---- the output
 
 output_from_more : (t : Layout) (h : Header) (books : Books) (earlier bodies : List (List ℕ)) (body out first : List ℕ)
-    → IsOutputFrom t h books earlier bodies out → IsAnswer t h (books_after t books (earlier ++ bodies)) body first → IsOutputFrom t h books earlier (bodies ++ body ∷ []) (out ++ first)
+    → IsOutputFrom t h books earlier bodies out → IsAnswer t h (books_after_bodies t books (earlier ++ bodies)) body first → IsOutputFrom t h books earlier (bodies ++ body ∷ []) (out ++ first)
 output_from_more t h books earlier [] body out first is answer = (
   first,
   [],
-  subst (λ (l : List (List ℕ)). IsAnswer t h (books_after t books l) body first) (append-nil earlier) answer,
+  subst (λ (l : List (List ℕ)). IsAnswer t h (books_after_bodies t books l) body first) (append-nil earlier) answer,
   refl,
   ap (λ (l : List ℕ). l ++ first) is ∙ sym (append-nil first),
 )
 output_from_more t h books earlier (x ∷ xs) body out first is answer =
-    let later = subst (λ (l : List (List ℕ)). IsAnswer t h (books_after t books l) body first) (sym (append_assoc earlier (x ∷ []) xs)) answer in (
+    let later = subst (λ (l : List (List ℕ)). IsAnswer t h (books_after_bodies t books l) body first) (sym (append_assoc earlier (x ∷ []) xs)) answer in (
       is.0,
       is.1 ++ first,
       is.2,
@@ -54,7 +54,7 @@ unfolding IsOutput
 output_none t h books = refl
 
 pub output_more : (t : Layout) (h : Header) (books : Books) (bodies : List (List ℕ)) (body out first : List ℕ)
-    → IsOutput t h books bodies out → IsAnswer t h (books_after t books bodies) body first → IsOutput t h books (bodies ++ body ∷ []) (out ++ first)
+    → IsOutput t h books bodies out → IsAnswer t h (books_after_bodies t books bodies) body first → IsOutput t h books (bodies ++ body ∷ []) (out ++ first)
 unfolding IsOutput
 output_more t h books bodies body out first is answer = output_from_more t h books [] bodies body out first is answer
 
@@ -88,7 +88,7 @@ output_from_once : (t : Layout) (h : Header) (books : Books) (earlier bodies : L
 output_from_once t h books earlier [] a b once one other = one ∙ sym other
 output_from_once t h books earlier (x ∷ xs) a b once one other =
     one.4
-    ∙ ap (λ (l : List ℕ). l ++ one.1) (answer_once t h (books_after t books earlier) x one.0 other.0 once one.2 other.2)
+    ∙ ap (λ (l : List ℕ). l ++ one.1) (answer_once t h (books_after_bodies t books earlier) x one.0 other.0 once one.2 other.2)
     ∙ ap (λ (l : List ℕ). other.0 ++ l) (output_from_once t h books (earlier ++ x ∷ []) xs one.1 other.1 once one.3 other.3)
     ∙ sym other.4
 

@@ -13,10 +13,10 @@ use Rattle.iso_wire.specs.Spelling.{AreBytes}
 use Rattle.iso_host.proofs.Running.{SoFar, BodySoFar}
 use Rattle.iso_host.proofs.WindowLemmas.{passes, took_more}
 use Rattle.iso_host.specs.Asking.{message_in}
-use Rattle.iso_host.specs.Bodies.{IsRest, unpacker_holding}
+use Rattle.iso_host.specs.Intake.{IsRest, unpacker_holding}
 use Rattle.iso_host.specs.Counts.{Counts}
-use Rattle.iso_host.specs.Pieces.{EndsInside, Refills, TakesBytes, Draws, EndsReads}
-use Rattle.iso_host.specs.Serving.{Spends}
+use Rattle.iso_host.specs.Reading.{EndsInside, Refills, TakesBytes, TakesReads, EndsReads}
+use Rattle.iso_host.specs.Turns.{Spends}
 use Rattle.iso_host.specs.declared.fault.ServeFault.{ServeFault}
 use Rattle.iso_host.specs.declared.fault.ServeFault.TheVariants.{Read, Write, BadHeader, CutFrame, Memory, TooManyTurns}
 
@@ -25,22 +25,22 @@ use Rattle.iso_host.specs.declared.fault.ServeFault.TheVariants.{Read, Write, Ba
 pub spends_trans : (a b c : Counts) (x y z : ℕ) → Spends a b x y → Spends b c y z → Spends a c x z
 spends_trans a b c x y z p q = record { fewer = omega (arith, p.fewer, q.fewer); moved = omega (arith, p.moved, q.moved); failures = q.failures ∙ p.failures }
 
-pub draws_none : (c : Counts) (left : ℕ) (w : List ℕ) (n : ℕ) → n ≡ 0 → Draws c c left left w w n
-draws_none c left w n none = record { spends = record { fewer = omega arith; moved = omega arith; failures = refl }; falls = omega (arith, none) }
+pub reads_none : (c : Counts) (left : ℕ) (w : List ℕ) (n : ℕ) → n ≡ 0 → TakesReads c c left left w w n
+reads_none c left w n none = record { spends = record { fewer = omega arith; moved = omega arith; failures = refl }; falls = omega (arith, none) }
 
 -- the window's first bytes are taken
-pub draws_here : (a b : Counts) (x y : ℕ) (w v : List ℕ) (n k m : ℕ) → Draws a b x y w v n → k ≤ length v → m ≡ n + k → Draws a b x y w (drop k v) m
-draws_here a b x y w v n k m d room e = record { spends = d.spends; falls = omega (arith, d.falls, length-drop k v) }
+pub reads_here : (a b : Counts) (x y : ℕ) (w v : List ℕ) (n k m : ℕ) → TakesReads a b x y w v n → k ≤ length v → m ≡ n + k → TakesReads a b x y w (drop k v) m
+reads_here a b x y w v n k m d room e = record { spends = d.spends; falls = omega (arith, d.falls, length-drop k v) }
 
 -- and then the window was filled again
-pub draws_refill : (a b c : Counts) (x y z : ℕ) (w v after u : List ℕ) (n k m : ℕ) → Draws a b x y w v n → k ≤ length v → after ≡ drop k v → Draws b c y z after u 0 → m ≡ n + k → Draws a c x z w u m
-draws_refill a b c x y z w v after u n k m p room passed q e = record {
+pub reads_refill : (a b c : Counts) (x y z : ℕ) (w v after u : List ℕ) (n k m : ℕ) → TakesReads a b x y w v n → k ≤ length v → after ≡ drop k v → TakesReads b c y z after u 0 → m ≡ n + k → TakesReads a c x z w u m
+reads_refill a b c x y z w v after u n k m p room passed q e = record {
   spends = spends_trans a b c x y z p.spends q.spends;
   falls = omega (arith, p.falls, q.falls, ap length passed, length-drop k v, room, e);
 }
 
-pub draws_more : (a b c : Counts) (x y z : ℕ) (w v u : List ℕ) (n m : ℕ) → Draws a b x y w v n → Draws b c y z v u m → Draws a c x z w u (n + m)
-draws_more a b c x y z w v u n m p q = record { spends = spends_trans a b c x y z p.spends q.spends; falls = omega (arith, p.falls, q.falls) }
+pub reads_more : (a b c : Counts) (x y z : ℕ) (w v u : List ℕ) (n m : ℕ) → TakesReads a b x y w v n → TakesReads b c y z v u m → TakesReads a c x z w u (n + m)
+reads_more a b c x y z w v u n m p q = record { spends = spends_trans a b c x y z p.spends q.spends; falls = omega (arith, p.falls, q.falls) }
 
 pub ends_more : (a b c : Counts) (x y z : ℕ) (e : ServeFault) → Spends a b x y → EndsReads b c y z e → EndsReads a c x z e
 ends_more a b c x y z Read p ends = omega (arith, p.failures, ends)

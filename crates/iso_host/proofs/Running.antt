@@ -7,9 +7,9 @@ use Rattle.iso_wire.specs.declared.header.Header.{Header}
 use Rattle.iso_wire.specs.Unpacker.{Feeding}
 use Rattle.iso_wire.specs.Spelling.{AreBytes}
 use Rattle.iso_issuer.specs.Books.{Books}
-use Rattle.iso_host.specs.Bodies.{unpacker_holding}
+use Rattle.iso_host.specs.Intake.{unpacker_holding}
 use Rattle.iso_host.specs.Counts.{Counts}
-use Rattle.iso_host.specs.Served.{Served, Reports}
+use Rattle.iso_host.specs.Serving.{Served, Reports}
 use Rattle.iso_host.specs.declared.fault.Report.{Report}
 
 -- the frames so far were handled and answered, and no byte behind them was taken

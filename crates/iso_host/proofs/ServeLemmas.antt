@@ -11,17 +11,20 @@ use Rattle.iso_wire.specs.declared.header.Header.TheVariants.{Binary2, Ascii4, B
 use Rattle.iso_wire.specs.Framing.{frame_of, frames_of, largest, NoFrame, is_bad_header, BadIsNoFrame, BadStays}
 use Rattle.iso_order.specs.declared.verdict.Verdict.{Verdict}
 use Rattle.iso_issuer.specs.Books.{Books}
-use Rattle.iso_issuer.specs.Laws.{FirstsGoOn}
+use Rattle.iso_issuer.specs.Laws.{FirstsGoOn, books_after}
 use Rattle.iso_host.proofs.JournalLemmas.{books_more, books_none}
 use Rattle.iso_host.proofs.OutputLemmas.{frames_more, AllFit_more, output_none, output_more, output_front, front_more}
 use Rattle.iso_host.proofs.Running.{Going, Running}
 use Rattle.iso_host.specs.Asking.{message_in, asked_of, count_asked, has_answer, is_silent, is_unreadable}
 use Rattle.iso_host.specs.Counts.{Counts}
-use Rattle.iso_host.specs.Entering.{books_after, books_after_body, with_orders}
-use Rattle.iso_host.specs.Output.{IsAnswer, IsAnswerTo, IsOutput}
-use Rattle.iso_host.specs.Pieces.{EndsInside}
-use Rattle.iso_host.specs.Served.{Served, Outcome, Cut, Reports, ReportsOneMore, one_more}
-use Rattle.iso_host.specs.Serving.{AnswersPart, AnswersWhole, SpendsOnWrite, Spends, TakesTurns}
+use Rattle.iso_host.specs.Entering.{books_after_bodies}
+use Rattle.iso_host.specs.Handling.{books_after_body, IsAnswerTo}
+use Rattle.iso_host.specs.Output.{IsAnswer, IsOutput}
+use Rattle.iso_host.specs.Reading.{EndsInside}
+use Rattle.iso_host.specs.Serving.{Served, Leaves, Cut, Reports}
+use Rattle.iso_host.specs.Reporting.{ReportsOneMore, count_with}
+use Rattle.iso_host.specs.Answering.{AnswersPart, AnswersWhole, SpendsOnWrite}
+use Rattle.iso_host.specs.Turns.{Spends, TakesTurns}
 use Rattle.iso_host.specs.Writing.{WritesSome}
 use Rattle.iso_host.specs.declared.fault.Report.{Report}
 use Rattle.iso_host.specs.declared.fault.ServeFault.{ServeFault}
@@ -55,7 +58,7 @@ no_byte Bcd2 body more fits e = cc
 
 module _ (t : Layout) (h : Header) (unread held : Option (List ℕ)) (old : Books) where
   -- nothing is handled yet
-  pub served_none : with_orders old [] ≡ old → (window : List ℕ) → window ≡ [] → Served t h unread (prepend_known window unread) held held old old [] []
+  pub served_none : books_after old [] ≡ old → (window : List ℕ) → window ≡ [] → Served t h unread (prepend_known window unread) held held old old [] []
   served_none kept window none = record {
     read = subst (λ (w : List ℕ). Consumes unread (prepend_known w unread) []) (sym none) (none_waits unread);
     fit = tt;
@@ -67,7 +70,7 @@ module _ (t : Layout) (h : Header) (unread held : Option (List ℕ)) (old : Book
 
   module _ (go_on : FirstsGoOn) (pending written : Option (List ℕ)) (mid : Books) (bodies : List (List ℕ)) (served : Served t h unread pending held written old mid bodies []) where
     -- the journal goes on by the body's order
-    entered_more : (new : Books) (body : List ℕ) → new ≡ books_after_body t mid body → new ≡ books_after t old (bodies ++ body ∷ [])
+    entered_more : (new : Books) (body : List ℕ) → new ≡ books_after_body t mid body → new ≡ books_after_bodies t old (bodies ++ body ∷ [])
     entered_more new body enters = enters ∙ ap (λ (b : Books). books_after_body t b body) served.books ∙ sym (books_more go_on t old bodies body)
 
     -- the frame is the next one
@@ -86,7 +89,7 @@ module _ (t : Layout) (h : Header) (unread held : Option (List ℕ)) (old : Book
         (taken_behind unread left ((frames_of h bodies ++ []) ++ part) window (Consumes-trans unread pending (prepend_known window left) _ _ served.read taken))
 
     -- the answer is the next one of the output
-    answer_more : (body answer : List ℕ) → IsAnswer t h mid body answer → IsAnswer t h (books_after t old bodies) body answer
+    answer_more : (body answer : List ℕ) → IsAnswer t h mid body answer → IsAnswer t h (books_after_bodies t old bodies) body answer
     answer_more body answer is = subst (λ (b : Books). IsAnswer t h b body answer) served.books is
 
     -- one more body is handled and answered
@@ -158,7 +161,7 @@ module _ (t : Layout) (h : Header) (unread held : Option (List ℕ)) (old : Book
 
     pub stop_at : (T : Type 0) (left after : Option (List ℕ)) (window : List ℕ) (new : Books) (c0 c1 : Counts) (before turns : ℕ) (body : List ℕ) (fault : ServeFault)
         → Consumes pending (prepend_known window left) (frame_of h body) → length body ≤ largest h → AnswersPart t h mid new (message_in t body) written after
-        → SpendsOnWrite {T = T} c0 c1 before turns (Err fault) → Outcome t h unread left held after old new (Err fault)
+        → SpendsOnWrite {T = T} c0 c1 before turns (Err fault) → Leaves t h unread left held after old new (Err fault)
     stop_at T left after window new c0 c1 before turns body Read taken fits part spent = absurd spent
     stop_at T left after window new c0 c1 before turns body BadHeader taken fits part spent = absurd spent
     stop_at T left after window new c0 c1 before turns body CutFrame taken fits part spent = absurd spent
@@ -179,7 +182,7 @@ module _ (t : Layout) (h : Header) (unread held : Option (List ℕ)) (old : Book
 
     -- a frame doesn't come to its end
     pub stop_inside : BadIsNoFrame → BadStays → (left : Option (List ℕ)) (window : List ℕ) (fault : ServeFault) → EndsInside h pending (prepend_known window left) window left fault
-        → Outcome t h unread left held written old mid (Err fault)
+        → Leaves t h unread left held written old mid (Err fault)
     stop_inside bad stays left window Read (part, taken, none, needs) =
         let all : part ++ window ≡ part = ap (λ (l : List ℕ). part ++ l) none ∙ append-nil part in
         (bodies, part ++ window, served_part left window part taken, subst (NoFrame h) (sym all) needs.no_frame, tt)
@@ -200,7 +203,7 @@ module _ (t : Layout) (h : Header) (unread held : Option (List ℕ)) (old : Book
 
     -- the input ends between two frames
     pub ends_whole : (left : Option (List ℕ)) (window : List ℕ) (report : Report) → Keeps pending (prepend_known window left) → window ≡ [] → IsAtEnd left → Reports t report bodies
-        → Outcome t h unread left held written old mid (Ok report)
+        → Leaves t h unread left held written old mid (Ok report)
     ends_whole left window report kept none end reports =
         let read = served_part left window [] (none_taken pending (prepend_known window left) kept) in
         (bodies, window, read, subst (NoFrame h) (sym none) (no_byte h), (none, end, reports))
@@ -208,13 +211,13 @@ module _ (t : Layout) (h : Header) (unread held : Option (List ℕ)) (old : Book
 -- ---- the report
 
 -- one more of a kind, or none
-saturated : (is_kind : Bool) (c total n m : ℕ) → n ≡ u64_saturate c → m ≡ one_more is_kind n → total ≡ c + cond is_kind 1 0 → m ≡ u64_saturate total
+saturated : (is_kind : Bool) (c total n m : ℕ) → n ≡ u64_saturate c → m ≡ count_with is_kind n → total ≡ c + cond is_kind 1 0 → m ≡ u64_saturate total
 saturated true c total n m e f g = omega arith
 saturated false c total n m e f g = omega arith
 
 -- the counts of one kind of body
 counts_more : (t : Layout) (kind : Option Verdict → Bool) (bodies : List (List ℕ)) (body : List ℕ) (n m : ℕ) → n ≡ u64_saturate (count_asked t kind bodies)
-    → m ≡ one_more (kind (asked_of t body)) n → m ≡ u64_saturate (count_asked t kind (bodies ++ body ∷ []))
+    → m ≡ count_with (kind (asked_of t body)) n → m ≡ u64_saturate (count_asked t kind (bodies ++ body ∷ []))
 counts_more t kind bodies body n m e f =
     saturated (kind (asked_of t body)) (count_asked t kind bodies) (count_asked t kind (bodies ++ body ∷ [])) n m e f
     (sum_by-append (λ b. cond (kind (asked_of t b)) 1 0) bodies (body ∷ []) ∙ ap (λ k. count_asked t kind bodies + k) (zero-add (cond (kind (asked_of t body)) 1 0)))

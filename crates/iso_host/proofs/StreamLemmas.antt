@@ -5,8 +5,8 @@ use Rattle.std.proofs.KnownBytes.{Appends-trans}
 use Rattle.std.specs.declared.option.Option.{Option}
 use Rattle.std.specs.Io.KnownBytes.{Appends}
 use Rattle.iso_host.specs.Counts.{Counts}
-use Rattle.iso_host.specs.Served.{IsFlushed}
-use Rattle.iso_host.specs.Serving.{Spends, TakesTurns}
+use Rattle.iso_host.specs.Serving.{IsFlushed}
+use Rattle.iso_host.specs.Turns.{Spends, TakesTurns}
 use Rattle.iso_host.specs.Writing.{Moves}
 
 -- `&bs[at..]`, as a proof sees it

@@ -1,39 +1,25 @@
 -- The journal while bodies are handled: the first order of each key, up to the limit.
--- Inner, for bodies and proofs: `entered_by`, `books_after_body`.
-use Rattle.std.specs.Prelude.{◌≡◌, ℕ, Bool, not, ◌&&◌, nat_le, List, [], ◌++◌, length, take, Option, option_map}
+-- Public: `serve` and `laws::one_journal` promise it.
+use Rattle.std.specs.Prelude.{◌≡◌, ℕ, Bool, not, ◌&&◌, nat_le, List, [], ◌++◌, length}
 use Rattle.iso_table.specs.Layout.{Layout}
-use Rattle.iso_wire.specs.Contents.{Contents}
 use Rattle.iso_order.specs.declared.key.TxKey.{TxKey}
-use Rattle.iso_order.specs.Order.{Instruction}
-use Rattle.iso_order.specs.Verdict.{verdict}
 use Rattle.iso_issuer.specs.Books.{Books}
-use Rattle.iso_issuer.specs.Journal.{firsts, is_entered}
-use Rattle.iso_host.specs.Asking.{asked_of, orders_in, orders_of}
-
--- the books with these orders more: the first of each key, up to the limit
-abbrev pub with_orders : Books → List Instruction → Books
-with_orders books orders = record books { orders = take books.limit (firsts (books.orders ++ orders)) }
+use Rattle.iso_issuer.specs.Journal.{is_entered}
+use Rattle.iso_issuer.specs.Laws.{books_after}
+use Rattle.iso_host.specs.Asking.{orders_of}
 
 -- the books once these bodies are handled
-unfoldable pub books_after : Layout → Books → List (List ℕ) → Books
-books_after t books bodies = with_orders books (orders_of t bodies)
-
--- the books once the message that a body is, or none, is handled
-abbrev pub entered_by : Books → Option Contents → Books
-entered_by books message = with_orders books (orders_in (option_map verdict message))
-
--- the books once this body is handled
-abbrev pub books_after_body : Layout → Books → List ℕ → Books
-books_after_body t books body = with_orders books (orders_in (asked_of t body))
+unfoldable pub books_after_bodies : Layout → Books → List (List ℕ) → Books
+books_after_bodies t books bodies = books_after books (orders_of t bodies)
 
 -- no bodies leave the books as they are
 abbrev pub StaysWithout : Books → Type 0
-StaysWithout books = (t : Layout) → books_after t books [] ≡ books
+StaysWithout books = (t : Layout) → books_after_bodies t books [] ≡ books
 
 -- bodies that follow others are handled as all of them, one after the other
 abbrev pub BodiesGoOn : Type 0
 BodiesGoOn =
-    (t : Layout) (books : Books) (earlier later : List (List ℕ)) → books_after t (books_after t books earlier) later ≡ books_after t books (earlier ++ later)
+    (t : Layout) (books : Books) (earlier later : List (List ℕ)) → books_after_bodies t (books_after_bodies t books earlier) later ≡ books_after_bodies t books (earlier ++ later)
 
 -- the journal is at its limit, and the key is new
 abbrev pub is_full : Books → TxKey → Bool

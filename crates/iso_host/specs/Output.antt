@@ -1,5 +1,5 @@
 -- What is written for a stream of frames.
--- Inner, for bodies and proofs: `IsAnswerTo`.
+-- Public: `serve` and `laws::one_output` promise it.
 use Rattle.std.specs.Prelude.{◌≡◌, ℕ, ◌≤◌, List, [], ◌∷◌, ◌++◌, length, Option, Some, None, option_map, if◌then◌else◌}
 use Rattle.iso_table.specs.Layout.{Layout}
 use Rattle.iso_wire.specs.declared.header.Header.{Header}
@@ -15,7 +15,7 @@ use Rattle.iso_order.specs.Verdict.{verdict}
 use Rattle.iso_issuer.specs.Books.{Books, journal}
 use Rattle.iso_issuer.specs.Decision.{reply}
 use Rattle.iso_host.specs.Asking.{message_in}
-use Rattle.iso_host.specs.Entering.{books_after, is_full}
+use Rattle.iso_host.specs.Entering.{books_after_bodies, is_full}
 
 -- ---- the response to a body
 
@@ -46,10 +46,6 @@ abbrev pub IsFramed : Layout → Header → Option Contents → List ℕ → Typ
 IsFramed t h None bytes = bytes ≡ []
 IsFramed t h (Some r) bytes = (plain : List ℕ) × PlainSpelling t r plain × (length plain ≤ largest h) × (bytes ≡ frame_of h plain)
 
--- what is written at these books for the message that a body is
-unfoldable pub IsAnswerTo : Layout → Header → Books → Option Contents → List ℕ → Type 0
-IsAnswerTo t h books message bytes = IsFramed t h (response_to books message) bytes
-
 -- what is written for a body at these books
 unfoldable pub IsAnswer : Layout → Header → Books → List ℕ → List ℕ → Type 0
 IsAnswer t h books body bytes = IsFramed t h (response_to books (message_in t body)) bytes
@@ -60,7 +56,7 @@ IsAnswer t h books body bytes = IsFramed t h (response_to books (message_in t bo
 abbrev pub IsOutputFrom : Layout → Header → Books → List (List ℕ) → List (List ℕ) → List ℕ → Type 0
 IsOutputFrom t h books earlier [] bytes = bytes ≡ []
 IsOutputFrom t h books earlier (body ∷ bodies) bytes =
-    (first : List ℕ) × (others : List ℕ) × IsAnswer t h (books_after t books earlier) body first
+    (first : List ℕ) × (others : List ℕ) × IsAnswer t h (books_after_bodies t books earlier) body first
     × IsOutputFrom t h books (earlier ++ body ∷ []) bodies others × (bytes ≡ first ++ others)
 
 -- what is written for these bodies

@@ -1,57 +1,123 @@
--- What the parts of the engine do to a reader and a writer, and what they spend.
--- Inner: bodies and proofs cite it, and no public clause does.
-use Rattle.std.specs.Prelude.{◌≡◌, ◌⊎◌, ℕ, ◌+◌, ◌<◌, ◌≤◌, List, Result, Ok, Err}
+-- What a call of `serve` leaves.
+-- Public: `serve` promises it.
+use Rattle.std.specs.Prelude.{◌≡◌, ◌≢◌, ◌⊎◌, ℕ, ◌+◌, ◌-◌, ◌<◌, ◌≤◌, true, false, List, [], ◌++◌, length, take, Result, Ok, Err}
 use Rattle.std.specs.declared.option.Option.{Option}
-use Rattle.std.specs.Io.KnownBytes.{Appends}
+use Rattle.std.specs.Io.KnownBytes.{Appends, Consumes, IsAtEnd}
+use Rattle.std.specs.Io.Iter.{u64_saturate}
 use Rattle.iso_table.specs.Layout.{Layout}
 use Rattle.iso_wire.specs.declared.header.Header.{Header}
-use Rattle.iso_wire.specs.Contents.{Contents}
+use Rattle.iso_wire.specs.Framing.{frames_of, AllFit, NoFrame, is_bad_header}
 use Rattle.iso_issuer.specs.Books.{Books}
 use Rattle.iso_host.specs.Counts.{Counts}
-use Rattle.iso_host.specs.Entering.{entered_by}
-use Rattle.iso_host.specs.Output.{IsAnswerTo}
-use Rattle.iso_host.specs.Writing.{WritesSome}
+use Rattle.iso_host.specs.Entering.{books_after_bodies}
+use Rattle.iso_host.specs.Asking.{has_answer, is_silent, is_unreadable, count_asked}
+use Rattle.iso_host.specs.Output.{IsOutput}
+use Rattle.iso_host.specs.declared.fault.Report.{Report}
 use Rattle.iso_host.specs.declared.fault.ServeFault.{ServeFault}
 use Rattle.iso_host.specs.declared.fault.ServeFault.TheVariants.{Read, Write, BadHeader, CutFrame, Memory, TooManyTurns}
 
--- ---- writing
+-- ---- the bytes and the journal
 
--- each read or write took one of the turns
-abbrev pub TakesTurns : Counts → Counts → ℕ → ℕ → Type 0
-TakesTurns old new before left = new.calls + left ≡ old.calls + before
-
--- each call moved a byte, and none failed
-pub record Spends (old new : Counts) (before left : ℕ) : Type 0 where
-  pub fewer : left ≤ before
-  pub moved : new.calls + old.moved ≤ old.calls + new.moved
-  pub failures : new.failures ≡ old.failures
-
--- `Write` comes only where the writer failed, and `TooManyTurns` only where no turn is left
-abbrev pub SpendsOnWrite : {T : Type 0} → Counts → Counts → ℕ → ℕ → Result T ServeFault → Type 0
-SpendsOnWrite old new before left (Ok x) = Spends old new before left
-SpendsOnWrite old new before left (Err Write) = old.failures < new.failures
-SpendsOnWrite old new before left (Err TooManyTurns) = Spends old new before left × (left ≡ 0)
-SpendsOnWrite old new before left (Err Read) = ⊥
-SpendsOnWrite old new before left (Err BadHeader) = ⊥
-SpendsOnWrite old new before left (Err CutFrame) = ⊥
-SpendsOnWrite old new before left (Err Memory) = Spends old new before left
-
--- ---- answering
-
--- at an error the books are as they were and nothing was written, or the message's order was entered and some bytes at
--- the front of its answer were written, or none
-abbrev pub AnswersPart : Layout → Header → Books → Books → Option Contents → Option (List ℕ) → Option (List ℕ) → Type 0
-AnswersPart t h old new message held written =
-    ((new ≡ old) × (written ≡ held))
-    ⊎ ((new ≡ entered_by old message) × ((bytes : List ℕ) × IsAnswerTo t h old message bytes × WritesSome held written bytes))
-
--- the message's order was entered and its answer written
-pub record AnswersWhole (t : Layout) (h : Header) (old new : Books) (message : Option Contents) (held written : Option (List ℕ)) : Type 0 where
-  pub entered : new ≡ entered_by old message
+-- these bodies came in whole frames and then this rest; they were handled and answered, and no other
+pub record Served (t : Layout) (h : Header) (unread left held written : Option (List ℕ)) (old new : Books) (bodies : List (List ℕ)) (rest : List ℕ) : Type 0 where
+  pub read : Consumes unread left (frames_of h bodies ++ rest)
+  pub fit : AllFit h bodies
+  pub books : new ≡ books_after_bodies t old bodies
   pub bytes : List ℕ
-  pub answer : IsAnswerTo t h old message bytes
-  pub appends : Appends held written bytes
+  pub output : IsOutput t h old bodies bytes
+  pub answers : Appends held written bytes
 
-abbrev pub AnswersInto : {T : Type 0} → Layout → Header → Books → Books → Option Contents → Option (List ℕ) → Option (List ℕ) → Result T ServeFault → Type 0
-AnswersInto t h old new message held written (Ok x) = AnswersWhole t h old new message held written
-AnswersInto t h old new message held written (Err e) = AnswersPart t h old new message held written
+-- all but the last
+abbrev pub front : List (List ℕ) → List (List ℕ)
+front bodies = take (length bodies - 1) bodies
+
+abbrev pub IsPrefix : List ℕ → List ℕ → Type 0
+IsPrefix xs ys = (more : List ℕ) × (ys ≡ xs ++ more)
+
+-- these bodies came in whole frames; they were handled, and what was written lies between the output for all but the
+-- last and the output for all
+pub record Stopped (t : Layout) (h : Header) (unread left held written : Option (List ℕ)) (old new : Books) (bodies : List (List ℕ)) (rest bytes : List ℕ) : Type 0 where
+  pub read : Consumes unread left (frames_of h bodies ++ rest)
+  pub fit : AllFit h bodies
+  pub books : new ≡ books_after_bodies t old bodies
+  pub answers : Appends held written bytes
+  pub less : List ℕ
+  pub less_output : IsOutput t h old (front bodies) less
+  pub no_less : IsPrefix less bytes
+  pub most : List ℕ
+  pub most_output : IsOutput t h old bodies most
+  pub no_more : IsPrefix bytes most
+
+-- ---- the report
+
+-- the bodies by kind
+pub record Reports (t : Layout) (report : Report) (bodies : List (List ℕ)) : Type 0 where
+  pub frames : report.frames ≡ u64_saturate (length bodies)
+  pub answered : report.answered ≡ u64_saturate (count_asked t has_answer bodies)
+  pub silent : report.silent ≡ u64_saturate (count_asked t is_silent bodies)
+  pub unreadable : report.unreadable ≡ u64_saturate (count_asked t is_unreadable bodies)
+
+-- ---- each end
+
+module _ (t : Layout) (h : Header) (unread left held written : Option (List ℕ)) (old new : Books) where
+  -- all whole frames were handled and answered, and P holds of the bodies and the rest
+  abbrev pub Whole : (List (List ℕ) → List ℕ → Type 0) → Type 0
+  Whole P = (bodies : List (List ℕ)) × (rest : List ℕ) × Served t h unread left held written old new bodies rest × NoFrame h rest × P bodies rest
+
+  -- some whole frames were handled, and the last answer may be missing or cut short
+  abbrev pub Cut : Type 0
+  Cut = (bodies : List (List ℕ)) × (rest : List ℕ) × (bytes : List ℕ) × Stopped t h unread left held written old new bodies rest bytes
+
+  -- what is read, written and entered, by what `serve` answers
+  abbrev pub Leaves : Result Report ServeFault → Type 0
+  Leaves (Ok report) = Whole (λ bodies rest. (rest ≡ []) × IsAtEnd left × Reports t report bodies)
+  Leaves (Err Read) = Whole (λ bodies rest. Unit {0})
+  Leaves (Err BadHeader) = Whole (λ bodies rest. is_bad_header h rest ≡ true)
+  Leaves (Err CutFrame) = Whole (λ bodies rest. (rest ≢ []) × IsAtEnd left × (is_bad_header h rest ≡ false))
+  Leaves (Err Write) = Cut
+  Leaves (Err Memory) = Cut
+  Leaves (Err TooManyTurns) = Cut
+
+-- ---- flushing
+
+-- no byte waits for a flush, or the writer wasn't called
+abbrev pub IsFlushed : Counts → Counts → Type 0
+IsFlushed old new = (new.unflushed ≡ 0) ⊎ (new ≡ old)
+
+-- wherever all answers were written, they were flushed
+abbrev pub Flushes : Counts → Counts → Result Report ServeFault → Type 0
+Flushes old new (Ok report) = IsFlushed old new
+Flushes old new (Err Read) = IsFlushed old new
+Flushes old new (Err BadHeader) = IsFlushed old new
+Flushes old new (Err CutFrame) = IsFlushed old new
+Flushes old new (Err Write) = Unit {0}
+Flushes old new (Err Memory) = Unit {0}
+Flushes old new (Err TooManyTurns) = Unit {0}
+
+-- ---- the turns
+
+-- the reads and writes together are at most so many
+abbrev pub WithinTurns : Counts → Counts → Counts → Counts → ℕ → Type 0
+WithinTurns reader_old reader_new writer_old writer_new turns = reader_new.calls + writer_new.calls ≤ reader_old.calls + writer_old.calls + turns
+
+-- ---- the cause of each end
+
+-- neither stream failed
+pub record NoFailure (reader_old reader_new writer_old writer_new : Counts) : Type 0 where
+  pub reader : reader_new.failures ≡ reader_old.failures
+  pub writer : writer_new.failures ≡ writer_old.failures
+
+-- each turn was taken by a read or a write, and moved a byte
+pub record TookTurns (reader_old reader_new writer_old writer_new : Counts) (turns : ℕ) : Type 0 where
+  pub calls : reader_new.calls + writer_new.calls ≡ reader_old.calls + writer_old.calls + turns
+  pub moved : turns + (reader_old.moved + writer_old.moved) ≤ reader_new.moved + writer_new.moved
+
+-- a failure is told only where the stream failed, and every other answer only where neither did
+abbrev pub Cause : Counts → Counts → Counts → Counts → ℕ → Result Report ServeFault → Type 0
+Cause reader_old reader_new writer_old writer_new turns (Ok report) = NoFailure reader_old reader_new writer_old writer_new
+Cause reader_old reader_new writer_old writer_new turns (Err Read) = reader_old.failures < reader_new.failures
+Cause reader_old reader_new writer_old writer_new turns (Err Write) = writer_old.failures < writer_new.failures
+Cause reader_old reader_new writer_old writer_new turns (Err BadHeader) = NoFailure reader_old reader_new writer_old writer_new
+Cause reader_old reader_new writer_old writer_new turns (Err CutFrame) = NoFailure reader_old reader_new writer_old writer_new
+Cause reader_old reader_new writer_old writer_new turns (Err Memory) = NoFailure reader_old reader_new writer_old writer_new
+Cause reader_old reader_new writer_old writer_new turns (Err TooManyTurns) = NoFailure reader_old reader_new writer_old writer_new × TookTurns reader_old reader_new writer_old writer_new turns

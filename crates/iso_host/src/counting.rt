@@ -31,7 +31,7 @@ impl Model for Tally {
 }
 
 impl Tally {
-    ghost use Rattle.iso_host.specs.Counted.{counts_after};
+    ghost use Rattle.iso_host.specs.Counting.{counts_after};
 
     /// No call yet.
     pub fn new() -> Tally

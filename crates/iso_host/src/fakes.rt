@@ -76,7 +76,7 @@ pub struct Interrupted<S> {
 
 impl<S> Interrupted<S> {
     /// Whether this call is one of those.
-    fn interrupts(&mut self) -> bool {
+    fn is_interrupted(&mut self) -> bool {
         let is_interrupted = self.times > 0;
         self.times = self.times.saturating_sub(1);
         is_interrupted
@@ -85,7 +85,7 @@ impl<S> Interrupted<S> {
 
 impl<S: Read> Read for Interrupted<S> {
     fn read(&mut self, buffer: &mut [u8]) -> io::Result<usize> {
-        if self.interrupts() {
+        if self.is_interrupted() {
             return Err(io::Error::from(ErrorKind::Interrupted));
         }
         self.stream.read(buffer)
@@ -94,14 +94,14 @@ impl<S: Read> Read for Interrupted<S> {
 
 impl<S: Write> Write for Interrupted<S> {
     fn write(&mut self, bytes: &[u8]) -> io::Result<usize> {
-        if self.interrupts() {
+        if self.is_interrupted() {
             return Err(io::Error::from(ErrorKind::Interrupted));
         }
         self.stream.write(bytes)
     }
 
     fn flush(&mut self) -> io::Result<()> {
-        if self.interrupts() {
+        if self.is_interrupted() {
             return Err(io::Error::from(ErrorKind::Interrupted));
         }
         self.stream.flush()

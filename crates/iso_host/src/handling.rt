@@ -6,11 +6,11 @@ ghost use Rattle.iso_order.specs.Fields.{function};
 ghost use Rattle.iso_parts.specs.Mti.{is_answered};
 ghost use Rattle.iso_order.specs.Response.{is_showable};
 ghost use Rattle.iso_order.specs.Verdict.{verdict};
+ghost use Rattle.iso_issuer.specs.Laws.{books_after};
 ghost use Rattle.iso_issuer.specs.Decision.{is_shown_for};
 ghost use Rattle.iso_host.specs.Asking.{orders_in};
 ghost use Rattle.iso_host.specs.Desk.{IsSameDesk};
-ghost use Rattle.iso_host.specs.Entering.{entered_by, with_orders};
-ghost use Rattle.iso_host.specs.Handled.{Handles, EntersOrKeeps};
+ghost use Rattle.iso_host.specs.Handling.{entered_by, Handles, EntersOrKeeps};
 ghost use Rattle.iso_host.specs.Output.{outcome_for, outcome_of};
 
 use crate::desk::Desk;
@@ -34,7 +34,7 @@ pub enum Handled {
 fn answer_order(issuer: &mut Issuer, order: Order) -> Result<Answer, NoMemory>
     ensures answer { IfOk result (λ answer. answer ≡ outcome_for issuer.old order) }
     ensures shown { IfOk result (λ answer. is_shown_for order.act answer.shown ≡ true) }
-    ensures entered { OnOk result (issuer.new ≡ with_orders issuer.old (order ∷ [])) }
+    ensures entered { OnOk result (issuer.new ≡ books_after issuer.old (order ∷ [])) }
     ensures unchanged { OnErr result (issuer.new ≡ issuer.old) }
 {
     // any call on the issuer tells the proof what holds of every issuer
@@ -48,7 +48,7 @@ fn answer_order(issuer: &mut Issuer, order: Order) -> Result<Answer, NoMemory>
 
 /// Where no order comes, the books stay as they are.
 pub fn enters_nothing(issuer: &Issuer)
-    ensures { with_orders issuer.now [] ≡ issuer.now }
+    ensures { books_after issuer.now [] ≡ issuer.now }
 {
     firsts_stay();
     // any call on the issuer tells the proof what holds of every issuer
@@ -60,7 +60,7 @@ fn answer_to(issuer: &mut Issuer, message: &Message) -> Result<Option<Answer>, N
     ensures answer { IfOk result (λ answer. answer ≡ outcome_of issuer.old (verdict message.now)) }
     ensures asks { IfOk result (λ answer. IfSome answer (λ a. is_answered (function message.now) ≡ true)) }
     ensures shown { IfOk result (λ answer. IfSome answer (λ a. is_showable message.now a.shown ≡ true)) }
-    ensures entered { OnOk result (issuer.new ≡ with_orders issuer.old (orders_in (Some (verdict message.now)))) }
+    ensures entered { OnOk result (issuer.new ≡ books_after issuer.old (orders_in (Some (verdict message.now)))) }
     ensures unchanged { OnErr result (issuer.new ≡ issuer.old) }
 {
     enters_nothing(issuer);
@@ -76,7 +76,7 @@ fn answer_to(issuer: &mut Issuer, message: &Message) -> Result<Option<Answer>, N
 
 /// Handles what a body is: the order of its message is entered, and then the frame of the response is laid on the desk.
 /// After an `Err` the order may be entered: then the message has an answer, though it wasn't made.
-#[tactic(auto, unfolding(crate::specs::Output::IsAnswerTo))]
+#[tactic(auto, unfolding(crate::specs::Handling::IsAnswerTo))]
 pub fn handle_message(
     issuer: &mut Issuer,
     message: &Option<Message>,

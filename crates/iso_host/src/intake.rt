@@ -4,7 +4,7 @@ ghost use Rattle.std.specs.Prelude.{◌≡◌, ◌++◌, ℕ, List, [], None, If
 ghost use Rattle.iso_table.specs.Layout.{AreGood};
 ghost use Rattle.iso_wire.specs.Spelling.{AreBytes, Spelling};
 ghost use Rattle.iso_host.specs.Asking.{message_in};
-ghost use Rattle.iso_host.specs.Bodies.{TellsBody, unpacker_holding};
+ghost use Rattle.iso_host.specs.Intake.{TellsBody, unpacker_holding};
 
 use iso_order::NoMemory;
 use iso_table::Table;
@@ -15,7 +15,7 @@ use std::marker::Model;
 
 /// What the first bytes of a body tell of it.
 #[derive(Drop)]
-pub enum Told {
+pub enum Progress {
     /// They may begin a message: further ones are wanted.
     Unfinished,
     /// The body is one whole message, or none, whatever follows.
@@ -61,7 +61,7 @@ fn feed_piece(
     unpacker: &mut Unpacker<'_>,
     piece: &[u8],
     is_last: bool,
-) -> Result<Told, NoMemory>
+) -> Result<Progress, NoMemory>
     requires none { unpacker.old.stopped ≡ None }
     requires bytes { AreBytes unpacker.old.taken }
     requires good { AreGood unpacker.old.table.rows }
@@ -73,23 +73,23 @@ fn feed_piece(
     match unpacker.feed(alloc, piece) {
         Ok(Fed::More) => {
             if !is_last {
-                return Ok(Told::Unfinished);
+                return Ok(Progress::Unfinished);
             }
             unpacker.reset();
-            Ok(Told::Known(None))
+            Ok(Progress::Known(None))
         }
         Ok(Fed::Done { message, used }) => {
             if is_last && used == piece.len() {
-                Ok(Told::Known(Some(message)))
+                Ok(Progress::Known(Some(message)))
             } else {
-                Ok(Told::Known(None))
+                Ok(Progress::Known(None))
             }
         }
         Err(fault) => match fault.cause {
             UnpackCause::Memory => Err(NoMemory),
             _ => {
                 unpacker.reset();
-                Ok(Told::Known(None))
+                Ok(Progress::Known(None))
             }
         },
     }
@@ -137,7 +137,7 @@ impl<'t> Intake<'t> {
 
     /// Takes the next bytes of a body. Once they tell what the body is, the intake stands at the start of a message
     /// again.
-    pub fn feed(&mut self, piece: &[u8], is_last: bool) -> Result<Told, NoMemory>
+    pub fn feed(&mut self, piece: &[u8], is_last: bool) -> Result<Progress, NoMemory>
         requires none { self.old.stopped ≡ None }
         requires bytes { AreBytes self.old.taken }
         ensures { IfOk result (TellsBody self.old.table (self.old.taken ++ piece.now) is_last self.new) }

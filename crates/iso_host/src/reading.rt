@@ -2,12 +2,12 @@
 
 ghost use Rattle.std.specs.Prelude.{◌≡◌, [], IfOk, OnOk};
 ghost use Rattle.std.specs.Io.KnownBytes.{prepend_known};
-ghost use Rattle.iso_host.specs.Bodies.{IsSpelled, ReadsBody, ReadsFrame, SpendsOnFrame, unpacker_holding};
-ghost use Rattle.iso_host.specs.Pieces.{TakesByte, TakesBytes, TakesHeader, SpendsOnHeader, SpendsOnReads};
-ghost use Rattle.iso_host.specs.Serving.{TakesTurns};
+ghost use Rattle.iso_host.specs.Reading.{ReadsBody, ReadsFrame, SpendsOnFrame, TakesByte, TakesBytes, TakesHeader, SpendsOnHeader, SpendsOnReads};
+ghost use Rattle.iso_host.specs.Intake.{IsSpelled, unpacker_holding};
+ghost use Rattle.iso_host.specs.Turns.{TakesTurns};
 
 use crate::fault::ServeFault;
-use crate::intake::{Intake, Told};
+use crate::intake::{Intake, Progress};
 use crate::streams::Inlet;
 use crate::window::Window;
 use iso_wire::laws::splits_once;
@@ -142,13 +142,13 @@ fn read_pieces<R: Inlet>(
         wanted -= here;
         match told {
             Err(_) => return Err(ServeFault::Memory),
-            Ok(Told::Known(message)) => {
+            Ok(Progress::Known(message)) => {
                 if let Err(fault) = pass_over(wanted, window, reader, left) {
                     return Err(fault);
                 }
                 return Ok(message);
             }
-            Ok(Told::Unfinished) => {}
+            Ok(Progress::Unfinished) => {}
         }
         if let Err(fault) = window.refill(reader, left) {
             return Err(fault);

@@ -5,9 +5,11 @@ ghost use Rattle.iso_wire.specs.Spelling.{Spelling};
 ghost use Rattle.iso_order.specs.Verdict.{verdict};
 ghost use Rattle.iso_order.specs.declared.verdict.Verdict.{Verdict};
 ghost use Rattle.iso_host.specs.Desk.{IsSameDesk};
-ghost use Rattle.iso_host.specs.Handled.{IsOfKind};
-ghost use Rattle.iso_host.specs.Served.{Outcome, Cause, Flushes, IsFlushed, ReportsOneMore, WithinTurns};
-ghost use Rattle.iso_host.specs.Serving.{AnswersInto, SpendsOnWrite, TakesTurns};
+ghost use Rattle.iso_host.specs.Handling.{IsOfKind};
+ghost use Rattle.iso_host.specs.Serving.{Leaves, Cause, Flushes, IsFlushed, WithinTurns};
+ghost use Rattle.iso_host.specs.Reporting.{ReportsOneMore};
+ghost use Rattle.iso_host.specs.Answering.{AnswersInto, SpendsOnWrite};
+ghost use Rattle.iso_host.specs.Turns.{TakesTurns};
 ghost use Rattle.iso_host.specs.Writing.{WritesFront};
 
 use crate::desk::Desk;
@@ -127,7 +129,7 @@ pub fn serve<R: Inlet, W: Outlet>(
 ) -> Result<Report, ServeFault>
     requires { IsHostReady table.now }
     // What was read, written and entered, by how it ends.
-    ensures outcome { Outcome table.now header (R.remaining reader.old) (R.remaining reader.new)
+    ensures outcome { Leaves table.now header (R.remaining reader.old) (R.remaining reader.new)
         (W.contents writer.old) (W.contents writer.new) issuer.old issuer.new result }
     // Each answer is flushed.
     ensures flushed { Flushes (W.counts writer.old) (W.counts writer.new) result }

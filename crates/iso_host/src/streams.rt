@@ -4,7 +4,7 @@ ghost use Rattle.std.specs.declared.option.Option.{Option};
 ghost use Rattle.std.specs.Io.{ReadsAtMost, WritesAtMost};
 ghost use Rattle.std.specs.Io.KnownBytes.{Keeps, ReadConsumes, WriteAppends};
 ghost use Rattle.iso_host.specs.Counts.{Counts};
-ghost use Rattle.iso_host.specs.Stream.{CountsRead, CountsWrite, CountsFlush, TakesSome};
+ghost use Rattle.iso_host.specs.Streams.{CountsRead, CountsWrite, CountsFlush, TakesSome};
 
 /// The stream failed. It says no more.
 #[derive(Clone, Copy, Debug, PartialEq, Eq, Drop)]

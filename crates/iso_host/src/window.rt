@@ -2,8 +2,8 @@
 
 ghost use Rattle.std.specs.Prelude.{◌≡◌, ◌≤◌, [], length, drop};
 ghost use Rattle.std.specs.Io.KnownBytes.{Keeps, prepend_known};
-ghost use Rattle.iso_host.specs.Pieces.{Refills, SpendsOnReads};
-ghost use Rattle.iso_host.specs.Serving.{TakesTurns};
+ghost use Rattle.iso_host.specs.Reading.{Refills, SpendsOnReads};
+ghost use Rattle.iso_host.specs.Turns.{TakesTurns};
 
 use crate::fault::ServeFault;
 use crate::streams::Inlet;

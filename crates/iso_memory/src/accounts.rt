@@ -20,10 +20,10 @@ fn reads_json(alloc: Global) -> Ended {
 }
 
 /// An order, and after it the ledger and what is available.
-type Step = (Order, (i64, i64));
+type DayOrder = (Order, (i64, i64));
 
 /// A purchase, a hold and its completion, a reversal that comes early, one that comes late, and a purchase that is declined.
-fn day() -> Option<[Step; 8]> {
+fn day() -> Option<[DayOrder; 8]> {
     Some([
         (debit(200, 1, 1000)?, (4000, 4000)),
         (debit(100, 2, 500)?, (4000, 3500)),
@@ -92,7 +92,7 @@ fn reverses_early(alloc: Global) -> Ended {
 }
 
 /// How many orders were answered, each of which takes 10.00.
-fn answered(answers: &[Result<Answer, Refused>]) -> u32 {
+fn answered_count(answers: &[Result<Answer, Refused>]) -> u32 {
     let mut count = 0u32;
     for answer in answers {
         if answer.is_ok() {
@@ -104,7 +104,7 @@ fn answered(answers: &[Result<Answer, Refused>]) -> u32 {
 
 /// Whether all three are entered, in any order.
 fn are_entered(issuer: &Issuer, answers: &[Result<Answer, Refused>]) -> bool {
-    answered(answers) == 3 && issuer.len() == 3 && balances(issuer) == Some((2000, 2000))
+    answered_count(answers) == 3 && issuer.len() == 3 && balances(issuer) == Some((2000, 2000))
 }
 
 /// Whether those that were answered are entered, and no other.
@@ -126,7 +126,7 @@ fn runs(alloc: Global) -> Ended {
         return Ended::Wrong;
     };
     let count = match issuer.run(alloc, &[a, b, c]) {
-        Ok(answers) => answered(&answers),
+        Ok(answers) => answered_count(&answers),
         Err(_) => 0,
     };
     if !is_as_answered(&issuer, count) {

@@ -35,13 +35,13 @@ const PADDED: FieldSpec = FieldSpec {
 };
 
 /// A vector that has a byte.
-fn begun(alloc: Global) -> Option<Vec<u8>> {
+fn vector_of_one(alloc: Global) -> Option<Vec<u8>> {
     Vec::from_array(alloc, [7u8]).ok()
 }
 
 /// A value, and the part that stands for it behind a byte.
 fn encodes(alloc: Global, spec: &FieldSpec, value: &[u8], part: &[u8]) -> Ended {
-    let Some(mut out) = begun(alloc) else {
+    let Some(mut out) = vector_of_one(alloc) else {
         return Ended::Unready;
     };
     if spec.good().is_err() {
@@ -76,7 +76,7 @@ fn decodes(alloc: Global, spec: &FieldSpec, bytes: &[u8], wanted: &[u8], size: u
 
 /// The value that the bytes tell, behind a byte.
 fn decodes_a_value(alloc: Global, bytes: &[u8], wanted: &[u8]) -> Ended {
-    let Some(mut out) = begun(alloc) else {
+    let Some(mut out) = vector_of_one(alloc) else {
         return Ended::Unready;
     };
     if ACCOUNT.good().is_err() {
@@ -96,7 +96,7 @@ fn decodes_a_value(alloc: Global, bytes: &[u8], wanted: &[u8]) -> Ended {
 
 /// The value of a part that is judged good, behind a byte.
 fn decodes_judged(alloc: Global, spec: &FieldSpec, bytes: &[u8], wanted: &[u8]) -> Ended {
-    let Some(mut out) = begun(alloc) else {
+    let Some(mut out) = vector_of_one(alloc) else {
         return Ended::Unready;
     };
     if spec.good().is_err() {
@@ -119,7 +119,7 @@ fn decodes_judged(alloc: Global, spec: &FieldSpec, bytes: &[u8], wanted: &[u8]) 
 
 /// The bitmap of element 7, in hexadecimal digits behind a byte.
 fn appends_a_bitmap(alloc: Global) -> Ended {
-    let Some(mut out) = begun(alloc) else {
+    let Some(mut out) = vector_of_one(alloc) else {
         return Ended::Unready;
     };
     let mut numbers = Bitmap::new();

@@ -9,7 +9,7 @@ use iso_wire::Header;
 use std::alloc::Global;
 
 /// The frame of a body of 82 or of 90 bytes.
-fn framed(alloc: Global, bodies: &[(&[u8], &[u8])]) -> Option<Vec<u8>> {
+fn frame_bytes(alloc: Global, bodies: &[(&[u8], &[u8])]) -> Option<Vec<u8>> {
     let mut bytes = Vec::with_capacity(alloc, 200).ok()?;
     for (header, body) in bodies {
         bytes.extend_from_slice(header).ok()?;
@@ -19,7 +19,7 @@ fn framed(alloc: Global, bodies: &[(&[u8], &[u8])]) -> Option<Vec<u8>> {
 }
 
 /// Serves the input, which a read gives whole; `written` has room for the whole output.
-fn served(
+fn serve_input(
     alloc: Global,
     table: &Table,
     issuer: &mut Issuer,
@@ -58,25 +58,25 @@ fn is_whole(told: &Option<Result<Report, ServeFault>>, issuer: &Issuer) -> bool 
 
 /// Serves a purchase and its repeat, and serves them again where memory ran out: what was posted is posted once.
 fn serves_frames(alloc: Global, table: &Table, input: &[u8], output: &[u8]) -> Ended {
-    let (Some(mut issuer), Some(mut written)) = (issuer(alloc), framed(alloc, &[])) else {
+    let (Some(mut issuer), Some(mut written)) = (issuer(alloc), frame_bytes(alloc, &[])) else {
         return Ended::Unready;
     };
-    let mut told = served(alloc, table, &mut issuer, input, &mut written);
+    let mut told = serve_input(alloc, table, &mut issuer, input, &mut written);
     let was_refused = told == Some(Err(ServeFault::Memory));
     if was_refused {
         if !is_as_written(&issuer, &written, output) {
             return Ended::Wrong;
         }
         written.clear();
-        told = served(alloc, table, &mut issuer, input, &mut written);
+        told = serve_input(alloc, table, &mut issuer, input, &mut written);
     }
     let is_right = is_whole(&told, &issuer) && written.as_slice() == output;
     Ended::of(was_refused, is_right)
 }
 
 fn serves(alloc: Global) -> Ended {
-    let input = framed(alloc, &[(b"0082", PURCHASE), (b"0082", PURCHASE)]);
-    let output = framed(alloc, &[(b"0090", GRANTED), (b"0090", GRANTED)]);
+    let input = frame_bytes(alloc, &[(b"0082", PURCHASE), (b"0082", PURCHASE)]);
+    let output = frame_bytes(alloc, &[(b"0090", GRANTED), (b"0090", GRANTED)]);
     match (Table::ascii87(alloc), input, output) {
         (Ok(table), Some(input), Some(output)) => serves_frames(alloc, &table, &input, &output),
         _ => Ended::Unready,

@@ -8,14 +8,14 @@ use iso_wire::{Message, unpack};
 use std::alloc::Global;
 
 /// The response that grants the purchase.
-fn granted(alloc: Global) -> Option<Message> {
+fn granting_response(alloc: Global) -> Option<Message> {
     let table = Table::ascii87(alloc).ok()?;
     let (message, _) = unpack(alloc, &table, GRANTED).ok()?;
     Some(message)
 }
 
 fn responds(alloc: Global) -> Ended {
-    let (Some(asked), Some(wanted)) = (purchase(alloc, 200), granted(alloc)) else {
+    let (Some(asked), Some(wanted)) = (purchase(alloc, 200), granting_response(alloc)) else {
         return Ended::Unready;
     };
     let Verdict::Order(_) = order_of(&asked) else {
@@ -34,7 +34,7 @@ fn responds(alloc: Global) -> Ended {
 fn responds_in_place(alloc: Global) -> Ended {
     let (Some(asked), Some(wanted), Some(mut made)) = (
         purchase(alloc, 200),
-        granted(alloc),
+        granting_response(alloc),
         message(alloc, 800, &[(11, b"000008")]),
     ) else {
         return Ended::Unready;

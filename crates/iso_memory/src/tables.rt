@@ -29,7 +29,7 @@ fn draft(alloc: Global) -> Option<Draft> {
 }
 
 /// Whether it is the table of one row.
-fn is_that(told: &Result<Table, TableFault>) -> bool {
+fn is_table_of_one_row(told: &Result<Table, TableFault>) -> bool {
     match told {
         Ok(table) => {
             let max = table.row(41).map(|spec| spec.max);
@@ -48,7 +48,7 @@ fn checks(alloc: Global) -> Ended {
     if was_refused {
         told = Table::check(alloc, second);
     }
-    Ended::of(was_refused, is_that(&told))
+    Ended::of(was_refused, is_table_of_one_row(&told))
 }
 
 fn reads_json(alloc: Global) -> Ended {
@@ -57,7 +57,7 @@ fn reads_json(alloc: Global) -> Ended {
     if was_refused {
         told = Table::from_json(alloc, ONE_ROW);
     }
-    Ended::of(was_refused, is_that(&told))
+    Ended::of(was_refused, is_table_of_one_row(&told))
 }
 
 fn writes_json(alloc: Global) -> Ended {

@@ -62,7 +62,7 @@ fn wants_memory(told: &Result<(), StepFault>) -> bool {
 }
 
 /// What shows of both ends.
-fn shown(world: &World) -> (Option<State>, u32, Option<(i64, i64)>, usize, usize) {
+fn both_ends(world: &World) -> (Option<State>, u32, Option<(i64, i64)>, usize, usize) {
     let state = world.acquirer().state(1);
     let (sent, given) = (world.sent().len(), world.given().len());
     (
@@ -78,10 +78,13 @@ fn shown(world: &World) -> (Option<State>, u32, Option<(i64, i64)>, usize, usize
 fn steps_one(world: &mut World, event: Event) -> (bool, bool)
     requires { IsFairEvent event }
 {
-    let before = shown(world);
+    let before = both_ends(world);
     let told = world.step(event);
     if wants_memory(&told) {
-        return (true, shown(world) == before && world.step(event).is_ok());
+        return (
+            true,
+            both_ends(world) == before && world.step(event).is_ok(),
+        );
     }
     (false, told.is_ok())
 }
@@ -99,7 +102,7 @@ fn steps(alloc: Global) -> Ended {
     let are_made = was_begun && was_sent && was_delivered && was_repeated && was_answered;
     let wanted = (Some(State::Approved), 1, Some((4000, 4000)), 2, 2);
     let was_refused = first || second || third || fourth || fifth;
-    Ended::of(was_refused, are_made && shown(&world) == wanted)
+    Ended::of(was_refused, are_made && both_ends(&world) == wanted)
 }
 
 /// Runs a purchase and its answer, and runs them again where one was refused: then the purchase is approved, and so is

@@ -2,7 +2,7 @@
 
 ghost use Rattle.std.specs.Prelude.{IfSome};
 ghost use Rattle.iso_acquirer.specs.World.{IsFairEvent};
-ghost use Rattle.iso_schedule.specs.Fair.{IsFairLine};
+ghost use Rattle.iso_schedule.specs.Line.{IsFairLine};
 
 use iso_acquirer::Event;
 use iso_order::Pan;
@@ -15,7 +15,7 @@ const SENT: u64 = 102_030_405;
 
 /// What a line is.
 #[derive(Clone, Copy, Debug)]
-pub enum Line {
+pub enum ScheduleLine {
     /// A remark.
     Said,
     /// What happens next.
@@ -48,21 +48,21 @@ fn event_of(pan: Pan, word: &str, number: u64) -> Option<Event>
 }
 
 /// What a line says. Each event is one that can be played.
-pub fn line_of(pan: Pan, text: &str) -> Line
+pub fn schedule_line(pan: Pan, text: &str) -> ScheduleLine
     ensures { IsFairLine result }
 {
     let text = text.trim();
     if text.is_empty() || text.starts_with("#") {
-        return Line::Said;
+        return ScheduleLine::Said;
     }
     let Some((word, digits)) = text.split_once(" ") else {
-        return Line::Unknown;
+        return ScheduleLine::Unknown;
     };
     let Ok(number) = digits.parse::<u64>() else {
-        return Line::Unknown;
+        return ScheduleLine::Unknown;
     };
     match event_of(pan, word, number) {
-        Some(event) => Line::Event(event),
-        None => Line::Unknown,
+        Some(event) => ScheduleLine::Event(event),
+        None => ScheduleLine::Unknown,
     }
 }

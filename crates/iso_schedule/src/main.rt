@@ -19,7 +19,7 @@ use anyhow::{Context, Result};
 use iso_acquirer::{Acquirer, Event, World};
 use iso_issuer::{Accounts, Issuer};
 use iso_order::Pan;
-use line::{Line, line_of};
+use line::{ScheduleLine, schedule_line};
 use std::alloc::Global;
 use std::io;
 use told::{tell, tell_refused};
@@ -55,11 +55,11 @@ fn play(rt: &HostRuntime, world: &mut World, pan: Pan, text: &str, event: &Event
 
 /// Plays what a line says.
 fn play_line(rt: &HostRuntime, world: &mut World, pan: Pan, text: &str) -> io::Result<()> {
-    let line = line_of(pan, text);
+    let line = schedule_line(pan, text);
     match &line {
-        Line::Said => println!(rt; "{text}"),
-        Line::Unknown => println!(rt; "{text:<12}  no event"),
-        Line::Event(event) => play(rt, world, pan, text, event),
+        ScheduleLine::Said => println!(rt; "{text}"),
+        ScheduleLine::Unknown => println!(rt; "{text:<12}  no event"),
+        ScheduleLine::Event(event) => play(rt, world, pan, text, event),
     }
 }
 

@@ -9,7 +9,7 @@ use std::collections::BTreeSet;
 const LIMIT: u32 = 30;
 
 /// The amount of a debit.
-fn debited(order: &Order) -> Option<i64> {
+fn debit_amount_of(order: &Order) -> Option<i64> {
     match order.act() {
         Act::Debit(money) => i64::try_from(money.amount).ok(),
         _ => None,
@@ -62,7 +62,7 @@ fn is_told(rt: &impl Abort, world: &World, key: TxKey, state: State) -> bool {
 }
 
 /// What the transactions take from the account: those that were granted, and whose reversal wasn't delivered.
-fn taken(rt: &impl Abort, world: &World) -> i64 {
+fn taken_total(rt: &impl Abort, world: &World) -> i64 {
     let mut taken: i64 = 0;
     let mut last = 0;
     for order in world.sent() {
@@ -70,8 +70,8 @@ fn taken(rt: &impl Abort, world: &World) -> i64 {
         // Trace numbers rise, and a repeat has its first one's.
         if key.stan > last {
             last = key.stan;
-            if let Some(amount) = debited(order) {
-                if stands(rt, world, key) {
+            if let Some(amount) = debit_amount_of(order) {
+                if is_standing(rt, world, key) {
                     taken = taken.saturating_add(amount);
                 }
             }
@@ -80,7 +80,7 @@ fn taken(rt: &impl Abort, world: &World) -> i64 {
     taken
 }
 
-fn stands(rt: &impl Abort, world: &World, key: TxKey) -> bool {
+fn is_standing(rt: &impl Abort, world: &World, key: TxKey) -> bool {
     let reversed = match undo_of(rt, world, key) {
         Some(undo) => code_of(rt, world, undo) == Some(0),
         None => false,
@@ -107,7 +107,7 @@ fn states(alloc: Global, world: &World) -> Result<Vec<Option<State>>, Fail> {
 }
 
 /// What comes of a timeout of a transaction in that state.
-fn asked(state: Option<State>) -> Result<(), StepFault> {
+fn timeout_result(state: Option<State>) -> Result<(), StepFault> {
     match state {
         None => Err(StepFault::Acquirer(AcqFault::NoSuch)),
         Some(state) => {
@@ -121,7 +121,7 @@ fn asked(state: Option<State>) -> Result<(), StepFault> {
 }
 
 /// What comes of a delivery from a list of that length.
-fn taken_from(len: usize, place: usize) -> Result<(), StepFault> {
+fn place_result(len: usize, place: usize) -> Result<(), StepFault> {
     if place < len {
         Ok(())
     } else {
@@ -130,12 +130,12 @@ fn taken_from(len: usize, place: usize) -> Result<(), StepFault> {
 }
 
 /// What comes of an event, as far as the lists and states tell; a full journal aside.
-fn expected(world: &World, event: &Event) -> Result<(), StepFault> {
+fn expected_result(world: &World, event: &Event) -> Result<(), StepFault> {
     match event {
         Event::Begin { .. } => Ok(()),
-        Event::Timeout(stan) => asked(world.acquirer().state(*stan)),
-        Event::Deliver(place) => taken_from(world.sent().len(), *place),
-        Event::Answer(place) => taken_from(world.given().len(), *place),
+        Event::Timeout(stan) => timeout_result(world.acquirer().state(*stan)),
+        Event::Deliver(place) => place_result(world.sent().len(), *place),
+        Event::Answer(place) => place_result(world.given().len(), *place),
         Event::Other(order) => {
             if order.key().acquirer == ID {
                 Err(StepFault::OwnKey)
@@ -165,7 +165,11 @@ fn agree(rt: &impl Abort, world: &World, before: &[Option<State>]) {
         if key.stan > last {
             last = key.stan;
             let state = world.acquirer().state(key.stan);
-            assert_eq!(rt; state.is_some(), debited(order).is_some(), "{key:?}");
+            assert_eq!(rt;
+                state.is_some(),
+                debit_amount_of(order).is_some(),
+                "{key:?}"
+            );
             if let Some(state) = state {
                 assert!(rt; is_told(rt, world, key, state), "{key:?} {state:?}");
                 if let Some(Some(earlier)) = before.get((key.stan as usize).saturating_sub(1)) {
@@ -185,7 +189,7 @@ fn make(rt: &impl Abort, alloc: Global, world: &mut World, event: &Event) -> Res
 {
     let before = states(alloc, world)?;
     let told_before = sizes(world)?;
-    let expected = expected(world, event);
+    let expected = expected_result(world, event);
     let told = step(world, event);
     if told == Err(StepFault::Issuer(Refused::Full)) {
         assert_eq!(rt;
@@ -218,7 +222,7 @@ fn close(world: &mut World, stan: u32) {
 }
 
 /// Whether all transactions are closed.
-fn all_closed(states: &[Option<State>]) -> bool {
+fn are_all_closed(states: &[Option<State>]) -> bool {
     states.iter().all(|state| match state {
         Some(state) => is_closed(*state),
         None => true,
@@ -226,7 +230,7 @@ fn all_closed(states: &[Option<State>]) -> bool {
 }
 
 /// The amounts of the approved transactions, added up.
-fn approved(world: &World) -> i64 {
+fn approved_total(world: &World) -> i64 {
     let mut approved: i64 = 0;
     let mut last = 0;
     for order in world.sent() {
@@ -234,7 +238,7 @@ fn approved(world: &World) -> i64 {
         if stan > last {
             last = stan;
             if world.acquirer().state(stan) == Some(State::Approved) {
-                if let Some(amount) = debited(order) {
+                if let Some(amount) = debit_amount_of(order) {
                     approved = approved.saturating_add(amount);
                 }
             }
@@ -245,7 +249,7 @@ fn approved(world: &World) -> i64 {
 
 /// Compares what is on the account with what was sent and given, where no other's orders are on it.
 fn balances(rt: &impl Abort, world: &World) -> Result<(), Fail> {
-    let ledger = Some(5000_i64.saturating_sub(taken(rt, world)));
+    let ledger = Some(5000_i64.saturating_sub(taken_total(rt, world)));
     assert_eq!(rt; world.issuer().ledger(account()?), ledger);
     assert_eq!(rt; world.issuer().available(account()?), ledger);
     Ok(())
@@ -260,8 +264,8 @@ fn settle(rt: &impl Abort, alloc: Global, world: &mut World, alone: bool) -> Res
     }
     let closed = states(alloc, world)?;
     agree(rt, world, closed.as_slice());
-    if all_closed(closed.as_slice()) && alone {
-        let left = Some(5000_i64.saturating_sub(approved(world)));
+    if are_all_closed(closed.as_slice()) && alone {
+        let left = Some(5000_i64.saturating_sub(approved_total(world)));
         assert_eq!(rt; world.issuer().ledger(account()?), left);
         assert_eq!(rt; world.issuer().available(account()?), left);
     }
@@ -273,7 +277,7 @@ fn settle(rt: &impl Abort, alloc: Global, world: &mut World, alone: bool) -> Res
         let _ = step(world, &Event::Answer(place));
     }
     agree(rt, world, closed.as_slice());
-    if all_closed(closed.as_slice()) {
+    if are_all_closed(closed.as_slice()) {
         assert_eq!(rt; world.issuer().ledger(account()?), ledger);
     }
     Ok(())

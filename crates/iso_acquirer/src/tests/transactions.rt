@@ -2,7 +2,7 @@
 use super::*;
 
 /// An acquirer that began a debit of 1000.
-fn begun(rt: &impl Abort, alloc: Global) -> Result<Acquirer, Fail> {
+fn acquirer_with_one(rt: &impl Abort, alloc: Global) -> Result<Acquirer, Fail> {
     let mut acquirer = Acquirer::new(alloc, ID);
     let money = Money {
         pan: account()?,
@@ -25,7 +25,7 @@ fn reversal() -> Result<Order, Fail> {
 
 #[test]
 fn begins_asks_again_and_reverses(rt: HostRuntime) -> Result<(), Fail> {
-    let mut acquirer = begun(&rt, rt.alloc())?;
+    let mut acquirer = acquirer_with_one(&rt, rt.alloc())?;
     assert_eq!(rt; acquirer.state(1), Some(State::Waiting(1)));
     let again = acquirer.timeout(1)?;
     assert_eq!(rt; again.key(), key(200, 1, ID));
@@ -40,7 +40,7 @@ fn begins_asks_again_and_reverses(rt: HostRuntime) -> Result<(), Fail> {
 
 #[test]
 fn knows_transactions_by_their_own_numbers(rt: HostRuntime) -> Result<(), Fail> {
-    let mut acquirer = begun(&rt, rt.alloc())?;
+    let mut acquirer = acquirer_with_one(&rt, rt.alloc())?;
     acquirer.timeout(1)?;
     acquirer.timeout(1)?;
     for stan in [0, 2, 3, 4_294_967_295] {
@@ -75,7 +75,7 @@ fn answers_while_waiting(rt: HostRuntime) -> Result<(), Fail> {
         ),
     ];
     for (key, code, state) in rows {
-        let mut acquirer = begun(&rt, rt.alloc())?;
+        let mut acquirer = acquirer_with_one(&rt, rt.alloc())?;
         acquirer.answer(key, code);
         assert_eq!(rt; acquirer.state(1), Some(state), "{key:?} {code}");
     }
@@ -93,7 +93,7 @@ fn answers_while_reversing(rt: HostRuntime) -> Result<(), Fail> {
         (key(420, 2, 777), 0, State::Reversing),
     ];
     for (key, code, state) in rows {
-        let mut acquirer = begun(&rt, rt.alloc())?;
+        let mut acquirer = acquirer_with_one(&rt, rt.alloc())?;
         acquirer.timeout(1)?;
         acquirer.timeout(1)?;
         acquirer.answer(key, code);
@@ -105,7 +105,7 @@ fn answers_while_reversing(rt: HostRuntime) -> Result<(), Fail> {
 #[test]
 fn closed_for_good(rt: HostRuntime) -> Result<(), Fail> {
     for (code, state) in [(0, State::Approved), (51, State::Declined(51))] {
-        let mut acquirer = begun(&rt, rt.alloc())?;
+        let mut acquirer = acquirer_with_one(&rt, rt.alloc())?;
         acquirer.answer(key(200, 1, ID), code);
         for later in [0, 21, 51, 94, 96] {
             acquirer.answer(key(200, 1, ID), later);

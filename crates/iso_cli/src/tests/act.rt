@@ -54,7 +54,11 @@ struct Case {
     faults: &'static [u8],
 }
 
-fn runs(rt: &(impl Abort + AllocGlobal), cases: &[Case], text: &'static [u8]) -> Result<(), Fail> {
+fn run_cases(
+    rt: &(impl Abort + AllocGlobal),
+    cases: &[Case],
+    text: &'static [u8],
+) -> Result<(), Fail> {
     for case in cases {
         let name = case.name;
         let source = OneFile { text };

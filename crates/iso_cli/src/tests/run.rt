@@ -114,7 +114,7 @@ struct Case {
     faults: &'static [u8],
 }
 
-fn joined(alloc: Global, pieces: &[&[u8]]) -> Result<Vec<u8>, Fail> {
+fn join(alloc: Global, pieces: &[&[u8]]) -> Result<Vec<u8>, Fail> {
     let mut bytes = Vec::new(alloc);
     for piece in pieces {
         bytes.extend_from_slice(piece)?;
@@ -142,11 +142,11 @@ fn act_over<R: Read + Drop>(
     (status, written, told)
 }
 
-fn runs(rt: &(impl Abort + AllocGlobal), cases: &[Case]) -> Result<(), Fail> {
-    runs_over(rt, &DOCUMENTS, cases)
+fn run_cases(rt: &(impl Abort + AllocGlobal), cases: &[Case]) -> Result<(), Fail> {
+    run_cases_over(rt, &DOCUMENTS, cases)
 }
 
-fn runs_over(
+fn run_cases_over(
     rt: &(impl Abort + AllocGlobal),
     documents: &Documents,
     cases: &[Case],
@@ -154,8 +154,8 @@ fn runs_over(
     let alloc = rt.alloc();
     for case in cases {
         let name = case.name;
-        let bytes = joined(alloc, case.input)?;
-        let wanted = joined(alloc, case.output)?;
+        let bytes = join(alloc, case.input)?;
+        let wanted = join(alloc, case.output)?;
         let words = ["run", "ascii87", "accounts.json", case.header];
         let (status, written, told) = act_over(alloc, documents, &words, bytes.as_slice());
         assert_eq!(rt; status, case.status, "{name}");

@@ -3,8 +3,8 @@
 
 use super::ends::{Reader, Writer};
 use super::frames::{
-    GRANTED, PURCHASE, REPEAT, REVERSAL, REVERSED, SECOND, SECOND_GRANTED, entries, issuer, joined,
-    ledger, served_between,
+    GRANTED, PURCHASE, REPEAT, REVERSAL, REVERSED, SECOND, SECOND_GRANTED, entries, issuer, join,
+    ledger, serving_end_between,
 };
 use crate::fault::{Report, ServeFault};
 use iso_issuer::Issuer;
@@ -75,7 +75,7 @@ impl Day {
 
 /// The frames of the day.
 fn frames(alloc: Global) -> Result<Vec<u8>, Fail> {
-    joined(
+    join(
         alloc,
         &[
             b"0082", PURCHASE, b"0082", REPEAT, b"0003abc", b"0082", SECOND, b"0101", REVERSAL,
@@ -85,7 +85,7 @@ fn frames(alloc: Global) -> Result<Vec<u8>, Fail> {
 
 /// The frames of the answers.
 fn answers(alloc: Global) -> Result<Vec<u8>, Fail> {
-    joined(
+    join(
         alloc,
         &[
             b"0090",
@@ -149,7 +149,7 @@ fn serve_day<'a>(
     let mut issuer = issuer(alloc)?;
     let mut reader = Reader::new(&day.frames, piece, failing.0);
     let mut writer = Writer::new(alloc, piece, failing.1)?;
-    let ended = served_between(
+    let ended = serving_end_between(
         alloc,
         &day.table,
         Header::Ascii4,
@@ -183,7 +183,7 @@ fn stands_as_written(run: &Run<'_>, day: &Day) -> Result<bool, Fail> {
 fn is_answered_again(alloc: Global, run: &mut Run<'_>, day: &Day) -> Result<bool, Fail> {
     let mut reader = Reader::new(&day.frames, 4096, 0);
     let mut writer = Writer::new(alloc, 4096, 0)?;
-    let ended = served_between(
+    let ended = serving_end_between(
         alloc,
         &day.table,
         Header::Ascii4,
@@ -197,14 +197,14 @@ fn is_answered_again(alloc: Global, run: &mut Run<'_>, day: &Day) -> Result<bool
 
 /// How the day ends where no call fails, or the first call whose failure has another end than it should have.
 #[derive(Clone, Copy, Debug, PartialEq, Eq)]
-enum Judged {
+enum DayEnd {
     Ended(Result<Report, ServeFault>),
     WrongAt(u32),
 }
 
 /// How the day ends where no call fails, and how many calls it takes.
 #[derive(Clone, Copy)]
-struct Whole {
+struct WholeDay {
     ended: Result<Report, ServeFault>,
     reads: u32,
     writes: u32,
@@ -212,9 +212,9 @@ struct Whole {
 }
 
 /// Serves the day where no call fails.
-fn serve_whole(alloc: Global, piece: usize, day: &Day) -> Result<Whole, Fail> {
+fn serve_whole(alloc: Global, piece: usize, day: &Day) -> Result<WholeDay, Fail> {
     let run = serve_day(alloc, day, piece, (0, 0), 1000)?;
-    Ok(Whole {
+    Ok(WholeDay {
         ended: run.ended,
         reads: run.reader.reads,
         writes: run.writer.writes,
@@ -248,36 +248,36 @@ fn ends_at_turn(alloc: Global, piece: usize, day: &Day, turns: u32) -> Result<bo
 }
 
 /// Serves the day with each of its reads failing in turn.
-fn each_read(alloc: Global, piece: usize, day: &Day) -> Result<Judged, Fail> {
+fn each_read(alloc: Global, piece: usize, day: &Day) -> Result<DayEnd, Fail> {
     let whole = serve_whole(alloc, piece, day)?;
     for failing in 1..=whole.reads {
         if !ends_at_read(alloc, piece, day, failing)? {
-            return Ok(Judged::WrongAt(failing));
+            return Ok(DayEnd::WrongAt(failing));
         }
     }
-    Ok(Judged::Ended(whole.ended))
+    Ok(DayEnd::Ended(whole.ended))
 }
 
 /// Serves the day with each of its writes and flushes failing in turn.
-fn each_write(alloc: Global, piece: usize, day: &Day) -> Result<Judged, Fail> {
+fn each_write(alloc: Global, piece: usize, day: &Day) -> Result<DayEnd, Fail> {
     let whole = serve_whole(alloc, piece, day)?;
     for failing in 1..=whole.writes.saturating_add(whole.flushes) {
         if !ends_at_write(alloc, piece, day, failing)? {
-            return Ok(Judged::WrongAt(failing));
+            return Ok(DayEnd::WrongAt(failing));
         }
     }
-    Ok(Judged::Ended(whole.ended))
+    Ok(DayEnd::Ended(whole.ended))
 }
 
 /// Serves the day with fewer turns than it takes, each number of them in turn.
-fn each_turn(alloc: Global, piece: usize, day: &Day) -> Result<Judged, Fail> {
+fn each_turn(alloc: Global, piece: usize, day: &Day) -> Result<DayEnd, Fail> {
     let whole = serve_whole(alloc, piece, day)?;
     for turns in 0..whole.reads.saturating_add(whole.writes) {
         if !ends_at_turn(alloc, piece, day, turns)? {
-            return Ok(Judged::WrongAt(turns));
+            return Ok(DayEnd::WrongAt(turns));
         }
     }
-    Ok(Judged::Ended(whole.ended))
+    Ok(DayEnd::Ended(whole.ended))
 }
 
 #[test]
@@ -285,7 +285,7 @@ fn each_read_fails(rt: HostRuntime) -> Result<(), Fail> {
     let day = Day::new(rt.alloc())?;
     for piece in 1..=day.frames.len().saturating_add(1) {
         let judged = each_read(rt.alloc(), piece, &day)?;
-        assert_eq!(rt; judged, Judged::Ended(Ok(WHOLE)), "{piece} bytes a call");
+        assert_eq!(rt; judged, DayEnd::Ended(Ok(WHOLE)), "{piece} bytes a call");
     }
     Ok(())
 }
@@ -295,7 +295,7 @@ fn each_write_and_flush_fails(rt: HostRuntime) -> Result<(), Fail> {
     let day = Day::new(rt.alloc())?;
     for piece in 1..=day.frames.len().saturating_add(1) {
         let judged = each_write(rt.alloc(), piece, &day)?;
-        assert_eq!(rt; judged, Judged::Ended(Ok(WHOLE)), "{piece} bytes a call");
+        assert_eq!(rt; judged, DayEnd::Ended(Ok(WHOLE)), "{piece} bytes a call");
     }
     Ok(())
 }
@@ -305,7 +305,7 @@ fn the_turns_are_spent(rt: HostRuntime) -> Result<(), Fail> {
     let day = Day::new(rt.alloc())?;
     for piece in [7, 64, 4096] {
         let judged = each_turn(rt.alloc(), piece, &day)?;
-        assert_eq!(rt; judged, Judged::Ended(Ok(WHOLE)), "{piece} bytes a call");
+        assert_eq!(rt; judged, DayEnd::Ended(Ok(WHOLE)), "{piece} bytes a call");
     }
     Ok(())
 }
@@ -318,10 +318,10 @@ fn serve_purchase(
     fails_at: u32,
 ) -> Result<(Option<ServeFault>, Vec<u8>), Fail> {
     let table = Table::ascii87(alloc)?;
-    let frame = joined(alloc, &[b"0082", PURCHASE])?;
+    let frame = join(alloc, &[b"0082", PURCHASE])?;
     let mut reader = Reader::new(&frame, 4096, 0);
     let mut writer = Writer::new(alloc, piece, fails_at)?;
-    let ended = served_between(
+    let ended = serving_end_between(
         alloc,
         &table,
         Header::Ascii4,
@@ -335,7 +335,7 @@ fn serve_purchase(
 
 #[test]
 fn an_answer_is_cut_and_comes_again(rt: HostRuntime) -> Result<(), Fail> {
-    let answer = joined(rt.alloc(), &[b"0090", GRANTED])?;
+    let answer = join(rt.alloc(), &[b"0090", GRANTED])?;
     let mut issuer = issuer(rt.alloc())?;
     let (cut, front) = serve_purchase(rt.alloc(), &mut issuer, 10, 2)?;
     assert_eq!(rt; cut, Some(ServeFault::Write));

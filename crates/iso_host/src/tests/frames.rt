@@ -53,7 +53,7 @@ pub const ECHOED: &[u8] = b"0810822000000200000004000000000000000102030405000001
 pub const ACCOUNTS: &[u8] =
     b"{\"accounts\":[{\"currency\":\"840\",\"opening\":5000,\"pan\":\"4111111111111111\"}]}";
 
-pub fn joined(alloc: Global, pieces: &[&[u8]]) -> Result<Vec<u8>, Fail> {
+pub fn join(alloc: Global, pieces: &[&[u8]]) -> Result<Vec<u8>, Fail> {
     let mut bytes = Vec::new(alloc);
     for piece in pieces {
         bytes.extend_from_slice(piece)?;
@@ -106,7 +106,7 @@ impl<'a> Session<'a> {
 /// What comes of it: how serving ends, what is written in how many writes, how often it is flushed, and the account's
 /// ledger and the number of entries then.
 #[derive(Drop)]
-pub struct Outcome {
+pub struct SessionEnd {
     pub ended: Result<Report, ServeFault>,
     pub written: Vec<u8>,
     /// The writes that were left.
@@ -117,18 +117,18 @@ pub struct Outcome {
 }
 
 /// How serving ends, frames behind four digits.
-pub fn served<R: Read + Drop, W: Write>(
+pub fn serving_end<R: Read + Drop, W: Write>(
     alloc: Global,
     issuer: &mut Issuer,
     reader: R,
     writer: &mut W,
     turns: u64,
 ) -> Result<Result<Report, ServeFault>, Fail> {
-    served_behind(alloc, Header::Ascii4, issuer, reader, writer, turns)
+    serving_end_behind(alloc, Header::Ascii4, issuer, reader, writer, turns)
 }
 
 /// How serving the reader ends, frames behind this header.
-fn served_behind<R: Read + Drop, W: Write>(
+fn serving_end_behind<R: Read + Drop, W: Write>(
     alloc: Global,
     header: Header,
     issuer: &mut Issuer,
@@ -139,7 +139,7 @@ fn served_behind<R: Read + Drop, W: Write>(
     let table = Table::ascii87(alloc)?;
     let mut input = Std::new(reader);
     let mut output = Std::new(writer);
-    served_between(
+    serving_end_between(
         alloc,
         &table,
         header,
@@ -151,7 +151,7 @@ fn served_behind<R: Read + Drop, W: Write>(
 }
 
 /// How serving between an inlet and an outlet ends.
-pub fn served_between<R: Inlet, W: Outlet>(
+pub fn serving_end_between<R: Inlet, W: Outlet>(
     alloc: Global,
     table: &Table,
     header: Header,
@@ -186,11 +186,11 @@ fn end_of(
         piece: session.piece,
         calls: session.reads,
     };
-    served_behind(alloc, session.header, issuer, reader, writer, session.turns)
+    serving_end_behind(alloc, session.header, issuer, reader, writer, session.turns)
 }
 
 /// Serves once. The tests call this alone, so that their proofs don't look through what a host and an issuer promise.
-pub fn serve_once(alloc: Global, session: Session<'_>) -> Result<Outcome, Fail> {
+pub fn serve_once(alloc: Global, session: Session<'_>) -> Result<SessionEnd, Fail> {
     let mut issuer = if session.is_small {
         small_issuer(alloc)?
     } else {
@@ -198,7 +198,7 @@ pub fn serve_once(alloc: Global, session: Session<'_>) -> Result<Outcome, Fail> 
     };
     let mut writer = FewTaken::new(alloc, session.taken, session.writes, session.fails_to_flush);
     let ended = end_of(alloc, &mut issuer, session, &mut writer)?;
-    Ok(Outcome {
+    Ok(SessionEnd {
         ended,
         left: writer.calls,
         flushes: writer.flushes,

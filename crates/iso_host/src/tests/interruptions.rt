@@ -1,6 +1,6 @@
 //! Calls that the system interrupts.
 
-use super::frames::{ECHO, ECHOED, issuer, joined, served};
+use super::frames::{ECHO, ECHOED, issuer, join, serving_end};
 use crate::fakes::{FewBytes, FewTaken, Interrupted};
 use crate::standard::Std;
 use crate::streams::{Failed, Inlet, Outlet};
@@ -77,8 +77,8 @@ fn an_interrupted_flush_is_made_again(rt: HostRuntime) {
 #[test]
 fn an_interruption_takes_no_turn(rt: HostRuntime) -> Result<(), Fail> {
     let alloc = rt.alloc();
-    let input = joined(alloc, &[b"0055", ECHO])?;
-    let wanted = joined(alloc, &[b"0057", ECHOED])?;
+    let input = join(alloc, &[b"0055", ECHO])?;
+    let wanted = join(alloc, &[b"0057", ECHOED])?;
     let mut issuer = issuer(alloc)?;
     let reader = Interrupted {
         stream: FewBytes {
@@ -92,7 +92,7 @@ fn an_interruption_takes_no_turn(rt: HostRuntime) -> Result<(), Fail> {
         stream: FewTaken::new(alloc, 5000, 1, false),
         times: 2,
     };
-    let ended = served(alloc, &mut issuer, reader, &mut writer, 3)?;
+    let ended = serving_end(alloc, &mut issuer, reader, &mut writer, 3)?;
     assert_eq!(rt; ended.map(|report| report.answered), Ok(1));
     assert_eq!(rt; writer.stream.taken.as_slice(), wanted.as_slice());
     assert_eq!(rt; writer.stream.flushes, 1);

@@ -1,7 +1,7 @@
 //! Bodies that are no message, and frames that come piece by piece.
 
 use super::frames::{
-    ECHO, ECHOED, GRANTED, Outcome, PURCHASE, REPEAT, Session, joined, serve_once,
+    ECHO, ECHOED, GRANTED, PURCHASE, REPEAT, Session, SessionEnd, join, serve_once,
 };
 use crate::fault::{Report, ServeFault};
 use iso_wire::Header;
@@ -9,7 +9,7 @@ use std::alloc::Global;
 use std::test::Fail;
 
 /// What comes of these frames, where a read gives so many bytes.
-fn pieced(alloc: Global, input: &[u8], piece: usize) -> Result<Outcome, Fail> {
+fn session_in_pieces(alloc: Global, input: &[u8], piece: usize) -> Result<SessionEnd, Fail> {
     let session = Session {
         piece,
         ..Session::new(input)
@@ -18,7 +18,7 @@ fn pieced(alloc: Global, input: &[u8], piece: usize) -> Result<Outcome, Fail> {
 }
 
 /// What comes of frames behind two bytes, where a read gives so many bytes.
-fn pieced_behind_two(alloc: Global, input: &[u8], piece: usize) -> Result<Outcome, Fail> {
+fn session_behind_two(alloc: Global, input: &[u8], piece: usize) -> Result<SessionEnd, Fail> {
     let session = Session {
         header: Header::Binary2,
         piece,
@@ -47,9 +47,9 @@ fn an_unreadable_body_alone(rt: HostRuntime) -> Result<(), Fail> {
             b"0800822000000000000004000000000000000102030405000001301XYZ",
         ),
     ] {
-        let input = joined(alloc, &[header, body])?;
+        let input = join(alloc, &[header, body])?;
         for piece in [1usize, 7, 59, 5000] {
-            let outcome = pieced(alloc, &input, piece)?;
+            let outcome = session_in_pieces(alloc, &input, piece)?;
             assert_eq!(rt;
                 outcome.ended,
                 Ok(unreadable),
@@ -74,7 +74,7 @@ fn the_next_frame_is_answered(rt: HostRuntime) -> Result<(), Fail> {
         silent: 0,
         unreadable: 1,
     };
-    let wanted = joined(alloc, &[b"0057", ECHOED])?;
+    let wanted = join(alloc, &[b"0057", ECHOED])?;
     for (name, header, body) in [
         ("behind no bytes", b"0000".as_slice(), b"".as_slice()),
         ("behind a message type with a letter", b"0006", b"08A0xy"),
@@ -85,9 +85,9 @@ fn the_next_frame_is_answered(rt: HostRuntime) -> Result<(), Fail> {
             b"0800822000000000000004000000000000000102030405000001301XYZ",
         ),
     ] {
-        let input = joined(alloc, &[header, body, b"0055", ECHO])?;
+        let input = join(alloc, &[header, body, b"0055", ECHO])?;
         for piece in [1usize, 7, 59, 5000] {
-            let outcome = pieced(alloc, &input, piece)?;
+            let outcome = session_in_pieces(alloc, &input, piece)?;
             assert_eq!(rt; outcome.ended, Ok(both), "{name}, {piece} bytes a read");
             assert_eq!(rt;
                 outcome.written.as_slice(),
@@ -102,8 +102,8 @@ fn the_next_frame_is_answered(rt: HostRuntime) -> Result<(), Fail> {
 #[test]
 fn a_purchase_behind_an_unreadable_body(rt: HostRuntime) -> Result<(), Fail> {
     let alloc = rt.alloc();
-    let input = joined(alloc, &[b"0003abc0082", PURCHASE])?;
-    let wanted = joined(alloc, &[b"0090", GRANTED])?;
+    let input = join(alloc, &[b"0003abc0082", PURCHASE])?;
+    let wanted = join(alloc, &[b"0090", GRANTED])?;
     let report = Report {
         frames: 2,
         answered: 1,
@@ -111,7 +111,7 @@ fn a_purchase_behind_an_unreadable_body(rt: HostRuntime) -> Result<(), Fail> {
         unreadable: 1,
     };
     for piece in [1usize, 5, 5000] {
-        let outcome = pieced(alloc, &input, piece)?;
+        let outcome = session_in_pieces(alloc, &input, piece)?;
         assert_eq!(rt; outcome.ended, Ok(report), "{piece} bytes a read");
         assert_eq!(rt;
             outcome.written.as_slice(),
@@ -125,25 +125,25 @@ fn a_purchase_behind_an_unreadable_body(rt: HostRuntime) -> Result<(), Fail> {
 #[test]
 fn a_purchase_a_repeat_and_a_reversal(rt: HostRuntime) -> Result<(), Fail> {
     let alloc = rt.alloc();
-    let reversal = joined(
+    let reversal = join(
         alloc,
         &[
             b"0420822000010000000000000040000000000102030500000008",
             b"0512345020000000701020304050000001234500000000000",
         ],
     )?;
-    let reversed = joined(
+    let reversed = join(
         alloc,
         &[
             b"0430822000010200000000000040000000000102030500000008",
             b"051234500020000000701020304050000001234500000000000",
         ],
     )?;
-    let input = joined(
+    let input = join(
         alloc,
         &[b"0082", PURCHASE, b"0082", REPEAT, b"0101", &reversal],
     )?;
-    let wanted = joined(
+    let wanted = join(
         alloc,
         &[b"0090", GRANTED, b"0090", GRANTED, b"0103", &reversed],
     )?;
@@ -154,7 +154,7 @@ fn a_purchase_a_repeat_and_a_reversal(rt: HostRuntime) -> Result<(), Fail> {
         unreadable: 0,
     };
     for piece in [1usize, 5000] {
-        let outcome = pieced(alloc, &input, piece)?;
+        let outcome = session_in_pieces(alloc, &input, piece)?;
         assert_eq!(rt; outcome.ended, Ok(report), "{piece} bytes a read");
         assert_eq!(rt;
             outcome.written.as_slice(),
@@ -172,7 +172,7 @@ fn the_longest_body(rt: HostRuntime) -> Result<(), Fail> {
         let mut input = vec![in alloc; byte; 65_537]?;
         input[0] = 0xFF;
         input[1] = 0xFF;
-        let outcome = pieced_behind_two(alloc, &input, 5000)?;
+        let outcome = session_behind_two(alloc, &input, 5000)?;
         let report = Report {
             frames: 1,
             answered: 0,
@@ -195,7 +195,7 @@ fn a_long_body_is_cut(rt: HostRuntime) -> Result<(), Fail> {
         ("no byte", b"\xFF\xFF"),
         ("half a header", b"\xFF"),
     ] {
-        let outcome = pieced_behind_two(alloc, input, 3)?;
+        let outcome = session_behind_two(alloc, input, 3)?;
         assert_eq!(rt; outcome.ended, Err(ServeFault::CutFrame), "{name}");
         assert_eq!(rt; outcome.written.as_slice(), b"".as_slice(), "{name}");
     }

@@ -1,19 +1,19 @@
 //! Streams of frames whose bytes are known from outside.
 
-use super::frames::{ECHO, ECHOED, GRANTED, PURCHASE, REPEAT, Session, joined, serve_once};
+use super::frames::{ECHO, ECHOED, GRANTED, PURCHASE, REPEAT, Session, join, serve_once};
 use crate::fault::{Report, ServeFault};
 use std::test::Fail;
 
 #[test]
 fn serves_in_pieces_of_any_size(rt: HostRuntime) -> Result<(), Fail> {
     let alloc = rt.alloc();
-    let input = joined(
+    let input = join(
         alloc,
         &[
             b"0082", PURCHASE, b"0082", REPEAT, b"0090", GRANTED, b"0003abc", b"0055", ECHO,
         ],
     )?;
-    let wanted = joined(
+    let wanted = join(
         alloc,
         &[b"0090", GRANTED, b"0090", GRANTED, b"0057", ECHOED],
     )?;
@@ -45,7 +45,7 @@ fn serves_in_pieces_of_any_size(rt: HostRuntime) -> Result<(), Fail> {
 #[test]
 fn writes_a_response_at_once(rt: HostRuntime) -> Result<(), Fail> {
     let alloc = rt.alloc();
-    let input = joined(alloc, &[b"0055", ECHO])?;
+    let input = join(alloc, &[b"0055", ECHO])?;
     let session = Session {
         reads: 2,
         writes: 1,
@@ -167,8 +167,8 @@ const ENDINGS: [Ending; 8] = [
 #[test]
 fn ends_where_a_stream_does(rt: HostRuntime) -> Result<(), Fail> {
     for case in &ENDINGS {
-        let input = joined(rt.alloc(), case.sent)?;
-        let written = joined(rt.alloc(), case.written)?;
+        let input = join(rt.alloc(), case.sent)?;
+        let written = join(rt.alloc(), case.written)?;
         let session = Session {
             piece: 200,
             reads: case.reads,
@@ -193,7 +193,7 @@ fn ends_where_a_stream_does(rt: HostRuntime) -> Result<(), Fail> {
 #[test]
 fn a_failing_flush_is_a_failing_write(rt: HostRuntime) -> Result<(), Fail> {
     let alloc = rt.alloc();
-    let input = joined(alloc, &[b"0055", ECHO])?;
+    let input = join(alloc, &[b"0055", ECHO])?;
     let session = Session {
         reads: 9,
         writes: 9,
@@ -237,13 +237,13 @@ fn a_full_journal_answers_ninety_six(rt: HostRuntime) -> Result<(), Fail> {
         b"0200722000010000800016411111111111111100000000000000100001020304050000110512345840";
     let third_refused: &[u8] =
         b"021072200001020080001641111111111111110000000000000010000102030405000011051234596840";
-    let input = joined(
+    let input = join(
         alloc,
         &[
             b"0082", PURCHASE, b"0082", second, b"0082", third, b"0082", REPEAT,
         ],
     )?;
-    let wanted = joined(
+    let wanted = join(
         alloc,
         &[
             b"0090",

@@ -1,15 +1,15 @@
 //! Each frame is answered before the next is read, and reads and writes are counted.
 
-use super::frames::{ECHO, ECHOED, Session, joined, serve_once};
+use super::frames::{ECHO, ECHOED, Session, join, serve_once};
 use crate::fault::{Report, ServeFault};
 use std::test::Fail;
 
 #[test]
 fn answers_a_frame_before_it_reads_the_next(rt: HostRuntime) -> Result<(), Fail> {
     let alloc = rt.alloc();
-    let input = joined(alloc, &[b"0055", ECHO, b"0055", ECHO])?;
-    let one = joined(alloc, &[b"0057", ECHOED])?;
-    let two = joined(alloc, &[b"0057", ECHOED, b"0057", ECHOED])?;
+    let input = join(alloc, &[b"0055", ECHO, b"0055", ECHO])?;
+    let one = join(alloc, &[b"0057", ECHOED])?;
+    let two = join(alloc, &[b"0057", ECHOED, b"0057", ECHOED])?;
     let none: &[u8] = b"";
     let both = Report {
         frames: 2,

@@ -1,9 +1,9 @@
-use Rattle.iso_cli.proofs.ConnectionLemmas.{going_more, going_none, serves_some, told_off, told_on}
+use Rattle.iso_cli.proofs.ConnectionLemmas.{so_far_more, so_far_none, serves_some, told_off, told_on}
 use Rattle.iso_cli.proofs.connections.serve_connections.Goals as goal
 
 pub loop-init : goal.loop-init
 loop-init g c =
-    going_none c.args.table.now c.args.issuer.now (g.O.Outlet.contents c.args.output.now) (g.F.Outlet.contents c.args.faults.now) c.one_journal.ensures.none
+    so_far_none c.args.table.now c.args.issuer.now (g.O.Outlet.contents c.args.output.now) (g.F.Outlet.contents c.args.faults.now) c.one_journal.ensures.none
 
 pub returns-then-status-ne0 : goal.returns-then-status-ne0
 returns-then-status-ne0 g c =
@@ -24,7 +24,7 @@ loop-preserved g c =
     let later = g.O.Outlet.contents c.tell_end-status.new.output in
     let told = g.F.Outlet.contents c.loop.faults in
     let then_told = g.F.Outlet.contents c.tell_end-status.new.faults in
-    going_more c.one_journal.ensures.more c.args.table.now c.args.issuer.now c.loop.issuer c.serve_next-ended.new.issuer c.loop.counter
+    so_far_more c.one_journal.ensures.more c.args.table.now c.args.issuer.now c.loop.issuer c.serve_next-ended.new.issuer c.loop.counter
     (g.O.Outlet.contents c.args.output.now) written later (g.F.Outlet.contents c.args.faults.now) told then_told
     c.serve_next-ended.result c.loop.invariant c.serve_next-ended.ensures
     (told_on written later told then_told c.serve_next-ended.result c.tell_end-status.result c.tell_end-status.ensures.told c.if-status-ne0.false)

@@ -3,8 +3,8 @@ use Rattle.std.specs.Prelude.{Ok}
 use Rattle.iso_table.specs.Layout.{Layout}
 use Rattle.iso_issuer.specs.declared.account.Account.{Account}
 use Rattle.iso_issuer.specs.Books.{Books}
-use Rattle.iso_host.specs.Served.{Outcome}
-use Rattle.iso_cli.specs.Runs.{fresh_books}
+use Rattle.iso_host.specs.Serving.{Leaves}
+use Rattle.iso_cli.specs.Run.{fresh_books}
 use Rattle.iso_cli.proofs.RunLemmas.{runs_over}
 use Rattle.iso_cli.proofs.run.run.Goals as goal
 
@@ -16,7 +16,7 @@ returns-in-Ok g c =
     let left = g.I.Inlet.remaining c.serve.new.reader in
     let held = g.O.Outlet.contents c.args.output.now in
     let written = g.O.Outlet.contents c.serve.new.writer in
-    let whole : Outcome table c.args.header unread left held written (fresh_books accounts) c.serve.new.issuer (Ok c.in-Ok.report) =
-    subst (λ (b : Books). Outcome table c.args.header unread left held written b c.serve.new.issuer (Ok c.in-Ok.report)) c.new-issuer.ensures c.in-Ok.ensures.outcome in
+    let whole : Leaves table c.args.header unread left held written (fresh_books accounts) c.serve.new.issuer (Ok c.in-Ok.report) =
+    subst (λ (b : Books). Leaves table c.args.header unread left held written b c.serve.new.issuer (Ok c.in-Ok.report)) c.new-issuer.ensures c.in-Ok.ensures.outcome in
     runs_over (g.S.Source.file c.args.source.now) c.args.table.now c.args.accounts.now table accounts c.args.header unread left held written
     c.serve.new.issuer whole.0 whole.1 c.in_ok-table.ensures.named c.in_ok-table.ensures.ready c.in_ok-accounts.ensures whole.2 whole.4.0 whole.4.1

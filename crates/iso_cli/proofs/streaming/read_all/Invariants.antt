@@ -1,6 +1,6 @@
 use Rattle.std.proofs.Common.{◌≡◌, ◌+◌, ◌≤◌, vec_len}
 use Rattle.std.specs.Io.KnownBytes.{Consumes}
-use Rattle.iso_cli.specs.Inputs.{Gave}
+use Rattle.iso_cli.specs.Streaming.{Gave}
 use Rattle.iso_cli.proofs.streaming.read_all.Given as goal
 
 abbrev pub invariant-loop : goal.invariant-loop

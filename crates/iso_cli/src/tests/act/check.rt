@@ -1,6 +1,6 @@
 //! Good tables, and tables that are refused.
 
-use super::{Case, TERMINALS, runs};
+use super::{Case, TERMINALS, run_cases};
 use std::test::Fail;
 
 #[test]
@@ -63,7 +63,7 @@ fn a_table_is_checked(rt: HostRuntime) -> Result<(), Fail> {
             faults: b"command line refused\n",
         },
     ];
-    runs(&rt, &cases, TERMINALS)
+    run_cases(&rt, &cases, TERMINALS)
 }
 
 /// Chip data in hexadecimal digits, behind four digits of a length.
@@ -91,7 +91,7 @@ fn four_digits_of_a_length_are_checked_and_shown(rt: HostRuntime) -> Result<(), 
             faults: b"",
         },
     ];
-    runs(&rt, &cases, CHIP)
+    run_cases(&rt, &cases, CHIP)
 }
 
 #[test]
@@ -210,7 +210,7 @@ fn a_table_is_refused(rt: HostRuntime) -> Result<(), Fail> {
             output: b"",
             faults,
         };
-        runs(&rt, &[case], text)?;
+        run_cases(&rt, &[case], text)?;
     }
     Ok(())
 }

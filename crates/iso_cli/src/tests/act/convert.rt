@@ -1,6 +1,6 @@
 //! Messages under another table.
 
-use super::{Case, ECHO_TEST, TERMINALS, runs};
+use super::{Case, ECHO_TEST, TERMINALS, run_cases};
 use std::test::Fail;
 
 const ECHO_TEST_BCD: &[u8] =
@@ -66,5 +66,5 @@ fn a_message_is_converted(rt: HostRuntime) -> Result<(), Fail> {
             faults: b"failed: File\n",
         },
     ];
-    runs(&rt, &cases, TERMINALS)
+    run_cases(&rt, &cases, TERMINALS)
 }

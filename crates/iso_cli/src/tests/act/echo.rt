@@ -1,6 +1,6 @@
 //! Messages and their answers.
 
-use super::{Case, ECHO_TEST, PAYMENT, TERMINALS, runs};
+use super::{Case, ECHO_TEST, PAYMENT, TERMINALS, run_cases};
 use std::test::Fail;
 
 #[test]
@@ -89,7 +89,7 @@ fn the_echo_answers(rt: HostRuntime) -> Result<(), Fail> {
             faults: b"",
         },
     ];
-    runs(&rt, &cases, TERMINALS)
+    run_cases(&rt, &cases, TERMINALS)
 }
 
 #[test]
@@ -120,5 +120,5 @@ fn a_message_is_refused(rt: HostRuntime) -> Result<(), Fail> {
             faults: b"refused: unpack WrongVersion element 0 at 0\n",
         },
     ];
-    runs(&rt, &cases, TERMINALS)
+    run_cases(&rt, &cases, TERMINALS)
 }

@@ -1,6 +1,6 @@
 //! Messages for human eyes.
 
-use super::{Case, PAYMENT, TERMINALS, runs};
+use super::{Case, PAYMENT, TERMINALS, run_cases};
 use std::test::Fail;
 
 #[test]
@@ -107,7 +107,7 @@ fn a_message_is_shown(rt: HostRuntime) -> Result<(), Fail> {
             faults: b"",
         },
     ];
-    runs(&rt, &cases, TERMINALS)
+    run_cases(&rt, &cases, TERMINALS)
 }
 
 #[test]
@@ -178,5 +178,5 @@ fn a_message_is_refused(rt: HostRuntime) -> Result<(), Fail> {
             faults: b"refused: unpack NotInClass element 70 at 26\n",
         },
     ];
-    runs(&rt, &cases, TERMINALS)
+    run_cases(&rt, &cases, TERMINALS)
 }

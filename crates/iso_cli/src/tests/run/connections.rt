@@ -43,20 +43,20 @@ fn answers(alloc: Global, peer: &mut TcpStream) -> Result<Vec<u8>, Fail> {
 }
 
 /// Compares what a peer is answered.
-fn gets(
+fn check_answers(
     rt: &(impl Abort + AllocGlobal),
     answered: &[u8],
     wanted: &[&[u8]],
     name: &str,
 ) -> Result<(), Fail> {
-    let wanted = joined(rt.alloc(), wanted)?;
+    let wanted = join(rt.alloc(), wanted)?;
     assert_eq!(rt; answered, wanted.as_slice(), "{name}");
     Ok(())
 }
 
 /// What is told of so many connections: the output, the fault stream and the status. Then how many orders are entered.
 #[derive(Drop)]
-struct Ended {
+struct ConnectionsEnd {
     output: Vec<u8>,
     faults: Vec<u8>,
     status: u8,
@@ -95,7 +95,7 @@ fn serve(
     listener: &TcpListener,
     serving: &mut Serving,
     count: u32,
-) -> Result<Ended, Fail> {
+) -> Result<ConnectionsEnd, Fail> {
     let mut output = Vec::new(alloc);
     let mut faults = Vec::new(alloc);
     let status = status_of(alloc, listener, serving, count, &mut output, &mut faults)?;
@@ -103,7 +103,7 @@ fn serve(
     if status == 3 && faults.ends_with(b"failed: Memory\n") {
         return Err(Fail::from(AllocError));
     }
-    Ok(Ended {
+    Ok(ConnectionsEnd {
         output,
         faults,
         status,
@@ -117,20 +117,20 @@ fn serve_first(
     listener: &TcpListener,
     header: &str,
     count: u32,
-) -> Result<Ended, Fail> {
+) -> Result<ConnectionsEnd, Fail> {
     let mut serving = serving(alloc, header)?;
     serve(alloc, listener, &mut serving, count)
 }
 
 /// Compares the lines of a host whose status is 0, and those of its fault stream.
-fn tells(
+fn check_told(
     rt: &(impl Abort + AllocGlobal),
-    ended: &Ended,
+    ended: &ConnectionsEnd,
     lines: &[&[u8]],
     faults: &[u8],
     name: &str,
 ) -> Result<(), Fail> {
-    let lines = joined(rt.alloc(), lines)?;
+    let lines = join(rt.alloc(), lines)?;
     assert_eq!(rt; ended.status, 0, "{name}");
     assert_eq!(rt; ended.output.as_slice(), lines.as_slice(), "{name}");
     assert_eq!(rt; ended.faults.as_slice(), faults, "{name}");

@@ -43,10 +43,10 @@ fn streams_that_fail_end_it(rt: HostRuntime) -> Result<(), Fail> {
             faults: b"",
         },
     ];
-    let framed = joined(alloc, &[b"0082", PURCHASE])?;
+    let framed = join(alloc, &[b"0082", PURCHASE])?;
     for case in &cases {
         let name = case.name;
-        let wanted = joined(alloc, case.output)?;
+        let wanted = join(alloc, case.output)?;
         let mut input = Std::new(FewBytes {
             bytes: &framed,
             piece: 4096,

@@ -94,5 +94,5 @@ fn other_frames_get_no_answer(rt: HostRuntime) -> Result<(), Fail> {
             faults: b"refused: CutFrame\n",
         },
     ];
-    runs(&rt, &cases)
+    run_cases(&rt, &cases)
 }

@@ -57,7 +57,7 @@ fn an_inquiry_shows_twelve_digits(rt: HostRuntime) -> Result<(), Fail> {
             output: case.output,
             faults: b"frames=2 answered=2 silent=0 unreadable=0\n",
         };
-        runs_over(&rt, &documents, &[asked_twice])?;
+        run_cases_over(&rt, &documents, &[asked_twice])?;
     }
     Ok(())
 }

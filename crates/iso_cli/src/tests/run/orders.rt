@@ -103,5 +103,5 @@ fn orders_are_entered_once_and_answered(rt: HostRuntime) -> Result<(), Fail> {
             faults: b"frames=1 answered=1 silent=0 unreadable=0\n",
         },
     ];
-    runs(&rt, &cases)
+    run_cases(&rt, &cases)
 }

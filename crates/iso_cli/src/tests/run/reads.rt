@@ -6,8 +6,8 @@ use crate::fakes::{FewBytes, FewTaken};
 #[test]
 fn reads_may_cut_frames_anywhere(rt: HostRuntime) -> Result<(), Fail> {
     let alloc = rt.alloc();
-    let framed = joined(alloc, &[b"0082", PURCHASE, b"0082", CHANGED])?;
-    let wanted = joined(alloc, &[b"0090", GRANTED, b"0084", ANOTHER])?;
+    let framed = join(alloc, &[b"0082", PURCHASE, b"0082", CHANGED])?;
+    let wanted = join(alloc, &[b"0090", GRANTED, b"0084", ANOTHER])?;
     // the bytes that a read gives, and the reads that it takes with the last one, which gives none
     for (name, piece, reads) in [
         ("both frames in one read", 4096usize, 2u32),

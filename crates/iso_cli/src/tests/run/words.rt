@@ -5,7 +5,7 @@ use crate::fakes::FewBytes;
 
 /// Words and documents that are refused before the input is read.
 #[derive(Drop)]
-struct Refused {
+struct RefusedWords {
     name: &'static str,
     words: [&'static str; 4],
     accounts: &'static [u8],
@@ -21,70 +21,70 @@ fn words_and_documents_are_refused_in_order(rt: HostRuntime) -> Result<(), Fail>
     let most: &[u8] =
         b"{\"accounts\":[{\"currency\":\"840\",\"opening\":9000000000000001,\"pan\":\"1\"}]}";
     let cases = [
-        Refused {
+        RefusedWords {
             name: "no such header, and no such files",
             words: ["run", "none.json", "none.json", "ascii2"],
             accounts: b"",
             status: 2,
             faults: b"command line refused\n",
         },
-        Refused {
+        RefusedWords {
             name: "an option in the place of the accounts",
             words: ["run", "ascii87", "--accounts", "ascii4"],
             accounts: b"",
             status: 2,
             faults: b"command line refused\n",
         },
-        Refused {
+        RefusedWords {
             name: "no such table",
             words: ["run", "none.json", "accounts.json", "ascii4"],
             accounts: b"{",
             status: 3,
             faults: b"failed: File\n",
         },
-        Refused {
+        RefusedWords {
             name: "accounts in the place of the table",
             words: ["run", "accounts.json", "accounts.json", "ascii4"],
             accounts: b"{",
             status: 1,
             faults: b"refused: table NotJson\n",
         },
-        Refused {
+        RefusedWords {
             name: "a table without an account number, before bad accounts",
             words: ["run", "table.json", "accounts.json", "ascii4"],
             accounts: b"{",
             status: 1,
             faults: b"refused: host NoRow element 2\n",
         },
-        Refused {
+        RefusedWords {
             name: "no such accounts",
             words: ["run", "bcd87", "none.json", "ascii4"],
             accounts: b"",
             status: 3,
             faults: b"failed: File\n",
         },
-        Refused {
+        RefusedWords {
             name: "accounts that are no JSON",
             words: ["run", "ascii87", "accounts.json", "ascii4"],
             accounts: b"{",
             status: 1,
             faults: b"refused: accounts NotJson\n",
         },
-        Refused {
+        RefusedWords {
             name: "accounts of another shape",
             words: ["run", "ascii87", "accounts.json", "ascii4"],
             accounts: b"{}",
             status: 1,
             faults: b"refused: accounts Shape\n",
         },
-        Refused {
+        RefusedWords {
             name: "an account twice",
             words: ["run", "ascii87", "accounts.json", "ascii4"],
             accounts: twice,
             status: 1,
             faults: b"refused: accounts Twice 1\n",
         },
-        Refused {
+        RefusedWords {
             name: "an amount out of range",
             words: ["run", "ascii87", "accounts.json", "ascii4"],
             accounts: most,

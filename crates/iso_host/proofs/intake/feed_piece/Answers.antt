@@ -2,7 +2,7 @@ use Rattle.std.proofs.Common.{◌≡◌, ◌≢◌, ◌+◌, ◌++◌, ℕ, [], 
 use Rattle.iso_wire.specs.declared.fault.UnpackFault.{UnpackFault}
 use Rattle.iso_wire.specs.Unpacker.{Feeding}
 use Rattle.iso_host.proofs.BodyLemmas.{bytes_append, body_short, body_faulty, body_whole, body_longer, no_other}
-use Rattle.iso_host.specs.Bodies.{IsRest}
+use Rattle.iso_host.specs.Intake.{IsRest}
 use Rattle.iso_host.proofs.intake.feed_piece.Goals.{else-is_last-via-then-is_last+else-used-piece, else-is_last-via-else-is_last}
 use Rattle.iso_host.proofs.intake.feed_piece.Goals as goal
 

@@ -1,5 +1,5 @@
 use Rattle.std.proofs.Common.{◌≤◌, length, ap, arith}
-use Rattle.iso_host.proofs.PieceLemmas.{sofar_here, sofar_kept, sofar_ends, draws_refill}
+use Rattle.iso_host.proofs.PieceLemmas.{sofar_here, sofar_kept, sofar_ends, reads_refill}
 use Rattle.iso_host.proofs.reading.pass_over.Goals as goal
 
 pub returns-then-wanted-eq0-clause-bytes : goal.returns-then-wanted-eq0-clause-bytes
@@ -14,7 +14,7 @@ pieces-preserved g c =
     record {
       taken = sofar_kept _ _ _ _ _ so c.in_default.ensures.kept;
       turns = omega (arith, c.pieces.invariant.turns, c.in_default.ensures.turns);
-      draws = draws_refill _ _ _ _ _ _ _ _ _ _ _ _ _ c.pieces.invariant.draws room c.pass.ensures c.in_default.ensures.spent (omega (arith, c.pieces.invariant.taken.sum, c.min-here.ensures));
+      reads = reads_refill _ _ _ _ _ _ _ _ _ _ _ _ _ c.pieces.invariant.reads room c.pass.ensures c.in_default.ensures.spent (omega (arith, c.pieces.invariant.taken.sum, c.min-here.ensures));
     }
 
 pub returns-in-Err-clause-bytes : goal.returns-in-Err-clause-bytes

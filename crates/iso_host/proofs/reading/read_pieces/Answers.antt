@@ -1,6 +1,6 @@
 use Rattle.std.proofs.Common.{◌≤◌, length, ap, refl, arith}
 use Rattle.iso_wire.specs.Unpacker.{Feeding}
-use Rattle.iso_host.proofs.PieceLemmas.{body_here, body_known, body_ends, body_more, more_wanted, refill_ends, draws_refill}
+use Rattle.iso_host.proofs.PieceLemmas.{body_here, body_known, body_ends, body_more, more_wanted, refill_ends, reads_refill}
 use Rattle.iso_host.proofs.reading.read_pieces.Goals as goal
 
 pub returns-in-Err-clause-bytes : goal.returns-in-Err-clause-bytes
@@ -37,5 +37,5 @@ pieces-preserved g c =
     record {
       body = body_more _ _ _ _ _ _ _ _ here.0 here.1 e.kept told.1 told.2;
       turns = omega (arith, c.pieces.invariant.turns, e.turns);
-      draws = draws_refill _ _ _ _ _ _ _ _ _ _ _ _ _ c.pieces.invariant.draws room c.pass.ensures e.spent (omega (arith, c.pieces.invariant.body.sum, c.min-here.ensures));
+      reads = reads_refill _ _ _ _ _ _ _ _ _ _ _ _ _ c.pieces.invariant.reads room c.pass.ensures e.spent (omega (arith, c.pieces.invariant.body.sum, c.min-here.ensures));
     }

@@ -5,8 +5,8 @@ use Rattle.iso_table.specs.Layout.{Layout}
 use Rattle.iso_wire.specs.declared.header.Header.{Header}
 use Rattle.iso_wire.specs.Contents.{Contents}
 use Rattle.iso_issuer.specs.Books.{Books}
-use Rattle.iso_host.specs.Handled.{EntersOrKeeps}
-use Rattle.iso_host.specs.Serving.{AnswersPart}
+use Rattle.iso_host.specs.Handling.{EntersOrKeeps}
+use Rattle.iso_host.specs.Answering.{AnswersPart}
 use Rattle.iso_host.proofs.serving.answer_message.Goals as goal
 
 -- no byte was written

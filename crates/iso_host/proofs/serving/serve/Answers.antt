@@ -1,7 +1,7 @@
 use Rattle.std.proofs.Common.{[], refl, ◌∙◌, ap, arith, inr}
 use Rattle.iso_table.specs.Layout.{Layout}
 use Rattle.iso_wire.specs.Unpacker.{Feeding}
-use Rattle.iso_host.specs.Bodies.{unpacker_holding}
+use Rattle.iso_host.specs.Intake.{unpacker_holding}
 use Rattle.iso_host.specs.Desk.{Laid}
 use Rattle.iso_host.proofs.ServeLemmas.{served_none, going_more, running_write, running_read, stop_at, stop_inside, ends_whole}
 use Rattle.iso_host.proofs.StreamLemmas.{flushed_more}

@@ -1,8 +1,8 @@
 use Rattle.std.proofs.Common.{◌≡◌, ◌+◌, ◌*◌, [], length}
 use Rattle.std.specs.Io.KnownBytes.{prepend_known}
 use Rattle.iso_host.proofs.Running.{Going, Running}
-use Rattle.iso_host.specs.Bodies.{unpacker_holding}
-use Rattle.iso_host.specs.Served.{IsFlushed}
+use Rattle.iso_host.specs.Intake.{unpacker_holding}
+use Rattle.iso_host.specs.Serving.{IsFlushed}
 use Rattle.iso_host.proofs.serving.serve.Given as goal
 
 abbrev pub invariant-frames : goal.invariant-frames

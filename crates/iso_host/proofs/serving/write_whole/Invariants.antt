@@ -1,6 +1,6 @@
 use Rattle.std.proofs.Common.{◌-◌, ◌≤◌, length, take}
 use Rattle.std.specs.Io.KnownBytes.{Appends}
-use Rattle.iso_host.specs.Serving.{Spends, TakesTurns}
+use Rattle.iso_host.specs.Turns.{Spends, TakesTurns}
 use Rattle.iso_host.proofs.serving.write_whole.Given as goal
 
 abbrev pub invariant-loop-at : goal.invariant-loop-at

@@ -1,5 +1,5 @@
 use Rattle.std.proofs.Common.{◌≡◌, arith, ◌∙◌, ap, ◌+◌, ◌++◌, ◌∷◌, [], length}
-use Rattle.iso_acquirer.specs.Slots.{slots_with, transaction_of}
+use Rattle.iso_acquirer.specs.Acquirer.{slots_with, transaction_of}
 use Rattle.iso_acquirer.proofs.Kept.{kept-begun}
 use Rattle.iso_acquirer.proofs.acquirer.Acquirer.begin.Goals as goal
 
@@ -10,7 +10,7 @@ invariant_of-self-2 c =
     c.push_reserved.ensures.items ∙ ap (λ xs. xs ++ transaction_of c.debit-order.result ∷ []) c.reserve.ensures.items in
     let many : c.len-used.result ≡ length slots = c.len-used.ensures ∙ c.self.inside.slots.ok.0 in
     rw items
-    (kept-begun c.self.inside.id slots c.self.inside.waiting _ _ _ _ c.debit-order.result c.self.invariant
+    (kept-begun c.self.inside.id slots c.self.inside.reversals_left _ _ _ _ c.debit-order.result c.self.invariant
     (ap (λ o. o.key.stan) c.debit-order.ensures ∙ ap (λ n. n + 1) many)
     (ap (λ o. o.key.base) c.debit-order.ensures)
     (omega (arith, many, c.if-used-ge999999.false))

@@ -4,48 +4,49 @@ use Rattle.iso_order.specs.Order.{Instruction}
 use Rattle.iso_acquirer.specs.declared.slot.Role.{Role}
 use Rattle.iso_acquirer.specs.declared.slot.Role.TheVariants.{Transaction, Reversal}
 use Rattle.iso_acquirer.specs.declared.slot.Stage.TheVariants.{Undoing}
-use Rattle.iso_acquirer.specs.Slots.{Party, slot_at, reversal_for, on_stage, to_reverse, slots_at_stage, reversing, next_reversal}
+use Rattle.iso_acquirer.specs.Acquirer.{Party, slot_at, reversal_for, on_stage, slots_at_stage, slots_with_reversal, next_reversal}
+use Rattle.iso_acquirer.specs.Room.{reversals_of}
 use Rattle.iso_acquirer.proofs.Kept.{kept-reversing, open-counted, request-found}
 use Rattle.iso_acquirer.proofs.Numbered.{length-changed}
 use Rattle.iso_acquirer.proofs.acquirer.Acquirer.reverse.Goals as goal
 
 -- what may be reversed is a transaction
-on_transaction : (r : Role) (u : Instruction) → to_reverse r ≡ 1 → on_stage (λ _. Undoing u) r ≡ Transaction (Undoing u)
+on_transaction : (r : Role) (u : Instruction) → reversals_of r ≡ 1 → on_stage (λ _. Undoing u) r ≡ Transaction (Undoing u)
 on_transaction (Transaction stage) u one = refl
 on_transaction (Reversal k) u one = cc
 
-pub reversal-undo-requires-clause-base : goal.reversal-undo-requires-clause-base
-reversal-undo-requires-clause-base c =
+pub next_reversal-undo-requires-clause-base : goal.next_reversal-undo-requires-clause-base
+next_reversal-undo-requires-clause-base c =
     request-found c.self.inside.slots.items c.args.slot.now.order.key.stan c.args.slot.now c.self.invariant.requests
     (subst (λ (p : Party). slot_at p.slots c.args.slot.now.order.key.stan ≡ Some c.args.slot.now) (sym c.self.view_is) c.requires.there) c.requires.asked
 
 pub push_reserved-requires : goal.push_reserved-requires
 push_reserved-requires c =
-    let enough = open-counted c.self.inside.id c.self.inside.slots.items c.self.inside.waiting _ _ c.args.slot.now.order.key.stan 1 c.args.slot.now c.self.invariant
+    let enough = open-counted c.self.inside.id c.self.inside.slots.items c.self.inside.reversals_left _ _ c.args.slot.now.order.key.stan 1 c.args.slot.now c.self.invariant
     (subst (λ (p : Party). slot_at p.slots c.args.slot.now.order.key.stan ≡ Some c.args.slot.now) (sym c.self.view_is) c.requires.there) (sym c.requires.asked) in
     omega (arith, enough, c.self.invariant.room)
 
 pub overflow_sub-self : goal.overflow_sub-self
 overflow_sub-self c =
-    open-counted c.self.inside.id c.self.inside.slots.items c.self.inside.waiting _ _ c.args.slot.now.order.key.stan 1 c.args.slot.now c.self.invariant
+    open-counted c.self.inside.id c.self.inside.slots.items c.self.inside.reversals_left _ _ c.args.slot.now.order.key.stan 1 c.args.slot.now c.self.invariant
     (subst (λ (p : Party). slot_at p.slots c.args.slot.now.order.key.stan ≡ Some c.args.slot.now) (sym c.self.view_is) c.requires.there) (sym c.requires.asked)
 
 pub invariant_of-self : goal.invariant_of-self
 invariant_of-self c =
     let slots = c.self.inside.slots.items in
     let stan = c.args.slot.now.order.key.stan in
-    let u = c.reversal-undo.result in
+    let u = c.next_reversal-undo.result in
     let many : length slots ≡ c.len-used.result = sym c.self.inside.slots.ok.0 ∙ sym c.len-used.ensures in
-    let undo : c.reversal-undo.result ≡ next_reversal slots c.args.slot.now.order = c.reversal-undo.ensures slots many in
-    let put : c.put.new.slots ≡ slots_at_stage (λ _. Undoing c.reversal-undo.result) c.args.slot.now.order.key.stan slots =
-    c.put.ensures (λ _. Undoing c.reversal-undo.result) (on_transaction c.args.slot.now.role c.reversal-undo.result c.requires.asked)
-    ∙ ap (slots_at_stage (λ _. Undoing c.reversal-undo.result) c.args.slot.now.order.key.stan) c.deref_mut.ensures.value in
-    let same : length c.put.new.slots ≡ c.self.inside.slots.len =
-    ap length put ∙ length-changed (λ _. Undoing c.reversal-undo.result) c.args.slot.now.order.key.stan slots ∙ sym c.self.inside.slots.ok.0 in
-    let items : c.push_reserved.new.self.items ≡ reversing slots c.args.slot.now.order.key.stan c.reversal-undo.result =
-    c.push_reserved.ensures.items ∙ ap (λ xs. xs ++ reversal_for c.key.result.stan c.reversal-undo.result ∷ []) (with_items_is c.self.inside.slots c.put.new.slots same ∙ put)
-    ∙ ap (λ k. slots_at_stage (λ _. Undoing c.reversal-undo.result) c.args.slot.now.order.key.stan slots ++ reversal_for k.stan c.reversal-undo.result ∷ []) c.key.ensures.value in
+    let undo : c.next_reversal-undo.result ≡ next_reversal slots c.args.slot.now.order = c.next_reversal-undo.ensures slots many in
+    let put : c.put_stage.new.slots ≡ slots_at_stage (λ _. Undoing c.next_reversal-undo.result) c.args.slot.now.order.key.stan slots =
+    c.put_stage.ensures (λ _. Undoing c.next_reversal-undo.result) (on_transaction c.args.slot.now.role c.next_reversal-undo.result c.requires.asked)
+    ∙ ap (slots_at_stage (λ _. Undoing c.next_reversal-undo.result) c.args.slot.now.order.key.stan) c.deref_mut.ensures.value in
+    let same : length c.put_stage.new.slots ≡ c.self.inside.slots.len =
+    ap length put ∙ length-changed (λ _. Undoing c.next_reversal-undo.result) c.args.slot.now.order.key.stan slots ∙ sym c.self.inside.slots.ok.0 in
+    let items : c.push_reserved.new.self.items ≡ slots_with_reversal slots c.args.slot.now.order.key.stan c.next_reversal-undo.result =
+    c.push_reserved.ensures.items ∙ ap (λ xs. xs ++ reversal_for c.key.result.stan c.next_reversal-undo.result ∷ []) (with_items_is c.self.inside.slots c.put_stage.new.slots same ∙ put)
+    ∙ ap (λ k. slots_at_stage (λ _. Undoing c.next_reversal-undo.result) c.args.slot.now.order.key.stan slots ++ reversal_for k.stan c.next_reversal-undo.result ∷ []) c.key.ensures.value in
     rw items
-    (kept-reversing c.self.inside.id slots c.self.inside.waiting _ _ _ _ c.args.slot.now.order.key.stan c.args.slot.now c.reversal-undo.result c.self.invariant
+    (kept-reversing c.self.inside.id slots c.self.inside.reversals_left _ _ _ _ c.args.slot.now.order.key.stan c.args.slot.now c.next_reversal-undo.result c.self.invariant
     (subst (λ (p : Party). slot_at p.slots c.args.slot.now.order.key.stan ≡ Some c.args.slot.now) (sym c.self.view_is) c.requires.there) c.requires.asked
     (ap (λ o. o.key.stan) undo) (omega (arith, many, c.if-used-ge999999.false)) c.push_reserved.ensures.len c.push_reserved.ensures.capacity)

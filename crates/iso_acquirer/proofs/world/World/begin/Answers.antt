@@ -1,7 +1,7 @@
 use Rattle.std.proofs.Common.{◌≡◌, refl, arith, ◌++◌, ◌∷◌, []}
 use Rattle.std.proofs.lemmas.Grind.{common_steps}
 use Rattle.iso_issuer.specs.Books.{journal}
-use Rattle.iso_acquirer.specs.Slots.{debit_of}
+use Rattle.iso_acquirer.specs.Acquirer.{debit_of}
 use Rattle.iso_acquirer.proofs.Begun.{agreed-begun}
 use Rattle.iso_acquirer.proofs.world.World.begin.Goals as goal
 

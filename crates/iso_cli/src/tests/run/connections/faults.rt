@@ -12,11 +12,11 @@ fn an_accept_that_fails_is_one_of_the_connections(rt: HostRuntime) -> Result<(),
     listener.set_nonblocking(true)?;
     let mut serving = serving(alloc, "ascii4")?;
     let none = serve(alloc, &listener, &mut serving, 2)?;
-    tells(&rt, &none, &[], b"failed: Read\nfailed: Read\n", "no peer")?;
+    check_told(&rt, &none, &[], b"failed: Read\nfailed: Read\n", "no peer")?;
     let mut only = peer(&rt, &listener, &[b"0082", PURCHASE])?;
     let ended = serve(alloc, &listener, &mut serving, 2)?;
-    tells(&rt, &ended, &[ONE_ANSWERED], b"failed: Read\n", "one peer")?;
-    gets(
+    check_told(&rt, &ended, &[ONE_ANSWERED], b"failed: Read\n", "one peer")?;
+    check_answers(
         &rt,
         &answers(alloc, &mut only)?,
         &[b"0090", GRANTED],
@@ -29,7 +29,7 @@ fn no_connection_is_served_where_none_is_asked(rt: HostRuntime) -> Result<(), Fa
     let alloc = rt.alloc();
     let listener = TcpListener::bind(&rt, "127.0.0.1:0")?;
     let ended = serve_first(alloc, &listener, "ascii4", 0)?;
-    tells(&rt, &ended, &[], b"", "the host")
+    check_told(&rt, &ended, &[], b"", "the host")
 }
 
 /// How often the output and the fault stream take bytes, and what comes of a good peer, a bad one and a good one.
@@ -62,18 +62,18 @@ fn serve_three(
 
 /// What comes of streams that fail: the status, how many orders are entered, and what was taken.
 #[derive(Drop)]
-struct Failed {
+struct FailingEnd {
     ended: (u8, u32),
     output: Vec<u8>,
     faults: Vec<u8>,
 }
 
 /// Serves over streams that fail.
-fn serve_failing(rt: &HostRuntime, case: &Failing) -> Result<Failed, Fail> {
+fn serve_failing(rt: &HostRuntime, case: &Failing) -> Result<FailingEnd, Fail> {
     let mut output = FewTaken::new(rt.alloc(), 4096, case.writes, case.flush_fails);
     let mut faults = FewTaken::new(rt.alloc(), 4096, case.tells, false);
     let ended = serve_three(rt, &mut output, &mut faults)?;
-    Ok(Failed {
+    Ok(FailingEnd {
         ended,
         output: output.taken,
         faults: faults.taken,

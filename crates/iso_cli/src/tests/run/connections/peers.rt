@@ -7,7 +7,7 @@ const ONE_ANSWERED: &[u8] = b"frames=1 answered=1 silent=0 unreadable=0\n";
 /// What is told of three peers, and what each is answered.
 #[derive(Drop)]
 struct Met {
-    ended: Ended,
+    ended: ConnectionsEnd,
     first: Vec<u8>,
     second: Vec<u8>,
     third: Vec<u8>,
@@ -38,7 +38,7 @@ fn three_peers_meet_one_journal(rt: HostRuntime) -> Result<(), Fail> {
     let (purchase, repeat) = ([b"0082", PURCHASE], [b"0082", REPEAT]);
     let met = meet(&rt, "ascii4", &purchase, &[b"00A2"], &repeat)?;
     let faults = b"refused: BadHeader\n";
-    tells(
+    check_told(
         &rt,
         &met.ended,
         &[ONE_ANSWERED, ONE_ANSWERED],
@@ -46,9 +46,9 @@ fn three_peers_meet_one_journal(rt: HostRuntime) -> Result<(), Fail> {
         "the host",
     )?;
     assert_eq!(rt; met.first.len(), 94);
-    gets(&rt, &met.first, &[b"0090", GRANTED], "the first")?;
-    gets(&rt, &met.second, &[], "the second")?;
-    gets(&rt, &met.third, &[b"0090", GRANTED], "the third")
+    check_answers(&rt, &met.first, &[b"0090", GRANTED], "the first")?;
+    check_answers(&rt, &met.second, &[], "the second")?;
+    check_answers(&rt, &met.third, &[b"0090", GRANTED], "the third")
 }
 
 #[test]
@@ -66,22 +66,22 @@ fn orders_meet_those_of_earlier_peers(rt: HostRuntime) -> Result<(), Fail> {
         b"frames=0 answered=0 silent=0 unreadable=0\n",
         b"frames=2 answered=2 silent=0 unreadable=0\n",
     ];
-    tells(&rt, &ended, &lines, b"", "the host")?;
-    gets(
+    check_told(&rt, &ended, &lines, b"", "the host")?;
+    check_answers(
         &rt,
         &answers(rt.alloc(), &mut early)?,
         &[b"0103", REVERSED],
         "the reversal",
     )?;
-    gets(
+    check_answers(
         &rt,
         &answers(rt.alloc(), &mut late)?,
         &[b"0084", UNDONE],
         "its purchase",
     )?;
-    gets(&rt, &answers(rt.alloc(), &mut none)?, &[], "no frame")?;
+    check_answers(&rt, &answers(rt.alloc(), &mut none)?, &[], "no frame")?;
     let two: [&[u8]; 4] = [b"0103", REVERSED, b"0084", UNDONE];
-    gets(&rt, &answers(rt.alloc(), &mut both)?, &two, "both again")?;
+    check_answers(&rt, &answers(rt.alloc(), &mut both)?, &two, "both again")?;
     assert_eq!(rt; ended.entries, 2);
     Ok(())
 }
@@ -140,10 +140,10 @@ fn a_bad_peer_harms_no_other(rt: HostRuntime) -> Result<(), Fail> {
         let (purchase, repeat) = ([b"0082", PURCHASE], [b"0082", REPEAT]);
         let met = meet(&rt, "ascii4", &purchase, bad.sent, &repeat)?;
         let lines = [ONE_ANSWERED, bad.output, ONE_ANSWERED];
-        tells(&rt, &met.ended, &lines, bad.faults, name)?;
-        gets(&rt, &met.first, &[b"0090", GRANTED], name)?;
-        gets(&rt, &met.second, &[], name)?;
-        gets(&rt, &met.third, &[b"0090", GRANTED], name)?;
+        check_told(&rt, &met.ended, &lines, bad.faults, name)?;
+        check_answers(&rt, &met.first, &[b"0090", GRANTED], name)?;
+        check_answers(&rt, &met.second, &[], name)?;
+        check_answers(&rt, &met.third, &[b"0090", GRANTED], name)?;
     }
     Ok(())
 }
@@ -162,11 +162,11 @@ fn slow_peer(rt: &HostRuntime, listener: &TcpListener, sent: &[u8]) -> Result<Tc
 #[test]
 fn a_peer_may_send_a_byte_at_a_time(rt: HostRuntime) -> Result<(), Fail> {
     let listener = TcpListener::bind(&rt, "127.0.0.1:0")?;
-    let framed = joined(rt.alloc(), &[b"0082", PURCHASE])?;
+    let framed = join(rt.alloc(), &[b"0082", PURCHASE])?;
     let mut slow = slow_peer(&rt, &listener, &framed)?;
     let ended = serve_first(rt.alloc(), &listener, "ascii4", 1)?;
-    tells(&rt, &ended, &[ONE_ANSWERED], b"", "the host")?;
-    gets(
+    check_told(&rt, &ended, &[ONE_ANSWERED], b"", "the host")?;
+    check_answers(
         &rt,
         &answers(rt.alloc(), &mut slow)?,
         &[b"0090", GRANTED],
@@ -183,18 +183,18 @@ fn a_peer_may_send_the_largest_frames(rt: HostRuntime) -> Result<(), Fail> {
         let met = meet(&rt, "binary2", &large, &cut, &[b"\0\x52", PURCHASE])?;
         let unreadable: &[u8] = b"frames=1 answered=0 silent=0 unreadable=1\n";
         let faults = b"refused: CutFrame\n";
-        tells(&rt, &met.ended, &[unreadable, ONE_ANSWERED], faults, name)?;
-        gets(&rt, &met.first, &[], name)?;
-        gets(&rt, &met.second, &[], name)?;
-        gets(&rt, &met.third, &[b"\0\x5A", GRANTED], name)?;
+        check_told(&rt, &met.ended, &[unreadable, ONE_ANSWERED], faults, name)?;
+        check_answers(&rt, &met.first, &[], name)?;
+        check_answers(&rt, &met.second, &[], name)?;
+        check_answers(&rt, &met.third, &[b"\0\x5A", GRANTED], name)?;
     }
     Ok(())
 }
 
 /// A thousand purchases, each in its frame.
 fn many_frames(alloc: Global) -> Result<Vec<u8>, Fail> {
-    let frame = joined(alloc, &[b"0082", PURCHASE])?;
-    joined(alloc, &[frame.as_slice(); 1_000])
+    let frame = join(alloc, &[b"0082", PURCHASE])?;
+    join(alloc, &[frame.as_slice(); 1_000])
 }
 
 #[test]
@@ -205,8 +205,8 @@ fn a_peer_that_is_gone_loses_its_answers_alone(rt: HostRuntime) -> Result<(), Fa
     drop(peer(&rt, &listener, &[&many])?);
     let mut next = peer(&rt, &listener, &[b"0082", REPEAT])?;
     let ended = serve_first(rt.alloc(), &listener, "ascii4", 2)?;
-    tells(&rt, &ended, &[ONE_ANSWERED], b"failed: Write\n", "the host")?;
-    gets(
+    check_told(&rt, &ended, &[ONE_ANSWERED], b"failed: Write\n", "the host")?;
+    check_answers(
         &rt,
         &answers(rt.alloc(), &mut next)?,
         &[b"0090", GRANTED],

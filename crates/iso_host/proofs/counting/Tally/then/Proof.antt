@@ -28,7 +28,7 @@ use denote.Triple.Walked.{says, Stays, stay_dropped, walk_of, ends_at, walk_Meet
 use Rattle.iso_host.proofs.Walks.{none, none_made}
 use Rattle.iso_host.specs.contracts.counting.Tally as Tally
 use Rattle.iso_host.specs.contracts.counting.Call as Call
-use Rattle.iso_host.specs.Counted.{counts_after}
+use Rattle.iso_host.specs.Counting.{counts_after}
 use Rattle.iso_host.specs.contracts.counting.Tally.then as F
 use Rattle.iso_host.specs.contracts.counting.Tally.then.Key.{name as #self}
 use Rattle.iso_host.proofs.counting.Tally.then.Statement as stated

@@ -1,4 +1,5 @@
 -- How each way to stop is told.
+-- Public: `Stop::status` promises it, and `serve_connections` its fault lines.
 use Rattle.std.specs.Prelude.{ℕ, List, [], ◌∷◌, ◌++◌, Option, Some, None, option_map, codes}
 use Rattle.iso_host.specs.declared.fault.ServeFault.{ServeFault}
 use Rattle.iso_host.specs.declared.fault.ServeFault.TheVariants as serving
@@ -48,8 +49,8 @@ stop_text (Unpack fault) = None
 stop_text (Pack fault) = None
 
 -- the fault line: the text, and one newline
-abbrev pub line_of : Stop → Option (List ℕ)
-line_of stop = option_map (λ text. text ++ 10 ∷ []) (stop_text stop)
+abbrev pub stop_line : Stop → Option (List ℕ)
+stop_line stop = option_map (λ text. text ++ 10 ∷ []) (stop_text stop)
 
 -- the stop that a fault of an input is
 abbrev pub stop_of_input : InputFault → Stop

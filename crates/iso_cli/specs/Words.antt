@@ -1,5 +1,5 @@
 -- What the words of a command line ask.
--- Inner, for bodies and proofs: `is_codec`, `AsksNoCodec`, `AsksNoRun`.
+-- Public: `parse` promises it, and `act` and `prepare` the names of headers.
 use Rattle.std.specs.Prelude.{◌≡◌, ◌⊎◌, ◌==◌, not, IsTrue, Bool, true, false, ℕ, List, [], ◌∷◌, codes}
 use Rattle.iso_wire.specs.declared.header.Header.{Header}
 use Rattle.iso_wire.specs.declared.header.Header.TheVariants.{Binary2, Ascii4, Bcd2}
@@ -32,24 +32,6 @@ Asks words (Convert from to) =
     IsTrue (is_name from.now) × IsTrue (is_name to.now) × (words ≡ codes "convert" ∷ from.now ∷ to.now ∷ [])
 Asks words (Run table accounts header) =
     IsTrue (is_name table.now) × IsTrue (is_name accounts.now) × (words ≡ codes "run" ∷ table.now ∷ accounts.now ∷ header_name header ∷ [])
-
--- every job but a host on a stream
-abbrev pub is_codec : Job → Bool
-is_codec Echo = true
-is_codec (Check table) = true
-is_codec (Show table clear) = true
-is_codec (Convert from to) = true
-is_codec (Run table accounts header) = false
-
--- these words spell none of these jobs
-abbrev pub AsksNoCodec : List (List ℕ) → Type 0
-AsksNoCodec words = (job : Job) → is_codec job ≡ true → Asks words job → ⊥
-
--- these words spell no host on a stream
-abbrev pub AsksNoRun : List (List ℕ) → Type 0
-AsksNoRun words =
-    (table accounts : List ℕ) (header : Header) → IsTrue (is_name table) → IsTrue (is_name accounts)
-    → words ≡ codes "run" ∷ table ∷ accounts ∷ header_name header ∷ [] → ⊥
 
 -- these words spell no job
 abbrev pub AsksNothing : List (List ℕ) → Type 0

@@ -1,13 +1,19 @@
--- What reading a frame piece by piece takes from a reader, through a window of the bytes that were read and not yet taken.
+-- What reading a frame takes from a reader, through a window of the bytes that were read and not yet taken.
 -- Inner: bodies and proofs cite it, and no public clause does.
 use Rattle.std.specs.Prelude.{◌≡◌, ◌≢◌, ℕ, ◌+◌, ◌*◌, ◌<◌, ◌≤◌, List, [], ◌∷◌, length, true, Option, Some, None, Result, Ok, Err}
 use Rattle.std.specs.Io.KnownBytes.{Consumes, Keeps, IsAtEnd}
+use Rattle.iso_table.specs.Layout.{Layout}
 use Rattle.iso_wire.specs.declared.header.Header.{Header}
-use Rattle.iso_wire.specs.Framing.{header_of, largest, NeedsMore, is_bad_header}
+use Rattle.iso_wire.specs.Contents.{Contents}
+use Rattle.iso_wire.specs.Framing.{header_of, frame_of, largest, NeedsMore, is_bad_header}
+use Rattle.iso_host.specs.Asking.{message_in}
 use Rattle.iso_host.specs.Counts.{Counts}
-use Rattle.iso_host.specs.Serving.{Spends}
+use Rattle.iso_host.specs.Intake.{IsSpelled}
+use Rattle.iso_host.specs.Turns.{Spends}
 use Rattle.iso_host.specs.declared.fault.ServeFault.{ServeFault}
 use Rattle.iso_host.specs.declared.fault.ServeFault.TheVariants.{Read, Write, BadHeader, CutFrame, Memory, TooManyTurns}
+use Rattle.iso_host.specs.declared.reading.Next.{Next}
+use Rattle.iso_host.specs.declared.reading.Next.TheVariants as next
 
 -- ---- the bytes, by what is still to come: the window's bytes, and then the reader's
 
@@ -51,10 +57,23 @@ TakesHeader h old new window left (Ok (Some n)) = Consumes old new (header_of h 
 TakesHeader h old new window left (Ok None) = Keeps old new × (window ≡ []) × IsAtEnd left
 TakesHeader h old new window left (Err e) = EndsInside h old new window left e
 
+-- a body of so many bytes is taken, and its message is given; or the frame doesn't come to its end
+abbrev pub ReadsBody :
+    Layout → Option (List ℕ) → Option (List ℕ) → List ℕ → Option (List ℕ) → ℕ → Result (Option Contents) ServeFault → Type 0
+ReadsBody t old new window left size (Ok message) = (body : List ℕ) × Consumes old new body × (length body ≡ size) × (message ≡ message_in t body)
+ReadsBody t old new window left size (Err e) = TakesBytes {T = Unit {0}} old new window left size (Err e)
+
+-- a frame is taken, and the message of its body is given; or the input ends before it
+abbrev pub ReadsFrame : Layout → Header → Option (List ℕ) → Option (List ℕ) → List ℕ → Option (List ℕ) → Result Next ServeFault → Type 0
+ReadsFrame t h old new window left (Ok (next.Body message)) =
+    (body : List ℕ) × Consumes old new (frame_of h body) × (length body ≤ largest h) × (message ≡ message_in t body) × IsSpelled t message
+ReadsFrame t h old new window left (Ok next.End) = Keeps old new × (window ≡ []) × IsAtEnd left
+ReadsFrame t h old new window left (Err e) = EndsInside h old new window left e
+
 -- ---- the turns
 
 -- each read took a turn and gave at least one byte, at most 4,096, and so many bytes were taken
-pub record Draws (old new : Counts) (before left : ℕ) (window after : List ℕ) (taken : ℕ) : Type 0 where
+pub record TakesReads (old new : Counts) (before left : ℕ) (window after : List ℕ) (taken : ℕ) : Type 0 where
   pub spends : Spends old new before left
   pub falls : 4097 * left + length after + taken ≤ 4097 * before + length window
 
@@ -68,11 +87,16 @@ EndsReads old new before left Memory = new.failures ≡ old.failures
 EndsReads old new before left Write = ⊥
 
 abbrev pub SpendsOnReads : {T : Type 0} → Counts → Counts → ℕ → ℕ → List ℕ → List ℕ → ℕ → Result T ServeFault → Type 0
-SpendsOnReads old new before left window after taken (Ok x) = Draws old new before left window after taken
+SpendsOnReads old new before left window after taken (Ok x) = TakesReads old new before left window after taken
 SpendsOnReads old new before left window after taken (Err e) = EndsReads old new before left e
 
 -- the end of the input is told by a read that gave no byte
 abbrev pub SpendsOnHeader : Counts → Counts → ℕ → ℕ → List ℕ → List ℕ → Result (Option ℕ) ServeFault → Type 0
-SpendsOnHeader old new before left window after (Ok (Some n)) = Draws old new before left window after 2
+SpendsOnHeader old new before left window after (Ok (Some n)) = TakesReads old new before left window after 2
 SpendsOnHeader old new before left window after (Ok None) = new.failures ≡ old.failures
 SpendsOnHeader old new before left window after (Err e) = EndsReads old new before left e
+
+abbrev pub SpendsOnFrame : Counts → Counts → ℕ → ℕ → List ℕ → List ℕ → Result Next ServeFault → Type 0
+SpendsOnFrame old new before left window after (Ok (next.Body message)) = TakesReads old new before left window after 1
+SpendsOnFrame old new before left window after (Ok next.End) = new.failures ≡ old.failures
+SpendsOnFrame old new before left window after (Err e) = EndsReads old new before left e

@@ -1,4 +1,5 @@
 -- What a call of a stream does to its counts.
+-- Public: the calls of `Inlet` and `Outlet` promise it.
 use Rattle.std.specs.Prelude.{◌≡◌, ℕ, ◌+◌, ◌<◌, List, length, Result, Ok, Err}
 use Rattle.iso_host.specs.Counts.{Counts}
 

@@ -1,6 +1,6 @@
 use Rattle.std.proofs.Common.{◌≡◌, refl, arith}
 use Rattle.iso_cli.proofs.InputLemmas.{known_file}
-use Rattle.iso_cli.proofs.documents.document.Goals as goal
+use Rattle.iso_cli.proofs.documents.document_at.Goals as goal
 
 pub returns : goal.returns
 returns g c =

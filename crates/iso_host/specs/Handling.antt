@@ -1,4 +1,4 @@
--- What handling one body gives and leaves.
+-- What handling one body gives and leaves: the books with its order, and what is written for it.
 -- Inner: bodies and proofs cite it, and no public clause does.
 use Rattle.std.specs.Prelude.{◌≡◌, ◌⊎◌, ℕ, List, [], Option, option_map, IsTrue}
 use Rattle.iso_table.specs.Layout.{Layout}
@@ -7,11 +7,23 @@ use Rattle.iso_wire.specs.Contents.{Contents}
 use Rattle.iso_order.specs.Verdict.{verdict}
 use Rattle.iso_order.specs.declared.verdict.Verdict.{Verdict}
 use Rattle.iso_issuer.specs.Books.{Books}
+use Rattle.iso_issuer.specs.Laws.{books_after}
 use Rattle.iso_host.specs.declared.handling.Handled.{Handled}
 use Rattle.iso_host.specs.declared.handling.Handled.TheVariants.{Unreadable, Silent, Answered}
-use Rattle.iso_host.specs.Asking.{is_unreadable, is_silent, has_answer}
-use Rattle.iso_host.specs.Entering.{entered_by}
-use Rattle.iso_host.specs.Output.{IsAnswerTo}
+use Rattle.iso_host.specs.Asking.{asked_of, orders_in, is_unreadable, is_silent, has_answer}
+use Rattle.iso_host.specs.Output.{IsFramed, response_to}
+
+-- the books once the message that a body is, or none, is handled
+abbrev pub entered_by : Books → Option Contents → Books
+entered_by books message = books_after books (orders_in (option_map verdict message))
+
+-- the books once this body is handled
+abbrev pub books_after_body : Layout → Books → List ℕ → Books
+books_after_body t books body = books_after books (orders_in (asked_of t body))
+
+-- what is written at these books for the message that a body is
+unfoldable pub IsAnswerTo : Layout → Header → Books → Option Contents → List ℕ → Type 0
+IsAnswerTo t h books message bytes = IsFramed t h (response_to books message) bytes
 
 -- a body that asks this is handled so
 abbrev pub IsOfKind : Option Verdict → Handled → Type 0

@@ -1,4 +1,5 @@
 -- What the host on a stream writes.
+-- Public: `act` promises it, and `prepare` its empty journal.
 use Rattle.std.specs.Prelude.{◌≡◌, ℕ, List, [], ◌∷◌, Option, IfSome, codes}
 use Rattle.std.specs.Io.KnownBytes.{Appends}
 use Rattle.iso_table.specs.Layout.{Layout}
@@ -9,7 +10,7 @@ use Rattle.iso_issuer.specs.declared.account.Account.{Account}
 use Rattle.iso_issuer.specs.Books.{Books}
 use Rattle.iso_issuer.specs.Document.{ListsAccounts}
 use Rattle.iso_host.specs.Output.{IsOutput}
-use Rattle.iso_cli.specs.Asks.{header_name}
+use Rattle.iso_cli.specs.Words.{header_name}
 use Rattle.iso_cli.specs.Tables.{IsNamed}
 
 -- these accounts, with an empty journal

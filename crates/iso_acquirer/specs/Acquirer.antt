@@ -1,6 +1,6 @@
 -- What an acquirer keeps, by trace number, and what its calls do to it.
-use Rattle.std.specs.Prelude.{◌≡◌, ◌≤◌, ℕ, true, List, [], ◌∷◌, ◌++◌, ◌==◌, ◌||◌, ◌+◌, length, nat_lt, find, map, sum_by, Option, Some, None, option_map, option_and_then, Result, Ok, Err, if◌then◌else◌}
-use Rattle.std.specs.List.{AllByRecursion}
+-- Public: the calls of `Acquirer` promise it, and both ends are told by it.
+use Rattle.std.specs.Prelude.{◌≡◌, ◌≤◌, ℕ, true, List, [], ◌∷◌, ◌++◌, ◌==◌, ◌||◌, ◌+◌, length, nat_lt, find, map, Option, Some, None, option_map, option_and_then, Result, Ok, Err, if◌then◌else◌}
 use Rattle.iso_order.specs.declared.key.TxKey.{TxKey}
 use Rattle.iso_order.specs.declared.act.Act.TheVariants.{Debit, Undo}
 use Rattle.iso_order.specs.Pan.{AccountNumber}
@@ -20,11 +20,6 @@ use Rattle.iso_acquirer.specs.declared.state.State.TheVariants.{Waiting, Reversi
 pub record Party : Type 0 where
   pub id : ℕ
   pub slots : List Slot
-
--- the orders have the trace numbers from n on
-abbrev pub AreNumbered : ℕ → List Slot → Type 0
-AreNumbered n [] = Unit {0}
-AreNumbered n (s ∷ ss) = (s.order.key.stan ≡ n) × AreNumbered (n + 1) ss
 
 -- what is kept under a trace number
 abbrev pub slot_at : List Slot → ℕ → Option Slot
@@ -58,23 +53,6 @@ undo_of (Undoing u) = Some u
 undo_of Granted = None
 undo_of (Denied c) = None
 undo_of (Undone u) = Some u
-
--- how many reversals of a transaction may still be made: one or none
-abbrev pub may_reverse : Stage → ℕ
-may_reverse (Asked n) = 1
-may_reverse (Undoing u) = 0
-may_reverse Granted = 0
-may_reverse (Denied c) = 0
-may_reverse (Undone u) = 0
-
--- a reversal isn't reversed
-abbrev pub to_reverse : Role → ℕ
-to_reverse (Transaction stage) = may_reverse stage
-to_reverse (Reversal stan) = 0
-
--- how many reversals may still be made
-abbrev pub waiting : List Slot → ℕ
-waiting slots = sum_by (λ s. to_reverse s.role) slots
 
 -- ---- changes
 
@@ -128,14 +106,14 @@ next_reversal slots o = record {
 }
 
 -- the transaction is reversed, by an order that is made
-abbrev pub reversing : List Slot → ℕ → Instruction → List Slot
-reversing slots stan undo = slots_at_stage (λ _. Undoing undo) stan slots ++ reversal_for stan undo ∷ []
+abbrev pub slots_with_reversal : List Slot → ℕ → Instruction → List Slot
+slots_with_reversal slots stan undo = slots_at_stage (λ _. Undoing undo) stan slots ++ reversal_for stan undo ∷ []
 
 -- the order that is sent, and what is kept: the order again, after the second time its reversal, and then that again
 abbrev pub timeout_by : List Slot → Instruction → Stage → Result (Instruction × List Slot) AcqFault
 timeout_by slots o (Asked n) =
     if n == 1 then Ok (o, slots_at_stage (λ _. Asked 2) o.key.stan slots)
-    else if nat_lt (length slots) 999999 then Ok (next_reversal slots o, reversing slots o.key.stan (next_reversal slots o))
+    else if nat_lt (length slots) 999999 then Ok (next_reversal slots o, slots_with_reversal slots o.key.stan (next_reversal slots o))
     else Err NoMoreTrace
 timeout_by slots o (Undoing u) = Ok (u, slots)
 timeout_by slots o Granted = Err Closed
@@ -164,17 +142,17 @@ stage_after code (Denied c) = Denied c
 stage_after code (Undone u) = Undone u
 
 -- the stage after an answer to its reversal
-abbrev pub stage_undone : ℕ → Stage → Stage
-stage_undone code (Asked n) = Asked n
-stage_undone code (Undoing u) = if code == 0 then Undone u else Undoing u
-stage_undone code Granted = Granted
-stage_undone code (Denied c) = Denied c
-stage_undone code (Undone u) = Undone u
+abbrev pub stage_after_undo : ℕ → Stage → Stage
+stage_after_undo code (Asked n) = Asked n
+stage_after_undo code (Undoing u) = if code == 0 then Undone u else Undoing u
+stage_after_undo code Granted = Granted
+stage_after_undo code (Denied c) = Denied c
+stage_after_undo code (Undone u) = Undone u
 
 -- an answer comes: to a transaction's order, or to the reversal of a transaction
 abbrev pub slots_after_answer_in : List Slot → ℕ → ℕ → Role → List Slot
 slots_after_answer_in slots stan code (Transaction stage) = slots_at_stage (stage_after code) stan slots
-slots_after_answer_in slots stan code (Reversal original) = slots_at_stage (stage_undone code) original slots
+slots_after_answer_in slots stan code (Reversal original) = slots_at_stage (stage_after_undo code) original slots
 
 abbrev pub slots_after_answer_at : List Slot → TxKey → ℕ → Option Slot → List Slot
 slots_after_answer_at slots key code None = slots
@@ -183,19 +161,3 @@ slots_after_answer_at slots key code (Some s) = if same_key s.order.key key then
 -- an answer to any other key changes nothing
 abbrev pub slots_after_answer : List Slot → TxKey → ℕ → List Slot
 slots_after_answer slots key code = slots_after_answer_at slots key code (slot_at slots key.stan)
-
--- ---- how it is kept
-
--- a transaction's order is a request of class 2
-abbrev pub IsRequest : Role → Instruction → Type 0
-IsRequest (Transaction stage) o = o.key.base ≡ 200
-IsRequest (Reversal stan) o = Unit {0}
-
--- the numbers are in a row and few, and there is room for each reversal that may come
-pub record IsRoomKept (id : ℕ) (slots : List Slot) (open_ones : ℕ) (len capacity : ℕ) : Type 0 where
-  pub id_fits : id ≤ 99999999999
-  pub numbered : AreNumbered 1 slots
-  pub few : length slots ≤ 999999
-  pub counted : open_ones ≡ waiting slots
-  pub room : len + open_ones ≤ capacity
-  pub requests : AllByRecursion (λ s. IsRequest s.role s.order) slots

@@ -1,6 +1,6 @@
 use Rattle.std.proofs.Common.{◌∙◌, refl}
 use Rattle.iso_acquirer.proofs.Made.{reversal-fits, is_some_if, value_if}
-use Rattle.iso_acquirer.proofs.acquirer.reversal.Goals as goal
+use Rattle.iso_acquirer.proofs.acquirer.next_reversal.Goals as goal
 
 pub unwrap-requires : goal.unwrap-requires
 unwrap-requires c =

@@ -1,6 +1,6 @@
 use Rattle.std.proofs.Common.{arith, ap, ◌-◌}
 use Rattle.iso_acquirer.proofs.Numbered.{found, written}
-use Rattle.iso_acquirer.proofs.acquirer.put.Goals as goal
+use Rattle.iso_acquirer.proofs.acquirer.put_stage.Goals as goal
 
 pub overflow_sub-place : goal.overflow_sub-place
 overflow_sub-place c =

@@ -1,0 +1,46 @@
+-- How an acquirer keeps what it made: in the order of trace numbers, with room for the reversals that may still be made.
+-- Inner: bodies and proofs cite it, and no public clause does.
+use Rattle.std.specs.Prelude.{◌≡◌, ◌≤◌, ℕ, List, [], ◌∷◌, ◌+◌, length, sum_by}
+use Rattle.std.specs.List.{AllByRecursion}
+use Rattle.iso_order.specs.Order.{Instruction}
+use Rattle.iso_acquirer.specs.declared.slot.Slot.{Slot}
+use Rattle.iso_acquirer.specs.declared.slot.Role.{Role}
+use Rattle.iso_acquirer.specs.declared.slot.Role.TheVariants.{Transaction, Reversal}
+use Rattle.iso_acquirer.specs.declared.slot.Stage.{Stage}
+use Rattle.iso_acquirer.specs.declared.slot.Stage.TheVariants.{Asked, Undoing, Granted, Denied, Undone}
+
+-- the orders have the trace numbers from n on
+abbrev pub AreNumbered : ℕ → List Slot → Type 0
+AreNumbered n [] = Unit {0}
+AreNumbered n (s ∷ ss) = (s.order.key.stan ≡ n) × AreNumbered (n + 1) ss
+
+-- how many reversals of a transaction may still be made: one or none
+abbrev pub reversals_at : Stage → ℕ
+reversals_at (Asked n) = 1
+reversals_at (Undoing u) = 0
+reversals_at Granted = 0
+reversals_at (Denied c) = 0
+reversals_at (Undone u) = 0
+
+-- a reversal isn't reversed
+abbrev pub reversals_of : Role → ℕ
+reversals_of (Transaction stage) = reversals_at stage
+reversals_of (Reversal stan) = 0
+
+-- how many reversals may still be made
+abbrev pub reversals_left : List Slot → ℕ
+reversals_left slots = sum_by (λ s. reversals_of s.role) slots
+
+-- a transaction's order is a request of class 2
+abbrev pub IsRequest : Role → Instruction → Type 0
+IsRequest (Transaction stage) o = o.key.base ≡ 200
+IsRequest (Reversal stan) o = Unit {0}
+
+-- the numbers are in a row and few, and there is room for each reversal that may come
+pub record IsRoomKept (id : ℕ) (slots : List Slot) (open_ones : ℕ) (len capacity : ℕ) : Type 0 where
+  pub id_fits : id ≤ 99999999999
+  pub numbered : AreNumbered 1 slots
+  pub few : length slots ≤ 999999
+  pub counted : open_ones ≡ reversals_left slots
+  pub room : len + open_ones ≤ capacity
+  pub requests : AllByRecursion (λ s. IsRequest s.role s.order) slots
