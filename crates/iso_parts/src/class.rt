@@ -137,7 +137,8 @@ impl CharClass {
 
     /// Whether the bytes are a value of the class. Each class has code of its own, in which nothing is left to choose for
     /// a byte.
-    pub(crate) fn takes(self, value: &[u8]) -> bool
+    #[inline(never)]
+    pub(crate) fn takes_apart(self, value: &[u8]) -> bool
         ensures { result ≡ is_in_class self value.now }
     {
         match self {
@@ -150,6 +151,18 @@ impl CharClass {
                 [] => true,
             },
             CharClass::B => true,
+        }
+    }
+
+    /// What [`CharClass::takes_apart`] answers: for digits, which most values are of, in the code around it.
+    #[inline(always)]
+    pub(crate) fn takes(self, value: &[u8]) -> bool
+        ensures { result ≡ is_in_class self value.now }
+    {
+        if self == CharClass::N {
+            CharClass::N.has_all(value)
+        } else {
+            self.takes_apart(value)
         }
     }
 }

@@ -164,7 +164,7 @@ fn decode_text(spec: &FieldSpec, text: &[u8], out: &mut Vec<u8>) -> Result<(), F
     ensures { Decodes out.old.items out.new.items result (value_of spec.now text.now) }
 {
     let value = spec.pad.unpadded(text);
-    if !spec.class.takes(value) {
+    if !spec.class.takes_apart(value) {
         return Err(FieldFault::NotInClass);
     }
     Ok(out.extend_from_slice(value)?)
@@ -177,7 +177,7 @@ fn decode_in_place(spec: &FieldSpec, before: usize, out: &mut Vec<u8>) -> Result
 {
     let (_, text) = out.as_slice().split_at(before);
     let value = spec.pad.unpadded(text);
-    if !spec.class.takes(value) {
+    if !spec.class.takes_apart(value) {
         return Err(FieldFault::NotInClass);
     }
     spec.pad.strip(before, out);

@@ -3,18 +3,20 @@
 ghost use Rattle.std.specs.Prelude.{◌≡◌, ◌≢◌, ◌≤◌, ◌+◌, ◌*◌, ◌/◌, ℕ, List, take, drop, length};
 ghost use Rattle.std.specs.Prelude.{IfErr, IfOk, IfSome, true, false};
 ghost use Rattle.iso_parts.specs.Building.{IsPart};
+ghost use Rattle.iso_parts.specs.Class.{is_in_class};
 ghost use Rattle.iso_parts.specs.Spec.{IsGood};
 ghost use Rattle.iso_parts.specs.declared.fault.FieldFault.TheVariants.{Memory};
 ghost use Rattle.iso_parts.specs.Part.{characters, Part};
 ghost use Rattle.iso_parts.specs.Texts.{IsJudged, is_plain};
-ghost use Rattle.iso_parts.specs.Reading.{Judges, IfJudged, count_at, size_at, prefix_size, body_size, value_of, body_of, part_at};
+ghost use Rattle.iso_parts.specs.Reading.{Judges, IfJudged, unpadded, count_at, size_at, prefix_size, body_size, value_of, body_of, part_at};
 
 use crate::class::CharClass;
 use crate::encoding::{Coding, are_hex_digits};
 use crate::fault::FieldFault;
 use crate::field::prefix_of;
 use crate::packed::are_unpadded_digits;
-use crate::prefix::Length;
+use crate::padding::Pad;
+use crate::prefix::{Digits, Length};
 use crate::spec::FieldSpec;
 
 /// What judging finds at the front of some bytes.
@@ -26,11 +28,24 @@ pub enum Judged {
     More,
 }
 
+/// Whether characters without their padding are in the class. Most rows have no padding.
+#[inline(always)]
+fn are_in_class(spec: &FieldSpec, text: &[u8]) -> bool
+    ensures { result ≡ is_in_class spec.now.class (unpadded spec.now.pad text.now) }
+{
+    if spec.pad == Pad::None {
+        spec.class.takes(text)
+    } else {
+        spec.class.takes_apart(spec.pad.unpadded(text))
+    }
+}
+
 /// Judges characters: without their padding they are in the class.
+#[inline(always)]
 fn judge_text(spec: &FieldSpec, text: &[u8]) -> Result<(), FieldFault>
     ensures { IsJudged result (value_of spec.now text.now) }
 {
-    if spec.class.takes(spec.pad.unpadded(text)) {
+    if are_in_class(spec, text) {
         Ok(())
     } else {
         Err(FieldFault::NotInClass)
@@ -117,6 +132,7 @@ fn judge_coded(spec: &FieldSpec, n: u16, body: &[u8]) -> Result<(), FieldFault>
 }
 
 /// Judges a whole body of `n` characters.
+#[inline(always)]
 fn judge_whole(spec: &FieldSpec, n: u16, body: &[u8]) -> Result<(), FieldFault>
     requires good { IsGood spec.now }
     requires few { n ≤ spec.now.max }
@@ -175,7 +191,7 @@ pub fn judge_length(spec: &FieldSpec, bytes: &[u8]) -> Result<Option<u16>, Field
 
 /// Judges the body of `n` characters that the bytes begin with, and gives how many bytes it takes; `None` where
 /// bytes are missing. Takes no memory.
-#[inline]
+#[inline(always)]
 pub fn judge_body(spec: &FieldSpec, n: u16, bytes: &[u8]) -> Result<Option<usize>, FieldFault>
     requires good { IsGood spec.now }
     requires few { n ≤ spec.now.max }
@@ -212,7 +228,7 @@ fn judge_fixed(spec: &FieldSpec, bytes: &[u8]) -> Result<Judged, FieldFault>
 }
 
 /// Judges the part of any row: its length, and then its body.
-#[inline(never)]
+#[inline(always)]
 fn judge_behind_length(spec: &FieldSpec, bytes: &[u8]) -> Result<Judged, FieldFault>
     requires { IsGood spec.now }
     ensures exact { Judges (prefix_size spec.now.length) result (part_at spec.now bytes.now) }
@@ -236,7 +252,19 @@ fn judge_behind_length(spec: &FieldSpec, bytes: &[u8]) -> Result<Judged, FieldFa
     }
 }
 
-/// What [`judge_field`] answers: at once where the row has no length and a character is a byte, as most rows do.
+/// What [`judge_behind_length`] answers, in code of its own: few rows come here.
+#[inline(never)]
+fn judge_behind_length_apart(spec: &FieldSpec, bytes: &[u8]) -> Result<Judged, FieldFault>
+    requires { IsGood spec.now }
+    ensures exact { Judges (prefix_size spec.now.length) result (part_at spec.now bytes.now) }
+    ensures memory { IfErr result (λ e. e ≢ Memory) }
+    ensures room { IfJudged result (λ body used. (body ≤ used) × (used ≤ length bytes.now)) }
+{
+    judge_behind_length(spec, bytes)
+}
+
+/// What [`judge_field`] answers. Where a character is a byte, rows without a length and rows with one of two ASCII digits
+/// have code of their own, in which the compiler knows how long the length is: so most rows are laid out.
 #[inline(always)]
 fn judged_of(spec: &FieldSpec, bytes: &[u8]) -> Result<Judged, FieldFault>
     requires { IsGood spec.now }
@@ -244,10 +272,13 @@ fn judged_of(spec: &FieldSpec, bytes: &[u8]) -> Result<Judged, FieldFault>
     ensures memory { IfErr result (λ e. e ≢ Memory) }
     ensures room { IfJudged result (λ body used. (body ≤ used) × (used ≤ length bytes.now)) }
 {
-    if spec.length == Length::Fixed && spec.coding.is_plain() {
-        judge_fixed(spec, bytes)
-    } else {
-        judge_behind_length(spec, bytes)
+    if !spec.coding.is_plain() {
+        return judge_behind_length_apart(spec, bytes);
+    }
+    match spec.length {
+        Length::Fixed => judge_fixed(spec, bytes),
+        Length::LL(Digits::Ascii) => judge_behind_length(spec, bytes),
+        _ => judge_behind_length_apart(spec, bytes),
     }
 }
 

@@ -113,7 +113,7 @@ impl FieldSpec {
         if !self.takes_length(value.len()) {
             return Some(FieldFault::WrongLength);
         }
-        if !self.class.takes(value) {
+        if !self.class.takes_apart(value) {
             return Some(FieldFault::NotInClass);
         }
         if self.pad.stands_at_end(value) {

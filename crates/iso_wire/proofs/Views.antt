@@ -12,7 +12,7 @@ use Rattle.iso_parts.specs.declared.prefix.Length.{Length}
 use Rattle.iso_parts.specs.declared.prefix.Length.TheVariants as lengths
 use Rattle.iso_table.specs.Layout.{Layout, row_at, AreGood}
 use Rattle.iso_wire.specs.declared.fault.UnpackFault.{UnpackFault}
-use Rattle.std.specs.Prelude.{IfOk, IfErr}
+use Rattle.std.specs.Prelude.{IfOk, IfErr, IsErr, IsErrAnd}
 use Rattle.iso_wire.specs.declared.fault.UnpackCause.TheVariants.{Short, Memory}
 use Rattle.iso_wire.specs.Contents.{Contents}
 use Rattle.iso_parts.specs.Numbers.{numbers_in}
@@ -144,6 +144,15 @@ module _ (laws : PartLaws) where
   pub is_view : (t : Layout) (b : List ℕ) → AreGood t.rows → AreBytes b → Views t b (view_at t b) (message_at t b)
   unfolding message_at
   is_view t b good fits = by_type t b (type_at t b) good fits
+
+  -- what is read of a message without its values views that message
+  pub views_as : (t : Layout) (b : List ℕ) (r : Result Viewed UnpackFault) → AreGood t.rows → AreBytes b → view_at t b ≡ r → Views t b r (message_at t b)
+  views_as t b r good fits is = subst (λ (v : Result Viewed UnpackFault). Views t b v (message_at t b)) is (is_view t b good fits)
+
+-- a fault that is handed on is the one that reading gave
+pub handed_on : (r : Result Viewed UnpackFault) (e : UnpackFault) (read : Result Viewed UnpackFault) → read ≡ Err e → IsErr r → IsErrAnd r (λ f. f ≡ e) → read ≡ r
+handed_on (Ok v) e read is err same = absurd same
+handed_on (Err f) e read is err same = is ∙ sym (ap Err same)
 
 -- the bodies with their lengths before them are the parts
 pub Wired-Parts : (rows : List (Option FieldSpec)) (es ws : Values) (b : List ℕ) → Wired rows es ws b → Parts rows es b

@@ -1,14 +1,15 @@
 -- Where the bodies of a message lie in its bytes, and reading them.
--- Inner, for bodies and proofs: `longest_part`, `front_of`, `wire_at`, `wires_at`, `view_at`, `JudgesWire`, `FindsBodies`.
+-- Inner: bodies and proofs cite it, and no public clause does.
 use Rattle.std.specs.Prelude.{◌≡◌, ℕ, ◌+◌, ◌-◌, ◌*◌, ◌≤◌, List, [], ◌∷◌, length, take, drop, map, Option, Some, None, Result, Ok, Err}
 use Rattle.std.specs.List.{slice_index_or}
 use Rattle.iso_parts.specs.declared.spec.FieldSpec.{FieldSpec}
 use Rattle.iso_parts.specs.Reading.{prefix_size}
 use Rattle.iso_parts.specs.Spec.{longest_value}
 use Rattle.iso_wire.specs.declared.bodies.Bodies.{Bodies}
+use Rattle.iso_wire.specs.declared.bodies.Outline.{Outline}
 use Rattle.iso_wire.specs.declared.fault.UnpackFault.{UnpackFault}
-use Rattle.iso_parts.specs.Numbers.{numbers_in}
-use Rattle.iso_parts.specs.Mti.{mti_size}
+use Rattle.iso_parts.specs.Numbers.{members, numbers_in}
+use Rattle.iso_parts.specs.Mti.{mti_number, mti_size}
 use Rattle.iso_wire.specs.Reading.{◌>>=◌, type_at, words_at, value_at}
 use Rattle.iso_table.specs.Layout.{Layout, row_at}
 use Rattle.iso_wire.specs.Viewing.{Viewed}
@@ -30,6 +31,10 @@ wire_of b bodies n = (n, body_in b bodies n)
 
 abbrev pub wires_in : List ℕ → Bodies → List ℕ → List (ℕ × List ℕ)
 wires_in b bodies ns = map (wire_of b bodies) ns
+
+-- the message of an outline, with its bodies in the bytes
+abbrev pub viewed_of : Outline → List ℕ → Bodies → Viewed
+viewed_of outline b bodies = record { mti = mti_number outline.mti; used = outline.used; wires = wires_in b bodies (members outline.numbers) }
 
 -- the body with a number lies within so many bytes
 abbrev pub IsBodyWithin : ℕ → Bodies → ℕ → Type 0
@@ -80,3 +85,8 @@ JudgesWire row (Err e) read = read ≡ Err e
 abbrev pub FindsBodies : List ℕ → Bodies → List ℕ → Result ℕ UnpackFault → Result (List (ℕ × List ℕ) × ℕ) UnpackFault → Type 0
 FindsBodies b bodies ns (Ok end) read = read ≡ Ok (wires_in b bodies ns, end)
 FindsBodies b bodies ns (Err e) read = read ≡ Err e
+
+-- an outline is of the message that reading gives, and its bodies lie there
+abbrev pub Outlines : List ℕ → Bodies → Result Outline UnpackFault → Result Viewed UnpackFault → Type 0
+Outlines b bodies (Ok outline) read = read ≡ Ok (viewed_of outline b bodies)
+Outlines b bodies (Err e) read = read ≡ Err e

@@ -6,7 +6,7 @@ ghost use Rattle.iso_table.specs.Layout.{row_at, AreGood};
 ghost use Rattle.iso_wire.specs.Elements.{value_in};
 ghost use Rattle.iso_wire.specs.Reading.{value_at};
 ghost use Rattle.iso_parts.specs.Numbers.{members};
-ghost use Rattle.iso_wire.specs.Bodies.{longest_part, wires_in, IsBodyWithin, AreWithin, wires_at, view_at, JudgesWire, FindsBodies};
+ghost use Rattle.iso_wire.specs.Bodies.{longest_part, wires_in, IsBodyWithin, AreWithin, wires_at, view_at, JudgesWire, FindsBodies, Outlines};
 
 use crate::bitmaps::words_of;
 use crate::fault::{UnpackCause, UnpackFault};
@@ -21,9 +21,31 @@ const PLACES: usize = 129;
 
 /// Where the bodies of elements lie in the bytes, by their numbers: where each begins, and how many bytes it is.
 #[derive(Clone, Copy, Debug)]
-struct Bodies {
-    starts: [u32; PLACES],
-    sizes: [u16; PLACES],
+pub(crate) struct Bodies {
+    pub(crate) starts: [u32; PLACES],
+    pub(crate) sizes: [u16; PLACES],
+}
+
+impl Bodies {
+    /// No body.
+    #[inline(always)]
+    pub(crate) fn none() -> Bodies
+        ensures starts { length result.starts ≡ 129 }
+        ensures sizes { length result.sizes ≡ 129 }
+    {
+        Bodies {
+            starts: [0; PLACES],
+            sizes: [0; PLACES],
+        }
+    }
+}
+
+/// A message without its bodies: its type, the set of its elements' numbers, and how many bytes it takes.
+#[derive(Clone, Copy, Debug)]
+pub(crate) struct Outline {
+    pub(crate) mti: Mti,
+    pub(crate) numbers: Bitmap,
+    pub(crate) used: usize,
 }
 
 /// Judges the part of element `n`, which begins at `at`: where its body begins in it, and how many bytes it takes.
@@ -76,6 +98,27 @@ fn find_bodies(
     Ok(at)
 }
 
+/// Judges the message that the bytes begin with, and finds the bodies of its elements. It stands apart from `view`, so
+/// that the places of the bodies are written where they lie, and are copied once.
+#[inline(never)]
+pub(crate) fn outline_of(
+    table: &Table,
+    bytes: &[u8],
+    bodies: &mut Bodies,
+) -> Result<Outline, UnpackFault>
+    ensures exact { Outlines bytes.now bodies.new result (view_at table.now bytes.now) }
+    ensures within { IfOk result (λ o. AreWithin (length bytes.now) bodies.new (members o.numbers)) }
+    ensures good { AreGood table.now.rows }
+{
+    let mti = type_of(table, bytes)?;
+    let size = table.mti().mti_size();
+    let (_, rest) = bytes.split_at(size);
+    let (primary, secondary, used) = words_of(table, size, rest)?;
+    let numbers = Bitmap::from_words(primary, secondary);
+    let used = find_bodies(table, numbers, size + used, bytes, bodies)?;
+    Ok(Outline { mti, numbers, used })
+}
+
 /// The body of an element, if its number is there.
 fn body_of<'a>(numbers: Bitmap, bodies: &Bodies, bytes: &'a [u8], n: u8) -> Option<&'a [u8]>
     requires within { AreWithin (length bytes.now) bodies.now (members numbers) }
@@ -94,33 +137,30 @@ fn body_of<'a>(numbers: Bitmap, bodies: &Bodies, bytes: &'a [u8], n: u8) -> Opti
 /// A message that lies in the caller's bytes. It tells where the body of each element lies, and copies none.
 #[derive(Drop)]
 pub struct View<'a> {
-    mti: Mti,
-    used: usize,
-    bytes: &'a [u8],
-    numbers: Bitmap,
-    bodies: Bodies,
+    pub(crate) outline: Outline,
+    pub(crate) bytes: &'a [u8],
+    pub(crate) bodies: Bodies,
 }
 
 impl<'a> Model for View<'a> {
     ghost use Rattle.std.specs.Prelude.{◌≤◌, length};
-    ghost use Rattle.iso_parts.specs.Mti.{mti_number};
-    ghost use Rattle.iso_wire.specs.Bodies.{wires_in, AreWithin};
+    ghost use Rattle.iso_wire.specs.Bodies.{viewed_of, AreWithin};
     ghost use Rattle.iso_wire.specs.Viewing.{Viewed};
     ghost use Rattle.iso_parts.specs.Numbers.{members};
 
     ghost Value = { Viewed };
 
-    ghost view = { λ v. record { mti = mti_number v.mti; used = v.used; wires = wires_in v.bytes.now v.bodies (members v.numbers) } };
+    ghost view = { λ v. viewed_of v.outline v.bytes.now v.bodies };
 
-    ghost invariant = { λ v. AreWithin (length v.bytes.now) v.bodies (members v.numbers) };
+    ghost invariant = { λ v. AreWithin (length v.bytes.now) v.bodies (members v.outline.numbers) };
 }
 
 /// Shows the type and how many bytes the message takes, and none of them.
 impl fmt::Debug for View<'_> {
     fn fmt<W: fmt::Write>(&self, f: &mut fmt::Formatter<W>) -> fmt::Result {
         f.debug_struct("View")
-            .field("mti", &self.mti.number())
-            .field("used", &self.used)
+            .field("mti", &self.outline.mti.number())
+            .field("used", &self.outline.used)
             .finish()
     }
 }
@@ -130,14 +170,14 @@ impl<'a> View<'a> {
     pub fn mti(&self) -> Mti
         ensures { mti_number result ≡ self.now.mti }
     {
-        self.mti
+        self.outline.mti
     }
 
     /// How many bytes the message takes. Takes no memory.
     pub fn used(&self) -> usize
         ensures { result ≡ self.now.used }
     {
-        self.used
+        self.outline.used
     }
 
     /// The body of an element as it lies there, behind its length and with its padding, if the message has it. Takes
@@ -146,30 +186,6 @@ impl<'a> View<'a> {
         ensures { MatchOption result (value_in self.now.wires n ≡ None)
             (λ v. value_in self.now.wires n ≡ Some v.now) }
     {
-        body_of(self.numbers, &self.bodies, self.bytes, n)
+        body_of(self.outline.numbers, &self.bodies, self.bytes, n)
     }
-}
-
-/// What `view` answers.
-pub fn view_of<'a>(table: &Table, bytes: &'a [u8]) -> Result<View<'a>, UnpackFault>
-    ensures exact { result ≡ view_at table.now bytes.now }
-    ensures good { AreGood table.now.rows }
-{
-    let mti = type_of(table, bytes)?;
-    let size = table.mti().mti_size();
-    let (_, rest) = bytes.split_at(size);
-    let (primary, secondary, used) = words_of(table, size, rest)?;
-    let numbers = Bitmap::from_words(primary, secondary);
-    let mut bodies = Bodies {
-        starts: [0; PLACES],
-        sizes: [0; PLACES],
-    };
-    let end = find_bodies(table, numbers, size + used, bytes, &mut bodies)?;
-    Ok(View {
-        mti,
-        used: end,
-        bytes,
-        numbers,
-        bodies,
-    })
 }

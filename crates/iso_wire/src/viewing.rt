@@ -1,7 +1,6 @@
 //! Reading a message without copying it.
 
 ghost use Rattle.std.specs.Prelude.{◌≢◌, ◌++◌, ℕ, List, IfOk, IfErr};
-ghost use Rattle.iso_table.specs.Layout.{AreGood};
 ghost use Rattle.iso_wire.specs.declared.fault.UnpackCause.{UnpackCause};
 ghost use Rattle.iso_wire.specs.declared.fault.UnpackCause.TheVariants.{Short, Memory};
 ghost use Rattle.iso_wire.specs.Reading.{halt, message_at};
@@ -9,19 +8,10 @@ ghost use Rattle.iso_wire.specs.Spelling.{AreBytes, BeginsWithNone, Parts};
 ghost use Rattle.iso_wire.specs.Stops.{Stops};
 ghost use Rattle.iso_wire.specs.Viewing.{Views, ViewsSpelled, IsViewed, Wired};
 
-use crate::bodies::{View, view_of};
+use crate::bodies::{Bodies, View, outline_of};
 use crate::fault::UnpackFault;
 use crate::laws::{reads_spellings, stops};
 use iso_table::Table;
-
-/// What [`view`] answers.
-fn seen<'a>(table: &Table, bytes: &'a [u8]) -> Result<View<'a>, UnpackFault>
-    ensures exact { Views table.now bytes.now result (message_at table.now bytes.now) }
-    ensures good { AreGood table.now.rows }
-{
-    iso_parts::laws::parts();
-    view_of(table, bytes)
-}
 
 /// Views the message that the bytes begin with, and leaves it where it lies; bytes behind it are left. It accepts what
 /// `unpack` accepts, and refuses the rest with the same fault. Takes no memory.
@@ -49,5 +39,11 @@ pub fn view<'a>(table: &Table, bytes: &'a [u8]) -> Result<View<'a>, UnpackFault>
     reads_spellings();
     stops();
     iso_parts::laws::parts();
-    seen(table, bytes)
+    let mut bodies = Bodies::none();
+    let outline = outline_of(table, bytes, &mut bodies)?;
+    Ok(View {
+        outline,
+        bytes,
+        bodies,
+    })
 }
