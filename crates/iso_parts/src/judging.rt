@@ -272,12 +272,9 @@ fn judged_of(spec: &FieldSpec, bytes: &[u8]) -> Result<Judged, FieldFault>
     ensures memory { IfErr result (λ e. e ≢ Memory) }
     ensures room { IfJudged result (λ body used. (body ≤ used) × (used ≤ length bytes.now)) }
 {
-    if !spec.coding.is_plain() {
-        return judge_behind_length_apart(spec, bytes);
-    }
     match spec.length {
-        Length::Fixed => judge_fixed(spec, bytes),
-        Length::LL(Digits::Ascii) => judge_behind_length(spec, bytes),
+        Length::Fixed if spec.coding.is_plain() => judge_fixed(spec, bytes),
+        Length::LL(Digits::Ascii) if spec.coding.is_plain() => judge_behind_length(spec, bytes),
         _ => judge_behind_length_apart(spec, bytes),
     }
 }
