@@ -1,5 +1,6 @@
 use Rattle.std.proofs.Common.{◌≡◌, ap, sym, ◌∙◌}
-use Rattle.std.specs.Prelude.{false, option_map, if◌then◌else◌}
+use Rattle.std.specs.Prelude.{false, Some, option_map, if◌then◌else◌}
+use Rattle.iso_order.specs.Order.{money_of}
 use Rattle.iso_issuer.specs.Account.{account_of}
 use Rattle.iso_issuer.specs.Journal.{is_reversed, is_nothing, left_at}
 use Rattle.iso_issuer.specs.Decision.{money_code, account_code}
@@ -13,10 +14,11 @@ pub returns-else-is_nothing-clause-value : goal.returns-else-is_nothing-clause-v
 returns-else-is_nothing-clause-value c = λ entries balances sums row own.
     let accounts = accounts_of balances in
     let money = c.in-Some.money in
-    let left : c.args.left ≡ left_at entries c.args.order.key = own (money-kept c.args.order.act money c.in-Some.ensures) in
-    let found : c.balance_in.result ≡ option_map (balance_on entries) (account_of accounts money.pan) = c.balance_in.ensures ∙ row.balance money c.in-Some.ensures ∙ balance-of entries balances money.pan sums in
+    let about : Some money ≡ money_of c.args.order.act = c.in-Some.ensures ∙ ap money_of c.act.ensures.value in
+    let left : c.args.left ≡ left_at entries c.args.order.key = own (money-kept c.args.order.act money about) in
+    let found : c.balance_in.result ≡ option_map (balance_on entries) (account_of accounts money.pan) = c.balance_in.ensures ∙ row.balance money about ∙ balance-of entries balances money.pan sums in
     let code : c.account_code.result ≡ account_code entries c.args.order money (account_of accounts money.pan) = c.account_code.ensures.value entries (account_of accounts money.pan) found left in
     let fresh : is_reversed entries c.args.order.key ≡ false = ap is_nothing (sym left) ∙ sym c.is_nothing.ensures ∙ c.if-is_nothing.false in
     code
     ∙ sym (ap (λ b. if b then 21 else account_code entries c.args.order money (account_of accounts money.pan)) fresh)
-    ∙ ap (money_code accounts entries c.args.order) c.in-Some.ensures
+    ∙ ap (money_code accounts entries c.args.order) about
