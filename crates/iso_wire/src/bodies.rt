@@ -48,18 +48,18 @@ pub(crate) struct Outline {
     pub(crate) used: usize,
 }
 
-/// Judges the part of element `n`, which begins at `at`: where its body begins in it, and how many bytes it takes.
-fn judge_wire(table: &Table, n: u8, at: usize, bytes: &[u8]) -> Result<(usize, usize), UnpackFault>
-    requires { at ≤ length bytes.now }
-    ensures exact { JudgesWire (row_at table.now.rows n) result (value_at table.now.rows n at (drop at bytes.now)) }
-    ensures room { IfOk result (λ x. (x.0 ≤ x.1) × (at + x.1 ≤ length bytes.now)) }
+/// Judges the part of element `n`, which begins at `at`, at the front of the rest of the bytes: where its body begins in
+/// it, and how many bytes it takes.
+fn judge_wire(table: &Table, n: u8, at: usize, rest: &[u8]) -> Result<(usize, usize), UnpackFault>
+    requires { at ≤ 36 + longest_part * 127 }
+    ensures exact { JudgesWire (row_at table.now.rows n) result (value_at table.now.rows n at rest.now) }
+    ensures room { IfOk result (λ x. (x.0 ≤ x.1) × (x.1 ≤ length rest.now)) }
     ensures few { IfOk result (λ x. x.1 ≤ longest_part) }
 {
     iso_parts::laws::parts();
     let Some(row) = table.row(n) else {
         return Err(UnpackFault::stop(n, at, UnpackCause::UnknownElement(n)));
     };
-    let (_, rest) = bytes.split_at(at);
     match judge_field(row, rest) {
         Ok(Judged::Got { body, used }) => Ok((body, used)),
         Ok(Judged::More) => {
@@ -89,11 +89,14 @@ fn find_bodies(
 {
     let mut rest = numbers;
     let mut at = start;
+    let (_, mut left) = bytes.split_at(start);
     while let Some(n) = rest.take_first() {
-        let (body, used) = judge_wire(table, n, at, bytes)?;
+        let (body, used) = judge_wire(table, n, at, left)?;
         bodies.starts[n as usize] = (at + body) as u32;
         bodies.sizes[n as usize] = (used - body) as u16;
         at += used;
+        let (_, behind) = left.split_at(used);
+        left = behind;
     }
     Ok(at)
 }

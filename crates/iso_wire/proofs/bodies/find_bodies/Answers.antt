@@ -1,4 +1,5 @@
-use Rattle.std.proofs.Common.{length, ap, arith, refl, rules}
+use Rattle.std.proofs.Common.{◌≤◌, ◌+◌, length, drop, ap, arith, refl, rules, ◌∙◌}
+use Rattle.std.proofs.lemmas.List.{drop-drop, length-drop}
 use Rattle.iso_parts.specs.Numbers.{members}
 use Rattle.iso_wire.proofs.Wires.{found_first, found_next, few_left, left_ascend}
 use Rattle.iso_wire.proofs.bodies.find_bodies.Goals as goal
@@ -6,6 +7,7 @@ use Rattle.iso_wire.proofs.bodies.find_bodies.Goals as goal
 pub loop-n-init : goal.loop-n-init
 loop-n-init c = record {
   found = found_first c.args.table.now.rows c.args.bytes.now c.args.bodies.now (members c.args.numbers) c.args.start _ (left_ascend c.args.numbers) refl;
+  left = c.split_at.ensures.back;
   room = c.requires.within;
   few = omega (arith, c.requires.early, few_left c.args.numbers);
   starts = search rules;
@@ -15,11 +17,14 @@ loop-n-init c = record {
 pub loop-n-preserved : goal.loop-n-preserved
 loop-n-preserved c =
     let l = c.loop-n in
-    let read = c.in_ok-body.ensures.exact in
+    let b = c.args.bytes.now in
+    let read = rw l.invariant.left at c.in_ok-body.ensures.exact in
     let fewer = ap length c.in-Some.ensures in
+    let room : l.at + c.in_ok-body.used ≤ length b = omega (arith, c.in_ok-body.ensures.room.1, ap length l.invariant.left, length-drop l.at b, l.invariant.room) in
     record {
-      found = found_next c.args.table.now.rows c.args.bytes.now l.bodies (members c.args.numbers) (members l.rest) (members c.take_first.new.self) read.1.0 c.in-Some.n l.at c.in_ok-body.body c.in_ok-body.used _ _ _ l.invariant.found c.in-Some.ensures l.invariant.starts l.invariant.sizes read.0 read.1.1 refl refl c.in_ok-body.ensures.room.0 c.in_ok-body.ensures.room.1;
-      room = c.in_ok-body.ensures.room.1;
+      found = found_next c.args.table.now.rows b l.bodies (members c.args.numbers) (members l.rest) (members c.take_first.new.self) read.1.0 c.in-Some.n l.at c.in_ok-body.body c.in_ok-body.used _ _ _ l.invariant.found c.in-Some.ensures l.invariant.starts l.invariant.sizes read.0 read.1.1 refl refl c.in_ok-body.ensures.room.0 room;
+      left = c.split_at-in-Some.ensures.back ∙ ap (drop c.in_ok-body.used) l.invariant.left ∙ drop-drop c.in_ok-body.used l.at b;
+      room = room;
       few = omega (arith, fewer, l.invariant.few, c.in_ok-body.ensures.few);
       starts = search rules;
       sizes = search rules;

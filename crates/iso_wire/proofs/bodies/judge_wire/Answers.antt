@@ -8,4 +8,4 @@ judge_field-requires c = c.row.ensures.good c.args.n c.in-Some.row.now (sym c.in
 pub returns-in-Ok-Got-clause-few : goal.returns-in-Ok-Got-clause-few
 returns-in-Ok-Got-clause-few c =
     let read = rw c.in-Ok-Got.field-0-is at c.in-Ok-Got.ensures.exact in
-    got_few c.parts.ensures c.in-Some.row.now c.split_at.result.1.now read.1.0 c.in-Ok-Got.used (c.row.ensures.good c.args.n c.in-Some.row.now (sym c.in-Some.ensures.row)) read.1.1
+    got_few c.parts.ensures c.in-Some.row.now c.args.rest.now read.1.0 c.in-Ok-Got.used (c.row.ensures.good c.args.n c.in-Some.row.now (sym c.in-Some.ensures.row)) read.1.1
