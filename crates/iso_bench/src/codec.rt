@@ -44,19 +44,15 @@ fn write_speed(
     Speed::since(rt, start, u64::from(times))
 }
 
-/// Views the bytes so many times, and reads each time the first byte of that element's body.
-fn view_speed(
-    rt: &impl Clock,
-    table: &Table,
-    bytes: &[u8],
-    element: u8,
-    times: u32,
-) -> Result<Speed> {
+/// Views the bytes so many times, and reads each time the first byte of a body. The payment has element 2, and the large
+/// message element 126.
+fn view_speed(rt: &impl Clock, table: &Table, bytes: &[u8], times: u32) -> Result<Speed> {
     let start = Instant::now(rt)?;
     for _ in 0..times {
         let view = view(table, bytes)?;
         ensure!(view.used() == bytes.len(), "bytes are left");
-        let first = view.wire(element).and_then(|body| body.first());
+        let body = view.wire(2).or_else(|| view.wire(126));
+        let first = body.and_then(|body| body.first());
         ensure!(first.is_some_and(|b| *b != 0), "an element is missing");
     }
     Speed::since(rt, start, u64::from(times))
@@ -85,8 +81,7 @@ fn measure_one(
     print(rt, "unpack", bytes.len(), speed)?;
     let speed = write_speed(rt, alloc, table, &message, times)?;
     print(rt, "pack", bytes.len(), speed)?;
-    let last = message.elements().highest();
-    let speed = view_speed(rt, table, bytes, last, times)?;
+    let speed = view_speed(rt, table, bytes, times)?;
     print(rt, "view", bytes.len(), speed)
 }
 

@@ -1,6 +1,6 @@
 -- The bytes that spell a message under a table (ISO 8583:1987, structure of a message): its type, its bitmaps, and
 -- the parts of its elements in ascending order.
-use Rattle.std.specs.Prelude.{◌≡◌, ℕ, ◌+◌, ◌/◌, ◌<◌, Bool, List, [], ◌∷◌, ◌++◌, Option, Some, None, ◌≤◌, take, length, slice_index}
+use Rattle.std.specs.Prelude.{◌≡◌, ℕ, ◌/◌, ◌<◌, Bool, List, [], ◌∷◌, ◌++◌, Option, Some, None, ◌≤◌, take, length, slice_index}
 use Rattle.std.specs.List.{flat_map}
 use Rattle.iso_parts.specs.declared.prefix.Digits.{Digits}
 use Rattle.iso_parts.specs.declared.spec.FieldSpec.{FieldSpec}

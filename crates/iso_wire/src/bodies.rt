@@ -6,11 +6,11 @@ ghost use Rattle.iso_table.specs.Layout.{row_at, AreGood};
 ghost use Rattle.iso_wire.specs.Elements.{value_in};
 ghost use Rattle.iso_wire.specs.Reading.{value_at};
 ghost use Rattle.iso_parts.specs.Numbers.{members};
-ghost use Rattle.iso_wire.specs.Bodies.{longest_part, wires_in, IsBodyWithin, AreWithin, wires_at, view_at, JudgesWire, FindsBodies, Outlines};
+ghost use Rattle.iso_wire.specs.Bodies.{longest_part, wires_in, AreWithin, wires_at, view_at, JudgesWire, FindsBodies, Outlines};
 
-use crate::bitmaps::words_of;
 use crate::fault::{UnpackCause, UnpackFault};
-use crate::unpacking::{fault_place, type_of};
+use crate::front::{type_of, words_of};
+use crate::unpacking::fault_place;
 use iso_parts::{Bitmap, Judged, Mti, judge_field};
 use iso_table::Table;
 use std::fmt;

@@ -9,11 +9,10 @@ ghost use Rattle.iso_wire.specs.Reading.{Gives, Unpacks, value_at, elements_at, 
 ghost use Rattle.iso_parts.specs.Bits.{contains, AreElements};
 ghost use Rattle.iso_parts.specs.Numbers.{members};
 
-use crate::bitmaps::words_of;
 use crate::elements::Elements;
 use crate::fault::UnpackFault;
+use crate::front::{type_of, words_of};
 use crate::message::Message;
-use crate::unpacking::type_of;
 use iso_parts::{Bitmap, LONGEST_VALUE, decode_judged};
 use iso_table::Table;
 use std::alloc::Global;

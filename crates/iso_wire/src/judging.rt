@@ -1,16 +1,14 @@
 //! Judging a message without building it: from a piece on, and without memory.
 
-ghost use Rattle.std.specs.Prelude.{◌≡◌, ◌≤◌, ◌+◌, ◌∷◌, ◌<◌, ◌^◌, drop, length, IfOk, Some};
+ghost use Rattle.std.specs.Prelude.{◌≡◌, ◌≤◌, ◌+◌, ◌∷◌, ◌<◌, length, IfOk, Some};
 ghost use Rattle.iso_parts.specs.Bits.{map_size};
 ghost use Rattle.iso_parts.specs.Spec.{IsGood};
-ghost use Rattle.iso_table.specs.Layout.{AreGood, row_at};
 ghost use Rattle.iso_parts.specs.Mti.{mti_size};
 ghost use Rattle.iso_wire.specs.Judging.{IsPointWithin, Resumes, Steps, body_end};
 ghost use Rattle.iso_parts.specs.Numbers.{members};
 
-use crate::bitmaps::{primary_of, secondary_of};
 use crate::fault::{UnpackCause, UnpackFault};
-use crate::unpacking::type_of;
+use crate::front::{primary_of, secondary_of, type_of};
 use iso_parts::{Bitmap, FIRST_BIT, FieldSpec, judge_body, judge_length};
 use iso_table::Table;
 

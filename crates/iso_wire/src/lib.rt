@@ -2,7 +2,6 @@
 //! `unframe` takes them out.
 #![tactic(auto)]
 
-mod bitmaps;
 mod bodies;
 mod building;
 mod decimal;
@@ -10,6 +9,7 @@ mod describing;
 mod elements;
 mod fault;
 mod framing;
+mod front;
 mod header;
 mod iteration;
 mod judging;

@@ -1,8 +1,7 @@
 //! Reading a message.
 
 ghost use Rattle.std.specs.Prelude.{◌≡◌, ◌≢◌, ℕ, ◌+◌, ◌≤◌, ◌<◌, ◌++◌, ◌∷◌, List};
-ghost use Rattle.std.specs.Prelude.{length, take, drop, option_map, slice_index, IfOk, IfErr, OnOk};
-ghost use Rattle.iso_parts.specs.Mti.{mti_number};
+ghost use Rattle.std.specs.Prelude.{length, drop, IfOk, IfErr, OnOk};
 ghost use Rattle.iso_wire.specs.declared.fault.UnpackCause.{UnpackCause};
 ghost use Rattle.iso_wire.specs.declared.fault.UnpackCause.TheVariants.{Short, Memory};
 ghost use Rattle.iso_wire.specs.Contents.{Contents};
@@ -10,65 +9,22 @@ ghost use Rattle.iso_wire.specs.Elements.{IsAscending};
 ghost use Rattle.iso_wire.specs.Ends.{views, Awaits, IsWhole, IsNumbered};
 ghost use Rattle.iso_wire.specs.Faults.{out_of_memory};
 ghost use Rattle.iso_table.specs.Layout.{AreGood};
-ghost use Rattle.iso_parts.specs.Mti.{mti_size};
 ghost use Rattle.iso_wire.specs.Appending.{ReadsInto, AppendsPart, AppendsElement};
 ghost use Rattle.iso_wire.specs.Reading.{Gives, fault_place, value_at, elements_at, halt};
-ghost use Rattle.iso_wire.specs.Reading.{mti_of, type_at, message_at, Unpacks, whole};
+ghost use Rattle.iso_wire.specs.Reading.{message_at, Unpacks, whole};
 ghost use Rattle.iso_wire.specs.Spelling.{Spelling, AreBytes, BeginsWith, BeginsWithNone, IsUnambiguous};
 ghost use Rattle.iso_wire.specs.Stops.{Stops};
 ghost use Rattle.iso_parts.specs.Bits.{contains, AreElements};
 ghost use Rattle.iso_parts.specs.Numbers.{members};
 
-use crate::bitmaps::words_of;
 use crate::elements::Elements;
 use crate::fault::{UnpackCause, UnpackFault};
+use crate::front::{type_of, words_of};
 use crate::laws::{reads_spellings, stops};
 use crate::message::Message;
-use iso_parts::{Bitmap, Digits, FieldFault, FieldSpec, LONGEST_VALUE, Mti, decode_value};
+use iso_parts::{Bitmap, FieldFault, LONGEST_VALUE, Mti, decode_value};
 use iso_table::Table;
 use std::alloc::Global;
-
-/// The type that the bytes of one tell.
-fn mti_of(digits: Digits, bytes: &[u8]) -> Option<Mti>
-    requires { length bytes.now ≡ mti_size digits }
-    ensures { option_map mti_number result ≡ mti_of digits bytes.now }
-{
-    match (digits, bytes) {
-        (Digits::Ascii, _) => Mti::from_text(bytes),
-        (Digits::Bcd, [x, y]) => Mti::from_text(&[
-            b'0' + *x / 16,
-            b'0' + *x % 16,
-            b'0' + *y / 16,
-            b'0' + *y % 16,
-        ]),
-        _ => unreachable!(),
-    }
-}
-
-/// The message type that the bytes begin with.
-pub(crate) fn type_of(table: &Table, bytes: &[u8]) -> Result<Mti, UnpackFault>
-    ensures exact { Gives mti_number result (type_at table.now bytes.now) }
-    ensures room { OnOk result (mti_size table.now.mti ≤ length bytes.now) }
-    ensures no_memory { IfErr result (λ e. e.cause ≢ Memory) }
-    ensures good { AreGood table.now.rows }
-{
-    let version = table.version();
-    let size = table.mti().mti_size();
-    if bytes.len() < size {
-        return Err(UnpackFault::stop(0, 0, UnpackCause::Short));
-    }
-    let (front, _) = bytes.split_at(size);
-    match mti_of(table.mti(), front) {
-        None => Err(UnpackFault::stop(0, 0, UnpackCause::BadMti)),
-        Some(mti) => {
-            if mti.version == version {
-                Ok(mti)
-            } else {
-                Err(UnpackFault::stop(0, 0, UnpackCause::WrongVersion))
-            }
-        }
-    }
-}
 
 /// Where a faulty part stops being one, behind the part's start: at its length, or behind it.
 pub(crate) fn fault_place(fault: FieldFault, front: usize) -> usize

@@ -3,7 +3,7 @@ use Rattle.iso_parts.specs.Bits.{contains}
 use Rattle.iso_parts.specs.Numbers.{members}
 use Rattle.iso_wire.specs.Numbers.{unknown}
 use Rattle.iso_wire.proofs.NumberLaws.{missing_unknown}
-use Rattle.iso_wire.proofs.bitmaps.unknown_of.Goals as goal
+use Rattle.iso_wire.proofs.front.unknown_of.Goals as goal
 
 pub returns : goal.returns
 returns c =

@@ -1,15 +1,59 @@
-//! Reading the bitmaps of a message: which elements follow.
+//! What a message begins with: its type, and its bitmaps, which tell the elements that follow.
 
-ghost use Rattle.std.specs.Prelude.{◌≡◌, ◌≢◌, ◌≤◌, ◌<◌, ◌^◌, length, IfOk, IfErr};
+ghost use Rattle.std.specs.Prelude.{◌≡◌, ◌≢◌, ◌≤◌, ◌<◌, ◌^◌, length, option_map, IfOk, IfErr, OnOk};
 ghost use Rattle.iso_parts.specs.Bits.{map_size};
+ghost use Rattle.iso_parts.specs.Mti.{mti_number, mti_size};
 ghost use Rattle.iso_parts.specs.Numbers.{numbers_in};
+ghost use Rattle.iso_table.specs.Layout.{AreGood};
 ghost use Rattle.iso_wire.specs.Numbers.{unknown};
 ghost use Rattle.iso_wire.specs.declared.fault.UnpackCause.TheVariants.{Memory};
-ghost use Rattle.iso_wire.specs.Reading.{word_at, known_by, primary_at, secondary_at, words_at};
+ghost use Rattle.iso_wire.specs.Reading.{Gives, mti_of, type_at, word_at, known_by, primary_at, secondary_at, words_at};
 
 use crate::fault::{UnpackCause, UnpackFault};
-use iso_parts::{Bitmap, BitmapCoding, FIRST_BIT};
+use iso_parts::{Bitmap, BitmapCoding, Digits, FIRST_BIT, Mti};
 use iso_table::Table;
+
+/// The type that the bytes of one tell.
+fn mti_of(digits: Digits, bytes: &[u8]) -> Option<Mti>
+    requires { length bytes.now ≡ mti_size digits }
+    ensures { option_map mti_number result ≡ mti_of digits bytes.now }
+{
+    match (digits, bytes) {
+        (Digits::Ascii, _) => Mti::from_text(bytes),
+        (Digits::Bcd, [x, y]) => Mti::from_text(&[
+            b'0' + *x / 16,
+            b'0' + *x % 16,
+            b'0' + *y / 16,
+            b'0' + *y % 16,
+        ]),
+        _ => unreachable!(),
+    }
+}
+
+/// The message type that the bytes begin with.
+pub(crate) fn type_of(table: &Table, bytes: &[u8]) -> Result<Mti, UnpackFault>
+    ensures exact { Gives mti_number result (type_at table.now bytes.now) }
+    ensures room { OnOk result (mti_size table.now.mti ≤ length bytes.now) }
+    ensures no_memory { IfErr result (λ e. e.cause ≢ Memory) }
+    ensures good { AreGood table.now.rows }
+{
+    let version = table.version();
+    let size = table.mti().mti_size();
+    if bytes.len() < size {
+        return Err(UnpackFault::stop(0, 0, UnpackCause::Short));
+    }
+    let (front, _) = bytes.split_at(size);
+    match mti_of(table.mti(), front) {
+        None => Err(UnpackFault::stop(0, 0, UnpackCause::BadMti)),
+        Some(mti) => {
+            if mti.version == version {
+                Ok(mti)
+            } else {
+                Err(UnpackFault::stop(0, 0, UnpackCause::WrongVersion))
+            }
+        }
+    }
+}
 
 /// The word of the bitmap that the bytes begin with.
 fn word_of(coding: BitmapCoding, element: u8, at: usize, bytes: &[u8]) -> Result<u64, UnpackFault>
