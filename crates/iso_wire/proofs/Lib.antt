@@ -19,7 +19,7 @@ pub mod PlainLaws
 pub mod Endings
 pub mod FrameHeaders
 pub mod FrameSplits
-pub mod NoMemory
+pub mod NeverMemory
 pub mod Resumes
 pub mod Feeds
 pub mod Longest

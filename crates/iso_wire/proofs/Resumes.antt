@@ -24,7 +24,7 @@ use Rattle.iso_wire.specs.Reading.{◌>>=◌, halt, type_at, primary_at, seconda
 use Rattle.iso_wire.specs.ReadingLaws.{IsShort}
 use Rattle.iso_wire.specs.Judging.{end_of, end_of_elements, end_by, body_end, body_end_under, end_of_rest, behind_maps, secondary_words, ends_from, IsPointWithin, GoesOn, Resumes, Steps, IsResumed}
 use Rattle.iso_wire.proofs.Endings.{Stays, type_stays, primary_stays, secondary_stays}
-use Rattle.iso_wire.proofs.NoMemory.{NoMemory, message}
+use Rattle.iso_wire.proofs.NeverMemory.{NeverMemory, message}
 use Rattle.iso_wire.proofs.Orders.{Values}
 
 -- what is good stays, whatever follows
@@ -346,4 +346,4 @@ pub resumed_fault : (t : Layout) (b : List ℕ) (e : UnpackFault) → end_of (me
 resumed_fault t b e is = fault_of (message_at t b) e is
 
 pub fault_no_memory : (t : Layout) (b : List ℕ) (e : UnpackFault) → message_at t b ≡ Err e → e.cause ≢ causes.Memory
-fault_no_memory t b e is = subst NoMemory is (message t b)
+fault_no_memory t b e is = subst NeverMemory is (message t b)

@@ -23,7 +23,7 @@ use Rattle.iso_wire.specs.Spelling.{mti_bytes, AreBytes, BeginsWithNone, PartAs,
 use Rattle.iso_wire.specs.Bodies.{wire_at, wires_at, view_at}
 use Rattle.iso_wire.specs.Viewing.{Viewed, Wired, Views, ViewsSpelled, IsViewed}
 use Rattle.iso_wire.proofs.Bytes.{bytes_drop}
-use Rattle.iso_wire.proofs.NoMemory.{NoMemory, message}
+use Rattle.iso_wire.proofs.NeverMemory.{NeverMemory, message}
 use Rattle.iso_wire.proofs.ElementLaws.{value_taken}
 use Rattle.iso_wire.proofs.Orders.{Values}
 use Rattle.iso_wire.proofs.Unpacks.{spelled_is_read, is_refused, is_settled}
@@ -166,7 +166,7 @@ Wired-Parts rows (e ∷ es) (w ∷ ws) b h =
 
 pub never_memory : (t : Layout) (b : List ℕ) (r : Result Viewed UnpackFault) → Views t b r (message_at t b) → IfErr r (λ e. e.cause ≢ Memory)
 never_memory t b (Ok v) h = tt
-never_memory t b (Err e) h = subst NoMemory h (message t b)
+never_memory t b (Err e) h = subst NeverMemory h (message t b)
 
 -- ---- the parts of a spelling
 
@@ -231,13 +231,13 @@ module _ (reads : ReadsSpellings) where
       subst (Views t b r) (ap (message_at t) split ∙ spelled_is_read reads t m front rest good (subst AreBytes split fits) spelled) h
 
   fault_is : (t : Layout) (b : List ℕ) (e : UnpackFault) → message_at t b ≡ Err e → IsFaultOf e (message_at t b)
-  fault_is t b e is = let other : e.cause ≢ Memory = subst NoMemory is (message t b) in (λ memory. absurd (other memory), λ _. is)
+  fault_is t b e is = let other : e.cause ≢ Memory = subst NeverMemory is (message t b) in (λ memory. absurd (other memory), λ _. is)
 
   pub view_refused : (t : Layout) (b : List ℕ) (r : Result Viewed UnpackFault) → AreGood t.rows → AreBytes b → Views t b r (message_at t b) → IfErr r (λ e. BeginsWithNone t b)
   view_refused t b (Ok v) good fits h = tt
-  view_refused t b (Err e) good fits h = is_refused reads t b (Err e) good fits (fault_is t b e h) (subst NoMemory h (message t b))
+  view_refused t b (Err e) good fits h = is_refused reads t b (Err e) good fits (fault_is t b e h) (subst NeverMemory h (message t b))
 
   pub view_settled : ReadingStays → (t : Layout) (b : List ℕ) (r : Result Viewed UnpackFault) → AreGood t.rows → AreBytes b → Views t b r (message_at t b)
       → IfErr r (λ e. e.cause ≢ Short → (more : List ℕ) → AreBytes more → BeginsWithNone t (b ++ more))
   view_settled stays t b (Ok v) good fits h = tt
-  view_settled stays t b (Err e) good fits h = is_settled reads stays t b (Err e) good fits (fault_is t b e h) (subst NoMemory h (message t b))
+  view_settled stays t b (Err e) good fits h = is_settled reads stays t b (Err e) good fits (fault_is t b e h) (subst NeverMemory h (message t b))

@@ -123,7 +123,7 @@ within_append all bodies (k ∷ done) n h le = (h.0, within_append all bodies do
 -- ---- the loop
 
 -- the numbers that were done, and what holds of them and of those to come
-pub record Found (rows : List (Option FieldSpec)) (b : List ℕ) (bodies : Bodies) (old ns : List ℕ) (at : ℕ) (total : Result (Values × ℕ) UnpackFault) : Type 0 where
+pub record BodiesFound (rows : List (Option FieldSpec)) (b : List ℕ) (bodies : Bodies) (old ns : List ℕ) (at : ℕ) (total : Result (Values × ℕ) UnpackFault) : Type 0 where
   pub done : List ℕ
   pub next : ℕ
   pub numbers : done ++ ns ≡ old
@@ -132,7 +132,7 @@ pub record Found (rows : List (Option FieldSpec)) (b : List ℕ) (bodies : Bodie
   pub read : with_front (wires_in b bodies done) (wires_at rows ns at (drop at b)) ≡ total
   pub within : AreWithin (length b) bodies done
 
-pub found_first : (rows : List (Option FieldSpec)) (b : List ℕ) (bodies : Bodies) (old : List ℕ) (at : ℕ) (total : Result (Values × ℕ) UnpackFault) → Ascends 2 old → wires_at rows old at (drop at b) ≡ total → Found rows b bodies old old at total
+pub found_first : (rows : List (Option FieldSpec)) (b : List ℕ) (bodies : Bodies) (old : List ℕ) (at : ℕ) (total : Result (Values × ℕ) UnpackFault) → Ascends 2 old → wires_at rows old at (drop at b) ≡ total → BodiesFound rows b bodies old old at total
 found_first rows b bodies old at total asc is = record {
   done = [];
   next = 2;
@@ -147,9 +147,9 @@ found_first rows b bodies old at total asc is = record {
     nothing (Ok x) = refl
     nothing (Err e) = refl
 
-pub found_next : (rows : List (Option FieldSpec)) (b : List ℕ) (bodies : Bodies) (old ns rest v : List ℕ) (n at body used start size : ℕ) (total : Result (Values × ℕ) UnpackFault) → Found rows b bodies old ns at total
+pub found_next : (rows : List (Option FieldSpec)) (b : List ℕ) (bodies : Bodies) (old ns rest v : List ℕ) (n at body used start size : ℕ) (total : Result (Values × ℕ) UnpackFault) → BodiesFound rows b bodies old ns at total
     → ns ≡ n ∷ rest → length bodies.starts ≡ 129 → length bodies.sizes ≡ 129 → body ≡ front_of (row_at rows n) → value_at rows n at (drop at b) ≡ Ok (v, used) → start ≡ at + body → size ≡ used - body → body ≤ used → at + used ≤ length b
-    → Found rows b (with_body bodies n start size) old rest (at + used) total
+    → BodiesFound rows b (with_body bodies n start size) old rest (at + used) total
 found_next rows b bodies old ns rest v n at body used start size total h is starts sizes front read begins many inner last =
     let above : Ascends h.next (n ∷ rest) = subst (Ascends h.next) is h.above in
     let below : AreBelow n h.done = below_more h.next n h.done above.0 h.below in
@@ -173,7 +173,7 @@ found_next rows b bodies old ns rest v n at body used start size total h is star
       within = within_append (length b) new h.done n (within_stay (length b) bodies h.done n start size below h.within) (omega (arith, new_start, new_size, begins, many, inner, last));
     }
 
-pub found_all : (rows : List (Option FieldSpec)) (b : List ℕ) (bodies : Bodies) (old ns : List ℕ) (at : ℕ) (total : Result (Values × ℕ) UnpackFault) → Found rows b bodies old ns at total → ns ≡ [] → (total ≡ Ok (wires_in b bodies old, at)) × AreWithin (length b) bodies old
+pub found_all : (rows : List (Option FieldSpec)) (b : List ℕ) (bodies : Bodies) (old ns : List ℕ) (at : ℕ) (total : Result (Values × ℕ) UnpackFault) → BodiesFound rows b bodies old ns at total → ns ≡ [] → (total ≡ Ok (wires_in b bodies old, at)) × AreWithin (length b) bodies old
 found_all rows b bodies old ns at total h none =
     let all : h.done ≡ old = sym (append-nil h.done) ∙ ap (λ (l : List ℕ). h.done ++ l) (sym none) ∙ h.numbers in
     (wires_end rows (wires_in b bodies h.done) ns at (drop at b) total none h.read ∙ ap (λ (l : List ℕ). Ok (wires_in b bodies l, at)) all, subst (AreWithin (length b) bodies) all h.within)
