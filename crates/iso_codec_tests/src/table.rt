@@ -1,5 +1,5 @@
-use super::*;
 use iso_parts::{CharClass, Coding, Digits, FieldSpec, Length, Pad};
+use iso_table::*;
 use std::alloc::{AllocError, Global};
 use std::process::Abort;
 use std::test::*;

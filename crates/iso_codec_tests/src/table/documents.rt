@@ -1,5 +1,5 @@
 use super::*;
-use crate::fault::TableFault::{
+use iso_table::TableFault::{
     BadMax, BadNumber, BadVersion, CodingClass, NotJson, PadNotAllowed, Profile, Shape, Twice,
 };
 

@@ -1,5 +1,5 @@
 use super::*;
-use crate::members::{has_members, text_at};
+use iso_table::members::{has_members, text_at};
 use serde_json::Value;
 
 /// How many members an object has, a member given twice being one, and the text at its member `pad`.
