@@ -28,12 +28,12 @@ example() {
     fi
 }
 
-# tables/ has the built-in tables as the tests of iso_table have them, byte for byte
+# tables/ has the built-in tables as the tests of the codec have them, byte for byte
 tables() {
     same=0
     for table in ascii87 bcd87; do
         name=$(echo "$table" | tr a-z A-Z)
-        sed -n "/^const $name/,/\"#;\$/p" crates/iso_table/src/tests/edition87.rt | sed 's/.*r#"//; s/"#;$//' \
+        sed -n "/^const $name/,/\"#;\$/p" crates/iso_codec_tests/src/table/edition87.rt | sed 's/.*r#"//; s/"#;$//' \
             | tr -d '\n' > "$folder/table"
         if [ -s "$folder/table" ] && cmp -s "$folder/table" "tables/$table.json"; then
             same=$((same + 1))

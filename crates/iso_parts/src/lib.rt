@@ -29,6 +29,3 @@ pub use mti::{Mti, MtiClass};
 pub use padding::Pad;
 pub use prefix::{Digits, LONGEST_VALUE, Length, four_ascii_digits, four_bcd_digits, four_digits};
 pub use spec::{FieldSpec, SpecFault};
-
-#[cfg(test)]
-mod tests;

@@ -16,6 +16,3 @@ pub use draft::{Draft, Row};
 pub use fault::{HostTableFault, NoMemory, TableFault};
 pub use iso_parts::BitmapCoding;
 pub use table::Table;
-
-#[cfg(test)]
-mod tests;

@@ -17,8 +17,6 @@ pub mod laws;
 mod masking;
 mod message;
 mod packing;
-#[cfg(test)]
-mod tests;
 mod unpacker;
 mod unpacking;
 mod viewing;

@@ -1,8 +1,8 @@
 //! Bytes of strangers: `unpack`, `view` and `feed` refuse them alike.
 
 use super::*;
-use crate::UnpackCause::{BadMti, Field, Short, ThirdBitmap, UnknownElement};
 use iso_parts::FieldFault;
+use iso_wire::UnpackCause::{BadMti, Field, Short, ThirdBitmap, UnknownElement};
 
 /// A message, and where each of its pieces begins, with its element.
 #[derive(Drop)]

@@ -1,6 +1,6 @@
-use super::*;
 use iso_parts::{BitmapCoding, CharClass, Coding, Digits, FieldSpec, Length, Mti, Pad};
 use iso_table::{Draft, Row, Table, TableFault};
+use iso_wire::*;
 use std::alloc::Global;
 use std::test::*;
 

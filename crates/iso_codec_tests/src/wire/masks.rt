@@ -1,7 +1,7 @@
 //! What is printed of values.
 
 use super::*;
-use crate::{Framed, describe, describe_clear, masked};
+use iso_wire::{Framed, describe, describe_clear, masked};
 
 #[test]
 fn values_are_masked(rt: HostRuntime) -> Result<(), Fail> {

@@ -24,45 +24,61 @@ fn with_row(alloc: Global, element: u8, row: Option<FieldSpec>) -> Result<Table,
     Ok(Table::check(alloc, draft)?)
 }
 
+fn ready(table: &Table) -> Result<(), HostTableFault> {
+    table.host_ready()
+}
+
+/// What is said of a table with the terminal's row alone.
+fn terminals_ready(alloc: Global, version: u8) -> Result<Result<(), HostTableFault>, Fail> {
+    let draft = draft(alloc, ascii_table(version, &[(41, TERMINAL_ROW)], 44))?;
+    Ok(Table::check(alloc, draft)?.host_ready())
+}
+
 #[test]
 fn judges_whole_tables(rt: HostRuntime) -> Result<(), Fail> {
     let alloc = rt.alloc();
-    assert_eq!(rt; Table::ascii87(alloc)?.host_ready(), Ok(()));
-    assert_eq!(rt; Table::bcd87(alloc)?.host_ready(), Ok(()));
-    for (version, fault) in [
-        (0, HostTableFault::NoRow(2)),
-        (1, HostTableFault::NotVersion0),
-    ] {
-        let draft = draft(alloc, ascii_table(version, &[(41, TERMINAL_ROW)], 44))?;
-        let table = Table::check(alloc, draft)?;
-        assert_eq!(rt; table.host_ready(), Err(fault), "version {version}");
-    }
+    assert!(rt; ready(&ascii87(alloc)?) == Ok(()));
+    assert!(rt; ready(&bcd87(alloc)?) == Ok(()));
+    let version_0 = terminals_ready(alloc, 0)?;
+    assert!(rt; version_0 == Err(HostTableFault::NoRow(2)), "version 0");
+    let version_1 = terminals_ready(alloc, 1)?;
+    assert!(rt; version_1 == Err(HostTableFault::NotVersion0), "version 1");
     Ok(())
+}
+
+/// Whether that is said of the table with another row for one element, or with none.
+fn is_told(
+    alloc: Global,
+    element: u8,
+    row: Option<FieldSpec>,
+    want: Result<(), HostTableFault>,
+) -> Result<bool, Fail> {
+    Ok(with_row(alloc, element, row)?.host_ready() == want)
 }
 
 #[test]
 fn needs_rows(rt: HostRuntime) -> Result<(), Fail> {
     for element in [2, 3, 4, 7, 11, 32, 38, 39, 49, 54, 70, 90] {
-        let ready = with_row(rt.alloc(), element, None)?.host_ready();
-        assert_eq!(rt;
-            ready,
-            Err(HostTableFault::NoRow(element)),
+        let fault = Err(HostTableFault::NoRow(element));
+        assert!(rt;
+            is_told(rt.alloc(), element, None, fault)?,
             "element {element}"
         );
     }
     for element in [5, 12, 13, 33, 37, 41, 42, 128] {
-        let ready = with_row(rt.alloc(), element, None)?.host_ready();
-        assert_eq!(rt; ready, Ok(()), "element {element}");
+        assert!(rt;
+            is_told(rt.alloc(), element, None, Ok(()))?,
+            "element {element}"
+        );
     }
     Ok(())
 }
 
-#[test]
-fn takes_rows(rt: HostRuntime) -> Result<(), Fail> {
+fn good_rows() -> [(u8, FieldSpec); 17] {
     let (ascii, fixed) = (Coding::Ascii, Length::Fixed);
     let (ll, lll) = (Length::LL(Digits::Ascii), Length::LLL(Digits::Bcd));
     let llll = Length::LLLL(Digits::Ascii);
-    for (element, row) in [
+    [
         (2, number(Coding::Bcd, lll, 1)),
         (3, number(Coding::Bcd, fixed, 6)),
         (12, bytes(Coding::Raw, lll, 99)),
@@ -80,19 +96,23 @@ fn takes_rows(rt: HostRuntime) -> Result<(), Fail> {
         (54, text(lll, 20)),
         (54, spec(CharClass::AN, ascii, ll, 99, Pad::None)),
         (90, number(Coding::Bcd, fixed, 42)),
-    ] {
-        let ready = with_row(rt.alloc(), element, Some(row))?.host_ready();
-        assert_eq!(rt; ready, Ok(()), "element {element}: {row:?}");
+    ]
+}
+
+#[test]
+fn takes_rows(rt: HostRuntime) -> Result<(), Fail> {
+    for (element, row) in &good_rows() {
+        let is_ready = is_told(rt.alloc(), *element, Some(*row), Ok(()))?;
+        assert!(rt; is_ready, "element {element}: {row:?}");
     }
     Ok(())
 }
 
-#[test]
-fn refuses_shapes(rt: HostRuntime) -> Result<(), Fail> {
+fn bad_rows() -> [(u8, FieldSpec); 31] {
     let (ascii, fixed) = (Coding::Ascii, Length::Fixed);
     let (ll, lll) = (Length::LL(Digits::Ascii), Length::LLL(Digits::Ascii));
     let llll = Length::LLLL(Digits::Bcd);
-    for (element, row) in [
+    [
         (2, number(ascii, ll, 20)),
         (2, number(ascii, fixed, 19)),
         (2, text(ll, 19)),
@@ -127,10 +147,15 @@ fn refuses_shapes(rt: HostRuntime) -> Result<(), Fail> {
         (70, number(ascii, fixed, 2)),
         (90, number(ascii, fixed, 41)),
         (90, number(ascii, lll, 42)),
-    ] {
-        let ready = with_row(rt.alloc(), element, Some(row))?.host_ready();
-        let fault = HostTableFault::RowShape(element);
-        assert_eq!(rt; ready, Err(fault), "element {element}: {row:?}");
+    ]
+}
+
+#[test]
+fn refuses_shapes(rt: HostRuntime) -> Result<(), Fail> {
+    for (element, row) in &bad_rows() {
+        let fault = Err(HostTableFault::RowShape(*element));
+        let is_refused = is_told(rt.alloc(), *element, Some(*row), fault)?;
+        assert!(rt; is_refused, "element {element}: {row:?}");
     }
     Ok(())
 }

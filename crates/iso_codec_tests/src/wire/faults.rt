@@ -1,7 +1,7 @@
 //! The numbers of faults.
 
-use crate::{FrameFault, PackFault, SetFault, UnpackCause};
 use iso_parts::FieldFault;
+use iso_wire::{FrameFault, PackFault, SetFault, UnpackCause};
 use std::test::Fail;
 
 #[test]

@@ -1,6 +1,8 @@
 use super::*;
-use crate::UnpackCause::{BadHex, BadMti, Field, Short, ThirdBitmap, UnknownElement, WrongVersion};
 use iso_parts::FieldFault;
+use iso_wire::UnpackCause::{
+    BadHex, BadMti, Field, Short, ThirdBitmap, UnknownElement, WrongVersion,
+};
 
 #[test]
 fn bytes_are_refused(rt: HostRuntime) -> Result<(), Fail> {

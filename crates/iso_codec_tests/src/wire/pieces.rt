@@ -1,8 +1,8 @@
 //! Messages in pieces.
 
 use super::*;
-use crate::UnpackCause::{BadMti, Field};
 use iso_parts::FieldFault;
+use iso_wire::UnpackCause::{BadMti, Field};
 
 /// What is answered to a piece, but for the message itself.
 #[derive(Clone, Copy, Debug, PartialEq, Eq)]

@@ -1,5 +1,5 @@
-use super::*;
 use iso_parts::{CharClass, Coding, Digits, FieldSpec, Length, Pad};
+use iso_table::*;
 use std::alloc::{AllocError, Global};
 use std::process::Abort;
 use std::test::*;
@@ -90,29 +90,52 @@ fn draft(alloc: Global, says: Says) -> Result<Draft, AllocError> {
 
 /// That a table says so.
 fn assert_says(rt: &impl Abort, name: &str, table: &Table, says: Says) {
-    assert_eq!(rt; table.version(), says.version, "{name}");
-    assert_eq!(rt; table.mti(), says.mti, "{name}");
-    assert_eq!(rt; table.bitmap(), says.bitmap, "{name}");
-    assert_eq!(rt; table.rows(), says.rows.len(), "{name}");
-    assert_eq!(rt; table.max_bytes(), says.max_bytes, "{name}");
+    assert!(rt;
+        has_heading(table, says.version, says.mti, says.bitmap),
+        "{name}"
+    );
+    assert!(rt; has_size(table, says.rows.len(), says.max_bytes), "{name}");
     for (element, row) in says.rows {
-        let found = table.row(*element).copied();
-        assert_eq!(rt; found, Some(*row), "{name}: element {element}");
-        assert!(rt; table.known().has(*element), "{name}: element {element}");
+        assert!(rt;
+            has_row(table, *element, Some(*row)),
+            "{name}: element {element}"
+        );
     }
 }
 
-#[test]
-fn builds_ascii87(rt: HostRuntime) -> Result<(), Fail> {
-    let table = Table::ascii87(rt.alloc())?;
+fn has_heading(table: &Table, version: u8, mti: Digits, bitmap: BitmapCoding) -> bool {
+    table.version() == version && table.mti() == mti && table.bitmap() == bitmap
+}
+
+/// Whether the table has so many rows, and so many bytes are its longest message.
+fn has_size(table: &Table, rows: usize, max_bytes: u64) -> bool {
+    table.rows() == rows && table.max_bytes() == max_bytes
+}
+
+/// Whether that is the row of the element, which is known where it has one.
+fn has_row(table: &Table, element: u8, row: Option<FieldSpec>) -> bool {
+    table.row(element).copied() == row && table.known().has(element) == row.is_some()
+}
+
+/// The table of the 1987 edition in ASCII.
+fn ascii87(alloc: Global) -> Result<Table, Fail> {
+    Ok(Table::ascii87(alloc)?)
+}
+
+/// The table of the 1987 edition in BCD.
+fn bcd87(alloc: Global) -> Result<Table, Fail> {
+    Ok(Table::bcd87(alloc)?)
+}
+
+/// The table that a document gives.
+fn read(alloc: Global, text: &[u8]) -> Result<Table, Fail> {
+    Ok(Table::from_json(alloc, text)?)
+}
+
+fn ascii87_rows() -> [(u8, Option<FieldSpec>); 15] {
     let (ascii, ll) = (Coding::Ascii, Length::LL(Digits::Ascii));
     let lll = Length::LLL(Digits::Ascii);
-    assert_eq!(rt;
-        (table.version(), table.mti(), table.bitmap()),
-        (0, Digits::Ascii, BitmapCoding::Hex)
-    );
-    assert_eq!(rt; (table.rows(), table.max_bytes()), (126, 36470));
-    for (element, row) in [
+    [
         (1, None),
         (2, Some(number(ascii, ll, 19))),
         (3, Some(number(ascii, Length::Fixed, 6))),
@@ -128,42 +151,41 @@ fn builds_ascii87(rt: HostRuntime) -> Result<(), Fail> {
         (127, Some(text(lll, 999))),
         (128, Some(bytes(Coding::HexText, Length::Fixed, 8))),
         (129, None),
-    ] {
-        assert_eq!(rt; table.row(element).copied(), row, "element {element}");
-        assert_eq!(rt;
-            table.known().has(element),
-            row.is_some(),
-            "element {element}"
-        );
+    ]
+}
+
+#[test]
+fn builds_ascii87(rt: HostRuntime) -> Result<(), Fail> {
+    let table = ascii87(rt.alloc())?;
+    assert!(rt; has_heading(&table, 0, Digits::Ascii, BitmapCoding::Hex));
+    assert!(rt; has_size(&table, 126, 36470));
+    for (element, row) in &ascii87_rows() {
+        assert!(rt; has_row(&table, *element, *row), "element {element}");
     }
     Ok(())
 }
 
-#[test]
-fn builds_bcd87(rt: HostRuntime) -> Result<(), Fail> {
-    let table = Table::bcd87(rt.alloc())?;
+fn bcd87_rows() -> [(u8, FieldSpec); 7] {
     let (bcd, ll) = (Coding::Bcd, Length::LL(Digits::Bcd));
     let lll = Length::LLL(Digits::Bcd);
-    assert_eq!(rt;
-        (table.version(), table.mti(), table.bitmap()),
-        (0, Digits::Bcd, BitmapCoding::Raw)
-    );
-    assert_eq!(rt; (table.rows(), table.max_bytes()), (126, 36141));
-    for (element, row) in [
-        (2, Some(number(bcd, ll, 19))),
-        (34, Some(text(ll, 28))),
-        (52, Some(bytes(Coding::Raw, Length::Fixed, 8))),
-        (55, Some(bytes(Coding::Raw, lll, 999))),
-        (63, Some(text(lll, 999))),
-        (90, Some(number(bcd, Length::Fixed, 42))),
-        (100, Some(number(bcd, ll, 11))),
-    ] {
-        assert_eq!(rt; table.row(element).copied(), row, "element {element}");
-        assert_eq!(rt;
-            table.known().has(element),
-            row.is_some(),
-            "element {element}"
-        );
+    [
+        (2, number(bcd, ll, 19)),
+        (34, text(ll, 28)),
+        (52, bytes(Coding::Raw, Length::Fixed, 8)),
+        (55, bytes(Coding::Raw, lll, 999)),
+        (63, text(lll, 999)),
+        (90, number(bcd, Length::Fixed, 42)),
+        (100, number(bcd, ll, 11)),
+    ]
+}
+
+#[test]
+fn builds_bcd87(rt: HostRuntime) -> Result<(), Fail> {
+    let table = bcd87(rt.alloc())?;
+    assert!(rt; has_heading(&table, 0, Digits::Bcd, BitmapCoding::Raw));
+    assert!(rt; has_size(&table, 126, 36141));
+    for (element, row) in &bcd87_rows() {
+        assert!(rt; has_row(&table, *element, Some(*row)), "element {element}");
     }
     Ok(())
 }

@@ -1,8 +1,8 @@
 //! Messages that are read one after another, each into the memory of those before it.
 
 use super::*;
-use crate::UnpackCause::{BadHex, BadMti, Field, Short};
 use iso_parts::FieldFault;
+use iso_wire::UnpackCause::{BadHex, BadMti, Field, Short};
 
 #[test]
 fn a_message_is_read_into_memory_that_was_given_back(rt: HostRuntime) -> Result<(), Fail> {

@@ -1,8 +1,8 @@
 //! Where bytes stop being a message, under the tables of the 1987 edition.
 
 use super::*;
-use crate::UnpackCause::{BadMti, Field, Short, UnknownElement};
 use iso_parts::FieldFault;
+use iso_wire::UnpackCause::{BadMti, Field, Short, UnknownElement};
 
 const REVERSAL: &[u8] =
     b"04208220000100000000000000400000000001020305000000080512345020000000701020304050000001234500000000000";

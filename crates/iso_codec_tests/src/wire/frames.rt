@@ -1,10 +1,10 @@
 //! Frames whose bytes are known from outside.
 
 use super::*;
-use crate::FrameFault::{BadDigits, TooLong};
-use crate::Framed::{Got, More};
-use crate::Header::{Ascii4, Bcd2, Binary2};
-use crate::{
+use iso_wire::FrameFault::{BadDigits, TooLong};
+use iso_wire::Framed::{Got, More};
+use iso_wire::Header::{Ascii4, Bcd2, Binary2};
+use iso_wire::{
     FrameFault, Framed, Header, append_frame, body_length, close_frame, frame, open_frame, unframe,
 };
 
@@ -184,15 +184,20 @@ fn a_frame_that_is_too_long_stays_open(rt: HostRuntime) -> Result<(), Fail> {
 
 #[test]
 fn headers_tell_lengths(rt: HostRuntime) -> Result<(), Fail> {
-    let cases: [(&str, Header, &[u8], Option<u16>); 5] = [
-        ("two bytes", Binary2, b"\x27\x10", Some(10_000)),
-        ("four digits", Ascii4, b"0055", Some(55)),
-        ("two bytes of digits", Bcd2, b"\x00\x55", Some(55)),
-        ("a nibble that is no digit", Bcd2, b"\x00\x5A", None),
-        ("three digits", Ascii4, b"055", None),
+    let cases: [(&str, Header, &[u8], Result<Option<usize>, FrameFault>); 5] = [
+        ("two bytes", Binary2, b"\x27\x10", Ok(Some(10_000))),
+        ("four digits", Ascii4, b"0055", Ok(Some(55))),
+        ("two bytes of digits", Bcd2, b"\x00\x55", Ok(Some(55))),
+        (
+            "a nibble that is no digit",
+            Bcd2,
+            b"\x00\x5A",
+            Err(BadDigits),
+        ),
+        ("three digits", Ascii4, b"055", Ok(None)),
     ];
     for (name, header, bytes, want) in cases {
-        assert_eq!(rt; header.length_of(bytes), want, "{name}");
+        assert_eq!(rt; body_length(header, bytes), want, "{name}");
     }
     assert_eq!(rt; Binary2.limit(), 65_535);
     Ok(())

@@ -1,8 +1,8 @@
 //! Values behind four digits of a length.
 
 use super::*;
-use crate::UnpackCause::{Field, Short};
 use iso_parts::FieldFault;
+use iso_wire::UnpackCause::{Field, Short};
 use std::alloc::AllocError;
 
 const CHIP: &[u8] = b"08000000000000010000000301020A";

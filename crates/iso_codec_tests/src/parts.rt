@@ -1,4 +1,4 @@
-use super::*;
+use iso_parts::*;
 use std::test::*;
 
 mod bitmaps;

@@ -1,0 +1,212 @@
+use super::*;
+
+const ACCOUNT: FieldSpec = FieldSpec {
+    class: CharClass::N,
+    coding: Coding::Ascii,
+    length: Length::LL(Digits::Ascii),
+    max: 19,
+    pad: Pad::None,
+};
+
+const TRACK: FieldSpec = FieldSpec {
+    class: CharClass::Z,
+    coding: Coding::Bcd,
+    length: Length::LLL(Digits::Bcd),
+    max: 999,
+    pad: Pad::None,
+};
+
+const TEXT: FieldSpec = FieldSpec {
+    class: CharClass::ANS,
+    coding: Coding::Ascii,
+    length: Length::Fixed,
+    max: 999,
+    pad: Pad::None,
+};
+
+fn drafts() -> [(&'static str, Says<'static>); 4] {
+    [
+        ("one row", ascii_table(0, &[(41, ACCOUNT)], 57)),
+        ("no row, private use", ascii_table(9, &[], 36)),
+        (
+            "a terminal of 1993",
+            ascii_table(1, &[(41, TERMINAL_ROW)], 44),
+        ),
+        (
+            "the least and greatest numbers",
+            bcd_table(
+                2,
+                &[(128, TRACK), (66, TEXT), (2, ACCOUNT), (64, TRACK)],
+                2042,
+            ),
+        ),
+    ]
+}
+
+/// The table of a draft that says so.
+fn checked(alloc: Global, says: Says) -> Result<Table, Fail> {
+    Ok(Table::check(alloc, draft(alloc, says)?)?)
+}
+
+fn has_no_row(table: &Table, element: u8) -> bool {
+    table.row(element) == None
+}
+
+#[test]
+fn accepts_drafts(rt: HostRuntime) -> Result<(), Fail> {
+    for (name, says) in &drafts() {
+        let table = checked(rt.alloc(), *says)?;
+        assert_says(&rt, name, &table, *says);
+        for element in [0, 1, 65, 129, 255] {
+            assert!(rt; has_no_row(&table, element), "{name}: element {element}");
+        }
+    }
+    Ok(())
+}
+
+const TOO_LONG: FieldSpec = FieldSpec {
+    class: CharClass::N,
+    coding: Coding::Ascii,
+    length: Length::LL(Digits::Ascii),
+    max: 100,
+    pad: Pad::None,
+};
+
+const PACKED_TEXT: FieldSpec = FieldSpec {
+    class: CharClass::ANS,
+    coding: Coding::Bcd,
+    length: Length::Fixed,
+    max: 8,
+    pad: Pad::None,
+};
+
+const PADDED: FieldSpec = FieldSpec {
+    class: CharClass::ANS,
+    coding: Coding::Ascii,
+    length: Length::LL(Digits::Ascii),
+    max: 8,
+    pad: Pad::Right(0x20),
+};
+
+const PADDED_PACKED_TEXT: FieldSpec = FieldSpec {
+    class: CharClass::ANS,
+    coding: Coding::Bcd,
+    length: Length::LL(Digits::Ascii),
+    max: 8,
+    pad: Pad::Right(0x20),
+};
+
+const ALL_WRONG: FieldSpec = FieldSpec {
+    class: CharClass::ANS,
+    coding: Coding::Bcd,
+    length: Length::LL(Digits::Ascii),
+    max: 0,
+    pad: Pad::Right(0x20),
+};
+
+/// A draft that is no table: its version, its rows, and the fault.
+type Refused = (&'static str, u8, &'static [(u16, FieldSpec)], TableFault);
+
+fn refused_drafts() -> [Refused; 14] {
+    [
+        (
+            "version 3 and row 65",
+            3,
+            &[(65, ACCOUNT)],
+            TableFault::BadVersion,
+        ),
+        ("number 0", 0, &[(0, ACCOUNT)], TableFault::BadNumber(0)),
+        ("number 1", 0, &[(1, ACCOUNT)], TableFault::BadNumber(1)),
+        (
+            "number 65 and too long",
+            0,
+            &[(65, TOO_LONG)],
+            TableFault::BadNumber(65),
+        ),
+        (
+            "number 129",
+            0,
+            &[(129, ACCOUNT)],
+            TableFault::BadNumber(129),
+        ),
+        (
+            "number 65535",
+            0,
+            &[(65535, ACCOUNT)],
+            TableFault::BadNumber(65535),
+        ),
+        (
+            "row 2 twice, then too long",
+            0,
+            &[(2, ACCOUNT), (2, TOO_LONG)],
+            TableFault::Twice(2),
+        ),
+        (
+            "LL with maximum 100",
+            0,
+            &[(2, TOO_LONG)],
+            TableFault::BadMax(2),
+        ),
+        (
+            "BCD text",
+            0,
+            &[(128, PACKED_TEXT)],
+            TableFault::CodingClass(128),
+        ),
+        (
+            "padding on LL",
+            0,
+            &[(64, PADDED)],
+            TableFault::PadNotAllowed(64),
+        ),
+        (
+            "maximum, coding and padding",
+            0,
+            &[(7, ALL_WRONG)],
+            TableFault::BadMax(7),
+        ),
+        (
+            "coding and padding",
+            0,
+            &[(7, PADDED_PACKED_TEXT)],
+            TableFault::CodingClass(7),
+        ),
+        (
+            "the first row's fault",
+            0,
+            &[(3, PADDED), (1, ACCOUNT)],
+            TableFault::PadNotAllowed(3),
+        ),
+        (
+            "the second row's fault",
+            2,
+            &[(3, ACCOUNT), (66, PACKED_TEXT)],
+            TableFault::CodingClass(66),
+        ),
+    ]
+}
+
+fn is_refused(
+    alloc: Global,
+    version: u8,
+    rows: &[(u16, FieldSpec)],
+    fault: TableFault,
+) -> Result<bool, Fail> {
+    let rows = rows.iter().map(|&(number, spec)| Row { number, spec });
+    let draft = Draft {
+        version,
+        mti: Digits::Ascii,
+        bitmap: BitmapCoding::Hex,
+        rows: Vec::from_iter(alloc, rows)?,
+    };
+    Ok(Table::check(alloc, draft).err() == Some(fault))
+}
+
+#[test]
+fn refuses_drafts(rt: HostRuntime) -> Result<(), Fail> {
+    for (name, version, rows, fault) in &refused_drafts() {
+        let is_refused = is_refused(rt.alloc(), *version, rows, *fault)?;
+        assert!(rt; is_refused, "{name}");
+    }
+    Ok(())
+}
