@@ -6,8 +6,6 @@ mod event;
 mod fault;
 mod slot;
 mod state;
-#[cfg(test)]
-mod tests;
 mod world;
 
 pub use acquirer::Acquirer;

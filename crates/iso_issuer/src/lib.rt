@@ -19,6 +19,3 @@ mod posting;
 pub use accounts::Accounts;
 pub use fault::{AccountsFault, Refused};
 pub use issuer::Issuer;
-
-#[cfg(test)]
-mod tests;

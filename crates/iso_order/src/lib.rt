@@ -11,8 +11,6 @@ mod original;
 mod pan;
 mod requests;
 mod response;
-#[cfg(test)]
-mod tests;
 mod told;
 mod verdict;
 

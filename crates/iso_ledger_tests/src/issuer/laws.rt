@@ -1,6 +1,6 @@
 //! The laws of journals at work, on lists of orders.
 use super::*;
-use crate::laws::*;
+use iso_issuer::laws::*;
 use std::process::Abort;
 
 #[test]

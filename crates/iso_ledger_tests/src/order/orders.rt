@@ -1,7 +1,7 @@
 //! Keys, and which orders are one.
 
 use super::{ACCOUNT, key, money};
-use crate::{Act, Order, TxKey};
+use iso_order::{Act, Order, TxKey};
 use std::test::Fail;
 
 #[test]

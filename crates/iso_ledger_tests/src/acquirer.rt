@@ -1,7 +1,7 @@
 ghost use Rattle.std.specs.Prelude.{IfOk};
 ghost use Rattle.iso_acquirer.specs.World.{IsFairEvent};
 
-use super::*;
+use iso_acquirer::{AcqFault, Acquirer, Event, State, StepFault, World};
 use iso_issuer::{Accounts, Issuer, Refused};
 use iso_order::{Act, Money, Order, Pan, TxKey};
 use std::alloc::Global;

@@ -1,7 +1,7 @@
 //! The messages that ask for orders.
 
 use super::{ACCOUNT, key, money};
-use crate::{Act, Order, TxKey, request};
+use iso_order::{Act, Order, TxKey, request};
 use iso_table::Table;
 use iso_wire::pack;
 use std::test::Fail;

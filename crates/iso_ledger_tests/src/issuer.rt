@@ -1,5 +1,5 @@
-use super::*;
 use asking::*;
+use iso_issuer::{Accounts, AccountsFault, Issuer, Refused};
 use iso_order::{Act, Answer, Money, Order, Pan, TxKey};
 use std::alloc::Global;
 use std::process::Abort;

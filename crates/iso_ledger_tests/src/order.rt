@@ -9,7 +9,7 @@ mod requests;
 mod responses;
 mod verdicts;
 
-use crate::{Money, Pan, TxKey};
+use iso_order::{Money, Pan, TxKey};
 use iso_parts::Mti;
 use iso_wire::Message;
 use std::alloc::Global;

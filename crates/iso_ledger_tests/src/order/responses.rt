@@ -1,7 +1,7 @@
 //! The responses that messages get.
 
 use super::{Change, message, payment};
-use crate::{Act, Answer, Verdict, order_of, respond, respond_into};
+use iso_order::{Act, Answer, Verdict, order_of, respond, respond_into};
 use iso_wire::Message;
 use std::alloc::Global;
 use std::test::Fail;

@@ -2,7 +2,7 @@
 
 use super::Change::{Nothing, Set, Without};
 use super::{ACCOUNT, Change, changed, money};
-use crate::{Act, Order, TxKey, Verdict, order_of};
+use iso_order::{Act, Order, TxKey, Verdict, order_of};
 use iso_wire::Message;
 use std::alloc::Global;
 use std::test::Fail;

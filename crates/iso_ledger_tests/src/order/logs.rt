@@ -1,7 +1,7 @@
 //! What logs show: no account number in clear.
 
 use super::{ACCOUNT, key, money};
-use crate::{Act, Order, Pan, Verdict};
+use iso_order::{Act, Order, Pan, Verdict};
 use std::test::Fail;
 
 #[test]

@@ -2,7 +2,7 @@
 
 use super::Change::{Nothing, Set, Without};
 use super::{ACCOUNT, Change, changed, key};
-use crate::{Told, TxKey, answer_of};
+use iso_order::{Told, TxKey, answer_of};
 use iso_wire::Message;
 use std::alloc::Global;
 use std::test::Fail;
