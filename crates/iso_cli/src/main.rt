@@ -15,8 +15,6 @@ mod convert;
 mod describe;
 mod documents;
 mod echo;
-#[cfg(test)]
-mod fakes;
 mod given;
 mod listening;
 mod port;

@@ -12,8 +12,6 @@
 
 mod counting;
 mod desk;
-#[cfg(test)]
-mod fakes;
 mod fault;
 mod handling;
 mod intake;

@@ -8,11 +8,11 @@ mod pieces;
 mod serving;
 mod turns;
 
-use crate::fakes::{FewBytes, FewTaken};
 use crate::fault::ServeFault;
 use crate::standard::Std;
 use crate::streams::{Failed, Inlet, Outlet};
 use crate::writing::write_all;
+use iso_fakes::{FewBytes, FewTaken};
 use std::test::Fail;
 
 #[test]

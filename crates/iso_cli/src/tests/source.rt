@@ -1,4 +1,4 @@
-use crate::fakes::sevens;
+use iso_fakes::sevens;
 use crate::source::{Disk, Source, SourceFault};
 use std::fs;
 use std::test::Fail;

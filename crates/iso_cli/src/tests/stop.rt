@@ -1,4 +1,4 @@
-use crate::fakes::FewTaken;
+use iso_fakes::FewTaken;
 use crate::source::SourceFault;
 use crate::stop::{Stop, tell};
 use crate::streaming::InputFault;

@@ -1,4 +1,4 @@
-use crate::fakes::{FewBytes, sevens};
+use iso_fakes::{FewBytes, sevens};
 use crate::streaming::{InputFault, read_all};
 use iso_host::Std;
 use std::alloc::Global;

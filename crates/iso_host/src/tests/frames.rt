@@ -1,10 +1,10 @@
 //! Frames whose bytes are known from outside, and the host that serves them.
 
-use crate::fakes::{FewBytes, FewTaken};
 use crate::fault::{Report, ServeFault};
 use crate::serving::serve;
 use crate::standard::Std;
 use crate::streams::{Inlet, Outlet};
+use iso_fakes::{FewBytes, FewTaken};
 use iso_issuer::{Accounts, Issuer};
 use iso_order::Pan;
 use iso_table::Table;

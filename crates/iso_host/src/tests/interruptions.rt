@@ -1,9 +1,9 @@
 //! Calls that the system interrupts.
 
 use super::frames::{ECHO, ECHOED, issuer, join, serving_end};
-use crate::fakes::{FewBytes, FewTaken, Interrupted};
 use crate::standard::Std;
 use crate::streams::{Failed, Inlet, Outlet};
+use iso_fakes::{FewBytes, FewTaken, Interrupted};
 use std::test::Fail;
 
 #[test]

@@ -2,7 +2,7 @@
 
 use super::{ECHO_TEST, OneFile, TERMINALS};
 use crate::act::act;
-use crate::fakes::{FewBytes, FewTaken, sevens};
+use iso_fakes::{FewBytes, FewTaken, sevens};
 use iso_host::Std;
 use std::test::Fail;
 

@@ -2,7 +2,7 @@
 
 use super::*;
 use crate::connections::serve_connections;
-use crate::fakes::FewTaken;
+use iso_fakes::FewTaken;
 use crate::prepare::{Serving, prepare};
 use iso_order::Pan;
 use iso_wire::Header;

@@ -1,7 +1,7 @@
 //! Streams that fail.
 
 use super::*;
-use crate::fakes::{FewBytes, FewTaken};
+use iso_fakes::{FewBytes, FewTaken};
 
 /// Reads, writes and lines that are allowed, and what is told where one more is wanted.
 #[derive(Drop)]

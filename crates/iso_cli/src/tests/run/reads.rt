@@ -1,7 +1,7 @@
 //! Frames however the reads cut them.
 
 use super::*;
-use crate::fakes::{FewBytes, FewTaken};
+use iso_fakes::{FewBytes, FewTaken};
 
 #[test]
 fn reads_may_cut_frames_anywhere(rt: HostRuntime) -> Result<(), Fail> {

@@ -1,7 +1,7 @@
 //! Words and documents that are refused.
 
 use super::*;
-use crate::fakes::FewBytes;
+use iso_fakes::FewBytes;
 
 /// Words and documents that are refused before the input is read.
 #[derive(Drop)]

@@ -1,4 +1,7 @@
-//! A std reader and a std writer that move a few bytes at a time and fail at a call.
+//! Streams for the tests of hosts and of the command: a reader and a writer that move a few bytes at a time and fail at a
+//! call, and streams that are interrupted. No crate uses it but in its tests.
+#![tactic(auto)]
+
 use std::alloc::{AllocError, Global};
 use std::io;
 use std::io::{ErrorKind, Read, Write};
@@ -64,6 +67,47 @@ impl Write for FewTaken {
             return Err(io::Error::from(ErrorKind::BrokenPipe));
         }
         Ok(())
+    }
+}
+
+/// A stream whose first `times` calls are interrupted.
+#[derive(Drop)]
+pub struct Interrupted<S> {
+    pub stream: S,
+    pub times: u32,
+}
+
+impl<S> Interrupted<S> {
+    /// Whether this call is one of those.
+    fn is_interrupted(&mut self) -> bool {
+        let is_interrupted = self.times > 0;
+        self.times = self.times.saturating_sub(1);
+        is_interrupted
+    }
+}
+
+impl<S: Read> Read for Interrupted<S> {
+    fn read(&mut self, buffer: &mut [u8]) -> io::Result<usize> {
+        if self.is_interrupted() {
+            return Err(io::Error::from(ErrorKind::Interrupted));
+        }
+        self.stream.read(buffer)
+    }
+}
+
+impl<S: Write> Write for Interrupted<S> {
+    fn write(&mut self, bytes: &[u8]) -> io::Result<usize> {
+        if self.is_interrupted() {
+            return Err(io::Error::from(ErrorKind::Interrupted));
+        }
+        self.stream.write(bytes)
+    }
+
+    fn flush(&mut self) -> io::Result<()> {
+        if self.is_interrupted() {
+            return Err(io::Error::from(ErrorKind::Interrupted));
+        }
+        self.stream.flush()
     }
 }
 
