@@ -1,5 +1,5 @@
-use iso_fakes::sevens;
 use crate::source::{Disk, Source, SourceFault};
+use iso_fakes::sevens;
 use std::fs;
 use std::test::Fail;
 

@@ -1,8 +1,8 @@
-use iso_fakes::FewTaken;
 use crate::source::SourceFault;
 use crate::stop::{Stop, tell};
 use crate::streaming::InputFault;
 use crate::words::WordsFault;
+use iso_fakes::FewTaken;
 use iso_host::{ServeFault, Std};
 
 #[test]

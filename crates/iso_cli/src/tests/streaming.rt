@@ -1,5 +1,5 @@
-use iso_fakes::{FewBytes, sevens};
 use crate::streaming::{InputFault, read_all};
+use iso_fakes::{FewBytes, sevens};
 use iso_host::Std;
 use std::alloc::Global;
 use std::test::Fail;

@@ -2,8 +2,8 @@
 
 use super::*;
 use crate::connections::serve_connections;
-use iso_fakes::FewTaken;
 use crate::prepare::{Serving, prepare};
+use iso_fakes::FewTaken;
 use iso_order::Pan;
 use iso_wire::Header;
 use std::alloc::AllocError;
