@@ -1,4 +1,3 @@
-pub mod UpperCase
 pub mod Pads
 pub mod Stripping
 pub mod Prefixes

@@ -66,14 +66,17 @@ pub(crate) fn are_hex_digits(bytes: &[u8]) -> bool
     all
 }
 
+/// The sixteen digits, in upper case.
+const DIGITS: &[u8; 16] = b"0123456789ABCDEF";
+
 /// Writes two digits for each byte, in upper case.
 fn write_hex(bytes: &[u8], room: &mut [u8])
     requires { length room.old ≡ 2 * length bytes.now }
     ensures { room.new ≡ plain Coding.HexText bytes.now }
 {
-    match hex::encode_to_slice(bytes, room) {
-        Ok(()) => room.make_ascii_uppercase(),
-        Err(_) => unreachable!(),
+    for (i, byte) in bytes.iter().enumerate() {
+        room[2 * i] = DIGITS[(*byte / 16) as usize];
+        room[2 * i + 1] = DIGITS[(*byte % 16) as usize];
     }
 }
 

@@ -1,7 +1,12 @@
-use Rattle.std.proofs.Common.{map, ap, ◌∙◌}
-use Rattle.std.specs.Char.{to_ascii_uppercase}
-use Rattle.iso_parts.proofs.UpperCase.{encode_upper_is}
+use Rattle.std.proofs.Common.{arith, refl}
+use Rattle.hex.specs.Hex.{upper_digits}
+use Rattle.hex.proofs.Pairs.{encode_step, encode_done}
 use Rattle.iso_parts.proofs.encoding.write_hex.Goals as goal
 
+pub loop-i-preserved : goal.loop-i-preserved
+loop-i-preserved c =
+    encode_step upper_digits c.args.bytes.now c.loop-i.room c.loop-i.i _ _ (omega arith) (omega arith) refl refl c.loop-i.invariant
+
 pub returns : goal.returns
-returns c = c.make_ascii_uppercase.ensures.after ∙ ap (map to_ascii_uppercase) c.in-Ok.ensures.written ∙ encode_upper_is c.args.bytes.now
+returns c =
+    encode_done upper_digits _ _ c.loop-i.i (omega arith) (omega arith) c.loop-i.invariant
