@@ -1,9 +1,11 @@
 use iso_parts::*;
+use std::alloc::Global;
 use std::test::*;
 
 mod bitmaps;
 mod faults;
 mod judgements;
+mod long_values;
 mod refusals;
 mod values;
 
@@ -39,12 +41,36 @@ fn bytes(coding: Coding, length: Length, max: u16) -> FieldSpec {
     row(CharClass::B, coding, length, max, Pad::None)
 }
 
-#[test]
-fn rows_are_judged(rt: HostRuntime) -> Result<(), Fail> {
+fn is_good(row: &FieldSpec) -> bool {
+    row.good().is_ok()
+}
+
+/// Whether a part under a good row is judged so.
+fn is_judged_field(row: &FieldSpec, part: &[u8], want: Result<Judged, FieldFault>) -> bool {
+    row.good().is_ok() && judge_field(row, part) == want
+}
+
+/// Whether a part under a good row is decoded so, and the value is appended to other bytes.
+fn is_decoded(
+    alloc: Global,
+    row: &FieldSpec,
+    part: &[u8],
+    want: Result<Option<usize>, FieldFault>,
+    value: &[u8],
+) -> Result<bool, Fail> {
+    if row.good().is_err() {
+        return Ok(false);
+    }
+    let mut out = Vec::from_slice(alloc, b"before")?;
+    let answer = decode_value(row, part, &mut out);
+    Ok(answer == want && out.strip_prefix(b"before") == Some(value))
+}
+
+fn judged_rows() -> [(&'static str, FieldSpec, Result<(), SpecFault>); 10] {
     let ll = Length::LL(Digits::Ascii);
     let llll = Length::LLLL(Digits::Bcd);
     let pad = Pad::Left(b'0');
-    let cases = [
+    [
         (
             "LL of 100",
             number(Coding::Ascii, ll, 100),
@@ -87,9 +113,17 @@ fn rows_are_judged(rt: HostRuntime) -> Result<(), Fail> {
             row(CharClass::N, Coding::Bcd, llll, 9, pad),
             Err(SpecFault::PadNotAllowed),
         ),
-    ];
-    for (name, row, expected) in &cases {
-        assert_eq!(rt; row.good(), *expected, "{name}");
+    ]
+}
+
+fn is_judged(row: &FieldSpec, expected: Result<(), SpecFault>) -> bool {
+    row.good() == expected
+}
+
+#[test]
+fn rows_are_judged(rt: HostRuntime) -> Result<(), Fail> {
+    for (name, row, expected) in &judged_rows() {
+        assert!(rt; is_judged(row, *expected), "{name}");
     }
     Ok(())
 }
@@ -150,24 +184,56 @@ fn types() -> [TypeCase; 5] {
     ]
 }
 
+fn is_type(number: u16) -> bool {
+    Mti::from_digits(number).is_some()
+}
+
+fn has_number(number: u16) -> bool {
+    match Mti::from_digits(number) {
+        Some(mti) => mti.number() == number,
+        None => false,
+    }
+}
+
+fn has_base(number: u16, base: u16, is_repeat: bool) -> bool {
+    match Mti::from_digits(number) {
+        Some(mti) => mti.base().number() == base && mti.is_repeat() == is_repeat,
+        None => false,
+    }
+}
+
+fn has_response(number: u16, response: Option<u16>) -> bool {
+    match Mti::from_digits(number) {
+        Some(mti) => mti.response().map(|m| m.number()) == response,
+        None => false,
+    }
+}
+
+fn has_class(number: u16, class: MtiClass) -> bool {
+    match Mti::from_digits(number) {
+        Some(mti) => mti.class() == class,
+        None => false,
+    }
+}
+
 #[test]
 fn message_types(rt: HostRuntime) -> Result<(), Fail> {
-    assert_eq!(rt; Mti::from_digits(10000), None, "five digits");
+    assert!(rt; !is_type(10000), "five digits");
     for case in &types() {
-        let name = case.name;
-        let mti = Mti::from_digits(case.number).ok_or(name)?;
-        assert_eq!(rt; mti.number(), case.number, "{name}");
-        assert_eq!(rt; mti.base().number(), case.base, "{name}");
-        assert_eq!(rt; mti.is_repeat(), case.is_repeat, "{name}");
-        assert_eq!(rt; mti.response().map(|m| m.number()), case.response, "{name}");
-        assert_eq!(rt; mti.class(), case.class, "{name}");
+        let (name, number) = (case.name, case.number);
+        assert!(rt; has_number(number), "{name}: its number");
+        assert!(rt;
+            has_base(number, case.base, case.is_repeat),
+            "{name}: its base"
+        );
+        assert!(rt; has_response(number, case.response), "{name}: its response");
+        assert!(rt; has_class(number, case.class), "{name}: its class");
     }
     Ok(())
 }
 
-#[test]
-fn types_are_read_from_text(rt: HostRuntime) {
-    let cases: [(&str, &[u8], Option<u16>); 7] = [
+fn type_texts() -> [(&'static str, &'static [u8], Option<u16>); 7] {
+    [
         ("the echo test", b"0800", Some(800)),
         ("private use", b"9920", Some(9920)),
         ("three digits", b"800", None),
@@ -175,16 +241,22 @@ fn types_are_read_from_text(rt: HostRuntime) {
         ("a letter in place of a zero", b"O800", None),
         ("the byte behind a nine", b"080:", None),
         ("packed digits", b"\x08\x00", None),
-    ];
-    for (name, text, want) in cases {
-        let number = Mti::from_text(text).map(|mti| mti.number());
-        assert_eq!(rt; number, want, "{name}");
-    }
+    ]
+}
+
+fn tells_number(text: &[u8], number: Option<u16>) -> bool {
+    Mti::from_text(text).map(|mti| mti.number()) == number
 }
 
 #[test]
-fn lengths_take_bytes(rt: HostRuntime) {
-    let cases = [
+fn types_are_read_from_text(rt: HostRuntime) {
+    for (name, text, number) in &type_texts() {
+        assert!(rt; tells_number(text, *number), "{name}");
+    }
+}
+
+fn prefix_sizes() -> [(&'static str, Length, usize); 7] {
+    [
         ("none", Length::Fixed, 0),
         ("two digits", Length::LL(Digits::Ascii), 2),
         ("two digits under BCD", Length::LL(Digits::Bcd), 1),
@@ -192,8 +264,16 @@ fn lengths_take_bytes(rt: HostRuntime) {
         ("three digits under BCD", Length::LLL(Digits::Bcd), 2),
         ("four digits", Length::LLLL(Digits::Ascii), 4),
         ("four digits under BCD", Length::LLLL(Digits::Bcd), 2),
-    ];
-    for (name, length, size) in &cases {
-        assert_eq!(rt; length.prefix_size(), *size, "{name}");
+    ]
+}
+
+fn takes_bytes(length: Length, size: usize) -> bool {
+    length.prefix_size() == size
+}
+
+#[test]
+fn lengths_take_bytes(rt: HostRuntime) {
+    for (name, length, size) in &prefix_sizes() {
+        assert!(rt; takes_bytes(*length, *size), "{name}");
     }
 }

@@ -13,54 +13,96 @@ fn set_of(numbers: &[u8]) -> Bitmap {
     bits
 }
 
-#[test]
-fn sets_are_made_from_words(rt: HostRuntime) {
-    for (name, first, second, numbers) in [
-        ("none", 0, 0, [].as_slice()),
+fn has(numbers: &[u8], n: u8) -> bool {
+    set_of(numbers).has(n)
+}
+
+fn words() -> [(&'static str, [u64; 2], &'static [u8]); 4] {
+    [
+        ("none", [0, 0], &[]),
         (
             "without the first bit of the first word",
-            0xC200_0000_0000_0001,
-            0x4400_0000_0000_0001,
+            [0xC200_0000_0000_0001, 0x4400_0000_0000_0001],
             &[2, 7, 64, 66, 70, 128],
         ),
-        ("the first word alone", 0x0200_0000_0000_0000, 0, &[7]),
-        ("the second word alone", 0, 0x0400_0000_0000_0000, &[70]),
-    ] {
-        let mut set = Bitmap::from_words(first, second);
-        assert_eq!(rt; set, set_of(numbers), "{name}");
-        assert_eq!(rt; set.count(), numbers.len(), "{name}");
-        let mut others = set;
-        for n in numbers {
-            if (2..=128).contains(n) && *n != 65 {
-                others.unset(*n);
-                assert!(rt; !others.has(*n), "{name}");
+        ("the first word alone", [0x0200_0000_0000_0000, 0], &[7]),
+        ("the second word alone", [0, 0x0400_0000_0000_0000], &[70]),
+    ]
+}
+
+/// The set of two words.
+fn set_of_words(words: [u64; 2]) -> Bitmap {
+    let [primary, secondary] = words;
+    if secondary < FIRST_BIT {
+        Bitmap::from_words(primary, secondary)
+    } else {
+        Bitmap::new()
+    }
+}
+
+/// Whether these numbers make the set of the words.
+fn are_words_of(words: [u64; 2], numbers: &[u8]) -> bool {
+    let set = set_of_words(words);
+    set == set_of(numbers) && set.count() == numbers.len()
+}
+
+/// Whether each of the numbers can be taken out of the words, which are then empty.
+fn are_unset(words: [u64; 2], numbers: &[u8]) -> bool {
+    let mut others = set_of_words(words);
+    for n in numbers {
+        if (2..=128).contains(n) && *n != 65 {
+            others.unset(*n);
+            if others.has(*n) {
+                return false;
             }
         }
-        assert_eq!(rt; others, Bitmap::new(), "{name}");
-        for n in numbers {
-            assert_eq!(rt; set.take_first(), Some(*n), "{name}");
-        }
-        assert_eq!(rt; set.take_first(), None, "{name}");
     }
+    others == Bitmap::new()
+}
+
+/// Whether the numbers are the ones that are taken out of the words, one after the other.
+fn are_taken(words: [u64; 2], numbers: &[u8]) -> bool {
+    let mut set = set_of_words(words);
+    for n in numbers {
+        if set.take_first() != Some(*n) {
+            return false;
+        }
+    }
+    set.take_first() == None
+}
+
+#[test]
+fn sets_are_made_from_words(rt: HostRuntime) {
+    for (name, words, numbers) in &words() {
+        assert!(rt; are_words_of(*words, numbers), "{name}");
+        assert!(rt; are_unset(*words, numbers), "{name}: unset");
+        assert!(rt; are_taken(*words, numbers), "{name}: taken");
+    }
+}
+
+fn other_sets() -> [(&'static str, &'static [u8], bool); 4] {
+    [
+        ("the same numbers", &[2, 64, 66, 128], true),
+        ("one less in the first word", &[2, 66, 128], false),
+        ("one less in the second word", &[2, 64, 66], false),
+        ("one more", &[2, 7, 64, 66, 128], false),
+    ]
+}
+
+fn are_equal(set: &[u8], other: &[u8]) -> bool {
+    set_of(set).equals(&set_of(other))
 }
 
 #[test]
 fn sets_are_compared(rt: HostRuntime) {
-    let set = set_of(&[2, 64, 66, 128]);
-    for (name, numbers, is_same) in [
-        ("the same numbers", [2, 64, 66, 128].as_slice(), true),
-        ("one less in the first word", &[2, 66, 128], false),
-        ("one less in the second word", &[2, 64, 66], false),
-        ("one more", &[2, 7, 64, 66, 128], false),
-    ] {
-        assert_eq!(rt; set.equals(&set_of(numbers)), is_same, "{name}");
+    for (name, numbers, is_same) in &other_sets() {
+        let answer = are_equal(&[2, 64, 66, 128], numbers);
+        assert!(rt; answer == *is_same, "{name}");
     }
 }
 
-#[test]
-fn the_numbers_below_one_are_counted(rt: HostRuntime) {
-    let set = set_of(&[2, 7, 64, 66, 70, 128]);
-    for (name, n, count) in [
+fn numbers_below() -> [(&'static str, u8, usize); 7] {
+    [
         ("the lowest", 2, 0),
         ("one that is there", 7, 1),
         ("one that is not", 8, 2),
@@ -68,155 +110,229 @@ fn the_numbers_below_one_are_counted(rt: HostRuntime) {
         ("the first of the second word", 65, 3),
         ("one of the second word", 70, 4),
         ("the last of the second word", 128, 5),
-    ] {
-        assert_eq!(rt; set.count_below(n), count, "{name}");
-    }
+    ]
+}
+
+/// Whether so many of the numbers are below that one.
+fn are_below(numbers: &[u8], n: u8, count: usize) -> bool {
+    (2..=128).contains(&n) && set_of(numbers).count_below(n) == count
 }
 
 #[test]
-fn the_least_missing_number_is_told(rt: HostRuntime) {
-    let set = set_of(&[2, 7, 64, 66, 70]);
-    for (name, numbers, missing) in [
-        ("of none", [].as_slice(), None),
+fn the_numbers_below_one_are_counted(rt: HostRuntime) {
+    for (name, n, count) in &numbers_below() {
+        let are_below = are_below(&[2, 7, 64, 66, 70, 128], *n, *count);
+        assert!(rt; are_below, "{name}");
+    }
+}
+
+fn missing_numbers() -> [(&'static str, &'static [u8], Option<u8>); 5] {
+    [
+        ("of none", &[], None),
         ("of all of them", &[2, 7, 64, 66, 70], None),
         ("of one of each", &[7, 70], None),
         ("a low one", &[2, 6, 7, 63], Some(6)),
         ("a high one", &[2, 67, 70, 128], Some(67)),
-    ] {
-        let found = set_of(numbers).missing_from(&set);
-        assert_eq!(rt; found, missing, "{name}");
+    ]
+}
+
+/// Whether that is the least of the numbers that the set lacks.
+fn is_missing(set: &[u8], numbers: &[u8], missing: Option<u8>) -> bool {
+    set_of(numbers).missing_from(&set_of(set)) == missing
+}
+
+#[test]
+fn the_least_missing_number_is_told(rt: HostRuntime) {
+    for (name, numbers, missing) in &missing_numbers() {
+        let is_told = is_missing(&[2, 7, 64, 66, 70], numbers, *missing);
+        assert!(rt; is_told, "{name}");
     }
+}
+
+/// A set, the bytes that stand for it, and its highest number.
+#[derive(Drop)]
+struct SetCase {
+    name: &'static str,
+    numbers: &'static [u8],
+    raw: &'static [u8],
+    digits: &'static [u8],
+    highest: u8,
+}
+
+fn sets() -> [SetCase; 4] {
+    [
+        SetCase {
+            name: "the echo test",
+            numbers: &[7, 11, 70],
+            raw: b"\x82\x20\0\0\0\0\0\0\x04\0\0\0\0\0\0\0",
+            digits: b"82200000000000000400000000000000",
+            highest: 70,
+        },
+        SetCase {
+            name: "no element",
+            numbers: &[],
+            raw: b"\0\0\0\0\0\0\0\0",
+            digits: b"0000000000000000",
+            highest: 0,
+        },
+        SetCase {
+            name: "the ends of both",
+            numbers: &[2, 64, 66, 128],
+            raw: b"\xC0\0\0\0\0\0\0\x01\x40\0\0\0\0\0\0\x01",
+            digits: b"C0000000000000014000000000000001",
+            highest: 128,
+        },
+        SetCase {
+            name: "one bitmap",
+            numbers: &[2, 3, 4, 7, 11, 32, 49],
+            raw: b"\x72\x20\0\x01\0\0\x80\0",
+            digits: b"7220000100008000",
+            highest: 49,
+        },
+    ]
+}
+
+/// Whether the set is written into room as these bytes, and the room behind them stays as it was.
+fn is_written(numbers: &[u8], raw: &[u8]) -> bool {
+    let mut out = [0xEE; 16];
+    let used = set_of(numbers).write_raw(&mut out);
+    &out[..used] == raw && out[used..].iter().all(|b| *b == 0xEE)
+}
+
+fn is_highest(numbers: &[u8], highest: u8) -> bool {
+    set_of(numbers).highest() == highest
+}
+
+/// Whether the bytes, with more behind them, are read as that set.
+fn is_read(alloc: Global, raw: &[u8], numbers: &[u8]) -> Result<bool, Fail> {
+    let longer = [raw, b"more"].concat(alloc)?;
+    let got = BitmapStep::Got {
+        bits: set_of(numbers),
+        used: raw.len(),
+    };
+    Ok(Bitmap::read_raw(&longer) == Ok(got))
+}
+
+fn is_read_of_digits(digits: &[u8], numbers: &[u8]) -> bool {
+    let got = BitmapStep::Got {
+        bits: set_of(numbers),
+        used: digits.len(),
+    };
+    Bitmap::read_hex(digits) == Ok(got)
+}
+
+/// What is written of the set behind other bytes.
+fn appended(
+    alloc: Global,
+    before: &[u8],
+    numbers: &[u8],
+    coding: BitmapCoding,
+) -> Result<Vec<u8>, Fail> {
+    let mut out = Vec::from_slice(alloc, before)?;
+    set_of(numbers).append(coding, &mut out)?;
+    Ok(out)
 }
 
 #[test]
 fn bitmaps_are_written_and_read(rt: HostRuntime) -> Result<(), Fail> {
-    let cases = [
-        (
-            "the echo test",
-            set_of(&[7, 11, 70]),
-            b"\x82\x20\0\0\0\0\0\0\x04\0\0\0\0\0\0\0".as_slice(),
-            b"82200000000000000400000000000000".as_slice(),
-            70,
-        ),
-        (
-            "no element",
-            set_of(&[]),
-            b"\0\0\0\0\0\0\0\0",
-            b"0000000000000000",
-            0,
-        ),
-        (
-            "the ends of both",
-            set_of(&[2, 64, 66, 128]),
-            b"\xC0\0\0\0\0\0\0\x01\x40\0\0\0\0\0\0\x01",
-            b"C0000000000000014000000000000001",
-            128,
-        ),
-        (
-            "one bitmap",
-            set_of(&[2, 3, 4, 7, 11, 32, 49]),
-            b"\x72\x20\0\x01\0\0\x80\0",
-            b"7220000100008000",
-            49,
-        ),
-    ];
-    for (name, bits, raw, digits, highest) in &cases {
-        let mut out = [0xEE; 16];
-        let used = bits.write_raw(&mut out);
-        assert_eq!(rt; &out[..used], *raw, "{name}");
-        assert!(rt; out[used..].iter().all(|b| *b == 0xEE), "{name}");
-        assert_eq!(rt; bits.highest(), *highest, "{name}");
-        let longer = [*raw, b"more"].concat(rt.alloc())?;
-        let got = BitmapStep::Got { bits: *bits, used };
-        assert_eq!(rt; Bitmap::read_raw(&longer), Ok(got), "{name}");
-        let mut appended = Vec::from_slice(rt.alloc(), b"before")?;
-        bits.append(BitmapCoding::Raw, &mut appended)?;
-        let expected = [b"before", *raw].concat(rt.alloc())?;
-        assert_eq!(rt; appended.as_slice(), expected.as_slice(), "{name}");
-        let mut written = Vec::new(rt.alloc());
-        bits.append(BitmapCoding::Hex, &mut written)?;
-        assert_eq!(rt; written.as_slice(), *digits, "{name}");
-        let got = BitmapStep::Got {
-            bits: *bits,
-            used: 2 * used,
-        };
-        assert_eq!(rt; Bitmap::read_hex(*digits), Ok(got), "{name}");
+    let alloc = rt.alloc();
+    for case in &sets() {
+        let (name, numbers) = (case.name, case.numbers);
+        assert!(rt; is_written(numbers, case.raw), "{name}: written");
+        assert!(rt; is_highest(numbers, case.highest), "{name}: its highest");
+        assert!(rt; is_read(alloc, case.raw, numbers)?, "{name}: read");
+        let raw = appended(alloc, b"before", numbers, BitmapCoding::Raw)?;
+        assert!(rt;
+            raw.strip_prefix(b"before") == Some(case.raw),
+            "{name}: appended"
+        );
+        let digits = appended(alloc, b"", numbers, BitmapCoding::Hex)?;
+        assert!(rt; digits.as_slice() == case.digits, "{name}: as digits");
+        assert!(rt;
+            is_read_of_digits(case.digits, numbers),
+            "{name}: digits read"
+        );
     }
     Ok(())
 }
 
-#[test]
-fn raw_bitmaps_are_refused(rt: HostRuntime) -> Result<(), Fail> {
-    let third = BitmapFault {
-        at: 8,
-        cause: BitmapCause::ThirdBitmap,
-    };
-    let cases = [
-        (
-            "seven bytes",
-            b"\0\0\0\0\0\0\0".as_slice(),
-            Ok(BitmapStep::More),
-        ),
+fn refused_bitmaps() -> [(&'static str, &'static [u8], Option<(usize, BitmapCause)>); 3] {
+    [
+        ("seven bytes", b"\0\0\0\0\0\0\0", None),
         (
             "seven of a second bitmap",
             b"\x80\0\0\0\0\0\0\0\x80\0\0\0\0\0\0",
-            Ok(BitmapStep::More),
+            None,
         ),
         (
             "a third bitmap",
             b"\x80\0\0\0\0\0\0\0\x80\0\0\0\0\0\0\0",
-            Err(third),
+            Some((8, BitmapCause::ThirdBitmap)),
         ),
-    ];
-    for (name, raw, expected) in &cases {
-        assert_eq!(rt; Bitmap::read_raw(*raw), *expected, "{name}");
+    ]
+}
+
+/// What is answered where no bitmap is found: a fault, or that bytes are missing.
+fn answer(fault: Option<(usize, BitmapCause)>) -> Result<BitmapStep, BitmapFault> {
+    match fault {
+        Some((at, cause)) => Err(BitmapFault { at, cause }),
+        None => Ok(BitmapStep::More),
+    }
+}
+
+fn is_refused(raw: &[u8], fault: Option<(usize, BitmapCause)>) -> bool {
+    Bitmap::read_raw(raw) == answer(fault)
+}
+
+#[test]
+fn raw_bitmaps_are_refused(rt: HostRuntime) -> Result<(), Fail> {
+    for (name, raw, fault) in &refused_bitmaps() {
+        assert!(rt; is_refused(raw, *fault), "{name}");
     }
     Ok(())
 }
 
-#[test]
-fn hexadecimal_bitmaps_are_refused(rt: HostRuntime) -> Result<(), Fail> {
-    let fault = |at: usize, cause: BitmapCause| Err(BitmapFault { at, cause });
-    let lower = BitmapStep::Got {
-        bits: set_of(&[7, 11, 13, 15]),
-        used: 16,
-    };
-    let cases = [
-        (
-            "digits in lower case",
-            b"022a000000000000".as_slice(),
-            Ok(lower),
-        ),
-        ("fifteen digits", b"022a00000000000", Ok(BitmapStep::More)),
+fn refused_digits() -> [(&'static str, &'static [u8], Option<(usize, BitmapCause)>); 4] {
+    [
+        ("fifteen digits", b"022a00000000000", None),
         (
             "G is no digit",
             b"022A00000000000G",
-            fault(0, BitmapCause::BadHex),
+            Some((0, BitmapCause::BadHex)),
         ),
         (
             "x in the second bitmap",
             b"8000000000000000x000000000000000",
-            fault(16, BitmapCause::BadHex),
+            Some((16, BitmapCause::BadHex)),
         ),
         (
             "a third bitmap",
             b"80000000000000008000000000000000",
-            fault(16, BitmapCause::ThirdBitmap),
+            Some((16, BitmapCause::ThirdBitmap)),
         ),
-    ];
-    for (name, digits, expected) in &cases {
-        assert_eq!(rt; Bitmap::read_hex(*digits), *expected, "{name}");
+    ]
+}
+
+fn are_refused_digits(digits: &[u8], fault: Option<(usize, BitmapCause)>) -> bool {
+    Bitmap::read_hex(digits) == answer(fault)
+}
+
+#[test]
+fn hexadecimal_bitmaps_are_refused(rt: HostRuntime) -> Result<(), Fail> {
+    let lower = is_read_of_digits(b"022a000000000000", &[7, 11, 13, 15]);
+    assert!(rt; lower, "digits in lower case");
+    for (name, digits, fault) in &refused_digits() {
+        assert!(rt; are_refused_digits(digits, *fault), "{name}");
     }
     Ok(())
 }
 
-#[test]
-fn one_bitmap_is_a_word(rt: HostRuntime) -> Result<(), Fail> {
-    let cases = [
+fn single_bitmaps() -> [(&'static str, BitmapCoding, &'static [u8], Option<u64>); 3] {
+    [
         (
             "raw",
             BitmapCoding::Raw,
-            b"\x82\x20\0\0\0\0\0\x01".as_slice(),
+            b"\x82\x20\0\0\0\0\0\x01",
             Some(0x8220_0000_0000_0001),
         ),
         (
@@ -226,11 +342,18 @@ fn one_bitmap_is_a_word(rt: HostRuntime) -> Result<(), Fail> {
             Some(0x8220_0000_0000_0001),
         ),
         ("no digits", BitmapCoding::Hex, b"82200000000000 1", None),
-    ];
-    for (name, coding, bytes, word) in &cases {
-        assert!(rt; bytes.len() == coding.size(), "{name}");
-        assert_eq!(rt; coding.word(*bytes), *word, "{name}");
+    ]
+}
+
+fn is_word(coding: BitmapCoding, bytes: &[u8], word: Option<u64>) -> bool {
+    bytes.len() == coding.size() && coding.word(bytes) == word
+}
+
+#[test]
+fn one_bitmap_is_a_word(rt: HostRuntime) -> Result<(), Fail> {
+    for (name, coding, bytes, word) in &single_bitmaps() {
+        assert!(rt; is_word(*coding, bytes, *word), "{name}");
     }
-    assert!(rt; set_of(&[7]).has(7) && !set_of(&[7]).has(58));
+    assert!(rt; has(&[7], 7) && !has(&[7], 58));
     Ok(())
 }

@@ -2,9 +2,8 @@
 
 use super::*;
 
-#[test]
-fn faults_are_numbered(rt: HostRuntime) -> Result<(), Fail> {
-    let fields = [
+fn field_faults() -> [(FieldFault, u8, &'static str); 8] {
+    [
         (FieldFault::WrongLength, 1, "wrong length"),
         (FieldFault::NotInClass, 2, "a character isn't in the class"),
         (
@@ -21,12 +20,11 @@ fn faults_are_numbered(rt: HostRuntime) -> Result<(), Fail> {
             "the body isn't of hexadecimal digits",
         ),
         (FieldFault::Memory, 8, "there is no memory"),
-    ];
-    for (fault, number, text) in &fields {
-        assert_eq!(rt; fault.number(), *number, "{text}");
-        assert_eq!(rt; format!(in rt.alloc(); "{fault}")?.as_str(), *text);
-    }
-    let rows = [
+    ]
+}
+
+fn row_faults() -> [(SpecFault, u8, &'static str); 3] {
+    [
         (SpecFault::BadMax, 1, "the maximum is out of range"),
         (
             SpecFault::CodingClass,
@@ -34,49 +32,71 @@ fn faults_are_numbered(rt: HostRuntime) -> Result<(), Fail> {
             "the coding doesn't go with the class",
         ),
         (SpecFault::PadNotAllowed, 3, "padding isn't allowed here"),
-    ];
-    for (fault, number, text) in &rows {
-        assert_eq!(rt; fault.number(), *number, "{text}");
-        assert_eq!(rt; format!(in rt.alloc(); "{fault}")?.as_str(), *text);
-    }
-    let maps = [
+    ]
+}
+
+fn bitmap_causes() -> [(BitmapCause, u8, &'static str); 2] {
+    [
         (
             BitmapCause::BadHex,
             1,
             "bitmap at 8: a byte is no hexadecimal digit",
         ),
         (BitmapCause::ThirdBitmap, 2, "bitmap at 8: a third bitmap"),
-    ];
-    for (cause, number, text) in &maps {
-        let fault = BitmapFault {
-            at: 8,
-            cause: *cause,
-        };
-        assert_eq!(rt; cause.number(), *number, "{text}");
-        assert_eq!(rt; format!(in rt.alloc(); "{fault}")?.as_str(), *text);
+    ]
+}
+
+fn field_fault(alloc: Global, fault: FieldFault) -> Result<(u8, String), Fail> {
+    Ok((fault.number(), format!(in alloc; "{fault}")?))
+}
+
+fn row_fault(alloc: Global, fault: SpecFault) -> Result<(u8, String), Fail> {
+    Ok((fault.number(), format!(in alloc; "{fault}")?))
+}
+
+fn bitmap_fault(alloc: Global, cause: BitmapCause) -> Result<(u8, String), Fail> {
+    let fault = BitmapFault { at: 8, cause };
+    Ok((cause.number(), format!(in alloc; "{fault}")?))
+}
+
+#[test]
+fn faults_are_numbered(rt: HostRuntime) -> Result<(), Fail> {
+    for (fault, number, text) in &field_faults() {
+        let (told, shown) = field_fault(rt.alloc(), *fault)?;
+        assert!(rt; told == *number, "{text}");
+        assert_eq!(rt; shown.as_str(), *text);
+    }
+    for (fault, number, text) in &row_faults() {
+        let (told, shown) = row_fault(rt.alloc(), *fault)?;
+        assert!(rt; told == *number, "{text}");
+        assert_eq!(rt; shown.as_str(), *text);
+    }
+    for (cause, number, text) in &bitmap_causes() {
+        let (told, shown) = bitmap_fault(rt.alloc(), *cause)?;
+        assert!(rt; told == *number, "{text}");
+        assert_eq!(rt; shown.as_str(), *text);
     }
     Ok(())
 }
 
+/// What is printed of the step that reads an account number.
+fn shown_step(alloc: Global, part: &[u8]) -> Result<String, Fail> {
+    let pan = number(Coding::Ascii, Length::LL(Digits::Ascii), 19);
+    if pan.good().is_err() {
+        return Err("the row isn't good".into());
+    }
+    let step = decode_field(alloc, &pan, part)?;
+    Ok(format!(in alloc; "{step:?}")?)
+}
+
 #[test]
 fn steps_show_no_value(rt: HostRuntime) -> Result<(), Fail> {
-    let pan = number(Coding::Ascii, Length::LL(Digits::Ascii), 19);
-    assert!(rt; pan.good().is_ok());
-    let cases = [
-        (
-            "a card's number",
-            b"15400012341234123".as_slice(),
-            "Got { value_len: 15, used: 17 }",
-        ),
-        ("bytes are missing", b"1540001234123412", "More"),
-    ];
-    for (name, part, shown) in &cases {
-        let step = decode_field(rt.alloc(), &pan, *part)?;
-        assert_eq!(rt;
-            format!(in rt.alloc(); "{step:?}")?.as_str(),
-            *shown,
-            "{name}"
-        );
-    }
+    let whole = shown_step(rt.alloc(), b"15400012341234123")?;
+    assert!(rt;
+        whole.as_str() == "Got { value_len: 15, used: 17 }",
+        "a card's number"
+    );
+    let cut = shown_step(rt.alloc(), b"1540001234123412")?;
+    assert!(rt; cut.as_str() == "More", "bytes are missing");
     Ok(())
 }

@@ -2,13 +2,20 @@
 
 use super::*;
 
-#[test]
-fn judging_answers_as_decoding(rt: HostRuntime) -> Result<(), Fail> {
+/// A part under a row, and the answer.
+type Judgement = (
+    &'static str,
+    FieldSpec,
+    &'static [u8],
+    Result<Judged, FieldFault>,
+);
+
+fn judgements() -> [Judgement; 11] {
     let pan = number(Coding::Ascii, Length::LL(Digits::Bcd), 19);
     let packed = number(Coding::Bcd, Length::LL(Digits::Bcd), 19);
     let filled = zero_filled(Coding::Bcd);
     let hex = bytes(Coding::HexText, Length::LL(Digits::Ascii), 9);
-    let cases: [(&str, FieldSpec, &[u8], Result<Judged, FieldFault>); 11] = [
+    [
         (
             "an account number of 15 digits",
             packed,
@@ -50,18 +57,29 @@ fn judging_answers_as_decoding(rt: HostRuntime) -> Result<(), Fail> {
             b"01G0",
             Err(FieldFault::BadHex),
         ),
-    ];
-    for (name, spec, bytes, want) in &cases {
-        assert!(rt; spec.good().is_ok(), "{name}");
-        assert_eq!(rt; judge_field(spec, bytes), *want, "{name}");
+    ]
+}
+
+#[test]
+fn judging_answers_as_decoding(rt: HostRuntime) -> Result<(), Fail> {
+    for (name, spec, bytes, want) in &judgements() {
+        assert!(rt; is_good(spec), "{name}");
+        assert!(rt; is_judged_field(spec, bytes, *want), "{name}");
     }
     Ok(())
 }
 
-#[test]
-fn lengths_are_judged(rt: HostRuntime) -> Result<(), Fail> {
+/// The front of a part under a row, and the length that it tells.
+type LengthCase = (
+    &'static str,
+    FieldSpec,
+    &'static [u8],
+    Result<Option<u16>, FieldFault>,
+);
+
+fn lengths() -> [LengthCase; 5] {
     let packed = number(Coding::Bcd, Length::LL(Digits::Bcd), 19);
-    let cases: [(&str, FieldSpec, &[u8], Result<Option<u16>, FieldFault>); 5] = [
+    [
         ("15 digits", packed, b"\x15", Ok(Some(15))),
         ("no byte", packed, b"", Ok(None)),
         ("20 digits", packed, b"\x20", Err(FieldFault::LengthOver)),
@@ -72,29 +90,48 @@ fn lengths_are_judged(rt: HostRuntime) -> Result<(), Fail> {
             Err(FieldFault::BadLengthDigits),
         ),
         ("no length before the value", terminal(), b"", Ok(Some(8))),
-    ];
-    for (name, spec, bytes, want) in &cases {
-        assert_eq!(rt; judge_length(spec, bytes), *want, "{name}");
+    ]
+}
+
+fn is_length(spec: &FieldSpec, bytes: &[u8], want: Result<Option<u16>, FieldFault>) -> bool {
+    judge_length(spec, bytes) == want
+}
+
+#[test]
+fn lengths_are_judged(rt: HostRuntime) -> Result<(), Fail> {
+    for (name, spec, bytes, want) in &lengths() {
+        assert!(rt; is_length(spec, bytes, *want), "{name}");
     }
     Ok(())
 }
 
-#[test]
-fn bodies_are_judged(rt: HostRuntime) -> Result<(), Fail> {
-    let packed = number(Coding::Bcd, Length::LL(Digits::Bcd), 19);
-    let cases = [
+fn bodies() -> [(
+    &'static str,
+    &'static [u8],
+    Result<Option<usize>, FieldFault>,
+); 4] {
+    [
         (
             "three digits, and a byte behind",
-            b"\x01\x23\x45".as_slice(),
+            b"\x01\x23\x45",
             Ok(Some(2)),
         ),
         ("one byte of two", b"\x01", Ok(None)),
         ("a filler 1", b"\x11\x23", Err(FieldFault::BadFiller)),
         ("a nibble A", b"\x01\x2A", Err(FieldFault::NotInClass)),
-    ];
-    for (name, bytes, want) in &cases {
-        assert!(rt; packed.good().is_ok() && 3 <= packed.max, "{name}");
-        assert_eq!(rt; judge_body(&packed, 3, bytes), *want, "{name}");
+    ]
+}
+
+/// Whether three packed digits are judged so.
+fn are_three_digits(bytes: &[u8], want: Result<Option<usize>, FieldFault>) -> bool {
+    let packed = number(Coding::Bcd, Length::LL(Digits::Bcd), 19);
+    packed.good().is_ok() && 3 <= packed.max && judge_body(&packed, 3, bytes) == want
+}
+
+#[test]
+fn bodies_are_judged(rt: HostRuntime) -> Result<(), Fail> {
+    for (name, bytes, want) in &bodies() {
+        assert!(rt; are_three_digits(bytes, *want), "{name}");
     }
     Ok(())
 }

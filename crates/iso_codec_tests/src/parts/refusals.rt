@@ -2,14 +2,16 @@
 
 use super::*;
 
-#[test]
-fn values_are_refused(rt: HostRuntime) -> Result<(), Fail> {
+/// A value or a part that a row refuses, and the fault.
+type Refused = (&'static str, FieldSpec, &'static [u8], FieldFault);
+
+fn refused_values() -> [Refused; 7] {
     let signed = row(CharClass::XN, Coding::Ascii, Length::Fixed, 9, Pad::None);
-    let cases = [
+    [
         (
             "a letter for the sign",
             signed,
-            b"E00000150".as_slice(),
+            b"E00000150",
             FieldFault::NotInClass,
         ),
         (
@@ -48,18 +50,34 @@ fn values_are_refused(rt: HostRuntime) -> Result<(), Fail> {
             b"TERM\x1F",
             FieldFault::NotInClass,
         ),
-    ];
-    for (name, row, value, fault) in &cases {
-        assert!(rt; row.good().is_ok(), "{name}");
-        let mut out = Vec::from_slice(rt.alloc(), b"before")?;
-        assert_eq!(rt; encode_field(row, value, &mut out), Err(*fault), "{name}");
-        assert_eq!(rt; out.as_slice(), b"before".as_slice(), "{name}");
+    ]
+}
+
+/// Whether a value is refused with that fault, and nothing is written.
+fn is_refused(
+    alloc: Global,
+    row: &FieldSpec,
+    value: &[u8],
+    fault: FieldFault,
+) -> Result<bool, Fail> {
+    let mut out = Vec::from_slice(alloc, b"before")?;
+    if row.good().is_err() {
+        return Ok(false);
+    }
+    let answer = encode_field(row, value, &mut out);
+    Ok(answer == Err(fault) && out.as_slice() == b"before".as_slice())
+}
+
+#[test]
+fn values_are_refused(rt: HostRuntime) -> Result<(), Fail> {
+    for (name, row, value, fault) in &refused_values() {
+        assert!(rt; is_good(row), "{name}");
+        assert!(rt; is_refused(rt.alloc(), row, value, *fault)?, "{name}");
     }
     Ok(())
 }
 
-#[test]
-fn bytes_are_refused(rt: HostRuntime) -> Result<(), Fail> {
+fn refused_parts() -> [Refused; 11] {
     let digits = bytes(Coding::HexText, Length::Fixed, 8);
     let bcd = number(Coding::Bcd, Length::LL(Digits::Bcd), 19);
     let long = row(
@@ -72,11 +90,11 @@ fn bytes_are_refused(rt: HostRuntime) -> Result<(), Fail> {
     let ascii = number(Coding::Ascii, Length::LL(Digits::Ascii), 19);
     let four = bytes(Coding::HexText, Length::LLLL(Digits::Ascii), 9_998);
     let packed_four = bytes(Coding::Raw, Length::LLLL(Digits::Bcd), 9_999);
-    let cases = [
+    [
         (
             "G is no digit",
             digits,
-            b"0123456789ABCDEG".as_slice(),
+            b"0123456789ABCDEG",
             FieldFault::BadHex,
         ),
         (
@@ -129,30 +147,35 @@ fn bytes_are_refused(rt: HostRuntime) -> Result<(), Fail> {
             FieldFault::BadFiller,
         ),
         ("a nibble above 9", bcd, b"\x02\x0A", FieldFault::NotInClass),
-    ];
-    for (name, row, part, fault) in &cases {
-        assert!(rt; row.good().is_ok(), "{name}");
-        let mut value = Vec::from_slice(rt.alloc(), b"before")?;
-        assert_eq!(rt; decode_value(row, part, &mut value), Err(*fault), "{name}");
-        assert_eq!(rt; value.as_slice(), b"before".as_slice(), "{name}");
+    ]
+}
+
+#[test]
+fn bytes_are_refused(rt: HostRuntime) -> Result<(), Fail> {
+    for (name, row, part, fault) in &refused_parts() {
+        assert!(rt; is_good(row), "{name}");
+        let is_refused = is_decoded(rt.alloc(), row, part, Err(*fault), b"")?;
+        assert!(rt; is_refused, "{name}");
     }
     Ok(())
+}
+
+fn unfinished_parts() -> [(&'static str, &'static [u8]); 4] {
+    [
+        ("no byte", b""),
+        ("half a length", b"1"),
+        ("a length alone", b"03"),
+        ("a body without its end", b"0312"),
+    ]
 }
 
 #[test]
 fn bytes_are_missing(rt: HostRuntime) -> Result<(), Fail> {
     let ascii = number(Coding::Ascii, Length::LL(Digits::Ascii), 19);
-    assert!(rt; ascii.good().is_ok());
-    let cases = [
-        ("no byte", b"".as_slice()),
-        ("half a length", b"1"),
-        ("a length alone", b"03"),
-        ("a body without its end", b"0312"),
-    ];
-    for (name, part) in &cases {
-        let mut value = Vec::from_slice(rt.alloc(), b"before")?;
-        assert_eq!(rt; decode_value(&ascii, *part, &mut value), Ok(None), "{name}");
-        assert_eq!(rt; value.as_slice(), b"before".as_slice(), "{name}");
+    assert!(rt; is_good(&ascii));
+    for (name, part) in &unfinished_parts() {
+        let is_cut = is_decoded(rt.alloc(), &ascii, *part, Ok(None), b"")?;
+        assert!(rt; is_cut, "{name}");
     }
     Ok(())
 }

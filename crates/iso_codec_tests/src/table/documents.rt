@@ -330,13 +330,18 @@ fn rewritten(alloc: Global, document: &str) -> Result<Vec<u8>, Fail> {
     Ok(table.to_json(alloc)?)
 }
 
-#[test]
-fn writes_what_it_read(rt: HostRuntime) -> Result<(), Fail> {
-    for (name, document, written) in [
+/// Documents, and what is written of the tables that they give.
+fn written_documents() -> [(&'static str, &'static str, &'static str); 3] {
+    [
         ("profile 1", TERMINAL, WRITTEN),
         ("profile 2", WRITTEN, WRITTEN),
         ("four digits", CHIP, CHIP),
-    ] {
+    ]
+}
+
+#[test]
+fn writes_what_it_read(rt: HostRuntime) -> Result<(), Fail> {
+    for (name, document, written) in &written_documents() {
         let text = rewritten(rt.alloc(), document)?;
         assert!(rt; text.as_slice() == written.as_bytes(), "{name}");
     }

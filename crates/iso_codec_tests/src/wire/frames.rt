@@ -17,9 +17,11 @@ fn closed(alloc: Global, header: Header, body: &[u8]) -> Result<Vec<u8>, FrameFa
     Ok(out)
 }
 
-#[test]
-fn bodies_are_framed(rt: HostRuntime) -> Result<(), Fail> {
-    let cases: [(&str, Header, &[u8], &[u8]); 5] = [
+/// A body behind a header, and the frame.
+type FrameCase = (&'static str, Header, &'static [u8], &'static [u8]);
+
+fn frames() -> [FrameCase; 5] {
+    [
         (
             "an echo behind two bytes",
             Binary2,
@@ -40,28 +42,42 @@ fn bodies_are_framed(rt: HostRuntime) -> Result<(), Fail> {
         ),
         ("nothing behind two bytes", Binary2, b"", b"\x00\x00"),
         ("nothing behind four digits", Ascii4, b"", b"0000"),
-    ];
-    for (name, header, body, want) in cases {
-        let made = frame(rt.alloc(), header, body)?;
-        assert_eq!(rt; made.as_slice(), want, "{name}");
-        let made = closed(rt.alloc(), header, body)?;
-        assert_eq!(rt; made.as_slice(), want, "{name}, closed");
-        let read = unframe(header, &made);
-        assert_eq!(rt;
-            read,
-            Ok(Got {
-                body,
-                used: want.len()
-            }),
-            "{name}"
+    ]
+}
+
+fn is_framed(alloc: Global, header: Header, body: &[u8], want: &[u8]) -> Result<bool, Fail> {
+    Ok(frame(alloc, header, body)?.as_slice() == want)
+}
+
+fn is_closed(alloc: Global, header: Header, body: &[u8], want: &[u8]) -> Result<bool, Fail> {
+    Ok(closed(alloc, header, body)?.as_slice() == want)
+}
+
+/// Whether that stands at the front of the bytes.
+fn is_unframed(header: Header, bytes: &[u8], want: Result<Framed<'_>, FrameFault>) -> bool {
+    unframe(header, bytes) == want
+}
+
+#[test]
+fn bodies_are_framed(rt: HostRuntime) -> Result<(), Fail> {
+    for (name, header, body, want) in &frames() {
+        assert!(rt; is_framed(rt.alloc(), *header, body, want)?, "{name}");
+        assert!(rt;
+            is_closed(rt.alloc(), *header, body, want)?,
+            "{name}, closed"
         );
+        let used = want.len();
+        let got = Ok(Got { body, used });
+        assert!(rt; is_unframed(*header, want, got), "{name}, read");
     }
     Ok(())
 }
 
-#[test]
-fn long_bodies(rt: HostRuntime) -> Result<(), Fail> {
-    let cases: [(Header, usize, Result<&[u8], FrameFault>); 7] = [
+/// A header before a body of so many bytes, and its bytes.
+type LongCase = (Header, usize, Result<&'static [u8], FrameFault>);
+
+fn long_frames() -> [LongCase; 7] {
+    [
         (Binary2, 10_000, Ok(b"\x27\x10")),
         (Ascii4, 10_000, Err(TooLong)),
         (Bcd2, 10_000, Err(TooLong)),
@@ -69,22 +85,45 @@ fn long_bodies(rt: HostRuntime) -> Result<(), Fail> {
         (Bcd2, 9_999, Ok(b"\x99\x99")),
         (Binary2, 65_535, Ok(b"\xFF\xFF")),
         (Binary2, 65_536, Err(TooLong)),
-    ];
-    for (header, length, want) in cases {
-        let body = vec![in rt.alloc(); b'x'; length]?;
-        let made = frame(rt.alloc(), header, &body);
-        let front = match &made {
-            Ok(bytes) => Ok(&bytes[..header.size().min(bytes.len())]),
-            Err(fault) => Err(*fault),
-        };
-        assert_eq!(rt; front, want, "{header:?} before {length} bytes");
+    ]
+}
+
+/// Whether a body of so many bytes has that header, or is refused so.
+fn has_header(
+    alloc: Global,
+    header: Header,
+    length: usize,
+    want: Result<&[u8], FrameFault>,
+) -> Result<bool, Fail> {
+    let body = vec![in alloc; b'x'; length]?;
+    Ok(match (frame(alloc, header, &body), want) {
+        (Ok(bytes), Ok(front)) => {
+            front.len() == header.size() && bytes.strip_prefix(front) == Some(body.as_slice())
+        }
+        (Err(fault), Err(refused)) => fault == refused,
+        _ => false,
+    })
+}
+
+#[test]
+fn long_bodies(rt: HostRuntime) -> Result<(), Fail> {
+    for (header, length, want) in &long_frames() {
+        let is_made = has_header(rt.alloc(), *header, *length, *want)?;
+        assert!(rt; is_made, "{header:?} before {length} bytes");
     }
     Ok(())
 }
 
-#[test]
-fn frames_are_read(rt: HostRuntime) -> Result<(), Fail> {
-    let cases: [(&str, Header, &[u8], Result<Framed<'static>, FrameFault>); 11] = [
+/// Bytes, and what stands at their front.
+type Unframed = (
+    &'static str,
+    Header,
+    &'static [u8],
+    Result<Framed<'static>, FrameFault>,
+);
+
+fn unframed() -> [Unframed; 11] {
+    [
         ("no bytes", Binary2, b"", Ok(More)),
         ("half a header", Bcd2, b"\x00", Ok(More)),
         ("a header not of digits", Bcd2, b"\x00\x5A", Err(BadDigits)),
@@ -130,16 +169,27 @@ fn frames_are_read(rt: HostRuntime) -> Result<(), Fail> {
             b"\x01\x00abcdefghij",
             Ok(More),
         ),
-    ];
-    for (name, header, bytes, want) in cases {
-        assert_eq!(rt; unframe(header, bytes), want, "{name}");
+    ]
+}
+
+#[test]
+fn frames_are_read(rt: HostRuntime) -> Result<(), Fail> {
+    for (name, header, bytes, want) in &unframed() {
+        assert!(rt; is_unframed(*header, bytes, *want), "{name}");
     }
     Ok(())
 }
 
-#[test]
-fn headers_are_read_alone(rt: HostRuntime) -> Result<(), Fail> {
-    let cases: [(&str, Header, &[u8], Result<Option<usize>, FrameFault>); 8] = [
+/// The front of a frame, and the length that its header tells.
+type LengthCase = (
+    &'static str,
+    Header,
+    &'static [u8],
+    Result<Option<usize>, FrameFault>,
+);
+
+fn headers() -> [LengthCase; 8] {
+    [
         ("no bytes", Ascii4, b"", Ok(None)),
         ("half a header with a letter", Ascii4, b"00x", Ok(None)),
         ("a header with a letter", Ascii4, b"00x5", Err(BadDigits)),
@@ -153,38 +203,55 @@ fn headers_are_read_alone(rt: HostRuntime) -> Result<(), Fail> {
         ("two bytes", Binary2, b"\xFF\xFE", Ok(Some(65_534))),
         ("two bytes of digits", Bcd2, b"\x12\x34\x56", Ok(Some(1234))),
         ("two bytes not of digits", Bcd2, b"\x12\x3A", Err(BadDigits)),
-    ];
-    for (name, header, bytes, want) in cases {
-        assert_eq!(rt; body_length(header, bytes), want, "{name}");
+    ]
+}
+
+fn tells(header: Header, bytes: &[u8], want: Result<Option<usize>, FrameFault>) -> bool {
+    body_length(header, bytes) == want
+}
+
+#[test]
+fn headers_are_read_alone(rt: HostRuntime) -> Result<(), Fail> {
+    for (name, header, bytes, want) in &headers() {
+        assert!(rt; tells(*header, bytes, *want), "{name}");
     }
     Ok(())
+}
+
+/// Appends a frame, and says whether that is the answer.
+fn appends(header: Header, body: &[u8], out: &mut Vec<u8>, want: Result<(), FrameFault>) -> bool {
+    append_frame(header, body, out) == want
 }
 
 #[test]
 fn frames_are_appended(rt: HostRuntime) -> Result<(), Fail> {
     let mut out = vec![in rt.alloc(); b'a', b'b']?;
-    append_frame(Ascii4, b"c", &mut out)?;
+    assert!(rt; appends(Ascii4, b"c", &mut out, Ok(())));
     assert_eq!(rt; out.as_slice(), b"ab0001c".as_slice());
     let long = vec![in rt.alloc(); b'x'; 10_000]?;
-    assert_eq!(rt; append_frame(Ascii4, &long, &mut out), Err(TooLong));
+    assert!(rt; appends(Ascii4, &long, &mut out, Err(TooLong)));
     assert_eq!(rt; out.as_slice(), b"ab0001c".as_slice());
     Ok(())
+}
+
+/// Closes a frame, and says whether that is the answer.
+fn closes(header: Header, frame: &mut [u8], want: Result<(), FrameFault>) -> bool {
+    frame.len() >= header.size() && close_frame(header, frame) == want
 }
 
 #[test]
 fn a_frame_that_is_too_long_stays_open(rt: HostRuntime) -> Result<(), Fail> {
     let mut bytes = vec![in rt.alloc(); b'x'; 10_004]?;
-    assert_eq!(rt; close_frame(Ascii4, bytes.as_mut_slice()), Err(TooLong));
+    assert!(rt; closes(Ascii4, bytes.as_mut_slice(), Err(TooLong)));
     assert!(rt; bytes.iter().all(|b| *b == b'x'));
     // a header of two bytes counts the other 10,002
-    assert_eq!(rt; close_frame(Binary2, bytes.as_mut_slice()), Ok(()));
+    assert!(rt; closes(Binary2, bytes.as_mut_slice(), Ok(())));
     assert!(rt; bytes.starts_with(b"\x27\x12xx"));
     Ok(())
 }
 
-#[test]
-fn headers_tell_lengths(rt: HostRuntime) -> Result<(), Fail> {
-    let cases: [(&str, Header, &[u8], Result<Option<usize>, FrameFault>); 5] = [
+fn lengths() -> [LengthCase; 5] {
+    [
         ("two bytes", Binary2, b"\x27\x10", Ok(Some(10_000))),
         ("four digits", Ascii4, b"0055", Ok(Some(55))),
         ("two bytes of digits", Bcd2, b"\x00\x55", Ok(Some(55))),
@@ -195,10 +262,18 @@ fn headers_tell_lengths(rt: HostRuntime) -> Result<(), Fail> {
             Err(BadDigits),
         ),
         ("three digits", Ascii4, b"055", Ok(None)),
-    ];
-    for (name, header, bytes, want) in cases {
-        assert_eq!(rt; body_length(header, bytes), want, "{name}");
+    ]
+}
+
+fn limit(header: Header) -> usize {
+    header.limit()
+}
+
+#[test]
+fn headers_tell_lengths(rt: HostRuntime) -> Result<(), Fail> {
+    for (name, header, bytes, want) in &lengths() {
+        assert!(rt; tells(*header, bytes, *want), "{name}");
     }
-    assert_eq!(rt; Binary2.limit(), 65_535);
+    assert_eq!(rt; limit(Binary2), 65_535);
     Ok(())
 }

@@ -2,7 +2,7 @@
 
 use super::*;
 use iso_parts::FieldFault;
-use iso_wire::UnpackCause::{BadMti, Field, Short, ThirdBitmap, UnknownElement};
+use iso_wire::UnpackCause::{BadMti, Field, ThirdBitmap, UnknownElement};
 
 /// A message, and where each of its pieces begins, with its element.
 #[derive(Drop)]
@@ -17,38 +17,17 @@ fn ascii_messages() -> [Named; 3] {
         Named {
             name: "echo",
             bytes: ECHO,
-            pieces: &[(0, 0), (4, 0), (20, 1), (36, 7), (46, 11), (52, 70)],
+            pieces: ECHO_PIECES,
         },
         Named {
             name: "payment",
             bytes: PAYMENT,
-            pieces: &[
-                (0, 0),
-                (4, 0),
-                (20, 2),
-                (22, 2),
-                (38, 3),
-                (44, 4),
-                (56, 7),
-                (66, 11),
-                (72, 32),
-                (74, 32),
-                (79, 49),
-            ],
+            pieces: PAYMENT_PIECES,
         },
         Named {
             name: "reversal",
             bytes: REVERSAL,
-            pieces: &[
-                (0, 0),
-                (4, 0),
-                (20, 1),
-                (36, 7),
-                (46, 11),
-                (52, 32),
-                (54, 32),
-                (59, 90),
-            ],
+            pieces: REVERSAL_PIECES,
         },
     ]
 }
@@ -57,36 +36,31 @@ fn packed_message() -> Named {
     Named {
         name: "echo under BCD",
         bytes: PACKED_ECHO,
-        pieces: &[(0, 0), (2, 0), (10, 1), (18, 7), (23, 11), (26, 70)],
+        pieces: PACKED_ECHO_PIECES,
     }
 }
 
-/// The last piece that begins within the first `size` bytes isn't whole.
-fn short_at(pieces: &[(usize, u8)], size: usize) -> UnpackFault {
-    let mut fault = UnpackFault {
-        at: 0,
-        element: 0,
-        cause: Short,
-    };
-    for (at, element) in pieces {
-        if *at <= size {
-            fault.at = *at;
-            fault.element = *element;
-        }
+fn refused_whole(alloc: Global, table: &Table, bytes: &[u8]) -> Option<UnpackFault> {
+    unpack(alloc, table, bytes).err()
+}
+
+fn refused_view(table: &Table, bytes: &[u8]) -> Option<UnpackFault> {
+    view(table, bytes).err()
+}
+
+fn refused_piece(alloc: Global, table: &Table, bytes: &[u8]) -> Option<UnpackFault> {
+    match Unpacker::new(alloc, table).feed(alloc, bytes) {
+        Ok(_) => None,
+        Err(fault) => Some(fault),
     }
-    fault
 }
 
 /// What `unpack`, `view` and `feed` refuse in the bytes, where `feed` tells no fault but wants more.
 fn refused(alloc: Global, table: &Table, bytes: &[u8]) -> [Option<UnpackFault>; 3] {
-    let fed = match Unpacker::new(alloc, table).feed(alloc, bytes) {
-        Ok(_) => None,
-        Err(fault) => Some(fault),
-    };
     [
-        unpack(alloc, table, bytes).err(),
-        view(table, bytes).err(),
-        fed,
+        refused_whole(alloc, table, bytes),
+        refused_view(table, bytes),
+        refused_piece(alloc, table, bytes),
     ]
 }
 
@@ -104,18 +78,20 @@ fn wrong_cut(alloc: Global, table: &Table, named: &Named) -> Option<usize> {
 
 #[test]
 fn cut_messages_are_short_alike(rt: HostRuntime) -> Result<(), Fail> {
-    let table = Table::ascii87(rt.alloc())?;
+    let table = ascii87(rt.alloc())?;
     for named in &ascii_messages() {
         let name = named.name;
-        assert_eq!(rt; wrong_cut(rt.alloc(), &table, named), None, "{name}");
+        let wrong = wrong_cut(rt.alloc(), &table, named);
+        assert!(rt; wrong.is_none(), "{name}: {wrong:?} bytes");
     }
     Ok(())
 }
 
 #[test]
 fn a_cut_packed_message_is_short_alike(rt: HostRuntime) -> Result<(), Fail> {
-    let table = Table::bcd87(rt.alloc())?;
-    assert_eq!(rt; wrong_cut(rt.alloc(), &table, &packed_message()), None);
+    let table = bcd87(rt.alloc())?;
+    let wrong = wrong_cut(rt.alloc(), &table, &packed_message());
+    assert!(rt; wrong.is_none(), "{wrong:?} bytes");
     Ok(())
 }
 
@@ -179,32 +155,31 @@ fn wrong_raw_bit(alloc: Global, table: &Table, bytes: &[u8]) -> Result<Option<u8
     Ok(None)
 }
 
-#[test]
-fn bits_without_a_row_are_refused_alike(rt: HostRuntime) -> Result<(), Fail> {
-    let table = ascii(rt.alloc())?;
-    let cases = [
-        ("echo", ECHO, 128),
-        ("payment", PAYMENT, 64),
-        ("reversal", REVERSAL, 128),
-    ];
-    for (name, bytes, last) in &cases {
-        assert_eq!(rt;
-            wrong_bit(rt.alloc(), &table, bytes, *last)?,
-            None,
-            "{name}"
-        );
-    }
-    let packed = packed(rt.alloc())?;
-    assert_eq!(rt; wrong_raw_bit(rt.alloc(), &packed, PACKED_ECHO)?, None);
-    Ok(())
+/// Whether `unpack`, `view` and `feed` all tell that fault.
+fn are_refused(alloc: Global, table: &Table, bytes: &[u8], fault: UnpackFault) -> bool {
+    refused(alloc, table, bytes) == [Some(fault), Some(fault), Some(fault)]
 }
 
 #[test]
-fn bad_pieces_are_refused_alike(rt: HostRuntime) -> Result<(), Fail> {
-    let terminal = [(41, text(8, Pad::Right(b' ')))];
-    let table = table(rt.alloc(), 0, Digits::Ascii, BitmapCoding::Hex, &terminal)?;
-    let cases = [
-        ("a letter in the type", b"08A0".as_slice(), 0, 0, BadMti),
+fn bits_without_a_row_are_refused_alike(rt: HostRuntime) -> Result<(), Fail> {
+    let table = ascii(rt.alloc())?;
+    for (name, bytes, last) in [
+        ("echo", ECHO, 128),
+        ("payment", PAYMENT, 64),
+        ("reversal", REVERSAL, 128),
+    ] {
+        let wrong = wrong_bit(rt.alloc(), &table, bytes, last)?;
+        assert!(rt; wrong.is_none(), "{name}: {wrong:?}");
+    }
+    let packed = packed(rt.alloc())?;
+    let wrong = wrong_raw_bit(rt.alloc(), &packed, PACKED_ECHO)?;
+    assert!(rt; wrong.is_none(), "{wrong:?}");
+    Ok(())
+}
+
+fn bad_pieces() -> [Stop; 3] {
+    [
+        ("a letter in the type", b"08A0", 0, 0, BadMti),
         (
             "two elements without a row",
             b"08000880000000000000",
@@ -219,16 +194,29 @@ fn bad_pieces_are_refused_alike(rt: HostRuntime) -> Result<(), Fail> {
             1,
             UnknownElement(66),
         ),
-    ];
-    for (name, bytes, at, element, cause) in &cases {
-        let fault = Some(UnpackFault {
-            at: *at,
-            element: *element,
-            cause: *cause,
-        });
-        assert_eq!(rt;
-            refused(rt.alloc(), &table, bytes),
-            [fault, fault, fault],
+    ]
+}
+
+#[test]
+fn bad_pieces_are_refused_alike(rt: HostRuntime) -> Result<(), Fail> {
+    let terminal = [(41, text(8, Pad::Right(b' ')))];
+    let table = table(rt.alloc(), 0, Digits::Ascii, BitmapCoding::Hex, &terminal)?;
+    for (name, bytes, at, element, cause) in &bad_pieces() {
+        let fault = stop(*at, *element, *cause);
+        assert!(rt; are_refused(rt.alloc(), &table, bytes, fault), "{name}");
+    }
+    Ok(())
+}
+
+#[test]
+fn a_letter_among_digits_is_refused_alike(rt: HostRuntime) -> Result<(), Fail> {
+    let table = ascii87(rt.alloc())?;
+    let bytes = b"0200722000010000800016411111111111111\
+1x0000000000000100001020304050000070512345840";
+    let fault = stop(38, 3, Field(FieldFault::NotInClass));
+    for (name, size) in [("the whole message", 82), ("cut behind it", 50)] {
+        assert!(rt;
+            are_refused(rt.alloc(), &table, &bytes[..size], fault),
             "{name}"
         );
     }
@@ -236,34 +224,17 @@ fn bad_pieces_are_refused_alike(rt: HostRuntime) -> Result<(), Fail> {
 }
 
 #[test]
-fn a_letter_among_digits_is_refused_alike(rt: HostRuntime) -> Result<(), Fail> {
-    let table = Table::ascii87(rt.alloc())?;
-    let bytes = b"0200722000010000800016411111111111111\
-1x0000000000000100001020304050000070512345840";
-    let fault = Some(UnpackFault {
-        at: 38,
-        element: 3,
-        cause: Field(FieldFault::NotInClass),
-    });
-    for (name, size) in [("the whole message", 82), ("cut behind it", 50)] {
-        let seen = refused(rt.alloc(), &table, &bytes[..size]);
-        assert_eq!(rt; seen, [fault, fault, fault], "{name}");
-    }
+fn the_largest_bytes_are_judged(rt: HostRuntime) -> Result<(), Fail> {
+    let alloc = rt.alloc();
+    let table = ascii87(alloc)?;
+    let zeros = vec![in alloc; b'0'; 65535]?;
+    assert!(rt; are_taken(alloc, &table, &zeros));
+    let ones = vec![in alloc; 0xFF; 65535]?;
+    assert!(rt; are_refused(alloc, &table, &ones, stop(0, 0, BadMti)));
     Ok(())
 }
 
-#[test]
-fn the_largest_bytes_are_judged(rt: HostRuntime) -> Result<(), Fail> {
-    let alloc = rt.alloc();
-    let table = Table::ascii87(alloc)?;
-    let zeros = vec![in alloc; b'0'; 65535]?;
-    assert_eq!(rt; refused(alloc, &table, &zeros), [None, None, None]);
-    let ones = vec![in alloc; 0xFF; 65535]?;
-    let fault = Some(UnpackFault {
-        at: 0,
-        element: 0,
-        cause: BadMti,
-    });
-    assert_eq!(rt; refused(alloc, &table, &ones), [fault, fault, fault]);
-    Ok(())
+/// Whether `unpack`, `view` and `feed` all refuse nothing.
+fn are_taken(alloc: Global, table: &Table, bytes: &[u8]) -> bool {
+    refused(alloc, table, bytes) == [None, None, None]
 }

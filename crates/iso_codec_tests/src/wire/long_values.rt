@@ -22,22 +22,68 @@ fn chip_message(alloc: Global, digits: &[u8], size: u16) -> Result<Vec<u8>, Allo
     Ok(bytes)
 }
 
+/// Whether the message is packed as the bytes.
+fn is_packed(alloc: Global, table: &Table, message: &Message, bytes: &[u8]) -> Result<bool, Fail> {
+    Ok(pack(alloc, table, message)?.as_slice() == bytes)
+}
+
+/// Whether the bytes are read as the message.
+fn is_unpacked(
+    alloc: Global,
+    table: &Table,
+    bytes: &[u8],
+    message: &Message,
+    size: usize,
+) -> Result<bool, Fail> {
+    let (read, used) = unpack(alloc, table, bytes)?;
+    Ok(read.equals(message) && used == size)
+}
+
+/// Whether a view has that size and that body of element 48.
+fn is_viewed(table: &Table, bytes: &[u8], size: usize, body: &[u8]) -> Result<bool, Fail> {
+    let seen = view(table, bytes)?;
+    Ok(seen.used() == size && seen.wire(48) == Some(body))
+}
+
 #[test]
 fn three_bytes_are_packed(rt: HostRuntime) -> Result<(), Fail> {
     let alloc = rt.alloc();
     let table = chip_table(alloc, 9_999)?;
-    let mut message = Message::new(alloc, Mti::from_digits(800).ok_or("a type")?);
-    message.set(48, b"\x01\x02\x0A")?;
-    assert_eq!(rt; pack(alloc, &table, &message)?.as_slice(), CHIP);
-    let (read, used) = unpack(alloc, &table, CHIP)?;
-    assert!(rt; read.equals(&message));
-    assert_eq!(rt; used, 30);
-    let seen = view(&table, CHIP)?;
-    assert_eq!(rt;
-        (seen.used(), seen.wire(48)),
-        (30, Some(b"01020A".as_slice()))
-    );
+    let message = message(alloc, 800, &[(48, b"\x01\x02\x0A")])?;
+    assert!(rt; is_packed(alloc, &table, &message, CHIP)?);
+    assert!(rt; is_unpacked(alloc, &table, CHIP, &message, 30)?);
+    assert!(rt; is_viewed(&table, CHIP, 30, b"01020A")?);
     Ok(())
+}
+
+/// What is read of the longest message.
+fn longest(alloc: Global, table: &Table, bytes: &[u8]) -> Result<Message, Fail> {
+    let (read, used) = unpack(alloc, table, bytes)?;
+    if used == 20_022 && read.get(48).map(|v| v.len()) == Some(9_999) {
+        Ok(read)
+    } else {
+        Err("the longest value has 9,999 bytes".into())
+    }
+}
+
+fn is_longest_body(table: &Table, bytes: &[u8]) -> Result<bool, Fail> {
+    Ok(view(table, bytes)?.wire(48).map(|w| w.len()) == Some(19_998))
+}
+
+/// Whether an unpacker keeps the bytes until the last one.
+fn is_fed(alloc: Global, table: &Table, bytes: &[u8], message: &Message) -> Result<bool, Fail> {
+    let mut unpacker = Unpacker::new(alloc, table);
+    let (front, last) = bytes.split_at(bytes.len().min(20_021));
+    if !matches!(unpacker.feed(alloc, front)?, Fed::More) || unpacker.held() != 20_021 {
+        return Ok(false);
+    }
+    match unpacker.feed(alloc, last)? {
+        Fed::More => Ok(false),
+        Fed::Done {
+            message: read,
+            used,
+        } => Ok(read.equals(message) && used == 1),
+    }
 }
 
 #[test]
@@ -45,49 +91,53 @@ fn the_longest_value_is_packed(rt: HostRuntime) -> Result<(), Fail> {
     let alloc = rt.alloc();
     let table = chip_table(alloc, 9_999)?;
     let bytes = chip_message(alloc, b"9999", 19_998)?;
-    assert_eq!(rt; table.max_bytes(), 20_038);
-    let (read, used) = unpack(alloc, &table, &bytes)?;
-    assert_eq!(rt;
-        (used, read.get(48).map(|v| v.len())),
-        (20_022, Some(9_999))
-    );
-    assert_eq!(rt; pack(alloc, &table, &read)?.as_slice(), bytes.as_slice());
-    assert_eq!(rt;
-        view(&table, &bytes)?.wire(48).map(|w| w.len()),
-        Some(19_998)
-    );
-    let mut unpacker = Unpacker::new(alloc, &table);
-    let (front, last) = bytes.split_at(20_021);
-    assert!(rt; matches!(unpacker.feed(alloc, front)?, Fed::More));
-    assert_eq!(rt; unpacker.held(), 20_021);
-    match unpacker.feed(alloc, last)? {
-        Fed::More => return Err("the message is whole".into()),
-        Fed::Done { message, used } => assert!(rt; message.equals(&read) && used == 1),
-    }
+    assert_eq!(rt; longest_message(&table), 20_038);
+    let read = longest(alloc, &table, &bytes)?;
+    assert!(rt; is_packed(alloc, &table, &read, &bytes)?);
+    assert!(rt; is_longest_body(&table, &bytes)?);
+    assert!(rt; is_fed(alloc, &table, &bytes, &read)?);
     Ok(())
+}
+
+fn longest_message(table: &Table) -> u64 {
+    table.max_bytes()
+}
+
+/// Digits of a length that are refused, and where.
+fn refused_digits() -> [Stop; 4] {
+    [
+        (
+            "one byte too many",
+            b"9999",
+            20,
+            48,
+            Field(FieldFault::LengthOver),
+        ),
+        (
+            "a letter",
+            b"000x",
+            20,
+            48,
+            Field(FieldFault::BadLengthDigits),
+        ),
+        ("three digits", b"000", 20, 48, Short),
+        ("no byte of 9,998", b"9998", 24, 48, Short),
+    ]
+}
+
+fn is_refused_view(table: &Table, bytes: &[u8], fault: UnpackFault) -> bool {
+    view(table, bytes).err() == Some(fault)
 }
 
 #[test]
 fn a_longer_value_is_refused(rt: HostRuntime) -> Result<(), Fail> {
     let alloc = rt.alloc();
     let table = chip_table(alloc, 9_998)?;
-    let over = Field(FieldFault::LengthOver);
-    let letters = Field(FieldFault::BadLengthDigits);
-    let cases = [
-        ("one byte too many", b"9999".as_slice(), 20, over),
-        ("a letter", b"000x", 20, letters),
-        ("three digits", b"000", 20, Short),
-        ("no byte of 9,998", b"9998", 24, Short),
-    ];
-    for (name, digits, at, cause) in cases {
-        let bytes = [b"08000000000000010000", digits].concat(alloc)?;
-        let stop = UnpackFault {
-            at,
-            element: 48,
-            cause,
-        };
-        assert_eq!(rt; unpack(alloc, &table, &bytes).err(), Some(stop), "{name}");
-        assert_eq!(rt; view(&table, &bytes).err(), Some(stop), "{name}");
+    for (name, digits, at, element, cause) in &refused_digits() {
+        let bytes = [b"08000000000000010000", *digits].concat(alloc)?;
+        let fault = stop(*at, *element, *cause);
+        assert!(rt; is_refused(alloc, &table, &bytes, fault), "{name}");
+        assert!(rt; is_refused_view(&table, &bytes, fault), "{name}");
     }
     Ok(())
 }

@@ -3,9 +3,8 @@
 use super::*;
 use iso_wire::{Framed, describe, describe_clear, masked};
 
-#[test]
-fn values_are_masked(rt: HostRuntime) -> Result<(), Fail> {
-    let cases: [(&str, u8, &[u8], &str); 13] = [
+fn values() -> [(&'static str, u8, &'static [u8], &'static str); 13] {
+    [
         (
             "an account number",
             2,
@@ -29,20 +28,35 @@ fn values_are_masked(rt: HostRuntime) -> Result<(), Fail> {
         ("an amount", 4, b"000000001000", "000000001000"),
         ("a terminal", 41, b"TERM 1", "TERM 1"),
         ("a MAC", 64, b"\x00A\xFE\n", "\\x00A\\xFE\\x0A"),
-    ];
-    for (name, n, value, want) in cases {
-        let shown = masked(n, value);
-        let text = format!(in rt.alloc(); "{shown}")?;
-        assert_eq!(rt; text.as_str(), want, "{name}");
-        let text = format!(in rt.alloc(); "{shown:?}")?;
-        assert_eq!(rt; text.as_str(), want, "{name}, for debugging");
+    ]
+}
+
+fn shown(alloc: Global, n: u8, value: &[u8]) -> Result<String, Fail> {
+    let shown = masked(n, value);
+    Ok(format!(in alloc; "{shown}")?)
+}
+
+fn shown_for_debugging(alloc: Global, n: u8, value: &[u8]) -> Result<String, Fail> {
+    let shown = masked(n, value);
+    Ok(format!(in alloc; "{shown:?}")?)
+}
+
+#[test]
+fn values_are_masked(rt: HostRuntime) -> Result<(), Fail> {
+    for (name, n, value, want) in &values() {
+        let text = shown(rt.alloc(), *n, value)?;
+        assert!(rt; text.as_str() == *want, "{name}: {text}");
+        let text = shown_for_debugging(rt.alloc(), *n, value)?;
+        assert!(rt; text.as_str() == *want, "{name}, for debugging: {text}");
     }
     Ok(())
 }
 
-#[test]
-fn messages_are_printed_masked(rt: HostRuntime) -> Result<(), Fail> {
-    let cases: [(&str, u16, &[(u8, &[u8])], &str); 4] = [
+/// The elements of a message.
+type Elements = &'static [(u8, &'static [u8])];
+
+fn printed_messages() -> [(&'static str, u16, Elements, &'static str); 4] {
+    [
         ("no element", 800, &[], "Message { mti: 0800 }"),
         (
             "an account number and an amount",
@@ -69,19 +83,28 @@ fn messages_are_printed_masked(rt: HostRuntime) -> Result<(), Fail> {
             &[(128, b"\xFF")],
             "Message { mti: 9999, 128: \\xFF }",
         ),
-    ];
-    for (name, mti, elements, want) in cases {
-        let message = message(rt.alloc(), mti, elements)?;
-        let text = format!(in rt.alloc(); "{message:?}")?;
-        assert_eq!(rt; text.as_str(), want, "{name}");
+    ]
+}
+
+fn printed(alloc: Global, mti: u16, elements: &[(u8, &[u8])]) -> Result<String, Fail> {
+    let message = message(alloc, mti, elements)?;
+    Ok(format!(in alloc; "{message:?}")?)
+}
+
+#[test]
+fn messages_are_printed_masked(rt: HostRuntime) -> Result<(), Fail> {
+    for (name, mti, elements, want) in &printed_messages() {
+        let text = printed(rt.alloc(), *mti, elements)?;
+        assert!(rt; text.as_str() == *want, "{name}: {text}");
     }
     Ok(())
 }
 
-#[test]
-fn messages_are_described(rt: HostRuntime) -> Result<(), Fail> {
-    let table = Table::ascii87(rt.alloc())?;
-    let cases: [(&str, u16, &[(u8, &[u8])], &[u8], &[u8]); 3] = [
+/// A message, its lines, and those in full.
+type Described = (&'static str, u16, Elements, &'static [u8], &'static [u8]);
+
+fn described_messages() -> [Described; 3] {
+    [
         (
             "an echo test",
             800,
@@ -111,33 +134,58 @@ fn messages_are_described(rt: HostRuntime) -> Result<(), Fail> {
             b"MTI=9956 Private Reserved(9) Reserved(5) Reserved(6)\n",
             b"MTI=9956 Private Reserved(9) Reserved(5) Reserved(6)\n",
         ),
-    ];
-    for (name, mti, elements, want, clear) in cases {
-        let message = message(rt.alloc(), mti, elements)?;
-        let lines = describe(rt.alloc(), &table, &message)?;
-        assert_eq!(rt; lines.as_slice(), want, "{name}");
-        let lines = describe_clear(rt.alloc(), &table, &message)?;
-        assert_eq!(rt; lines.as_slice(), clear, "{name}, in full");
+    ]
+}
+
+fn is_described(
+    alloc: Global,
+    table: &Table,
+    message: &Message,
+    want: &[u8],
+) -> Result<bool, Fail> {
+    Ok(describe(alloc, table, message)?.as_slice() == want)
+}
+
+fn is_described_clear(
+    alloc: Global,
+    table: &Table,
+    message: &Message,
+    want: &[u8],
+) -> Result<bool, Fail> {
+    Ok(describe_clear(alloc, table, message)?.as_slice() == want)
+}
+
+#[test]
+fn messages_are_described(rt: HostRuntime) -> Result<(), Fail> {
+    let alloc = rt.alloc();
+    let table = ascii87(alloc)?;
+    for (name, mti, elements, want, clear) in &described_messages() {
+        let message = message(alloc, *mti, elements)?;
+        assert!(rt; is_described(alloc, &table, &message, want)?, "{name}");
+        assert!(rt;
+            is_described_clear(alloc, &table, &message, clear)?,
+            "{name}, in full"
+        );
     }
     Ok(())
 }
 
+fn shown_frame(alloc: Global, framed: Framed) -> Result<String, Fail> {
+    Ok(format!(in alloc; "{framed:?}")?)
+}
+
 #[test]
 fn frames_are_counted(rt: HostRuntime) -> Result<(), Fail> {
-    let cases = [
-        ("no whole frame", Framed::More, "More"),
-        (
-            "a payment",
-            Framed::Got {
-                body: PAYMENT,
-                used: 84,
-            },
-            "Got { body: 82 bytes, used: 84 }",
-        ),
-    ];
-    for (name, framed, want) in cases {
-        let text = format!(in rt.alloc(); "{framed:?}")?;
-        assert_eq!(rt; text.as_str(), want, "{name}");
-    }
+    let text = shown_frame(rt.alloc(), Framed::More)?;
+    assert!(rt; text.as_str() == "More", "no whole frame");
+    let payment = Framed::Got {
+        body: PAYMENT,
+        used: 84,
+    };
+    let text = shown_frame(rt.alloc(), payment)?;
+    assert!(rt;
+        text.as_str() == "Got { body: 82 bytes, used: 84 }",
+        "a payment"
+    );
     Ok(())
 }

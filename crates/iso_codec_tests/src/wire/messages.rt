@@ -2,9 +2,14 @@
 
 use super::*;
 
-#[test]
-fn values(rt: HostRuntime) -> Result<(), Fail> {
-    let cases: [(&str, &[(u8, &[u8])], u8, Option<&[u8]>); 9] = [
+/// The elements of a message, in the order in which they are set.
+type Elements = &'static [(u8, &'static [u8])];
+
+/// A value of a message.
+type ValueCase = (&'static str, Elements, u8, Option<&'static [u8]>);
+
+fn value_cases() -> [ValueCase; 9] {
+    [
         ("nothing set", &[], 3, None),
         ("one value", &[(3, b"000000")], 3, Some(b"000000")),
         ("ascending", &[(3, b"a"), (4, b"bc")], 4, Some(b"bc")),
@@ -39,67 +44,101 @@ fn values(rt: HostRuntime) -> Result<(), Fail> {
             Some(b"ef"),
         ),
         ("an empty value", &[(2, b"ab"), (3, b"")], 3, Some(b"")),
-    ];
-    for (name, elements, n, want) in cases {
+    ]
+}
+
+fn has_value(message: &Message, n: u8, value: Option<&[u8]>) -> bool {
+    message.get(n) == value
+}
+
+#[test]
+fn values(rt: HostRuntime) -> Result<(), Fail> {
+    for (name, elements, n, want) in &value_cases() {
         let made = message(rt.alloc(), 100, elements)?;
-        assert_eq!(rt; made.get(n), want, "{name}");
+        assert!(rt; has_value(&made, *n, *want), "{name}");
     }
     Ok(())
+}
+
+/// Takes an element out, and says whether it was there.
+fn is_unset(message: &mut Message, n: u8) -> bool {
+    message.unset(n)
+}
+
+fn unset_cases() -> [(&'static str, u8, Elements); 3] {
+    [
+        ("the first", 2, &[(11, b"cd"), (70, b"efg")]),
+        ("the last", 70, &[(2, b"ab"), (11, b"cd")]),
+        ("the one between", 11, &[(2, b"ab"), (70, b"efg")]),
+    ]
 }
 
 #[test]
 fn unset(rt: HostRuntime) -> Result<(), Fail> {
-    let cases: [(&str, u8, bool, [(u8, &[u8]); 2]); 3] = [
-        ("the first", 2, true, [(11, b"cd"), (70, b"efg")]),
-        ("the last", 70, true, [(2, b"ab"), (11, b"cd")]),
-        ("the one between", 11, true, [(2, b"ab"), (70, b"efg")]),
-    ];
-    for (name, n, found, left) in cases {
+    for (name, n, left) in &unset_cases() {
         let mut made = message(rt.alloc(), 100, &[(2, b"ab"), (11, b"cd"), (70, b"efg")])?;
-        assert_eq!(rt; made.unset(n), found, "{name}");
-        assert_eq!(rt; made.unset(n), false, "{name}, twice");
-        let want = message(rt.alloc(), 100, &left)?;
-        assert!(rt; made.equals(&want), "{name}");
+        assert!(rt; is_unset(&mut made, *n), "{name}");
+        assert!(rt; !is_unset(&mut made, *n), "{name}, twice");
+        let want = message(rt.alloc(), 100, left)?;
+        assert!(rt; are_equal(&made, &want), "{name}, and the others");
     }
     Ok(())
 }
 
+fn are_equal(message: &Message, other: &Message) -> bool {
+    message.equals(other)
+}
+
+fn is_bad(message: &mut Message, n: u8) -> bool {
+    message.set(n, b"1") == Err(SetFault::BadNumber(n))
+}
+
+fn is_bad_for_a_number(message: &mut Message, n: u8) -> bool {
+    message.set_number(n, 1, 1) == Err(SetFault::BadNumber(n))
+}
+
 #[test]
 fn bad_numbers(rt: HostRuntime) -> Result<(), Fail> {
-    let cases = [
+    for (name, n) in [
         ("the message type", 0),
         ("the bit that tells of a secondary bitmap", 1),
         ("the bit that tells of a third bitmap", 65),
         ("one above the last", 129),
         ("the greatest byte", 255),
-    ];
-    for (name, n) in cases {
+    ] {
         let mut made = message(rt.alloc(), 100, &[])?;
-        let fault = Err(SetFault::BadNumber(n));
-        assert_eq!(rt; made.set(n, b"1"), fault, "{name}");
-        assert_eq!(rt; made.set_number(n, 1, 1), fault, "{name}");
+        assert!(rt; is_bad(&mut made, n), "{name}");
+        assert!(rt;
+            is_bad_for_a_number(&mut made, n),
+            "{name}, set to a number"
+        );
     }
     Ok(())
 }
 
-#[test]
-fn numbers(rt: HostRuntime) -> Result<(), Fail> {
-    let mut made = message(rt.alloc(), 100, &[])?;
+/// A message with three numbers in decimal digits.
+fn numbered(alloc: Global) -> Result<Message, Fail> {
+    let mut made = message(alloc, 100, &[])?;
     made.set_number(11, 7, 6)?;
     made.set_number(12, 0, 1)?;
     made.set_number(13, 1_234_567_890_123_456_789, 19)?;
+    Ok(made)
+}
+
+#[test]
+fn numbers(rt: HostRuntime) -> Result<(), Fail> {
+    let made = numbered(rt.alloc())?;
     let want = message(
         rt.alloc(),
         100,
         &[(11, b"000007"), (12, b"0"), (13, b"1234567890123456789")],
     )?;
-    assert!(rt; made.equals(&want));
+    assert!(rt; are_equal(&made, &want));
     Ok(())
 }
 
-#[test]
-fn numbers_are_read(rt: HostRuntime) -> Result<(), Fail> {
-    let cases: [(&str, u8, &[u8], Option<u64>); 8] = [
+fn number_cases() -> [(&'static str, u8, &'static [u8], Option<u64>); 8] {
+    [
         ("another element", 12, b"000007", None),
         ("zeros in front", 11, b"000007", Some(7)),
         ("one digit", 11, b"0", Some(0)),
@@ -113,33 +152,43 @@ fn numbers_are_read(rt: HostRuntime) -> Result<(), Fail> {
         ("no digit", 11, b"", None),
         ("a letter in place of a zero", 11, b"1O00", None),
         ("a sign", 11, b"-7", None),
-    ];
-    for (name, n, value, want) in cases {
-        let made = message(rt.alloc(), 100, &[(n, value)])?;
-        assert_eq!(rt; made.get_number(11), want, "{name}");
+    ]
+}
+
+/// Whether that is the number of element 11 of a message with one value.
+fn is_number(alloc: Global, n: u8, value: &[u8], number: Option<u64>) -> Result<bool, Fail> {
+    let made = message(alloc, 100, &[(n, value)])?;
+    Ok(made.get_number(11) == number)
+}
+
+#[test]
+fn numbers_are_read(rt: HostRuntime) -> Result<(), Fail> {
+    for (name, n, value, want) in &number_cases() {
+        assert!(rt; is_number(rt.alloc(), *n, value, *want)?, "{name}");
     }
     Ok(())
 }
 
+fn has_digits(v: u64, count: u8) -> bool {
+    digits_of(v) == count
+}
+
 #[test]
 fn digits(rt: HostRuntime) {
-    let cases = [
+    for (name, v, want) in [
         ("none but a zero", 0, 1),
         ("the last of one digit", 9, 1),
         ("the first of two", 10, 2),
         ("the last of six", 999_999, 6),
         ("the first of seven", 1_000_000, 7),
         ("the greatest number", u64::MAX, 20),
-    ];
-    for (name, v, want) in cases {
-        assert_eq!(rt; digits_of(v), want, "{name}");
+    ] {
+        assert!(rt; has_digits(v, want), "{name}");
     }
 }
 
-#[test]
-fn equality(rt: HostRuntime) -> Result<(), Fail> {
-    let first = message(rt.alloc(), 100, &[(2, b"ab"), (3, b"c")])?;
-    let cases: [(&str, u16, &[(u8, &[u8])], bool); 6] = [
+fn other_messages() -> [(&'static str, u16, Elements, bool); 6] {
+    [
         ("set in another order", 100, &[(3, b"c"), (2, b"ab")], true),
         ("another type", 110, &[(2, b"ab"), (3, b"c")], false),
         ("another number", 100, &[(2, b"ab"), (4, b"c")], false),
@@ -151,12 +200,32 @@ fn equality(rt: HostRuntime) -> Result<(), Fail> {
             false,
         ),
         ("one more", 100, &[(2, b"ab"), (3, b"c"), (4, b"")], false),
-    ];
-    for (name, mti, elements, want) in cases {
-        let other = message(rt.alloc(), mti, elements)?;
-        assert_eq!(rt; first.equals(&other), want, "{name}");
-        assert_eq!(rt; first == other, want, "{name}, by the operator");
+    ]
+}
+
+/// Whether the messages are equal by the operator.
+fn are_equal_by_operator(message: &Message, other: &Message) -> bool {
+    message == other
+}
+
+#[test]
+fn equality(rt: HostRuntime) -> Result<(), Fail> {
+    let first = message(rt.alloc(), 100, &[(2, b"ab"), (3, b"c")])?;
+    for (name, mti, elements, want) in &other_messages() {
+        let other = message(rt.alloc(), *mti, elements)?;
+        assert!(rt; are_equal(&first, &other) == *want, "{name}");
+        let by_operator = are_equal_by_operator(&first, &other);
+        assert!(rt; by_operator == *want, "{name}, by the operator");
     }
+    Ok(())
+}
+
+fn copy_of(message: &Message) -> Result<Message, Fail> {
+    Ok(message.clone()?)
+}
+
+fn set(message: &mut Message, n: u8, value: &[u8]) -> Result<(), Fail> {
+    message.set(n, value)?;
     Ok(())
 }
 
@@ -167,12 +236,26 @@ fn copies(rt: HostRuntime) -> Result<(), Fail> {
         201,
         &[(2, b"4111111111111111"), (11, b"000007")],
     )?;
-    let copy = made.clone()?;
-    assert!(rt; copy == made);
-    made.set(11, b"000008")?;
-    assert!(rt; copy != made, "a copy has memory of its own");
-    assert_eq!(rt; copy.get(11), Some(b"000007".as_slice()));
+    let copy = copy_of(&made)?;
+    assert!(rt; are_equal_by_operator(&copy, &made));
+    set(&mut made, 11, b"000008")?;
+    assert!(rt;
+        !are_equal_by_operator(&copy, &made),
+        "a copy has memory of its own"
+    );
+    assert!(rt; has_value(&copy, 11, Some(b"000007")));
     Ok(())
+}
+
+/// Whether the message gives these elements, in that order and no more.
+fn gives(message: &Message, elements: &[(u8, &[u8])]) -> bool {
+    let mut left = message.iter();
+    for element in elements {
+        if left.next() != Some(*element) {
+            return false;
+        }
+    }
+    left.next() == None
 }
 
 #[test]
@@ -180,21 +263,24 @@ fn elements_come_in_ascending_order(rt: HostRuntime) -> Result<(), Fail> {
     let elements: [(u8, &[u8]); 4] = [(70, b"301"), (7, b"0102030405"), (128, b"x"), (11, b"")];
     let made = message(rt.alloc(), 800, &elements)?;
     let want: [(u8, &[u8]); 4] = [(7, b"0102030405"), (11, b""), (70, b"301"), (128, b"x")];
-    let mut left = made.iter();
-    for element in want {
-        assert_eq!(rt; left.next(), Some(element));
-    }
-    assert_eq!(rt; left.next(), None);
+    assert!(rt; gives(&made, &want));
     Ok(())
+}
+
+fn has_type(message: &Message, mti: u16) -> bool {
+    message.mti().number() == mti
+}
+
+fn has_element(message: &Message, n: u8) -> bool {
+    message.elements().has(n)
 }
 
 #[test]
 fn sets(rt: HostRuntime) -> Result<(), Fail> {
     let elements: [(u8, &[u8]); 3] = [(70, b"301"), (7, b"0102030405"), (128, b"x")];
     let made = message(rt.alloc(), 800, &elements)?;
-    assert_eq!(rt; made.mti().number(), 800);
-    let bits = made.elements();
-    let cases = [
+    assert!(rt; has_type(&made, 800));
+    for (name, n, want) in [
         ("no number of an element", 1, false),
         ("the lowest, which was not set", 2, false),
         ("one of the primary bitmap", 7, true),
@@ -202,20 +288,25 @@ fn sets(rt: HostRuntime) -> Result<(), Fail> {
         ("one of the secondary bitmap", 70, true),
         ("one before the last", 127, false),
         ("the last", 128, true),
-    ];
-    for (name, n, want) in cases {
-        assert_eq!(rt; bits.has(n), want, "{name}");
+    ] {
+        assert!(rt; has_element(&made, n) == want, "{name}");
     }
     Ok(())
 }
 
-#[test]
-fn built_in_order(rt: HostRuntime) -> Result<(), Fail> {
+/// A message of two values that are appended.
+fn appended(alloc: Global) -> Result<Message, Fail> {
     let mti = Mti::from_digits(100).ok_or("not four digits")?;
-    let want = message(rt.alloc(), 100, &[(3, b"abc"), (4, b"de")])?;
-    let mut made = Message::with_room(rt.alloc(), mti, 2, 5)?;
+    let mut made = Message::with_room(alloc, mti, 2, 5)?;
     made.append(3, b"abc")?;
     made.append(4, b"de")?;
-    assert!(rt; made.equals(&want));
+    Ok(made)
+}
+
+#[test]
+fn built_in_order(rt: HostRuntime) -> Result<(), Fail> {
+    let want = message(rt.alloc(), 100, &[(3, b"abc"), (4, b"de")])?;
+    let made = appended(rt.alloc())?;
+    assert!(rt; are_equal(&made, &want));
     Ok(())
 }

@@ -20,6 +20,12 @@ fn answer_to(fed: Result<Fed, UnpackFault>) -> FeedAnswer {
     }
 }
 
+const BAD_CLASS: UnpackFault = UnpackFault {
+    at: 38,
+    element: 3,
+    cause: Field(FieldFault::NotInClass),
+};
+
 const BAD_TYPE: UnpackFault = UnpackFault {
     at: 0,
     element: 0,
@@ -56,13 +62,22 @@ fn a_message_comes_in_pieces(rt: HostRuntime) -> Result<(), Fail> {
     Ok(())
 }
 
-#[test]
-fn pieces_are_judged_when_they_are_whole(rt: HostRuntime) -> Result<(), Fail> {
-    let alloc = rt.alloc();
-    let table = ascii(alloc)?;
-    let mut unpacker = Unpacker::new(alloc, &table);
-    let cases = [
-        ("no bytes", b"".as_slice(), FeedAnswer::More, 0),
+/// Feeds a piece, and says whether that is the answer.
+fn feeds(unpacker: &mut Unpacker, alloc: Global, piece: &[u8], want: FeedAnswer) -> bool {
+    answer_to(unpacker.feed(alloc, piece)) == want
+}
+
+fn holds(unpacker: &Unpacker, count: usize) -> bool {
+    unpacker.held() == count
+}
+
+fn reset(unpacker: &mut Unpacker) {
+    unpacker.reset();
+}
+
+fn judged_pieces() -> [(&'static str, &'static [u8], FeedAnswer, usize); 5] {
+    [
+        ("no bytes", b"", FeedAnswer::More, 0),
         ("three digits of a type", b"08A", FeedAnswer::More, 3),
         ("the fourth", b"0", FeedAnswer::Fault(BAD_TYPE), 0),
         ("behind a fault", ECHO, FeedAnswer::Fault(BAD_TYPE), 0),
@@ -72,30 +87,28 @@ fn pieces_are_judged_when_they_are_whole(rt: HostRuntime) -> Result<(), Fail> {
             FeedAnswer::Fault(BAD_TYPE),
             0,
         ),
-    ];
-    for (name, piece, want, held) in &cases {
-        assert_eq!(rt; answer_to(unpacker.feed(alloc, piece)), *want, "{name}");
-        assert_eq!(rt; unpacker.held(), *held, "{name}");
-    }
-    unpacker.reset();
-    assert_eq!(rt; answer_to(unpacker.feed(alloc, ECHO)), FeedAnswer::Done(55));
-    Ok(())
+    ]
 }
 
 #[test]
-fn a_fault_is_told_from_the_start_of_the_message(rt: HostRuntime) -> Result<(), Fail> {
+fn pieces_are_judged_when_they_are_whole(rt: HostRuntime) -> Result<(), Fail> {
     let alloc = rt.alloc();
     let table = ascii(alloc)?;
     let mut unpacker = Unpacker::new(alloc, &table);
-    let bad_class = UnpackFault {
-        at: 38,
-        element: 3,
-        cause: Field(FieldFault::NotInClass),
-    };
-    let cases = [
+    for (name, piece, want, held) in &judged_pieces() {
+        assert!(rt; feeds(&mut unpacker, alloc, piece, *want), "{name}");
+        assert!(rt; holds(&unpacker, *held), "{name}");
+    }
+    reset(&mut unpacker);
+    assert!(rt; feeds(&mut unpacker, alloc, ECHO, FeedAnswer::Done(55)));
+    Ok(())
+}
+
+fn faulty_pieces() -> [(&'static str, &'static [u8], FeedAnswer); 7] {
+    [
         (
             "a whole message and more",
-            b"08000000000000000000020".as_slice(),
+            b"08000000000000000000020",
             FeedAnswer::Done(20),
         ),
         (
@@ -114,17 +127,22 @@ fn a_fault_is_told_from_the_start_of_the_message(rt: HostRuntime) -> Result<(), 
         (
             "a letter among digits",
             b"x000000001000",
-            FeedAnswer::Fault(bad_class),
+            FeedAnswer::Fault(BAD_CLASS),
         ),
-    ];
-    for (name, piece, want) in &cases {
-        assert_eq!(rt; answer_to(unpacker.feed(alloc, piece)), *want, "{name}");
+    ]
+}
+
+#[test]
+fn a_fault_is_told_from_the_start_of_the_message(rt: HostRuntime) -> Result<(), Fail> {
+    let alloc = rt.alloc();
+    let table = ascii(alloc)?;
+    let mut unpacker = Unpacker::new(alloc, &table);
+    for (name, piece, want) in &faulty_pieces() {
+        assert!(rt; feeds(&mut unpacker, alloc, piece, *want), "{name}");
     }
-    unpacker.reset();
-    assert_eq!(rt;
-        answer_to(unpacker.feed(alloc, b"08A0")),
-        FeedAnswer::Fault(BAD_TYPE)
-    );
+    reset(&mut unpacker);
+    let bad_type = FeedAnswer::Fault(BAD_TYPE);
+    assert!(rt; feeds(&mut unpacker, alloc, b"08A0", bad_type));
     Ok(())
 }
 
@@ -142,19 +160,29 @@ fn in_pieces_of(alloc: Global, table: &Table, size: usize, bytes: &[u8]) -> (usi
     (wanted, last)
 }
 
+/// Whether a message in pieces of that size is wanted more of so often, and done with so many bytes of its last piece.
+fn is_done(
+    alloc: Global,
+    table: &Table,
+    size: usize,
+    bytes: &[u8],
+    wanted: usize,
+    used: usize,
+) -> bool {
+    in_pieces_of(alloc, table, size, bytes) == (wanted, FeedAnswer::Done(used))
+}
+
 #[test]
 fn a_message_is_done_with_its_last_byte(rt: HostRuntime) -> Result<(), Fail> {
     let alloc = rt.alloc();
-    let table = Table::ascii87(alloc)?;
-    let cases = [
+    let table = ascii87(alloc)?;
+    for (name, size, wanted, used) in [
         ("one byte each", 1, 54, 1),
         ("seven bytes each", 7, 7, 6),
         ("54 bytes and one", 54, 1, 1),
         ("all bytes", 55, 0, 55),
-    ];
-    for (name, size, wanted, used) in cases {
-        let want = (wanted, FeedAnswer::Done(used));
-        assert_eq!(rt; in_pieces_of(alloc, &table, size, ECHO), want, "{name}");
+    ] {
+        assert!(rt; is_done(alloc, &table, size, ECHO, wanted, used), "{name}");
     }
     Ok(())
 }
@@ -164,44 +192,49 @@ fn is_read_in_two(alloc: Global, table: &Table, bytes: &[u8], size: usize) -> Re
     let (whole, end) = unpack(alloc, table, bytes)?;
     let mut unpacker = Unpacker::new(alloc, table);
     let (front, back) = bytes.split_at(size.min(bytes.len()));
-    if answer_to(unpacker.feed(alloc, front)) != FeedAnswer::More || unpacker.held() != size {
+    if !feeds(&mut unpacker, alloc, front, FeedAnswer::More) || !holds(&unpacker, size) {
         return Ok(false);
     }
     match unpacker.feed(alloc, back)? {
         Fed::Done { message, used } => {
-            Ok(used + size == end && message.equals(&whole) && unpacker.held() == 0)
+            Ok(used.checked_add(size) == Some(end) && message.equals(&whole) && holds(&unpacker, 0))
         }
         Fed::More => Ok(false),
     }
 }
 
+/// That a message is the same wherever it is split in two, and where each byte comes alone.
+fn assert_splits(
+    rt: &impl Abort,
+    alloc: Global,
+    name: &str,
+    table: &Table,
+    bytes: &[u8],
+) -> Result<(), Fail> {
+    for size in 0..bytes.len() {
+        let is_read = is_read_in_two(alloc, table, bytes, size)?;
+        assert!(rt; is_read, "{name}, {size} bytes");
+    }
+    let wanted = bytes.len().saturating_sub(1);
+    assert!(rt; is_done(alloc, table, 1, bytes, wanted, 1), "{name}");
+    Ok(())
+}
+
 #[test]
 fn each_split_gives_the_same_message(rt: HostRuntime) -> Result<(), Fail> {
-    let table = Table::ascii87(rt.alloc())?;
-    let cases = [("echo", ECHO), ("payment", PAYMENT), ("reversal", REVERSAL)];
-    for (name, bytes) in &cases {
-        for size in 0..bytes.len() {
-            assert!(rt;
-                is_read_in_two(rt.alloc(), &table, bytes, size)?,
-                "{name}, {size} bytes"
-            );
-        }
-        let last = in_pieces_of(rt.alloc(), &table, 1, bytes);
-        assert_eq!(rt; last, (bytes.len() - 1, FeedAnswer::Done(1)), "{name}");
-    }
+    let alloc = rt.alloc();
+    let table = ascii87(alloc)?;
+    assert_splits(&rt, alloc, "echo", &table, ECHO)?;
+    assert_splits(&rt, alloc, "payment", &table, PAYMENT)?;
+    assert_splits(&rt, alloc, "reversal", &table, REVERSAL)?;
     Ok(())
 }
 
 #[test]
 fn each_split_gives_the_same_packed_message(rt: HostRuntime) -> Result<(), Fail> {
-    let table = Table::bcd87(rt.alloc())?;
-    for size in 0..PACKED_ECHO.len() {
-        assert!(rt;
-            is_read_in_two(rt.alloc(), &table, PACKED_ECHO, size)?,
-            "{size} bytes"
-        );
-    }
-    let last = in_pieces_of(rt.alloc(), &table, 1, PACKED_ECHO);
-    assert_eq!(rt; last, (27, FeedAnswer::Done(1)));
+    let alloc = rt.alloc();
+    let table = bcd87(alloc)?;
+    assert_splits(&rt, alloc, "echo under BCD", &table, PACKED_ECHO)?;
+    assert!(rt; is_done(alloc, &table, 1, PACKED_ECHO, 27, 1));
     Ok(())
 }

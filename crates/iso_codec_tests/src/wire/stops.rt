@@ -4,93 +4,37 @@ use super::*;
 use iso_parts::FieldFault;
 use iso_wire::UnpackCause::{BadMti, Field, Short, UnknownElement};
 
-const REVERSAL: &[u8] =
-    b"04208220000100000000000000400000000001020305000000080512345020000000701020304050000001234500000000000";
-
-const ECHO_BCD: &[u8] =
-    b"\x08\x00\x82\x20\0\0\0\0\0\0\x04\0\0\0\0\0\0\0\x01\x02\x03\x04\x05\0\0\x01\x03\x01";
-
-fn stop(at: usize, element: u8, cause: UnpackCause) -> UnpackFault {
-    UnpackFault { at, element, cause }
-}
-
-/// Whether the front of that size ends inside the piece of that element at that offset.
-fn is_cut_at(alloc: Global, table: &Table, front: &[u8], at: usize, element: u8) -> bool {
-    unpack(alloc, table, front).err() == Some(stop(at, element, Short))
-}
-
 #[test]
 fn a_cut_payment_is_short(rt: HostRuntime) -> Result<(), Fail> {
-    let table = Table::ascii87(rt.alloc())?;
-    for size in 0..PAYMENT.len() {
-        let (at, element) = match size {
-            0..=3 => (0, 0),
-            4..=19 => (4, 0),
-            20..=21 => (20, 2),
-            22..=37 => (22, 2),
-            38..=43 => (38, 3),
-            44..=55 => (44, 4),
-            56..=65 => (56, 7),
-            66..=71 => (66, 11),
-            72..=73 => (72, 32),
-            74..=78 => (74, 32),
-            _ => (79, 49),
-        };
-        let is_cut = is_cut_at(rt.alloc(), &table, &PAYMENT[..size], at, element);
-        assert!(rt; is_cut, "{size} bytes");
-    }
+    let table = ascii87(rt.alloc())?;
+    assert_short(&rt, rt.alloc(), &table, PAYMENT, PAYMENT_PIECES);
     Ok(())
 }
 
 #[test]
 fn a_cut_reversal_is_short(rt: HostRuntime) -> Result<(), Fail> {
-    let table = Table::ascii87(rt.alloc())?;
-    for size in 0..REVERSAL.len() {
-        let (at, element) = match size {
-            0..=3 => (0, 0),
-            4..=19 => (4, 0),
-            20..=35 => (20, 1),
-            36..=45 => (36, 7),
-            46..=51 => (46, 11),
-            52..=53 => (52, 32),
-            54..=58 => (54, 32),
-            _ => (59, 90),
-        };
-        let is_cut = is_cut_at(rt.alloc(), &table, &REVERSAL[..size], at, element);
-        assert!(rt; is_cut, "{size} bytes");
-    }
-    let (_, used) = unpack(rt.alloc(), &table, REVERSAL)?;
-    assert_eq!(rt; used, 101);
+    let table = ascii87(rt.alloc())?;
+    assert_short(&rt, rt.alloc(), &table, REVERSAL, REVERSAL_PIECES);
+    assert!(rt; uses(rt.alloc(), &table, REVERSAL, 101)?);
     Ok(())
+}
+
+/// Whether so many bytes are a message.
+fn uses(alloc: Global, table: &Table, bytes: &[u8], size: usize) -> Result<bool, Fail> {
+    let (_, used) = unpack(alloc, table, bytes)?;
+    Ok(used == size)
 }
 
 #[test]
 fn a_cut_packed_echo_is_short(rt: HostRuntime) -> Result<(), Fail> {
-    let table = Table::bcd87(rt.alloc())?;
-    for size in 0..ECHO_BCD.len() {
-        let (at, element) = match size {
-            0..=1 => (0, 0),
-            2..=9 => (2, 0),
-            10..=17 => (10, 1),
-            18..=22 => (18, 7),
-            23..=25 => (23, 11),
-            _ => (26, 70),
-        };
-        let is_cut = is_cut_at(rt.alloc(), &table, &ECHO_BCD[..size], at, element);
-        assert!(rt; is_cut, "{size} bytes");
-    }
+    let table = bcd87(rt.alloc())?;
+    assert_short(&rt, rt.alloc(), &table, PACKED_ECHO, PACKED_ECHO_PIECES);
     Ok(())
 }
 
-#[test]
-fn the_first_bad_piece_is_told(rt: HostRuntime) -> Result<(), Fail> {
-    let table = Table::ascii87(rt.alloc())?;
-    let over = Field(FieldFault::LengthOver);
-    let bad_length = Field(FieldFault::BadLengthDigits);
-    let not_in_class = Field(FieldFault::NotInClass);
-    let bad_hex = Field(FieldFault::BadHex);
-    let cases = [
-        ("a bad type, and no more", b"08A0".as_slice(), 0, 0, BadMti),
+fn bad_pieces() -> [Stop; 9] {
+    [
+        ("a bad type, and no more", b"08A0", 0, 0, BadMti),
         (
             "a bad type, and a bad bitmap",
             b"08A0x0000000000000000",
@@ -103,28 +47,28 @@ fn the_first_bad_piece_is_told(rt: HostRuntime) -> Result<(), Fail> {
             b"02007220000100008000164111111111111111x00000000000",
             38,
             3,
-            not_in_class,
+            Field(FieldFault::NotInClass),
         ),
         (
             "two values that aren't of digits",
             b"0200722000010000800016411111111111111100000x00000000100x010203040500000705123458",
             38,
             3,
-            not_in_class,
+            Field(FieldFault::NotInClass),
         ),
         (
             "a length that isn't of digits before a value that isn't",
             b"020060000000000000001xx00000",
             20,
             2,
-            bad_length,
+            Field(FieldFault::BadLengthDigits),
         ),
         (
             "a length above the maximum, and no value",
             b"0200400000000000000020",
             20,
             2,
-            over,
+            Field(FieldFault::LengthOver),
         ),
         (
             "no value behind an empty one",
@@ -138,7 +82,7 @@ fn the_first_bad_piece_is_told(rt: HostRuntime) -> Result<(), Fail> {
             b"080000000000000000010123456789ABCDEG",
             20,
             64,
-            bad_hex,
+            Field(FieldFault::BadHex),
         ),
         (
             "a payment without its last byte",
@@ -147,57 +91,53 @@ fn the_first_bad_piece_is_told(rt: HostRuntime) -> Result<(), Fail> {
             49,
             Short,
         ),
-    ];
-    for (name, bytes, at, element, cause) in &cases {
-        assert_eq!(rt;
-            unpack(rt.alloc(), &table, bytes).err(),
-            Some(stop(*at, *element, *cause)),
-            "{name}"
-        );
-    }
-    Ok(())
+    ]
 }
 
 #[test]
-fn packed_lengths_and_fillers_are_told(rt: HostRuntime) -> Result<(), Fail> {
-    let table = Table::bcd87(rt.alloc())?;
-    let cases = [
+fn the_first_bad_piece_is_told(rt: HostRuntime) -> Result<(), Fail> {
+    let table = ascii87(rt.alloc())?;
+    assert_stops(&rt, rt.alloc(), &table, &bad_pieces());
+    Ok(())
+}
+
+fn bad_packed_pieces() -> [Stop; 4] {
+    [
         (
             "a first nibble 1 of a length",
-            b"\x08\x00\0\0\0\0\0\0\x04\0\x10\x20".as_slice(),
+            b"\x08\x00\0\0\0\0\0\0\x04\0\x10\x20",
             10,
             54,
-            FieldFault::BadLengthDigits,
+            Field(FieldFault::BadLengthDigits),
         ),
         (
             "a length above the maximum",
             b"\x08\x00\x40\0\0\0\0\0\0\0\x20",
             10,
             2,
-            FieldFault::LengthOver,
+            Field(FieldFault::LengthOver),
         ),
         (
             "a filler 1 before a nibble A",
             b"\x08\x00\x40\0\0\0\0\0\0\0\x03\x1A\x23",
             11,
             2,
-            FieldFault::BadFiller,
+            Field(FieldFault::BadFiller),
         ),
         (
             "a nibble A behind the filler",
             b"\x08\x00\x40\0\0\0\0\0\0\0\x03\x0A\x23",
             11,
             2,
-            FieldFault::NotInClass,
+            Field(FieldFault::NotInClass),
         ),
-    ];
-    for (name, bytes, at, element, fault) in &cases {
-        assert_eq!(rt;
-            unpack(rt.alloc(), &table, bytes).err(),
-            Some(stop(*at, *element, Field(*fault))),
-            "{name}"
-        );
-    }
+    ]
+}
+
+#[test]
+fn packed_lengths_and_fillers_are_told(rt: HostRuntime) -> Result<(), Fail> {
+    let table = bcd87(rt.alloc())?;
+    assert_stops(&rt, rt.alloc(), &table, &bad_packed_pieces());
     Ok(())
 }
 
@@ -207,76 +147,89 @@ fn terminals(alloc: Global) -> Result<Table, TableFault> {
     table(alloc, 0, Digits::Ascii, BitmapCoding::Raw, &rows)
 }
 
+/// Whether a message with that bit alone is refused.
+fn is_bit_refused(alloc: Global, table: &Table, n: u8, fault: UnpackFault) -> Result<bool, Fail> {
+    let word = if (1..=64).contains(&n) {
+        1u64 << (64 - n)
+    } else {
+        0
+    };
+    let bytes = [b"0800".as_slice(), &word.to_be_bytes()].concat(alloc)?;
+    Ok(is_refused(alloc, table, &bytes, fault))
+}
+
 #[test]
 fn each_bit_without_a_row_is_told(rt: HostRuntime) -> Result<(), Fail> {
     let table = terminals(rt.alloc())?;
     for n in 2..=64u8 {
-        let word = 1u64 << (64 - n);
-        let bytes = [b"0800".as_slice(), &word.to_be_bytes()].concat(rt.alloc())?;
         let fault = if n == 41 {
             stop(12, 41, Short)
         } else {
             stop(4, 0, UnknownElement(n))
         };
-        assert_eq!(rt;
-            unpack(rt.alloc(), &table, &bytes).err(),
-            Some(fault),
-            "{n}"
-        );
+        assert!(rt; is_bit_refused(rt.alloc(), &table, n, fault)?, "{n}");
     }
     Ok(())
+}
+
+/// Whether a message with that bit of the secondary bitmap alone is refused.
+fn is_late_bit_refused(alloc: Global, table: &Table, n: u8) -> Result<bool, Fail> {
+    let word = if (65..=128).contains(&n) {
+        1u64 << (128 - n)
+    } else {
+        0
+    };
+    let first = b"0800\x80\0\0\0\0\0\0\0".as_slice();
+    let bytes = [first, &word.to_be_bytes()].concat(alloc)?;
+    Ok(is_refused(alloc, table, &bytes, stop(12, 1, UnknownElement(n))))
 }
 
 #[test]
 fn each_late_bit_without_a_row_is_told(rt: HostRuntime) -> Result<(), Fail> {
     let table = terminals(rt.alloc())?;
     for n in 66..=128u8 {
-        let word = 1u64 << (128 - n);
-        let first = b"0800\x80\0\0\0\0\0\0\0".as_slice();
-        let bytes = [first, &word.to_be_bytes()].concat(rt.alloc())?;
-        assert_eq!(rt;
-            unpack(rt.alloc(), &table, &bytes).err(),
-            Some(stop(12, 1, UnknownElement(n))),
-            "{n}"
-        );
+        assert!(rt; is_late_bit_refused(rt.alloc(), &table, n)?, "{n}");
     }
     Ok(())
 }
 
-#[test]
-fn the_lowest_bit_without_a_row_is_told(rt: HostRuntime) -> Result<(), Fail> {
-    let rows = [(41, text(8, Pad::Right(b' ')))];
-    let table = table(rt.alloc(), 0, Digits::Ascii, BitmapCoding::Hex, &rows)?;
-    let cases = [
-        ("bits 5 and 9", b"08000880000000000000".as_slice(), 4, 0, 5),
+fn lowest_bits() -> [Stop; 4] {
+    [
+        (
+            "bits 5 and 9",
+            b"08000880000000000000",
+            4,
+            0,
+            UnknownElement(5),
+        ),
         (
             "bits 1 and 5, and no secondary bitmap",
             b"08008800000000000000",
             4,
             0,
-            5,
+            UnknownElement(5),
         ),
         (
             "bits 1 and 66",
             b"080080000000000000004000000000000000",
             20,
             1,
-            66,
+            UnknownElement(66),
         ),
         (
             "bits 1, 66 and 128",
             b"080080000000000000004000000000000001",
             20,
             1,
-            66,
+            UnknownElement(66),
         ),
-    ];
-    for (name, bytes, at, element, n) in &cases {
-        assert_eq!(rt;
-            unpack(rt.alloc(), &table, bytes).err(),
-            Some(stop(*at, *element, UnknownElement(*n))),
-            "{name}"
-        );
-    }
+    ]
+}
+
+#[test]
+fn the_lowest_bit_without_a_row_is_told(rt: HostRuntime) -> Result<(), Fail> {
+    let rows = [(41, text(8, Pad::Right(b' ')))];
+    let table = table(rt.alloc(), 0, Digits::Ascii, BitmapCoding::Hex, &rows)?;
+    assert_stops(&rt, rt.alloc(), &table, &lowest_bits());
     Ok(())
 }

@@ -95,60 +95,77 @@ fn finds_only(seen: &View, wires: &[(u8, &[u8])]) -> bool {
     true
 }
 
+/// Whether the view of a case has its type and its size.
+fn is_viewed(table: &Table, case: &Seen) -> Result<bool, Fail> {
+    let seen = view(table, case.bytes)?;
+    Ok(seen.mti().number() == case.mti && seen.used() == case.used)
+}
+
+fn has_bodies(table: &Table, case: &Seen) -> Result<bool, Fail> {
+    let seen = view(table, case.bytes)?;
+    Ok(finds_only(&seen, case.wires))
+}
+
 #[test]
 fn views_find_the_bodies(rt: HostRuntime) -> Result<(), Fail> {
-    let table = Table::ascii87(rt.alloc())?;
+    let table = ascii87(rt.alloc())?;
     for case in &ascii_views() {
         let name = case.name;
-        let seen = view(&table, case.bytes)?;
-        assert_eq!(rt;
-            (seen.mti().number(), seen.used()),
-            (case.mti, case.used),
-            "{name}"
-        );
-        assert!(rt; finds_only(&seen, case.wires), "{name}");
+        assert!(rt; is_viewed(&table, case)?, "{name}");
+        assert!(rt; has_bodies(&table, case)?, "{name}: its bodies");
     }
     Ok(())
 }
 
 #[test]
 fn views_find_packed_bodies(rt: HostRuntime) -> Result<(), Fail> {
-    let table = Table::bcd87(rt.alloc())?;
+    let table = bcd87(rt.alloc())?;
     for case in &packed_views() {
         let name = case.name;
-        let seen = view(&table, case.bytes)?;
-        assert_eq!(rt;
-            (seen.mti().number(), seen.used()),
-            (case.mti, case.used),
-            "{name}"
-        );
-        assert!(rt; finds_only(&seen, case.wires), "{name}");
+        assert!(rt; is_viewed(&table, case)?, "{name}");
+        assert!(rt; has_bodies(&table, case)?, "{name}: its bodies");
     }
     Ok(())
 }
 
+fn has_body(seen: &View, n: u8, body: Option<&[u8]>) -> bool {
+    seen.wire(n) == body
+}
+
+/// Whether the view finds that body.
+fn finds(table: &Table, bytes: &[u8], n: u8, body: Option<&[u8]>) -> Result<bool, Fail> {
+    let seen = view(table, bytes)?;
+    Ok(has_body(&seen, n, body))
+}
+
 #[test]
 fn a_body_is_a_slice_of_the_callers_bytes(rt: HostRuntime) -> Result<(), Fail> {
-    let table = Table::ascii87(rt.alloc())?;
-    let seen = view(&table, PAYMENT)?;
-    assert_eq!(rt; seen.wire(2), Some(&PAYMENT[22..38]));
-    assert_eq!(rt; seen.wire(49), Some(&PAYMENT[79..82]));
-    assert_eq!(rt; seen.wire(5), None);
+    let table = ascii87(rt.alloc())?;
+    assert!(rt; finds(&table, PAYMENT, 2, Some(&PAYMENT[22..38]))?);
+    assert!(rt; finds(&table, PAYMENT, 49, Some(&PAYMENT[79..82]))?);
+    assert!(rt; finds(&table, PAYMENT, 5, None)?);
     Ok(())
+}
+
+fn shown_view(alloc: Global, table: &Table, bytes: &[u8]) -> Result<String, Fail> {
+    let seen = view(table, bytes)?;
+    Ok(format!(in alloc; "{seen:?}")?)
+}
+
+/// What is shown of an unpacker that has taken these bytes.
+fn shown_unpacker(alloc: Global, table: &Table, front: &[u8]) -> Result<String, Fail> {
+    let mut unpacker = Unpacker::new(alloc, table);
+    unpacker.feed(alloc, front)?;
+    Ok(format!(in alloc; "{unpacker:?}")?)
 }
 
 #[test]
 fn views_and_unpackers_show_no_bytes(rt: HostRuntime) -> Result<(), Fail> {
     let alloc = rt.alloc();
-    let table = Table::ascii87(alloc)?;
-    let seen = view(&table, PAYMENT)?;
-    assert_eq!(rt;
-        format!(in alloc; "{seen:?}")?.as_str(),
-        "View { mti: 200, used: 82 }"
-    );
-    let mut unpacker = Unpacker::new(alloc, &table);
-    unpacker.feed(alloc, &PAYMENT[..40])?;
-    let shown = format!(in alloc; "{unpacker:?}")?;
+    let table = ascii87(alloc)?;
+    let shown = shown_view(alloc, &table, PAYMENT)?;
+    assert_eq!(rt; shown.as_str(), "View { mti: 200, used: 82 }");
+    let shown = shown_unpacker(alloc, &table, &PAYMENT[..40])?;
     assert_eq!(rt; shown.as_str(), "Unpacker { held: 40, stopped: None }");
     Ok(())
 }
