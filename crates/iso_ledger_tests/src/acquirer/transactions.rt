@@ -1,16 +1,39 @@
 //! The acquirer alone.
 use super::*;
 
-/// An acquirer that began a debit of 1000.
-fn acquirer_with_one(rt: &impl Abort, alloc: Global) -> Result<Acquirer, Fail> {
-    let mut acquirer = Acquirer::new(alloc, ID);
+/// Begins a debit of 1000.
+fn begin_debit(acquirer: &mut Acquirer) -> Result<Result<Order, AcqFault>, Fail> {
+    let account = account()?;
+    Ok(acquirer.begin(account, 1000, *b"840", SENT))
+}
+
+/// The key of the debit of 1 that is begun in another currency.
+fn key_of_next(acquirer: &mut Acquirer) -> Result<TxKey, Fail> {
+    let account = account()?;
+    let order = acquirer.begin(account, 1, *b"978", SENT)?;
+    Ok(order.key())
+}
+
+/// Whether that is the order of a debit of 1000, under the first trace number.
+fn is_first_debit(order: Order) -> Result<bool, Fail> {
     let money = Money {
         pan: account()?,
         amount: 1000,
         currency: *b"840",
     };
-    let order = acquirer.begin(account()?, 1000, *b"840", SENT)?;
-    assert_eq!(rt; Some(order), Order::new(key(200, 1, ID), Act::Debit(money)));
+    Ok(Some(order) == Order::new(key(200, 1, ID), Act::Debit(money)))
+}
+
+/// An acquirer that never began anything.
+fn new_acquirer(alloc: Global) -> Acquirer {
+    Acquirer::new(alloc, ID)
+}
+
+/// An acquirer that began a debit of 1000.
+fn acquirer_with_one(rt: &impl Abort, alloc: Global) -> Result<Acquirer, Fail> {
+    let mut acquirer = new_acquirer(alloc);
+    let order = begin_debit(&mut acquirer)??;
+    assert!(rt; is_first_debit(order)?);
     Ok(acquirer)
 }
 
@@ -23,39 +46,75 @@ fn reversal() -> Result<Order, Fail> {
     Ok(Order::new(key(420, 2, ID), act).ok_or("what a message can carry")?)
 }
 
+/// What an acquirer sends once a transaction got no answer in time.
+fn sent_after(acquirer: &mut Acquirer, stan: u32) -> Result<Order, AcqFault> {
+    acquirer.timeout(stan)
+}
+
+/// Whether a timeout has the first transaction asked again under its key.
+fn asks_again(acquirer: &mut Acquirer) -> Result<bool, Fail> {
+    Ok(sent_after(acquirer, 1)?.key() == key(200, 1, ID))
+}
+
+/// Whether a timeout has the first transaction reversed.
+fn reverses(acquirer: &mut Acquirer) -> Result<bool, Fail> {
+    Ok(sent_after(acquirer, 1) == Ok(reversal()?))
+}
+
+/// Whether a timeout is refused so.
+fn refuses(acquirer: &mut Acquirer, stan: u32, fault: AcqFault) -> bool {
+    sent_after(acquirer, stan) == Err(fault)
+}
+
+/// Whether an acquirer holds that of a transaction.
+fn holds(acquirer: &Acquirer, stan: u32, state: Option<State>) -> bool {
+    acquirer.state(stan) == state
+}
+
+/// Tells an acquirer the code of an answer.
+fn tell(acquirer: &mut Acquirer, key: TxKey, code: u8) {
+    acquirer.answer(key, code);
+}
+
 #[test]
 fn begins_asks_again_and_reverses(rt: HostRuntime) -> Result<(), Fail> {
     let mut acquirer = acquirer_with_one(&rt, rt.alloc())?;
-    assert_eq!(rt; acquirer.state(1), Some(State::Waiting(1)));
-    let again = acquirer.timeout(1)?;
-    assert_eq!(rt; again.key(), key(200, 1, ID));
-    assert_eq!(rt; acquirer.state(1), Some(State::Waiting(2)));
-    assert_eq!(rt; acquirer.timeout(1), Ok(reversal()?));
-    assert_eq!(rt; acquirer.state(1), Some(State::Reversing));
-    assert_eq!(rt; acquirer.timeout(1), Ok(reversal()?));
-    assert_eq!(rt; acquirer.timeout(1), Ok(reversal()?));
-    assert_eq!(rt; acquirer.state(1), Some(State::Reversing));
+    assert!(rt; holds(&acquirer, 1, Some(State::Waiting(1))));
+    assert!(rt; asks_again(&mut acquirer)?);
+    assert!(rt; holds(&acquirer, 1, Some(State::Waiting(2))));
+    assert!(rt; reverses(&mut acquirer)?);
+    assert!(rt; holds(&acquirer, 1, Some(State::Reversing)));
+    assert!(rt; reverses(&mut acquirer)?);
+    assert!(rt; reverses(&mut acquirer)?);
+    assert!(rt; holds(&acquirer, 1, Some(State::Reversing)));
     Ok(())
+}
+
+/// An acquirer that reverses its first transaction.
+fn reversing(rt: &impl Abort, alloc: Global) -> Result<Acquirer, Fail> {
+    let mut acquirer = acquirer_with_one(rt, alloc)?;
+    sent_after(&mut acquirer, 1)?;
+    sent_after(&mut acquirer, 1)?;
+    Ok(acquirer)
 }
 
 #[test]
 fn knows_transactions_by_their_own_numbers(rt: HostRuntime) -> Result<(), Fail> {
-    let mut acquirer = acquirer_with_one(&rt, rt.alloc())?;
-    acquirer.timeout(1)?;
-    acquirer.timeout(1)?;
+    let mut acquirer = reversing(&rt, rt.alloc())?;
     for stan in [0, 2, 3, 4_294_967_295] {
-        assert_eq!(rt; acquirer.state(stan), None, "{stan}");
-        assert_eq!(rt; acquirer.timeout(stan), Err(AcqFault::NoSuch), "{stan}");
+        assert!(rt; holds(&acquirer, stan, None), "{stan}");
+        assert!(rt; refuses(&mut acquirer, stan, AcqFault::NoSuch), "{stan}");
     }
-    let next = acquirer.begin(account()?, 1, *b"978", SENT)?;
-    assert_eq!(rt; next.key(), key(200, 3, ID));
-    assert_eq!(rt; acquirer.state(3), Some(State::Waiting(1)));
+    assert_eq!(rt; key_of_next(&mut acquirer)?, key(200, 3, ID));
+    assert!(rt; holds(&acquirer, 3, Some(State::Waiting(1))));
     Ok(())
 }
 
-#[test]
-fn answers_while_waiting(rt: HostRuntime) -> Result<(), Fail> {
-    let rows = [
+/// The key and the code of an answer, and what an acquirer with one transaction then holds of it.
+type Answered = (TxKey, u8, State);
+
+fn answers_to_waiting() -> [Answered; 10] {
+    [
         (key(200, 1, ID), 0, State::Approved),
         (key(200, 1, ID), 51, State::Declined(51)),
         (key(200, 1, ID), 94, State::Waiting(1)),
@@ -73,61 +132,93 @@ fn answers_while_waiting(rt: HostRuntime) -> Result<(), Fail> {
             0,
             State::Waiting(1),
         ),
-    ];
-    for (key, code, state) in rows {
+    ]
+}
+
+/// Whether an answer leaves a transaction so.
+fn leaves(acquirer: &mut Acquirer, key: TxKey, code: u8, state: State) -> bool {
+    tell(acquirer, key, code);
+    holds(acquirer, 1, Some(state))
+}
+
+#[test]
+fn answers_while_waiting(rt: HostRuntime) -> Result<(), Fail> {
+    for (key, code, state) in &answers_to_waiting() {
         let mut acquirer = acquirer_with_one(&rt, rt.alloc())?;
-        acquirer.answer(key, code);
-        assert_eq!(rt; acquirer.state(1), Some(state), "{key:?} {code}");
+        assert!(rt;
+            leaves(&mut acquirer, *key, *code, *state),
+            "{key:?} {code}"
+        );
     }
     Ok(())
 }
 
-#[test]
-fn answers_while_reversing(rt: HostRuntime) -> Result<(), Fail> {
-    let rows = [
+fn answers_to_reversing() -> [Answered; 6] {
+    [
         (key(420, 2, ID), 0, State::Reversed),
         (key(420, 2, ID), 96, State::Reversing),
         (key(420, 2, ID), 21, State::Reversing),
         (key(200, 1, ID), 0, State::Reversing),
         (key(200, 1, ID), 51, State::Reversing),
         (key(420, 2, 777), 0, State::Reversing),
-    ];
-    for (key, code, state) in rows {
-        let mut acquirer = acquirer_with_one(&rt, rt.alloc())?;
-        acquirer.timeout(1)?;
-        acquirer.timeout(1)?;
-        acquirer.answer(key, code);
-        assert_eq!(rt; acquirer.state(1), Some(state), "{key:?} {code}");
+    ]
+}
+
+#[test]
+fn answers_while_reversing(rt: HostRuntime) -> Result<(), Fail> {
+    for (key, code, state) in &answers_to_reversing() {
+        let mut acquirer = reversing(&rt, rt.alloc())?;
+        assert!(rt;
+            leaves(&mut acquirer, *key, *code, *state),
+            "{key:?} {code}"
+        );
     }
+    Ok(())
+}
+
+/// Closes a transaction by an answer, and compares what is held of it once others come, and a timeout.
+fn stays_closed(rt: &impl Abort, alloc: Global, code: u8, state: State) -> Result<(), Fail> {
+    let mut acquirer = acquirer_with_one(rt, alloc)?;
+    tell(&mut acquirer, key(200, 1, ID), code);
+    for later in [0, 21, 51, 94, 96] {
+        let kept = leaves(&mut acquirer, key(200, 1, ID), later, state);
+        assert!(rt; kept, "{code} {later}");
+    }
+    assert!(rt; refuses(&mut acquirer, 1, AcqFault::Closed), "{code}");
     Ok(())
 }
 
 #[test]
 fn closed_for_good(rt: HostRuntime) -> Result<(), Fail> {
-    for (code, state) in [(0, State::Approved), (51, State::Declined(51))] {
-        let mut acquirer = acquirer_with_one(&rt, rt.alloc())?;
-        acquirer.answer(key(200, 1, ID), code);
-        for later in [0, 21, 51, 94, 96] {
-            acquirer.answer(key(200, 1, ID), later);
-            assert_eq!(rt; acquirer.state(1), Some(state), "{code} {later}");
-        }
-        assert_eq!(rt; acquirer.timeout(1), Err(AcqFault::Closed), "{code}");
+    stays_closed(&rt, rt.alloc(), 0, State::Approved)?;
+    stays_closed(&rt, rt.alloc(), 51, State::Declined(51))
+}
+
+/// Begins as many debits as there are trace numbers, and gives the first one's order.
+fn begin_all(acquirer: &mut Acquirer) -> Result<Order, Fail> {
+    let first = begin_debit(acquirer)??;
+    for _ in 1..999_999 {
+        begin_debit(acquirer)??;
     }
-    Ok(())
+    Ok(first)
+}
+
+fn asks_again_by(acquirer: &mut Acquirer, first: Order) -> bool {
+    sent_after(acquirer, 1) == Ok(first)
+}
+
+fn wants_trace_numbers(acquirer: &mut Acquirer) -> Result<bool, Fail> {
+    Ok(begin_debit(acquirer)? == Err(AcqFault::NoMoreTrace))
 }
 
 #[test]
 fn all_trace_numbers_used(rt: HostRuntime) -> Result<(), Fail> {
-    let mut acquirer = Acquirer::new(rt.alloc(), ID);
-    let first = acquirer.begin(account()?, 1000, *b"840", SENT)?;
-    for _ in 1..999_999 {
-        acquirer.begin(account()?, 1000, *b"840", SENT)?;
-    }
-    let more = acquirer.begin(account()?, 1000, *b"840", SENT);
-    assert_eq!(rt; more, Err(AcqFault::NoMoreTrace));
-    assert_eq!(rt; acquirer.state(999_999), Some(State::Waiting(1)));
-    assert_eq!(rt; acquirer.timeout(1), Ok(first));
-    assert_eq!(rt; acquirer.timeout(1), Err(AcqFault::NoMoreTrace));
-    assert_eq!(rt; acquirer.state(1), Some(State::Waiting(2)));
+    let mut acquirer = new_acquirer(rt.alloc());
+    let first = begin_all(&mut acquirer)?;
+    assert!(rt; wants_trace_numbers(&mut acquirer)?);
+    assert!(rt; holds(&acquirer, 999_999, Some(State::Waiting(1))));
+    assert!(rt; asks_again_by(&mut acquirer, first));
+    assert!(rt; refuses(&mut acquirer, 1, AcqFault::NoMoreTrace));
+    assert!(rt; holds(&acquirer, 1, Some(State::Waiting(2))));
     Ok(())
 }

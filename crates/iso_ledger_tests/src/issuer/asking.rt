@@ -10,80 +10,83 @@ pub type Reply = (u8, u32, Option<i64>);
 /// The ledger of an account, and what is available.
 pub type OnAccount = (Option<i64>, Option<i64>);
 
-/// What is asked. The amount stands beside it.
-#[derive(Clone, Copy)]
-pub enum Kind {
-    Debit,
-    Credit,
-    Inquiry,
-    Complete { hold: TxKey },
-    Undo { original: TxKey, left: u64 },
+/// What is asked on the account, in currency 840, unless it says otherwise. Each but a debit begins with its trace number.
+#[derive(Clone, Copy, Debug)]
+pub enum Ask {
+    /// The type of its message, its trace number and an amount.
+    Debit(u16, u32, u64),
+    Credit(u32, u64),
+    Inquiry(u32),
+    /// The trace number of its hold, and an amount.
+    Complete(u32, u32, u64),
+    /// The type and the trace number of what it reverses, and how much it leaves.
+    Undo(u32, u16, u32, u64),
+    /// A purchase in another currency.
+    DebitIn([u8; 3], u32, u64),
+    /// A purchase on the account of these digits.
+    DebitOf(&'static [u8], u32, u64),
+    /// A completion on the account of these digits.
+    CompleteOf(&'static [u8], u32, u32, u64),
+    /// The time and the trace number of the purchase that it reverses.
+    UndoOf(u32, u64, u32),
 }
 
-/// An order, and the number of its account in digits.
-#[derive(Clone, Copy)]
-pub struct Ask {
-    pub key: TxKey,
-    pub kind: Kind,
-    pub pan: &'static [u8],
-    pub amount: u64,
-    pub currency: [u8; 3],
-}
+const ACCOUNT: &[u8] = b"4111111111111111";
 
-/// Asks for an amount of currency 840 on the account.
-const fn on_account(base: u16, stan: u32, kind: Kind, amount: u64) -> Ask {
-    Ask {
-        key: key(base, stan),
-        kind,
-        pan: b"4111111111111111",
+fn money(digits: &[u8], amount: u64, currency: [u8; 3]) -> Result<Money, Fail> {
+    Ok(Money {
+        pan: pan(digits)?,
         amount,
-        currency: *b"840",
+        currency,
+    })
+}
+
+fn dollars(amount: u64) -> Result<Money, Fail> {
+    money(ACCOUNT, amount, *b"840")
+}
+
+fn key_of(asked: Ask) -> TxKey {
+    match asked {
+        Ask::Debit(base, stan, _) => key(base, stan),
+        Ask::Credit(stan, _) | Ask::Inquiry(stan) => key(200, stan),
+        Ask::DebitIn(_, stan, _) | Ask::DebitOf(_, stan, _) => key(200, stan),
+        Ask::Complete(stan, _, _) | Ask::CompleteOf(_, stan, _, _) => key(220, stan),
+        Ask::Undo(stan, _, _, _) | Ask::UndoOf(stan, _, _) => key(420, stan),
     }
 }
 
-pub const fn debit(base: u16, stan: u32, amount: u64) -> Ask {
-    on_account(base, stan, Kind::Debit, amount)
-}
-
-pub const fn credit(stan: u32, amount: u64) -> Ask {
-    on_account(200, stan, Kind::Credit, amount)
-}
-
-pub const fn inquiry(stan: u32) -> Ask {
-    on_account(200, stan, Kind::Inquiry, 0)
-}
-
-/// The completion of a hold.
-pub const fn complete(stan: u32, hold: u32, amount: u64) -> Ask {
-    let hold = key(100, hold);
-    on_account(220, stan, Kind::Complete { hold }, amount)
-}
-
-/// The reversal of a transaction, of which so much is left.
-pub const fn undo(stan: u32, base: u16, original: u32, left: u64) -> Ask {
-    let original = key(base, original);
-    on_account(420, stan, Kind::Undo { original, left }, 0)
-}
-
-/// What an order asks, where it names an account.
-fn act_of(kind: Kind, money: Money) -> Act {
-    match kind {
-        Kind::Debit => Act::Debit(money),
-        Kind::Credit => Act::Credit(money),
-        Kind::Inquiry => Act::Inquiry(money),
-        Kind::Complete { hold } => Act::Complete { money, hold },
-        Kind::Undo { original, left } => Act::Undo { original, left },
-    }
+fn act_of(asked: Ask) -> Result<Act, Fail> {
+    Ok(match asked {
+        Ask::Debit(_, _, amount) => Act::Debit(dollars(amount)?),
+        Ask::Credit(_, amount) => Act::Credit(dollars(amount)?),
+        Ask::Inquiry(_) => Act::Inquiry(dollars(0)?),
+        Ask::DebitIn(currency, _, amount) => Act::Debit(money(ACCOUNT, amount, currency)?),
+        Ask::DebitOf(digits, _, amount) => Act::Debit(money(digits, amount, *b"840")?),
+        Ask::Complete(_, hold, amount) => Act::Complete {
+            money: dollars(amount)?,
+            hold: key(100, hold),
+        },
+        Ask::CompleteOf(digits, _, hold, amount) => Act::Complete {
+            money: money(digits, amount, *b"840")?,
+            hold: key(100, hold),
+        },
+        Ask::Undo(_, base, original, left) => Act::Undo {
+            original: key(base, original),
+            left,
+        },
+        Ask::UndoOf(_, sent, original) => Act::Undo {
+            original: TxKey {
+                sent,
+                ..key(200, original)
+            },
+            left: 0,
+        },
+    })
 }
 
 pub fn order(asked: Ask) -> Result<Order, Fail> {
-    let money = Money {
-        pan: pan(asked.pan)?,
-        amount: asked.amount,
-        currency: asked.currency,
-    };
-    let act = act_of(asked.kind, money);
-    Ok(Order::new(asked.key, act).ok_or("what a message can carry")?)
+    let act = act_of(asked)?;
+    Ok(Order::new(key_of(asked), act).ok_or("what a message can carry")?)
 }
 
 /// The answer to an order.

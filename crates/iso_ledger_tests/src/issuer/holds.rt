@@ -1,5 +1,5 @@
 //! The life of a hold: completions, their reversals, and what comes late.
-use super::wire::{exchanges, held, step};
+use super::wire::exchanges;
 use super::*;
 
 const HOLD: &[u8] =
@@ -54,12 +54,12 @@ const TWO_ACCOUNTS: &[u8] =
 #[test]
 fn completions(rt: HostRuntime) -> Result<(), Fail> {
     let rows = [
-        (debit(100, 10, 1000), 0, 5000, 4000),
-        (complete(11, 10, 700), 0, 4300, 4300),
-        (complete(11, 10, 700), 0, 4300, 4300),
-        (complete(12, 10, 200), 0, 4100, 4100),
-        (undo(20, 220, 11, 0), 0, 4800, 4800),
-        (undo(21, 220, 12, 0), 0, 5000, 4000),
+        (Debit(100, 10, 1000), 0, 5000, 4000),
+        (Complete(11, 10, 700), 0, 4300, 4300),
+        (Complete(11, 10, 700), 0, 4300, 4300),
+        (Complete(12, 10, 200), 0, 4100, 4100),
+        (Undo(20, 220, 11, 0), 0, 4800, 4800),
+        (Undo(21, 220, 12, 0), 0, 5000, 4000),
     ];
     play(&rt, rt.alloc(), 5000, &rows)
 }
@@ -67,9 +67,9 @@ fn completions(rt: HostRuntime) -> Result<(), Fail> {
 #[test]
 fn late_holds(rt: HostRuntime) -> Result<(), Fail> {
     let rows = [
-        (complete(11, 10, 700), 0, 4300, 4300),
-        (debit(100, 10, 1000), 0, 4300, 4300),
-        (undo(20, 100, 10, 0), 0, 4300, 4300),
+        (Complete(11, 10, 700), 0, 4300, 4300),
+        (Debit(100, 10, 1000), 0, 4300, 4300),
+        (Undo(20, 100, 10, 0), 0, 4300, 4300),
     ];
     play(&rt, rt.alloc(), 5000, &rows)
 }
@@ -77,11 +77,11 @@ fn late_holds(rt: HostRuntime) -> Result<(), Fail> {
 #[test]
 fn partly_reversed_completions(rt: HostRuntime) -> Result<(), Fail> {
     let rows = [
-        (debit(100, 10, 1000), 0, 5000, 4000),
-        (undo(19, 100, 10, 600), 0, 5000, 4400),
-        (complete(11, 10, 700), 0, 4300, 4300),
-        (undo(20, 220, 11, 100), 0, 4900, 4900),
-        (undo(21, 220, 11, 0), 0, 4900, 4900),
+        (Debit(100, 10, 1000), 0, 5000, 4000),
+        (Undo(19, 100, 10, 600), 0, 5000, 4400),
+        (Complete(11, 10, 700), 0, 4300, 4300),
+        (Undo(20, 220, 11, 100), 0, 4900, 4900),
+        (Undo(21, 220, 11, 0), 0, 4900, 4900),
     ];
     play(&rt, rt.alloc(), 5000, &rows)
 }
@@ -100,12 +100,9 @@ fn compare_ledger(
 #[test]
 fn completions_of_another_account(rt: HostRuntime) -> Result<(), Fail> {
     let mut issuer = Issuer::new(Accounts::from_json(rt.alloc(), TWO_ACCOUNTS)?, 100);
-    let completion = Ask {
-        pan: b"4000000000000002",
-        ..complete(11, 10, 700)
-    };
+    let completion = CompleteOf(b"4000000000000002", 11, 10, 700);
     let rows = [
-        (debit(100, 10, 1000), 0, 5000, 4000),
+        (Debit(100, 10, 1000), 0, 5000, 4000),
         (completion, 0, 5000, 4000),
     ];
     play_on(&rt, &mut issuer, &rows)?;
@@ -115,12 +112,18 @@ fn completions_of_another_account(rt: HostRuntime) -> Result<(), Fail> {
 #[test]
 fn a_hold_is_completed_twice_by_bytes(rt: HostRuntime) -> Result<(), Fail> {
     let day = [
-        held("a hold", HOLD, HELD, 5000, 4000),
-        step("its completion", COMPLETION, COMPLETED, 4300),
-        step("the same again", COMPLETION_AGAIN, COMPLETED, 4300),
-        step("another completion", NEXT_COMPLETION, NEXT_COMPLETED, 4100),
-        step("the reversal of the first", REVERSAL, REVERSED, 4800),
-        held(
+        ("a hold", HOLD, HELD, 5000, 4000),
+        ("its completion", COMPLETION, COMPLETED, 4300, 4300),
+        ("the same again", COMPLETION_AGAIN, COMPLETED, 4300, 4300),
+        (
+            "another completion",
+            NEXT_COMPLETION,
+            NEXT_COMPLETED,
+            4100,
+            4100,
+        ),
+        ("the reversal of the first", REVERSAL, REVERSED, 4800, 4800),
+        (
             "the reversal of the second",
             NEXT_REVERSAL,
             NEXT_REVERSED,
@@ -134,12 +137,13 @@ fn a_hold_is_completed_twice_by_bytes(rt: HostRuntime) -> Result<(), Fail> {
 #[test]
 fn a_completion_comes_before_its_hold(rt: HostRuntime) -> Result<(), Fail> {
     let day = [
-        step("the completion", COMPLETION, COMPLETED_FIRST, 4300),
-        step("its hold", HOLD, HELD_SECOND, 4300),
-        step(
+        ("the completion", COMPLETION, COMPLETED_FIRST, 4300, 4300),
+        ("its hold", HOLD, HELD_SECOND, 4300, 4300),
+        (
             "the reversal of the hold",
             HOLD_REVERSAL,
             HOLD_REVERSED,
+            4300,
             4300,
         ),
     ];

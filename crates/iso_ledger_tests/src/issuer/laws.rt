@@ -7,9 +7,9 @@ use std::process::Abort;
 fn a_granted_payment_counts_whole(rt: HostRuntime) -> Result<(), Fail> {
     granted_stands();
     let rows = [
-        (debit(200, 1, 700), 0, 4300, 4300),
-        (debit(200, 2, 9000), 51, 4300, 4300),
-        (debit(200, 3, 4300), 0, 0, 0),
+        (Debit(200, 1, 700), 0, 4300, 4300),
+        (Debit(200, 2, 9000), 51, 4300, 4300),
+        (Debit(200, 3, 4300), 0, 0, 0),
     ];
     play(&rt, rt.alloc(), 5000, &rows)
 }
@@ -18,11 +18,11 @@ fn a_granted_payment_counts_whole(rt: HostRuntime) -> Result<(), Fail> {
 fn the_first_reversal_stays(rt: HostRuntime) -> Result<(), Fail> {
     reversals_stay();
     let rows = [
-        (debit(200, 1, 700), 0, 4300, 4300),
-        (undo(2, 200, 9, 0), 0, 4300, 4300),
-        (undo(3, 200, 1, 400), 0, 4600, 4600),
-        (undo(4, 200, 1, 0), 0, 4600, 4600),
-        (undo(5, 200, 1, 700), 0, 4600, 4600),
+        (Debit(200, 1, 700), 0, 4300, 4300),
+        (Undo(2, 200, 9, 0), 0, 4300, 4300),
+        (Undo(3, 200, 1, 400), 0, 4600, 4600),
+        (Undo(4, 200, 1, 0), 0, 4600, 4600),
+        (Undo(5, 200, 1, 700), 0, 4600, 4600),
     ];
     play(&rt, rt.alloc(), 5000, &rows)
 }
@@ -31,11 +31,11 @@ fn the_first_reversal_stays(rt: HostRuntime) -> Result<(), Fail> {
 fn a_declined_payment_never_stands(rt: HostRuntime) -> Result<(), Fail> {
     stands_no_more();
     let rows = [
-        (debit(200, 1, 9000), 51, 5000, 5000),
-        (credit(2, 8000), 0, 13_000, 13_000),
-        (debit(200, 1, 9000), 51, 13_000, 13_000),
-        (undo(3, 200, 1, 9000), 0, 13_000, 13_000),
-        (debit(200, 1, 9000), 51, 13_000, 13_000),
+        (Debit(200, 1, 9000), 51, 5000, 5000),
+        (Credit(2, 8000), 0, 13_000, 13_000),
+        (Debit(200, 1, 9000), 51, 13_000, 13_000),
+        (Undo(3, 200, 1, 9000), 0, 13_000, 13_000),
+        (Debit(200, 1, 9000), 51, 13_000, 13_000),
     ];
     play(&rt, rt.alloc(), 5000, &rows)
 }
@@ -44,10 +44,10 @@ fn a_declined_payment_never_stands(rt: HostRuntime) -> Result<(), Fail> {
 fn a_reversed_payment_never_stands(rt: HostRuntime) -> Result<(), Fail> {
     reversed_never_stands();
     let rows = [
-        (debit(200, 1, 700), 0, 4300, 4300),
-        (undo(2, 200, 1, 0), 0, 5000, 5000),
-        (debit(200, 1, 700), 0, 5000, 5000),
-        (undo(3, 200, 1, 700), 0, 5000, 5000),
+        (Debit(200, 1, 700), 0, 4300, 4300),
+        (Undo(2, 200, 1, 0), 0, 5000, 5000),
+        (Debit(200, 1, 700), 0, 5000, 5000),
+        (Undo(3, 200, 1, 700), 0, 5000, 5000),
     ];
     play(&rt, rt.alloc(), 5000, &rows)
 }
@@ -56,11 +56,11 @@ fn a_reversed_payment_never_stands(rt: HostRuntime) -> Result<(), Fail> {
 fn a_late_payment_never_stands(rt: HostRuntime) -> Result<(), Fail> {
     late_never_stands();
     let rows = [
-        (undo(1, 200, 2, 0), 0, 5000, 5000),
-        (debit(200, 2, 700), 21, 5000, 5000),
-        (undo(3, 200, 2, 700), 0, 5000, 5000),
-        (debit(200, 2, 700), 21, 5000, 5000),
-        (credit(4, 300), 0, 5300, 5300),
+        (Undo(1, 200, 2, 0), 0, 5000, 5000),
+        (Debit(200, 2, 700), 21, 5000, 5000),
+        (Undo(3, 200, 2, 700), 0, 5000, 5000),
+        (Debit(200, 2, 700), 21, 5000, 5000),
+        (Credit(4, 300), 0, 5300, 5300),
     ];
     play(&rt, rt.alloc(), 5000, &rows)
 }
@@ -68,9 +68,9 @@ fn a_late_payment_never_stands(rt: HostRuntime) -> Result<(), Fail> {
 #[test]
 fn a_hold_can_stand_again(rt: HostRuntime) -> Result<(), Fail> {
     let rows = [
-        (debit(100, 1, 1000), 0, 5000, 4000),
-        (complete(2, 1, 800), 0, 4200, 4200),
-        (undo(3, 220, 2, 0), 0, 5000, 4000),
+        (Debit(100, 1, 1000), 0, 5000, 4000),
+        (Complete(2, 1, 800), 0, 4200, 4200),
+        (Undo(3, 220, 2, 0), 0, 5000, 4000),
     ];
     play(&rt, rt.alloc(), 5000, &rows)
 }
@@ -84,7 +84,7 @@ fn grow(rt: &impl Abort, alloc: Global, rows: &[(Ask, u32)]) -> Result<(), Fail>
 fn compare_lengths(rt: &impl Abort, issuer: &mut Issuer, rows: &[(Ask, u32)]) -> Result<(), Fail> {
     for (asked, length) in rows {
         reply_to(issuer, *asked)??;
-        assert_eq!(rt; entries(issuer), *length, "{:?}", asked.key);
+        assert_eq!(rt; entries(issuer), *length, "{asked:?}");
     }
     Ok(())
 }
@@ -97,11 +97,11 @@ fn known_keys_enter_once(rt: HostRuntime) -> Result<(), Fail> {
     firsts_go_on();
     firsts_stay();
     let rows = [
-        (debit(200, 1, 700), 1),
-        (debit(200, 2, 100), 2),
-        (debit(200, 1, 700), 2),
-        (debit(200, 1, 900), 2),
-        (credit(3, 50), 3),
+        (Debit(200, 1, 700), 1),
+        (Debit(200, 2, 100), 2),
+        (Debit(200, 1, 700), 2),
+        (Debit(200, 1, 900), 2),
+        (Credit(3, 50), 3),
     ];
     grow(&rt, rt.alloc(), &rows)
 }
@@ -111,11 +111,11 @@ fn a_repeat_gets_the_first_answer(rt: HostRuntime) -> Result<(), Fail> {
     answers_are_kept();
     repeats_are_answered();
     replies_are_kept();
-    let first = [(debit(200, 1, 700), (0, 1, None))];
+    let first = [(Debit(200, 1, 700), (0, 1, None))];
     let others = [
-        (debit(200, 1, 900), Ok((94, 0, None))),
-        (undo(2, 200, 1, 0), Ok((0, 2, None))),
-        (debit(200, 1, 700), Ok((0, 1, None))),
+        (Debit(200, 1, 900), Ok((94, 0, None))),
+        (Undo(2, 200, 1, 0), Ok((0, 2, None))),
+        (Debit(200, 1, 700), Ok((0, 1, None))),
     ];
     let mut issuer = issuer(rt.alloc(), 5000, 100)?;
     compare_new(&rt, &mut issuer, &first)?;
@@ -124,17 +124,17 @@ fn a_repeat_gets_the_first_answer(rt: HostRuntime) -> Result<(), Fail> {
 
 /// A payment that is partly reversed, one that is wholly reversed, a hold with a completion that is
 /// partly reversed, a hold alone, and a credit.
-const fn day() -> [Ask; 9] {
+fn day() -> [Ask; 9] {
     [
-        debit(200, 1, 700),
-        undo(2, 200, 1, 200),
-        debit(200, 3, 500),
-        undo(4, 200, 3, 0),
-        debit(100, 5, 1000),
-        complete(6, 5, 800),
-        undo(7, 220, 6, 100),
-        debit(100, 8, 40),
-        credit(9, 350),
+        Debit(200, 1, 700),
+        Undo(2, 200, 1, 200),
+        Debit(200, 3, 500),
+        Undo(4, 200, 3, 0),
+        Debit(100, 5, 1000),
+        Complete(6, 5, 800),
+        Undo(7, 220, 6, 100),
+        Debit(100, 8, 40),
+        Credit(9, 350),
     ]
 }
 
@@ -152,7 +152,7 @@ fn hand_over(rt: &impl Abort, issuer: &mut Issuer, places: &[usize]) -> Result<(
     for place in places {
         let asked = day.get(*place).copied().ok_or("a place of the day")?;
         let (code, _, _) = reply_to(issuer, asked)??;
-        assert!(rt; code != 51, "{:?}", asked.key);
+        assert!(rt; code != 51, "{asked:?}");
     }
     Ok(())
 }

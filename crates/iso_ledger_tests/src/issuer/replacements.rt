@@ -1,5 +1,5 @@
 //! Partial reversals: of an original all but the replacement amount is taken back, once.
-use super::wire::{exchanges, step};
+use super::wire::exchanges;
 use super::*;
 
 const PAYMENT: &[u8] =
@@ -32,9 +32,9 @@ const NEXT_REVERSED: &[u8] =
 #[test]
 fn partial_reversal_of_a_payment(rt: HostRuntime) -> Result<(), Fail> {
     let rows = [
-        (debit(200, 7, 1000), 0, 4000, 4000),
-        (undo(8, 200, 7, 400), 0, 4600, 4600),
-        (undo(9, 200, 7, 0), 0, 4600, 4600),
+        (Debit(200, 7, 1000), 0, 4000, 4000),
+        (Undo(8, 200, 7, 400), 0, 4600, 4600),
+        (Undo(9, 200, 7, 0), 0, 4600, 4600),
     ];
     play(&rt, rt.alloc(), 5000, &rows)
 }
@@ -42,8 +42,8 @@ fn partial_reversal_of_a_payment(rt: HostRuntime) -> Result<(), Fail> {
 /// A partial reversal that leaves 400, and then its payment of 1000, which has this code.
 fn early(rt: &impl Abort, alloc: Global, opening: i64, code: u8, left: i64) -> Result<(), Fail> {
     let rows = [
-        (undo(8, 200, 7, 400), 0, opening, opening),
-        (debit(200, 7, 1000), code, left, left),
+        (Undo(8, 200, 7, 400), 0, opening, opening),
+        (Debit(200, 7, 1000), code, left, left),
     ];
     play(rt, alloc, opening, &rows)
 }
@@ -58,24 +58,30 @@ fn early_partial_reversals(rt: HostRuntime) -> Result<(), Fail> {
 #[test]
 fn partial_reversals_by_bytes(rt: HostRuntime) -> Result<(), Fail> {
     let late = [
-        step("a payment", PAYMENT, GRANTED, 4000),
-        step("its partial reversal", LEAVES_400, REVERSED, 4600),
-        step("a later one", NEXT_REVERSAL, NEXT_REVERSED, 4600),
+        ("a payment", PAYMENT, GRANTED, 4000, 4000),
+        ("its partial reversal", LEAVES_400, REVERSED, 4600, 4600),
+        ("a later one", NEXT_REVERSAL, NEXT_REVERSED, 4600, 4600),
     ];
     exchanges(&rt, rt.alloc(), 5000, &late)?;
     let early = [
-        step("the partial reversal", LEAVES_400, REVERSED, 5000),
-        step("its payment", PAYMENT, GRANTED_SECOND, 4600),
+        ("the partial reversal", LEAVES_400, REVERSED, 5000, 5000),
+        ("its payment", PAYMENT, GRANTED_SECOND, 4600, 4600),
     ];
     exchanges(&rt, rt.alloc(), 5000, &early)?;
     let above = [
-        step("a payment", PAYMENT, GRANTED, 4000),
-        step("a replacement above it", LEAVES_2000, REVERSED, 4000),
+        ("a payment", PAYMENT, GRANTED, 4000, 4000),
+        ("a replacement above it", LEAVES_2000, REVERSED, 4000, 4000),
     ];
     exchanges(&rt, rt.alloc(), 5000, &above)?;
     let none = [
-        step("a payment", PAYMENT, GRANTED, 4000),
-        step("a replacement of nothing", LEAVES_NOTHING, REVERSED, 5000),
+        ("a payment", PAYMENT, GRANTED, 4000, 4000),
+        (
+            "a replacement of nothing",
+            LEAVES_NOTHING,
+            REVERSED,
+            5000,
+            5000,
+        ),
     ];
     exchanges(&rt, rt.alloc(), 5000, &none)
 }

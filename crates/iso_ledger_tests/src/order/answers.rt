@@ -2,7 +2,7 @@
 
 use super::Change::{Nothing, Set, Without};
 use super::{ACCOUNT, Change, changed, key};
-use iso_order::{Told, TxKey, answer_of};
+use iso_order::{Told, answer_of};
 use iso_wire::Message;
 use std::alloc::Global;
 use std::test::Fail;
@@ -23,33 +23,50 @@ fn answer(alloc: Global, mti: u16, change: Change) -> Result<Message, Fail> {
     changed(alloc, mti, &elements, change)
 }
 
-#[test]
-fn answers(rt: HostRuntime) -> Result<(), Fail> {
-    let cases: [(&str, u16, Change, TxKey, u8); 7] = [
-        ("granted", 210, Nothing, key(200), 0),
-        ("declined", 210, Set(39, b"51"), key(200), 51),
-        ("of class 1", 110, Without(38), key(100), 0),
-        ("of a reversal", 430, Without(49), key(420), 0),
-        ("of an advice of another origin", 234, Nothing, key(224), 0),
-        ("of a repeat", 215, Nothing, key(204), 0),
+/// Responses, and the type of the message and the code that each tells.
+fn answer_cases() -> [(&'static str, u16, Change, u16, u8); 7] {
+    [
+        ("granted", 210, Nothing, 200, 0),
+        ("declined", 210, Set(39, b"51"), 200, 51),
+        ("of class 1", 110, Without(38), 100, 0),
+        ("of a reversal", 430, Without(49), 420, 0),
+        ("of an advice of another origin", 234, Nothing, 224, 0),
+        ("of a repeat", 215, Nothing, 204, 0),
         (
             "zeros before the acquirer",
             210,
             Set(32, b"00000012345"),
-            key(200),
+            200,
             0,
         ),
-    ];
-    for (name, mti, change, key, code) in cases {
-        let made = answer(rt.alloc(), mti, change)?;
-        assert_eq!(rt; answer_of(&made), Some(Told { key, code }), "{name}");
+    ]
+}
+
+/// Whether a response tells that.
+fn tells(message: &Message, told: Option<Told>) -> bool {
+    answer_of(message) == told
+}
+
+/// Whether a response to a payment tells of the message of that type, and that code.
+fn is_answer(alloc: Global, mti: u16, change: Change, base: u16, code: u8) -> Result<bool, Fail> {
+    let made = answer(alloc, mti, change)?;
+    let key = key(base);
+    Ok(tells(&made, Some(Told { key, code })))
+}
+
+#[test]
+fn answers(rt: HostRuntime) -> Result<(), Fail> {
+    for (name, mti, change, base, code) in &answer_cases() {
+        assert!(rt;
+            is_answer(rt.alloc(), *mti, *change, *base, *code)?,
+            "{name}"
+        );
     }
     Ok(())
 }
 
-#[test]
-fn no_answers(rt: HostRuntime) -> Result<(), Fail> {
-    let cases: [(&str, u16, Change); 15] = [
+fn other_messages() -> [(&'static str, u16, Change); 15] {
+    [
         ("a request", 200, Without(39)),
         ("a request with a response code", 200, Nothing),
         ("an advice", 220, Nothing),
@@ -69,10 +86,19 @@ fn no_answers(rt: HostRuntime) -> Result<(), Fail> {
         ),
         ("a response code of three digits", 210, Set(39, b"000")),
         ("a letter in the response code", 210, Set(39, b"0A")),
-    ];
-    for (name, mti, change) in cases {
-        let made = answer(rt.alloc(), mti, change)?;
-        assert_eq!(rt; answer_of(&made), None, "{name}");
+    ]
+}
+
+/// Whether a message tells of no answer.
+fn is_no_answer(alloc: Global, mti: u16, change: Change) -> Result<bool, Fail> {
+    let made = answer(alloc, mti, change)?;
+    Ok(tells(&made, None))
+}
+
+#[test]
+fn no_answers(rt: HostRuntime) -> Result<(), Fail> {
+    for (name, mti, change) in &other_messages() {
+        assert!(rt; is_no_answer(rt.alloc(), *mti, *change)?, "{name}");
     }
     Ok(())
 }

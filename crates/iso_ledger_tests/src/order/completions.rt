@@ -1,8 +1,8 @@
 //! Advices that complete a hold.
 
 use super::Change::{Nothing, Set, Without};
-use super::{ACCOUNT, Change, changed, money};
-use iso_order::{Act, Order, TxKey, Verdict, order_of};
+use super::{ACCOUNT, Asked, Change, Does, asks, changed};
+use iso_order::TxKey;
 use iso_wire::Message;
 use std::alloc::Global;
 use std::test::Fail;
@@ -22,69 +22,82 @@ fn completion(alloc: Global, mti: u16, change: Change) -> Result<Message, Fail> 
     changed(alloc, mti, &elements, change)
 }
 
-/// The order under the key of a message of that type.
-fn order(base: u16, act: Act) -> Result<Verdict, Fail> {
+/// What a completion asks: a debit by a message of that type, the completion of the hold of that type, or an answer.
+#[derive(Clone, Copy)]
+enum Asks {
+    Debit(u16),
+    Complete(u16),
+    Reply(u8),
+}
+
+fn asked(asks: Asks) -> Asked {
     let key = TxKey {
-        base,
+        base: 220,
         stan: 11,
         sent: 102_030_700,
         acquirer: 12_345,
     };
-    Ok(Verdict::Order(Order::new(key, act).ok_or("no order")?))
-}
-
-/// The completion of the hold of that type.
-fn completes(base: u16) -> Result<Verdict, Fail> {
     let hold = TxKey {
-        base,
+        base: 100,
         stan: 10,
         sent: 102_030_405,
         acquirer: 12_345,
     };
-    let money = money(ACCOUNT, 700, *b"840")?;
-    order(220, Act::Complete { money, hold })
+    match asks {
+        Asks::Debit(base) => Asked::Order(
+            TxKey { base, ..key },
+            Does::Debit(ACCOUNT, 700, *b"840"),
+        ),
+        Asks::Complete(base) => {
+            let hold = TxKey { base, ..hold };
+            Asked::Order(key, Does::Complete(ACCOUNT, 700, *b"840", hold))
+        }
+        Asks::Reply(code) => Asked::Reply(code),
+    }
 }
 
-#[test]
-fn completions(rt: HostRuntime) -> Result<(), Fail> {
-    let cases: [(&str, u16, Change, Verdict); 6] = [
-        ("as it stands", 220, Nothing, completes(100)?),
-        ("a repeat", 221, Nothing, completes(100)?),
+/// Whether a completion, but for the change, asks that.
+fn is_asked(alloc: Global, mti: u16, change: Change, expected: Asks) -> Result<bool, Fail> {
+    let made = completion(alloc, mti, change)?;
+    asks(&made, asked(expected))
+}
+
+fn good_completions() -> [(&'static str, u16, Change, Asks); 6] {
+    [
+        ("as it stands", 220, Nothing, Asks::Complete(100)),
+        ("a repeat", 221, Nothing, Asks::Complete(100)),
         (
             "the repeat of a hold",
             220,
             Set(90, b"010100001001020304050000001234500000000000"),
-            completes(100)?,
+            Asks::Complete(100),
         ),
         (
             "an advice that holds",
             220,
             Set(90, b"012000001001020304050000001234500000000000"),
-            completes(120)?,
+            Asks::Complete(120),
         ),
         (
             "no acquirer named",
             220,
             Set(90, b"010000001001020304050000000000000000000000"),
-            completes(100)?,
+            Asks::Complete(100),
         ),
-        (
-            "without element 90",
-            220,
-            Without(90),
-            order(220, Act::Debit(money(ACCOUNT, 700, *b"840")?))?,
-        ),
-    ];
-    for (name, mti, change, want) in cases {
-        let made = completion(rt.alloc(), mti, change)?;
-        assert_eq!(rt; order_of(&made), want, "{name}");
+        ("without element 90", 220, Without(90), Asks::Debit(220)),
+    ]
+}
+
+#[test]
+fn completions(rt: HostRuntime) -> Result<(), Fail> {
+    for (name, mti, change, asked) in &good_completions() {
+        assert!(rt; is_asked(rt.alloc(), *mti, *change, *asked)?, "{name}");
     }
     Ok(())
 }
 
-#[test]
-fn refused_completions(rt: HostRuntime) -> Result<(), Fail> {
-    let cases: [(&str, Change, u8); 11] = [
+fn bad_completions() -> [(&'static str, Change, u8); 11] {
+    [
         (
             "41 digits",
             Set(90, b"01000000100102030405000000123450000000000"),
@@ -124,20 +137,25 @@ fn refused_completions(rt: HostRuntime) -> Result<(), Fail> {
         ("a deposit completes nothing", Set(3, b"210000"), 12),
         ("no amount", Without(4), 30),
         ("an amount of zero", Set(4, b"000000000000"), 13),
-    ];
-    for (name, change, code) in cases {
-        let made = completion(rt.alloc(), 220, change)?;
-        assert_eq!(rt; order_of(&made), Verdict::Reply(code), "{name}");
+    ]
+}
+
+#[test]
+fn refused_completions(rt: HostRuntime) -> Result<(), Fail> {
+    for (name, change, code) in &bad_completions() {
+        assert!(rt;
+            is_asked(rt.alloc(), 220, *change, Asks::Reply(*code))?,
+            "{name}"
+        );
     }
     Ok(())
 }
 
 #[test]
 fn a_request_names_no_hold(rt: HostRuntime) -> Result<(), Fail> {
-    let made = completion(rt.alloc(), 200, Nothing)?;
-    assert_eq!(rt;
-        order_of(&made),
-        order(200, Act::Debit(money(ACCOUNT, 700, *b"840")?))?
+    assert!(rt;
+        is_asked(rt.alloc(), 200, Nothing, Asks::Debit(200))?,
+        "a debit"
     );
     Ok(())
 }

@@ -122,13 +122,22 @@ fn cases() -> [Case; 4] {
     ]
 }
 
+fn is_equal(one: &Message, other: &Message) -> bool {
+    one.equals(other)
+}
+
+/// Whether the message of a case gets its response.
+fn is_answered(alloc: Global, case: &Case) -> Result<bool, Fail> {
+    let asked = message(alloc, case.mti, case.asked)?;
+    let made = response(alloc, &asked, case.code, case.seq)?;
+    let want = message(alloc, case.response, case.answered)?;
+    Ok(is_equal(&made, &want))
+}
+
 #[test]
 fn responses(rt: HostRuntime) -> Result<(), Fail> {
-    for case in cases() {
-        let asked = message(rt.alloc(), case.mti, case.asked)?;
-        let made = response(rt.alloc(), &asked, case.code, case.seq)?;
-        let want = message(rt.alloc(), case.response, case.answered)?;
-        assert!(rt; made.equals(&want), "{}", case.name);
+    for case in &cases() {
+        assert!(rt; is_answered(rt.alloc(), case)?, "{}", case.name);
     }
     Ok(())
 }
@@ -147,18 +156,28 @@ fn respond_over(message: &Message, code: u8, seq: u32, into: &mut Message) -> Re
     }
 }
 
+/// The response to a declined inquiry, which no case has.
+fn earlier(alloc: Global) -> Result<Message, Fail> {
+    message(alloc, 210, &[(39, b"51"), (54, b"0002840C000000004000")])
+}
+
+/// Whether a message becomes the response of a case.
+fn is_answered_over(alloc: Global, case: &Case, made: &mut Message) -> Result<bool, Fail> {
+    let asked = message(alloc, case.mti, case.asked)?;
+    respond_over(&asked, case.code, case.seq, made)?;
+    let want = message(alloc, case.response, case.answered)?;
+    Ok(is_equal(made, &want))
+}
+
 #[test]
 fn a_response_is_made_in_place_of_another(rt: HostRuntime) -> Result<(), Fail> {
-    let mut made = message(
-        rt.alloc(),
-        210,
-        &[(39, b"51"), (54, b"0002840C000000004000")],
-    )?;
-    for case in cases() {
-        let asked = message(rt.alloc(), case.mti, case.asked)?;
-        respond_over(&asked, case.code, case.seq, &mut made)?;
-        let want = message(rt.alloc(), case.response, case.answered)?;
-        assert!(rt; made.equals(&want), "{}", case.name);
+    let mut made = earlier(rt.alloc())?;
+    for case in &cases() {
+        assert!(rt;
+            is_answered_over(rt.alloc(), case, &mut made)?,
+            "{}",
+            case.name
+        );
     }
     Ok(())
 }
@@ -186,20 +205,32 @@ fn shown(alloc: Global, message: &Message, shown: i64) -> Result<Message, Fail> 
     )?)
 }
 
-#[test]
-fn balances(rt: HostRuntime) -> Result<(), Fail> {
-    let cases: [(&str, i64, &[u8]); 4] = [
+/// The response to an inquiry on the account, of which so much is available.
+fn shown_balance(alloc: Global, balance: i64) -> Result<Message, Fail> {
+    let inquiry = payment(alloc, 200, Change::Set(3, b"310000"))?;
+    shown(alloc, &inquiry, balance)
+}
+
+fn has(message: &Message, n: u8, want: &[u8]) -> bool {
+    message.get(n) == Some(want)
+}
+
+fn shown_balances() -> [(&'static str, i64, &'static [u8]); 4] {
+    [
         ("above zero", 4000, b"0002840C000000004000"),
         ("below zero", -50, b"0002840D000000000050"),
         ("zero", 0, b"0002840C000000000000"),
         ("twelve digits", -999_999_999_999, b"0002840D999999999999"),
-    ];
-    for (name, balance, text) in cases {
-        let inquiry = payment(rt.alloc(), 200, Change::Set(3, b"310000"))?;
-        let made = shown(rt.alloc(), &inquiry, balance)?;
-        assert_eq!(rt; made.get(54), Some(text), "{name}");
-        assert_eq!(rt; made.get(39), Some(b"00".as_slice()), "{name}");
-        assert_eq!(rt; made.get(38), Some(b"000002".as_slice()), "{name}");
+    ]
+}
+
+#[test]
+fn balances(rt: HostRuntime) -> Result<(), Fail> {
+    for (name, balance, text) in &shown_balances() {
+        let made = shown_balance(rt.alloc(), *balance)?;
+        assert!(rt; has(&made, 54, *text), "{name}");
+        assert!(rt; has(&made, 39, b"00"), "{name}");
+        assert!(rt; has(&made, 38, b"000002"), "{name}");
     }
     Ok(())
 }
