@@ -54,6 +54,34 @@ struct Case {
     faults: &'static [u8],
 }
 
+/// What comes of words over an input: the status, what is written, and what is told.
+#[derive(Drop)]
+struct ActEnd {
+    status: u8,
+    output: Vec<u8>,
+    faults: Vec<u8>,
+}
+
+/// Acts as the words say, where that text stands at `table.json`.
+fn act_on(alloc: Global, words: &[&str], text: &'static [u8], bytes: &[u8]) -> ActEnd {
+    let source = OneFile { text };
+    let mut output = Vec::new(alloc);
+    let mut faults = Vec::new(alloc);
+    let status = act(
+        alloc,
+        words,
+        &source,
+        &mut Std::new(bytes),
+        &mut Std::new(&mut output),
+        &mut Std::new(&mut faults),
+    );
+    ActEnd {
+        status,
+        output,
+        faults,
+    }
+}
+
 fn run_cases(
     rt: &(impl Abort + AllocGlobal),
     cases: &[Case],
@@ -61,23 +89,10 @@ fn run_cases(
 ) -> Result<(), Fail> {
     for case in cases {
         let name = case.name;
-        let source = OneFile { text };
-        let mut input = Std::new(case.input);
-        let mut written = Vec::new(rt.alloc());
-        let mut output = Std::new(&mut written);
-        let mut told = Vec::new(rt.alloc());
-        let mut faults = Std::new(&mut told);
-        let status = act(
-            rt.alloc(),
-            case.words,
-            &source,
-            &mut input,
-            &mut output,
-            &mut faults,
-        );
-        assert_eq!(rt; status, case.status, "{name}");
-        assert_eq!(rt; written.as_slice(), case.output, "{name}");
-        assert_eq!(rt; told.as_slice(), case.faults, "{name}");
+        let ended = act_on(rt.alloc(), case.words, text, case.input);
+        assert_eq!(rt; ended.status, case.status, "{name}");
+        assert_eq!(rt; ended.output.as_slice(), case.output, "{name}");
+        assert_eq!(rt; ended.faults.as_slice(), case.faults, "{name}");
     }
     Ok(())
 }

@@ -4,6 +4,7 @@ use crate::streaming::InputFault;
 use crate::words::WordsFault;
 use iso_fakes::FewTaken;
 use iso_host::{ServeFault, Std};
+use std::alloc::Global;
 
 #[test]
 fn tells_each_stop(rt: HostRuntime) {
@@ -30,64 +31,115 @@ fn tells_each_stop(rt: HostRuntime) {
     }
 }
 
+/// A fault stream, and what comes of telling it that an input is too long.
+#[derive(Drop)]
+struct Failing {
+    name: &'static str,
+    piece: usize,
+    calls: u32,
+    fails_to_flush: bool,
+    status: u8,
+    told: &'static [u8],
+    flushes: u32,
+}
+
+fn cases() -> [Failing; 5] {
+    [
+        Failing {
+            name: "whole, a few at a time",
+            piece: 5,
+            calls: 5,
+            fails_to_flush: false,
+            status: 1,
+            told: b"refused: InputTooLong\n",
+            flushes: 1,
+        },
+        Failing {
+            name: "fails at once",
+            piece: 5,
+            calls: 0,
+            fails_to_flush: false,
+            status: 3,
+            told: b"",
+            flushes: 0,
+        },
+        Failing {
+            name: "fails at the third call",
+            piece: 5,
+            calls: 2,
+            fails_to_flush: false,
+            status: 3,
+            told: b"refused: I",
+            flushes: 0,
+        },
+        Failing {
+            name: "takes none",
+            piece: 0,
+            calls: 9,
+            fails_to_flush: false,
+            status: 3,
+            told: b"",
+            flushes: 0,
+        },
+        Failing {
+            name: "fails to flush",
+            piece: 99,
+            calls: 9,
+            fails_to_flush: true,
+            status: 3,
+            told: b"refused: InputTooLong\n",
+            flushes: 1,
+        },
+    ]
+}
+
+/// The status where such a stream is told that an input is too long, and the stream then.
+fn tell_failing(alloc: Global, case: &Failing) -> (u8, FewTaken) {
+    let mut few = FewTaken::new(alloc, case.piece, case.calls, case.fails_to_flush);
+    let status = tell(alloc, &mut Std::new(&mut few), Stop::InputTooLong);
+    (status, few)
+}
+
 #[test]
 fn a_failing_fault_stream_gives_status_three(rt: HostRuntime) {
-    for (name, piece, calls, fails_to_flush, status, told, flushes) in [
-        (
-            "whole, a few at a time",
-            5,
-            5,
-            false,
-            1,
-            b"refused: InputTooLong\n".as_slice(),
-            1,
-        ),
-        ("fails at once", 5, 0, false, 3, b"".as_slice(), 0),
-        (
-            "fails at the third call",
-            5,
-            2,
-            false,
-            3,
-            b"refused: I".as_slice(),
-            0,
-        ),
-        ("takes none", 0, 9, false, 3, b"".as_slice(), 0),
-        (
-            "fails to flush",
-            99,
-            9,
-            true,
-            3,
-            b"refused: InputTooLong\n".as_slice(),
-            1,
-        ),
-    ] {
-        let mut few = FewTaken::new(rt.alloc(), piece, calls, fails_to_flush);
-        let mut faults = Std::new(&mut few);
-        assert_eq!(rt;
-            tell(rt.alloc(), &mut faults, Stop::InputTooLong),
-            status,
-            "{name}"
-        );
-        assert_eq!(rt; few.taken.as_slice(), told, "{name}");
-        assert_eq!(rt; few.flushes, flushes, "{name}");
+    for case in &cases() {
+        let name = case.name;
+        let (status, few) = tell_failing(rt.alloc(), case);
+        assert!(rt; status == case.status, "{name}");
+        assert!(rt; few.taken.as_slice() == case.told, "{name}");
+        assert!(rt; few.flushes == case.flushes, "{name}");
     }
+}
+
+fn of_input(fault: InputFault) -> Stop {
+    Stop::from(fault)
+}
+
+fn of_source(fault: SourceFault) -> Stop {
+    Stop::from(fault)
+}
+
+fn of_words(fault: WordsFault) -> Stop {
+    Stop::from(fault)
+}
+
+fn of_serving(fault: ServeFault) -> Stop {
+    Stop::from(fault)
 }
 
 #[test]
 fn each_fault_has_its_stop(rt: HostRuntime) {
-    assert_eq!(rt; Stop::from(InputFault::Read), Stop::Read);
-    assert_eq!(rt; Stop::from(InputFault::TooLong), Stop::InputTooLong);
-    assert_eq!(rt; Stop::from(InputFault::TooManyTurns), Stop::TooManyTurns);
-    assert_eq!(rt; Stop::from(InputFault::Memory), Stop::Memory);
-    assert_eq!(rt; Stop::from(SourceFault::File), Stop::File);
-    assert_eq!(rt; Stop::from(SourceFault::Memory), Stop::Memory);
-    assert_eq!(rt; Stop::from(WordsFault::Memory), Stop::Memory);
-    assert_eq!(rt; Stop::from(ServeFault::Read), Stop::Read);
-    assert_eq!(rt; Stop::from(ServeFault::Write), Stop::Write);
-    assert_eq!(rt; Stop::from(ServeFault::BadHeader), Stop::BadHeader);
-    assert_eq!(rt; Stop::from(ServeFault::CutFrame), Stop::CutFrame);
-    assert_eq!(rt; Stop::from(ServeFault::Memory), Stop::Memory);
-    assert_eq!(rt; Stop::from(ServeFault::TooManyTurns), Stop::TooManyTurns);
+    assert!(rt; of_input(InputFault::Read) == Stop::Read);
+    assert!(rt; of_input(InputFault::TooLong) == Stop::InputTooLong);
+    assert!(rt; of_input(InputFault::TooManyTurns) == Stop::TooManyTurns);
+    assert!(rt; of_input(InputFault::Memory) == Stop::Memory);
+    assert!(rt; of_source(SourceFault::File) == Stop::File);
+    assert!(rt; of_source(SourceFault::Memory) == Stop::Memory);
+    assert!(rt; of_words(WordsFault::Memory) == Stop::Memory);
+    assert!(rt; of_serving(ServeFault::Read) == Stop::Read);
+    assert!(rt; of_serving(ServeFault::Write) == Stop::Write);
+    assert!(rt; of_serving(ServeFault::BadHeader) == Stop::BadHeader);
+    assert!(rt; of_serving(ServeFault::CutFrame) == Stop::CutFrame);
+    assert!(rt; of_serving(ServeFault::Memory) == Stop::Memory);
+    assert!(rt; of_serving(ServeFault::TooManyTurns) == Stop::TooManyTurns);
 }

@@ -4,9 +4,11 @@ use iso_host::Std;
 use std::alloc::Global;
 use std::test::Fail;
 
-#[test]
-fn reads_an_input_to_its_end(rt: HostRuntime) -> Result<(), Fail> {
-    for (name, piece, calls, turns, wanted) in [
+/// Five bytes in pieces, how many reads and turns there are, and whether the bytes are read.
+type Pieces = (&'static str, usize, u32, u32, Result<(), InputFault>);
+
+fn pieces() -> [Pieces; 9] {
+    [
         ("at once", 99, 9, 9, Ok(())),
         ("two bytes at a time", 2, 9, 9, Ok(())),
         ("in just enough turns", 2, 9, 4, Ok(())),
@@ -22,18 +24,34 @@ fn reads_an_input_to_its_end(rt: HostRuntime) -> Result<(), Fail> {
             3,
             Err(InputFault::TooManyTurns),
         ),
-    ] {
-        let bytes = b"abcde";
-        let mut input = Std::new(FewBytes {
-            bytes,
-            piece,
-            calls,
-        });
-        match (read_all(rt.alloc(), &mut input, turns), wanted) {
-            (Ok(read), Ok(())) => assert_eq!(rt; read.as_slice(), bytes.as_slice(), "{name}"),
-            (Err(fault), Err(wanted)) => assert_eq!(rt; fault, wanted, "{name}"),
-            (read, _) => assert!(rt; false, "{name} answers {read:?}"),
-        }
+    ]
+}
+
+/// Whether five bytes are read so.
+fn is_read(
+    alloc: Global,
+    piece: usize,
+    calls: u32,
+    turns: u32,
+    wanted: Result<(), InputFault>,
+) -> bool {
+    let bytes = b"abcde";
+    let mut input = Std::new(FewBytes {
+        bytes,
+        piece,
+        calls,
+    });
+    match (read_all(alloc, &mut input, turns), wanted) {
+        (Ok(read), Ok(())) => read.as_slice() == bytes.as_slice(),
+        (Err(fault), Err(wanted)) => fault == wanted,
+        _ => false,
+    }
+}
+
+#[test]
+fn reads_an_input_to_its_end(rt: HostRuntime) -> Result<(), Fail> {
+    for (name, piece, calls, turns, wanted) in pieces() {
+        assert!(rt; is_read(rt.alloc(), piece, calls, turns, wanted), "{name}");
     }
     Ok(())
 }
@@ -51,10 +69,12 @@ fn count_read(alloc: Global, bytes: &[u8], piece: usize) -> Result<usize, InputF
     }
 }
 
-#[test]
-fn tells_a_long_input_by_its_bytes(rt: HostRuntime) -> Result<(), Fail> {
-    for (name, count, piece, wanted) in [
-        ("empty", 0usize, 4096usize, Ok(0usize)),
+/// An input of so many bytes in pieces, and what is read.
+type Long = (&'static str, usize, usize, Result<usize, InputFault>);
+
+fn long_inputs() -> [Long; 7] {
+    [
+        ("empty", 0, 4096, Ok(0)),
         ("one byte", 1, 4096, Ok(1)),
         ("a whole chunk", 4096, 4096, Ok(4096)),
         ("the most", 1_048_576, 4096, Ok(1_048_576)),
@@ -66,10 +86,14 @@ fn tells_a_long_input_by_its_bytes(rt: HostRuntime) -> Result<(), Fail> {
             1000,
             Err(InputFault::TooLong),
         ),
-    ] {
+    ]
+}
+
+#[test]
+fn tells_a_long_input_by_its_bytes(rt: HostRuntime) -> Result<(), Fail> {
+    for (name, count, piece, wanted) in long_inputs() {
         let held = sevens(rt.alloc(), count)?;
-        let answer = count_read(rt.alloc(), &held, piece);
-        assert_eq!(rt; answer, wanted, "{name}");
+        assert!(rt; count_read(rt.alloc(), &held, piece) == wanted, "{name}");
     }
     Ok(())
 }

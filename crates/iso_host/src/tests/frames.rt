@@ -116,6 +116,13 @@ pub struct SessionEnd {
     pub entries: u32,
 }
 
+impl SessionEnd {
+    /// Whether serving ends so, and these bytes are written.
+    pub fn is(&self, ended: Result<Report, ServeFault>, written: &[u8]) -> bool {
+        self.ended == ended && self.written.as_slice() == written
+    }
+}
+
 /// How serving ends, frames behind four digits.
 pub fn serving_end<R: Read + Drop, W: Write>(
     alloc: Global,

@@ -6,6 +6,7 @@ use super::frames::{
 use crate::fault::{Report, ServeFault};
 use iso_wire::Header;
 use std::alloc::Global;
+use std::process::Abort;
 use std::test::Fail;
 
 /// What comes of these frames, where a read gives so many bytes.
@@ -27,17 +28,40 @@ fn session_behind_two(alloc: Global, input: &[u8], piece: usize) -> Result<Sessi
     serve_once(alloc, session)
 }
 
-#[test]
-fn an_unreadable_body_alone(rt: HostRuntime) -> Result<(), Fail> {
-    let alloc = rt.alloc();
-    let unreadable = Report {
-        frames: 1,
-        answered: 0,
+/// A report of frames of which none is silent.
+fn report(frames: u64, answered: u64, unreadable: u64) -> Report {
+    Report {
+        frames,
+        answered,
         silent: 0,
-        unreadable: 1,
-    };
-    for (name, header, body) in [
-        ("no bytes", b"0000".as_slice(), b"".as_slice()),
+        unreadable,
+    }
+}
+
+/// Compares what comes of these frames, in pieces of four sizes.
+fn check_pieces(
+    rt: &(impl Abort + AllocGlobal),
+    name: &str,
+    input: &[u8],
+    report: Report,
+    written: &[u8],
+) -> Result<(), Fail> {
+    for piece in [1usize, 7, 59, 5000] {
+        let outcome = session_in_pieces(rt.alloc(), input, piece)?;
+        assert!(rt;
+            outcome.is(Ok(report), written),
+            "{name}, {piece} bytes a read"
+        );
+    }
+    Ok(())
+}
+
+/// A header, and a body that is no message.
+type Body = (&'static str, &'static [u8], &'static [u8]);
+
+fn bodies_alone() -> [Body; 5] {
+    [
+        ("no bytes", b"0000", b""),
         ("no message", b"0003", b"abc"),
         ("a message type with a letter", b"0006", b"08A0xy"),
         ("a front of a message", b"0054", &ECHO[..54]),
@@ -46,37 +70,22 @@ fn an_unreadable_body_alone(rt: HostRuntime) -> Result<(), Fail> {
             b"0058",
             b"0800822000000000000004000000000000000102030405000001301XYZ",
         ),
-    ] {
+    ]
+}
+
+#[test]
+fn an_unreadable_body_alone(rt: HostRuntime) -> Result<(), Fail> {
+    let alloc = rt.alloc();
+    for (name, header, body) in bodies_alone() {
         let input = join(alloc, &[header, body])?;
-        for piece in [1usize, 7, 59, 5000] {
-            let outcome = session_in_pieces(alloc, &input, piece)?;
-            assert_eq!(rt;
-                outcome.ended,
-                Ok(unreadable),
-                "{name}, {piece} bytes a read"
-            );
-            assert_eq!(rt;
-                outcome.written.as_slice(),
-                b"".as_slice(),
-                "{name}, {piece} bytes a read"
-            );
-        }
+        check_pieces(&rt, name, &input, report(1, 0, 1), b"")?;
     }
     Ok(())
 }
 
-#[test]
-fn the_next_frame_is_answered(rt: HostRuntime) -> Result<(), Fail> {
-    let alloc = rt.alloc();
-    let both = Report {
-        frames: 2,
-        answered: 1,
-        silent: 0,
-        unreadable: 1,
-    };
-    let wanted = join(alloc, &[b"0057", ECHOED])?;
-    for (name, header, body) in [
-        ("behind no bytes", b"0000".as_slice(), b"".as_slice()),
+fn bodies_before() -> [Body; 4] {
+    [
+        ("behind no bytes", b"0000", b""),
         ("behind a message type with a letter", b"0006", b"08A0xy"),
         ("behind a front of a message", b"0054", &ECHO[..54]),
         (
@@ -84,17 +93,16 @@ fn the_next_frame_is_answered(rt: HostRuntime) -> Result<(), Fail> {
             b"0058",
             b"0800822000000000000004000000000000000102030405000001301XYZ",
         ),
-    ] {
+    ]
+}
+
+#[test]
+fn the_next_frame_is_answered(rt: HostRuntime) -> Result<(), Fail> {
+    let alloc = rt.alloc();
+    let wanted = join(alloc, &[b"0057", ECHOED])?;
+    for (name, header, body) in bodies_before() {
         let input = join(alloc, &[header, body, b"0055", ECHO])?;
-        for piece in [1usize, 7, 59, 5000] {
-            let outcome = session_in_pieces(alloc, &input, piece)?;
-            assert_eq!(rt; outcome.ended, Ok(both), "{name}, {piece} bytes a read");
-            assert_eq!(rt;
-                outcome.written.as_slice(),
-                wanted.as_slice(),
-                "{name}, {piece} bytes a read"
-            );
-        }
+        check_pieces(&rt, name, &input, report(2, 1, 1), &wanted)?;
     }
     Ok(())
 }
@@ -122,9 +130,8 @@ fn a_purchase_behind_an_unreadable_body(rt: HostRuntime) -> Result<(), Fail> {
     Ok(())
 }
 
-#[test]
-fn a_purchase_a_repeat_and_a_reversal(rt: HostRuntime) -> Result<(), Fail> {
-    let alloc = rt.alloc();
+/// A purchase, its repeat and a reversal, each in its frame.
+fn three_orders(alloc: Global) -> Result<Vec<u8>, Fail> {
     let reversal = join(
         alloc,
         &[
@@ -132,6 +139,14 @@ fn a_purchase_a_repeat_and_a_reversal(rt: HostRuntime) -> Result<(), Fail> {
             b"0512345020000000701020304050000001234500000000000",
         ],
     )?;
+    join(
+        alloc,
+        &[b"0082", PURCHASE, b"0082", REPEAT, b"0101", &reversal],
+    )
+}
+
+/// The answers to them.
+fn three_answers(alloc: Global) -> Result<Vec<u8>, Fail> {
     let reversed = join(
         alloc,
         &[
@@ -139,65 +154,59 @@ fn a_purchase_a_repeat_and_a_reversal(rt: HostRuntime) -> Result<(), Fail> {
             b"051234500020000000701020304050000001234500000000000",
         ],
     )?;
-    let input = join(
-        alloc,
-        &[b"0082", PURCHASE, b"0082", REPEAT, b"0101", &reversal],
-    )?;
-    let wanted = join(
+    join(
         alloc,
         &[b"0090", GRANTED, b"0090", GRANTED, b"0103", &reversed],
-    )?;
-    let report = Report {
-        frames: 3,
-        answered: 3,
-        silent: 0,
-        unreadable: 0,
-    };
+    )
+}
+
+#[test]
+fn a_purchase_a_repeat_and_a_reversal(rt: HostRuntime) -> Result<(), Fail> {
+    let input = three_orders(rt.alloc())?;
+    let wanted = three_answers(rt.alloc())?;
     for piece in [1usize, 5000] {
-        let outcome = session_in_pieces(alloc, &input, piece)?;
-        assert_eq!(rt; outcome.ended, Ok(report), "{piece} bytes a read");
-        assert_eq!(rt;
-            outcome.written.as_slice(),
-            wanted.as_slice(),
+        let outcome = session_in_pieces(rt.alloc(), &input, piece)?;
+        assert!(rt;
+            outcome.is(Ok(report(3, 3, 0)), &wanted),
             "{piece} bytes a read"
         );
     }
     Ok(())
 }
 
+/// A frame of the longest body, of this byte alone.
+fn longest(alloc: Global, byte: u8) -> Result<Vec<u8>, Fail> {
+    let mut input = vec![in alloc; byte; 65_537]?;
+    input[0] = 0xFF;
+    input[1] = 0xFF;
+    Ok(input)
+}
+
 #[test]
 fn the_longest_body(rt: HostRuntime) -> Result<(), Fail> {
-    let alloc = rt.alloc();
     for (name, byte) in [("of zeros", b'0'), ("of bytes that are no digits", 0xFF)] {
-        let mut input = vec![in alloc; byte; 65_537]?;
-        input[0] = 0xFF;
-        input[1] = 0xFF;
-        let outcome = session_behind_two(alloc, &input, 5000)?;
-        let report = Report {
-            frames: 1,
-            answered: 0,
-            silent: 0,
-            unreadable: 1,
-        };
-        assert_eq!(rt; outcome.ended, Ok(report), "{name}");
-        assert_eq!(rt; outcome.written.as_slice(), b"".as_slice(), "{name}");
+        let input = longest(rt.alloc(), byte)?;
+        let outcome = session_behind_two(rt.alloc(), &input, 5000)?;
+        assert!(rt; outcome.is(Ok(report(1, 0, 1)), b""), "{name}");
     }
     Ok(())
 }
 
-#[test]
-fn a_long_body_is_cut(rt: HostRuntime) -> Result<(), Fail> {
-    let alloc = rt.alloc();
-    for (name, input) in [
-        ("ten zeros", b"\xFF\xFF0000000000".as_slice()),
+fn cut_bodies() -> [(&'static str, &'static [u8]); 5] {
+    [
+        ("ten zeros", b"\xFF\xFF0000000000"),
         ("a front of a message", b"\xFF\xFF0800822000"),
         ("no message", b"\xFF\xFF\xFF\xFF\xFF\xFF"),
         ("no byte", b"\xFF\xFF"),
         ("half a header", b"\xFF"),
-    ] {
-        let outcome = session_behind_two(alloc, input, 3)?;
-        assert_eq!(rt; outcome.ended, Err(ServeFault::CutFrame), "{name}");
-        assert_eq!(rt; outcome.written.as_slice(), b"".as_slice(), "{name}");
+    ]
+}
+
+#[test]
+fn a_long_body_is_cut(rt: HostRuntime) -> Result<(), Fail> {
+    for (name, input) in cut_bodies() {
+        let outcome = session_behind_two(rt.alloc(), input, 3)?;
+        assert!(rt; outcome.is(Err(ServeFault::CutFrame), b""), "{name}");
     }
     Ok(())
 }

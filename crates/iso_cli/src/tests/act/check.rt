@@ -71,9 +71,8 @@ const CHIP: &[u8] =
     b"{\"bitmap\":\"hex\",\"mti\":\"ascii\",\"profile\":2,\"rows\":[{\"class\":\"B\",\"coding\":\"hex\",\
       \"length\":\"LLLL\",\"max\":9999,\"number\":48,\"pad\":\"none\",\"prefix\":\"ascii\"}],\"version\":0}";
 
-#[test]
-fn four_digits_of_a_length_are_checked_and_shown(rt: HostRuntime) -> Result<(), Fail> {
-    let cases = [
+fn four_digits() -> [Case; 2] {
+    [
         Case {
             name: "checked",
             words: &["check", "table.json"],
@@ -90,127 +89,121 @@ fn four_digits_of_a_length_are_checked_and_shown(rt: HostRuntime) -> Result<(), 
             output: b"MTI=0800 1987 NetworkManagement Request Acquirer\nDE048=01020A\nUSED=30/30\n",
             faults: b"",
         },
-    ];
-    run_cases(&rt, &cases, CHIP)
+    ]
 }
 
 #[test]
-fn a_table_is_refused(rt: HostRuntime) -> Result<(), Fail> {
-    let documents = [
+fn four_digits_of_a_length_are_checked_and_shown(rt: HostRuntime) -> Result<(), Fail> {
+    run_cases(&rt, &four_digits(), CHIP)
+}
+
+/// A document that is no table, and what is told of it.
+type Document = (&'static str, &'static [u8], &'static [u8]);
+
+fn documents() -> [Document; 15] {
+    [
         (
             "LL of 100",
             b"{\"bitmap\":\"hex\",\"mti\":\"ascii\",\"profile\":1,\"rows\":[{\"class\":\"N\",\"coding\":\"ascii\",\
-              \"length\":\"LL\",\"prefix\":\"ascii\",\"max\":100,\"number\":2,\"pad\":\"none\"}],\"version\":0}"
-                .as_slice(),
-            b"refused: table BadMax element 2\n".as_slice(),
+              \"length\":\"LL\",\"prefix\":\"ascii\",\"max\":100,\"number\":2,\"pad\":\"none\"}],\"version\":0}",
+            b"refused: table BadMax element 2\n",
         ),
         (
             "BCD letters",
             b"{\"bitmap\":\"hex\",\"mti\":\"ascii\",\"profile\":1,\"rows\":[{\"class\":\"ANS\",\"coding\":\"bcd\",\
-              \"length\":\"LL\",\"prefix\":\"ascii\",\"max\":19,\"number\":2,\"pad\":\"none\"}],\"version\":0}"
-                .as_slice(),
-            b"refused: table CodingClass element 2\n".as_slice(),
+              \"length\":\"LL\",\"prefix\":\"ascii\",\"max\":19,\"number\":2,\"pad\":\"none\"}],\"version\":0}",
+            b"refused: table CodingClass element 2\n",
         ),
         (
             "element 65",
             b"{\"bitmap\":\"hex\",\"mti\":\"ascii\",\"profile\":1,\"rows\":[{\"class\":\"N\",\"coding\":\"ascii\",\
-              \"length\":\"LL\",\"prefix\":\"ascii\",\"max\":19,\"number\":65,\"pad\":\"none\"}],\"version\":0}"
-                .as_slice(),
-            b"refused: table BadNumber element 65\n".as_slice(),
+              \"length\":\"LL\",\"prefix\":\"ascii\",\"max\":19,\"number\":65,\"pad\":\"none\"}],\"version\":0}",
+            b"refused: table BadNumber element 65\n",
         ),
         (
             "a number twice",
             b"{\"bitmap\":\"hex\",\"mti\":\"ascii\",\"profile\":1,\"rows\":[{\"class\":\"N\",\"coding\":\"ascii\",\
               \"length\":\"LL\",\"prefix\":\"ascii\",\"max\":19,\"number\":2,\"pad\":\"none\"},{\"class\":\"N\",\
               \"coding\":\"ascii\",\"length\":\"LL\",\"prefix\":\"ascii\",\"max\":19,\"number\":2,\"pad\":\"none\"}],\
-              \"version\":0}"
-                .as_slice(),
-            b"refused: table Twice element 2\n".as_slice(),
+              \"version\":0}",
+            b"refused: table Twice element 2\n",
         ),
         (
             "version 3",
             b"{\"bitmap\":\"hex\",\"mti\":\"ascii\",\"profile\":1,\"rows\":[{\"class\":\"N\",\"coding\":\"ascii\",\
-              \"length\":\"LL\",\"prefix\":\"ascii\",\"max\":19,\"number\":2,\"pad\":\"none\"}],\"version\":3}"
-                .as_slice(),
-            b"refused: table BadVersion\n".as_slice(),
+              \"length\":\"LL\",\"prefix\":\"ascii\",\"max\":19,\"number\":2,\"pad\":\"none\"}],\"version\":3}",
+            b"refused: table BadVersion\n",
         ),
         (
             "a pad on LL",
             b"{\"bitmap\":\"hex\",\"mti\":\"ascii\",\"profile\":1,\"rows\":[{\"class\":\"N\",\"coding\":\"ascii\",\
-              \"length\":\"LL\",\"prefix\":\"ascii\",\"max\":19,\"number\":2,\"pad\":\"left:30\"}],\"version\":0}"
-                .as_slice(),
-            b"refused: table PadNotAllowed element 2\n".as_slice(),
+              \"length\":\"LL\",\"prefix\":\"ascii\",\"max\":19,\"number\":2,\"pad\":\"left:30\"}],\"version\":0}",
+            b"refused: table PadNotAllowed element 2\n",
         ),
-        (
-            "half a document",
-            b"{".as_slice(),
-            b"refused: table NotJson\n".as_slice(),
-        ),
+        ("half a document", b"{", b"refused: table NotJson\n"),
         (
             "profile 7",
             b"{\"bitmap\":\"hex\",\"mti\":\"ascii\",\"profile\":7,\"rows\":[{\"class\":\"N\",\"coding\":\"ascii\",\
-              \"length\":\"LL\",\"prefix\":\"ascii\",\"max\":19,\"number\":2,\"pad\":\"none\"}],\"version\":0}"
-                .as_slice(),
-            b"refused: table Profile\n".as_slice(),
+              \"length\":\"LL\",\"prefix\":\"ascii\",\"max\":19,\"number\":2,\"pad\":\"none\"}],\"version\":0}",
+            b"refused: table Profile\n",
         ),
         (
             "an unknown member",
             b"{\"bitmap\":\"hex\",\"mti\":\"ascii\",\"profile\":1,\"rows\":[{\"class\":\"N\",\"coding\":\"ascii\",\
               \"length\":\"LL\",\"prefix\":\"ascii\",\"max\":19,\"number\":2,\"pad\":\"none\",\"note\":1}],\
-              \"version\":0}"
-                .as_slice(),
-            b"refused: table Shape\n".as_slice(),
+              \"version\":0}",
+            b"refused: table Shape\n",
         ),
         (
             "a number with a point",
             b"{\"bitmap\":\"hex\",\"mti\":\"ascii\",\"profile\":1,\"rows\":[{\"class\":\"N\",\"coding\":\"ascii\",\
-              \"length\":\"LL\",\"prefix\":\"ascii\",\"max\":19.0,\"number\":2,\"pad\":\"none\"}],\"version\":0}"
-                .as_slice(),
-            b"refused: table Shape\n".as_slice(),
+              \"length\":\"LL\",\"prefix\":\"ascii\",\"max\":19.0,\"number\":2,\"pad\":\"none\"}],\"version\":0}",
+            b"refused: table Shape\n",
         ),
         (
             "a number of 20 digits",
             b"{\"bitmap\":\"hex\",\"mti\":\"ascii\",\"profile\":1,\"rows\":[{\"class\":\"N\",\"coding\":\"ascii\",\
               \"length\":\"LL\",\"prefix\":\"ascii\",\"max\":12345678901234567890,\"number\":2,\"pad\":\"none\"}],\
-              \"version\":0}"
-                .as_slice(),
-            b"refused: table Shape\n".as_slice(),
+              \"version\":0}",
+            b"refused: table Shape\n",
         ),
         (
             "LLLL of 10,000",
             b"{\"bitmap\":\"hex\",\"mti\":\"ascii\",\"profile\":2,\"rows\":[{\"class\":\"B\",\"coding\":\"hex\",\
-              \"length\":\"LLLL\",\"max\":10000,\"number\":48,\"pad\":\"none\",\"prefix\":\"ascii\"}],\"version\":0}"
-                .as_slice(),
-            b"refused: table BadMax element 48\n".as_slice(),
+              \"length\":\"LLLL\",\"max\":10000,\"number\":48,\"pad\":\"none\",\"prefix\":\"ascii\"}],\"version\":0}",
+            b"refused: table BadMax element 48\n",
         ),
         (
             "LLLL under profile 1",
             b"{\"bitmap\":\"hex\",\"mti\":\"ascii\",\"profile\":1,\"rows\":[{\"class\":\"B\",\"coding\":\"hex\",\
-              \"length\":\"LLLL\",\"max\":9999,\"number\":48,\"pad\":\"none\",\"prefix\":\"ascii\"}],\"version\":0}"
-                .as_slice(),
-            b"refused: table Shape\n".as_slice(),
+              \"length\":\"LLLL\",\"max\":9999,\"number\":48,\"pad\":\"none\",\"prefix\":\"ascii\"}],\"version\":0}",
+            b"refused: table Shape\n",
         ),
-        (
-            "an empty file",
-            b"".as_slice(),
-            b"refused: table NotJson\n".as_slice(),
-        ),
+        ("an empty file", b"", b"refused: table NotJson\n"),
         (
             "another encoding",
-            b"\xFF\xFE{\0".as_slice(),
-            b"refused: table NotJson\n".as_slice(),
+            b"\xFF\xFE{\0",
+            b"refused: table NotJson\n",
         ),
-    ];
-    for (name, text, faults) in &documents {
-        let case = Case {
-            name,
-            words: &["check", "table.json"],
-            input: b"",
-            status: 1,
-            output: b"",
-            faults,
-        };
-        run_cases(&rt, &[case], text)?;
+    ]
+}
+
+/// The case of such a document.
+fn refused_as(name: &'static str, faults: &'static [u8]) -> [Case; 1] {
+    [Case {
+        name,
+        words: &["check", "table.json"],
+        input: b"",
+        status: 1,
+        output: b"",
+        faults,
+    }]
+}
+
+#[test]
+fn a_table_is_refused(rt: HostRuntime) -> Result<(), Fail> {
+    for (name, text, faults) in documents() {
+        run_cases(&rt, &refused_as(name, faults), text)?;
     }
     Ok(())
 }

@@ -6,9 +6,8 @@ use std::test::Fail;
 const ECHO_TEST_BCD: &[u8] =
     b"\x08\x00\x82\x20\0\0\0\0\0\0\x04\0\0\0\0\0\0\0\x01\x02\x03\x04\x05\0\0\x01\x03\x01";
 
-#[test]
-fn a_message_is_converted(rt: HostRuntime) -> Result<(), Fail> {
-    let cases = [
+fn converted() -> [Case; 7] {
+    [
         Case {
             name: "to BCD",
             words: &["convert", "ascii87", "bcd87"],
@@ -65,6 +64,10 @@ fn a_message_is_converted(rt: HostRuntime) -> Result<(), Fail> {
             output: b"",
             faults: b"failed: File\n",
         },
-    ];
-    run_cases(&rt, &cases, TERMINALS)
+    ]
+}
+
+#[test]
+fn a_message_is_converted(rt: HostRuntime) -> Result<(), Fail> {
+    run_cases(&rt, &converted(), TERMINALS)
 }

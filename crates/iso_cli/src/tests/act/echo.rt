@@ -3,9 +3,8 @@
 use super::{Case, ECHO_TEST, PAYMENT, TERMINALS, run_cases};
 use std::test::Fail;
 
-#[test]
-fn the_echo_answers(rt: HostRuntime) -> Result<(), Fail> {
-    let cases = [
+fn answered() -> [Case; 9] {
+    [
         Case {
             name: "the echo test",
             words: &[],
@@ -88,8 +87,12 @@ fn the_echo_answers(rt: HostRuntime) -> Result<(), Fail> {
               41111111111111110000000000000010000102030405000007051234512840\n",
             faults: b"",
         },
-    ];
-    run_cases(&rt, &cases, TERMINALS)
+    ]
+}
+
+#[test]
+fn the_echo_answers(rt: HostRuntime) -> Result<(), Fail> {
+    run_cases(&rt, &answered(), TERMINALS)
 }
 
 #[test]

@@ -3,9 +3,8 @@
 use super::{Case, PAYMENT, TERMINALS, run_cases};
 use std::test::Fail;
 
-#[test]
-fn a_message_is_shown(rt: HostRuntime) -> Result<(), Fail> {
-    let cases = [
+fn shown() -> [Case; 12] {
+    [
         Case {
             name: "a payment",
             words: &["show", "ascii87"],
@@ -106,13 +105,16 @@ fn a_message_is_shown(rt: HostRuntime) -> Result<(), Fail> {
             output: b"MTI=0800 1987 NetworkManagement Request Acquirer\nDE041=TERM1\nUSED=28/28\n",
             faults: b"",
         },
-    ];
-    run_cases(&rt, &cases, TERMINALS)
+    ]
 }
 
 #[test]
-fn a_message_is_refused(rt: HostRuntime) -> Result<(), Fail> {
-    let cases = [
+fn a_message_is_shown(rt: HostRuntime) -> Result<(), Fail> {
+    run_cases(&rt, &shown(), TERMINALS)
+}
+
+fn refused() -> [Case; 8] {
+    [
         Case {
             name: "a length above the maximum",
             words: &["show", "ascii87"],
@@ -177,6 +179,10 @@ fn a_message_is_refused(rt: HostRuntime) -> Result<(), Fail> {
             output: b"",
             faults: b"refused: unpack NotInClass element 70 at 26\n",
         },
-    ];
-    run_cases(&rt, &cases, TERMINALS)
+    ]
+}
+
+#[test]
+fn a_message_is_refused(rt: HostRuntime) -> Result<(), Fail> {
+    run_cases(&rt, &refused(), TERMINALS)
 }

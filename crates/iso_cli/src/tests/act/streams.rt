@@ -1,6 +1,6 @@
 //! Streams that fail, and one that is too long.
 
-use super::{ECHO_TEST, OneFile, TERMINALS};
+use super::{ECHO_TEST, OneFile, TERMINALS, act_on};
 use crate::act::act;
 use iso_fakes::{FewBytes, FewTaken, sevens};
 use iso_host::Std;
@@ -77,22 +77,9 @@ fn failing_streams(rt: HostRuntime) {
 #[test]
 fn a_long_input_is_refused(rt: HostRuntime) -> Result<(), Fail> {
     let long = sevens(rt.alloc(), 1_048_577)?;
-    let source = OneFile { text: TERMINALS };
-    let mut written = Vec::new(rt.alloc());
-    let mut output = Std::new(&mut written);
-    let mut told = Vec::new(rt.alloc());
-    let mut faults = Std::new(&mut told);
-    let mut input = Std::new(long.as_slice());
-    let status = act(
-        rt.alloc(),
-        &[],
-        &source,
-        &mut input,
-        &mut output,
-        &mut faults,
-    );
-    assert_eq!(rt; status, 1);
-    assert_eq!(rt; written.as_slice(), b"".as_slice());
-    assert_eq!(rt; told.as_slice(), b"refused: InputTooLong\n".as_slice());
+    let ended = act_on(rt.alloc(), &[], TERMINALS, &long);
+    assert!(rt; ended.status == 1);
+    assert!(rt; ended.output.as_slice() == b"".as_slice());
+    assert!(rt; ended.faults.as_slice() == b"refused: InputTooLong\n".as_slice());
     Ok(())
 }

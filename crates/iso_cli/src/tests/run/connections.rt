@@ -25,6 +25,11 @@ fn serving(alloc: Global, header: &str) -> Result<Serving, Fail> {
     }
 }
 
+/// A free port of this machine.
+fn listen(rt: &HostRuntime) -> Result<TcpListener, Fail> {
+    Ok(TcpListener::bind(rt, "127.0.0.1:0")?)
+}
+
 /// A peer that has sent its bytes and sends no more.
 fn peer(rt: &HostRuntime, listener: &TcpListener, sent: &[&[u8]]) -> Result<TcpStream, Fail> {
     let mut stream = TcpStream::connect(rt, listener.local_addr()?)?;

@@ -4,6 +4,8 @@ use super::*;
 
 const ONE_ANSWERED: &[u8] = b"frames=1 answered=1 silent=0 unreadable=0\n";
 
+const ONE_UNREADABLE: &[u8] = b"frames=1 answered=0 silent=0 unreadable=1\n";
+
 /// What is told of three peers, and what each is answered.
 #[derive(Drop)]
 struct Met {
@@ -21,7 +23,7 @@ fn meet(
     second: &[&[u8]],
     third: &[&[u8]],
 ) -> Result<Met, Fail> {
-    let listener = TcpListener::bind(rt, "127.0.0.1:0")?;
+    let listener = listen(rt)?;
     let mut first = peer(rt, &listener, first)?;
     let mut second = peer(rt, &listener, second)?;
     let mut third = peer(rt, &listener, third)?;
@@ -33,56 +35,80 @@ fn meet(
     })
 }
 
+/// Serves a peer that sends a purchase, one that sends these bytes, and one that sends the repeat.
+fn meet_between(rt: &HostRuntime, sent: &[&[u8]]) -> Result<Met, Fail> {
+    let (purchase, repeat) = ([b"0082", PURCHASE], [b"0082", REPEAT]);
+    meet(rt, "ascii4", &purchase, sent, &repeat)
+}
+
+/// Compares what is told of such peers, and that the second is answered nothing.
+fn check_between(
+    rt: &(impl Abort + AllocGlobal),
+    met: &Met,
+    output: &[u8],
+    faults: &[u8],
+    name: &str,
+) -> Result<(), Fail> {
+    let lines = [ONE_ANSWERED, output, ONE_ANSWERED];
+    check_told(rt, &met.ended, &lines, faults, name)?;
+    check_answers(rt, &met.first, &[b"0090", GRANTED], name)?;
+    check_answers(rt, &met.second, &[], name)?;
+    check_answers(rt, &met.third, &[b"0090", GRANTED], name)
+}
+
 #[test]
 fn three_peers_meet_one_journal(rt: HostRuntime) -> Result<(), Fail> {
-    let (purchase, repeat) = ([b"0082", PURCHASE], [b"0082", REPEAT]);
-    let met = meet(&rt, "ascii4", &purchase, &[b"00A2"], &repeat)?;
-    let faults = b"refused: BadHeader\n";
-    check_told(
-        &rt,
-        &met.ended,
-        &[ONE_ANSWERED, ONE_ANSWERED],
-        faults,
-        "the host",
-    )?;
-    assert_eq!(rt; met.first.len(), 94);
+    let met = meet_between(&rt, &[b"00A2"])?;
+    let lines = [ONE_ANSWERED, ONE_ANSWERED];
+    check_told(&rt, &met.ended, &lines, b"refused: BadHeader\n", "the host")?;
+    assert!(rt; met.first.len() == 94);
     check_answers(&rt, &met.first, &[b"0090", GRANTED], "the first")?;
     check_answers(&rt, &met.second, &[], "the second")?;
     check_answers(&rt, &met.third, &[b"0090", GRANTED], "the third")
 }
 
+/// What is told of four peers, and what each is answered.
+#[derive(Drop)]
+struct FourMet {
+    ended: ConnectionsEnd,
+    early: Vec<u8>,
+    late: Vec<u8>,
+    none: Vec<u8>,
+    both: Vec<u8>,
+}
+
+/// Serves a peer that sends a reversal, one that sends its purchase, one that sends nothing, and one that sends both again.
+fn meet_four(rt: &HostRuntime) -> Result<FourMet, Fail> {
+    let listener = listen(rt)?;
+    let mut early = peer(rt, &listener, &[b"0101", REVERSAL])?;
+    let mut late = peer(rt, &listener, &[b"0082", PURCHASE])?;
+    let mut none = peer(rt, &listener, &[])?;
+    let mut both = peer(rt, &listener, &[b"0101", REVERSAL_REPEAT, b"0082", REPEAT])?;
+    Ok(FourMet {
+        ended: serve_first(rt.alloc(), &listener, "ascii4", 4)?,
+        early: answers(rt.alloc(), &mut early)?,
+        late: answers(rt.alloc(), &mut late)?,
+        none: answers(rt.alloc(), &mut none)?,
+        both: answers(rt.alloc(), &mut both)?,
+    })
+}
+
 #[test]
 fn orders_meet_those_of_earlier_peers(rt: HostRuntime) -> Result<(), Fail> {
-    let alloc = rt.alloc();
-    let listener = TcpListener::bind(&rt, "127.0.0.1:0")?;
-    let mut early = peer(&rt, &listener, &[b"0101", REVERSAL])?;
-    let mut late = peer(&rt, &listener, &[b"0082", PURCHASE])?;
-    let mut none = peer(&rt, &listener, &[])?;
-    let mut both = peer(&rt, &listener, &[b"0101", REVERSAL_REPEAT, b"0082", REPEAT])?;
-    let ended = serve_first(alloc, &listener, "ascii4", 4)?;
+    let met = meet_four(&rt)?;
     let lines: [&[u8]; 4] = [
         ONE_ANSWERED,
         ONE_ANSWERED,
         b"frames=0 answered=0 silent=0 unreadable=0\n",
         b"frames=2 answered=2 silent=0 unreadable=0\n",
     ];
-    check_told(&rt, &ended, &lines, b"", "the host")?;
-    check_answers(
-        &rt,
-        &answers(rt.alloc(), &mut early)?,
-        &[b"0103", REVERSED],
-        "the reversal",
-    )?;
-    check_answers(
-        &rt,
-        &answers(rt.alloc(), &mut late)?,
-        &[b"0084", UNDONE],
-        "its purchase",
-    )?;
-    check_answers(&rt, &answers(rt.alloc(), &mut none)?, &[], "no frame")?;
+    check_told(&rt, &met.ended, &lines, b"", "the host")?;
+    check_answers(&rt, &met.early, &[b"0103", REVERSED], "the reversal")?;
+    check_answers(&rt, &met.late, &[b"0084", UNDONE], "its purchase")?;
+    check_answers(&rt, &met.none, &[], "no frame")?;
     let two: [&[u8]; 4] = [b"0103", REVERSED, b"0084", UNDONE];
-    check_answers(&rt, &answers(rt.alloc(), &mut both)?, &two, "both again")?;
-    assert_eq!(rt; ended.entries, 2);
+    check_answers(&rt, &met.both, &two, "both again")?;
+    assert!(rt; met.ended.entries == 2);
     Ok(())
 }
 
@@ -95,10 +121,8 @@ struct Bad {
     faults: &'static [u8],
 }
 
-#[test]
-fn a_bad_peer_harms_no_other(rt: HostRuntime) -> Result<(), Fail> {
-    let unreadable: &[u8] = b"frames=1 answered=0 silent=0 unreadable=1\n";
-    for bad in [
+fn bad_peers() -> [Bad; 6] {
+    [
         Bad {
             name: "it closes inside a header",
             sent: &[b"00"],
@@ -120,13 +144,13 @@ fn a_bad_peer_harms_no_other(rt: HostRuntime) -> Result<(), Fail> {
         Bad {
             name: "a body that is no message",
             sent: &[b"0003", b"abc"],
-            output: unreadable,
+            output: ONE_UNREADABLE,
             faults: b"",
         },
         Bad {
             name: "an empty body",
             sent: &[b"0000"],
-            output: unreadable,
+            output: ONE_UNREADABLE,
             faults: b"",
         },
         Bad {
@@ -135,15 +159,14 @@ fn a_bad_peer_harms_no_other(rt: HostRuntime) -> Result<(), Fail> {
             output: b"frames=1 answered=0 silent=1 unreadable=0\n",
             faults: b"",
         },
-    ] {
-        let name = bad.name;
-        let (purchase, repeat) = ([b"0082", PURCHASE], [b"0082", REPEAT]);
-        let met = meet(&rt, "ascii4", &purchase, bad.sent, &repeat)?;
-        let lines = [ONE_ANSWERED, bad.output, ONE_ANSWERED];
-        check_told(&rt, &met.ended, &lines, bad.faults, name)?;
-        check_answers(&rt, &met.first, &[b"0090", GRANTED], name)?;
-        check_answers(&rt, &met.second, &[], name)?;
-        check_answers(&rt, &met.third, &[b"0090", GRANTED], name)?;
+    ]
+}
+
+#[test]
+fn a_bad_peer_harms_no_other(rt: HostRuntime) -> Result<(), Fail> {
+    for bad in &bad_peers() {
+        let met = meet_between(&rt, bad.sent)?;
+        check_between(&rt, &met, bad.output, bad.faults, bad.name)?;
     }
     Ok(())
 }
@@ -157,6 +180,13 @@ fn slow_peer(rt: &HostRuntime, listener: &TcpListener, sent: &[u8]) -> Result<Tc
     }
     stream.shutdown(Shutdown::Write)?;
     Ok(stream)
+}
+
+/// What is told of one peer, and what it is answered.
+#[derive(Drop)]
+struct OneMet {
+    ended: ConnectionsEnd,
+    answered: Vec<u8>,
 }
 
 #[test]
@@ -174,16 +204,21 @@ fn a_peer_may_send_a_byte_at_a_time(rt: HostRuntime) -> Result<(), Fail> {
     )
 }
 
+/// Serves a peer that sends a frame of the largest body, of this byte alone, one that sends a front of it, and one that
+/// sends a purchase.
+fn meet_large(rt: &HostRuntime, byte: u8) -> Result<Met, Fail> {
+    let body = vec![in rt.alloc(); byte; 65_535]?;
+    let large = [b"\xFF\xFF", body.as_slice()];
+    let cut = [b"\xFF\xFF", &body[..10]];
+    meet(rt, "binary2", &large, &cut, &[b"\0\x52", PURCHASE])
+}
+
 #[test]
 fn a_peer_may_send_the_largest_frames(rt: HostRuntime) -> Result<(), Fail> {
     for (name, byte) in [("zeros", 0x30u8), ("bytes that are no digits", 0xFF)] {
-        let body = vec![in rt.alloc(); byte; 65_535]?;
-        let large = [b"\xFF\xFF", body.as_slice()];
-        let cut = [b"\xFF\xFF", &body[..10]];
-        let met = meet(&rt, "binary2", &large, &cut, &[b"\0\x52", PURCHASE])?;
-        let unreadable: &[u8] = b"frames=1 answered=0 silent=0 unreadable=1\n";
-        let faults = b"refused: CutFrame\n";
-        check_told(&rt, &met.ended, &[unreadable, ONE_ANSWERED], faults, name)?;
+        let met = meet_large(&rt, byte)?;
+        let lines = [ONE_UNREADABLE, ONE_ANSWERED];
+        check_told(&rt, &met.ended, &lines, b"refused: CutFrame\n", name)?;
         check_answers(&rt, &met.first, &[], name)?;
         check_answers(&rt, &met.second, &[], name)?;
         check_answers(&rt, &met.third, &[b"\0\x5A", GRANTED], name)?;
@@ -197,21 +232,30 @@ fn many_frames(alloc: Global) -> Result<Vec<u8>, Fail> {
     join(alloc, &[frame.as_slice(); 1_000])
 }
 
-#[test]
-fn a_peer_that_is_gone_loses_its_answers_alone(rt: HostRuntime) -> Result<(), Fail> {
-    let listener = TcpListener::bind(&rt, "127.0.0.1:0")?;
+/// Serves a peer that is gone before its answers, and one that sends the repeat.
+fn meet_gone(rt: &HostRuntime) -> Result<OneMet, Fail> {
+    let listener = listen(rt)?;
     let many = many_frames(rt.alloc())?;
     // closed on both sides, so that an answer is met by a reset
-    drop(peer(&rt, &listener, &[&many])?);
-    let mut next = peer(&rt, &listener, &[b"0082", REPEAT])?;
-    let ended = serve_first(rt.alloc(), &listener, "ascii4", 2)?;
-    check_told(&rt, &ended, &[ONE_ANSWERED], b"failed: Write\n", "the host")?;
-    check_answers(
+    drop(peer(rt, &listener, &[&many])?);
+    let mut next = peer(rt, &listener, &[b"0082", REPEAT])?;
+    Ok(OneMet {
+        ended: serve_first(rt.alloc(), &listener, "ascii4", 2)?,
+        answered: answers(rt.alloc(), &mut next)?,
+    })
+}
+
+#[test]
+fn a_peer_that_is_gone_loses_its_answers_alone(rt: HostRuntime) -> Result<(), Fail> {
+    let met = meet_gone(&rt)?;
+    check_told(
         &rt,
-        &answers(rt.alloc(), &mut next)?,
-        &[b"0090", GRANTED],
-        "the next peer",
+        &met.ended,
+        &[ONE_ANSWERED],
+        b"failed: Write\n",
+        "the host",
     )?;
-    assert_eq!(rt; ended.entries, 1);
+    check_answers(&rt, &met.answered, &[b"0090", GRANTED], "the next peer")?;
+    assert!(rt; met.ended.entries == 1);
     Ok(())
 }

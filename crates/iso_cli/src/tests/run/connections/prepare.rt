@@ -38,24 +38,34 @@ fn held_by(alloc: Global, words: &[&str]) -> Result<(Held, Vec<u8>), Fail> {
     Ok((held, told))
 }
 
-#[test]
-fn a_host_has_what_the_words_name(rt: HostRuntime) -> Result<(), Fail> {
-    for (name, port, count, wanted_port, wanted_count) in [
-        ("as it is written", "8583", "3", 8583u16, 3u32),
+/// A port and a count as they are written, and what they say.
+fn numbers() -> [(&'static str, &'static str, &'static str, u16, u32); 5] {
+    [
+        ("as it is written", "8583", "3", 8583, 3),
         ("the least", "1", "1", 1, 1),
         ("the most", "65535", "1000", 65_535, 1_000),
         ("a plus in front", "+8583", "+3", 8583, 3),
         ("zeros in front", "08583", "0003", 8583, 3),
-    ] {
-        let words = ["serve", "ascii87", "accounts.json", "ascii4", port, count];
-        let (held, told) = held_by(rt.alloc(), &words)?;
-        assert_eq!(rt; held.port, wanted_port, "{name}");
-        assert_eq!(rt; held.count, wanted_count, "{name}");
-        assert_eq!(rt; held.header, Header::Ascii4, "{name}");
-        assert_eq!(rt; held.rows, 126, "{name}");
-        assert_eq!(rt; held.entries, 0, "{name}");
-        assert_eq!(rt; held.ledger, Some(5000), "{name}");
-        assert_eq!(rt; told.as_slice(), b"".as_slice(), "{name}");
+    ]
+}
+
+/// What a host holds by this port and this count, and the fault line.
+fn held_at(alloc: Global, port: &str, count: &str) -> Result<(Held, Vec<u8>), Fail> {
+    let words = ["serve", "ascii87", "accounts.json", "ascii4", port, count];
+    held_by(alloc, &words)
+}
+
+#[test]
+fn a_host_has_what_the_words_name(rt: HostRuntime) -> Result<(), Fail> {
+    for (name, port, count, wanted_port, wanted_count) in numbers() {
+        let (held, told) = held_at(rt.alloc(), port, count)?;
+        assert!(rt; held.port == wanted_port, "{name}");
+        assert!(rt; held.count == wanted_count, "{name}");
+        assert!(rt; held.header == Header::Ascii4, "{name}");
+        assert!(rt; held.rows == 126, "{name}");
+        assert!(rt; held.entries == 0, "{name}");
+        assert!(rt; held.ledger == Some(5000), "{name}");
+        assert!(rt; told.as_slice() == b"".as_slice(), "{name}");
     }
     Ok(())
 }
