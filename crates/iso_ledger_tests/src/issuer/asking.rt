@@ -10,7 +10,7 @@ pub type Reply = (u8, u32, Option<i64>);
 /// The ledger of an account, and what is available.
 pub type OnAccount = (Option<i64>, Option<i64>);
 
-/// What is asked on the account, in currency 840, unless it says otherwise. Each but a debit begins with its trace number.
+/// What is asked on the account, in currency 840, unless it says otherwise. The first `u32` is its own trace number.
 #[derive(Clone, Copy, Debug)]
 pub enum Ask {
     /// The type of its message, its trace number and an amount.
