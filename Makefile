@@ -8,7 +8,7 @@
 # make peers   bad peers of a host on a port, each before a good one; builds the command
 # make library  proves the library for C and what it stands on, and builds it: crates/iso_c/out/libiso_c.a
 # make check   proves what changed since the last check
-# make prove   the whole gate: every proof, must-fail edit, test and program, from nothing; RT_JOBS=2 for two checks at a time
+# make prove   the whole gate: every proof, must-fail edit, test and program, from nothing; a check a core, RT_JOBS=2 for fewer
 # make memory  each call that can want memory, and each command, with each of its growths refused in turn
 # make loopback  how long a round trip on a port takes, and the memory of a host over many connections: ROUNDS=1000 for fewer
 # make bench   how fast the streams, the codec and the issuer are: ORDERS=2000 SIZES="100 1000" for fewer orders
@@ -31,6 +31,7 @@ ALL_ROUNDS := 100000
 ORDERS := $(ALL_ORDERS)
 SIZES := $(ALL_SIZES)
 ROUNDS := $(ALL_ROUNDS)
+RT_JOBS ?= $(shell nproc)
 
 # the page that whole runs write
 ifeq ($(ORDERS) of $(SIZES),$(ALL_ORDERS) of $(ALL_SIZES))
@@ -88,7 +89,7 @@ check:
 	rt all check
 
 prove:
-	rt ci
+	RT_JOBS=$(RT_JOBS) rt ci
 
 memory:
 	@scripts/memory.sh calls
