@@ -105,22 +105,20 @@ fn lengths_are_judged(rt: HostRuntime) -> Result<(), Fail> {
     Ok(())
 }
 
-fn bodies() -> [(
+const BODIES: [(
     &'static str,
     &'static [u8],
     Result<Option<usize>, FieldFault>,
-); 4] {
-    [
-        (
-            "three digits, and a byte behind",
-            b"\x01\x23\x45",
-            Ok(Some(2)),
-        ),
-        ("one byte of two", b"\x01", Ok(None)),
-        ("a filler 1", b"\x11\x23", Err(FieldFault::BadFiller)),
-        ("a nibble A", b"\x01\x2A", Err(FieldFault::NotInClass)),
-    ]
-}
+); 4] = [
+    (
+        "three digits, and a byte behind",
+        b"\x01\x23\x45",
+        Ok(Some(2)),
+    ),
+    ("one byte of two", b"\x01", Ok(None)),
+    ("a filler 1", b"\x11\x23", Err(FieldFault::BadFiller)),
+    ("a nibble A", b"\x01\x2A", Err(FieldFault::NotInClass)),
+];
 
 /// Whether three packed digits are judged so.
 fn are_three_digits(bytes: &[u8], want: Result<Option<usize>, FieldFault>) -> bool {
@@ -130,7 +128,7 @@ fn are_three_digits(bytes: &[u8], want: Result<Option<usize>, FieldFault>) -> bo
 
 #[test]
 fn bodies_are_judged(rt: HostRuntime) -> Result<(), Fail> {
-    for (name, bytes, want) in &bodies() {
+    for (name, bytes, want) in &BODIES {
         assert!(rt; are_three_digits(bytes, *want), "{name}");
     }
     Ok(())
