@@ -139,48 +139,50 @@ struct TypeCase {
     class: MtiClass,
 }
 
-const TYPES: [TypeCase; 5] = [
-    TypeCase {
-        name: "a reversal's repeat",
-        number: 421,
-        base: 420,
-        is_repeat: true,
-        response: Some(430),
-        class: MtiClass::Reversal,
-    },
-    TypeCase {
-        name: "a financial request, with an odd origin",
-        number: 207,
-        base: 206,
-        is_repeat: true,
-        response: Some(216),
-        class: MtiClass::Financial,
-    },
-    TypeCase {
-        name: "a financial response",
-        number: 210,
-        base: 210,
-        is_repeat: false,
-        response: None,
-        class: MtiClass::Financial,
-    },
-    TypeCase {
-        name: "the echo test",
-        number: 800,
-        base: 800,
-        is_repeat: false,
-        response: Some(810),
-        class: MtiClass::NetworkManagement,
-    },
-    TypeCase {
-        name: "private use, with a digit without a meaning",
-        number: 9920,
-        base: 9920,
-        is_repeat: false,
-        response: Some(9930),
-        class: MtiClass::Reserved(9),
-    },
-];
+fn types() -> [TypeCase; 5] {
+    [
+        TypeCase {
+            name: "a reversal's repeat",
+            number: 421,
+            base: 420,
+            is_repeat: true,
+            response: Some(430),
+            class: MtiClass::Reversal,
+        },
+        TypeCase {
+            name: "a financial request, with an odd origin",
+            number: 207,
+            base: 206,
+            is_repeat: true,
+            response: Some(216),
+            class: MtiClass::Financial,
+        },
+        TypeCase {
+            name: "a financial response",
+            number: 210,
+            base: 210,
+            is_repeat: false,
+            response: None,
+            class: MtiClass::Financial,
+        },
+        TypeCase {
+            name: "the echo test",
+            number: 800,
+            base: 800,
+            is_repeat: false,
+            response: Some(810),
+            class: MtiClass::NetworkManagement,
+        },
+        TypeCase {
+            name: "private use, with a digit without a meaning",
+            number: 9920,
+            base: 9920,
+            is_repeat: false,
+            response: Some(9930),
+            class: MtiClass::Reserved(9),
+        },
+    ]
+}
 
 fn is_type(number: u16) -> bool {
     Mti::from_digits(number).is_some()
@@ -217,7 +219,7 @@ fn has_class(number: u16, class: MtiClass) -> bool {
 #[test]
 fn message_types(rt: HostRuntime) -> Result<(), Fail> {
     assert!(rt; !is_type(10000), "five digits");
-    for case in &TYPES {
+    for case in &types() {
         let (name, number) = (case.name, case.number);
         assert!(rt; has_number(number), "{name}: its number");
         assert!(rt;
@@ -230,15 +232,17 @@ fn message_types(rt: HostRuntime) -> Result<(), Fail> {
     Ok(())
 }
 
-const TYPE_TEXTS: [(&'static str, &'static [u8], Option<u16>); 7] = [
-    ("the echo test", b"0800", Some(800)),
-    ("private use", b"9920", Some(9920)),
-    ("three digits", b"800", None),
-    ("five digits", b"00800", None),
-    ("a letter in place of a zero", b"O800", None),
-    ("the byte behind a nine", b"080:", None),
-    ("packed digits", b"\x08\x00", None),
-];
+fn type_texts() -> [(&'static str, &'static [u8], Option<u16>); 7] {
+    [
+        ("the echo test", b"0800", Some(800)),
+        ("private use", b"9920", Some(9920)),
+        ("three digits", b"800", None),
+        ("five digits", b"00800", None),
+        ("a letter in place of a zero", b"O800", None),
+        ("the byte behind a nine", b"080:", None),
+        ("packed digits", b"\x08\x00", None),
+    ]
+}
 
 fn tells_number(text: &[u8], number: Option<u16>) -> bool {
     Mti::from_text(text).map(|mti| mti.number()) == number
@@ -246,20 +250,22 @@ fn tells_number(text: &[u8], number: Option<u16>) -> bool {
 
 #[test]
 fn types_are_read_from_text(rt: HostRuntime) {
-    for (name, text, number) in &TYPE_TEXTS {
+    for (name, text, number) in &type_texts() {
         assert!(rt; tells_number(text, *number), "{name}");
     }
 }
 
-const PREFIX_SIZES: [(&'static str, Length, usize); 7] = [
-    ("none", Length::Fixed, 0),
-    ("two digits", Length::LL(Digits::Ascii), 2),
-    ("two digits under BCD", Length::LL(Digits::Bcd), 1),
-    ("three digits", Length::LLL(Digits::Ascii), 3),
-    ("three digits under BCD", Length::LLL(Digits::Bcd), 2),
-    ("four digits", Length::LLLL(Digits::Ascii), 4),
-    ("four digits under BCD", Length::LLLL(Digits::Bcd), 2),
-];
+fn prefix_sizes() -> [(&'static str, Length, usize); 7] {
+    [
+        ("none", Length::Fixed, 0),
+        ("two digits", Length::LL(Digits::Ascii), 2),
+        ("two digits under BCD", Length::LL(Digits::Bcd), 1),
+        ("three digits", Length::LLL(Digits::Ascii), 3),
+        ("three digits under BCD", Length::LLL(Digits::Bcd), 2),
+        ("four digits", Length::LLLL(Digits::Ascii), 4),
+        ("four digits under BCD", Length::LLLL(Digits::Bcd), 2),
+    ]
+}
 
 fn takes_bytes(length: Length, size: usize) -> bool {
     length.prefix_size() == size
@@ -267,7 +273,7 @@ fn takes_bytes(length: Length, size: usize) -> bool {
 
 #[test]
 fn lengths_take_bytes(rt: HostRuntime) {
-    for (name, length, size) in &PREFIX_SIZES {
+    for (name, length, size) in &prefix_sizes() {
         assert!(rt; takes_bytes(*length, *size), "{name}");
     }
 }

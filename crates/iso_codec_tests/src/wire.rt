@@ -117,73 +117,77 @@ fn packed(alloc: Global) -> Result<Table, TableFault> {
     table(alloc, 0, Digits::Bcd, BitmapCoding::Raw, &rows)
 }
 
-const ASCII_CASES: [Case; 5] = [
-    Case {
-        name: "echo",
-        bytes: ECHO,
-        used: 55,
-        elements: &[(7, b"0102030405"), (11, b"000001"), (70, b"301")],
-        plain: ECHO,
-    },
-    Case {
-        name: "payment",
-        bytes: PAYMENT,
-        used: 82,
-        elements: &[
-            (2, b"4111111111111111"),
-            (3, b"000000"),
-            (4, b"000000001000"),
-            (7, b"0102030405"),
-            (11, b"000007"),
-            (32, b"12345"),
-            (49, b"840"),
-        ],
-        plain: PAYMENT,
-    },
-    Case {
-        name: "no element",
-        bytes: b"08000000000000000000",
-        used: 20,
-        elements: &[],
-        plain: b"08000000000000000000",
-    },
-    Case {
-        name: "an empty secondary bitmap",
-        bytes: b"080080000000000000000000000000000000",
-        used: 36,
-        elements: &[],
-        plain: b"08000000000000000000",
-    },
-    Case {
-        name: "a bitmap in lower case, and bytes behind",
-        bytes: b"0800022a000000000000010203040500000101020103XYZ",
-        used: 44,
-        elements: &[
-            (7, b"0102030405"),
-            (11, b"000001"),
-            (13, b"0102"),
-            (15, b"0103"),
-        ],
-        plain: b"0800022A000000000000010203040500000101020103",
-    },
-];
+fn ascii_cases() -> [Case; 5] {
+    [
+        Case {
+            name: "echo",
+            bytes: ECHO,
+            used: 55,
+            elements: &[(7, b"0102030405"), (11, b"000001"), (70, b"301")],
+            plain: ECHO,
+        },
+        Case {
+            name: "payment",
+            bytes: PAYMENT,
+            used: 82,
+            elements: &[
+                (2, b"4111111111111111"),
+                (3, b"000000"),
+                (4, b"000000001000"),
+                (7, b"0102030405"),
+                (11, b"000007"),
+                (32, b"12345"),
+                (49, b"840"),
+            ],
+            plain: PAYMENT,
+        },
+        Case {
+            name: "no element",
+            bytes: b"08000000000000000000",
+            used: 20,
+            elements: &[],
+            plain: b"08000000000000000000",
+        },
+        Case {
+            name: "an empty secondary bitmap",
+            bytes: b"080080000000000000000000000000000000",
+            used: 36,
+            elements: &[],
+            plain: b"08000000000000000000",
+        },
+        Case {
+            name: "a bitmap in lower case, and bytes behind",
+            bytes: b"0800022a000000000000010203040500000101020103XYZ",
+            used: 44,
+            elements: &[
+                (7, b"0102030405"),
+                (11, b"000001"),
+                (13, b"0102"),
+                (15, b"0103"),
+            ],
+            plain: b"0800022A000000000000010203040500000101020103",
+        },
+    ]
+}
 
-const PACKED_CASES: [Case; 2] = [
-    Case {
-        name: "echo under BCD",
-        bytes: b"\x08\x00\x82\x20\0\0\0\0\0\0\x04\0\0\0\0\0\0\0\x01\x02\x03\x04\x05\0\0\x01\x03\x01",
-        used: 28,
-        elements: &[(7, b"0102030405"), (11, b"000001"), (70, b"301")],
-        plain: b"\x08\x00\x82\x20\0\0\0\0\0\0\x04\0\0\0\0\0\0\0\x01\x02\x03\x04\x05\0\0\x01\x03\x01",
-    },
-    Case {
-        name: "filler F",
-        bytes: b"\x08\x00\x82\x20\0\0\0\0\0\0\x04\0\0\0\0\0\0\0\x01\x02\x03\x04\x05\0\0\x01\xF3\x01",
-        used: 28,
-        elements: &[(7, b"0102030405"), (11, b"000001"), (70, b"301")],
-        plain: b"\x08\x00\x82\x20\0\0\0\0\0\0\x04\0\0\0\0\0\0\0\x01\x02\x03\x04\x05\0\0\x01\x03\x01",
-    },
-];
+fn packed_cases() -> [Case; 2] {
+    [
+        Case {
+            name: "echo under BCD",
+            bytes: b"\x08\x00\x82\x20\0\0\0\0\0\0\x04\0\0\0\0\0\0\0\x01\x02\x03\x04\x05\0\0\x01\x03\x01",
+            used: 28,
+            elements: &[(7, b"0102030405"), (11, b"000001"), (70, b"301")],
+            plain: b"\x08\x00\x82\x20\0\0\0\0\0\0\x04\0\0\0\0\0\0\0\x01\x02\x03\x04\x05\0\0\x01\x03\x01",
+        },
+        Case {
+            name: "filler F",
+            bytes: b"\x08\x00\x82\x20\0\0\0\0\0\0\x04\0\0\0\0\0\0\0\x01\x02\x03\x04\x05\0\0\x01\xF3\x01",
+            used: 28,
+            elements: &[(7, b"0102030405"), (11, b"000001"), (70, b"301")],
+            plain: b"\x08\x00\x82\x20\0\0\0\0\0\0\x04\0\0\0\0\0\0\0\x01\x02\x03\x04\x05\0\0\x01\x03\x01",
+        },
+    ]
+}
 
 /// The value that the elements give a number, if they have it.
 fn value_in<'a>(elements: &[(u8, &'a [u8])], n: u8) -> Option<&'a [u8]> {
@@ -321,7 +325,7 @@ fn is_rewritten(alloc: Global, table: &Table, case: &Case) -> Result<bool, Fail>
 #[test]
 fn messages_are_read_and_written(rt: HostRuntime) -> Result<(), Fail> {
     let table = ascii(rt.alloc())?;
-    for case in &ASCII_CASES {
+    for case in &ascii_cases() {
         let name = case.name;
         assert!(rt; is_read(rt.alloc(), &table, case)?, "{name}: read");
         assert!(rt; is_rewritten(rt.alloc(), &table, case)?, "{name}: written");
@@ -332,7 +336,7 @@ fn messages_are_read_and_written(rt: HostRuntime) -> Result<(), Fail> {
 #[test]
 fn packed_messages_are_read_and_written(rt: HostRuntime) -> Result<(), Fail> {
     let table = packed(rt.alloc())?;
-    for case in &PACKED_CASES {
+    for case in &packed_cases() {
         let name = case.name;
         assert!(rt; is_read(rt.alloc(), &table, case)?, "{name}: read");
         assert!(rt; is_rewritten(rt.alloc(), &table, case)?, "{name}: written");

@@ -105,20 +105,22 @@ fn lengths_are_judged(rt: HostRuntime) -> Result<(), Fail> {
     Ok(())
 }
 
-const BODIES: [(
+fn bodies() -> [(
     &'static str,
     &'static [u8],
     Result<Option<usize>, FieldFault>,
-); 4] = [
-    (
-        "three digits, and a byte behind",
-        b"\x01\x23\x45",
-        Ok(Some(2)),
-    ),
-    ("one byte of two", b"\x01", Ok(None)),
-    ("a filler 1", b"\x11\x23", Err(FieldFault::BadFiller)),
-    ("a nibble A", b"\x01\x2A", Err(FieldFault::NotInClass)),
-];
+); 4] {
+    [
+        (
+            "three digits, and a byte behind",
+            b"\x01\x23\x45",
+            Ok(Some(2)),
+        ),
+        ("one byte of two", b"\x01", Ok(None)),
+        ("a filler 1", b"\x11\x23", Err(FieldFault::BadFiller)),
+        ("a nibble A", b"\x01\x2A", Err(FieldFault::NotInClass)),
+    ]
+}
 
 /// Whether three packed digits are judged so.
 fn are_three_digits(bytes: &[u8], want: Result<Option<usize>, FieldFault>) -> bool {
@@ -128,7 +130,7 @@ fn are_three_digits(bytes: &[u8], want: Result<Option<usize>, FieldFault>) -> bo
 
 #[test]
 fn bodies_are_judged(rt: HostRuntime) -> Result<(), Fail> {
-    for (name, bytes, want) in &BODIES {
+    for (name, bytes, want) in &bodies() {
         assert!(rt; are_three_digits(bytes, *want), "{name}");
     }
     Ok(())

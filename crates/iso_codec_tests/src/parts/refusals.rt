@@ -160,18 +160,20 @@ fn bytes_are_refused(rt: HostRuntime) -> Result<(), Fail> {
     Ok(())
 }
 
-const UNFINISHED_PARTS: [(&'static str, &'static [u8]); 4] = [
-    ("no byte", b""),
-    ("half a length", b"1"),
-    ("a length alone", b"03"),
-    ("a body without its end", b"0312"),
-];
+fn unfinished_parts() -> [(&'static str, &'static [u8]); 4] {
+    [
+        ("no byte", b""),
+        ("half a length", b"1"),
+        ("a length alone", b"03"),
+        ("a body without its end", b"0312"),
+    ]
+}
 
 #[test]
 fn bytes_are_missing(rt: HostRuntime) -> Result<(), Fail> {
     let ascii = number(Coding::Ascii, Length::LL(Digits::Ascii), 19);
     assert!(rt; is_good(&ascii));
-    for (name, part) in &UNFINISHED_PARTS {
+    for (name, part) in &unfinished_parts() {
         let is_cut = is_decoded(rt.alloc(), &ascii, *part, Ok(None), b"")?;
         assert!(rt; is_cut, "{name}");
     }

@@ -171,101 +171,105 @@ fn is_refused(alloc: Global, text: &[u8], fault: TableFault) -> bool {
 type Refused = (&'static str, &'static str, &'static str, TableFault);
 
 /// Edits of the document of one row. `:1` stands at the profile alone, and `:0` at the version.
-const REFUSED_DOCUMENTS: [Refused; 20] = [
-    ("empty text", TERMINAL, "", NotJson),
-    ("an object cut short", TERMINAL, "{", NotJson),
-    ("text behind the object", ":0}", ":0}0", NotJson),
-    ("no JSON, and profile 7", ":1,", ":7", NotJson),
-    ("an array", TERMINAL, "[]", Shape),
-    ("no profile", r#""profile":1,"#, "", Shape),
-    ("a profile below zero", ":1", ":-1", Shape),
-    ("a profile above 65535", ":1", ":65536", Shape),
-    ("profile 7", ":1", ":7", Profile),
-    ("profile 0", ":1", ":0", Profile),
-    ("profile 3", ":1", ":3", Profile),
-    ("profile 2 alone", TERMINAL, r#"{"profile":2}"#, Shape),
-    ("profile 7 alone", TERMINAL, r#"{"profile":7}"#, Profile),
-    ("profile 1 alone", TERMINAL, r#"{"profile":1}"#, Shape),
-    ("an unknown member", ":0", r#":0,"owner":"acquirer""#, Shape),
-    (
-        "an unknown member for a known one",
-        "version",
-        "edition",
-        Shape,
-    ),
-    ("version 256", ":0", ":256", Shape),
-    ("version 3", ":0", ":3", BadVersion),
-    (
-        "another kind of digits",
-        r#""mti":"ascii""#,
-        r#""mti":"ASCII""#,
-        Shape,
-    ),
-    ("another bitmap", r#""hex""#, r#""bcd""#, Shape),
-];
+fn refused_documents() -> [Refused; 20] {
+    [
+        ("empty text", TERMINAL, "", NotJson),
+        ("an object cut short", TERMINAL, "{", NotJson),
+        ("text behind the object", ":0}", ":0}0", NotJson),
+        ("no JSON, and profile 7", ":1,", ":7", NotJson),
+        ("an array", TERMINAL, "[]", Shape),
+        ("no profile", r#""profile":1,"#, "", Shape),
+        ("a profile below zero", ":1", ":-1", Shape),
+        ("a profile above 65535", ":1", ":65536", Shape),
+        ("profile 7", ":1", ":7", Profile),
+        ("profile 0", ":1", ":0", Profile),
+        ("profile 3", ":1", ":3", Profile),
+        ("profile 2 alone", TERMINAL, r#"{"profile":2}"#, Shape),
+        ("profile 7 alone", TERMINAL, r#"{"profile":7}"#, Profile),
+        ("profile 1 alone", TERMINAL, r#"{"profile":1}"#, Shape),
+        ("an unknown member", ":0", r#":0,"owner":"acquirer""#, Shape),
+        (
+            "an unknown member for a known one",
+            "version",
+            "edition",
+            Shape,
+        ),
+        ("version 256", ":0", ":256", Shape),
+        ("version 3", ":0", ":3", BadVersion),
+        (
+            "another kind of digits",
+            r#""mti":"ascii""#,
+            r#""mti":"ASCII""#,
+            Shape,
+        ),
+        ("another bitmap", r#""hex""#, r#""bcd""#, Shape),
+    ]
+}
 
 /// Edits of its rows alone, but for the last two.
-const REFUSED_ROWS: [Refused; 26] = [
-    ("rows that are no array", ROWS, "{}", Shape),
-    ("a row that is no object", ROWS, "[41]", Shape),
-    (
-        "an unknown member of a row",
-        "41",
-        r#"41,"name":"terminal""#,
-        Shape,
-    ),
-    (
-        "a prefix behind fixed",
-        "}]",
-        r#","prefix":"ascii"}]"#,
-        Shape,
-    ),
-    ("no prefix behind LLL", "fixed", "LLL", Shape),
-    ("another class", "ANS", "ans", Shape),
-    (
-        "another coding",
-        r#""coding":"ascii""#,
-        r#""coding":"text""#,
-        Shape,
-    ),
-    ("another length", "fixed", "LLLL", Shape),
-    ("a number written 41.0", "41", "41.0", Shape),
-    ("a number written 41e0", "41", "41e0", Shape),
-    ("a number of 20 digits", "41", "41000000000000000000", Shape),
-    ("a number in quotes", "41", r#""41""#, Shape),
-    ("number 65536", "41", "65536", Shape),
-    ("number 65535", "41", "65535", BadNumber(65535)),
-    ("number 65", "41", "65", BadNumber(65)),
-    ("a maximum above 65535", "8", "65536", Shape),
-    ("maximum 0", "8", "0", BadMax(41)),
-    ("a pad of one digit", "right:20", "right:2", Shape),
-    ("a pad of three digits", "right:20", "right:200", Shape),
-    ("a pad of other digits", "right:20", "right:2g", Shape),
-    ("a pad on neither side", "right:20", "both:20", Shape),
-    ("a pad that no text has", "20", "7F", PadNotAllowed(41)),
-    ("bytes in ASCII", "ANS", "B", CodingClass(41)),
-    ("a row twice", ROWS, ROW_TWICE, Twice(41)),
-    (
-        "version 3 and a row that is none",
-        r#"}],"version":0"#,
-        r#"},41],"version":3"#,
-        Shape,
-    ),
-    (
-        "version 3 and row 65",
-        r#"41,"pad":"right:20"}],"version":0"#,
-        r#"65,"pad":"right:20"}],"version":3"#,
-        BadVersion,
-    ),
-];
+fn refused_rows() -> [Refused; 26] {
+    [
+        ("rows that are no array", ROWS, "{}", Shape),
+        ("a row that is no object", ROWS, "[41]", Shape),
+        (
+            "an unknown member of a row",
+            "41",
+            r#"41,"name":"terminal""#,
+            Shape,
+        ),
+        (
+            "a prefix behind fixed",
+            "}]",
+            r#","prefix":"ascii"}]"#,
+            Shape,
+        ),
+        ("no prefix behind LLL", "fixed", "LLL", Shape),
+        ("another class", "ANS", "ans", Shape),
+        (
+            "another coding",
+            r#""coding":"ascii""#,
+            r#""coding":"text""#,
+            Shape,
+        ),
+        ("another length", "fixed", "LLLL", Shape),
+        ("a number written 41.0", "41", "41.0", Shape),
+        ("a number written 41e0", "41", "41e0", Shape),
+        ("a number of 20 digits", "41", "41000000000000000000", Shape),
+        ("a number in quotes", "41", r#""41""#, Shape),
+        ("number 65536", "41", "65536", Shape),
+        ("number 65535", "41", "65535", BadNumber(65535)),
+        ("number 65", "41", "65", BadNumber(65)),
+        ("a maximum above 65535", "8", "65536", Shape),
+        ("maximum 0", "8", "0", BadMax(41)),
+        ("a pad of one digit", "right:20", "right:2", Shape),
+        ("a pad of three digits", "right:20", "right:200", Shape),
+        ("a pad of other digits", "right:20", "right:2g", Shape),
+        ("a pad on neither side", "right:20", "both:20", Shape),
+        ("a pad that no text has", "20", "7F", PadNotAllowed(41)),
+        ("bytes in ASCII", "ANS", "B", CodingClass(41)),
+        ("a row twice", ROWS, ROW_TWICE, Twice(41)),
+        (
+            "version 3 and a row that is none",
+            r#"}],"version":0"#,
+            r#"},41],"version":3"#,
+            Shape,
+        ),
+        (
+            "version 3 and row 65",
+            r#"41,"pad":"right:20"}],"version":0"#,
+            r#"65,"pad":"right:20"}],"version":3"#,
+            BadVersion,
+        ),
+    ]
+}
 
 #[test]
 fn refuses_documents(rt: HostRuntime) -> Result<(), Fail> {
-    for (name, old, new, fault) in &REFUSED_DOCUMENTS {
+    for (name, old, new, fault) in &refused_documents() {
         let text = edited(&rt, rt.alloc(), old, new)?;
         assert!(rt; is_refused(rt.alloc(), text.as_bytes(), *fault), "{name}");
     }
-    for (name, old, new, fault) in &REFUSED_ROWS {
+    for (name, old, new, fault) in &refused_rows() {
         let text = edited(&rt, rt.alloc(), old, new)?;
         assert!(rt; is_refused(rt.alloc(), text.as_bytes(), *fault), "{name}");
     }
@@ -297,21 +301,23 @@ fn reads_text_alone(rt: HostRuntime) -> Result<(), Fail> {
 }
 
 /// Edits of the table with four digits of a length.
-const REFUSED_DIGITS: [Refused; 9] = [
-    ("profile 1", r#""profile":2"#, r#""profile":1"#, Shape),
-    ("five digits", "LLLL", "LLLLL", Shape),
-    ("lower case", "LLLL", "llll", Shape),
-    ("no prefix", r#","prefix":"ascii""#, "", Shape),
-    ("maximum 10000", "9999", "10000", BadMax(48)),
-    ("maximum 0", "9999", "0", BadMax(48)),
-    ("LLL", "LLLL", "LLL", BadMax(48)),
-    ("a pad", "none", "left:30", PadNotAllowed(48)),
-    ("text as digits", r#""B""#, r#""ANS""#, CodingClass(48)),
-];
+fn refused_digits() -> [Refused; 9] {
+    [
+        ("profile 1", r#""profile":2"#, r#""profile":1"#, Shape),
+        ("five digits", "LLLL", "LLLLL", Shape),
+        ("lower case", "LLLL", "llll", Shape),
+        ("no prefix", r#","prefix":"ascii""#, "", Shape),
+        ("maximum 10000", "9999", "10000", BadMax(48)),
+        ("maximum 0", "9999", "0", BadMax(48)),
+        ("LLL", "LLLL", "LLL", BadMax(48)),
+        ("a pad", "none", "left:30", PadNotAllowed(48)),
+        ("text as digits", r#""B""#, r#""ANS""#, CodingClass(48)),
+    ]
+}
 
 #[test]
 fn refuses_four_digits(rt: HostRuntime) -> Result<(), Fail> {
-    for (name, old, new, fault) in &REFUSED_DIGITS {
+    for (name, old, new, fault) in &refused_digits() {
         let text = edited_in(&rt, rt.alloc(), CHIP, old, new)?;
         assert!(rt; is_refused(rt.alloc(), text.as_bytes(), *fault), "{name}");
     }
@@ -325,15 +331,17 @@ fn rewritten(alloc: Global, document: &str) -> Result<Vec<u8>, Fail> {
 }
 
 /// Documents, and what is written of the tables that they give.
-const WRITTEN_DOCUMENTS: [(&'static str, &'static str, &'static str); 3] = [
-    ("profile 1", TERMINAL, WRITTEN),
-    ("profile 2", WRITTEN, WRITTEN),
-    ("four digits", CHIP, CHIP),
-];
+fn written_documents() -> [(&'static str, &'static str, &'static str); 3] {
+    [
+        ("profile 1", TERMINAL, WRITTEN),
+        ("profile 2", WRITTEN, WRITTEN),
+        ("four digits", CHIP, CHIP),
+    ]
+}
 
 #[test]
 fn writes_what_it_read(rt: HostRuntime) -> Result<(), Fail> {
-    for (name, document, written) in &WRITTEN_DOCUMENTS {
+    for (name, document, written) in &written_documents() {
         let text = rewritten(rt.alloc(), document)?;
         assert!(rt; text.as_slice() == written.as_bytes(), "{name}");
     }

@@ -107,82 +107,84 @@ const ALL_WRONG: FieldSpec = FieldSpec {
 /// A draft that is no table: its version, its rows, and the fault.
 type Refused = (&'static str, u8, &'static [(u16, FieldSpec)], TableFault);
 
-const REFUSED_DRAFTS: [Refused; 14] = [
-    (
-        "version 3 and row 65",
-        3,
-        &[(65, ACCOUNT)],
-        TableFault::BadVersion,
-    ),
-    ("number 0", 0, &[(0, ACCOUNT)], TableFault::BadNumber(0)),
-    ("number 1", 0, &[(1, ACCOUNT)], TableFault::BadNumber(1)),
-    (
-        "number 65 and too long",
-        0,
-        &[(65, TOO_LONG)],
-        TableFault::BadNumber(65),
-    ),
-    (
-        "number 129",
-        0,
-        &[(129, ACCOUNT)],
-        TableFault::BadNumber(129),
-    ),
-    (
-        "number 65535",
-        0,
-        &[(65535, ACCOUNT)],
-        TableFault::BadNumber(65535),
-    ),
-    (
-        "row 2 twice, then too long",
-        0,
-        &[(2, ACCOUNT), (2, TOO_LONG)],
-        TableFault::Twice(2),
-    ),
-    (
-        "LL with maximum 100",
-        0,
-        &[(2, TOO_LONG)],
-        TableFault::BadMax(2),
-    ),
-    (
-        "BCD text",
-        0,
-        &[(128, PACKED_TEXT)],
-        TableFault::CodingClass(128),
-    ),
-    (
-        "padding on LL",
-        0,
-        &[(64, PADDED)],
-        TableFault::PadNotAllowed(64),
-    ),
-    (
-        "maximum, coding and padding",
-        0,
-        &[(7, ALL_WRONG)],
-        TableFault::BadMax(7),
-    ),
-    (
-        "coding and padding",
-        0,
-        &[(7, PADDED_PACKED_TEXT)],
-        TableFault::CodingClass(7),
-    ),
-    (
-        "the first row's fault",
-        0,
-        &[(3, PADDED), (1, ACCOUNT)],
-        TableFault::PadNotAllowed(3),
-    ),
-    (
-        "the second row's fault",
-        2,
-        &[(3, ACCOUNT), (66, PACKED_TEXT)],
-        TableFault::CodingClass(66),
-    ),
-];
+fn refused_drafts() -> [Refused; 14] {
+    [
+        (
+            "version 3 and row 65",
+            3,
+            &[(65, ACCOUNT)],
+            TableFault::BadVersion,
+        ),
+        ("number 0", 0, &[(0, ACCOUNT)], TableFault::BadNumber(0)),
+        ("number 1", 0, &[(1, ACCOUNT)], TableFault::BadNumber(1)),
+        (
+            "number 65 and too long",
+            0,
+            &[(65, TOO_LONG)],
+            TableFault::BadNumber(65),
+        ),
+        (
+            "number 129",
+            0,
+            &[(129, ACCOUNT)],
+            TableFault::BadNumber(129),
+        ),
+        (
+            "number 65535",
+            0,
+            &[(65535, ACCOUNT)],
+            TableFault::BadNumber(65535),
+        ),
+        (
+            "row 2 twice, then too long",
+            0,
+            &[(2, ACCOUNT), (2, TOO_LONG)],
+            TableFault::Twice(2),
+        ),
+        (
+            "LL with maximum 100",
+            0,
+            &[(2, TOO_LONG)],
+            TableFault::BadMax(2),
+        ),
+        (
+            "BCD text",
+            0,
+            &[(128, PACKED_TEXT)],
+            TableFault::CodingClass(128),
+        ),
+        (
+            "padding on LL",
+            0,
+            &[(64, PADDED)],
+            TableFault::PadNotAllowed(64),
+        ),
+        (
+            "maximum, coding and padding",
+            0,
+            &[(7, ALL_WRONG)],
+            TableFault::BadMax(7),
+        ),
+        (
+            "coding and padding",
+            0,
+            &[(7, PADDED_PACKED_TEXT)],
+            TableFault::CodingClass(7),
+        ),
+        (
+            "the first row's fault",
+            0,
+            &[(3, PADDED), (1, ACCOUNT)],
+            TableFault::PadNotAllowed(3),
+        ),
+        (
+            "the second row's fault",
+            2,
+            &[(3, ACCOUNT), (66, PACKED_TEXT)],
+            TableFault::CodingClass(66),
+        ),
+    ]
+}
 
 fn is_refused(
     alloc: Global,
@@ -202,7 +204,7 @@ fn is_refused(
 
 #[test]
 fn refuses_drafts(rt: HostRuntime) -> Result<(), Fail> {
-    for (name, version, rows, fault) in &REFUSED_DRAFTS {
+    for (name, version, rows, fault) in &refused_drafts() {
         let is_refused = is_refused(rt.alloc(), *version, rows, *fault)?;
         assert!(rt; is_refused, "{name}");
     }

@@ -14,16 +14,18 @@ fn has_only(alloc: Global, document: &str, size: usize, pad: Option<&str>) -> Re
     }
 }
 
-const OBJECTS: [(&'static str, usize, Option<&'static str>); 4] = [
-    (r#"{"class":"N","pad":"none"}"#, 2, Some("none")),
-    (r#"{"pad":"left:2a","pad":"none"}"#, 1, Some("none")),
-    (r#"{"pad":20}"#, 1, None),
-    ("{}", 0, None),
-];
+fn objects() -> [(&'static str, usize, Option<&'static str>); 4] {
+    [
+        (r#"{"class":"N","pad":"none"}"#, 2, Some("none")),
+        (r#"{"pad":"left:2a","pad":"none"}"#, 1, Some("none")),
+        (r#"{"pad":20}"#, 1, None),
+        ("{}", 0, None),
+    ]
+}
 
 #[test]
 fn members_of_an_object(rt: HostRuntime) -> Result<(), Fail> {
-    for (document, size, pad) in &OBJECTS {
+    for (document, size, pad) in &objects() {
         assert!(rt; has_only(rt.alloc(), document, *size, *pad)?, "{document}");
     }
     assert!(rt; !is_empty(rt.alloc(), "[]")?, "a list is no object");

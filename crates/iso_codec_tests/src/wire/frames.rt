@@ -20,28 +20,30 @@ fn closed(alloc: Global, header: Header, body: &[u8]) -> Result<Vec<u8>, FrameFa
 /// A body behind a header, and the frame.
 type FrameCase = (&'static str, Header, &'static [u8], &'static [u8]);
 
-const FRAMES: [FrameCase; 5] = [
-    (
-        "an echo behind two bytes",
-        Binary2,
-        ECHO,
-        b"\x00\x370800822000000000000004000000000000000102030405000001301",
-    ),
-    (
-        "an echo behind four digits",
-        Ascii4,
-        ECHO,
-        b"00550800822000000000000004000000000000000102030405000001301",
-    ),
-    (
-        "an echo behind two bytes of digits",
-        Bcd2,
-        ECHO,
-        b"\x00\x550800822000000000000004000000000000000102030405000001301",
-    ),
-    ("nothing behind two bytes", Binary2, b"", b"\x00\x00"),
-    ("nothing behind four digits", Ascii4, b"", b"0000"),
-];
+fn frames() -> [FrameCase; 5] {
+    [
+        (
+            "an echo behind two bytes",
+            Binary2,
+            ECHO,
+            b"\x00\x370800822000000000000004000000000000000102030405000001301",
+        ),
+        (
+            "an echo behind four digits",
+            Ascii4,
+            ECHO,
+            b"00550800822000000000000004000000000000000102030405000001301",
+        ),
+        (
+            "an echo behind two bytes of digits",
+            Bcd2,
+            ECHO,
+            b"\x00\x550800822000000000000004000000000000000102030405000001301",
+        ),
+        ("nothing behind two bytes", Binary2, b"", b"\x00\x00"),
+        ("nothing behind four digits", Ascii4, b"", b"0000"),
+    ]
+}
 
 fn is_framed(alloc: Global, header: Header, body: &[u8], want: &[u8]) -> Result<bool, Fail> {
     Ok(frame(alloc, header, body)?.as_slice() == want)
@@ -58,7 +60,7 @@ fn is_unframed(header: Header, bytes: &[u8], want: Result<Framed<'_>, FrameFault
 
 #[test]
 fn bodies_are_framed(rt: HostRuntime) -> Result<(), Fail> {
-    for (name, header, body, want) in &FRAMES {
+    for (name, header, body, want) in &frames() {
         assert!(rt; is_framed(rt.alloc(), *header, body, want)?, "{name}");
         assert!(rt;
             is_closed(rt.alloc(), *header, body, want)?,
@@ -74,15 +76,17 @@ fn bodies_are_framed(rt: HostRuntime) -> Result<(), Fail> {
 /// A header before a body of so many bytes, and its bytes.
 type LongCase = (Header, usize, Result<&'static [u8], FrameFault>);
 
-const LONG_FRAMES: [LongCase; 7] = [
-    (Binary2, 10_000, Ok(b"\x27\x10")),
-    (Ascii4, 10_000, Err(TooLong)),
-    (Bcd2, 10_000, Err(TooLong)),
-    (Ascii4, 9_999, Ok(b"9999")),
-    (Bcd2, 9_999, Ok(b"\x99\x99")),
-    (Binary2, 65_535, Ok(b"\xFF\xFF")),
-    (Binary2, 65_536, Err(TooLong)),
-];
+fn long_frames() -> [LongCase; 7] {
+    [
+        (Binary2, 10_000, Ok(b"\x27\x10")),
+        (Ascii4, 10_000, Err(TooLong)),
+        (Bcd2, 10_000, Err(TooLong)),
+        (Ascii4, 9_999, Ok(b"9999")),
+        (Bcd2, 9_999, Ok(b"\x99\x99")),
+        (Binary2, 65_535, Ok(b"\xFF\xFF")),
+        (Binary2, 65_536, Err(TooLong)),
+    ]
+}
 
 /// Whether a body of so many bytes has that header, or is refused so.
 fn has_header(
@@ -103,7 +107,7 @@ fn has_header(
 
 #[test]
 fn long_bodies(rt: HostRuntime) -> Result<(), Fail> {
-    for (header, length, want) in &LONG_FRAMES {
+    for (header, length, want) in &long_frames() {
         let is_made = has_header(rt.alloc(), *header, *length, *want)?;
         assert!(rt; is_made, "{header:?} before {length} bytes");
     }
@@ -118,57 +122,59 @@ type Unframed = (
     Result<Framed<'static>, FrameFault>,
 );
 
-const UNFRAMED: [Unframed; 11] = [
-    ("no bytes", Binary2, b"", Ok(More)),
-    ("half a header", Bcd2, b"\x00", Ok(More)),
-    ("a header not of digits", Bcd2, b"\x00\x5A", Err(BadDigits)),
-    (
-        "an empty body",
-        Bcd2,
-        b"\x00\x00",
-        Ok(Got { body: b"", used: 2 }),
-    ),
-    (
-        "a body of 10",
-        Bcd2,
-        b"\x00\x100123456789",
-        Ok(Got {
-            body: b"0123456789",
-            used: 12,
-        }),
-    ),
-    ("half a header with a letter", Ascii4, b"00x", Ok(More)),
-    ("a header with a letter", Ascii4, b"00x5", Err(BadDigits)),
-    (
-        "a body and more",
-        Ascii4,
-        b"0002abcd",
-        Ok(Got {
-            body: b"ab",
-            used: 6,
-        }),
-    ),
-    ("a body without its end", Ascii4, b"0005abcd", Ok(More)),
-    (
-        "bytes that are no digits",
-        Binary2,
-        b"\x00\x0Aabcdefghij",
-        Ok(Got {
-            body: b"abcdefghij",
-            used: 12,
-        }),
-    ),
-    (
-        "a high byte alone",
-        Binary2,
-        b"\x01\x00abcdefghij",
-        Ok(More),
-    ),
-];
+fn unframed() -> [Unframed; 11] {
+    [
+        ("no bytes", Binary2, b"", Ok(More)),
+        ("half a header", Bcd2, b"\x00", Ok(More)),
+        ("a header not of digits", Bcd2, b"\x00\x5A", Err(BadDigits)),
+        (
+            "an empty body",
+            Bcd2,
+            b"\x00\x00",
+            Ok(Got { body: b"", used: 2 }),
+        ),
+        (
+            "a body of 10",
+            Bcd2,
+            b"\x00\x100123456789",
+            Ok(Got {
+                body: b"0123456789",
+                used: 12,
+            }),
+        ),
+        ("half a header with a letter", Ascii4, b"00x", Ok(More)),
+        ("a header with a letter", Ascii4, b"00x5", Err(BadDigits)),
+        (
+            "a body and more",
+            Ascii4,
+            b"0002abcd",
+            Ok(Got {
+                body: b"ab",
+                used: 6,
+            }),
+        ),
+        ("a body without its end", Ascii4, b"0005abcd", Ok(More)),
+        (
+            "bytes that are no digits",
+            Binary2,
+            b"\x00\x0Aabcdefghij",
+            Ok(Got {
+                body: b"abcdefghij",
+                used: 12,
+            }),
+        ),
+        (
+            "a high byte alone",
+            Binary2,
+            b"\x01\x00abcdefghij",
+            Ok(More),
+        ),
+    ]
+}
 
 #[test]
 fn frames_are_read(rt: HostRuntime) -> Result<(), Fail> {
-    for (name, header, bytes, want) in &UNFRAMED {
+    for (name, header, bytes, want) in &unframed() {
         assert!(rt; is_unframed(*header, bytes, *want), "{name}");
     }
     Ok(())
@@ -182,21 +188,23 @@ type LengthCase = (
     Result<Option<usize>, FrameFault>,
 );
 
-const HEADERS: [LengthCase; 8] = [
-    ("no bytes", Ascii4, b"", Ok(None)),
-    ("half a header with a letter", Ascii4, b"00x", Ok(None)),
-    ("a header with a letter", Ascii4, b"00x5", Err(BadDigits)),
-    ("a header alone", Ascii4, b"0055", Ok(Some(55))),
-    (
-        "a header and a part of the body",
-        Ascii4,
-        b"00550800",
-        Ok(Some(55)),
-    ),
-    ("two bytes", Binary2, b"\xFF\xFE", Ok(Some(65_534))),
-    ("two bytes of digits", Bcd2, b"\x12\x34\x56", Ok(Some(1234))),
-    ("two bytes not of digits", Bcd2, b"\x12\x3A", Err(BadDigits)),
-];
+fn headers() -> [LengthCase; 8] {
+    [
+        ("no bytes", Ascii4, b"", Ok(None)),
+        ("half a header with a letter", Ascii4, b"00x", Ok(None)),
+        ("a header with a letter", Ascii4, b"00x5", Err(BadDigits)),
+        ("a header alone", Ascii4, b"0055", Ok(Some(55))),
+        (
+            "a header and a part of the body",
+            Ascii4,
+            b"00550800",
+            Ok(Some(55)),
+        ),
+        ("two bytes", Binary2, b"\xFF\xFE", Ok(Some(65_534))),
+        ("two bytes of digits", Bcd2, b"\x12\x34\x56", Ok(Some(1234))),
+        ("two bytes not of digits", Bcd2, b"\x12\x3A", Err(BadDigits)),
+    ]
+}
 
 fn tells(header: Header, bytes: &[u8], want: Result<Option<usize>, FrameFault>) -> bool {
     body_length(header, bytes) == want
@@ -204,7 +212,7 @@ fn tells(header: Header, bytes: &[u8], want: Result<Option<usize>, FrameFault>) 
 
 #[test]
 fn headers_are_read_alone(rt: HostRuntime) -> Result<(), Fail> {
-    for (name, header, bytes, want) in &HEADERS {
+    for (name, header, bytes, want) in &headers() {
         assert!(rt; tells(*header, bytes, *want), "{name}");
     }
     Ok(())
@@ -242,18 +250,20 @@ fn a_frame_that_is_too_long_stays_open(rt: HostRuntime) -> Result<(), Fail> {
     Ok(())
 }
 
-const LENGTHS: [LengthCase; 5] = [
-    ("two bytes", Binary2, b"\x27\x10", Ok(Some(10_000))),
-    ("four digits", Ascii4, b"0055", Ok(Some(55))),
-    ("two bytes of digits", Bcd2, b"\x00\x55", Ok(Some(55))),
-    (
-        "a nibble that is no digit",
-        Bcd2,
-        b"\x00\x5A",
-        Err(BadDigits),
-    ),
-    ("three digits", Ascii4, b"055", Ok(None)),
-];
+fn lengths() -> [LengthCase; 5] {
+    [
+        ("two bytes", Binary2, b"\x27\x10", Ok(Some(10_000))),
+        ("four digits", Ascii4, b"0055", Ok(Some(55))),
+        ("two bytes of digits", Bcd2, b"\x00\x55", Ok(Some(55))),
+        (
+            "a nibble that is no digit",
+            Bcd2,
+            b"\x00\x5A",
+            Err(BadDigits),
+        ),
+        ("three digits", Ascii4, b"055", Ok(None)),
+    ]
+}
 
 fn limit(header: Header) -> usize {
     header.limit()
@@ -261,7 +271,7 @@ fn limit(header: Header) -> usize {
 
 #[test]
 fn headers_tell_lengths(rt: HostRuntime) -> Result<(), Fail> {
-    for (name, header, bytes, want) in &LENGTHS {
+    for (name, header, bytes, want) in &lengths() {
         assert!(rt; tells(*header, bytes, *want), "{name}");
     }
     assert_eq!(rt; limit(Binary2), 65_535);

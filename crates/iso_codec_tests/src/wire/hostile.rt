@@ -12,23 +12,25 @@ struct Named {
     pieces: &'static [(usize, u8)],
 }
 
-const ASCII_MESSAGES: [Named; 3] = [
-    Named {
-        name: "echo",
-        bytes: ECHO,
-        pieces: ECHO_PIECES,
-    },
-    Named {
-        name: "payment",
-        bytes: PAYMENT,
-        pieces: PAYMENT_PIECES,
-    },
-    Named {
-        name: "reversal",
-        bytes: REVERSAL,
-        pieces: REVERSAL_PIECES,
-    },
-];
+fn ascii_messages() -> [Named; 3] {
+    [
+        Named {
+            name: "echo",
+            bytes: ECHO,
+            pieces: ECHO_PIECES,
+        },
+        Named {
+            name: "payment",
+            bytes: PAYMENT,
+            pieces: PAYMENT_PIECES,
+        },
+        Named {
+            name: "reversal",
+            bytes: REVERSAL,
+            pieces: REVERSAL_PIECES,
+        },
+    ]
+}
 
 fn packed_message() -> Named {
     Named {
@@ -77,7 +79,7 @@ fn wrong_cut(alloc: Global, table: &Table, named: &Named) -> Option<usize> {
 #[test]
 fn cut_messages_are_short_alike(rt: HostRuntime) -> Result<(), Fail> {
     let table = ascii87(rt.alloc())?;
-    for named in &ASCII_MESSAGES {
+    for named in &ascii_messages() {
         let name = named.name;
         let wrong = wrong_cut(rt.alloc(), &table, named);
         assert!(rt; wrong.is_none(), "{name}: {wrong:?} bytes");
@@ -175,29 +177,31 @@ fn bits_without_a_row_are_refused_alike(rt: HostRuntime) -> Result<(), Fail> {
     Ok(())
 }
 
-const BAD_PIECES: [Stop; 3] = [
-    ("a letter in the type", b"08A0", 0, 0, BadMti),
-    (
-        "two elements without a row",
-        b"08000880000000000000",
-        4,
-        0,
-        UnknownElement(5),
-    ),
-    (
-        "a late element without a row",
-        b"080080000000000000004000000000000000",
-        20,
-        1,
-        UnknownElement(66),
-    ),
-];
+fn bad_pieces() -> [Stop; 3] {
+    [
+        ("a letter in the type", b"08A0", 0, 0, BadMti),
+        (
+            "two elements without a row",
+            b"08000880000000000000",
+            4,
+            0,
+            UnknownElement(5),
+        ),
+        (
+            "a late element without a row",
+            b"080080000000000000004000000000000000",
+            20,
+            1,
+            UnknownElement(66),
+        ),
+    ]
+}
 
 #[test]
 fn bad_pieces_are_refused_alike(rt: HostRuntime) -> Result<(), Fail> {
     let terminal = [(41, text(8, Pad::Right(b' ')))];
     let table = table(rt.alloc(), 0, Digits::Ascii, BitmapCoding::Hex, &terminal)?;
-    for (name, bytes, at, element, cause) in &BAD_PIECES {
+    for (name, bytes, at, element, cause) in &bad_pieces() {
         let fault = stop(*at, *element, *cause);
         assert!(rt; are_refused(rt.alloc(), &table, bytes, fault), "{name}");
     }

@@ -104,24 +104,26 @@ fn longest_message(table: &Table) -> u64 {
 }
 
 /// Digits of a length that are refused, and where.
-const REFUSED_DIGITS: [Stop; 4] = [
-    (
-        "one byte too many",
-        b"9999",
-        20,
-        48,
-        Field(FieldFault::LengthOver),
-    ),
-    (
-        "a letter",
-        b"000x",
-        20,
-        48,
-        Field(FieldFault::BadLengthDigits),
-    ),
-    ("three digits", b"000", 20, 48, Short),
-    ("no byte of 9,998", b"9998", 24, 48, Short),
-];
+fn refused_digits() -> [Stop; 4] {
+    [
+        (
+            "one byte too many",
+            b"9999",
+            20,
+            48,
+            Field(FieldFault::LengthOver),
+        ),
+        (
+            "a letter",
+            b"000x",
+            20,
+            48,
+            Field(FieldFault::BadLengthDigits),
+        ),
+        ("three digits", b"000", 20, 48, Short),
+        ("no byte of 9,998", b"9998", 24, 48, Short),
+    ]
+}
 
 fn is_refused_view(table: &Table, bytes: &[u8], fault: UnpackFault) -> bool {
     view(table, bytes).err() == Some(fault)
@@ -131,7 +133,7 @@ fn is_refused_view(table: &Table, bytes: &[u8], fault: UnpackFault) -> bool {
 fn a_longer_value_is_refused(rt: HostRuntime) -> Result<(), Fail> {
     let alloc = rt.alloc();
     let table = chip_table(alloc, 9_998)?;
-    for (name, digits, at, element, cause) in &REFUSED_DIGITS {
+    for (name, digits, at, element, cause) in &refused_digits() {
         let bytes = [b"08000000000000010000", *digits].concat(alloc)?;
         let fault = stop(*at, *element, *cause);
         assert!(rt; is_refused(alloc, &table, &bytes, fault), "{name}");

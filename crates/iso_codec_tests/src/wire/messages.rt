@@ -8,42 +8,44 @@ type Elements = &'static [(u8, &'static [u8])];
 /// A value of a message.
 type ValueCase = (&'static str, Elements, u8, Option<&'static [u8]>);
 
-const VALUE_CASES: [ValueCase; 9] = [
-    ("nothing set", &[], 3, None),
-    ("one value", &[(3, b"000000")], 3, Some(b"000000")),
-    ("ascending", &[(3, b"a"), (4, b"bc")], 4, Some(b"bc")),
-    (
-        "in front of the others",
-        &[(11, b"abc"), (70, b"d"), (2, b"ef")],
-        2,
-        Some(b"ef"),
-    ),
-    (
-        "between the others",
-        &[(2, b"ab"), (70, b"cde"), (11, b"f")],
-        11,
-        Some(b"f"),
-    ),
-    (
-        "behind one set in between",
-        &[(2, b"ab"), (70, b"cde"), (11, b"f")],
-        70,
-        Some(b"cde"),
-    ),
-    (
-        "replaced by a longer one",
-        &[(2, b"ab"), (3, b"c"), (2, b"defg")],
-        2,
-        Some(b"defg"),
-    ),
-    (
-        "behind one replaced by a shorter one",
-        &[(2, b"abcd"), (3, b"ef"), (2, b"g")],
-        3,
-        Some(b"ef"),
-    ),
-    ("an empty value", &[(2, b"ab"), (3, b"")], 3, Some(b"")),
-];
+fn value_cases() -> [ValueCase; 9] {
+    [
+        ("nothing set", &[], 3, None),
+        ("one value", &[(3, b"000000")], 3, Some(b"000000")),
+        ("ascending", &[(3, b"a"), (4, b"bc")], 4, Some(b"bc")),
+        (
+            "in front of the others",
+            &[(11, b"abc"), (70, b"d"), (2, b"ef")],
+            2,
+            Some(b"ef"),
+        ),
+        (
+            "between the others",
+            &[(2, b"ab"), (70, b"cde"), (11, b"f")],
+            11,
+            Some(b"f"),
+        ),
+        (
+            "behind one set in between",
+            &[(2, b"ab"), (70, b"cde"), (11, b"f")],
+            70,
+            Some(b"cde"),
+        ),
+        (
+            "replaced by a longer one",
+            &[(2, b"ab"), (3, b"c"), (2, b"defg")],
+            2,
+            Some(b"defg"),
+        ),
+        (
+            "behind one replaced by a shorter one",
+            &[(2, b"abcd"), (3, b"ef"), (2, b"g")],
+            3,
+            Some(b"ef"),
+        ),
+        ("an empty value", &[(2, b"ab"), (3, b"")], 3, Some(b"")),
+    ]
+}
 
 fn has_value(message: &Message, n: u8, value: Option<&[u8]>) -> bool {
     message.get(n) == value
@@ -51,7 +53,7 @@ fn has_value(message: &Message, n: u8, value: Option<&[u8]>) -> bool {
 
 #[test]
 fn values(rt: HostRuntime) -> Result<(), Fail> {
-    for (name, elements, n, want) in &VALUE_CASES {
+    for (name, elements, n, want) in &value_cases() {
         let made = message(rt.alloc(), 100, elements)?;
         assert!(rt; has_value(&made, *n, *want), "{name}");
     }
@@ -63,15 +65,17 @@ fn is_unset(message: &mut Message, n: u8) -> bool {
     message.unset(n)
 }
 
-const UNSET_CASES: [(&'static str, u8, Elements); 3] = [
-    ("the first", 2, &[(11, b"cd"), (70, b"efg")]),
-    ("the last", 70, &[(2, b"ab"), (11, b"cd")]),
-    ("the one between", 11, &[(2, b"ab"), (70, b"efg")]),
-];
+fn unset_cases() -> [(&'static str, u8, Elements); 3] {
+    [
+        ("the first", 2, &[(11, b"cd"), (70, b"efg")]),
+        ("the last", 70, &[(2, b"ab"), (11, b"cd")]),
+        ("the one between", 11, &[(2, b"ab"), (70, b"efg")]),
+    ]
+}
 
 #[test]
 fn unset(rt: HostRuntime) -> Result<(), Fail> {
-    for (name, n, left) in &UNSET_CASES {
+    for (name, n, left) in &unset_cases() {
         let mut made = message(rt.alloc(), 100, &[(2, b"ab"), (11, b"cd"), (70, b"efg")])?;
         assert!(rt; is_unset(&mut made, *n), "{name}");
         assert!(rt; !is_unset(&mut made, *n), "{name}, twice");
@@ -133,21 +137,23 @@ fn numbers(rt: HostRuntime) -> Result<(), Fail> {
     Ok(())
 }
 
-const NUMBER_CASES: [(&'static str, u8, &'static [u8], Option<u64>); 8] = [
-    ("another element", 12, b"000007", None),
-    ("zeros in front", 11, b"000007", Some(7)),
-    ("one digit", 11, b"0", Some(0)),
-    (
-        "nineteen digits",
-        11,
-        b"9999999999999999999",
-        Some(9_999_999_999_999_999_999),
-    ),
-    ("twenty digits", 11, b"00000000000000000007", None),
-    ("no digit", 11, b"", None),
-    ("a letter in place of a zero", 11, b"1O00", None),
-    ("a sign", 11, b"-7", None),
-];
+fn number_cases() -> [(&'static str, u8, &'static [u8], Option<u64>); 8] {
+    [
+        ("another element", 12, b"000007", None),
+        ("zeros in front", 11, b"000007", Some(7)),
+        ("one digit", 11, b"0", Some(0)),
+        (
+            "nineteen digits",
+            11,
+            b"9999999999999999999",
+            Some(9_999_999_999_999_999_999),
+        ),
+        ("twenty digits", 11, b"00000000000000000007", None),
+        ("no digit", 11, b"", None),
+        ("a letter in place of a zero", 11, b"1O00", None),
+        ("a sign", 11, b"-7", None),
+    ]
+}
 
 /// Whether that is the number of element 11 of a message with one value.
 fn is_number(alloc: Global, n: u8, value: &[u8], number: Option<u64>) -> Result<bool, Fail> {
@@ -157,7 +163,7 @@ fn is_number(alloc: Global, n: u8, value: &[u8], number: Option<u64>) -> Result<
 
 #[test]
 fn numbers_are_read(rt: HostRuntime) -> Result<(), Fail> {
-    for (name, n, value, want) in &NUMBER_CASES {
+    for (name, n, value, want) in &number_cases() {
         assert!(rt; is_number(rt.alloc(), *n, value, *want)?, "{name}");
     }
     Ok(())
@@ -181,19 +187,21 @@ fn digits(rt: HostRuntime) {
     }
 }
 
-const OTHER_MESSAGES: [(&'static str, u16, Elements, bool); 6] = [
-    ("set in another order", 100, &[(3, b"c"), (2, b"ab")], true),
-    ("another type", 110, &[(2, b"ab"), (3, b"c")], false),
-    ("another number", 100, &[(2, b"ab"), (4, b"c")], false),
-    ("another value", 100, &[(2, b"ab"), (3, b"d")], false),
-    (
-        "the same bytes shared out otherwise",
-        100,
-        &[(2, b"a"), (3, b"bc")],
-        false,
-    ),
-    ("one more", 100, &[(2, b"ab"), (3, b"c"), (4, b"")], false),
-];
+fn other_messages() -> [(&'static str, u16, Elements, bool); 6] {
+    [
+        ("set in another order", 100, &[(3, b"c"), (2, b"ab")], true),
+        ("another type", 110, &[(2, b"ab"), (3, b"c")], false),
+        ("another number", 100, &[(2, b"ab"), (4, b"c")], false),
+        ("another value", 100, &[(2, b"ab"), (3, b"d")], false),
+        (
+            "the same bytes shared out otherwise",
+            100,
+            &[(2, b"a"), (3, b"bc")],
+            false,
+        ),
+        ("one more", 100, &[(2, b"ab"), (3, b"c"), (4, b"")], false),
+    ]
+}
 
 /// Whether the messages are equal by the operator.
 fn are_equal_by_operator(message: &Message, other: &Message) -> bool {
@@ -203,7 +211,7 @@ fn are_equal_by_operator(message: &Message, other: &Message) -> bool {
 #[test]
 fn equality(rt: HostRuntime) -> Result<(), Fail> {
     let first = message(rt.alloc(), 100, &[(2, b"ab"), (3, b"c")])?;
-    for (name, mti, elements, want) in &OTHER_MESSAGES {
+    for (name, mti, elements, want) in &other_messages() {
         let other = message(rt.alloc(), *mti, elements)?;
         assert!(rt; are_equal(&first, &other) == *want, "{name}");
         let by_operator = are_equal_by_operator(&first, &other);

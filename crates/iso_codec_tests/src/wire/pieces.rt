@@ -75,25 +75,27 @@ fn reset(unpacker: &mut Unpacker) {
     unpacker.reset();
 }
 
-const JUDGED_PIECES: [(&'static str, &'static [u8], FeedAnswer, usize); 5] = [
-    ("no bytes", b"", FeedAnswer::More, 0),
-    ("three digits of a type", b"08A", FeedAnswer::More, 3),
-    ("the fourth", b"0", FeedAnswer::Fault(BAD_TYPE), 0),
-    ("behind a fault", ECHO, FeedAnswer::Fault(BAD_TYPE), 0),
-    (
-        "no bytes behind a fault",
-        b"",
-        FeedAnswer::Fault(BAD_TYPE),
-        0,
-    ),
-];
+fn judged_pieces() -> [(&'static str, &'static [u8], FeedAnswer, usize); 5] {
+    [
+        ("no bytes", b"", FeedAnswer::More, 0),
+        ("three digits of a type", b"08A", FeedAnswer::More, 3),
+        ("the fourth", b"0", FeedAnswer::Fault(BAD_TYPE), 0),
+        ("behind a fault", ECHO, FeedAnswer::Fault(BAD_TYPE), 0),
+        (
+            "no bytes behind a fault",
+            b"",
+            FeedAnswer::Fault(BAD_TYPE),
+            0,
+        ),
+    ]
+}
 
 #[test]
 fn pieces_are_judged_when_they_are_whole(rt: HostRuntime) -> Result<(), Fail> {
     let alloc = rt.alloc();
     let table = ascii(alloc)?;
     let mut unpacker = Unpacker::new(alloc, &table);
-    for (name, piece, want, held) in &JUDGED_PIECES {
+    for (name, piece, want, held) in &judged_pieces() {
         assert!(rt; feeds(&mut unpacker, alloc, piece, *want), "{name}");
         assert!(rt; holds(&unpacker, *held), "{name}");
     }
@@ -102,38 +104,40 @@ fn pieces_are_judged_when_they_are_whole(rt: HostRuntime) -> Result<(), Fail> {
     Ok(())
 }
 
-const FAULTY_PIECES: [(&'static str, &'static [u8], FeedAnswer); 7] = [
-    (
-        "a whole message and more",
-        b"08000000000000000000020",
-        FeedAnswer::Done(20),
-    ),
-    (
-        "a type and a bitmap",
-        b"02007220000100008000",
-        FeedAnswer::More,
-    ),
-    ("half a length", b"1", FeedAnswer::More),
-    (
-        "its end, and a body without its end",
-        b"6411111",
-        FeedAnswer::More,
-    ),
-    ("its end", b"1111111111", FeedAnswer::More),
-    ("five digits of six", b"00000", FeedAnswer::More),
-    (
-        "a letter among digits",
-        b"x000000001000",
-        FeedAnswer::Fault(BAD_CLASS),
-    ),
-];
+fn faulty_pieces() -> [(&'static str, &'static [u8], FeedAnswer); 7] {
+    [
+        (
+            "a whole message and more",
+            b"08000000000000000000020",
+            FeedAnswer::Done(20),
+        ),
+        (
+            "a type and a bitmap",
+            b"02007220000100008000",
+            FeedAnswer::More,
+        ),
+        ("half a length", b"1", FeedAnswer::More),
+        (
+            "its end, and a body without its end",
+            b"6411111",
+            FeedAnswer::More,
+        ),
+        ("its end", b"1111111111", FeedAnswer::More),
+        ("five digits of six", b"00000", FeedAnswer::More),
+        (
+            "a letter among digits",
+            b"x000000001000",
+            FeedAnswer::Fault(BAD_CLASS),
+        ),
+    ]
+}
 
 #[test]
 fn a_fault_is_told_from_the_start_of_the_message(rt: HostRuntime) -> Result<(), Fail> {
     let alloc = rt.alloc();
     let table = ascii(alloc)?;
     let mut unpacker = Unpacker::new(alloc, &table);
-    for (name, piece, want) in &FAULTY_PIECES {
+    for (name, piece, want) in &faulty_pieces() {
         assert!(rt; feeds(&mut unpacker, alloc, piece, *want), "{name}");
     }
     reset(&mut unpacker);

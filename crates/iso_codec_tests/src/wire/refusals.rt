@@ -4,80 +4,82 @@ use iso_wire::UnpackCause::{
     BadHex, BadMti, Field, Short, ThirdBitmap, UnknownElement, WrongVersion,
 };
 
-const REFUSED_BYTES: [Stop; 13] = [
-    ("no bytes", b"", 0, 0, Short),
-    ("a letter in the type", b"08A0", 0, 0, BadMti),
-    ("another version", b"1800", 0, 0, WrongVersion),
-    (
-        "a letter in the primary bitmap",
-        b"0800022G000000000000",
-        4,
-        0,
-        BadHex,
-    ),
-    (
-        "a letter in the secondary bitmap",
-        b"08008000000000000000000000000000000x",
-        20,
-        1,
-        BadHex,
-    ),
-    (
-        "a third bitmap",
-        b"080080000000000000008000000000000000",
-        20,
-        1,
-        ThirdBitmap,
-    ),
-    (
-        "two elements without a row",
-        b"08000880000000000000",
-        4,
-        0,
-        UnknownElement(5),
-    ),
-    (
-        "a late element without a row",
-        b"080080000000000000004000000000000000",
-        20,
-        1,
-        UnknownElement(66),
-    ),
-    (
-        "a length above the maximum",
-        b"0200400000000000000020",
-        20,
-        2,
-        Field(FieldFault::LengthOver),
-    ),
-    (
-        "a letter in a length",
-        b"020040000000000000001x",
-        20,
-        2,
-        Field(FieldFault::BadLengthDigits),
-    ),
-    ("half a length", b"020040000000000000001", 20, 2, Short),
-    (
-        "a value without its end",
-        b"0200400000000000000016411",
-        22,
-        2,
-        Short,
-    ),
-    (
-        "a letter among digits",
-        b"02007220000100008000164111111111111111x0000000000000",
-        38,
-        3,
-        Field(FieldFault::NotInClass),
-    ),
-];
+fn refused_bytes() -> [Stop; 13] {
+    [
+        ("no bytes", b"", 0, 0, Short),
+        ("a letter in the type", b"08A0", 0, 0, BadMti),
+        ("another version", b"1800", 0, 0, WrongVersion),
+        (
+            "a letter in the primary bitmap",
+            b"0800022G000000000000",
+            4,
+            0,
+            BadHex,
+        ),
+        (
+            "a letter in the secondary bitmap",
+            b"08008000000000000000000000000000000x",
+            20,
+            1,
+            BadHex,
+        ),
+        (
+            "a third bitmap",
+            b"080080000000000000008000000000000000",
+            20,
+            1,
+            ThirdBitmap,
+        ),
+        (
+            "two elements without a row",
+            b"08000880000000000000",
+            4,
+            0,
+            UnknownElement(5),
+        ),
+        (
+            "a late element without a row",
+            b"080080000000000000004000000000000000",
+            20,
+            1,
+            UnknownElement(66),
+        ),
+        (
+            "a length above the maximum",
+            b"0200400000000000000020",
+            20,
+            2,
+            Field(FieldFault::LengthOver),
+        ),
+        (
+            "a letter in a length",
+            b"020040000000000000001x",
+            20,
+            2,
+            Field(FieldFault::BadLengthDigits),
+        ),
+        ("half a length", b"020040000000000000001", 20, 2, Short),
+        (
+            "a value without its end",
+            b"0200400000000000000016411",
+            22,
+            2,
+            Short,
+        ),
+        (
+            "a letter among digits",
+            b"02007220000100008000164111111111111111x0000000000000",
+            38,
+            3,
+            Field(FieldFault::NotInClass),
+        ),
+    ]
+}
 
 #[test]
 fn bytes_are_refused(rt: HostRuntime) -> Result<(), Fail> {
     let table = ascii(rt.alloc())?;
-    assert_stops(&rt, rt.alloc(), &table, &REFUSED_BYTES);
+    assert_stops(&rt, rt.alloc(), &table, &refused_bytes());
     Ok(())
 }
 
@@ -154,45 +156,47 @@ const TWO_DIGITS: FieldSpec = FieldSpec {
     pad: Pad::None,
 };
 
-const OTHER_TABLES: [NotPacked; 7] = [
-    (
-        "another version",
-        1,
-        &[(41, PADDED), (42, PADDED)],
-        PackFault::WrongVersion,
-    ),
-    (
-        "a pad at the end",
-        0,
-        &[(41, PADDED), (42, PADDED)],
-        PackFault::PadEnd(41),
-    ),
-    (
-        "too short",
-        0,
-        &[(41, SEVEN), (42, PADDED)],
-        PackFault::WrongLength(41),
-    ),
-    (
-        "no digits",
-        0,
-        &[(41, SIX_DIGITS), (42, PADDED)],
-        PackFault::NotInClass(41),
-    ),
-    (
-        "the later element",
-        0,
-        &[(41, SIX), (42, TWO_DIGITS)],
-        PackFault::NotInClass(42),
-    ),
-    (
-        "the later element has no row",
-        0,
-        &[(41, PADDED)],
-        PackFault::PadEnd(41),
-    ),
-    ("no row at all", 0, &[], PackFault::NoRow(41)),
-];
+fn other_tables() -> [NotPacked; 7] {
+    [
+        (
+            "another version",
+            1,
+            &[(41, PADDED), (42, PADDED)],
+            PackFault::WrongVersion,
+        ),
+        (
+            "a pad at the end",
+            0,
+            &[(41, PADDED), (42, PADDED)],
+            PackFault::PadEnd(41),
+        ),
+        (
+            "too short",
+            0,
+            &[(41, SEVEN), (42, PADDED)],
+            PackFault::WrongLength(41),
+        ),
+        (
+            "no digits",
+            0,
+            &[(41, SIX_DIGITS), (42, PADDED)],
+            PackFault::NotInClass(41),
+        ),
+        (
+            "the later element",
+            0,
+            &[(41, SIX), (42, TWO_DIGITS)],
+            PackFault::NotInClass(42),
+        ),
+        (
+            "the later element has no row",
+            0,
+            &[(41, PADDED)],
+            PackFault::PadEnd(41),
+        ),
+        ("no row at all", 0, &[], PackFault::NoRow(41)),
+    ]
+}
 
 /// A message with a terminal that ends with a blank, and an element behind it.
 fn terminal_message(alloc: Global) -> Result<Message, Fail> {
@@ -216,7 +220,7 @@ fn is_not_packed(
 #[test]
 fn messages_are_refused(rt: HostRuntime) -> Result<(), Fail> {
     let message = terminal_message(rt.alloc())?;
-    for (name, version, rows, fault) in &OTHER_TABLES {
+    for (name, version, rows, fault) in &other_tables() {
         let is_refused = is_not_packed(rt.alloc(), &message, *version, rows, *fault)?;
         assert!(rt; is_refused, "{name}");
     }

@@ -19,7 +19,7 @@ fn a_message_is_read_into_memory_that_was_given_back(rt: HostRuntime) -> Result<
     let mut unpacker = Unpacker::new(alloc, &table);
     // in the second round the first message is read into the memory of the last one
     for round in 1..=2 {
-        for case in &ASCII_CASES {
+        for case in &ascii_cases() {
             let name = case.name;
             assert!(rt;
                 is_reread(&mut unpacker, alloc, case)?,
@@ -30,30 +30,32 @@ fn a_message_is_read_into_memory_that_was_given_back(rt: HostRuntime) -> Result<
     Ok(())
 }
 
-const FAULTY_MESSAGES: [Stop; 4] = [
-    ("a letter in a type", b"08A0", 0, 0, BadMti),
-    (
-        "a letter in a bitmap",
-        b"0800G220000000000000",
-        4,
-        0,
-        BadHex,
-    ),
-    (
-        "a letter in the fifth of seven values",
-        b"0200722000010000800016411111111111111100000000000000100001020304050000x70512345840",
-        66,
-        11,
-        Field(FieldFault::NotInClass),
-    ),
-    (
-        "the last of seven values cut short",
-        b"020072200001000080001641111111111111110000000000000010000102030405000007051234584",
-        79,
-        49,
-        Short,
-    ),
-];
+fn faulty_messages() -> [Stop; 4] {
+    [
+        ("a letter in a type", b"08A0", 0, 0, BadMti),
+        (
+            "a letter in a bitmap",
+            b"0800G220000000000000",
+            4,
+            0,
+            BadHex,
+        ),
+        (
+            "a letter in the fifth of seven values",
+            b"0200722000010000800016411111111111111100000000000000100001020304050000x70512345840",
+            66,
+            11,
+            Field(FieldFault::NotInClass),
+        ),
+        (
+            "the last of seven values cut short",
+            b"020072200001000080001641111111111111110000000000000010000102030405000007051234584",
+            79,
+            49,
+            Short,
+        ),
+    ]
+}
 
 fn stops(unpacker: &mut Unpacker, alloc: Global, bytes: &[u8], fault: UnpackFault) -> bool {
     unpacker.unpack(alloc, bytes).err() == Some(fault)
@@ -73,7 +75,7 @@ fn a_message_behind_a_fault_has_its_own_elements(rt: HostRuntime) -> Result<(), 
     let alloc = rt.alloc();
     let table = ascii(alloc)?;
     let mut unpacker = Unpacker::new(alloc, &table);
-    for (name, bytes, at, element, cause) in &FAULTY_MESSAGES {
+    for (name, bytes, at, element, cause) in &faulty_messages() {
         let fault = stop(*at, *element, *cause);
         assert!(rt; stops(&mut unpacker, alloc, bytes, fault), "{name}");
         assert!(rt; reads_echo(&mut unpacker, alloc)?, "{name}, and the echo");
@@ -135,7 +137,7 @@ fn messages_are_appended(rt: HostRuntime) -> Result<(), Fail> {
     let alloc = rt.alloc();
     let table = ascii(alloc)?;
     let mut out = vec![in alloc; b'a', b'b']?;
-    for case in &ASCII_CASES {
+    for case in &ascii_cases() {
         let name = case.name;
         assert!(rt; is_appended(alloc, &table, case, &mut out)?, "{name}");
     }

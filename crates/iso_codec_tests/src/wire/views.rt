@@ -12,74 +12,78 @@ struct Seen {
     wires: &'static [(u8, &'static [u8])],
 }
 
-const ASCII_VIEWS: [Seen; 4] = [
-    Seen {
-        name: "payment",
-        bytes: PAYMENT,
-        mti: 200,
-        used: 82,
-        wires: &[
-            (2, b"4111111111111111"),
-            (3, b"000000"),
-            (4, b"000000001000"),
-            (7, b"0102030405"),
-            (11, b"000007"),
-            (32, b"12345"),
-            (49, b"840"),
-        ],
-    },
-    Seen {
-        name: "reversal",
-        bytes: REVERSAL,
-        mti: 420,
-        used: 101,
-        wires: &[
-            (7, b"0102030500"),
-            (11, b"000008"),
-            (32, b"12345"),
-            (90, b"020000000701020304050000001234500000000000"),
-        ],
-    },
-    Seen {
-        name: "a padded value, and bytes behind",
-        bytes: b"08000000000000800000TERM1   08",
-        mti: 800,
-        used: 28,
-        wires: &[(41, b"TERM1   ")],
-    },
-    Seen {
-        name: "eight blanks",
-        bytes: b"08000000000000800000        ",
-        mti: 800,
-        used: 28,
-        wires: &[(41, b"        ")],
-    },
-];
+fn ascii_views() -> [Seen; 4] {
+    [
+        Seen {
+            name: "payment",
+            bytes: PAYMENT,
+            mti: 200,
+            used: 82,
+            wires: &[
+                (2, b"4111111111111111"),
+                (3, b"000000"),
+                (4, b"000000001000"),
+                (7, b"0102030405"),
+                (11, b"000007"),
+                (32, b"12345"),
+                (49, b"840"),
+            ],
+        },
+        Seen {
+            name: "reversal",
+            bytes: REVERSAL,
+            mti: 420,
+            used: 101,
+            wires: &[
+                (7, b"0102030500"),
+                (11, b"000008"),
+                (32, b"12345"),
+                (90, b"020000000701020304050000001234500000000000"),
+            ],
+        },
+        Seen {
+            name: "a padded value, and bytes behind",
+            bytes: b"08000000000000800000TERM1   08",
+            mti: 800,
+            used: 28,
+            wires: &[(41, b"TERM1   ")],
+        },
+        Seen {
+            name: "eight blanks",
+            bytes: b"08000000000000800000        ",
+            mti: 800,
+            used: 28,
+            wires: &[(41, b"        ")],
+        },
+    ]
+}
 
-const PACKED_VIEWS: [Seen; 2] = [
-    Seen {
-        name: "echo",
-        bytes: PACKED_ECHO,
-        mti: 800,
-        used: 28,
-        wires: &[
-            (7, b"\x01\x02\x03\x04\x05"),
-            (11, b"\0\0\x01"),
-            (70, b"\x03\x01"),
-        ],
-    },
-    Seen {
-        name: "filler F",
-        bytes: b"\x08\x00\x82\x20\0\0\0\0\0\0\x04\0\0\0\0\0\0\0\x01\x02\x03\x04\x05\0\0\x01\xF3\x01",
-        mti: 800,
-        used: 28,
-        wires: &[
-            (7, b"\x01\x02\x03\x04\x05"),
-            (11, b"\0\0\x01"),
-            (70, b"\xF3\x01"),
-        ],
-    },
-];
+fn packed_views() -> [Seen; 2] {
+    [
+        Seen {
+            name: "echo",
+            bytes: PACKED_ECHO,
+            mti: 800,
+            used: 28,
+            wires: &[
+                (7, b"\x01\x02\x03\x04\x05"),
+                (11, b"\0\0\x01"),
+                (70, b"\x03\x01"),
+            ],
+        },
+        Seen {
+            name: "filler F",
+            bytes: b"\x08\x00\x82\x20\0\0\0\0\0\0\x04\0\0\0\0\0\0\0\x01\x02\x03\x04\x05\0\0\x01\xF3\x01",
+            mti: 800,
+            used: 28,
+            wires: &[
+                (7, b"\x01\x02\x03\x04\x05"),
+                (11, b"\0\0\x01"),
+                (70, b"\xF3\x01"),
+            ],
+        },
+    ]
+}
 
 /// Whether the view finds these bodies and no other.
 fn finds_only(seen: &View, wires: &[(u8, &[u8])]) -> bool {
@@ -105,7 +109,7 @@ fn has_bodies(table: &Table, case: &Seen) -> Result<bool, Fail> {
 #[test]
 fn views_find_the_bodies(rt: HostRuntime) -> Result<(), Fail> {
     let table = ascii87(rt.alloc())?;
-    for case in &ASCII_VIEWS {
+    for case in &ascii_views() {
         let name = case.name;
         assert!(rt; is_viewed(&table, case)?, "{name}");
         assert!(rt; has_bodies(&table, case)?, "{name}: its bodies");
@@ -116,7 +120,7 @@ fn views_find_the_bodies(rt: HostRuntime) -> Result<(), Fail> {
 #[test]
 fn views_find_packed_bodies(rt: HostRuntime) -> Result<(), Fail> {
     let table = bcd87(rt.alloc())?;
-    for case in &PACKED_VIEWS {
+    for case in &packed_views() {
         let name = case.name;
         assert!(rt; is_viewed(&table, case)?, "{name}");
         assert!(rt; has_bodies(&table, case)?, "{name}: its bodies");
