@@ -1,5 +1,5 @@
 -- What one call adds to the counts.
--- Public: `Tally::then` promises it.
+-- Public: `Tally::then` and the calls of `Inlet` and `Outlet` promise it.
 use Rattle.std.specs.Prelude.{◌+◌}
 use Rattle.iso_host.specs.Counts.{Counts}
 use Rattle.iso_host.specs.declared.counting.Call.{Call}
