@@ -1,4 +1,7 @@
 //! What the command answers, case by case.
+use iso_fakes::{check, check_of};
+use std::test::Fail;
+
 mod act;
 mod given;
 mod run;
@@ -6,3 +9,47 @@ mod source;
 mod stop;
 mod streaming;
 mod words;
+
+/// Ends the test with the name of a case, unless the status and the fault line are as wanted.
+fn check_stop(
+    status: u8,
+    faults: &[u8],
+    wanted_status: u8,
+    wanted_faults: &[u8],
+    name: &str,
+) -> Result<(), Fail> {
+    check_of(status == wanted_status, name, "the status")?;
+    check_of(faults == wanted_faults, name, "the fault line")
+}
+
+/// What comes of words over streams: the status, what is written, and what is told.
+#[derive(Drop)]
+struct End {
+    status: u8,
+    output: Vec<u8>,
+    faults: Vec<u8>,
+}
+
+/// Ends the test with the name of a case, unless that came of it. The output is given in pieces.
+fn check_end(
+    ended: &End,
+    status: u8,
+    output: &[&[u8]],
+    faults: &[u8],
+    name: &str,
+) -> Result<(), Fail> {
+    check_of(is_joined(&ended.output, output), name, "the output")?;
+    check_stop(ended.status, &ended.faults, status, faults, name)
+}
+
+/// Whether the bytes are these pieces end to end.
+fn is_joined(bytes: &[u8], pieces: &[&[u8]]) -> bool {
+    let mut rest = bytes;
+    for piece in pieces {
+        match rest.strip_prefix(*piece) {
+            Some(behind) => rest = behind,
+            None => return false,
+        }
+    }
+    rest.is_empty()
+}

@@ -2,6 +2,44 @@
 //! that none of these is proved a second time with its tests.
 #![tactic(auto)]
 
+/// A row of a table, in a constant too, where no function is called.
+#[cfg(test)]
+macro_rules! row {
+    ($class:expr, $coding:expr, $length:expr, $max:expr, $pad:expr) => {
+        FieldSpec {
+            class: $class,
+            coding: $coding,
+            length: $length,
+            max: $max,
+            pad: $pad,
+        }
+    };
+}
+
+/// A row of a number.
+#[cfg(test)]
+macro_rules! number {
+    ($coding:expr, $length:expr, $max:expr) => {
+        row!(CharClass::N, $coding, $length, $max, Pad::None)
+    };
+}
+
+/// A row of characters.
+#[cfg(test)]
+macro_rules! text {
+    ($length:expr, $max:expr) => {
+        row!(CharClass::ANS, Coding::Ascii, $length, $max, Pad::None)
+    };
+}
+
+/// A row of bytes.
+#[cfg(test)]
+macro_rules! bytes {
+    ($coding:expr, $length:expr, $max:expr) => {
+        row!(CharClass::B, $coding, $length, $max, Pad::None)
+    };
+}
+
 #[cfg(test)]
 mod parts;
 #[cfg(test)]

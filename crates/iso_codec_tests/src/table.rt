@@ -1,8 +1,34 @@
+use iso_fakes::{check, check_of};
 use iso_parts::{CharClass, Coding, Digits, FieldSpec, Length, Pad};
 use iso_table::*;
 use std::alloc::{AllocError, Global};
-use std::process::Abort;
 use std::test::*;
+
+/// What a table says whose type is in ASCII digits, and whose bitmaps are in hexadecimal ones.
+macro_rules! ascii_table {
+    ($version:expr, $rows:expr, $max_bytes:expr) => {
+        Says {
+            version: $version,
+            mti: Digits::Ascii,
+            bitmap: BitmapCoding::Hex,
+            rows: $rows,
+            max_bytes: $max_bytes,
+        }
+    };
+}
+
+/// What a table says whose type is in BCD, and whose bitmaps stand as they are.
+macro_rules! bcd_table {
+    ($version:expr, $rows:expr, $max_bytes:expr) => {
+        Says {
+            version: $version,
+            mti: Digits::Bcd,
+            bitmap: BitmapCoding::Raw,
+            rows: $rows,
+            max_bytes: $max_bytes,
+        }
+    };
+}
 
 mod documents;
 mod drafts;
@@ -11,36 +37,14 @@ mod faults;
 mod hosts;
 mod members;
 
-fn spec(class: CharClass, coding: Coding, length: Length, max: u16, pad: Pad) -> FieldSpec {
-    FieldSpec {
-        class,
-        coding,
-        length,
-        max,
-        pad,
-    }
-}
-
-fn number(coding: Coding, length: Length, max: u16) -> FieldSpec {
-    spec(CharClass::N, coding, length, max, Pad::None)
-}
-
-fn text(length: Length, max: u16) -> FieldSpec {
-    spec(CharClass::ANS, Coding::Ascii, length, max, Pad::None)
-}
-
-fn bytes(coding: Coding, length: Length, max: u16) -> FieldSpec {
-    spec(CharClass::B, coding, length, max, Pad::None)
-}
-
 /// The row of a terminal: eight characters, filled up with blanks.
-const TERMINAL_ROW: FieldSpec = FieldSpec {
-    class: CharClass::ANS,
-    coding: Coding::Ascii,
-    length: Length::Fixed,
-    max: 8,
-    pad: Pad::Right(0x20),
-};
+const TERMINAL_ROW: FieldSpec = row!(
+    CharClass::ANS,
+    Coding::Ascii,
+    Length::Fixed,
+    8,
+    Pad::Right(0x20)
+);
 
 /// What a table says: it has these rows and no others.
 #[derive(Clone, Copy)]
@@ -50,28 +54,6 @@ struct Says<'a> {
     bitmap: BitmapCoding,
     rows: &'a [(u8, FieldSpec)],
     max_bytes: u64,
-}
-
-/// A table with its type in ASCII digits and its bitmaps in hexadecimal ones.
-fn ascii_table(version: u8, rows: &[(u8, FieldSpec)], max_bytes: u64) -> Says<'_> {
-    Says {
-        version,
-        mti: Digits::Ascii,
-        bitmap: BitmapCoding::Hex,
-        rows,
-        max_bytes,
-    }
-}
-
-/// A table with its type in BCD and its bitmaps as they are.
-fn bcd_table(version: u8, rows: &[(u8, FieldSpec)], max_bytes: u64) -> Says<'_> {
-    Says {
-        version,
-        mti: Digits::Bcd,
-        bitmap: BitmapCoding::Raw,
-        rows,
-        max_bytes,
-    }
 }
 
 /// A draft that says so.
@@ -88,19 +70,29 @@ fn draft(alloc: Global, says: Says) -> Result<Draft, AllocError> {
     })
 }
 
-/// That a table says so.
-fn assert_says(rt: &impl Abort, name: &str, table: &Table, says: Says) {
-    assert!(rt;
-        has_heading(table, says.version, says.mti, says.bitmap),
-        "{name}"
-    );
-    assert!(rt; has_size(table, says.rows.len(), says.max_bytes), "{name}");
-    for (element, row) in says.rows {
-        assert!(rt;
-            has_row(table, *element, Some(*row)),
-            "{name}: element {element}"
-        );
+/// Ends the test with the name of a table and an element, unless it is so.
+fn check_element(is_so: bool, name: &str, element: u8) -> Result<(), Fail> {
+    if is_so {
+        Ok(())
+    } else {
+        Err(Fail::new(format_args!("{name}: element {element}")))
     }
+}
+
+/// That a table says so.
+fn check_says(name: &str, table: &Table, says: &Says) -> Result<(), Fail> {
+    let has_heading = has_heading(table, says.version, says.mti, says.bitmap);
+    check_of(has_heading, name, "its heading")?;
+    let has_size = has_size(table, says.rows.len(), says.max_bytes);
+    check_of(has_size, name, "its size")?;
+    check_rows(name, table, says.rows)
+}
+
+fn check_rows(name: &str, table: &Table, rows: &[(u8, FieldSpec)]) -> Result<(), Fail> {
+    for (element, row) in rows {
+        check_element(has_row(table, *element, Some(*row)), name, *element)?;
+    }
+    Ok(())
 }
 
 fn has_heading(table: &Table, version: u8, mti: Digits, bitmap: BitmapCoding) -> bool {
@@ -132,60 +124,59 @@ fn read(alloc: Global, text: &[u8]) -> Result<Table, Fail> {
     Ok(Table::from_json(alloc, text)?)
 }
 
-fn ascii87_rows() -> [(u8, Option<FieldSpec>); 15] {
-    let (ascii, ll) = (Coding::Ascii, Length::LL(Digits::Ascii));
-    let lll = Length::LLL(Digits::Ascii);
-    [
-        (1, None),
-        (2, Some(number(ascii, ll, 19))),
-        (3, Some(number(ascii, Length::Fixed, 6))),
-        (13, Some(number(ascii, Length::Fixed, 4))),
-        (18, Some(number(ascii, Length::Fixed, 4))),
-        (41, Some(TERMINAL_ROW)),
-        (52, Some(bytes(Coding::HexText, Length::Fixed, 8))),
-        (54, Some(text(lll, 120))),
-        (55, Some(bytes(Coding::Raw, lll, 999))),
-        (65, None),
-        (96, Some(bytes(Coding::HexText, Length::Fixed, 8))),
-        (104, Some(text(lll, 100))),
-        (127, Some(text(lll, 999))),
-        (128, Some(bytes(Coding::HexText, Length::Fixed, 8))),
-        (129, None),
-    ]
-}
+const LL: Length = Length::LL(Digits::Ascii);
+
+const LLL: Length = Length::LLL(Digits::Ascii);
+
+const ASCII87_ROWS: &[(u8, Option<FieldSpec>)] = &[
+    (1, None),
+    (2, Some(number!(Coding::Ascii, LL, 19))),
+    (3, Some(number!(Coding::Ascii, Length::Fixed, 6))),
+    (13, Some(number!(Coding::Ascii, Length::Fixed, 4))),
+    (18, Some(number!(Coding::Ascii, Length::Fixed, 4))),
+    (41, Some(TERMINAL_ROW)),
+    (52, Some(bytes!(Coding::HexText, Length::Fixed, 8))),
+    (54, Some(text!(LLL, 120))),
+    (55, Some(bytes!(Coding::Raw, LLL, 999))),
+    (65, None),
+    (96, Some(bytes!(Coding::HexText, Length::Fixed, 8))),
+    (104, Some(text!(LLL, 100))),
+    (127, Some(text!(LLL, 999))),
+    (128, Some(bytes!(Coding::HexText, Length::Fixed, 8))),
+    (129, None),
+];
 
 #[test]
 fn builds_ascii87(rt: HostRuntime) -> Result<(), Fail> {
     let table = ascii87(rt.alloc())?;
-    assert!(rt; has_heading(&table, 0, Digits::Ascii, BitmapCoding::Hex));
-    assert!(rt; has_size(&table, 126, 36470));
-    for (element, row) in &ascii87_rows() {
-        assert!(rt; has_row(&table, *element, *row), "element {element}");
+    let has_heading = has_heading(&table, 0, Digits::Ascii, BitmapCoding::Hex);
+    check(has_heading, "its heading")?;
+    check(has_size(&table, 126, 36470), "its size")?;
+    for (element, row) in ASCII87_ROWS {
+        check_element(has_row(&table, *element, *row), "ascii87", *element)?;
     }
     Ok(())
 }
 
-fn bcd87_rows() -> [(u8, FieldSpec); 7] {
-    let (bcd, ll) = (Coding::Bcd, Length::LL(Digits::Bcd));
-    let lll = Length::LLL(Digits::Bcd);
-    [
-        (2, number(bcd, ll, 19)),
-        (34, text(ll, 28)),
-        (52, bytes(Coding::Raw, Length::Fixed, 8)),
-        (55, bytes(Coding::Raw, lll, 999)),
-        (63, text(lll, 999)),
-        (90, number(bcd, Length::Fixed, 42)),
-        (100, number(bcd, ll, 11)),
-    ]
-}
+const LL_BCD: Length = Length::LL(Digits::Bcd);
+
+const LLL_BCD: Length = Length::LLL(Digits::Bcd);
+
+const BCD87_ROWS: &[(u8, FieldSpec)] = &[
+    (2, number!(Coding::Bcd, LL_BCD, 19)),
+    (34, text!(LL_BCD, 28)),
+    (52, bytes!(Coding::Raw, Length::Fixed, 8)),
+    (55, bytes!(Coding::Raw, LLL_BCD, 999)),
+    (63, text!(LLL_BCD, 999)),
+    (90, number!(Coding::Bcd, Length::Fixed, 42)),
+    (100, number!(Coding::Bcd, LL_BCD, 11)),
+];
 
 #[test]
 fn builds_bcd87(rt: HostRuntime) -> Result<(), Fail> {
     let table = bcd87(rt.alloc())?;
-    assert!(rt; has_heading(&table, 0, Digits::Bcd, BitmapCoding::Raw));
-    assert!(rt; has_size(&table, 126, 36141));
-    for (element, row) in &bcd87_rows() {
-        assert!(rt; has_row(&table, *element, Some(*row)), "element {element}");
-    }
-    Ok(())
+    let has_heading = has_heading(&table, 0, Digits::Bcd, BitmapCoding::Raw);
+    check(has_heading, "its heading")?;
+    check(has_size(&table, 126, 36141), "its size")?;
+    check_rows("bcd87", &table, BCD87_ROWS)
 }

@@ -1,9 +1,30 @@
+use iso_fakes::{check, check_of};
 use iso_parts::{BitmapCoding, CharClass, Coding, Digits, FieldSpec, Length, Mti, Pad};
 use iso_table::{Draft, Row, Table, TableFault};
 use iso_wire::*;
 use std::alloc::Global;
-use std::process::Abort;
 use std::test::*;
+
+/// A row of so many digits.
+macro_rules! digits {
+    ($coding:ident, $max:expr) => {
+        number!(Coding::$coding, Length::Fixed, $max)
+    };
+}
+
+/// A row of so many characters.
+macro_rules! characters {
+    ($max:expr, $pad:expr) => {
+        row!(CharClass::ANS, Coding::Ascii, Length::Fixed, $max, $pad)
+    };
+}
+
+/// A row of at most so many digits, behind two digits of their count.
+macro_rules! counted {
+    ($max:expr) => {
+        number!(Coding::Ascii, Length::LL(Digits::Ascii), $max)
+    };
+}
 
 mod faults;
 mod frames;
@@ -38,34 +59,6 @@ struct Case {
     plain: &'static [u8],
 }
 
-const fn row(class: CharClass, coding: Coding, length: Length, max: u16, pad: Pad) -> FieldSpec {
-    FieldSpec {
-        class,
-        coding,
-        length,
-        max,
-        pad,
-    }
-}
-
-const fn digits(coding: Coding, max: u16) -> FieldSpec {
-    row(CharClass::N, coding, Length::Fixed, max, Pad::None)
-}
-
-const fn text(max: u16, pad: Pad) -> FieldSpec {
-    row(CharClass::ANS, Coding::Ascii, Length::Fixed, max, pad)
-}
-
-const fn counted(max: u16) -> FieldSpec {
-    row(
-        CharClass::N,
-        Coding::Ascii,
-        Length::LL(Digits::Ascii),
-        max,
-        Pad::None,
-    )
-}
-
 fn table(
     alloc: Global,
     version: u8,
@@ -88,106 +81,105 @@ fn table(
     Table::check(alloc, draft)
 }
 
+/// A terminal alone.
+const TERMINAL: &[(u8, FieldSpec)] = &[(41, characters!(8, Pad::Right(b' ')))];
+
+const ASCII_ROWS: &[(u8, FieldSpec)] = &[
+    (2, counted!(19)),
+    (3, digits!(Ascii, 6)),
+    (4, digits!(Ascii, 12)),
+    (7, digits!(Ascii, 10)),
+    (11, digits!(Ascii, 6)),
+    (13, digits!(Ascii, 4)),
+    (15, digits!(Ascii, 4)),
+    (32, counted!(11)),
+    (41, characters!(8, Pad::Right(b' '))),
+    (49, characters!(3, Pad::None)),
+    (70, digits!(Ascii, 3)),
+    (90, digits!(Ascii, 42)),
+];
+
 fn ascii(alloc: Global) -> Result<Table, TableFault> {
-    let coding = Coding::Ascii;
-    let rows = [
-        (2, counted(19)),
-        (3, digits(coding, 6)),
-        (4, digits(coding, 12)),
-        (7, digits(coding, 10)),
-        (11, digits(coding, 6)),
-        (13, digits(coding, 4)),
-        (15, digits(coding, 4)),
-        (32, counted(11)),
-        (41, text(8, Pad::Right(b' '))),
-        (49, text(3, Pad::None)),
-        (70, digits(coding, 3)),
-        (90, digits(coding, 42)),
-    ];
-    table(alloc, 0, Digits::Ascii, BitmapCoding::Hex, &rows)
+    table(alloc, 0, Digits::Ascii, BitmapCoding::Hex, ASCII_ROWS)
 }
+
+const PACKED_ROWS: &[(u8, FieldSpec)] = &[
+    (7, digits!(Bcd, 10)),
+    (11, digits!(Bcd, 6)),
+    (70, digits!(Bcd, 3)),
+];
 
 fn packed(alloc: Global) -> Result<Table, TableFault> {
-    let coding = Coding::Bcd;
-    let rows = [
-        (7, digits(coding, 10)),
-        (11, digits(coding, 6)),
-        (70, digits(coding, 3)),
-    ];
-    table(alloc, 0, Digits::Bcd, BitmapCoding::Raw, &rows)
+    table(alloc, 0, Digits::Bcd, BitmapCoding::Raw, PACKED_ROWS)
 }
 
-fn ascii_cases() -> [Case; 5] {
-    [
-        Case {
-            name: "echo",
-            bytes: ECHO,
-            used: 55,
-            elements: &[(7, b"0102030405"), (11, b"000001"), (70, b"301")],
-            plain: ECHO,
-        },
-        Case {
-            name: "payment",
-            bytes: PAYMENT,
-            used: 82,
-            elements: &[
-                (2, b"4111111111111111"),
-                (3, b"000000"),
-                (4, b"000000001000"),
-                (7, b"0102030405"),
-                (11, b"000007"),
-                (32, b"12345"),
-                (49, b"840"),
-            ],
-            plain: PAYMENT,
-        },
-        Case {
-            name: "no element",
-            bytes: b"08000000000000000000",
-            used: 20,
-            elements: &[],
-            plain: b"08000000000000000000",
-        },
-        Case {
-            name: "an empty secondary bitmap",
-            bytes: b"080080000000000000000000000000000000",
-            used: 36,
-            elements: &[],
-            plain: b"08000000000000000000",
-        },
-        Case {
-            name: "a bitmap in lower case, and bytes behind",
-            bytes: b"0800022a000000000000010203040500000101020103XYZ",
-            used: 44,
-            elements: &[
-                (7, b"0102030405"),
-                (11, b"000001"),
-                (13, b"0102"),
-                (15, b"0103"),
-            ],
-            plain: b"0800022A000000000000010203040500000101020103",
-        },
-    ]
-}
+const ASCII_CASES: &[Case] = &[
+    Case {
+        name: "echo",
+        bytes: ECHO,
+        used: 55,
+        elements: &[(7, b"0102030405"), (11, b"000001"), (70, b"301")],
+        plain: ECHO,
+    },
+    Case {
+        name: "payment",
+        bytes: PAYMENT,
+        used: 82,
+        elements: &[
+            (2, b"4111111111111111"),
+            (3, b"000000"),
+            (4, b"000000001000"),
+            (7, b"0102030405"),
+            (11, b"000007"),
+            (32, b"12345"),
+            (49, b"840"),
+        ],
+        plain: PAYMENT,
+    },
+    Case {
+        name: "no element",
+        bytes: b"08000000000000000000",
+        used: 20,
+        elements: &[],
+        plain: b"08000000000000000000",
+    },
+    Case {
+        name: "an empty secondary bitmap",
+        bytes: b"080080000000000000000000000000000000",
+        used: 36,
+        elements: &[],
+        plain: b"08000000000000000000",
+    },
+    Case {
+        name: "a bitmap in lower case, and bytes behind",
+        bytes: b"0800022a000000000000010203040500000101020103XYZ",
+        used: 44,
+        elements: &[
+            (7, b"0102030405"),
+            (11, b"000001"),
+            (13, b"0102"),
+            (15, b"0103"),
+        ],
+        plain: b"0800022A000000000000010203040500000101020103",
+    },
+];
 
-fn packed_cases() -> [Case; 2] {
-    [
-        Case {
-            name: "echo under BCD",
-            bytes: b"\x08\x00\x82\x20\0\0\0\0\0\0\x04\0\0\0\0\0\0\0\x01\x02\x03\x04\x05\0\0\x01\x03\x01",
-            used: 28,
-            elements: &[(7, b"0102030405"), (11, b"000001"), (70, b"301")],
-            plain: b"\x08\x00\x82\x20\0\0\0\0\0\0\x04\0\0\0\0\0\0\0\x01\x02\x03\x04\x05\0\0\x01\x03\x01",
-        },
-        Case {
-            name: "filler F",
-            bytes: b"\x08\x00\x82\x20\0\0\0\0\0\0\x04\0\0\0\0\0\0\0\x01\x02\x03\x04\x05\0\0\x01\xF3\x01",
-            used: 28,
-            elements: &[(7, b"0102030405"), (11, b"000001"), (70, b"301")],
-            plain: b"\x08\x00\x82\x20\0\0\0\0\0\0\x04\0\0\0\0\0\0\0\x01\x02\x03\x04\x05\0\0\x01\x03\x01",
-        },
-    ]
-}
+const PACKED_CASES: &[Case] = &[
+    Case {
+        name: "echo under BCD",
+        bytes: b"\x08\x00\x82\x20\0\0\0\0\0\0\x04\0\0\0\0\0\0\0\x01\x02\x03\x04\x05\0\0\x01\x03\x01",
+        used: 28,
+        elements: &[(7, b"0102030405"), (11, b"000001"), (70, b"301")],
+        plain: b"\x08\x00\x82\x20\0\0\0\0\0\0\x04\0\0\0\0\0\0\0\x01\x02\x03\x04\x05\0\0\x01\x03\x01",
+    },
+    Case {
+        name: "filler F",
+        bytes: b"\x08\x00\x82\x20\0\0\0\0\0\0\x04\0\0\0\0\0\0\0\x01\x02\x03\x04\x05\0\0\x01\xF3\x01",
+        used: 28,
+        elements: &[(7, b"0102030405"), (11, b"000001"), (70, b"301")],
+        plain: b"\x08\x00\x82\x20\0\0\0\0\0\0\x04\0\0\0\0\0\0\0\x01\x02\x03\x04\x05\0\0\x01\x03\x01",
+    },
+];
 
 /// The value that the elements give a number, if they have it.
 fn value_in<'a>(elements: &[(u8, &'a [u8])], n: u8) -> Option<&'a [u8]> {
@@ -242,14 +234,6 @@ fn is_refused(alloc: Global, table: &Table, bytes: &[u8], fault: UnpackFault) ->
     unpack(alloc, table, bytes).err() == Some(fault)
 }
 
-/// That each of the bytes is refused where it stops being a message.
-fn assert_stops(rt: &impl Abort, alloc: Global, table: &Table, stops: &[Stop]) {
-    for (name, bytes, at, element, cause) in stops {
-        let fault = stop(*at, *element, *cause);
-        assert!(rt; is_refused(alloc, table, bytes, fault), "{name}");
-    }
-}
-
 /// Where each piece of a message begins, with its element.
 const ECHO_PIECES: &[(usize, u8)] = &[(0, 0), (4, 0), (20, 1), (36, 7), (46, 11), (52, 70)];
 
@@ -292,23 +276,6 @@ fn short_at(pieces: &[(usize, u8)], size: usize) -> UnpackFault {
     fault
 }
 
-/// That a message is short wherever it is cut.
-fn assert_short(
-    rt: &impl Abort,
-    alloc: Global,
-    table: &Table,
-    bytes: &[u8],
-    pieces: &[(usize, u8)],
-) {
-    for size in 0..bytes.len() {
-        let fault = short_at(pieces, size);
-        assert!(rt;
-            is_refused(alloc, table, &bytes[..size], fault),
-            "{size} bytes"
-        );
-    }
-}
-
 /// Whether a case is read, and nothing else.
 fn is_read(alloc: Global, table: &Table, case: &Case) -> Result<bool, Fail> {
     let (message, used) = unpack(alloc, table, case.bytes)?;
@@ -322,24 +289,27 @@ fn is_rewritten(alloc: Global, table: &Table, case: &Case) -> Result<bool, Fail>
     Ok(plain.as_slice() == case.plain)
 }
 
-#[test]
-fn messages_are_read_and_written(rt: HostRuntime) -> Result<(), Fail> {
-    let table = ascii(rt.alloc())?;
-    for case in &ascii_cases() {
-        let name = case.name;
-        assert!(rt; is_read(rt.alloc(), &table, case)?, "{name}: read");
-        assert!(rt; is_rewritten(rt.alloc(), &table, case)?, "{name}: written");
+/// That a case is read, and written as its plain bytes.
+fn check_case(alloc: Global, table: &Table, case: &Case) -> Result<(), Fail> {
+    check_of(is_read(alloc, table, case)?, case.name, "read")?;
+    check_of(is_rewritten(alloc, table, case)?, case.name, "written")
+}
+
+fn check_cases(alloc: Global, table: &Table, cases: &[Case]) -> Result<(), Fail> {
+    for case in cases {
+        check_case(alloc, table, case)?;
     }
     Ok(())
 }
 
 #[test]
+fn messages_are_read_and_written(rt: HostRuntime) -> Result<(), Fail> {
+    let table = ascii(rt.alloc())?;
+    check_cases(rt.alloc(), &table, ASCII_CASES)
+}
+
+#[test]
 fn packed_messages_are_read_and_written(rt: HostRuntime) -> Result<(), Fail> {
     let table = packed(rt.alloc())?;
-    for case in &packed_cases() {
-        let name = case.name;
-        assert!(rt; is_read(rt.alloc(), &table, case)?, "{name}: read");
-        assert!(rt; is_rewritten(rt.alloc(), &table, case)?, "{name}: written");
-    }
-    Ok(())
+    check_cases(rt.alloc(), &table, PACKED_CASES)
 }

@@ -1,7 +1,10 @@
-//! Streams for the tests of hosts and of the command: a reader and a writer that move a few bytes at a time and fail at a
-//! call, and streams that are interrupted. No crate uses it but in its tests.
+//! What tests share: a reader and a writer that move a few bytes at a time and fail at a call, streams that are interrupted, and
+//! the checks that end a test. No crate uses it but in its tests.
 #![tactic(auto)]
 
+mod checks;
+
+pub use checks::{check, check_of};
 use std::alloc::{AllocError, Global};
 use std::io;
 use std::io::{ErrorKind, Read, Write};

@@ -12,19 +12,44 @@ use crate::fault::ServeFault;
 use crate::standard::Std;
 use crate::streams::{Failed, Inlet, Outlet};
 use crate::writing::write_all;
-use iso_fakes::{FewBytes, FewTaken};
+use iso_fakes::{FewBytes, FewTaken, check, check_of};
 use std::alloc::Global;
 use std::test::Fail;
 
+/// Ends the test with the count of bytes that a call moves and what was compared, unless it is so.
+fn check_at(is_so: bool, piece: usize, what: &str) -> Result<(), Fail> {
+    if is_so {
+        Ok(())
+    } else {
+        Err(Fail::new(format_args!("{piece} bytes a call: {what}")))
+    }
+}
+
+/// Whether a read answers so.
+fn reads<R: Inlet>(reader: &mut R, buffer: &mut [u8], answer: Result<usize, Failed>) -> bool {
+    reader.read(buffer) == answer
+}
+
+/// Whether a read answers with so many bytes, and the buffer then holds these.
+fn reads_into<R: Inlet>(
+    reader: &mut R,
+    buffer: &mut [u8; 3],
+    count: usize,
+    held: &[u8; 3],
+) -> bool {
+    reads(reader, buffer, Ok(count)) && *buffer == *held
+}
+
 #[test]
-fn reads_a_slice(rt: HostRuntime) {
+fn reads_a_slice() -> Result<(), Fail> {
     let mut reader = Std::new(b"abcde".as_slice());
     let mut buffer = [0u8; 3];
-    assert_eq!(rt; reader.read(&mut buffer), Ok(3));
-    assert_eq!(rt; buffer.as_slice(), b"abc".as_slice());
-    assert_eq!(rt; reader.read(&mut buffer), Ok(2));
-    assert_eq!(rt; buffer.as_slice(), b"dec".as_slice());
-    assert_eq!(rt; reader.read(&mut buffer), Ok(0));
+    let is_first = reads_into(&mut reader, &mut buffer, 3, b"abc");
+    let is_second = reads_into(&mut reader, &mut buffer, 2, b"dec");
+    let is_end = reads(&mut reader, &mut buffer, Ok(0));
+    check(is_first, "the first read")?;
+    check(is_second, "the second read")?;
+    check(is_end, "the read at the end")
 }
 
 /// Whether a write of these bytes answers so.
@@ -37,28 +62,30 @@ fn flushes<W: Outlet>(writer: &mut W, answer: Result<(), Failed>) -> bool {
     writer.flush() == answer
 }
 
+/// Whether writes of three bytes, none and two answer so, and a flush.
+fn writes_five<W: Outlet>(writer: &mut W) -> bool {
+    writes(writer, b"abc", Ok(3))
+        && writes(writer, b"", Ok(0))
+        && writes(writer, b"de", Ok(2))
+        && flushes(writer, Ok(()))
+}
+
 #[test]
-fn writes_to_a_vector(rt: HostRuntime) {
+fn writes_to_a_vector(rt: HostRuntime) -> Result<(), Fail> {
     let mut held = Vec::new(rt.alloc());
-    let mut writer = Std::new(&mut held);
-    assert!(rt; writes(&mut writer, b"abc", Ok(3)));
-    assert!(rt; writes(&mut writer, b"", Ok(0)));
-    assert!(rt; writes(&mut writer, b"de", Ok(2)));
-    assert!(rt; flushes(&mut writer, Ok(())));
-    assert!(rt; held.as_slice() == b"abcde".as_slice());
+    check(writes_five(&mut Std::new(&mut held)), "the answers")?;
+    check(held.as_slice() == b"abcde".as_slice(), "what is held")
 }
 
 /// A call: how many bytes it moves at most, how many calls there are, and what it answers.
 type Call = (&'static str, usize, u32, Result<usize, Failed>);
 
-fn reads_of_five() -> [Call; 4] {
-    [
-        ("whole", 9, 1, Ok(5)),
-        ("two bytes at a time", 2, 1, Ok(2)),
-        ("no byte", 0, 1, Ok(0)),
-        ("failing", 9, 0, Err(Failed)),
-    ]
-}
+const READS_OF_FIVE: &[Call] = &[
+    ("whole", 9, 1, Ok(5)),
+    ("two bytes at a time", 2, 1, Ok(2)),
+    ("no byte", 0, 1, Ok(0)),
+    ("failing", 9, 0, Err(Failed)),
+];
 
 fn is_read(piece: usize, calls: u32, answer: Result<usize, Failed>) -> bool {
     let few = FewBytes {
@@ -72,20 +99,19 @@ fn is_read(piece: usize, calls: u32, answer: Result<usize, Failed>) -> bool {
 }
 
 #[test]
-fn each_read_answers_as_the_stream_does(rt: HostRuntime) {
-    for (name, piece, calls, answer) in reads_of_five() {
-        assert!(rt; is_read(piece, calls, answer), "{name}");
+fn each_read_answers_as_the_stream_does() -> Result<(), Fail> {
+    for (name, piece, calls, answer) in READS_OF_FIVE {
+        check(is_read(*piece, *calls, *answer), *name)?;
     }
+    Ok(())
 }
 
-fn writes_of_five() -> [Call; 4] {
-    [
-        ("whole", 9, 1, Ok(5)),
-        ("two bytes at a time", 2, 1, Ok(2)),
-        ("none taken of some", 0, 1, Err(Failed)),
-        ("failing", 9, 0, Err(Failed)),
-    ]
-}
+const WRITES_OF_FIVE: &[Call] = &[
+    ("whole", 9, 1, Ok(5)),
+    ("two bytes at a time", 2, 1, Ok(2)),
+    ("none taken of some", 0, 1, Err(Failed)),
+    ("failing", 9, 0, Err(Failed)),
+];
 
 fn is_written(alloc: Global, piece: usize, calls: u32, answer: Result<usize, Failed>) -> bool {
     let mut writer = Std::new(FewTaken::new(alloc, piece, calls, false));
@@ -99,11 +125,11 @@ fn is_flushed(alloc: Global, answer: Result<(), Failed>) -> bool {
 }
 
 #[test]
-fn each_write_answers_as_the_stream_does(rt: HostRuntime) {
-    for (name, piece, calls, answer) in writes_of_five() {
-        assert!(rt; is_written(rt.alloc(), piece, calls, answer), "{name}");
+fn each_write_answers_as_the_stream_does(rt: HostRuntime) -> Result<(), Fail> {
+    for (name, piece, calls, answer) in WRITES_OF_FIVE {
+        check(is_written(rt.alloc(), *piece, *calls, *answer), *name)?;
     }
-    assert!(rt; is_flushed(rt.alloc(), Err(Failed)));
+    check(is_flushed(rt.alloc(), Err(Failed)), "a failing flush")
 }
 
 /// A writer, what writing seven bytes whole to it answers, and what it then has taken.
@@ -118,64 +144,62 @@ struct Whole {
     flushes: u32,
 }
 
-fn wholes() -> [Whole; 6] {
-    [
-        Whole {
-            name: "at once",
-            piece: 9,
-            calls: 1,
-            fails_to_flush: false,
-            answer: Ok(()),
-            taken: b"abcdefg",
-            flushes: 1,
-        },
-        Whole {
-            name: "three bytes a call",
-            piece: 3,
-            calls: 3,
-            fails_to_flush: false,
-            answer: Ok(()),
-            taken: b"abcdefg",
-            flushes: 1,
-        },
-        Whole {
-            name: "fails at the third call",
-            piece: 3,
-            calls: 2,
-            fails_to_flush: false,
-            answer: Err(Failed),
-            taken: b"abcdef",
-            flushes: 0,
-        },
-        Whole {
-            name: "fails at once",
-            piece: 3,
-            calls: 0,
-            fails_to_flush: false,
-            answer: Err(Failed),
-            taken: b"",
-            flushes: 0,
-        },
-        Whole {
-            name: "takes none",
-            piece: 0,
-            calls: 9,
-            fails_to_flush: false,
-            answer: Err(Failed),
-            taken: b"",
-            flushes: 0,
-        },
-        Whole {
-            name: "fails to flush",
-            piece: 9,
-            calls: 9,
-            fails_to_flush: true,
-            answer: Err(Failed),
-            taken: b"abcdefg",
-            flushes: 1,
-        },
-    ]
-}
+const WHOLES: &[Whole] = &[
+    Whole {
+        name: "at once",
+        piece: 9,
+        calls: 1,
+        fails_to_flush: false,
+        answer: Ok(()),
+        taken: b"abcdefg",
+        flushes: 1,
+    },
+    Whole {
+        name: "three bytes a call",
+        piece: 3,
+        calls: 3,
+        fails_to_flush: false,
+        answer: Ok(()),
+        taken: b"abcdefg",
+        flushes: 1,
+    },
+    Whole {
+        name: "fails at the third call",
+        piece: 3,
+        calls: 2,
+        fails_to_flush: false,
+        answer: Err(Failed),
+        taken: b"abcdef",
+        flushes: 0,
+    },
+    Whole {
+        name: "fails at once",
+        piece: 3,
+        calls: 0,
+        fails_to_flush: false,
+        answer: Err(Failed),
+        taken: b"",
+        flushes: 0,
+    },
+    Whole {
+        name: "takes none",
+        piece: 0,
+        calls: 9,
+        fails_to_flush: false,
+        answer: Err(Failed),
+        taken: b"",
+        flushes: 0,
+    },
+    Whole {
+        name: "fails to flush",
+        piece: 9,
+        calls: 9,
+        fails_to_flush: true,
+        answer: Err(Failed),
+        taken: b"abcdefg",
+        flushes: 1,
+    },
+];
 
 /// Whether writing these bytes whole answers so.
 fn writes_whole<W: Outlet>(writer: &mut W, bytes: &[u8], answer: Result<(), Failed>) -> bool {
@@ -187,47 +211,47 @@ fn has_taken(few: &FewTaken, taken: &[u8], flushes: u32) -> bool {
     few.taken.as_slice() == taken && few.flushes == flushes
 }
 
+/// Whether a writer of that case answers so, and then has taken so.
+fn is_whole(alloc: Global, case: &Whole, bytes: &[u8]) -> bool {
+    let mut few = FewTaken::new(alloc, case.piece, case.calls, case.fails_to_flush);
+    let mut writer = Std::new(&mut few);
+    let answers = writes_whole(&mut writer, bytes, case.answer);
+    answers && has_taken(&few, case.taken, case.flushes)
+}
+
 #[test]
 fn writes_whole_bytes_and_flushes(rt: HostRuntime) -> Result<(), Fail> {
-    for case in &wholes() {
-        let name = case.name;
-        let mut few = FewTaken::new(rt.alloc(), case.piece, case.calls, case.fails_to_flush);
-        let mut writer = Std::new(&mut few);
-        assert!(rt;
-            writes_whole(&mut writer, b"abcdefg", case.answer),
-            "{name}"
-        );
-        assert!(rt; has_taken(&few, case.taken, case.flushes), "{name}");
+    for case in WHOLES {
+        check(is_whole(rt.alloc(), case, b"abcdefg"), case.name)?;
     }
     Ok(())
 }
 
 #[test]
-fn flushes_after_no_bytes(rt: HostRuntime) {
+fn flushes_after_no_bytes(rt: HostRuntime) -> Result<(), Fail> {
     let mut few = FewTaken::new(rt.alloc(), 9, 0, false);
     let mut writer = Std::new(&mut few);
-    assert!(rt; writes_whole(&mut writer, b"", Ok(())));
-    assert!(rt; has_taken(&few, b"", 1));
+    check(writes_whole(&mut writer, b"", Ok(())), "the answer")?;
+    check(has_taken(&few, b"", 1), "what is taken")
 }
 
-fn numbers() -> [(&'static str, ServeFault, u8); 6] {
-    [
-        ("a failed reader", ServeFault::Read, 1),
-        ("a failed writer", ServeFault::Write, 2),
-        ("a header that isn't of digits", ServeFault::BadHeader, 3),
-        ("a cut frame", ServeFault::CutFrame, 4),
-        ("no memory", ServeFault::Memory, 5),
-        ("too many turns", ServeFault::TooManyTurns, 6),
-    ]
-}
+const NUMBERS: &[(&str, ServeFault, u8)] = &[
+    ("a failed reader", ServeFault::Read, 1),
+    ("a failed writer", ServeFault::Write, 2),
+    ("a header that isn't of digits", ServeFault::BadHeader, 3),
+    ("a cut frame", ServeFault::CutFrame, 4),
+    ("no memory", ServeFault::Memory, 5),
+    ("too many turns", ServeFault::TooManyTurns, 6),
+];
 
 fn has_number(fault: ServeFault, number: u8) -> bool {
     fault.number() == number
 }
 
 #[test]
-fn each_fault_has_its_number(rt: HostRuntime) {
-    for (name, fault, number) in numbers() {
-        assert!(rt; has_number(fault, number), "{name}");
+fn each_fault_has_its_number() -> Result<(), Fail> {
+    for (name, fault, number) in NUMBERS {
+        check(has_number(*fault, *number), *name)?;
     }
+    Ok(())
 }

@@ -2,12 +2,25 @@ ghost use Rattle.std.specs.Prelude.{IfOk};
 ghost use Rattle.iso_acquirer.specs.World.{IsFairEvent};
 
 use iso_acquirer::{AcqFault, Acquirer, Event, Given, State, StepFault, World};
+use iso_fakes::check;
 use iso_issuer::{Accounts, Issuer, Refused};
 use iso_order::{Act, Money, Order, Pan, TxKey};
 use std::alloc::Global;
-use std::process::Abort;
 use std::test::*;
 
+/// A key of that time, as tables have it.
+macro_rules! key {
+    ($base:expr, $stan:expr, $acquirer:expr) => {
+        TxKey {
+            base: $base,
+            stan: $stan,
+            sent: SENT,
+            acquirer: $acquirer,
+        }
+    };
+}
+
+mod agreement;
 mod draws;
 mod faults;
 mod generated;
@@ -33,12 +46,7 @@ fn account() -> Result<Pan, Fail> {
 }
 
 const fn key(base: u16, stan: u32, acquirer: u64) -> TxKey {
-    TxKey {
-        base,
-        stan,
-        sent: SENT,
-        acquirer,
-    }
+    key!(base, stan, acquirer)
 }
 
 /// An acquirer, and an issuer with 5000 on each of two accounts.
@@ -193,13 +201,28 @@ fn is_available(world: &World, amount: i64) -> Result<bool, Fail> {
 /// An event, what comes of it, the state that the acquirer then holds of a transaction, and what is then on the account.
 type PlayedEvent = (Happens, Result<(), StepFault>, Option<State>, i64);
 
+/// Ends the test with an event of a table, unless it is so.
+fn check_played(is_so: bool, happens: Happens) -> Result<(), Fail> {
+    if is_so {
+        Ok(())
+    } else {
+        Err(Fail::new(format_args!("{happens:?}")))
+    }
+}
+
+/// Plays an event.
+fn play_one(world: &mut World, stan: u32, row: &PlayedEvent) -> Result<(), Fail> {
+    let (happens, told, state, left) = row;
+    check_played(comes_to(world, *happens, *told)?, *happens)?;
+    check_played(is_in_state(world, stan, *state), *happens)?;
+    check_played(is_on_ledger(world, *left)?, *happens)?;
+    check_played(is_available(world, *left)?, *happens)
+}
+
 /// Plays events.
-fn play(rt: &impl Abort, world: &mut World, stan: u32, rows: &[PlayedEvent]) -> Result<(), Fail> {
-    for (happens, told, state, left) in rows {
-        assert!(rt; comes_to(world, *happens, *told)?, "{happens:?}");
-        assert!(rt; is_in_state(world, stan, *state), "{happens:?}");
-        assert!(rt; is_on_ledger(world, *left)?, "{happens:?}");
-        assert!(rt; is_available(world, *left)?, "{happens:?}");
+fn play(world: &mut World, stan: u32, rows: &[PlayedEvent]) -> Result<(), Fail> {
+    for row in rows {
+        play_one(world, stan, row)?;
     }
     Ok(())
 }

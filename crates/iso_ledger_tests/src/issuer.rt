@@ -1,9 +1,10 @@
+use Told::{Declined, Granted, Shows};
 use asking::Ask::*;
 use asking::*;
+use iso_fakes::check;
 use iso_issuer::{Accounts, AccountsFault, Issuer, Refused};
 use iso_order::{Act, Answer, Money, Order, Pan, TxKey};
 use std::alloc::Global;
-use std::process::Abort;
 use std::test::*;
 
 mod asking;
@@ -31,36 +32,60 @@ fn pan(text: &[u8]) -> Result<Pan, Fail> {
     Ok(Pan::from_digits(text).ok_or("1 to 19 digits")?)
 }
 
-/// A code, and the ledger and what is available after it.
-type Played = (u8, OnAccount);
-
-/// Hands what is asked to an issuer.
-fn play_one(issuer: &mut Issuer, asked: Ask) -> Result<Played, Fail> {
-    let (code, _, _) = reply_to(issuer, asked)??;
-    Ok((code, balances(issuer)?))
+/// The answer to what is asked: its place in the journal, and a code other than 0 or what is shown.
+#[derive(Clone, Copy)]
+enum Told {
+    Granted(u32),
+    Declined(u8, u32),
+    Shows(u32, i64),
 }
 
-/// Whether what is asked gets that code, and leaves that on the account.
-fn is_played(issuer: &mut Issuer, asked: Ask, expected: Played) -> Result<bool, Fail> {
-    Ok(play_one(issuer, asked)? == expected)
+fn reply(told: Told) -> Reply {
+    match told {
+        Granted(seq) => (0, seq, None),
+        Declined(code, seq) => (code, seq, None),
+        Shows(seq, amount) => (0, seq, Some(amount)),
+    }
 }
 
-/// What is asked, its code, and the ledger and what is available after it.
-type Row = (Ask, u8, i64, i64);
+/// A name, what is asked, its answer, and the ledger and the available amount after it.
+type Step = (&'static str, Ask, Told, (i64, i64));
 
-/// Hands each row to an issuer, and compares its code, the ledger and what is available.
-fn play_on(rt: &impl Abort, issuer: &mut Issuer, rows: &[Row]) -> Result<(), Fail> {
-    for (asked, code, ledger, available) in rows {
-        let expected = (*code, (Some(*ledger), Some(*available)));
-        assert!(rt; is_played(issuer, *asked, expected)?, "{asked:?}");
+/// The answer to what is asked, and what is on the account then.
+fn step(issuer: &mut Issuer, asked: Ask) -> Result<(Reply, OnAccount), Fail> {
+    let told = reply_to(issuer, asked)??;
+    Ok((told, balances(issuer)?))
+}
+
+fn is_reply(one: Reply, other: Told) -> bool {
+    one == reply(other)
+}
+
+fn is_left(left: OnAccount, ledger: i64, available: i64) -> bool {
+    left == (Some(ledger), Some(available))
+}
+
+/// Hands what is asked, one after the other, to an issuer that never was asked before.
+fn play(alloc: Global, opening: i64, steps: &[Step]) -> Result<(), Fail> {
+    let mut issuer = issuer(alloc, opening, 999_999)?;
+    play_on(&mut issuer, steps)
+}
+
+/// Hands what is asked to an issuer, and compares each answer, and what is on the account then.
+fn play_on(issuer: &mut Issuer, steps: &[Step]) -> Result<(), Fail> {
+    for (name, asked, expected, (ledger, available)) in steps {
+        let (told, left) = step(issuer, *asked)?;
+        check(is_reply(told, *expected), *name)?;
+        check(is_left(left, *ledger, *available), *name)?;
     }
     Ok(())
 }
 
-/// Hands the rows to an issuer that never was asked before.
-fn play(rt: &impl Abort, alloc: Global, opening: i64, rows: &[Row]) -> Result<(), Fail> {
-    let mut issuer = issuer(alloc, opening, 100)?;
-    play_on(rt, &mut issuer, rows)
+/// The account alone.
+fn account_of(alloc: Global, opening: i64) -> Result<Accounts, Fail> {
+    let account = "\"currency\":\"840\",\"pan\":\"4111111111111111\"";
+    let text = format!(in alloc; "{{\"accounts\":[{{{account},\"opening\":{opening}}}]}}")?;
+    Ok(Accounts::from_json(alloc, text.as_bytes())?)
 }
 
 /// An issuer of the account alone.
@@ -68,29 +93,31 @@ fn issuer(alloc: Global, opening: i64, limit: u32) -> Result<Issuer, Fail> {
     if limit < 1 || 999_999 < limit {
         return Err("a limit from 1 to 999,999")?;
     }
-    let account = "\"currency\":\"840\",\"pan\":\"4111111111111111\"";
-    let text = format!(in alloc; "{{\"accounts\":[{{{account},\"opening\":{opening}}}]}}")?;
-    let accounts = Accounts::from_json(alloc, text.as_bytes())?;
-    Ok(Issuer::new(accounts, limit))
+    Ok(Issuer::new(account_of(alloc, opening)?, limit))
 }
 
 /// How many orders were entered, and the ledger and what is available.
 type Books = (u32, OnAccount);
 
+/// A name, what is asked, and its answer.
+type New = (&'static str, Ask, Reply);
+
+/// A name, what is asked, and its answer or refusal.
+type Other = (&'static str, Ask, Result<Reply, Refused>);
+
 /// Hands new orders to an issuer of this limit, then others, whose answers may be refusals, and compares what is
 /// told of each and what is in the books at the end.
 fn play_up_to(
-    rt: &impl Abort,
     alloc: Global,
     limit: u32,
-    new: &[(Ask, Reply)],
-    others: &[(Ask, Result<Reply, Refused>)],
+    new: &[New],
+    others: &[Other],
     books: Books,
 ) -> Result<(), Fail> {
     let mut issuer = issuer(alloc, 100, limit)?;
-    compare_new(rt, &mut issuer, new)?;
-    compare_replies(rt, &mut issuer, others)?;
-    compare_books(rt, &issuer, books)
+    compare_new(&mut issuer, new)?;
+    compare_replies(&mut issuer, others)?;
+    compare_books(&issuer, books)
 }
 
 /// Whether an order is taken, and gets that answer.
@@ -99,9 +126,9 @@ fn is_answered(issuer: &mut Issuer, asked: Ask, told: Reply) -> Result<bool, Fai
 }
 
 /// Hands new orders to an issuer, and compares their answers.
-fn compare_new(rt: &impl Abort, issuer: &mut Issuer, rows: &[(Ask, Reply)]) -> Result<(), Fail> {
-    for (asked, told) in rows {
-        assert!(rt; is_answered(issuer, *asked, *told)?, "{asked:?}");
+fn compare_new(issuer: &mut Issuer, rows: &[New]) -> Result<(), Fail> {
+    for (name, asked, told) in rows {
+        check(is_answered(issuer, *asked, *told)?, *name)?;
     }
     Ok(())
 }
@@ -111,9 +138,8 @@ fn has_books(issuer: &Issuer, books: Books) -> Result<bool, Fail> {
 }
 
 /// Compares how many orders were entered, and what is on the account.
-fn compare_books(rt: &impl Abort, issuer: &Issuer, books: Books) -> Result<(), Fail> {
-    assert!(rt; has_books(issuer, books)?);
-    Ok(())
+fn compare_books(issuer: &Issuer, books: Books) -> Result<(), Fail> {
+    check(has_books(issuer, books)?, "the books at the end")
 }
 
 /// Whether an order gets that answer, or that refusal.
@@ -122,47 +148,53 @@ fn is_told(issuer: &mut Issuer, asked: Ask, told: Result<Reply, Refused>) -> Res
 }
 
 /// Hands orders to an issuer, and compares their answers and refusals.
-fn compare_replies(
-    rt: &impl Abort,
-    issuer: &mut Issuer,
-    rows: &[(Ask, Result<Reply, Refused>)],
-) -> Result<(), Fail> {
-    for (asked, told) in rows {
-        assert!(rt; is_told(issuer, *asked, *told)?, "{asked:?}");
+fn compare_replies(issuer: &mut Issuer, rows: &[Other]) -> Result<(), Fail> {
+    for (name, asked, told) in rows {
+        check(is_told(issuer, *asked, *told)?, *name)?;
     }
     Ok(())
 }
 
 #[test]
 fn limit_of_one(rt: HostRuntime) -> Result<(), Fail> {
-    let new = [(Debit(200, 1, 10), (0, 1, None))];
-    let others = [
-        (Debit(200, 2, 10), Err(Refused::Full)),
-        (Debit(200, 1, 10), Ok((0, 1, None))),
-    ];
-    let books = (1, (Some(90), Some(90)));
-    play_up_to(&rt, rt.alloc(), 1, &new, &others, books)
+    play_up_to(
+        rt.alloc(),
+        1,
+        &[("a purchase", Debit(200, 1, 10), (0, 1, None))],
+        &[
+            ("one above the limit", Debit(200, 2, 10), Err(Refused::Full)),
+            ("the purchase again", Debit(200, 1, 10), Ok((0, 1, None))),
+        ],
+        (1, (Some(90), Some(90))),
+    )
 }
 
 #[test]
 fn limit_of_two(rt: HostRuntime) -> Result<(), Fail> {
-    let new = [
-        (Debit(200, 1, 10), (0, 1, None)),
-        (Debit(200, 2, 10), (0, 2, None)),
-    ];
-    let others = [
-        (Debit(200, 3, 10), Err(Refused::Full)),
-        (Debit(200, 1, 10), Ok((0, 1, None))),
-    ];
-    let books = (2, (Some(80), Some(80)));
-    play_up_to(&rt, rt.alloc(), 2, &new, &others, books)
+    play_up_to(
+        rt.alloc(),
+        2,
+        &[
+            ("a purchase", Debit(200, 1, 10), (0, 1, None)),
+            ("another purchase", Debit(200, 2, 10), (0, 2, None)),
+        ],
+        &[
+            ("one above the limit", Debit(200, 3, 10), Err(Refused::Full)),
+            ("the first again", Debit(200, 1, 10), Ok((0, 1, None))),
+        ],
+        (2, (Some(80), Some(80))),
+    )
 }
 
 #[test]
 fn greatest_limit(rt: HostRuntime) -> Result<(), Fail> {
-    let new = [(Debit(200, 3, 10), (0, 1, None))];
-    let books = (1, (Some(90), Some(90)));
-    play_up_to(&rt, rt.alloc(), 999_999, &new, &[], books)
+    play_up_to(
+        rt.alloc(),
+        999_999,
+        &[("a purchase", Debit(200, 3, 10), (0, 1, None))],
+        &[],
+        (1, (Some(90), Some(90))),
+    )
 }
 
 /// The answers to a list of orders.
@@ -174,8 +206,8 @@ fn run_of(
     Ok(issuer.run(alloc, orders)?)
 }
 
-/// Compares the answers to a purchase, to its repeat and to another one, where the journal takes one order.
-fn compare_run(rt: &impl Abort, answers: &[Result<Answer, Refused>]) {
+/// Whether these are the answers to a purchase, to its repeat and to another one, where the journal takes one order.
+fn is_run(answers: &[Result<Answer, Refused>]) -> bool {
     let answer = Answer {
         code: 0,
         seq: 1,
@@ -186,22 +218,20 @@ fn compare_run(rt: &impl Abort, answers: &[Result<Answer, Refused>]) {
         [Err(Refused::Memory), ..] => Err(Refused::Memory),
         _ => Ok(answer),
     };
-    let expected = [first, Ok(answer), Err(Refused::Full)];
-    assert_eq!(rt; answers, expected.as_slice());
+    answers == [first, Ok(answer), Err(Refused::Full)].as_slice()
 }
 
 /// Hands a purchase, its repeat and another one to an issuer as one list.
-fn run_three(rt: &impl Abort, alloc: Global, issuer: &mut Issuer) -> Result<(), Fail> {
+fn run_three(alloc: Global, issuer: &mut Issuer) -> Result<(), Fail> {
     let purchase = order(Debit(200, 7, 1000))?;
     let other = order(Debit(200, 8, 1000))?;
     let answers = run_of(alloc, issuer, &[purchase, purchase, other])?;
-    compare_run(rt, &answers);
-    Ok(())
+    check(is_run(&answers), "the answers to the list")
 }
 
 #[test]
 fn runs(rt: HostRuntime) -> Result<(), Fail> {
     let mut issuer = issuer(rt.alloc(), 5000, 1)?;
-    run_three(&rt, rt.alloc(), &mut issuer)?;
-    compare_books(&rt, &issuer, (1, (Some(4000), Some(4000))))
+    run_three(rt.alloc(), &mut issuer)?;
+    compare_books(&issuer, (1, (Some(4000), Some(4000))))
 }

@@ -3,9 +3,9 @@ ghost use Rattle.std.specs.Prelude.{None};
 
 use crate::act::act;
 use crate::source::{Source, SourceFault};
+use crate::tests::{End, check_end};
 use iso_host::Std;
 use std::alloc::Global;
-use std::process::Abort;
 use std::test::Fail;
 
 mod check;
@@ -54,16 +54,8 @@ struct Case {
     faults: &'static [u8],
 }
 
-/// What comes of words over an input: the status, what is written, and what is told.
-#[derive(Drop)]
-struct ActEnd {
-    status: u8,
-    output: Vec<u8>,
-    faults: Vec<u8>,
-}
-
 /// Acts as the words say, where that text stands at `table.json`.
-fn act_on(alloc: Global, words: &[&str], text: &'static [u8], bytes: &[u8]) -> ActEnd {
+fn act_on(alloc: Global, words: &[&str], text: &'static [u8], bytes: &[u8]) -> End {
     let source = OneFile { text };
     let mut output = Vec::new(alloc);
     let mut faults = Vec::new(alloc);
@@ -75,24 +67,21 @@ fn act_on(alloc: Global, words: &[&str], text: &'static [u8], bytes: &[u8]) -> A
         &mut Std::new(&mut output),
         &mut Std::new(&mut faults),
     );
-    ActEnd {
+    End {
         status,
         output,
         faults,
     }
 }
 
-fn run_cases(
-    rt: &(impl Abort + AllocGlobal),
-    cases: &[Case],
-    text: &'static [u8],
-) -> Result<(), Fail> {
+fn run_case(alloc: Global, case: &Case, text: &'static [u8]) -> Result<(), Fail> {
+    let ended = act_on(alloc, case.words, text, case.input);
+    check_end(&ended, case.status, &[case.output], case.faults, case.name)
+}
+
+fn run_cases(alloc: Global, cases: &[Case], text: &'static [u8]) -> Result<(), Fail> {
     for case in cases {
-        let name = case.name;
-        let ended = act_on(rt.alloc(), case.words, text, case.input);
-        assert_eq!(rt; ended.status, case.status, "{name}");
-        assert_eq!(rt; ended.output.as_slice(), case.output, "{name}");
-        assert_eq!(rt; ended.faults.as_slice(), case.faults, "{name}");
+        run_case(alloc, case, text)?;
     }
     Ok(())
 }

@@ -3,9 +3,11 @@ ghost use Rattle.std.specs.Prelude.{None};
 
 use crate::given::act_as_given;
 use crate::source::{Source, SourceFault};
+use crate::tests::{End, check_end};
 use iso_host::Std;
 use std::alloc::Global;
 use std::env::{Env, FillError};
+use std::test::Fail;
 
 /// A program's arguments, and an environment without variables.
 #[derive(Drop)]
@@ -58,86 +60,96 @@ struct Case {
 
 const GOOD: &[u8] = b"OK version=0 rows=126 max=36470\n";
 
-#[test]
-fn the_words_are_those_behind_the_name(rt: HostRuntime) {
-    for case in [
-        Case {
-            name: "a table that is good",
-            arguments: &[b"iso_cli", b"check", b"ascii87"],
-            status: 0,
-            output: GOOD,
-            faults: b"",
-        },
-        Case {
-            name: "a name that isn't UTF-8",
-            arguments: &[b"/opt/\xFF\xFE/iso_cli", b"check", b"ascii87"],
-            status: 0,
-            output: GOOD,
-            faults: b"",
-        },
-        Case {
-            name: "an empty name",
-            arguments: &[b"", b"check", b"ascii87"],
-            status: 0,
-            output: GOOD,
-            faults: b"",
-        },
-        Case {
-            name: "a name that isn't UTF-8, and no word",
-            arguments: &[b"\xC3"],
-            status: 1,
-            output: b"",
-            faults: b"refused: unpack Short element 0 at 0\n",
-        },
-        Case {
-            name: "not even a name",
-            arguments: &[],
-            status: 1,
-            output: b"",
-            faults: b"refused: unpack Short element 0 at 0\n",
-        },
-        Case {
-            name: "a path that isn't UTF-8",
-            arguments: &[b"iso_cli", b"check", b"\xFF.json"],
-            status: 2,
-            output: b"",
-            faults: b"command line refused\n",
-        },
-        Case {
-            name: "a first word that isn't UTF-8",
-            arguments: &[b"iso_cli", b"chec\xE2\x80"],
-            status: 2,
-            output: b"",
-            faults: b"command line refused\n",
-        },
-        Case {
-            name: "a path in other letters",
-            arguments: &[b"iso_cli", b"check", b"\xD1\x82.json"],
-            status: 3,
-            output: b"",
-            faults: b"failed: File\n",
-        },
-    ] {
-        let name = case.name;
-        let given = Arguments {
-            all: case.arguments,
-        };
-        let mut input = Std::new(b"".as_slice());
-        let mut written = Vec::new(rt.alloc());
-        let mut output = Std::new(&mut written);
-        let mut told = Vec::new(rt.alloc());
-        let mut faults = Std::new(&mut told);
-        let status = act_as_given(
-            rt.alloc(),
-            &given,
-            &rt,
-            &NoFiles,
-            &mut input,
-            &mut output,
-            &mut faults,
-        );
-        assert_eq!(rt; status, case.status, "{name}");
-        assert_eq!(rt; written.as_slice(), case.output, "{name}");
-        assert_eq!(rt; told.as_slice(), case.faults, "{name}");
+const CASES: &[Case] = &[
+    Case {
+        name: "a table that is good",
+        arguments: &[b"iso_cli", b"check", b"ascii87"],
+        status: 0,
+        output: GOOD,
+        faults: b"",
+    },
+    Case {
+        name: "a name that isn't UTF-8",
+        arguments: &[b"/opt/\xFF\xFE/iso_cli", b"check", b"ascii87"],
+        status: 0,
+        output: GOOD,
+        faults: b"",
+    },
+    Case {
+        name: "an empty name",
+        arguments: &[b"", b"check", b"ascii87"],
+        status: 0,
+        output: GOOD,
+        faults: b"",
+    },
+    Case {
+        name: "a name that isn't UTF-8, and no word",
+        arguments: &[b"\xC3"],
+        status: 1,
+        output: b"",
+        faults: b"refused: unpack Short element 0 at 0\n",
+    },
+    Case {
+        name: "not even a name",
+        arguments: &[],
+        status: 1,
+        output: b"",
+        faults: b"refused: unpack Short element 0 at 0\n",
+    },
+    Case {
+        name: "a path that isn't UTF-8",
+        arguments: &[b"iso_cli", b"check", b"\xFF.json"],
+        status: 2,
+        output: b"",
+        faults: b"command line refused\n",
+    },
+    Case {
+        name: "a first word that isn't UTF-8",
+        arguments: &[b"iso_cli", b"chec\xE2\x80"],
+        status: 2,
+        output: b"",
+        faults: b"command line refused\n",
+    },
+    Case {
+        name: "a path in other letters",
+        arguments: &[b"iso_cli", b"check", b"\xD1\x82.json"],
+        status: 3,
+        output: b"",
+        faults: b"failed: File\n",
+    },
+];
+
+/// What comes of arguments over an empty input.
+fn act_given(rt: &HostRuntime, arguments: &'static [&'static [u8]]) -> End {
+    let given = Arguments { all: arguments };
+    let mut input = Std::new(b"".as_slice());
+    let mut output = Vec::new(rt.alloc());
+    let mut faults = Vec::new(rt.alloc());
+    let status = act_as_given(
+        rt.alloc(),
+        &given,
+        rt,
+        &NoFiles,
+        &mut input,
+        &mut Std::new(&mut output),
+        &mut Std::new(&mut faults),
+    );
+    End {
+        status,
+        output,
+        faults,
     }
+}
+
+fn run_case(rt: &HostRuntime, case: &Case) -> Result<(), Fail> {
+    let ended = act_given(rt, case.arguments);
+    check_end(&ended, case.status, &[case.output], case.faults, case.name)
+}
+
+#[test]
+fn the_words_are_those_behind_the_name(rt: HostRuntime) -> Result<(), Fail> {
+    for case in CASES {
+        run_case(&rt, case)?;
+    }
+    Ok(())
 }

@@ -3,10 +3,11 @@ ghost use Rattle.std.specs.Prelude.{None};
 
 use crate::act::act;
 use crate::source::{Source, SourceFault};
+use crate::tests::{End, check_end, check_stop, is_joined};
+use iso_fakes::{check, check_of};
 use iso_host::Std;
 use std::alloc::Global;
 use std::io::Read;
-use std::process::Abort;
 use std::test::Fail;
 
 mod connections;
@@ -122,45 +123,39 @@ fn join(alloc: Global, pieces: &[&[u8]]) -> Result<Vec<u8>, Fail> {
     Ok(bytes)
 }
 
-/// The status of these words over an input, what is written, and what is told.
-fn act_over<R: Read + Drop>(
-    alloc: Global,
-    documents: &Documents,
-    words: &[&str],
-    input: R,
-) -> (u8, Vec<u8>, Vec<u8>) {
-    let mut written = Vec::new(alloc);
-    let mut told = Vec::new(alloc);
+/// What comes of these words over an input.
+fn act_over<R: Read + Drop>(alloc: Global, documents: &Documents, words: &[&str], input: R) -> End {
+    let mut output = Vec::new(alloc);
+    let mut faults = Vec::new(alloc);
     let status = act(
         alloc,
         words,
         documents,
         &mut Std::new(input),
-        &mut Std::new(&mut written),
-        &mut Std::new(&mut told),
+        &mut Std::new(&mut output),
+        &mut Std::new(&mut faults),
     );
-    (status, written, told)
+    End {
+        status,
+        output,
+        faults,
+    }
 }
 
-fn run_cases(rt: &(impl Abort + AllocGlobal), cases: &[Case]) -> Result<(), Fail> {
-    run_cases_over(rt, &DOCUMENTS, cases)
-}
-
-fn run_cases_over(
-    rt: &(impl Abort + AllocGlobal),
-    documents: &Documents,
-    cases: &[Case],
-) -> Result<(), Fail> {
-    let alloc = rt.alloc();
+fn run_cases(alloc: Global, cases: &[Case]) -> Result<(), Fail> {
     for case in cases {
-        let name = case.name;
-        let bytes = join(alloc, case.input)?;
-        let wanted = join(alloc, case.output)?;
-        let words = ["run", "ascii87", "accounts.json", case.header];
-        let (status, written, told) = act_over(alloc, documents, &words, bytes.as_slice());
-        assert_eq!(rt; status, case.status, "{name}");
-        assert_eq!(rt; written.as_slice(), wanted.as_slice(), "{name}");
-        assert_eq!(rt; told.as_slice(), case.faults, "{name}");
+        run_case(alloc, &DOCUMENTS, case)?;
     }
     Ok(())
+}
+
+fn act_case(alloc: Global, documents: &Documents, case: &Case) -> Result<End, Fail> {
+    let bytes = join(alloc, case.input)?;
+    let words = ["run", "ascii87", "accounts.json", case.header];
+    Ok(act_over(alloc, documents, &words, bytes.as_slice()))
+}
+
+fn run_case(alloc: Global, documents: &Documents, case: &Case) -> Result<(), Fail> {
+    let ended = act_case(alloc, documents, case)?;
+    check_end(&ended, case.status, case.output, case.faults, case.name)
 }

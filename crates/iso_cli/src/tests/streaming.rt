@@ -1,5 +1,5 @@
 use crate::streaming::{InputFault, read_all};
-use iso_fakes::{FewBytes, sevens};
+use iso_fakes::{FewBytes, check, sevens};
 use iso_host::Std;
 use std::alloc::Global;
 use std::test::Fail;
@@ -7,25 +7,23 @@ use std::test::Fail;
 /// Five bytes in pieces, how many reads and turns there are, and whether the bytes are read.
 type Pieces = (&'static str, usize, u32, u32, Result<(), InputFault>);
 
-fn pieces() -> [Pieces; 9] {
-    [
-        ("at once", 99, 9, 9, Ok(())),
-        ("two bytes at a time", 2, 9, 9, Ok(())),
-        ("in just enough turns", 2, 9, 4, Ok(())),
-        ("one turn too few", 2, 9, 3, Err(InputFault::TooManyTurns)),
-        ("no turn", 2, 9, 0, Err(InputFault::TooManyTurns)),
-        ("fails at once", 2, 0, 9, Err(InputFault::Read)),
-        ("fails at the third read", 2, 2, 9, Err(InputFault::Read)),
-        ("fails at its end", 2, 3, 9, Err(InputFault::Read)),
-        (
-            "fails behind the turns",
-            2,
-            3,
-            3,
-            Err(InputFault::TooManyTurns),
-        ),
-    ]
-}
+const PIECES: &[Pieces] = &[
+    ("at once", 99, 9, 9, Ok(())),
+    ("two bytes at a time", 2, 9, 9, Ok(())),
+    ("in just enough turns", 2, 9, 4, Ok(())),
+    ("one turn too few", 2, 9, 3, Err(InputFault::TooManyTurns)),
+    ("no turn", 2, 9, 0, Err(InputFault::TooManyTurns)),
+    ("fails at once", 2, 0, 9, Err(InputFault::Read)),
+    ("fails at the third read", 2, 2, 9, Err(InputFault::Read)),
+    ("fails at its end", 2, 3, 9, Err(InputFault::Read)),
+    (
+        "fails behind the turns",
+        2,
+        3,
+        3,
+        Err(InputFault::TooManyTurns),
+    ),
+];
 
 /// Whether five bytes are read so.
 fn is_read(
@@ -50,8 +48,9 @@ fn is_read(
 
 #[test]
 fn reads_an_input_to_its_end(rt: HostRuntime) -> Result<(), Fail> {
-    for (name, piece, calls, turns, wanted) in pieces() {
-        assert!(rt; is_read(rt.alloc(), piece, calls, turns, wanted), "{name}");
+    for (name, piece, calls, turns, wanted) in PIECES {
+        let is_read = is_read(rt.alloc(), *piece, *calls, *turns, *wanted);
+        check(is_read, *name)?;
     }
     Ok(())
 }
@@ -72,28 +71,37 @@ fn count_read(alloc: Global, bytes: &[u8], piece: usize) -> Result<usize, InputF
 /// An input of so many bytes in pieces, and what is read.
 type Long = (&'static str, usize, usize, Result<usize, InputFault>);
 
-fn long_inputs() -> [Long; 7] {
-    [
-        ("empty", 0, 4096, Ok(0)),
-        ("one byte", 1, 4096, Ok(1)),
-        ("a whole chunk", 4096, 4096, Ok(4096)),
-        ("the most", 1_048_576, 4096, Ok(1_048_576)),
-        ("the most, in uneven pieces", 1_048_576, 1000, Ok(1_048_576)),
-        ("one more", 1_048_577, 4096, Err(InputFault::TooLong)),
-        (
-            "one more, in uneven pieces",
-            1_048_577,
-            1000,
-            Err(InputFault::TooLong),
-        ),
-    ]
+const LONG_INPUTS: &[Long] = &[
+    ("empty", 0, 4096, Ok(0)),
+    ("one byte", 1, 4096, Ok(1)),
+    ("a whole chunk", 4096, 4096, Ok(4096)),
+    ("the most", 1_048_576, 4096, Ok(1_048_576)),
+    ("the most, in uneven pieces", 1_048_576, 1000, Ok(1_048_576)),
+    ("one more", 1_048_577, 4096, Err(InputFault::TooLong)),
+    (
+        "one more, in uneven pieces",
+        1_048_577,
+        1000,
+        Err(InputFault::TooLong),
+    ),
+];
+
+/// Whether that is read of an input of so many bytes.
+fn is_counted(
+    alloc: Global,
+    count: usize,
+    piece: usize,
+    wanted: Result<usize, InputFault>,
+) -> Result<bool, Fail> {
+    let held = sevens(alloc, count)?;
+    Ok(count_read(alloc, &held, piece) == wanted)
 }
 
 #[test]
 fn tells_a_long_input_by_its_bytes(rt: HostRuntime) -> Result<(), Fail> {
-    for (name, count, piece, wanted) in long_inputs() {
-        let held = sevens(rt.alloc(), count)?;
-        assert!(rt; count_read(rt.alloc(), &held, piece) == wanted, "{name}");
+    for (name, count, piece, wanted) in LONG_INPUTS {
+        let is_counted = is_counted(rt.alloc(), *count, *piece, *wanted)?;
+        check(is_counted, *name)?;
     }
     Ok(())
 }

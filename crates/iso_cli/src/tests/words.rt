@@ -1,89 +1,104 @@
 use crate::stop::{Stop, tell};
 use crate::words::{Job, parse};
+use iso_fakes::check;
 use iso_host::Std;
 use iso_wire::Header;
+use std::alloc::Global;
+use std::test::Fail;
+
+const TABLE: &str = "t.json";
+
+/// A name, words, and what they ask.
+const FORMS: &[(&str, &[&str], Job)] = &[
+    ("no words", &[], Job::Echo),
+    ("check", &["check", "t.json"], Job::Check { table: TABLE }),
+    (
+        "check a word with a space",
+        &["check", "a b"],
+        Job::Check { table: "a b" },
+    ),
+    (
+        "check the empty word",
+        &["check", ""],
+        Job::Check { table: "" },
+    ),
+    (
+        "show",
+        &["show", "t.json"],
+        Job::Show {
+            table: TABLE,
+            clear: false,
+        },
+    ),
+    (
+        "flag first",
+        &["show", "--clear", "t.json"],
+        Job::Show {
+            table: TABLE,
+            clear: true,
+        },
+    ),
+    (
+        "flag last",
+        &["show", "t.json", "--clear"],
+        Job::Show {
+            table: TABLE,
+            clear: true,
+        },
+    ),
+    (
+        "convert",
+        &["convert", "a", "t.json"],
+        Job::Convert {
+            from: "a",
+            to: TABLE,
+        },
+    ),
+    (
+        "convert to itself",
+        &["convert", "a", "a"],
+        Job::Convert { from: "a", to: "a" },
+    ),
+    (
+        "run over two bytes of a number",
+        &["run", "t.json", "a b", "binary2"],
+        Job::Run {
+            table: TABLE,
+            accounts: "a b",
+            header: Header::Binary2,
+        },
+    ),
+    (
+        "run over four digits",
+        &["run", "", "t.json", "ascii4"],
+        Job::Run {
+            table: "",
+            accounts: TABLE,
+            header: Header::Ascii4,
+        },
+    ),
+    (
+        "run over two bytes of four digits",
+        &["run", "t.json", "t.json", "bcd2"],
+        Job::Run {
+            table: TABLE,
+            accounts: TABLE,
+            header: Header::Bcd2,
+        },
+    ),
+];
+
+/// Whether the words ask that.
+fn is_asked(alloc: Global, words: &[&str], wanted: Job) -> bool {
+    parse(alloc, words) == Ok(wanted)
+}
 
 #[test]
-fn reads_each_form(rt: HostRuntime) {
-    let table = "t.json";
-    for (name, words, wanted) in [
-        ("no words", [].as_slice(), Job::Echo),
-        (
-            "check",
-            ["check", "t.json"].as_slice(),
-            Job::Check { table },
-        ),
-        (
-            "check a word with a space",
-            ["check", "a b"].as_slice(),
-            Job::Check { table: "a b" },
-        ),
-        (
-            "check the empty word",
-            ["check", ""].as_slice(),
-            Job::Check { table: "" },
-        ),
-        (
-            "show",
-            ["show", "t.json"].as_slice(),
-            Job::Show {
-                table,
-                clear: false,
-            },
-        ),
-        (
-            "flag first",
-            ["show", "--clear", "t.json"].as_slice(),
-            Job::Show { table, clear: true },
-        ),
-        (
-            "flag last",
-            ["show", "t.json", "--clear"].as_slice(),
-            Job::Show { table, clear: true },
-        ),
-        (
-            "convert",
-            ["convert", "a", "t.json"].as_slice(),
-            Job::Convert {
-                from: "a",
-                to: table,
-            },
-        ),
-        (
-            "convert to itself",
-            ["convert", "a", "a"].as_slice(),
-            Job::Convert { from: "a", to: "a" },
-        ),
-        (
-            "run over two bytes of a number",
-            ["run", "t.json", "a b", "binary2"].as_slice(),
-            Job::Run {
-                table,
-                accounts: "a b",
-                header: Header::Binary2,
-            },
-        ),
-        (
-            "run over four digits",
-            ["run", "", "t.json", "ascii4"].as_slice(),
-            Job::Run {
-                table: "",
-                accounts: table,
-                header: Header::Ascii4,
-            },
-        ),
-        (
-            "run over two bytes of four digits",
-            ["run", "t.json", "t.json", "bcd2"].as_slice(),
-            Job::Run {
-                table,
-                accounts: table,
-                header: Header::Bcd2,
-            },
-        ),
-    ] {
-        assert_eq!(rt; parse(rt.alloc(), words), Ok(wanted), "{name}");
+fn reads_each_form(rt: HostRuntime) -> Result<(), Fail> {
+    for (name, words, wanted) in FORMS {
+        check(is_asked(rt.alloc(), *words, *wanted), *name)?;
     }
+    Ok(())
 }
 
 const REFUSED: &[&[&str]] = &[
@@ -170,22 +185,43 @@ const REFUSED: &[&[&str]] = &[
     &["show", "t", "-c"],
 ];
 
-#[test]
-fn refuses_every_other_line(rt: HostRuntime) {
-    for words in REFUSED {
-        match parse(rt.alloc(), words) {
-            Ok(job) => assert!(rt; false, "{words:?} asks {job:?}"),
-            Err(fault) => {
-                let mut lines = Vec::new(rt.alloc());
-                let mut faults = Std::new(&mut lines);
-                assert_eq!(rt;
-                    tell(rt.alloc(), &mut faults, Stop::from(fault)),
-                    2,
-                    "{words:?}"
-                );
-                let wanted = b"command line refused\n".as_slice();
-                assert_eq!(rt; lines.as_slice(), wanted, "{words:?}");
-            }
+/// The status and the fault line where the words ask nothing.
+fn refusal_of(alloc: Global, words: &[&str]) -> Option<(u8, Vec<u8>)> {
+    let Err(fault) = parse(alloc, words) else {
+        return None;
+    };
+    let mut lines = Vec::new(alloc);
+    let status = tell(alloc, &mut Std::new(&mut lines), Stop::from(fault));
+    Some((status, lines))
+}
+
+/// Whether the words are refused with the status and the line of words.
+fn is_refused(alloc: Global, words: &[&str]) -> bool {
+    match refusal_of(alloc, words) {
+        Some((status, lines)) => {
+            status == 2 && lines.as_slice() == b"command line refused\n".as_slice()
         }
+        None => false,
     }
+}
+
+/// Ends the test with the words, unless it is so.
+fn check_refused(is_so: bool, words: &[&str]) -> Result<(), Fail> {
+    if is_so {
+        Ok(())
+    } else {
+        Err(Fail::new(format_args!("{words:?}")))
+    }
+}
+
+fn refuse_each(alloc: Global, lines: &[&[&str]]) -> Result<(), Fail> {
+    for words in lines {
+        check_refused(is_refused(alloc, *words), *words)?;
+    }
+    Ok(())
+}
+
+#[test]
+fn refuses_every_other_line(rt: HostRuntime) -> Result<(), Fail> {
+    refuse_each(rt.alloc(), REFUSED)
 }

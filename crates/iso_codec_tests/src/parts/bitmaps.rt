@@ -17,18 +17,16 @@ fn has(numbers: &[u8], n: u8) -> bool {
     set_of(numbers).has(n)
 }
 
-fn words() -> [(&'static str, [u64; 2], &'static [u8]); 4] {
-    [
-        ("none", [0, 0], &[]),
-        (
-            "without the first bit of the first word",
-            [0xC200_0000_0000_0001, 0x4400_0000_0000_0001],
-            &[2, 7, 64, 66, 70, 128],
-        ),
-        ("the first word alone", [0x0200_0000_0000_0000, 0], &[7]),
-        ("the second word alone", [0, 0x0400_0000_0000_0000], &[70]),
-    ]
-}
+const WORDS: &[(&'static str, [u64; 2], &'static [u8])] = &[
+    ("none", [0, 0], &[]),
+    (
+        "without the first bit of the first word",
+        [0xC200_0000_0000_0001, 0x4400_0000_0000_0001],
+        &[2, 7, 64, 66, 70, 128],
+    ),
+    ("the first word alone", [0x0200_0000_0000_0000, 0], &[7]),
+    ("the second word alone", [0, 0x0400_0000_0000_0000], &[70]),
+];
 
 /// The set of two words.
 fn set_of_words(words: [u64; 2]) -> Bitmap {
@@ -72,46 +70,44 @@ fn are_taken(words: [u64; 2], numbers: &[u8]) -> bool {
 }
 
 #[test]
-fn sets_are_made_from_words(rt: HostRuntime) {
-    for (name, words, numbers) in &words() {
-        assert!(rt; are_words_of(*words, numbers), "{name}");
-        assert!(rt; are_unset(*words, numbers), "{name}: unset");
-        assert!(rt; are_taken(*words, numbers), "{name}: taken");
+fn sets_are_made_from_words(rt: HostRuntime) -> Result<(), Fail> {
+    for (name, words, numbers) in WORDS {
+        check(are_words_of(*words, numbers), *name)?;
+        check_of(are_unset(*words, numbers), *name, "unset")?;
+        check_of(are_taken(*words, numbers), *name, "taken")?;
     }
+    Ok(())
 }
 
-fn other_sets() -> [(&'static str, &'static [u8], bool); 4] {
-    [
-        ("the same numbers", &[2, 64, 66, 128], true),
-        ("one less in the first word", &[2, 66, 128], false),
-        ("one less in the second word", &[2, 64, 66], false),
-        ("one more", &[2, 7, 64, 66, 128], false),
-    ]
-}
+const OTHER_SETS: &[(&'static str, &'static [u8], bool)] = &[
+    ("the same numbers", &[2, 64, 66, 128], true),
+    ("one less in the first word", &[2, 66, 128], false),
+    ("one less in the second word", &[2, 64, 66], false),
+    ("one more", &[2, 7, 64, 66, 128], false),
+];
 
 fn are_equal(set: &[u8], other: &[u8]) -> bool {
     set_of(set).equals(&set_of(other))
 }
 
 #[test]
-fn sets_are_compared(rt: HostRuntime) {
-    for (name, numbers, is_same) in &other_sets() {
+fn sets_are_compared(rt: HostRuntime) -> Result<(), Fail> {
+    for (name, numbers, is_same) in OTHER_SETS {
         let answer = are_equal(&[2, 64, 66, 128], numbers);
-        assert!(rt; answer == *is_same, "{name}");
+        check(answer == *is_same, *name)?;
     }
+    Ok(())
 }
 
-fn numbers_below() -> [(&'static str, u8, usize); 7] {
-    [
-        ("the lowest", 2, 0),
-        ("one that is there", 7, 1),
-        ("one that is not", 8, 2),
-        ("the last of the first word", 64, 2),
-        ("the first of the second word", 65, 3),
-        ("one of the second word", 70, 4),
-        ("the last of the second word", 128, 5),
-    ]
-}
+const NUMBERS_BELOW: &[(&'static str, u8, usize)] = &[
+    ("the lowest", 2, 0),
+    ("one that is there", 7, 1),
+    ("one that is not", 8, 2),
+    ("the last of the first word", 64, 2),
+    ("the first of the second word", 65, 3),
+    ("one of the second word", 70, 4),
+    ("the last of the second word", 128, 5),
+];
 
 /// Whether so many of the numbers are below that one.
 fn are_below(numbers: &[u8], n: u8, count: usize) -> bool {
@@ -119,22 +115,21 @@ fn are_below(numbers: &[u8], n: u8, count: usize) -> bool {
 }
 
 #[test]
-fn the_numbers_below_one_are_counted(rt: HostRuntime) {
-    for (name, n, count) in &numbers_below() {
+fn the_numbers_below_one_are_counted(rt: HostRuntime) -> Result<(), Fail> {
+    for (name, n, count) in NUMBERS_BELOW {
         let are_below = are_below(&[2, 7, 64, 66, 70, 128], *n, *count);
-        assert!(rt; are_below, "{name}");
+        check(are_below, *name)?;
     }
+    Ok(())
 }
 
-fn missing_numbers() -> [(&'static str, &'static [u8], Option<u8>); 5] {
-    [
-        ("of none", &[], None),
-        ("of all of them", &[2, 7, 64, 66, 70], None),
-        ("of one of each", &[7, 70], None),
-        ("a low one", &[2, 6, 7, 63], Some(6)),
-        ("a high one", &[2, 67, 70, 128], Some(67)),
-    ]
-}
+const MISSING_NUMBERS: &[(&'static str, &'static [u8], Option<u8>)] = &[
+    ("of none", &[], None),
+    ("of all of them", &[2, 7, 64, 66, 70], None),
+    ("of one of each", &[7, 70], None),
+    ("a low one", &[2, 6, 7, 63], Some(6)),
+    ("a high one", &[2, 67, 70, 128], Some(67)),
+];
 
 /// Whether that is the least of the numbers that the set lacks.
 fn is_missing(set: &[u8], numbers: &[u8], missing: Option<u8>) -> bool {
@@ -142,11 +137,12 @@ fn is_missing(set: &[u8], numbers: &[u8], missing: Option<u8>) -> bool {
 }
 
 #[test]
-fn the_least_missing_number_is_told(rt: HostRuntime) {
-    for (name, numbers, missing) in &missing_numbers() {
+fn the_least_missing_number_is_told(rt: HostRuntime) -> Result<(), Fail> {
+    for (name, numbers, missing) in MISSING_NUMBERS {
         let is_told = is_missing(&[2, 7, 64, 66, 70], numbers, *missing);
-        assert!(rt; is_told, "{name}");
+        check(is_told, *name)?;
     }
+    Ok(())
 }
 
 /// A set, the bytes that stand for it, and its highest number.
@@ -159,38 +155,36 @@ struct SetCase {
     highest: u8,
 }
 
-fn sets() -> [SetCase; 4] {
-    [
-        SetCase {
-            name: "the echo test",
-            numbers: &[7, 11, 70],
-            raw: b"\x82\x20\0\0\0\0\0\0\x04\0\0\0\0\0\0\0",
-            digits: b"82200000000000000400000000000000",
-            highest: 70,
-        },
-        SetCase {
-            name: "no element",
-            numbers: &[],
-            raw: b"\0\0\0\0\0\0\0\0",
-            digits: b"0000000000000000",
-            highest: 0,
-        },
-        SetCase {
-            name: "the ends of both",
-            numbers: &[2, 64, 66, 128],
-            raw: b"\xC0\0\0\0\0\0\0\x01\x40\0\0\0\0\0\0\x01",
-            digits: b"C0000000000000014000000000000001",
-            highest: 128,
-        },
-        SetCase {
-            name: "one bitmap",
-            numbers: &[2, 3, 4, 7, 11, 32, 49],
-            raw: b"\x72\x20\0\x01\0\0\x80\0",
-            digits: b"7220000100008000",
-            highest: 49,
-        },
-    ]
-}
+const SETS: &[SetCase] = &[
+    SetCase {
+        name: "the echo test",
+        numbers: &[7, 11, 70],
+        raw: b"\x82\x20\0\0\0\0\0\0\x04\0\0\0\0\0\0\0",
+        digits: b"82200000000000000400000000000000",
+        highest: 70,
+    },
+    SetCase {
+        name: "no element",
+        numbers: &[],
+        raw: b"\0\0\0\0\0\0\0\0",
+        digits: b"0000000000000000",
+        highest: 0,
+    },
+    SetCase {
+        name: "the ends of both",
+        numbers: &[2, 64, 66, 128],
+        raw: b"\xC0\0\0\0\0\0\0\x01\x40\0\0\0\0\0\0\x01",
+        digits: b"C0000000000000014000000000000001",
+        highest: 128,
+    },
+    SetCase {
+        name: "one bitmap",
+        numbers: &[2, 3, 4, 7, 11, 32, 49],
+        raw: b"\x72\x20\0\x01\0\0\x80\0",
+        digits: b"7220000100008000",
+        highest: 49,
+    },
+];
 
 /// Whether the set is written into room as these bytes, and the room behind them stays as it was.
 fn is_written(numbers: &[u8], raw: &[u8]) -> bool {
@@ -221,56 +215,61 @@ fn is_read_of_digits(digits: &[u8], numbers: &[u8]) -> bool {
     Bitmap::read_hex(digits) == Ok(got)
 }
 
-/// What is written of the set behind other bytes.
-fn appended(
+/// Whether these bytes are written of the set behind others.
+fn is_appended(
     alloc: Global,
     before: &[u8],
     numbers: &[u8],
     coding: BitmapCoding,
-) -> Result<Vec<u8>, Fail> {
+    bytes: &[u8],
+) -> Result<bool, Fail> {
     let mut out = Vec::from_slice(alloc, before)?;
     set_of(numbers).append(coding, &mut out)?;
-    Ok(out)
+    Ok(out.strip_prefix(before) == Some(bytes))
+}
+
+fn check_raw(alloc: Global, case: &SetCase) -> Result<(), Fail> {
+    let (name, numbers, raw) = (case.name, case.numbers, case.raw);
+    check_of(is_written(numbers, raw), name, "written")?;
+    check_of(is_read(alloc, raw, numbers)?, name, "read")?;
+    let is_appended = is_appended(alloc, b"before", numbers, BitmapCoding::Raw, raw)?;
+    check_of(is_appended, name, "appended")
+}
+
+fn check_digits(alloc: Global, case: &SetCase) -> Result<(), Fail> {
+    let (name, numbers, digits) = (case.name, case.numbers, case.digits);
+    let is_appended = is_appended(alloc, b"", numbers, BitmapCoding::Hex, digits)?;
+    check_of(is_appended, name, "as digits")?;
+    check_of(is_read_of_digits(digits, numbers), name, "digits read")
 }
 
 #[test]
 fn bitmaps_are_written_and_read(rt: HostRuntime) -> Result<(), Fail> {
-    let alloc = rt.alloc();
-    for case in &sets() {
-        let (name, numbers) = (case.name, case.numbers);
-        assert!(rt; is_written(numbers, case.raw), "{name}: written");
-        assert!(rt; is_highest(numbers, case.highest), "{name}: its highest");
-        assert!(rt; is_read(alloc, case.raw, numbers)?, "{name}: read");
-        let raw = appended(alloc, b"before", numbers, BitmapCoding::Raw)?;
-        assert!(rt;
-            raw.strip_prefix(b"before") == Some(case.raw),
-            "{name}: appended"
-        );
-        let digits = appended(alloc, b"", numbers, BitmapCoding::Hex)?;
-        assert!(rt; digits.as_slice() == case.digits, "{name}: as digits");
-        assert!(rt;
-            is_read_of_digits(case.digits, numbers),
-            "{name}: digits read"
-        );
+    for case in SETS {
+        check_raw(rt.alloc(), case)?;
+        check_digits(rt.alloc(), case)?;
+        check_of(
+            is_highest(case.numbers, case.highest),
+            case.name,
+            "its highest",
+        )?;
     }
     Ok(())
 }
 
-fn refused_bitmaps() -> [(&'static str, &'static [u8], Option<(usize, BitmapCause)>); 3] {
-    [
-        ("seven bytes", b"\0\0\0\0\0\0\0", None),
-        (
-            "seven of a second bitmap",
-            b"\x80\0\0\0\0\0\0\0\x80\0\0\0\0\0\0",
-            None,
-        ),
-        (
-            "a third bitmap",
-            b"\x80\0\0\0\0\0\0\0\x80\0\0\0\0\0\0\0",
-            Some((8, BitmapCause::ThirdBitmap)),
-        ),
-    ]
-}
+const REFUSED_BITMAPS: &[(&'static str, &'static [u8], Option<(usize, BitmapCause)>)] = &[
+    ("seven bytes", b"\0\0\0\0\0\0\0", None),
+    (
+        "seven of a second bitmap",
+        b"\x80\0\0\0\0\0\0\0\x80\0\0\0\0\0\0",
+        None,
+    ),
+    (
+        "a third bitmap",
+        b"\x80\0\0\0\0\0\0\0\x80\0\0\0\0\0\0\0",
+        Some((8, BitmapCause::ThirdBitmap)),
+    ),
+];
 
 /// What is answered where no bitmap is found: a fault, or that bytes are missing.
 fn answer(fault: Option<(usize, BitmapCause)>) -> Result<BitmapStep, BitmapFault> {
@@ -286,32 +285,30 @@ fn is_refused(raw: &[u8], fault: Option<(usize, BitmapCause)>) -> bool {
 
 #[test]
 fn raw_bitmaps_are_refused(rt: HostRuntime) -> Result<(), Fail> {
-    for (name, raw, fault) in &refused_bitmaps() {
-        assert!(rt; is_refused(raw, *fault), "{name}");
+    for (name, raw, fault) in REFUSED_BITMAPS {
+        check(is_refused(raw, *fault), *name)?;
     }
     Ok(())
 }
 
-fn refused_digits() -> [(&'static str, &'static [u8], Option<(usize, BitmapCause)>); 4] {
-    [
-        ("fifteen digits", b"022a00000000000", None),
-        (
-            "G is no digit",
-            b"022A00000000000G",
-            Some((0, BitmapCause::BadHex)),
-        ),
-        (
-            "x in the second bitmap",
-            b"8000000000000000x000000000000000",
-            Some((16, BitmapCause::BadHex)),
-        ),
-        (
-            "a third bitmap",
-            b"80000000000000008000000000000000",
-            Some((16, BitmapCause::ThirdBitmap)),
-        ),
-    ]
-}
+const REFUSED_DIGITS: &[(&'static str, &'static [u8], Option<(usize, BitmapCause)>)] = &[
+    ("fifteen digits", b"022a00000000000", None),
+    (
+        "G is no digit",
+        b"022A00000000000G",
+        Some((0, BitmapCause::BadHex)),
+    ),
+    (
+        "x in the second bitmap",
+        b"8000000000000000x000000000000000",
+        Some((16, BitmapCause::BadHex)),
+    ),
+    (
+        "a third bitmap",
+        b"80000000000000008000000000000000",
+        Some((16, BitmapCause::ThirdBitmap)),
+    ),
+];
 
 fn are_refused_digits(digits: &[u8], fault: Option<(usize, BitmapCause)>) -> bool {
     Bitmap::read_hex(digits) == answer(fault)
@@ -320,30 +317,28 @@ fn are_refused_digits(digits: &[u8], fault: Option<(usize, BitmapCause)>) -> boo
 #[test]
 fn hexadecimal_bitmaps_are_refused(rt: HostRuntime) -> Result<(), Fail> {
     let lower = is_read_of_digits(b"022a000000000000", &[7, 11, 13, 15]);
-    assert!(rt; lower, "digits in lower case");
-    for (name, digits, fault) in &refused_digits() {
-        assert!(rt; are_refused_digits(digits, *fault), "{name}");
+    check(lower, "digits in lower case")?;
+    for (name, digits, fault) in REFUSED_DIGITS {
+        check(are_refused_digits(digits, *fault), *name)?;
     }
     Ok(())
 }
 
-fn single_bitmaps() -> [(&'static str, BitmapCoding, &'static [u8], Option<u64>); 3] {
-    [
-        (
-            "raw",
-            BitmapCoding::Raw,
-            b"\x82\x20\0\0\0\0\0\x01",
-            Some(0x8220_0000_0000_0001),
-        ),
-        (
-            "digits",
-            BitmapCoding::Hex,
-            b"8220000000000001",
-            Some(0x8220_0000_0000_0001),
-        ),
-        ("no digits", BitmapCoding::Hex, b"82200000000000 1", None),
-    ]
-}
+const SINGLE_BITMAPS: &[(&'static str, BitmapCoding, &'static [u8], Option<u64>)] = &[
+    (
+        "raw",
+        BitmapCoding::Raw,
+        b"\x82\x20\0\0\0\0\0\x01",
+        Some(0x8220_0000_0000_0001),
+    ),
+    (
+        "digits",
+        BitmapCoding::Hex,
+        b"8220000000000001",
+        Some(0x8220_0000_0000_0001),
+    ),
+    ("no digits", BitmapCoding::Hex, b"82200000000000 1", None),
+];
 
 fn is_word(coding: BitmapCoding, bytes: &[u8], word: Option<u64>) -> bool {
     bytes.len() == coding.size() && coding.word(bytes) == word
@@ -351,9 +346,8 @@ fn is_word(coding: BitmapCoding, bytes: &[u8], word: Option<u64>) -> bool {
 
 #[test]
 fn one_bitmap_is_a_word(rt: HostRuntime) -> Result<(), Fail> {
-    for (name, coding, bytes, word) in &single_bitmaps() {
-        assert!(rt; is_word(*coding, bytes, *word), "{name}");
+    for (name, coding, bytes, word) in SINGLE_BITMAPS {
+        check(is_word(*coding, bytes, *word), *name)?;
     }
-    assert!(rt; has(&[7], 7) && !has(&[7], 58));
-    Ok(())
+    check(has(&[7], 7) && !has(&[7], 58), "the seventh bit")
 }

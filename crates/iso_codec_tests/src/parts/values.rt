@@ -11,173 +11,174 @@ struct Case {
     part: &'static [u8],
 }
 
-fn parts() -> [Case; 22] {
-    let (ascii, bcd) = (Digits::Ascii, Digits::Bcd);
-    [
-        Case {
-            name: "an odd number under BCD",
-            row: number(Coding::Bcd, Length::LL(bcd), 19),
-            value: b"378282246310005",
-            part: b"\x15\x03\x78\x28\x22\x46\x31\x00\x05",
-        },
-        Case {
-            name: "an even number under BCD",
-            row: number(Coding::Bcd, Length::Fixed, 4),
-            value: b"0102",
-            part: b"\x01\x02",
-        },
-        Case {
-            name: "three digits of a length under BCD",
-            row: row(
-                CharClass::ANS,
-                Coding::Ascii,
-                Length::LLL(bcd),
-                120,
-                Pad::None,
-            ),
-            value: b"0002840C000000004000",
-            part: b"\x00\x200002840C000000004000",
-        },
-        Case {
-            name: "three raw bytes",
-            row: bytes(Coding::Raw, Length::LLL(bcd), 999),
-            value: b"\x9F\x26\x08",
-            part: b"\x00\x03\x9F\x26\x08",
-        },
-        Case {
-            name: "eight bytes as digits",
-            row: bytes(Coding::HexText, Length::Fixed, 8),
-            value: b"\x01\x23\x45\x67\x89\xAB\xCD\xEF",
-            part: b"0123456789ABCDEF",
-        },
-        Case {
-            name: "two bytes as digits behind a length",
-            row: bytes(Coding::HexText, Length::LL(ascii), 8),
-            value: b"\x0A\xB0",
-            part: b"020AB0",
-        },
-        Case {
-            name: "a signed amount",
-            row: row(CharClass::XN, Coding::Ascii, Length::Fixed, 9, Pad::None),
-            value: b"D00000150",
-            part: b"D00000150",
-        },
-        Case {
-            name: "an empty number",
-            row: number(Coding::Ascii, Length::LL(ascii), 19),
-            value: b"",
-            part: b"00",
-        },
-        Case {
-            name: "an empty signed amount",
-            row: row(
-                CharClass::XN,
-                Coding::Ascii,
-                Length::LL(ascii),
-                9,
-                Pad::None,
-            ),
-            value: b"",
-            part: b"00",
-        },
-        Case {
-            name: "zeros on the left",
-            row: zero_filled(Coding::Ascii),
-            value: b"12",
-            part: b"000012",
-        },
-        Case {
-            name: "zeros on the left alone",
-            row: zero_filled(Coding::Ascii),
-            value: b"",
-            part: b"000000",
-        },
-        Case {
-            name: "zeros on the left under BCD",
-            row: zero_filled(Coding::Bcd),
-            value: b"123",
-            part: b"\x00\x01\x23",
-        },
-        Case {
-            name: "a pad on the right under BCD",
-            row: row(
-                CharClass::Z,
-                Coding::Bcd,
-                Length::Fixed,
-                5,
-                Pad::Right(b'?'),
-            ),
-            value: b"4=1",
-            part: b"\x04\xD1\xFF",
-        },
-        Case {
-            name: "a track under BCD",
-            row: row(CharClass::Z, Coding::Bcd, Length::LL(bcd), 37, Pad::None),
-            value: b"4=1",
-            part: b"\x03\x04\xD1",
-        },
-        Case {
-            name: "a terminal with blanks",
-            row: terminal(),
-            value: b"TERM1",
-            part: b"TERM1   ",
-        },
-        Case {
-            name: "blanks alone",
-            row: terminal(),
-            value: b"",
-            part: b"        ",
-        },
-        Case {
-            name: "a terminal of full length",
-            row: terminal(),
-            value: b"TERMINAL",
-            part: b"TERMINAL",
-        },
-        Case {
-            name: "letters and digits",
-            row: row(CharClass::AN, Coding::Ascii, Length::Fixed, 3, Pad::None),
-            value: b"8aZ",
-            part: b"8aZ",
-        },
-        Case {
-            name: "letters behind three digits of a length",
-            row: row(
-                CharClass::A,
-                Coding::Ascii,
-                Length::LLL(ascii),
-                999,
-                Pad::None,
-            ),
-            value: b"Abc",
-            part: b"003Abc",
-        },
-        Case {
-            name: "bytes as digits behind four digits of a length",
-            row: bytes(Coding::HexText, Length::LLLL(ascii), 9_999),
-            value: b"\x01\x02\x0A",
-            part: b"000301020A",
-        },
-        Case {
-            name: "four digits of a length under BCD",
-            row: bytes(Coding::Raw, Length::LLLL(bcd), 9_999),
-            value: b"\x9F\x26\x08",
-            part: b"\x00\x03\x9F\x26\x08",
-        },
-        Case {
-            name: "an odd track behind four digits under BCD",
-            row: row(
-                CharClass::Z,
-                Coding::Bcd,
-                Length::LLLL(bcd),
-                9_999,
-                Pad::None,
-            ),
-            value: b"4=1",
-            part: b"\x00\x03\x04\xD1",
-        },
-    ]
-}
+const ASCII: Digits = Digits::Ascii;
+
+const BCD: Digits = Digits::Bcd;
+
+const PARTS: &[Case] = &[
+    Case {
+        name: "an odd number under BCD",
+        row: number!(Coding::Bcd, Length::LL(BCD), 19),
+        value: b"378282246310005",
+        part: b"\x15\x03\x78\x28\x22\x46\x31\x00\x05",
+    },
+    Case {
+        name: "an even number under BCD",
+        row: number!(Coding::Bcd, Length::Fixed, 4),
+        value: b"0102",
+        part: b"\x01\x02",
+    },
+    Case {
+        name: "three digits of a length under BCD",
+        row: row!(
+            CharClass::ANS,
+            Coding::Ascii,
+            Length::LLL(BCD),
+            120,
+            Pad::None
+        ),
+        value: b"0002840C000000004000",
+        part: b"\x00\x200002840C000000004000",
+    },
+    Case {
+        name: "three raw bytes",
+        row: bytes!(Coding::Raw, Length::LLL(BCD), 999),
+        value: b"\x9F\x26\x08",
+        part: b"\x00\x03\x9F\x26\x08",
+    },
+    Case {
+        name: "eight bytes as digits",
+        row: bytes!(Coding::HexText, Length::Fixed, 8),
+        value: b"\x01\x23\x45\x67\x89\xAB\xCD\xEF",
+        part: b"0123456789ABCDEF",
+    },
+    Case {
+        name: "two bytes as digits behind a length",
+        row: bytes!(Coding::HexText, Length::LL(ASCII), 8),
+        value: b"\x0A\xB0",
+        part: b"020AB0",
+    },
+    Case {
+        name: "a signed amount",
+        row: row!(CharClass::XN, Coding::Ascii, Length::Fixed, 9, Pad::None),
+        value: b"D00000150",
+        part: b"D00000150",
+    },
+    Case {
+        name: "an empty number",
+        row: number!(Coding::Ascii, Length::LL(ASCII), 19),
+        value: b"",
+        part: b"00",
+    },
+    Case {
+        name: "an empty signed amount",
+        row: row!(
+            CharClass::XN,
+            Coding::Ascii,
+            Length::LL(ASCII),
+            9,
+            Pad::None
+        ),
+        value: b"",
+        part: b"00",
+    },
+    Case {
+        name: "zeros on the left",
+        row: zero_filled!(Coding::Ascii),
+        value: b"12",
+        part: b"000012",
+    },
+    Case {
+        name: "zeros on the left alone",
+        row: zero_filled!(Coding::Ascii),
+        value: b"",
+        part: b"000000",
+    },
+    Case {
+        name: "zeros on the left under BCD",
+        row: zero_filled!(Coding::Bcd),
+        value: b"123",
+        part: b"\x00\x01\x23",
+    },
+    Case {
+        name: "a pad on the right under BCD",
+        row: row!(
+            CharClass::Z,
+            Coding::Bcd,
+            Length::Fixed,
+            5,
+            Pad::Right(b'?')
+        ),
+        value: b"4=1",
+        part: b"\x04\xD1\xFF",
+    },
+    Case {
+        name: "a track under BCD",
+        row: row!(CharClass::Z, Coding::Bcd, Length::LL(BCD), 37, Pad::None),
+        value: b"4=1",
+        part: b"\x03\x04\xD1",
+    },
+    Case {
+        name: "a terminal with blanks",
+        row: TERMINAL,
+        value: b"TERM1",
+        part: b"TERM1   ",
+    },
+    Case {
+        name: "blanks alone",
+        row: TERMINAL,
+        value: b"",
+        part: b"        ",
+    },
+    Case {
+        name: "a terminal of full length",
+        row: TERMINAL,
+        value: b"TERMINAL",
+        part: b"TERMINAL",
+    },
+    Case {
+        name: "letters and digits",
+        row: row!(CharClass::AN, Coding::Ascii, Length::Fixed, 3, Pad::None),
+        value: b"8aZ",
+        part: b"8aZ",
+    },
+    Case {
+        name: "letters behind three digits of a length",
+        row: row!(
+            CharClass::A,
+            Coding::Ascii,
+            Length::LLL(ASCII),
+            999,
+            Pad::None
+        ),
+        value: b"Abc",
+        part: b"003Abc",
+    },
+    Case {
+        name: "bytes as digits behind four digits of a length",
+        row: bytes!(Coding::HexText, Length::LLLL(ASCII), 9_999),
+        value: b"\x01\x02\x0A",
+        part: b"000301020A",
+    },
+    Case {
+        name: "four digits of a length under BCD",
+        row: bytes!(Coding::Raw, Length::LLLL(BCD), 9_999),
+        value: b"\x9F\x26\x08",
+        part: b"\x00\x03\x9F\x26\x08",
+    },
+    Case {
+        name: "an odd track behind four digits under BCD",
+        row: row!(
+            CharClass::Z,
+            Coding::Bcd,
+            Length::LLLL(BCD),
+            9_999,
+            Pad::None
+        ),
+        value: b"4=1",
+        part: b"\x00\x03\x04\xD1",
+    },
+];
 
 /// Whether the part is written for the value behind other bytes.
 fn is_encoded(alloc: Global, row: &FieldSpec, value: &[u8], part: &[u8]) -> Result<bool, Fail> {
@@ -191,11 +192,10 @@ fn is_encoded(alloc: Global, row: &FieldSpec, value: &[u8], part: &[u8]) -> Resu
 
 #[test]
 fn values_are_written(rt: HostRuntime) -> Result<(), Fail> {
-    for case in &parts() {
+    for case in PARTS {
         let name = case.name;
-        assert!(rt; is_good(&case.row), "{name}");
         let is_written = is_encoded(rt.alloc(), &case.row, case.value, case.part)?;
-        assert!(rt; is_written, "{name}");
+        check(is_written, name)?;
     }
     Ok(())
 }
@@ -216,10 +216,9 @@ fn is_read(alloc: Global, case: &Case) -> Result<bool, Fail> {
 
 #[test]
 fn parts_are_read(rt: HostRuntime) -> Result<(), Fail> {
-    for case in &parts() {
+    for case in PARTS {
         let name = case.name;
-        assert!(rt; is_good(&case.row), "{name}");
-        assert!(rt; is_read(rt.alloc(), case)?, "{name}");
+        check(is_read(rt.alloc(), case)?, name)?;
     }
     Ok(())
 }
@@ -242,39 +241,35 @@ fn is_built(alloc: Global, case: &Case) -> Result<bool, Fail> {
 
 #[test]
 fn judged_parts_are_built(rt: HostRuntime) -> Result<(), Fail> {
-    for case in &parts() {
+    for case in PARTS {
         let name = case.name;
-        assert!(rt; is_good(&case.row), "{name}");
-        assert!(rt; is_built(rt.alloc(), case)?, "{name}");
+        check(is_built(rt.alloc(), case)?, name)?;
     }
     Ok(())
 }
 
-fn other_spellings() -> [Case; 2] {
-    [
-        Case {
-            name: "filler F",
-            row: number(Coding::Bcd, Length::LL(Digits::Bcd), 19),
-            value: b"378282246310005",
-            part: b"\x15\xF3\x78\x28\x22\x46\x31\x00\x05",
-        },
-        Case {
-            name: "digits in lower case",
-            row: bytes(Coding::HexText, Length::Fixed, 8),
-            value: b"\x01\x23\x45\x67\x89\xAB\xCD\xEF",
-            part: b"0123456789abcdef",
-        },
-    ]
-}
+const OTHER_SPELLINGS: &[Case] = &[
+    Case {
+        name: "filler F",
+        row: number!(Coding::Bcd, Length::LL(Digits::Bcd), 19),
+        value: b"378282246310005",
+        part: b"\x15\xF3\x78\x28\x22\x46\x31\x00\x05",
+    },
+    Case {
+        name: "digits in lower case",
+        row: bytes!(Coding::HexText, Length::Fixed, 8),
+        value: b"\x01\x23\x45\x67\x89\xAB\xCD\xEF",
+        part: b"0123456789abcdef",
+    },
+];
 
 #[test]
 fn other_spellings_are_read(rt: HostRuntime) -> Result<(), Fail> {
-    for case in &other_spellings() {
+    for case in OTHER_SPELLINGS {
         let name = case.name;
-        assert!(rt; is_good(&case.row), "{name}");
         let used = Ok(Some(case.part.len()));
         let is_read = is_decoded(rt.alloc(), &case.row, case.part, used, case.value)?;
-        assert!(rt; is_read, "{name}");
+        check(is_read, name)?;
     }
     Ok(())
 }
@@ -293,7 +288,7 @@ fn four_digits_are_a_number(rt: HostRuntime) -> Result<(), Fail> {
         (*b"00A5", None),
         (*b"/000", None),
     ] {
-        assert!(rt; is_number(text, number), "{text:?}");
+        check(is_number(text, number), "four digits")?;
     }
     Ok(())
 }
@@ -303,13 +298,14 @@ fn has_digits(number: usize, ascii: [u8; 4], bcd: [u8; 2]) -> bool {
 }
 
 #[test]
-fn a_number_has_four_digits(rt: HostRuntime) {
+fn a_number_has_four_digits(rt: HostRuntime) -> Result<(), Fail> {
     for (number, ascii, bcd) in [
         (0, b"0000", [0x00, 0x00]),
         (55, b"0055", [0x00, 0x55]),
         (1234, b"1234", [0x12, 0x34]),
         (9999, b"9999", [0x99, 0x99]),
     ] {
-        assert!(rt; has_digits(number, *ascii, bcd), "{number}");
+        check(has_digits(number, *ascii, bcd), "its digits")?;
     }
+    Ok(())
 }

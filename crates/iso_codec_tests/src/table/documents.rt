@@ -26,32 +26,26 @@ const ROW_TWICE: &str =
         {"class":"ANS","coding":"ascii","length":"fixed","max":8,"number":41,"pad":"right:20"}]"#;
 
 /// A document with a new text in place of an old one, which stands there once.
-fn edited_in(
-    rt: &impl Abort,
-    alloc: Global,
-    document: &str,
-    old: &str,
-    new: &str,
-) -> Result<String, AllocError> {
+fn edited_in(alloc: Global, document: &str, old: &str, new: &str) -> Result<String, Fail> {
     let parts = document.split_once(old);
-    let (front, rest) = parts.expect(rt, "the document has the old text");
-    assert!(rt; !rest.contains(old), "the document has {old} twice");
-    format!(in alloc; "{front}{new}{rest}")
+    let (front, rest) = parts.ok_or("the document has the old text")?;
+    check_of(!rest.contains(old), old, "the document has it twice")?;
+    Ok(format!(in alloc; "{front}{new}{rest}")?)
 }
 
 /// The document of one row, with a new text in place of an old one.
-fn edited(rt: &impl Abort, alloc: Global, old: &str, new: &str) -> Result<String, AllocError> {
-    edited_in(rt, alloc, TERMINAL, old, new)
+fn edited(alloc: Global, old: &str, new: &str) -> Result<String, Fail> {
+    edited_in(alloc, TERMINAL, old, new)
 }
 
 /// The rows of the documents with other rows than the terminal's.
-const PADDED_ROW: FieldSpec = FieldSpec {
-    class: CharClass::ANS,
-    coding: Coding::Ascii,
-    length: Length::Fixed,
-    max: 8,
-    pad: Pad::Left(0x2F),
-};
+const PADDED_ROW: FieldSpec = row!(
+    CharClass::ANS,
+    Coding::Ascii,
+    Length::Fixed,
+    8,
+    Pad::Left(0x2F)
+);
 
 const ACCOUNT_ROWS: &[(u8, FieldSpec)] = &[(
     2,
@@ -103,62 +97,58 @@ const THREE_ROWS: &[(u8, FieldSpec)] = &[
 type Document = (&'static str, &'static str, &'static str, Says<'static>);
 
 /// The table with the terminal's row alone.
-fn terminal(version: u8) -> Says<'static> {
-    ascii_table(version, &[(41, TERMINAL_ROW)], 44)
-}
+const TERMINAL_0: Says<'static> = ascii_table!(0, &[(41, TERMINAL_ROW)], 44);
 
-fn padded() -> Says<'static> {
-    ascii_table(0, &[(41, PADDED_ROW)], 44)
-}
+const TERMINAL_1: Says<'static> = ascii_table!(1, &[(41, TERMINAL_ROW)], 44);
 
-fn documents() -> [Document; 11] {
-    [
-        ("one row", TERMINAL, TERMINAL, terminal(0)),
-        ("profile 2", TERMINAL, WRITTEN, terminal(0)),
-        (
-            "four digits",
-            TERMINAL,
-            CHIP,
-            ascii_table(0, CHIP_ROWS, 20_038),
-        ),
-        ("version 1", ":0", ":1", terminal(1)),
-        ("no rows", ROWS, "[]", ascii_table(0, &[], 36)),
-        (
-            "members in another order",
-            TERMINAL,
-            r#"{"version":0,"rows":[],"profile":1,"mti":"bcd","bitmap":"raw"}"#,
-            bcd_table(0, &[], 18),
-        ),
-        (
-            "a prefix behind LL",
-            ROWS,
-            r#"[{"class":"N","coding":"bcd","length":"LL","max":19,"number":2,"pad":"none","prefix":"bcd"}]"#,
-            ascii_table(0, ACCOUNT_ROWS, 47),
-        ),
-        (
-            "members and rows in another order",
-            "],",
-            r#",{"number":35,"class":"Z","coding":"bcd","length":"LLL","prefix":"ascii","max":37,"pad":"none"},
-                {"pad":"left:2a","max":3,"length":"fixed","coding":"ascii","class":"A","number":3}],"#,
-            ascii_table(0, THREE_ROWS, 69),
-        ),
-        ("a pad in lower case", "right:20", "left:2f", padded()),
-        ("a pad in upper case", "right:20", "left:2F", padded()),
-        (
-            "a member given twice",
-            ":0",
-            r#":3,"version":0"#,
-            terminal(0),
-        ),
-    ]
-}
+const PADDED: Says<'static> = ascii_table!(0, &[(41, PADDED_ROW)], 44);
+
+const DOCUMENTS: &[Document] = &[
+    ("one row", TERMINAL, TERMINAL, TERMINAL_0),
+    ("profile 2", TERMINAL, WRITTEN, TERMINAL_0),
+    (
+        "four digits",
+        TERMINAL,
+        CHIP,
+        ascii_table!(0, CHIP_ROWS, 20_038),
+    ),
+    ("version 1", ":0", ":1", TERMINAL_1),
+    ("no rows", ROWS, "[]", ascii_table!(0, &[], 36)),
+    (
+        "members in another order",
+        TERMINAL,
+        r#"{"version":0,"rows":[],"profile":1,"mti":"bcd","bitmap":"raw"}"#,
+        bcd_table!(0, &[], 18),
+    ),
+    (
+        "a prefix behind LL",
+        ROWS,
+        r#"[{"class":"N","coding":"bcd","length":"LL","max":19,"number":2,"pad":"none","prefix":"bcd"}]"#,
+        ascii_table!(0, ACCOUNT_ROWS, 47),
+    ),
+    (
+        "members and rows in another order",
+        "],",
+        r#",{"number":35,"class":"Z","coding":"bcd","length":"LLL","prefix":"ascii","max":37,"pad":"none"},
+            {"pad":"left:2a","max":3,"length":"fixed","coding":"ascii","class":"A","number":3}],"#,
+        ascii_table!(0, THREE_ROWS, 69),
+    ),
+    ("a pad in lower case", "right:20", "left:2f", PADDED),
+    ("a pad in upper case", "right:20", "left:2F", PADDED),
+    (
+        "a member given twice",
+        ":0",
+        r#":3,"version":0"#,
+        TERMINAL_0,
+    ),
+];
 
 #[test]
 fn reads_documents(rt: HostRuntime) -> Result<(), Fail> {
-    for (name, old, new, says) in &documents() {
-        let text = edited(&rt, rt.alloc(), old, new)?;
+    for (name, old, new, says) in DOCUMENTS {
+        let text = edited(rt.alloc(), *old, *new)?;
         let table = read(rt.alloc(), text.as_bytes())?;
-        assert_says(&rt, name, &table, *says);
+        check_says(*name, &table, says)?;
     }
     Ok(())
 }
@@ -171,109 +161,111 @@ fn is_refused(alloc: Global, text: &[u8], fault: TableFault) -> bool {
 type Refused = (&'static str, &'static str, &'static str, TableFault);
 
 /// Edits of the document of one row. `:1` stands at the profile alone, and `:0` at the version.
-fn refused_documents() -> [Refused; 20] {
-    [
-        ("empty text", TERMINAL, "", NotJson),
-        ("an object cut short", TERMINAL, "{", NotJson),
-        ("text behind the object", ":0}", ":0}0", NotJson),
-        ("no JSON, and profile 7", ":1,", ":7", NotJson),
-        ("an array", TERMINAL, "[]", Shape),
-        ("no profile", r#""profile":1,"#, "", Shape),
-        ("a profile below zero", ":1", ":-1", Shape),
-        ("a profile above 65535", ":1", ":65536", Shape),
-        ("profile 7", ":1", ":7", Profile),
-        ("profile 0", ":1", ":0", Profile),
-        ("profile 3", ":1", ":3", Profile),
-        ("profile 2 alone", TERMINAL, r#"{"profile":2}"#, Shape),
-        ("profile 7 alone", TERMINAL, r#"{"profile":7}"#, Profile),
-        ("profile 1 alone", TERMINAL, r#"{"profile":1}"#, Shape),
-        ("an unknown member", ":0", r#":0,"owner":"acquirer""#, Shape),
-        (
-            "an unknown member for a known one",
-            "version",
-            "edition",
-            Shape,
-        ),
-        ("version 256", ":0", ":256", Shape),
-        ("version 3", ":0", ":3", BadVersion),
-        (
-            "another kind of digits",
-            r#""mti":"ascii""#,
-            r#""mti":"ASCII""#,
-            Shape,
-        ),
-        ("another bitmap", r#""hex""#, r#""bcd""#, Shape),
-    ]
-}
+const REFUSED_DOCUMENTS: &[Refused] = &[
+    ("empty text", TERMINAL, "", NotJson),
+    ("an object cut short", TERMINAL, "{", NotJson),
+    ("text behind the object", ":0}", ":0}0", NotJson),
+    ("no JSON, and profile 7", ":1,", ":7", NotJson),
+    ("an array", TERMINAL, "[]", Shape),
+    ("no profile", r#""profile":1,"#, "", Shape),
+    ("a profile below zero", ":1", ":-1", Shape),
+    ("a profile above 65535", ":1", ":65536", Shape),
+    ("profile 7", ":1", ":7", Profile),
+    ("profile 0", ":1", ":0", Profile),
+    ("profile 3", ":1", ":3", Profile),
+    ("profile 2 alone", TERMINAL, r#"{"profile":2}"#, Shape),
+    ("profile 7 alone", TERMINAL, r#"{"profile":7}"#, Profile),
+    ("profile 1 alone", TERMINAL, r#"{"profile":1}"#, Shape),
+    ("an unknown member", ":0", r#":0,"owner":"acquirer""#, Shape),
+    (
+        "an unknown member for a known one",
+        "version",
+        "edition",
+        Shape,
+    ),
+    ("version 256", ":0", ":256", Shape),
+    ("version 3", ":0", ":3", BadVersion),
+    (
+        "another kind of digits",
+        r#""mti":"ascii""#,
+        r#""mti":"ASCII""#,
+        Shape,
+    ),
+    ("another bitmap", r#""hex""#, r#""bcd""#, Shape),
+];
 
 /// Edits of its rows alone, but for the last two.
-fn refused_rows() -> [Refused; 26] {
-    [
-        ("rows that are no array", ROWS, "{}", Shape),
-        ("a row that is no object", ROWS, "[41]", Shape),
-        (
-            "an unknown member of a row",
-            "41",
-            r#"41,"name":"terminal""#,
-            Shape,
-        ),
-        (
-            "a prefix behind fixed",
-            "}]",
-            r#","prefix":"ascii"}]"#,
-            Shape,
-        ),
-        ("no prefix behind LLL", "fixed", "LLL", Shape),
-        ("another class", "ANS", "ans", Shape),
-        (
-            "another coding",
-            r#""coding":"ascii""#,
-            r#""coding":"text""#,
-            Shape,
-        ),
-        ("another length", "fixed", "LLLL", Shape),
-        ("a number written 41.0", "41", "41.0", Shape),
-        ("a number written 41e0", "41", "41e0", Shape),
-        ("a number of 20 digits", "41", "41000000000000000000", Shape),
-        ("a number in quotes", "41", r#""41""#, Shape),
-        ("number 65536", "41", "65536", Shape),
-        ("number 65535", "41", "65535", BadNumber(65535)),
-        ("number 65", "41", "65", BadNumber(65)),
-        ("a maximum above 65535", "8", "65536", Shape),
-        ("maximum 0", "8", "0", BadMax(41)),
-        ("a pad of one digit", "right:20", "right:2", Shape),
-        ("a pad of three digits", "right:20", "right:200", Shape),
-        ("a pad of other digits", "right:20", "right:2g", Shape),
-        ("a pad on neither side", "right:20", "both:20", Shape),
-        ("a pad that no text has", "20", "7F", PadNotAllowed(41)),
-        ("bytes in ASCII", "ANS", "B", CodingClass(41)),
-        ("a row twice", ROWS, ROW_TWICE, Twice(41)),
-        (
-            "version 3 and a row that is none",
-            r#"}],"version":0"#,
-            r#"},41],"version":3"#,
-            Shape,
-        ),
-        (
-            "version 3 and row 65",
-            r#"41,"pad":"right:20"}],"version":0"#,
-            r#"65,"pad":"right:20"}],"version":3"#,
-            BadVersion,
-        ),
-    ]
+const REFUSED_ROWS: &[Refused] = &[
+    ("rows that are no array", ROWS, "{}", Shape),
+    ("a row that is no object", ROWS, "[41]", Shape),
+    (
+        "an unknown member of a row",
+        "41",
+        r#"41,"name":"terminal""#,
+        Shape,
+    ),
+    (
+        "a prefix behind fixed",
+        "}]",
+        r#","prefix":"ascii"}]"#,
+        Shape,
+    ),
+    ("no prefix behind LLL", "fixed", "LLL", Shape),
+    ("another class", "ANS", "ans", Shape),
+    (
+        "another coding",
+        r#""coding":"ascii""#,
+        r#""coding":"text""#,
+        Shape,
+    ),
+    ("another length", "fixed", "LLLL", Shape),
+    ("a number written 41.0", "41", "41.0", Shape),
+    ("a number written 41e0", "41", "41e0", Shape),
+    ("a number of 20 digits", "41", "41000000000000000000", Shape),
+    ("a number in quotes", "41", r#""41""#, Shape),
+    ("number 65536", "41", "65536", Shape),
+    ("number 65535", "41", "65535", BadNumber(65535)),
+    ("number 65", "41", "65", BadNumber(65)),
+    ("a maximum above 65535", "8", "65536", Shape),
+    ("maximum 0", "8", "0", BadMax(41)),
+    ("a pad of one digit", "right:20", "right:2", Shape),
+    ("a pad of three digits", "right:20", "right:200", Shape),
+    ("a pad of other digits", "right:20", "right:2g", Shape),
+    ("a pad on neither side", "right:20", "both:20", Shape),
+    ("a pad that no text has", "20", "7F", PadNotAllowed(41)),
+    ("bytes in ASCII", "ANS", "B", CodingClass(41)),
+    ("a row twice", ROWS, ROW_TWICE, Twice(41)),
+    (
+        "version 3 and a row that is none",
+        r#"}],"version":0"#,
+        r#"},41],"version":3"#,
+        Shape,
+    ),
+    (
+        "version 3 and row 65",
+        r#"41,"pad":"right:20"}],"version":0"#,
+        r#"65,"pad":"right:20"}],"version":3"#,
+        BadVersion,
+    ),
+];
+
+/// Whether the document of one row is refused so with a new text in place of an old one.
+fn is_refused_edited(alloc: Global, old: &str, new: &str, fault: TableFault) -> Result<bool, Fail> {
+    let text = edited(alloc, old, new)?;
+    Ok(is_refused(alloc, text.as_bytes(), fault))
+}
+
+fn refuse(alloc: Global, edits: &[Refused]) -> Result<(), Fail> {
+    for (name, old, new, fault) in edits {
+        check(is_refused_edited(alloc, *old, *new, *fault)?, *name)?;
+    }
+    Ok(())
 }
 
 #[test]
 fn refuses_documents(rt: HostRuntime) -> Result<(), Fail> {
-    for (name, old, new, fault) in &refused_documents() {
-        let text = edited(&rt, rt.alloc(), old, new)?;
-        assert!(rt; is_refused(rt.alloc(), text.as_bytes(), *fault), "{name}");
-    }
-    for (name, old, new, fault) in &refused_rows() {
-        let text = edited(&rt, rt.alloc(), old, new)?;
-        assert!(rt; is_refused(rt.alloc(), text.as_bytes(), *fault), "{name}");
-    }
-    Ok(())
+    refuse(rt.alloc(), REFUSED_DOCUMENTS)?;
+    refuse(rt.alloc(), REFUSED_ROWS)
 }
 
 /// Arrays within one another.
@@ -292,34 +284,31 @@ fn nested(alloc: Global, depth: usize) -> Result<Vec<u8>, AllocError> {
 fn reads_text_alone(rt: HostRuntime) -> Result<(), Fail> {
     let alloc = rt.alloc();
     let latin = b"{\"profile\":7,\"owner\":\"\xE9\"}";
-    assert!(rt; is_refused(alloc, latin, NotJson), "another encoding");
+    check(is_refused(alloc, latin, NotJson), "another encoding")?;
     let deep = nested(alloc, 127)?;
-    assert!(rt; is_refused(alloc, &deep, Shape), "127 arrays");
+    check(is_refused(alloc, &deep, Shape), "127 arrays")?;
     let deeper = nested(alloc, 128)?;
-    assert!(rt; is_refused(alloc, &deeper, NotJson), "128 arrays");
-    Ok(())
+    check(is_refused(alloc, &deeper, NotJson), "128 arrays")
 }
 
 /// Edits of the table with four digits of a length.
-fn refused_digits() -> [Refused; 9] {
-    [
-        ("profile 1", r#""profile":2"#, r#""profile":1"#, Shape),
-        ("five digits", "LLLL", "LLLLL", Shape),
-        ("lower case", "LLLL", "llll", Shape),
-        ("no prefix", r#","prefix":"ascii""#, "", Shape),
-        ("maximum 10000", "9999", "10000", BadMax(48)),
-        ("maximum 0", "9999", "0", BadMax(48)),
-        ("LLL", "LLLL", "LLL", BadMax(48)),
-        ("a pad", "none", "left:30", PadNotAllowed(48)),
-        ("text as digits", r#""B""#, r#""ANS""#, CodingClass(48)),
-    ]
-}
+const REFUSED_DIGITS: &[Refused] = &[
+    ("profile 1", r#""profile":2"#, r#""profile":1"#, Shape),
+    ("five digits", "LLLL", "LLLLL", Shape),
+    ("lower case", "LLLL", "llll", Shape),
+    ("no prefix", r#","prefix":"ascii""#, "", Shape),
+    ("maximum 10000", "9999", "10000", BadMax(48)),
+    ("maximum 0", "9999", "0", BadMax(48)),
+    ("LLL", "LLLL", "LLL", BadMax(48)),
+    ("a pad", "none", "left:30", PadNotAllowed(48)),
+    ("text as digits", r#""B""#, r#""ANS""#, CodingClass(48)),
+];
 
 #[test]
 fn refuses_four_digits(rt: HostRuntime) -> Result<(), Fail> {
-    for (name, old, new, fault) in &refused_digits() {
-        let text = edited_in(&rt, rt.alloc(), CHIP, old, new)?;
-        assert!(rt; is_refused(rt.alloc(), text.as_bytes(), *fault), "{name}");
+    for (name, old, new, fault) in REFUSED_DIGITS {
+        let text = edited_in(rt.alloc(), CHIP, *old, *new)?;
+        check(is_refused(rt.alloc(), text.as_bytes(), *fault), *name)?;
     }
     Ok(())
 }
@@ -331,19 +320,17 @@ fn rewritten(alloc: Global, document: &str) -> Result<Vec<u8>, Fail> {
 }
 
 /// Documents, and what is written of the tables that they give.
-fn written_documents() -> [(&'static str, &'static str, &'static str); 3] {
-    [
-        ("profile 1", TERMINAL, WRITTEN),
-        ("profile 2", WRITTEN, WRITTEN),
-        ("four digits", CHIP, CHIP),
-    ]
-}
+const WRITTEN_DOCUMENTS: &[(&'static str, &'static str, &'static str)] = &[
+    ("profile 1", TERMINAL, WRITTEN),
+    ("profile 2", WRITTEN, WRITTEN),
+    ("four digits", CHIP, CHIP),
+];
 
 #[test]
 fn writes_what_it_read(rt: HostRuntime) -> Result<(), Fail> {
-    for (name, document, written) in &written_documents() {
+    for (name, document, written) in WRITTEN_DOCUMENTS {
         let text = rewritten(rt.alloc(), document)?;
-        assert!(rt; text.as_slice() == written.as_bytes(), "{name}");
+        check(text.as_slice() == written.as_bytes(), *name)?;
     }
     Ok(())
 }

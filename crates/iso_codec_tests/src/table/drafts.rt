@@ -1,47 +1,33 @@
 use super::*;
 
-const ACCOUNT: FieldSpec = FieldSpec {
-    class: CharClass::N,
-    coding: Coding::Ascii,
-    length: Length::LL(Digits::Ascii),
-    max: 19,
-    pad: Pad::None,
-};
+const ACCOUNT: FieldSpec = number!(Coding::Ascii, Length::LL(Digits::Ascii), 19);
 
-const TRACK: FieldSpec = FieldSpec {
-    class: CharClass::Z,
-    coding: Coding::Bcd,
-    length: Length::LLL(Digits::Bcd),
-    max: 999,
-    pad: Pad::None,
-};
+const TRACK: FieldSpec = row!(
+    CharClass::Z,
+    Coding::Bcd,
+    Length::LLL(Digits::Bcd),
+    999,
+    Pad::None
+);
 
-const TEXT: FieldSpec = FieldSpec {
-    class: CharClass::ANS,
-    coding: Coding::Ascii,
-    length: Length::Fixed,
-    max: 999,
-    pad: Pad::None,
-};
+const TEXT: FieldSpec = text!(Length::Fixed, 999);
 
-fn drafts() -> [(&'static str, Says<'static>); 4] {
-    [
-        ("one row", ascii_table(0, &[(41, ACCOUNT)], 57)),
-        ("no row, private use", ascii_table(9, &[], 36)),
-        (
-            "a terminal of 1993",
-            ascii_table(1, &[(41, TERMINAL_ROW)], 44),
+const DRAFTS: &[(&'static str, Says<'static>)] = &[
+    ("one row", ascii_table!(0, &[(41, ACCOUNT)], 57)),
+    ("no row, private use", ascii_table!(9, &[], 36)),
+    (
+        "a terminal of 1993",
+        ascii_table!(1, &[(41, TERMINAL_ROW)], 44),
+    ),
+    (
+        "the least and greatest numbers",
+        bcd_table!(
+            2,
+            &[(128, TRACK), (66, TEXT), (2, ACCOUNT), (64, TRACK)],
+            2042
         ),
-        (
-            "the least and greatest numbers",
-            bcd_table(
-                2,
-                &[(128, TRACK), (66, TEXT), (2, ACCOUNT), (64, TRACK)],
-                2042,
-            ),
-        ),
-    ]
-}
+    ),
+];
 
 /// The table of a draft that says so.
 fn checked(alloc: Global, says: Says) -> Result<Table, Fail> {
@@ -52,139 +38,131 @@ fn has_no_row(table: &Table, element: u8) -> bool {
     table.row(element) == None
 }
 
-#[test]
-fn accepts_drafts(rt: HostRuntime) -> Result<(), Fail> {
-    for (name, says) in &drafts() {
-        let table = checked(rt.alloc(), *says)?;
-        assert_says(&rt, name, &table, *says);
-        for element in [0, 1, 65, 129, 255] {
-            assert!(rt; has_no_row(&table, element), "{name}: element {element}");
-        }
+/// That no table has a row at these numbers.
+fn check_no_rows(name: &str, table: &Table) -> Result<(), Fail> {
+    for element in [0, 1, 65, 129, 255] {
+        check_element(has_no_row(table, element), name, element)?;
     }
     Ok(())
 }
 
-const TOO_LONG: FieldSpec = FieldSpec {
-    class: CharClass::N,
-    coding: Coding::Ascii,
-    length: Length::LL(Digits::Ascii),
-    max: 100,
-    pad: Pad::None,
-};
+#[test]
+fn accepts_drafts(rt: HostRuntime) -> Result<(), Fail> {
+    for (name, says) in DRAFTS {
+        let table = checked(rt.alloc(), *says)?;
+        check_says(*name, &table, says)?;
+        check_no_rows(*name, &table)?;
+    }
+    Ok(())
+}
 
-const PACKED_TEXT: FieldSpec = FieldSpec {
-    class: CharClass::ANS,
-    coding: Coding::Bcd,
-    length: Length::Fixed,
-    max: 8,
-    pad: Pad::None,
-};
+const TOO_LONG: FieldSpec = number!(Coding::Ascii, Length::LL(Digits::Ascii), 100);
 
-const PADDED: FieldSpec = FieldSpec {
-    class: CharClass::ANS,
-    coding: Coding::Ascii,
-    length: Length::LL(Digits::Ascii),
-    max: 8,
-    pad: Pad::Right(0x20),
-};
+const PACKED_TEXT: FieldSpec = row!(CharClass::ANS, Coding::Bcd, Length::Fixed, 8, Pad::None);
 
-const PADDED_PACKED_TEXT: FieldSpec = FieldSpec {
-    class: CharClass::ANS,
-    coding: Coding::Bcd,
-    length: Length::LL(Digits::Ascii),
-    max: 8,
-    pad: Pad::Right(0x20),
-};
+const PADDED: FieldSpec = row!(
+    CharClass::ANS,
+    Coding::Ascii,
+    Length::LL(Digits::Ascii),
+    8,
+    Pad::Right(0x20)
+);
 
-const ALL_WRONG: FieldSpec = FieldSpec {
-    class: CharClass::ANS,
-    coding: Coding::Bcd,
-    length: Length::LL(Digits::Ascii),
-    max: 0,
-    pad: Pad::Right(0x20),
-};
+const PADDED_PACKED_TEXT: FieldSpec = row!(
+    CharClass::ANS,
+    Coding::Bcd,
+    Length::LL(Digits::Ascii),
+    8,
+    Pad::Right(0x20)
+);
+
+const ALL_WRONG: FieldSpec = row!(
+    CharClass::ANS,
+    Coding::Bcd,
+    Length::LL(Digits::Ascii),
+    0,
+    Pad::Right(0x20)
+);
 
 /// A draft that is no table: its version, its rows, and the fault.
 type Refused = (&'static str, u8, &'static [(u16, FieldSpec)], TableFault);
 
-fn refused_drafts() -> [Refused; 14] {
-    [
-        (
-            "version 3 and row 65",
-            3,
-            &[(65, ACCOUNT)],
-            TableFault::BadVersion,
-        ),
-        ("number 0", 0, &[(0, ACCOUNT)], TableFault::BadNumber(0)),
-        ("number 1", 0, &[(1, ACCOUNT)], TableFault::BadNumber(1)),
-        (
-            "number 65 and too long",
-            0,
-            &[(65, TOO_LONG)],
-            TableFault::BadNumber(65),
-        ),
-        (
-            "number 129",
-            0,
-            &[(129, ACCOUNT)],
-            TableFault::BadNumber(129),
-        ),
-        (
-            "number 65535",
-            0,
-            &[(65535, ACCOUNT)],
-            TableFault::BadNumber(65535),
-        ),
-        (
-            "row 2 twice, then too long",
-            0,
-            &[(2, ACCOUNT), (2, TOO_LONG)],
-            TableFault::Twice(2),
-        ),
-        (
-            "LL with maximum 100",
-            0,
-            &[(2, TOO_LONG)],
-            TableFault::BadMax(2),
-        ),
-        (
-            "BCD text",
-            0,
-            &[(128, PACKED_TEXT)],
-            TableFault::CodingClass(128),
-        ),
-        (
-            "padding on LL",
-            0,
-            &[(64, PADDED)],
-            TableFault::PadNotAllowed(64),
-        ),
-        (
-            "maximum, coding and padding",
-            0,
-            &[(7, ALL_WRONG)],
-            TableFault::BadMax(7),
-        ),
-        (
-            "coding and padding",
-            0,
-            &[(7, PADDED_PACKED_TEXT)],
-            TableFault::CodingClass(7),
-        ),
-        (
-            "the first row's fault",
-            0,
-            &[(3, PADDED), (1, ACCOUNT)],
-            TableFault::PadNotAllowed(3),
-        ),
-        (
-            "the second row's fault",
-            2,
-            &[(3, ACCOUNT), (66, PACKED_TEXT)],
-            TableFault::CodingClass(66),
-        ),
-    ]
-}
+const REFUSED_DRAFTS: &[Refused] = &[
+    (
+        "version 3 and row 65",
+        3,
+        &[(65, ACCOUNT)],
+        TableFault::BadVersion,
+    ),
+    ("number 0", 0, &[(0, ACCOUNT)], TableFault::BadNumber(0)),
+    ("number 1", 0, &[(1, ACCOUNT)], TableFault::BadNumber(1)),
+    (
+        "number 65 and too long",
+        0,
+        &[(65, TOO_LONG)],
+        TableFault::BadNumber(65),
+    ),
+    (
+        "number 129",
+        0,
+        &[(129, ACCOUNT)],
+        TableFault::BadNumber(129),
+    ),
+    (
+        "number 65535",
+        0,
+        &[(65535, ACCOUNT)],
+        TableFault::BadNumber(65535),
+    ),
+    (
+        "row 2 twice, then too long",
+        0,
+        &[(2, ACCOUNT), (2, TOO_LONG)],
+        TableFault::Twice(2),
+    ),
+    (
+        "LL with maximum 100",
+        0,
+        &[(2, TOO_LONG)],
+        TableFault::BadMax(2),
+    ),
+    (
+        "BCD text",
+        0,
+        &[(128, PACKED_TEXT)],
+        TableFault::CodingClass(128),
+    ),
+    (
+        "padding on LL",
+        0,
+        &[(64, PADDED)],
+        TableFault::PadNotAllowed(64),
+    ),
+    (
+        "maximum, coding and padding",
+        0,
+        &[(7, ALL_WRONG)],
+        TableFault::BadMax(7),
+    ),
+    (
+        "coding and padding",
+        0,
+        &[(7, PADDED_PACKED_TEXT)],
+        TableFault::CodingClass(7),
+    ),
+    (
+        "the first row's fault",
+        0,
+        &[(3, PADDED), (1, ACCOUNT)],
+        TableFault::PadNotAllowed(3),
+    ),
+    (
+        "the second row's fault",
+        2,
+        &[(3, ACCOUNT), (66, PACKED_TEXT)],
+        TableFault::CodingClass(66),
+    ),
+];
 
 fn is_refused(
     alloc: Global,
@@ -204,9 +182,9 @@ fn is_refused(
 
 #[test]
 fn refuses_drafts(rt: HostRuntime) -> Result<(), Fail> {
-    for (name, version, rows, fault) in &refused_drafts() {
+    for (name, version, rows, fault) in REFUSED_DRAFTS {
         let is_refused = is_refused(rt.alloc(), *version, rows, *fault)?;
-        assert!(rt; is_refused, "{name}");
+        check(is_refused, *name)?;
     }
     Ok(())
 }

@@ -14,22 +14,19 @@ fn has_only(alloc: Global, document: &str, size: usize, pad: Option<&str>) -> Re
     }
 }
 
-fn objects() -> [(&'static str, usize, Option<&'static str>); 4] {
-    [
-        (r#"{"class":"N","pad":"none"}"#, 2, Some("none")),
-        (r#"{"pad":"left:2a","pad":"none"}"#, 1, Some("none")),
-        (r#"{"pad":20}"#, 1, None),
-        ("{}", 0, None),
-    ]
-}
+const OBJECTS: &[(&'static str, usize, Option<&'static str>)] = &[
+    (r#"{"class":"N","pad":"none"}"#, 2, Some("none")),
+    (r#"{"pad":"left:2a","pad":"none"}"#, 1, Some("none")),
+    (r#"{"pad":20}"#, 1, None),
+    ("{}", 0, None),
+];
 
 #[test]
 fn members_of_an_object(rt: HostRuntime) -> Result<(), Fail> {
-    for (document, size, pad) in &objects() {
-        assert!(rt; has_only(rt.alloc(), document, *size, *pad)?, "{document}");
+    for (document, size, pad) in OBJECTS {
+        check(has_only(rt.alloc(), document, *size, *pad)?, *document)?;
     }
-    assert!(rt; !is_empty(rt.alloc(), "[]")?, "a list is no object");
-    Ok(())
+    check(!is_empty(rt.alloc(), "[]")?, "a list is no object")
 }
 
 /// Whether a document is an object without members.

@@ -1,69 +1,64 @@
 //! The numbers of faults.
 
+use iso_fakes::check;
 use iso_parts::FieldFault;
 use iso_wire::{FrameFault, PackFault, SetFault, UnpackCause};
-use std::process::Abort;
 use std::test::Fail;
 
-fn set_numbers() -> [(&'static str, u8, u8); 2] {
-    [
-        ("set BadNumber", SetFault::BadNumber(65).number(), 1),
-        ("set Memory", SetFault::Memory.number(), 2),
-    ]
+/// Each that has a number.
+#[derive(Drop)]
+enum Numbered {
+    Set(SetFault),
+    Pack(PackFault),
+    Unpack(UnpackCause),
+    Frame(FrameFault),
 }
 
-fn pack_numbers() -> [(&'static str, u8, u8); 6] {
-    [
-        ("pack WrongVersion", PackFault::WrongVersion.number(), 1),
-        ("pack NoRow", PackFault::NoRow(41).number(), 2),
-        ("pack WrongLength", PackFault::WrongLength(41).number(), 3),
-        ("pack NotInClass", PackFault::NotInClass(41).number(), 4),
-        ("pack PadEnd", PackFault::PadEnd(41).number(), 5),
-        ("pack Memory", PackFault::Memory.number(), 6),
-    ]
-}
+use Numbered::{Frame, Pack, Set, Unpack};
 
-fn unpack_numbers() -> [(&'static str, u8, u8); 8] {
-    [
-        ("unpack Short", UnpackCause::Short.number(), 1),
-        ("unpack BadMti", UnpackCause::BadMti.number(), 2),
-        ("unpack WrongVersion", UnpackCause::WrongVersion.number(), 3),
-        ("unpack BadHex", UnpackCause::BadHex.number(), 4),
-        ("unpack ThirdBitmap", UnpackCause::ThirdBitmap.number(), 5),
-        (
-            "unpack UnknownElement",
-            UnpackCause::UnknownElement(66).number(),
-            6,
-        ),
-        (
-            "unpack Field",
-            UnpackCause::Field(FieldFault::BadFiller).number(),
-            7,
-        ),
-        ("unpack Memory", UnpackCause::Memory.number(), 8),
-    ]
-}
+const NUMBERS: &[(&str, Numbered, u8)] = &[
+    ("set BadNumber", Set(SetFault::BadNumber(65)), 1),
+    ("set Memory", Set(SetFault::Memory), 2),
+    ("pack WrongVersion", Pack(PackFault::WrongVersion), 1),
+    ("pack NoRow", Pack(PackFault::NoRow(41)), 2),
+    ("pack WrongLength", Pack(PackFault::WrongLength(41)), 3),
+    ("pack NotInClass", Pack(PackFault::NotInClass(41)), 4),
+    ("pack PadEnd", Pack(PackFault::PadEnd(41)), 5),
+    ("pack Memory", Pack(PackFault::Memory), 6),
+    ("unpack Short", Unpack(UnpackCause::Short), 1),
+    ("unpack BadMti", Unpack(UnpackCause::BadMti), 2),
+    ("unpack WrongVersion", Unpack(UnpackCause::WrongVersion), 3),
+    ("unpack BadHex", Unpack(UnpackCause::BadHex), 4),
+    ("unpack ThirdBitmap", Unpack(UnpackCause::ThirdBitmap), 5),
+    (
+        "unpack UnknownElement",
+        Unpack(UnpackCause::UnknownElement(66)),
+        6,
+    ),
+    (
+        "unpack Field",
+        Unpack(UnpackCause::Field(FieldFault::BadFiller)),
+        7,
+    ),
+    ("unpack Memory", Unpack(UnpackCause::Memory), 8),
+    ("frame TooLong", Frame(FrameFault::TooLong), 1),
+    ("frame BadDigits", Frame(FrameFault::BadDigits), 2),
+    ("frame Memory", Frame(FrameFault::Memory), 3),
+];
 
-fn frame_numbers() -> [(&'static str, u8, u8); 3] {
-    [
-        ("frame TooLong", FrameFault::TooLong.number(), 1),
-        ("frame BadDigits", FrameFault::BadDigits.number(), 2),
-        ("frame Memory", FrameFault::Memory.number(), 3),
-    ]
-}
-
-/// That each number is the one that is wanted.
-fn assert_numbers(rt: &impl Abort, numbers: &[(&str, u8, u8)]) {
-    for (name, number, want) in numbers {
-        assert_eq!(rt; *number, *want, "{name}");
+fn number_of(numbered: &Numbered) -> u8 {
+    match numbered {
+        Set(fault) => fault.number(),
+        Pack(fault) => fault.number(),
+        Unpack(cause) => cause.number(),
+        Frame(fault) => fault.number(),
     }
 }
 
 #[test]
-fn faults_have_numbers(rt: HostRuntime) -> Result<(), Fail> {
-    assert_numbers(&rt, &set_numbers());
-    assert_numbers(&rt, &pack_numbers());
-    assert_numbers(&rt, &unpack_numbers());
-    assert_numbers(&rt, &frame_numbers());
+fn faults_have_numbers() -> Result<(), Fail> {
+    for (name, numbered, want) in NUMBERS {
+        check(number_of(numbered) == *want, *name)?;
+    }
     Ok(())
 }

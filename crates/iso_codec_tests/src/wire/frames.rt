@@ -20,30 +20,28 @@ fn closed(alloc: Global, header: Header, body: &[u8]) -> Result<Vec<u8>, FrameFa
 /// A body behind a header, and the frame.
 type FrameCase = (&'static str, Header, &'static [u8], &'static [u8]);
 
-fn frames() -> [FrameCase; 5] {
-    [
-        (
-            "an echo behind two bytes",
-            Binary2,
-            ECHO,
-            b"\x00\x370800822000000000000004000000000000000102030405000001301",
-        ),
-        (
-            "an echo behind four digits",
-            Ascii4,
-            ECHO,
-            b"00550800822000000000000004000000000000000102030405000001301",
-        ),
-        (
-            "an echo behind two bytes of digits",
-            Bcd2,
-            ECHO,
-            b"\x00\x550800822000000000000004000000000000000102030405000001301",
-        ),
-        ("nothing behind two bytes", Binary2, b"", b"\x00\x00"),
-        ("nothing behind four digits", Ascii4, b"", b"0000"),
-    ]
-}
+const FRAMES: &[FrameCase] = &[
+    (
+        "an echo behind two bytes",
+        Binary2,
+        ECHO,
+        b"\x00\x370800822000000000000004000000000000000102030405000001301",
+    ),
+    (
+        "an echo behind four digits",
+        Ascii4,
+        ECHO,
+        b"00550800822000000000000004000000000000000102030405000001301",
+    ),
+    (
+        "an echo behind two bytes of digits",
+        Bcd2,
+        ECHO,
+        b"\x00\x550800822000000000000004000000000000000102030405000001301",
+    ),
+    ("nothing behind two bytes", Binary2, b"", b"\x00\x00"),
+    ("nothing behind four digits", Ascii4, b"", b"0000"),
+];
 
 fn is_framed(alloc: Global, header: Header, body: &[u8], want: &[u8]) -> Result<bool, Fail> {
     Ok(frame(alloc, header, body)?.as_slice() == want)
@@ -58,17 +56,29 @@ fn is_unframed(header: Header, bytes: &[u8], want: Result<Framed<'_>, FrameFault
     unframe(header, bytes) == want
 }
 
+/// Whether the body is read of a frame that ends with it.
+fn is_read_back(header: Header, body: &[u8], bytes: &[u8]) -> bool {
+    let used = bytes.len();
+    is_unframed(header, bytes, Ok(Got { body, used }))
+}
+
+/// That the body is framed so by each call, and read of the frame.
+fn check_frame(
+    alloc: Global,
+    name: &str,
+    header: Header,
+    body: &[u8],
+    want: &[u8],
+) -> Result<(), Fail> {
+    check(is_framed(alloc, header, body, want)?, name)?;
+    check_of(is_closed(alloc, header, body, want)?, name, "closed")?;
+    check_of(is_read_back(header, body, want), name, "read")
+}
+
 #[test]
 fn bodies_are_framed(rt: HostRuntime) -> Result<(), Fail> {
-    for (name, header, body, want) in &frames() {
-        assert!(rt; is_framed(rt.alloc(), *header, body, want)?, "{name}");
-        assert!(rt;
-            is_closed(rt.alloc(), *header, body, want)?,
-            "{name}, closed"
-        );
-        let used = want.len();
-        let got = Ok(Got { body, used });
-        assert!(rt; is_unframed(*header, want, got), "{name}, read");
+    for (name, header, body, want) in FRAMES {
+        check_frame(rt.alloc(), *name, *header, body, want)?;
     }
     Ok(())
 }
@@ -76,16 +86,19 @@ fn bodies_are_framed(rt: HostRuntime) -> Result<(), Fail> {
 /// A header before a body of so many bytes, and its bytes.
 type LongCase = (Header, usize, Result<&'static [u8], FrameFault>);
 
-fn long_frames() -> [LongCase; 7] {
-    [
-        (Binary2, 10_000, Ok(b"\x27\x10")),
-        (Ascii4, 10_000, Err(TooLong)),
-        (Bcd2, 10_000, Err(TooLong)),
-        (Ascii4, 9_999, Ok(b"9999")),
-        (Bcd2, 9_999, Ok(b"\x99\x99")),
-        (Binary2, 65_535, Ok(b"\xFF\xFF")),
-        (Binary2, 65_536, Err(TooLong)),
-    ]
+const LONG_FRAMES: &[LongCase] = &[
+    (Binary2, 10_000, Ok(b"\x27\x10")),
+    (Ascii4, 10_000, Err(TooLong)),
+    (Bcd2, 10_000, Err(TooLong)),
+    (Ascii4, 9_999, Ok(b"9999")),
+    (Bcd2, 9_999, Ok(b"\x99\x99")),
+    (Binary2, 65_535, Ok(b"\xFF\xFF")),
+    (Binary2, 65_536, Err(TooLong)),
+];
+
+/// Whether a frame is that whole header and the body.
+fn has_front(bytes: &[u8], header: Header, front: &[u8], body: &[u8]) -> bool {
+    front.len() == header.size() && bytes.strip_prefix(front) == Some(body)
 }
 
 /// Whether a body of so many bytes has that header, or is refused so.
@@ -96,20 +109,32 @@ fn has_header(
     want: Result<&[u8], FrameFault>,
 ) -> Result<bool, Fail> {
     let body = vec![in alloc; b'x'; length]?;
-    Ok(match (frame(alloc, header, &body), want) {
-        (Ok(bytes), Ok(front)) => {
-            front.len() == header.size() && bytes.strip_prefix(front) == Some(body.as_slice())
-        }
-        (Err(fault), Err(refused)) => fault == refused,
-        _ => false,
-    })
+    match frame(alloc, header, &body) {
+        Ok(bytes) => match want {
+            Ok(front) => Ok(has_front(&bytes, header, front, &body)),
+            Err(_) => Ok(false),
+        },
+        Err(fault) => Ok(want.err() == Some(fault)),
+    }
+}
+
+fn check_header(
+    alloc: Global,
+    header: Header,
+    length: usize,
+    want: Result<&[u8], FrameFault>,
+) -> Result<(), Fail> {
+    if has_header(alloc, header, length, want)? {
+        Ok(())
+    } else {
+        Err(Fail::new(format_args!("{header:?} before {length} bytes")))
+    }
 }
 
 #[test]
 fn long_bodies(rt: HostRuntime) -> Result<(), Fail> {
-    for (header, length, want) in &long_frames() {
-        let is_made = has_header(rt.alloc(), *header, *length, *want)?;
-        assert!(rt; is_made, "{header:?} before {length} bytes");
+    for (header, length, want) in LONG_FRAMES {
+        check_header(rt.alloc(), *header, *length, *want)?;
     }
     Ok(())
 }
@@ -122,60 +147,58 @@ type Unframed = (
     Result<Framed<'static>, FrameFault>,
 );
 
-fn unframed() -> [Unframed; 11] {
-    [
-        ("no bytes", Binary2, b"", Ok(More)),
-        ("half a header", Bcd2, b"\x00", Ok(More)),
-        ("a header not of digits", Bcd2, b"\x00\x5A", Err(BadDigits)),
-        (
-            "an empty body",
-            Bcd2,
-            b"\x00\x00",
-            Ok(Got { body: b"", used: 2 }),
-        ),
-        (
-            "a body of 10",
-            Bcd2,
-            b"\x00\x100123456789",
-            Ok(Got {
-                body: b"0123456789",
-                used: 12,
-            }),
-        ),
-        ("half a header with a letter", Ascii4, b"00x", Ok(More)),
-        ("a header with a letter", Ascii4, b"00x5", Err(BadDigits)),
-        (
-            "a body and more",
-            Ascii4,
-            b"0002abcd",
-            Ok(Got {
-                body: b"ab",
-                used: 6,
-            }),
-        ),
-        ("a body without its end", Ascii4, b"0005abcd", Ok(More)),
-        (
-            "bytes that are no digits",
-            Binary2,
-            b"\x00\x0Aabcdefghij",
-            Ok(Got {
-                body: b"abcdefghij",
-                used: 12,
-            }),
-        ),
-        (
-            "a high byte alone",
-            Binary2,
-            b"\x01\x00abcdefghij",
-            Ok(More),
-        ),
-    ]
-}
+const UNFRAMED: &[Unframed] = &[
+    ("no bytes", Binary2, b"", Ok(More)),
+    ("half a header", Bcd2, b"\x00", Ok(More)),
+    ("a header not of digits", Bcd2, b"\x00\x5A", Err(BadDigits)),
+    (
+        "an empty body",
+        Bcd2,
+        b"\x00\x00",
+        Ok(Got { body: b"", used: 2 }),
+    ),
+    (
+        "a body of 10",
+        Bcd2,
+        b"\x00\x100123456789",
+        Ok(Got {
+            body: b"0123456789",
+            used: 12,
+        }),
+    ),
+    ("half a header with a letter", Ascii4, b"00x", Ok(More)),
+    ("a header with a letter", Ascii4, b"00x5", Err(BadDigits)),
+    (
+        "a body and more",
+        Ascii4,
+        b"0002abcd",
+        Ok(Got {
+            body: b"ab",
+            used: 6,
+        }),
+    ),
+    ("a body without its end", Ascii4, b"0005abcd", Ok(More)),
+    (
+        "bytes that are no digits",
+        Binary2,
+        b"\x00\x0Aabcdefghij",
+        Ok(Got {
+            body: b"abcdefghij",
+            used: 12,
+        }),
+    ),
+    (
+        "a high byte alone",
+        Binary2,
+        b"\x01\x00abcdefghij",
+        Ok(More),
+    ),
+];
 
 #[test]
 fn frames_are_read(rt: HostRuntime) -> Result<(), Fail> {
-    for (name, header, bytes, want) in &unframed() {
-        assert!(rt; is_unframed(*header, bytes, *want), "{name}");
+    for (name, header, bytes, want) in UNFRAMED {
+        check(is_unframed(*header, bytes, *want), *name)?;
     }
     Ok(())
 }
@@ -188,50 +211,57 @@ type LengthCase = (
     Result<Option<usize>, FrameFault>,
 );
 
-fn headers() -> [LengthCase; 8] {
-    [
-        ("no bytes", Ascii4, b"", Ok(None)),
-        ("half a header with a letter", Ascii4, b"00x", Ok(None)),
-        ("a header with a letter", Ascii4, b"00x5", Err(BadDigits)),
-        ("a header alone", Ascii4, b"0055", Ok(Some(55))),
-        (
-            "a header and a part of the body",
-            Ascii4,
-            b"00550800",
-            Ok(Some(55)),
-        ),
-        ("two bytes", Binary2, b"\xFF\xFE", Ok(Some(65_534))),
-        ("two bytes of digits", Bcd2, b"\x12\x34\x56", Ok(Some(1234))),
-        ("two bytes not of digits", Bcd2, b"\x12\x3A", Err(BadDigits)),
-    ]
-}
+const HEADERS: &[LengthCase] = &[
+    ("no bytes", Ascii4, b"", Ok(None)),
+    ("half a header with a letter", Ascii4, b"00x", Ok(None)),
+    ("a header with a letter", Ascii4, b"00x5", Err(BadDigits)),
+    ("a header alone", Ascii4, b"0055", Ok(Some(55))),
+    (
+        "a header and a part of the body",
+        Ascii4,
+        b"00550800",
+        Ok(Some(55)),
+    ),
+    ("two bytes", Binary2, b"\xFF\xFE", Ok(Some(65_534))),
+    ("two bytes of digits", Bcd2, b"\x12\x34\x56", Ok(Some(1234))),
+    ("two bytes not of digits", Bcd2, b"\x12\x3A", Err(BadDigits)),
+];
 
 fn tells(header: Header, bytes: &[u8], want: Result<Option<usize>, FrameFault>) -> bool {
     body_length(header, bytes) == want
 }
 
-#[test]
-fn headers_are_read_alone(rt: HostRuntime) -> Result<(), Fail> {
-    for (name, header, bytes, want) in &headers() {
-        assert!(rt; tells(*header, bytes, *want), "{name}");
+fn check_lengths(cases: &[LengthCase]) -> Result<(), Fail> {
+    for (name, header, bytes, want) in cases {
+        check(tells(*header, bytes, *want), *name)?;
     }
     Ok(())
 }
 
-/// Appends a frame, and says whether that is the answer.
-fn appends(header: Header, body: &[u8], out: &mut Vec<u8>, want: Result<(), FrameFault>) -> bool {
-    append_frame(header, body, out) == want
+#[test]
+fn headers_are_read_alone(rt: HostRuntime) -> Result<(), Fail> {
+    check_lengths(HEADERS)
+}
+
+/// Appends a frame, and says whether that is the answer, and these are the bytes then.
+fn appends(
+    header: Header,
+    body: &[u8],
+    out: &mut Vec<u8>,
+    want: Result<(), FrameFault>,
+    bytes: &[u8],
+) -> bool {
+    append_frame(header, body, out) == want && out.as_slice() == bytes
 }
 
 #[test]
 fn frames_are_appended(rt: HostRuntime) -> Result<(), Fail> {
     let mut out = vec![in rt.alloc(); b'a', b'b']?;
-    assert!(rt; appends(Ascii4, b"c", &mut out, Ok(())));
-    assert_eq!(rt; out.as_slice(), b"ab0001c".as_slice());
+    let is_appended = appends(Ascii4, b"c", &mut out, Ok(()), b"ab0001c");
+    check(is_appended, "a body of one byte")?;
     let long = vec![in rt.alloc(); b'x'; 10_000]?;
-    assert!(rt; appends(Ascii4, &long, &mut out, Err(TooLong)));
-    assert_eq!(rt; out.as_slice(), b"ab0001c".as_slice());
-    Ok(())
+    let is_left = appends(Ascii4, &long, &mut out, Err(TooLong), b"ab0001c");
+    check(is_left, "a body that is too long")
 }
 
 /// Closes a frame, and says whether that is the answer.
@@ -239,31 +269,46 @@ fn closes(header: Header, frame: &mut [u8], want: Result<(), FrameFault>) -> boo
     frame.len() >= header.size() && close_frame(header, frame) == want
 }
 
+/// Whether each of the bytes is that one.
+fn are_all(bytes: &[u8], byte: u8) -> bool {
+    for b in bytes {
+        if *b != byte {
+            return false;
+        }
+    }
+    true
+}
+
+/// Whether a frame of so many `x` is too long for four digits, and is left as it is.
+fn stays_open(frame: &mut [u8]) -> bool {
+    closes(Ascii4, frame, Err(TooLong)) && are_all(frame, b'x')
+}
+
+/// Whether a header of two bytes counts what is behind it.
+fn is_counted(frame: &mut [u8]) -> bool {
+    closes(Binary2, frame, Ok(())) && frame.starts_with(b"\x27\x12xx")
+}
+
 #[test]
 fn a_frame_that_is_too_long_stays_open(rt: HostRuntime) -> Result<(), Fail> {
     let mut bytes = vec![in rt.alloc(); b'x'; 10_004]?;
-    assert!(rt; closes(Ascii4, bytes.as_mut_slice(), Err(TooLong)));
-    assert!(rt; bytes.iter().all(|b| *b == b'x'));
+    check(stays_open(bytes.as_mut_slice()), "four digits")?;
     // a header of two bytes counts the other 10,002
-    assert!(rt; closes(Binary2, bytes.as_mut_slice(), Ok(())));
-    assert!(rt; bytes.starts_with(b"\x27\x12xx"));
-    Ok(())
+    check(is_counted(bytes.as_mut_slice()), "two bytes")
 }
 
-fn lengths() -> [LengthCase; 5] {
-    [
-        ("two bytes", Binary2, b"\x27\x10", Ok(Some(10_000))),
-        ("four digits", Ascii4, b"0055", Ok(Some(55))),
-        ("two bytes of digits", Bcd2, b"\x00\x55", Ok(Some(55))),
-        (
-            "a nibble that is no digit",
-            Bcd2,
-            b"\x00\x5A",
-            Err(BadDigits),
-        ),
-        ("three digits", Ascii4, b"055", Ok(None)),
-    ]
-}
+const LENGTHS: &[LengthCase] = &[
+    ("two bytes", Binary2, b"\x27\x10", Ok(Some(10_000))),
+    ("four digits", Ascii4, b"0055", Ok(Some(55))),
+    ("two bytes of digits", Bcd2, b"\x00\x55", Ok(Some(55))),
+    (
+        "a nibble that is no digit",
+        Bcd2,
+        b"\x00\x5A",
+        Err(BadDigits),
+    ),
+    ("three digits", Ascii4, b"055", Ok(None)),
+];
 
 fn limit(header: Header) -> usize {
     header.limit()
@@ -271,9 +316,6 @@ fn limit(header: Header) -> usize {
 
 #[test]
 fn headers_tell_lengths(rt: HostRuntime) -> Result<(), Fail> {
-    for (name, header, bytes, want) in &lengths() {
-        assert!(rt; tells(*header, bytes, *want), "{name}");
-    }
-    assert_eq!(rt; limit(Binary2), 65_535);
-    Ok(())
+    check_lengths(LENGTHS)?;
+    check(limit(Binary2) == 65_535, "the limit of two bytes")
 }

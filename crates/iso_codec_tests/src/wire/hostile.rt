@@ -3,6 +3,7 @@
 use super::*;
 use iso_parts::FieldFault;
 use iso_wire::UnpackCause::{BadMti, Field, ThirdBitmap, UnknownElement};
+use std::alloc::AllocError;
 
 /// A message, and where each of its pieces begins, with its element.
 #[derive(Drop)]
@@ -12,33 +13,29 @@ struct Named {
     pieces: &'static [(usize, u8)],
 }
 
-fn ascii_messages() -> [Named; 3] {
-    [
-        Named {
-            name: "echo",
-            bytes: ECHO,
-            pieces: ECHO_PIECES,
-        },
-        Named {
-            name: "payment",
-            bytes: PAYMENT,
-            pieces: PAYMENT_PIECES,
-        },
-        Named {
-            name: "reversal",
-            bytes: REVERSAL,
-            pieces: REVERSAL_PIECES,
-        },
-    ]
-}
-
-fn packed_message() -> Named {
+const ASCII_MESSAGES: &[Named] = &[
     Named {
-        name: "echo under BCD",
-        bytes: PACKED_ECHO,
-        pieces: PACKED_ECHO_PIECES,
-    }
-}
+        name: "echo",
+        bytes: ECHO,
+        pieces: ECHO_PIECES,
+    },
+    Named {
+        name: "payment",
+        bytes: PAYMENT,
+        pieces: PAYMENT_PIECES,
+    },
+    Named {
+        name: "reversal",
+        bytes: REVERSAL,
+        pieces: REVERSAL_PIECES,
+    },
+];
+
+const PACKED_MESSAGE: &Named = &Named {
+    name: "echo under BCD",
+    bytes: PACKED_ECHO,
+    pieces: PACKED_ECHO_PIECES,
+};
 
 fn refused_whole(alloc: Global, table: &Table, bytes: &[u8]) -> Option<UnpackFault> {
     unpack(alloc, table, bytes).err()
@@ -76,13 +73,21 @@ fn wrong_cut(alloc: Global, table: &Table, named: &Named) -> Option<usize> {
     None
 }
 
+fn check_cuts(alloc: Global, table: &Table, named: &Named) -> Result<(), Fail> {
+    match wrong_cut(alloc, table, named) {
+        None => Ok(()),
+        Some(size) => {
+            let name = named.name;
+            Err(Fail::new(format_args!("{name}: {size} bytes")))
+        }
+    }
+}
+
 #[test]
 fn cut_messages_are_short_alike(rt: HostRuntime) -> Result<(), Fail> {
     let table = ascii87(rt.alloc())?;
-    for named in &ascii_messages() {
-        let name = named.name;
-        let wrong = wrong_cut(rt.alloc(), &table, named);
-        assert!(rt; wrong.is_none(), "{name}: {wrong:?} bytes");
+    for named in ASCII_MESSAGES {
+        check_cuts(rt.alloc(), &table, named)?;
     }
     Ok(())
 }
@@ -90,9 +95,7 @@ fn cut_messages_are_short_alike(rt: HostRuntime) -> Result<(), Fail> {
 #[test]
 fn a_cut_packed_message_is_short_alike(rt: HostRuntime) -> Result<(), Fail> {
     let table = bcd87(rt.alloc())?;
-    let wrong = wrong_cut(rt.alloc(), &table, &packed_message());
-    assert!(rt; wrong.is_none(), "{wrong:?} bytes");
-    Ok(())
+    check_cuts(rt.alloc(), &table, PACKED_MESSAGE)
 }
 
 /// The fault of a message whose bit `n` is set and has no row; its bitmaps begin at `first` and `second`.
@@ -121,106 +124,157 @@ fn with_bit(digit: u8, bit: u8) -> u8 {
     }
 }
 
-/// Tries a message with each bit set that has no row: the first one that is answered otherwise.
-fn wrong_bit(alloc: Global, table: &Table, bytes: &[u8], last: u8) -> Result<Option<u8>, Fail> {
-    for n in 2..=last {
-        if table.row(n).is_none() {
-            let mut changed = Vec::from_slice(alloc, bytes)?;
-            if let Some(digit) = changed.get_mut(4 + (n as usize - 1) / 4) {
-                *digit = with_bit(*digit, 8 >> ((n - 1) % 4));
-            }
-            let fault = Some(unknown(n, 4, 20));
-            if refused(alloc, table, &changed) != [fault, fault, fault] {
-                return Ok(Some(n));
-            }
-        }
-    }
-    Ok(None)
-}
-
-/// Tries a packed message with each bit set that has no row.
-fn wrong_raw_bit(alloc: Global, table: &Table, bytes: &[u8]) -> Result<Option<u8>, Fail> {
-    for n in 2..=128 {
-        if table.row(n).is_none() {
-            let mut changed = Vec::from_slice(alloc, bytes)?;
-            if let Some(eight) = changed.get_mut(2 + (n as usize - 1) / 8) {
-                *eight |= 128 >> ((n - 1) % 8);
-            }
-            let fault = Some(unknown(n, 2, 10));
-            if refused(alloc, table, &changed) != [fault, fault, fault] {
-                return Ok(Some(n));
-            }
-        }
-    }
-    Ok(None)
-}
-
 /// Whether `unpack`, `view` and `feed` all tell that fault.
 fn are_refused(alloc: Global, table: &Table, bytes: &[u8], fault: UnpackFault) -> bool {
     refused(alloc, table, bytes) == [Some(fault), Some(fault), Some(fault)]
 }
 
-#[test]
-fn bits_without_a_row_are_refused_alike(rt: HostRuntime) -> Result<(), Fail> {
-    let table = ascii(rt.alloc())?;
-    for (name, bytes, last) in [
-        ("echo", ECHO, 128),
-        ("payment", PAYMENT, 64),
-        ("reversal", REVERSAL, 128),
-    ] {
-        let wrong = wrong_bit(rt.alloc(), &table, bytes, last)?;
-        assert!(rt; wrong.is_none(), "{name}: {wrong:?}");
+/// The bytes of a message with the bit at that place set in its bitmaps, which are of hexadecimal digits.
+fn with_digit(alloc: Global, bytes: &[u8], place: u8) -> Result<Vec<u8>, AllocError> {
+    let mut changed = Vec::from_slice(alloc, bytes)?;
+    if let Some(digit) = changed.get_mut(4 + place as usize / 4) {
+        *digit = with_bit(*digit, 8 >> (place % 4));
     }
-    let packed = packed(rt.alloc())?;
-    let wrong = wrong_raw_bit(rt.alloc(), &packed, PACKED_ECHO)?;
-    assert!(rt; wrong.is_none(), "{wrong:?}");
+    Ok(changed)
+}
+
+/// Whether a message is refused once the bit of an element without a row is set.
+fn is_bit_refused(
+    alloc: Global,
+    table: &Table,
+    bytes: &[u8],
+    place: u8,
+    fault: UnpackFault,
+) -> Result<bool, Fail> {
+    let changed = with_digit(alloc, bytes, place)?;
+    Ok(are_refused(alloc, table, &changed, fault))
+}
+
+/// The bytes of a packed message with the bit at that place set in its bitmaps.
+fn with_eight(alloc: Global, bytes: &[u8], place: u8) -> Result<Vec<u8>, AllocError> {
+    let mut changed = Vec::from_slice(alloc, bytes)?;
+    if let Some(eight) = changed.get_mut(2 + place as usize / 8) {
+        *eight |= 128 >> (place % 8);
+    }
+    Ok(changed)
+}
+
+/// Whether a packed message is refused once the bit of an element without a row is set.
+fn is_raw_bit_refused(
+    alloc: Global,
+    table: &Table,
+    bytes: &[u8],
+    place: u8,
+    fault: UnpackFault,
+) -> Result<bool, Fail> {
+    let changed = with_eight(alloc, bytes, place)?;
+    Ok(are_refused(alloc, table, &changed, fault))
+}
+
+/// Ends the test with the name of a message and the bit, unless it is so.
+fn check_bit(is_so: bool, name: &str, n: u8) -> Result<(), Fail> {
+    if is_so {
+        Ok(())
+    } else {
+        Err(Fail::new(format_args!("{name}: {n}")))
+    }
+}
+
+/// A message, and the last bit of its bitmaps.
+type Marked = (&'static str, &'static [u8], u8);
+
+/// Tries a message with each bit set that has no row.
+fn check_bits(alloc: Global, table: &Table, (name, bytes, last): &Marked) -> Result<(), Fail> {
+    for n in 2..=*last {
+        if table.row(n).is_none() {
+            let fault = unknown(n, 4, 20);
+            check_bit(is_bit_refused(alloc, table, bytes, n - 1, fault)?, *name, n)?;
+        }
+    }
     Ok(())
 }
 
-fn bad_pieces() -> [Stop; 3] {
-    [
-        ("a letter in the type", b"08A0", 0, 0, BadMti),
-        (
-            "two elements without a row",
-            b"08000880000000000000",
-            4,
-            0,
-            UnknownElement(5),
-        ),
-        (
-            "a late element without a row",
-            b"080080000000000000004000000000000000",
-            20,
-            1,
-            UnknownElement(66),
-        ),
-    ]
+/// Tries a packed message with each bit set that has no row.
+fn check_raw_bits(alloc: Global, table: &Table, (name, bytes, last): &Marked) -> Result<(), Fail> {
+    for n in 2..=*last {
+        if table.row(n).is_none() {
+            let fault = unknown(n, 2, 10);
+            check_bit(
+                is_raw_bit_refused(alloc, table, bytes, n - 1, fault)?,
+                *name,
+                n,
+            )?;
+        }
+    }
+    Ok(())
+}
+
+const MARKED: &[Marked] = &[
+    ("echo", ECHO, 128),
+    ("payment", PAYMENT, 64),
+    ("reversal", REVERSAL, 128),
+];
+
+fn check_marked(alloc: Global, table: &Table, messages: &[Marked]) -> Result<(), Fail> {
+    for marked in messages {
+        check_bits(alloc, table, marked)?;
+    }
+    Ok(())
+}
+
+#[test]
+fn bits_without_a_row_are_refused_alike(rt: HostRuntime) -> Result<(), Fail> {
+    let table = ascii(rt.alloc())?;
+    check_marked(rt.alloc(), &table, MARKED)?;
+    let packed = packed(rt.alloc())?;
+    check_raw_bits(rt.alloc(), &packed, &("echo under BCD", PACKED_ECHO, 128))
+}
+
+const BAD_PIECES: &[Stop] = &[
+    ("a letter in the type", b"08A0", 0, 0, BadMti),
+    (
+        "two elements without a row",
+        b"08000880000000000000",
+        4,
+        0,
+        UnknownElement(5),
+    ),
+    (
+        "a late element without a row",
+        b"080080000000000000004000000000000000",
+        20,
+        1,
+        UnknownElement(66),
+    ),
+];
+
+/// That each of the bytes is refused alike where it stops being a message.
+fn check_alike(alloc: Global, table: &Table, stops: &[Stop]) -> Result<(), Fail> {
+    for (name, bytes, at, element, cause) in stops {
+        let fault = stop(*at, *element, *cause);
+        check(are_refused(alloc, table, bytes, fault), *name)?;
+    }
+    Ok(())
 }
 
 #[test]
 fn bad_pieces_are_refused_alike(rt: HostRuntime) -> Result<(), Fail> {
-    let terminal = [(41, text(8, Pad::Right(b' ')))];
-    let table = table(rt.alloc(), 0, Digits::Ascii, BitmapCoding::Hex, &terminal)?;
-    for (name, bytes, at, element, cause) in &bad_pieces() {
-        let fault = stop(*at, *element, *cause);
-        assert!(rt; are_refused(rt.alloc(), &table, bytes, fault), "{name}");
-    }
-    Ok(())
+    let table = table(rt.alloc(), 0, Digits::Ascii, BitmapCoding::Hex, TERMINAL)?;
+    check_alike(rt.alloc(), &table, BAD_PIECES)
 }
+
+/// A payment with a letter in element 3.
+const LETTER: &[u8] = b"0200722000010000800016411111111111111\
+1x0000000000000100001020304050000070512345840";
 
 #[test]
 fn a_letter_among_digits_is_refused_alike(rt: HostRuntime) -> Result<(), Fail> {
     let table = ascii87(rt.alloc())?;
-    let bytes = b"0200722000010000800016411111111111111\
-1x0000000000000100001020304050000070512345840";
     let fault = stop(38, 3, Field(FieldFault::NotInClass));
-    for (name, size) in [("the whole message", 82), ("cut behind it", 50)] {
-        assert!(rt;
-            are_refused(rt.alloc(), &table, &bytes[..size], fault),
-            "{name}"
-        );
-    }
-    Ok(())
+    let is_refused = are_refused(rt.alloc(), &table, &LETTER[..82], fault);
+    check(is_refused, "the whole message")?;
+    let is_refused = are_refused(rt.alloc(), &table, &LETTER[..50], fault);
+    check(is_refused, "cut behind it")
 }
 
 #[test]
@@ -228,10 +282,12 @@ fn the_largest_bytes_are_judged(rt: HostRuntime) -> Result<(), Fail> {
     let alloc = rt.alloc();
     let table = ascii87(alloc)?;
     let zeros = vec![in alloc; b'0'; 65535]?;
-    assert!(rt; are_taken(alloc, &table, &zeros));
+    check(are_taken(alloc, &table, &zeros), "zeros")?;
     let ones = vec![in alloc; 0xFF; 65535]?;
-    assert!(rt; are_refused(alloc, &table, &ones, stop(0, 0, BadMti)));
-    Ok(())
+    check(
+        are_refused(alloc, &table, &ones, stop(0, 0, BadMti)),
+        "ones",
+    )
 }
 
 /// Whether `unpack`, `view` and `feed` all refuse nothing.

@@ -9,8 +9,7 @@ const CHIP: &[u8] = b"08000000000000010000000301020A";
 
 /// A table with element 48 alone: bytes as digits, behind four digits of a length.
 fn chip_table(alloc: Global, max: u16) -> Result<Table, TableFault> {
-    let length = Length::LLLL(Digits::Ascii);
-    let chip = row(CharClass::B, Coding::HexText, length, max, Pad::None);
+    let chip = bytes!(Coding::HexText, Length::LLLL(Digits::Ascii), max);
     table(alloc, 0, Digits::Ascii, BitmapCoding::Hex, &[(48, chip)])
 }
 
@@ -50,16 +49,23 @@ fn three_bytes_are_packed(rt: HostRuntime) -> Result<(), Fail> {
     let alloc = rt.alloc();
     let table = chip_table(alloc, 9_999)?;
     let message = message(alloc, 800, &[(48, b"\x01\x02\x0A")])?;
-    assert!(rt; is_packed(alloc, &table, &message, CHIP)?);
-    assert!(rt; is_unpacked(alloc, &table, CHIP, &message, 30)?);
-    assert!(rt; is_viewed(&table, CHIP, 30, b"01020A")?);
-    Ok(())
+    check(is_packed(alloc, &table, &message, CHIP)?, "packed")?;
+    check(is_unpacked(alloc, &table, CHIP, &message, 30)?, "unpacked")?;
+    check(is_viewed(&table, CHIP, 30, b"01020A")?, "viewed")
+}
+
+/// Whether a value or a body is there, and of that size.
+fn has_size(value: Option<&[u8]>, size: usize) -> bool {
+    match value {
+        Some(value) => value.len() == size,
+        None => false,
+    }
 }
 
 /// What is read of the longest message.
 fn longest(alloc: Global, table: &Table, bytes: &[u8]) -> Result<Message, Fail> {
     let (read, used) = unpack(alloc, table, bytes)?;
-    if used == 20_022 && read.get(48).map(|v| v.len()) == Some(9_999) {
+    if used == 20_022 && has_size(read.get(48), 9_999) {
         Ok(read)
     } else {
         Err("the longest value has 9,999 bytes".into())
@@ -67,16 +73,22 @@ fn longest(alloc: Global, table: &Table, bytes: &[u8]) -> Result<Message, Fail> 
 }
 
 fn is_longest_body(table: &Table, bytes: &[u8]) -> Result<bool, Fail> {
-    Ok(view(table, bytes)?.wire(48).map(|w| w.len()) == Some(19_998))
+    Ok(has_size(view(table, bytes)?.wire(48), 19_998))
 }
 
-/// Whether an unpacker keeps the bytes until the last one.
-fn is_fed(alloc: Global, table: &Table, bytes: &[u8], message: &Message) -> Result<bool, Fail> {
-    let mut unpacker = Unpacker::new(alloc, table);
-    let (front, last) = bytes.split_at(bytes.len().min(20_021));
-    if !matches!(unpacker.feed(alloc, front)?, Fed::More) || unpacker.held() != 20_021 {
-        return Ok(false);
-    }
+/// Whether an unpacker wants more behind the front, and keeps it.
+fn is_kept(unpacker: &mut Unpacker, alloc: Global, front: &[u8]) -> Result<bool, Fail> {
+    let fed = unpacker.feed(alloc, front)?;
+    Ok(matches!(fed, Fed::More) && unpacker.held() == 20_021)
+}
+
+/// Whether one byte ends the message.
+fn is_ended(
+    unpacker: &mut Unpacker,
+    alloc: Global,
+    last: &[u8],
+    message: &Message,
+) -> Result<bool, Fail> {
     match unpacker.feed(alloc, last)? {
         Fed::More => Ok(false),
         Fed::Done {
@@ -86,17 +98,27 @@ fn is_fed(alloc: Global, table: &Table, bytes: &[u8], message: &Message) -> Resu
     }
 }
 
+/// Whether an unpacker keeps the bytes until the last one.
+fn is_fed(alloc: Global, table: &Table, bytes: &[u8], message: &Message) -> Result<bool, Fail> {
+    let mut unpacker = Unpacker::new(alloc, table);
+    let (front, last) = bytes.split_at(bytes.len().min(20_021));
+    Ok(is_kept(&mut unpacker, alloc, front)? && is_ended(&mut unpacker, alloc, last, message)?)
+}
+
+/// That the longest message is packed, viewed and fed as it is read.
+fn check_longest(alloc: Global, table: &Table, bytes: &[u8]) -> Result<(), Fail> {
+    let read = longest(alloc, table, bytes)?;
+    check(is_packed(alloc, table, &read, bytes)?, "packed")?;
+    check(is_longest_body(table, bytes)?, "viewed")?;
+    check(is_fed(alloc, table, bytes, &read)?, "fed")
+}
+
 #[test]
 fn the_longest_value_is_packed(rt: HostRuntime) -> Result<(), Fail> {
-    let alloc = rt.alloc();
-    let table = chip_table(alloc, 9_999)?;
-    let bytes = chip_message(alloc, b"9999", 19_998)?;
-    assert_eq!(rt; longest_message(&table), 20_038);
-    let read = longest(alloc, &table, &bytes)?;
-    assert!(rt; is_packed(alloc, &table, &read, &bytes)?);
-    assert!(rt; is_longest_body(&table, &bytes)?);
-    assert!(rt; is_fed(alloc, &table, &bytes, &read)?);
-    Ok(())
+    let table = chip_table(rt.alloc(), 9_999)?;
+    let bytes = chip_message(rt.alloc(), b"9999", 19_998)?;
+    check(longest_message(&table) == 20_038, "the longest message")?;
+    check_longest(rt.alloc(), &table, &bytes)
 }
 
 fn longest_message(table: &Table) -> u64 {
@@ -104,40 +126,48 @@ fn longest_message(table: &Table) -> u64 {
 }
 
 /// Digits of a length that are refused, and where.
-fn refused_digits() -> [Stop; 4] {
-    [
-        (
-            "one byte too many",
-            b"9999",
-            20,
-            48,
-            Field(FieldFault::LengthOver),
-        ),
-        (
-            "a letter",
-            b"000x",
-            20,
-            48,
-            Field(FieldFault::BadLengthDigits),
-        ),
-        ("three digits", b"000", 20, 48, Short),
-        ("no byte of 9,998", b"9998", 24, 48, Short),
-    ]
-}
+const REFUSED_DIGITS: &[Stop] = &[
+    (
+        "one byte too many",
+        b"9999",
+        20,
+        48,
+        Field(FieldFault::LengthOver),
+    ),
+    (
+        "a letter",
+        b"000x",
+        20,
+        48,
+        Field(FieldFault::BadLengthDigits),
+    ),
+    ("three digits", b"000", 20, 48, Short),
+    ("no byte of 9,998", b"9998", 24, 48, Short),
+];
 
 fn is_refused_view(table: &Table, bytes: &[u8], fault: UnpackFault) -> bool {
     view(table, bytes).err() == Some(fault)
 }
 
+/// That a message with these digits of a length is refused so.
+fn check_digits(
+    alloc: Global,
+    table: &Table,
+    name: &str,
+    digits: &[u8],
+    fault: UnpackFault,
+) -> Result<(), Fail> {
+    let bytes = [b"08000000000000010000", digits].concat(alloc)?;
+    check(is_refused(alloc, table, &bytes, fault), name)?;
+    check_of(is_refused_view(table, &bytes, fault), name, "viewed")
+}
+
 #[test]
 fn a_longer_value_is_refused(rt: HostRuntime) -> Result<(), Fail> {
-    let alloc = rt.alloc();
-    let table = chip_table(alloc, 9_998)?;
-    for (name, digits, at, element, cause) in &refused_digits() {
-        let bytes = [b"08000000000000010000", *digits].concat(alloc)?;
+    let table = chip_table(rt.alloc(), 9_998)?;
+    for (name, digits, at, element, cause) in REFUSED_DIGITS {
         let fault = stop(*at, *element, *cause);
-        assert!(rt; is_refused(alloc, &table, &bytes, fault), "{name}");
-        assert!(rt; is_refused_view(&table, &bytes, fault), "{name}");
+        check_digits(rt.alloc(), &table, *name, digits, fault)?;
     }
     Ok(())
 }

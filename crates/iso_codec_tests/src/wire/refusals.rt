@@ -1,86 +1,93 @@
 use super::*;
+use iso_fakes::check;
 use iso_parts::FieldFault;
 use iso_wire::UnpackCause::{
     BadHex, BadMti, Field, Short, ThirdBitmap, UnknownElement, WrongVersion,
 };
 
-fn refused_bytes() -> [Stop; 13] {
-    [
-        ("no bytes", b"", 0, 0, Short),
-        ("a letter in the type", b"08A0", 0, 0, BadMti),
-        ("another version", b"1800", 0, 0, WrongVersion),
-        (
-            "a letter in the primary bitmap",
-            b"0800022G000000000000",
-            4,
-            0,
-            BadHex,
-        ),
-        (
-            "a letter in the secondary bitmap",
-            b"08008000000000000000000000000000000x",
-            20,
-            1,
-            BadHex,
-        ),
-        (
-            "a third bitmap",
-            b"080080000000000000008000000000000000",
-            20,
-            1,
-            ThirdBitmap,
-        ),
-        (
-            "two elements without a row",
-            b"08000880000000000000",
-            4,
-            0,
-            UnknownElement(5),
-        ),
-        (
-            "a late element without a row",
-            b"080080000000000000004000000000000000",
-            20,
-            1,
-            UnknownElement(66),
-        ),
-        (
-            "a length above the maximum",
-            b"0200400000000000000020",
-            20,
-            2,
-            Field(FieldFault::LengthOver),
-        ),
-        (
-            "a letter in a length",
-            b"020040000000000000001x",
-            20,
-            2,
-            Field(FieldFault::BadLengthDigits),
-        ),
-        ("half a length", b"020040000000000000001", 20, 2, Short),
-        (
-            "a value without its end",
-            b"0200400000000000000016411",
-            22,
-            2,
-            Short,
-        ),
-        (
-            "a letter among digits",
-            b"02007220000100008000164111111111111111x0000000000000",
-            38,
-            3,
-            Field(FieldFault::NotInClass),
-        ),
-    ]
+const REFUSED_BYTES: &[Stop] = &[
+    ("no bytes", b"", 0, 0, Short),
+    ("a letter in the type", b"08A0", 0, 0, BadMti),
+    ("another version", b"1800", 0, 0, WrongVersion),
+    (
+        "a letter in the primary bitmap",
+        b"0800022G000000000000",
+        4,
+        0,
+        BadHex,
+    ),
+    (
+        "a letter in the secondary bitmap",
+        b"08008000000000000000000000000000000x",
+        20,
+        1,
+        BadHex,
+    ),
+    (
+        "a third bitmap",
+        b"080080000000000000008000000000000000",
+        20,
+        1,
+        ThirdBitmap,
+    ),
+    (
+        "two elements without a row",
+        b"08000880000000000000",
+        4,
+        0,
+        UnknownElement(5),
+    ),
+    (
+        "a late element without a row",
+        b"080080000000000000004000000000000000",
+        20,
+        1,
+        UnknownElement(66),
+    ),
+    (
+        "a length above the maximum",
+        b"0200400000000000000020",
+        20,
+        2,
+        Field(FieldFault::LengthOver),
+    ),
+    (
+        "a letter in a length",
+        b"020040000000000000001x",
+        20,
+        2,
+        Field(FieldFault::BadLengthDigits),
+    ),
+    ("half a length", b"020040000000000000001", 20, 2, Short),
+    (
+        "a value without its end",
+        b"0200400000000000000016411",
+        22,
+        2,
+        Short,
+    ),
+    (
+        "a letter among digits",
+        b"02007220000100008000164111111111111111x0000000000000",
+        38,
+        3,
+        Field(FieldFault::NotInClass),
+    ),
+];
+
+/// That each of the bytes is refused where it stops being a message.
+pub(super) fn check_stops(alloc: Global, table: &Table, stops: &[Stop]) -> Result<(), Fail> {
+    for (name, bytes, at, element, cause) in stops {
+        let fault = stop(*at, *element, *cause);
+        check(is_refused(alloc, table, bytes, fault), *name)?;
+    }
+    Ok(())
 }
 
 #[test]
 fn bytes_are_refused(rt: HostRuntime) -> Result<(), Fail> {
     let table = ascii(rt.alloc())?;
-    assert_stops(&rt, rt.alloc(), &table, &refused_bytes());
-    Ok(())
+    check_stops(rt.alloc(), &table, REFUSED_BYTES)
 }
 
 /// Whether an echo test with this last element is refused.
@@ -100,108 +107,99 @@ fn fillers_are_judged(rt: HostRuntime) -> Result<(), Fail> {
     let alloc = rt.alloc();
     let table = packed(alloc)?;
     let filler = is_filler_refused(alloc, &table, b"\x13\x01", FieldFault::BadFiller)?;
-    assert!(rt; filler, "a filler 1");
+    check(filler, "a filler 1")?;
     let nibble = is_filler_refused(alloc, &table, b"\x03\x0A", FieldFault::NotInClass)?;
-    assert!(rt; nibble, "a nibble A");
+    check(nibble, "a nibble A")
+}
+
+/// Ends the test with how many bytes there are, unless it is so.
+fn check_size(is_so: bool, size: usize) -> Result<(), Fail> {
+    if is_so {
+        Ok(())
+    } else {
+        Err(Fail::new(format_args!("{size} bytes")))
+    }
+}
+
+/// That a message is short wherever it is cut.
+pub(super) fn check_short(
+    alloc: Global,
+    table: &Table,
+    bytes: &[u8],
+    pieces: &[(usize, u8)],
+) -> Result<(), Fail> {
+    for size in 0..bytes.len() {
+        let fault = short_at(pieces, size);
+        check_size(is_refused(alloc, table, &bytes[..size], fault), size)?;
+    }
     Ok(())
 }
 
 #[test]
 fn cut_messages_are_short(rt: HostRuntime) -> Result<(), Fail> {
     let table = ascii(rt.alloc())?;
-    assert_short(&rt, rt.alloc(), &table, ECHO, ECHO_PIECES);
-    Ok(())
+    check_short(rt.alloc(), &table, ECHO, ECHO_PIECES)
 }
 
 /// The version and the rows of a table that doesn't take a message, and the fault.
 type NotPacked = (&'static str, u8, &'static [(u8, FieldSpec)], PackFault);
 
-const PADDED: FieldSpec = FieldSpec {
-    class: CharClass::ANS,
-    coding: Coding::Ascii,
-    length: Length::Fixed,
-    max: 8,
-    pad: Pad::Right(b' '),
-};
+const PADDED: FieldSpec = characters!(8, Pad::Right(b' '));
 
-const SEVEN: FieldSpec = FieldSpec {
-    class: CharClass::ANS,
-    coding: Coding::Ascii,
-    length: Length::Fixed,
-    max: 7,
-    pad: Pad::None,
-};
+const SEVEN: FieldSpec = characters!(7, Pad::None);
 
-const SIX: FieldSpec = FieldSpec {
-    class: CharClass::ANS,
-    coding: Coding::Ascii,
-    length: Length::Fixed,
-    max: 6,
-    pad: Pad::None,
-};
+const SIX: FieldSpec = characters!(6, Pad::None);
 
-const SIX_DIGITS: FieldSpec = FieldSpec {
-    class: CharClass::N,
-    coding: Coding::Ascii,
-    length: Length::Fixed,
-    max: 6,
-    pad: Pad::None,
-};
+const TWO: FieldSpec = characters!(2, Pad::None);
 
-const TWO_DIGITS: FieldSpec = FieldSpec {
-    class: CharClass::N,
-    coding: Coding::Ascii,
-    length: Length::Fixed,
-    max: 2,
-    pad: Pad::None,
-};
+const SIX_DIGITS: FieldSpec = digits!(Ascii, 6);
 
-fn other_tables() -> [NotPacked; 7] {
-    [
-        (
-            "another version",
-            1,
-            &[(41, PADDED), (42, PADDED)],
-            PackFault::WrongVersion,
-        ),
-        (
-            "a pad at the end",
-            0,
-            &[(41, PADDED), (42, PADDED)],
-            PackFault::PadEnd(41),
-        ),
-        (
-            "too short",
-            0,
-            &[(41, SEVEN), (42, PADDED)],
-            PackFault::WrongLength(41),
-        ),
-        (
-            "no digits",
-            0,
-            &[(41, SIX_DIGITS), (42, PADDED)],
-            PackFault::NotInClass(41),
-        ),
-        (
-            "the later element",
-            0,
-            &[(41, SIX), (42, TWO_DIGITS)],
-            PackFault::NotInClass(42),
-        ),
-        (
-            "the later element has no row",
-            0,
-            &[(41, PADDED)],
-            PackFault::PadEnd(41),
-        ),
-        ("no row at all", 0, &[], PackFault::NoRow(41)),
-    ]
-}
+const TWO_DIGITS: FieldSpec = digits!(Ascii, 2);
+
+const OTHER_TABLES: &[NotPacked] = &[
+    (
+        "another version",
+        1,
+        &[(41, PADDED), (42, PADDED)],
+        PackFault::WrongVersion,
+    ),
+    (
+        "a pad at the end",
+        0,
+        &[(41, PADDED), (42, PADDED)],
+        PackFault::PadEnd(41),
+    ),
+    (
+        "too short",
+        0,
+        &[(41, SEVEN), (42, PADDED)],
+        PackFault::WrongLength(41),
+    ),
+    (
+        "no digits",
+        0,
+        &[(41, SIX_DIGITS), (42, PADDED)],
+        PackFault::NotInClass(41),
+    ),
+    (
+        "the later element",
+        0,
+        &[(41, SIX), (42, TWO_DIGITS)],
+        PackFault::NotInClass(42),
+    ),
+    (
+        "the later element has no row",
+        0,
+        &[(41, PADDED)],
+        PackFault::PadEnd(41),
+    ),
+    ("no row at all", 0, &[], PackFault::NoRow(41)),
+];
 
 /// A message with a terminal that ends with a blank, and an element behind it.
 fn terminal_message(alloc: Global) -> Result<Message, Fail> {
-    let rows = [(41, text(6, Pad::None)), (42, text(2, Pad::None))];
-    let from = table(alloc, 0, Digits::Ascii, BitmapCoding::Hex, &rows)?;
+    let rows = &[(41, SIX), (42, TWO)];
+    let from = table(alloc, 0, Digits::Ascii, BitmapCoding::Hex, rows)?;
     let (message, _) = unpack(alloc, &from, b"08000000000000C00000TERM1 ab")?;
     Ok(message)
 }
@@ -217,12 +215,17 @@ fn is_not_packed(
     Ok(pack(alloc, &table, message).err() == Some(fault))
 }
 
+/// That no table takes the message.
+fn check_not_packed(alloc: Global, message: &Message, tables: &[NotPacked]) -> Result<(), Fail> {
+    for (name, version, rows, fault) in tables {
+        let is_refused = is_not_packed(alloc, message, *version, rows, *fault)?;
+        check(is_refused, *name)?;
+    }
+    Ok(())
+}
+
 #[test]
 fn messages_are_refused(rt: HostRuntime) -> Result<(), Fail> {
     let message = terminal_message(rt.alloc())?;
-    for (name, version, rows, fault) in &other_tables() {
-        let is_refused = is_not_packed(rt.alloc(), &message, *version, rows, *fault)?;
-        assert!(rt; is_refused, "{name}");
-    }
-    Ok(())
+    check_not_packed(rt.alloc(), &message, OTHER_TABLES)
 }

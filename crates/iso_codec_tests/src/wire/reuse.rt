@@ -1,6 +1,7 @@
 //! Messages that are read one after another, each into the memory of those before it.
 
 use super::*;
+use iso_fakes::{check, check_of};
 use iso_parts::FieldFault;
 use iso_wire::UnpackCause::{BadHex, BadMti, Field, Short};
 
@@ -12,62 +13,91 @@ fn is_reread(unpacker: &mut Unpacker, alloc: Global, case: &Case) -> Result<bool
     Ok(is_read)
 }
 
+/// That each case is read so in that round.
+fn check_rereads(
+    unpacker: &mut Unpacker,
+    alloc: Global,
+    cases: &[Case],
+    round: &str,
+) -> Result<(), Fail> {
+    for case in cases {
+        check_of(is_reread(unpacker, alloc, case)?, case.name, round)?;
+    }
+    Ok(())
+}
+
+fn check_rounds(unpacker: &mut Unpacker, alloc: Global) -> Result<(), Fail> {
+    // in the second round the first message is read into the memory of the last one
+    check_rereads(unpacker, alloc, ASCII_CASES, "round 1")?;
+    check_rereads(unpacker, alloc, ASCII_CASES, "round 2")
+}
+
 #[test]
 fn a_message_is_read_into_memory_that_was_given_back(rt: HostRuntime) -> Result<(), Fail> {
     let alloc = rt.alloc();
     let table = ascii(alloc)?;
     let mut unpacker = Unpacker::new(alloc, &table);
-    // in the second round the first message is read into the memory of the last one
-    for round in 1..=2 {
-        for case in &ascii_cases() {
-            let name = case.name;
-            assert!(rt;
-                is_reread(&mut unpacker, alloc, case)?,
-                "{name}, round {round}"
-            );
-        }
-    }
-    Ok(())
+    check_rounds(&mut unpacker, alloc)
 }
 
-fn faulty_messages() -> [Stop; 4] {
-    [
-        ("a letter in a type", b"08A0", 0, 0, BadMti),
-        (
-            "a letter in a bitmap",
-            b"0800G220000000000000",
-            4,
-            0,
-            BadHex,
-        ),
-        (
-            "a letter in the fifth of seven values",
-            b"0200722000010000800016411111111111111100000000000000100001020304050000x70512345840",
-            66,
-            11,
-            Field(FieldFault::NotInClass),
-        ),
-        (
-            "the last of seven values cut short",
-            b"020072200001000080001641111111111111110000000000000010000102030405000007051234584",
-            79,
-            49,
-            Short,
-        ),
-    ]
-}
+const FAULTY_MESSAGES: &[Stop] = &[
+    ("a letter in a type", b"08A0", 0, 0, BadMti),
+    (
+        "a letter in a bitmap",
+        b"0800G220000000000000",
+        4,
+        0,
+        BadHex,
+    ),
+    (
+        "a letter in the fifth of seven values",
+        b"0200722000010000800016411111111111111100000000000000100001020304050000x70512345840",
+        66,
+        11,
+        Field(FieldFault::NotInClass),
+    ),
+    (
+        "the last of seven values cut short",
+        b"020072200001000080001641111111111111110000000000000010000102030405000007051234584",
+        79,
+        49,
+        Short,
+    ),
+];
 
 fn stops(unpacker: &mut Unpacker, alloc: Global, bytes: &[u8], fault: UnpackFault) -> bool {
     unpacker.unpack(alloc, bytes).err() == Some(fault)
 }
 
+const ECHO_ELEMENTS: &[(u8, &[u8])] = &[(7, b"0102030405"), (11, b"000001"), (70, b"301")];
+
 /// Whether the echo test is read, and gives its memory back.
 fn reads_echo(unpacker: &mut Unpacker, alloc: Global) -> Result<bool, Fail> {
-    let elements: [(u8, &[u8]); 3] = [(7, b"0102030405"), (11, b"000001"), (70, b"301")];
     let (message, used) = unpacker.unpack(alloc, ECHO)?;
-    let is_read = message.mti().number() == 800 && used == 55 && has_only(&message, &elements);
+    let is_read = message.mti().number() == 800 && used == 55 && has_only(&message, ECHO_ELEMENTS);
     unpacker.reuse(message);
     Ok(is_read)
+}
+
+/// That the bytes are refused, and that the echo test is read behind them.
+fn check_echo(
+    unpacker: &mut Unpacker,
+    alloc: Global,
+    name: &str,
+    bytes: &[u8],
+    fault: UnpackFault,
+) -> Result<(), Fail> {
+    check(stops(unpacker, alloc, bytes, fault), name)?;
+    check_of(reads_echo(unpacker, alloc)?, name, "and the echo")
+}
+
+/// That each of them is refused, and that the echo test is read behind it.
+fn check_echoes(unpacker: &mut Unpacker, alloc: Global, faulty: &[Stop]) -> Result<(), Fail> {
+    for (name, bytes, at, element, cause) in faulty {
+        let fault = stop(*at, *element, *cause);
+        check_echo(unpacker, alloc, *name, bytes, fault)?;
+    }
+    Ok(())
 }
 
 #[test]
@@ -75,12 +105,7 @@ fn a_message_behind_a_fault_has_its_own_elements(rt: HostRuntime) -> Result<(), 
     let alloc = rt.alloc();
     let table = ascii(alloc)?;
     let mut unpacker = Unpacker::new(alloc, &table);
-    for (name, bytes, at, element, cause) in &faulty_messages() {
-        let fault = stop(*at, *element, *cause);
-        assert!(rt; stops(&mut unpacker, alloc, bytes, fault), "{name}");
-        assert!(rt; reads_echo(&mut unpacker, alloc)?, "{name}, and the echo");
-    }
-    Ok(())
+    check_echoes(&mut unpacker, alloc, FAULTY_MESSAGES)
 }
 
 /// Whether so many bytes are held where that piece is fed and wants more.
@@ -105,16 +130,20 @@ fn is_end_of_echo(unpacker: &mut Unpacker, alloc: Global, back: &[u8]) -> Result
     }
 }
 
+/// That the echo test comes in two pieces, and the payment between them.
+fn check_between(unpacker: &mut Unpacker, alloc: Global) -> Result<(), Fail> {
+    let (front, back) = ECHO.split_at(30);
+    check(holds(unpacker, alloc, front)?, "the first piece")?;
+    check(reads_payment(unpacker, alloc)?, "the payment")?;
+    check(is_end_of_echo(unpacker, alloc, back)?, "the last piece")
+}
+
 #[test]
 fn reading_a_whole_message_leaves_the_pieces_of_another(rt: HostRuntime) -> Result<(), Fail> {
     let alloc = rt.alloc();
     let table = ascii(alloc)?;
     let mut unpacker = Unpacker::new(alloc, &table);
-    let (front, back) = ECHO.split_at(30);
-    assert!(rt; holds(&mut unpacker, alloc, front)?);
-    assert!(rt; reads_payment(&mut unpacker, alloc)?);
-    assert!(rt; is_end_of_echo(&mut unpacker, alloc, back)?);
-    Ok(())
+    check_between(&mut unpacker, alloc)
 }
 
 /// Whether the message of a case is appended to `ab`, which alone is left.
@@ -132,20 +161,34 @@ fn is_not_appended(table: &Table, message: &Message, out: &mut Vec<u8>, fault: P
     append_message(table, message, out).err() == Some(fault)
 }
 
+/// That the message of each case is appended.
+fn check_appended(
+    alloc: Global,
+    table: &Table,
+    cases: &[Case],
+    out: &mut Vec<u8>,
+) -> Result<(), Fail> {
+    for case in cases {
+        check(is_appended(alloc, table, case, out)?, case.name)?;
+    }
+    Ok(())
+}
+
+/// That a message with an element that has no row isn't appended.
+fn check_no_row(alloc: Global, table: &Table, out: &mut Vec<u8>) -> Result<(), Fail> {
+    let refused = message(alloc, 800, &[(11, b"000001"), (12, b"010203")])?;
+    let no_row = is_not_appended(table, &refused, out, PackFault::NoRow(12));
+    check(no_row, "an element without a row")?;
+    check(out.as_slice() == b"ab".as_slice(), "the bytes before it")
+}
+
 #[test]
 fn messages_are_appended(rt: HostRuntime) -> Result<(), Fail> {
     let alloc = rt.alloc();
     let table = ascii(alloc)?;
     let mut out = vec![in alloc; b'a', b'b']?;
-    for case in &ascii_cases() {
-        let name = case.name;
-        assert!(rt; is_appended(alloc, &table, case, &mut out)?, "{name}");
-    }
-    let refused = message(alloc, 800, &[(11, b"000001"), (12, b"010203")])?;
-    let no_row = is_not_appended(&table, &refused, &mut out, PackFault::NoRow(12));
-    assert!(rt; no_row);
-    assert_eq!(rt; out.as_slice(), b"ab".as_slice());
-    Ok(())
+    check_appended(alloc, &table, ASCII_CASES, &mut out)?;
+    check_no_row(alloc, &table, &mut out)
 }
 
 /// Whether a message that starts over has the response's type, and no element.
@@ -165,7 +208,6 @@ fn has_code_alone(message: &mut Message) -> Result<bool, Fail> {
 fn a_message_starts_over(rt: HostRuntime) -> Result<(), Fail> {
     let alloc = rt.alloc();
     let mut message = message(alloc, 200, &[(2, b"4111111111111111"), (3, b"000000")])?;
-    assert!(rt; starts_over(&mut message, 810)?);
-    assert!(rt; has_code_alone(&mut message)?);
-    Ok(())
+    check(starts_over(&mut message, 810)?, "the new type")?;
+    check(has_code_alone(&mut message)?, "the code")
 }

@@ -1,6 +1,7 @@
 //! Messages that are left where they lie.
 
 use super::*;
+use iso_fakes::{check, check_of};
 
 /// A message, and the bodies of its elements as they lie there.
 #[derive(Drop)]
@@ -12,78 +13,74 @@ struct Seen {
     wires: &'static [(u8, &'static [u8])],
 }
 
-fn ascii_views() -> [Seen; 4] {
-    [
-        Seen {
-            name: "payment",
-            bytes: PAYMENT,
-            mti: 200,
-            used: 82,
-            wires: &[
-                (2, b"4111111111111111"),
-                (3, b"000000"),
-                (4, b"000000001000"),
-                (7, b"0102030405"),
-                (11, b"000007"),
-                (32, b"12345"),
-                (49, b"840"),
-            ],
-        },
-        Seen {
-            name: "reversal",
-            bytes: REVERSAL,
-            mti: 420,
-            used: 101,
-            wires: &[
-                (7, b"0102030500"),
-                (11, b"000008"),
-                (32, b"12345"),
-                (90, b"020000000701020304050000001234500000000000"),
-            ],
-        },
-        Seen {
-            name: "a padded value, and bytes behind",
-            bytes: b"08000000000000800000TERM1   08",
-            mti: 800,
-            used: 28,
-            wires: &[(41, b"TERM1   ")],
-        },
-        Seen {
-            name: "eight blanks",
-            bytes: b"08000000000000800000        ",
-            mti: 800,
-            used: 28,
-            wires: &[(41, b"        ")],
-        },
-    ]
-}
+const ASCII_VIEWS: &[Seen] = &[
+    Seen {
+        name: "payment",
+        bytes: PAYMENT,
+        mti: 200,
+        used: 82,
+        wires: &[
+            (2, b"4111111111111111"),
+            (3, b"000000"),
+            (4, b"000000001000"),
+            (7, b"0102030405"),
+            (11, b"000007"),
+            (32, b"12345"),
+            (49, b"840"),
+        ],
+    },
+    Seen {
+        name: "reversal",
+        bytes: REVERSAL,
+        mti: 420,
+        used: 101,
+        wires: &[
+            (7, b"0102030500"),
+            (11, b"000008"),
+            (32, b"12345"),
+            (90, b"020000000701020304050000001234500000000000"),
+        ],
+    },
+    Seen {
+        name: "a padded value, and bytes behind",
+        bytes: b"08000000000000800000TERM1   08",
+        mti: 800,
+        used: 28,
+        wires: &[(41, b"TERM1   ")],
+    },
+    Seen {
+        name: "eight blanks",
+        bytes: b"08000000000000800000        ",
+        mti: 800,
+        used: 28,
+        wires: &[(41, b"        ")],
+    },
+];
 
-fn packed_views() -> [Seen; 2] {
-    [
-        Seen {
-            name: "echo",
-            bytes: PACKED_ECHO,
-            mti: 800,
-            used: 28,
-            wires: &[
-                (7, b"\x01\x02\x03\x04\x05"),
-                (11, b"\0\0\x01"),
-                (70, b"\x03\x01"),
-            ],
-        },
-        Seen {
-            name: "filler F",
-            bytes: b"\x08\x00\x82\x20\0\0\0\0\0\0\x04\0\0\0\0\0\0\0\x01\x02\x03\x04\x05\0\0\x01\xF3\x01",
-            mti: 800,
-            used: 28,
-            wires: &[
-                (7, b"\x01\x02\x03\x04\x05"),
-                (11, b"\0\0\x01"),
-                (70, b"\xF3\x01"),
-            ],
-        },
-    ]
-}
+const PACKED_VIEWS: &[Seen] = &[
+    Seen {
+        name: "echo",
+        bytes: PACKED_ECHO,
+        mti: 800,
+        used: 28,
+        wires: &[
+            (7, b"\x01\x02\x03\x04\x05"),
+            (11, b"\0\0\x01"),
+            (70, b"\x03\x01"),
+        ],
+    },
+    Seen {
+        name: "filler F",
+        bytes: b"\x08\x00\x82\x20\0\0\0\0\0\0\x04\0\0\0\0\0\0\0\x01\x02\x03\x04\x05\0\0\x01\xF3\x01",
+        mti: 800,
+        used: 28,
+        wires: &[
+            (7, b"\x01\x02\x03\x04\x05"),
+            (11, b"\0\0\x01"),
+            (70, b"\xF3\x01"),
+        ],
+    },
+];
 
 /// Whether the view finds these bodies and no other.
 fn finds_only(seen: &View, wires: &[(u8, &[u8])]) -> bool {
@@ -106,26 +103,25 @@ fn has_bodies(table: &Table, case: &Seen) -> Result<bool, Fail> {
     Ok(finds_only(&seen, case.wires))
 }
 
-#[test]
-fn views_find_the_bodies(rt: HostRuntime) -> Result<(), Fail> {
-    let table = ascii87(rt.alloc())?;
-    for case in &ascii_views() {
-        let name = case.name;
-        assert!(rt; is_viewed(&table, case)?, "{name}");
-        assert!(rt; has_bodies(&table, case)?, "{name}: its bodies");
+/// That each case has its type, its size and its bodies.
+fn check_views(table: &Table, cases: &[Seen]) -> Result<(), Fail> {
+    for case in cases {
+        check(is_viewed(table, case)?, case.name)?;
+        check_of(has_bodies(table, case)?, case.name, "its bodies")?;
     }
     Ok(())
 }
 
 #[test]
+fn views_find_the_bodies(rt: HostRuntime) -> Result<(), Fail> {
+    let table = ascii87(rt.alloc())?;
+    check_views(&table, ASCII_VIEWS)
+}
+
+#[test]
 fn views_find_packed_bodies(rt: HostRuntime) -> Result<(), Fail> {
     let table = bcd87(rt.alloc())?;
-    for case in &packed_views() {
-        let name = case.name;
-        assert!(rt; is_viewed(&table, case)?, "{name}");
-        assert!(rt; has_bodies(&table, case)?, "{name}: its bodies");
-    }
-    Ok(())
+    check_views(&table, PACKED_VIEWS)
 }
 
 fn has_body(seen: &View, n: u8, body: Option<&[u8]>) -> bool {
@@ -138,34 +134,51 @@ fn finds(table: &Table, bytes: &[u8], n: u8, body: Option<&[u8]>) -> Result<bool
     Ok(has_body(&seen, n, body))
 }
 
+/// That elements of the payment are found where they lie, and that one isn't there.
+fn check_bodies(table: &Table) -> Result<(), Fail> {
+    let body = Some(&PAYMENT[22..38]);
+    check(finds(table, PAYMENT, 2, body)?, "element 2")?;
+    let body = Some(&PAYMENT[79..82]);
+    check(finds(table, PAYMENT, 49, body)?, "element 49")?;
+    check(finds(table, PAYMENT, 5, None)?, "element 5")
+}
+
 #[test]
 fn a_body_is_a_slice_of_the_callers_bytes(rt: HostRuntime) -> Result<(), Fail> {
     let table = ascii87(rt.alloc())?;
-    assert!(rt; finds(&table, PAYMENT, 2, Some(&PAYMENT[22..38]))?);
-    assert!(rt; finds(&table, PAYMENT, 49, Some(&PAYMENT[79..82]))?);
-    assert!(rt; finds(&table, PAYMENT, 5, None)?);
-    Ok(())
+    check_bodies(&table)
 }
 
-fn shown_view(alloc: Global, table: &Table, bytes: &[u8]) -> Result<String, Fail> {
+fn shows_view(alloc: Global, seen: &View, want: &str) -> Result<bool, Fail> {
+    let shown = format!(in alloc; "{seen:?}")?;
+    Ok(shown.as_str() == want)
+}
+
+fn shows_unpacker(alloc: Global, unpacker: &Unpacker, want: &str) -> Result<bool, Fail> {
+    let shown = format!(in alloc; "{unpacker:?}")?;
+    Ok(shown.as_str() == want)
+}
+
+/// Whether that is what a view of the message shows.
+fn is_view_shown(alloc: Global, table: &Table, bytes: &[u8], want: &str) -> Result<bool, Fail> {
     let seen = view(table, bytes)?;
-    Ok(format!(in alloc; "{seen:?}")?)
+    shows_view(alloc, &seen, want)
 }
 
-/// What is shown of an unpacker that has taken these bytes.
-fn shown_unpacker(alloc: Global, table: &Table, front: &[u8]) -> Result<String, Fail> {
+/// Whether that is what an unpacker shows that has taken these bytes.
+fn is_unpacker_shown(alloc: Global, table: &Table, front: &[u8], want: &str) -> Result<bool, Fail> {
     let mut unpacker = Unpacker::new(alloc, table);
     unpacker.feed(alloc, front)?;
-    Ok(format!(in alloc; "{unpacker:?}")?)
+    shows_unpacker(alloc, &unpacker, want)
 }
 
 #[test]
 fn views_and_unpackers_show_no_bytes(rt: HostRuntime) -> Result<(), Fail> {
     let alloc = rt.alloc();
     let table = ascii87(alloc)?;
-    let shown = shown_view(alloc, &table, PAYMENT)?;
-    assert_eq!(rt; shown.as_str(), "View { mti: 200, used: 82 }");
-    let shown = shown_unpacker(alloc, &table, &PAYMENT[..40])?;
-    assert_eq!(rt; shown.as_str(), "Unpacker { held: 40, stopped: None }");
-    Ok(())
+    let want = "View { mti: 200, used: 82 }";
+    check(is_view_shown(alloc, &table, PAYMENT, want)?, "a view")?;
+    let want = "Unpacker { held: 40, stopped: None }";
+    let shown = is_unpacker_shown(alloc, &table, &PAYMENT[..40], want)?;
+    check(shown, "an unpacker")
 }

@@ -7,6 +7,7 @@ use super::frames::{
     ledger, serving_end_between,
 };
 use crate::fault::{Report, ServeFault};
+use iso_fakes::check;
 use iso_issuer::Issuer;
 use iso_table::Table;
 use iso_wire::Header;
@@ -25,46 +26,44 @@ struct Mark {
 }
 
 /// The marks of the day: before the first frame, and behind each.
-fn marks() -> [Mark; 6] {
-    [
-        Mark {
-            read: 0,
-            written: 0,
-            ledger: 5000,
-            entries: 0,
-        },
-        Mark {
-            read: 86,
-            written: 94,
-            ledger: 4000,
-            entries: 1,
-        },
-        Mark {
-            read: 172,
-            written: 188,
-            ledger: 4000,
-            entries: 1,
-        },
-        Mark {
-            read: 179,
-            written: 188,
-            ledger: 4000,
-            entries: 1,
-        },
-        Mark {
-            read: 265,
-            written: 282,
-            ledger: 3000,
-            entries: 2,
-        },
-        Mark {
-            read: 370,
-            written: 389,
-            ledger: 4000,
-            entries: 3,
-        },
-    ]
-}
+const MARKS: &[Mark] = &[
+    Mark {
+        read: 0,
+        written: 0,
+        ledger: 5000,
+        entries: 0,
+    },
+    Mark {
+        read: 86,
+        written: 94,
+        ledger: 4000,
+        entries: 1,
+    },
+    Mark {
+        read: 172,
+        written: 188,
+        ledger: 4000,
+        entries: 1,
+    },
+    Mark {
+        read: 179,
+        written: 188,
+        ledger: 4000,
+        entries: 1,
+    },
+    Mark {
+        read: 265,
+        written: 282,
+        ledger: 3000,
+        entries: 2,
+    },
+    Mark {
+        read: 370,
+        written: 389,
+        ledger: 4000,
+        entries: 3,
+    },
+];
 
 /// The report of the whole day.
 const WHOLE: Report = Report {
@@ -132,9 +131,9 @@ fn last_mark(read: usize) -> Mark {
         ledger: 5000,
         entries: 0,
     };
-    for mark in marks() {
+    for mark in MARKS {
         if mark.read <= read {
-            last = mark;
+            last = *mark;
         }
     }
     last
@@ -144,8 +143,8 @@ fn last_mark(read: usize) -> Mark {
 /// up to it.
 fn lies_at_a_mark(issuer: &Issuer, written: usize) -> Result<bool, Fail> {
     let mut before = 0;
-    for mark in marks() {
-        if stands_at(issuer, &mark)? && before <= written && written <= mark.written {
+    for mark in MARKS {
+        if stands_at(issuer, mark)? && before <= written && written <= mark.written {
             return Ok(true);
         }
         before = mark.written;
@@ -153,12 +152,53 @@ fn lies_at_a_mark(issuer: &Issuer, written: usize) -> Result<bool, Fail> {
     Ok(false)
 }
 
-/// The day served once, and how it ended.
+/// What serves the day: an issuer, a reader of its frames, and a writer.
 #[derive(Drop)]
-struct Run<'a> {
+struct Host<'a> {
     issuer: Issuer,
     reader: Reader<'a>,
     writer: Writer,
+}
+
+impl<'a> Host<'a> {
+    /// One whose read and whose write or flush of these numbers fail.
+    fn new(
+        alloc: Global,
+        day: &'a Day,
+        piece: usize,
+        failing: (u32, u32),
+    ) -> Result<Host<'a>, Fail> {
+        let writer = Writer::new(alloc, piece, failing.1)?;
+        Ok(Host {
+            issuer: issuer(alloc)?,
+            reader: Reader::new(&day.frames, piece, failing.0),
+            writer,
+        })
+    }
+
+    /// How serving the day ends.
+    fn serve(
+        &mut self,
+        alloc: Global,
+        day: &Day,
+        turns: u64,
+    ) -> Result<Result<Report, ServeFault>, Fail> {
+        serving_end_between(
+            alloc,
+            &day.table,
+            Header::Ascii4,
+            &mut self.issuer,
+            &mut self.reader,
+            &mut self.writer,
+            turns,
+        )
+    }
+}
+
+/// The day served once, and how it ended.
+#[derive(Drop)]
+struct Run<'a> {
+    host: Host<'a>,
     ended: Result<Report, ServeFault>,
 }
 
@@ -170,53 +210,59 @@ fn serve_day<'a>(
     failing: (u32, u32),
     turns: u64,
 ) -> Result<Run<'a>, Fail> {
-    let mut issuer = issuer(alloc)?;
-    let mut reader = Reader::new(&day.frames, piece, failing.0);
-    let mut writer = Writer::new(alloc, piece, failing.1)?;
-    let ended = serving_end_between(
-        alloc,
-        &day.table,
-        Header::Ascii4,
-        &mut issuer,
-        &mut reader,
-        &mut writer,
-        turns,
-    )?;
-    Ok(Run {
-        issuer,
-        reader,
-        writer,
-        ended,
-    })
+    let mut host = Host::new(alloc, day, piece, failing)?;
+    let ended = host.serve(alloc, day, turns)?;
+    Ok(Run { host, ended })
 }
 
 /// Whether all whole frames that were read are handled and answered, and no more.
 fn stands_as_read(run: &Run<'_>, day: &Day) -> Result<bool, Fail> {
-    let mark = last_mark(day.frames.len().saturating_sub(run.reader.bytes.len()));
-    let written = run.writer.taken.as_slice();
-    Ok(day.answers.get(..mark.written) == Some(written) && stands_at(&run.issuer, &mark)?)
+    let mark = last_mark(day.frames.len().saturating_sub(run.host.reader.bytes.len()));
+    let written = run.host.writer.taken.as_slice();
+    Ok(day.answers.get(..mark.written) == Some(written) && stands_at(&run.host.issuer, &mark)?)
 }
 
 /// Whether some frames are handled, and all of them but the last are answered, and no more.
 fn stands_as_written(run: &Run<'_>, day: &Day) -> Result<bool, Fail> {
-    let written = run.writer.taken.as_slice();
-    Ok(day.answers.starts_with(written) && lies_at_a_mark(&run.issuer, written.len())?)
+    let written = run.host.writer.taken.as_slice();
+    Ok(day.answers.starts_with(written) && lies_at_a_mark(&run.host.issuer, written.len())?)
 }
 
-/// Whether the whole day gets its answers where it is sent once more to the same issuer.
-fn is_answered_again(alloc: Global, run: &mut Run<'_>, day: &Day) -> Result<bool, Fail> {
+/// How the day ends where it is sent once more to the same issuer.
+fn serve_again(
+    alloc: Global,
+    issuer: &mut Issuer,
+    day: &Day,
+    writer: &mut Writer,
+) -> Result<Result<Report, ServeFault>, Fail> {
     let mut reader = Reader::new(&day.frames, 4096, 0);
-    let mut writer = Writer::new(alloc, 4096, 0)?;
-    let ended = serving_end_between(
+    serving_end_between(
         alloc,
         &day.table,
         Header::Ascii4,
-        &mut run.issuer,
+        issuer,
         &mut reader,
-        &mut writer,
+        writer,
         1000,
-    )?;
+    )
+}
+
+/// Whether the whole day gets its answers where it is sent once more to the same issuer.
+fn is_answered_again(alloc: Global, issuer: &mut Issuer, day: &Day) -> Result<bool, Fail> {
+    let mut writer = Writer::new(alloc, 4096, 0)?;
+    let ended = serve_again(alloc, issuer, day, &mut writer)?;
     Ok(ended == Ok(WHOLE) && writer.taken.as_slice() == day.answers.as_slice())
+}
+
+/// Whether the day ended with this fault, and gets its answers where it is sent once more.
+fn ended_with(
+    alloc: Global,
+    run: &mut Run<'_>,
+    day: &Day,
+    fault: ServeFault,
+) -> Result<bool, Fail> {
+    let comes_again = is_answered_again(alloc, &mut run.host.issuer, day)?;
+    Ok(run.ended == Err(fault) && comes_again)
 }
 
 /// How the day ends where no call fails, or the first call whose failure has another end than it should have.
@@ -240,35 +286,52 @@ fn serve_whole(alloc: Global, piece: usize, day: &Day) -> Result<WholeDay, Fail>
     let run = serve_day(alloc, day, piece, (0, 0), 1000)?;
     Ok(WholeDay {
         ended: run.ended,
-        reads: run.reader.reads,
-        writes: run.writer.writes,
-        flushes: run.writer.flushes,
+        reads: run.host.reader.reads,
+        writes: run.host.writer.writes,
+        flushes: run.host.writer.flushes,
     })
+}
+
+/// Whether the day ended with a failed read, and stands as it should.
+fn ended_at_read(alloc: Global, run: &mut Run<'_>, day: &Day) -> Result<bool, Fail> {
+    let stands = stands_as_read(run, day)?;
+    Ok(ended_with(alloc, run, day, ServeFault::Read)? && stands)
 }
 
 /// Whether the day ends with a failed read where this one fails, and stands as it should.
 fn ends_at_read(alloc: Global, piece: usize, day: &Day, failing: u32) -> Result<bool, Fail> {
     let mut run = serve_day(alloc, day, piece, (failing, 0), 1000)?;
-    let stands = stands_as_read(&run, day)?;
-    let comes_again = is_answered_again(alloc, &mut run, day)?;
-    Ok(run.ended == Err(ServeFault::Read) && stands && comes_again)
+    ended_at_read(alloc, &mut run, day)
+}
+
+/// Whether the day ended with a failed write, and stands as it should.
+fn ended_at_write(alloc: Global, run: &mut Run<'_>, day: &Day) -> Result<bool, Fail> {
+    let stands = stands_as_written(run, day)?;
+    Ok(ended_with(alloc, run, day, ServeFault::Write)? && stands)
 }
 
 /// Whether the day ends with a failed write where this write or flush fails, and stands as it should.
 fn ends_at_write(alloc: Global, piece: usize, day: &Day, failing: u32) -> Result<bool, Fail> {
     let mut run = serve_day(alloc, day, piece, (0, failing), 1000)?;
-    let stands = stands_as_written(&run, day)?;
-    let comes_again = is_answered_again(alloc, &mut run, day)?;
-    Ok(run.ended == Err(ServeFault::Write) && stands && comes_again)
+    ended_at_write(alloc, &mut run, day)
+}
+
+/// How many turns the day took.
+fn spent(run: &Run<'_>) -> u32 {
+    let host = &run.host;
+    host.reader.reads.saturating_add(host.writer.writes)
+}
+
+/// Whether the day ended for want of turns once so many were spent, and stands as it should.
+fn ended_at_turn(alloc: Global, run: &mut Run<'_>, day: &Day, turns: u32) -> Result<bool, Fail> {
+    let stands = stands_as_written(run, day)? && spent(run) == turns;
+    Ok(ended_with(alloc, run, day, ServeFault::TooManyTurns)? && stands)
 }
 
 /// Whether the day ends for want of turns where it has so many, spends them all, and stands as it should.
 fn ends_at_turn(alloc: Global, piece: usize, day: &Day, turns: u32) -> Result<bool, Fail> {
     let mut run = serve_day(alloc, day, piece, (0, 0), u64::from(turns))?;
-    let spent = run.reader.reads.saturating_add(run.writer.writes);
-    let stands = stands_as_written(&run, day)? && spent == turns;
-    let comes_again = is_answered_again(alloc, &mut run, day)?;
-    Ok(run.ended == Err(ServeFault::TooManyTurns) && stands && comes_again)
+    ended_at_turn(alloc, &mut run, day, turns)
 }
 
 /// Serves the day with each of its reads failing in turn.
@@ -308,34 +371,83 @@ fn is_whole(end: DayEnd) -> bool {
     end == DayEnd::Ended(Ok(WHOLE))
 }
 
+/// Ends the test with that count of bytes a call and how the day ended, unless it ended whole.
+fn check_whole(end: DayEnd, piece: usize) -> Result<(), Fail> {
+    if is_whole(end) {
+        Ok(())
+    } else {
+        Err(Fail::new(format_args!("{piece} bytes a call: {end:?}")))
+    }
+}
+
+/// Serves the day with its reads failing, in pieces of any size.
+fn reads_fail(alloc: Global, day: &Day) -> Result<(), Fail> {
+    for piece in 1..=day.frames.len().saturating_add(1) {
+        check_whole(each_read(alloc, piece, day)?, piece)?;
+    }
+    Ok(())
+}
+
 #[test]
 fn each_read_fails(rt: HostRuntime) -> Result<(), Fail> {
-    let day = Day::new(rt.alloc())?;
+    reads_fail(rt.alloc(), &Day::new(rt.alloc())?)
+}
+
+/// Serves the day with its writes and flushes failing, in pieces of any size.
+fn writes_fail(alloc: Global, day: &Day) -> Result<(), Fail> {
     for piece in 1..=day.frames.len().saturating_add(1) {
-        let judged = each_read(rt.alloc(), piece, &day)?;
-        assert!(rt; is_whole(judged), "{piece} bytes a call: {judged:?}");
+        check_whole(each_write(alloc, piece, day)?, piece)?;
     }
     Ok(())
 }
 
 #[test]
 fn each_write_and_flush_fails(rt: HostRuntime) -> Result<(), Fail> {
-    let day = Day::new(rt.alloc())?;
-    for piece in 1..=day.frames.len().saturating_add(1) {
-        let judged = each_write(rt.alloc(), piece, &day)?;
-        assert!(rt; is_whole(judged), "{piece} bytes a call: {judged:?}");
+    writes_fail(rt.alloc(), &Day::new(rt.alloc())?)
+}
+
+/// Serves the day with fewer turns than it takes, in pieces of three sizes.
+fn turns_end(alloc: Global, day: &Day) -> Result<(), Fail> {
+    for piece in &[7, 64, 4096] {
+        check_whole(each_turn(alloc, *piece, day)?, *piece)?;
     }
     Ok(())
 }
 
 #[test]
 fn the_turns_are_spent(rt: HostRuntime) -> Result<(), Fail> {
-    let day = Day::new(rt.alloc())?;
-    for piece in [7, 64, 4096] {
-        let judged = each_turn(rt.alloc(), piece, &day)?;
-        assert!(rt; is_whole(judged), "{piece} bytes a call: {judged:?}");
-    }
-    Ok(())
+    turns_end(rt.alloc(), &Day::new(rt.alloc())?)
+}
+
+/// How serving one purchase ends.
+fn purchase_end(
+    alloc: Global,
+    issuer: &mut Issuer,
+    frame: &[u8],
+    writer: &mut Writer,
+) -> Result<Result<Report, ServeFault>, Fail> {
+    let table = Table::ascii87(alloc)?;
+    let mut reader = Reader::new(frame, 4096, 0);
+    serving_end_between(
+        alloc,
+        &table,
+        Header::Ascii4,
+        issuer,
+        &mut reader,
+        writer,
+        1000,
+    )
+}
+
+/// Its fault, where it has one.
+fn purchase_fault(
+    alloc: Global,
+    issuer: &mut Issuer,
+    writer: &mut Writer,
+) -> Result<Option<ServeFault>, Fail> {
+    let frame = join(alloc, &[b"0082", PURCHASE])?;
+    let ended = purchase_end(alloc, issuer, &frame, writer)?;
+    Ok(ended.err())
 }
 
 /// Serves one purchase, and gives its fault and what is written. The write or flush of this number fails.
@@ -345,20 +457,9 @@ fn serve_purchase(
     piece: usize,
     fails_at: u32,
 ) -> Result<(Option<ServeFault>, Vec<u8>), Fail> {
-    let table = Table::ascii87(alloc)?;
-    let frame = join(alloc, &[b"0082", PURCHASE])?;
-    let mut reader = Reader::new(&frame, 4096, 0);
     let mut writer = Writer::new(alloc, piece, fails_at)?;
-    let ended = serving_end_between(
-        alloc,
-        &table,
-        Header::Ascii4,
-        issuer,
-        &mut reader,
-        &mut writer,
-        1000,
-    )?;
-    Ok((ended.err(), writer.taken))
+    let fault = purchase_fault(alloc, issuer, &mut writer)?;
+    Ok((fault, writer.taken))
 }
 
 /// Whether the issuer has this ledger, and so many entries.
@@ -366,17 +467,36 @@ fn has(issuer: &Issuer, balance: i64, orders: u32) -> Result<bool, Fail> {
     Ok(ledger(issuer)? == Some(balance) && entries(issuer) == orders)
 }
 
+/// The purchase is granted, and its answer is cut.
+fn check_cut(alloc: Global, issuer: &mut Issuer) -> Result<(), Fail> {
+    let (cut, front) = serve_purchase(alloc, issuer, 10, 2)?;
+    check(cut == Some(ServeFault::Write), "the fault")?;
+    check(front.as_slice() == b"0090021072".as_slice(), "the front")
+}
+
+/// The purchase comes again, and its answer is whole.
+fn check_whole_again(alloc: Global, issuer: &mut Issuer) -> Result<(), Fail> {
+    let answer = join(alloc, &[b"0090", GRANTED])?;
+    let (again, whole) = serve_purchase(alloc, issuer, 4096, 0)?;
+    check(again.is_none(), "no fault")?;
+    check(whole.as_slice() == answer.as_slice(), "the answer")
+}
+
+/// The issuer has the one purchase.
+fn check_one(issuer: &Issuer, name: &str) -> Result<(), Fail> {
+    check(has(issuer, 4000, 1)?, name)
+}
+
+/// The answer is cut, and comes again whole.
+fn check_cut_and_again(alloc: Global, issuer: &mut Issuer) -> Result<(), Fail> {
+    check_cut(alloc, issuer)?;
+    check_one(issuer, "the issuer behind the cut answer")?;
+    check_whole_again(alloc, issuer)?;
+    check_one(issuer, "the issuer behind the whole answer")
+}
+
 #[test]
 fn an_answer_is_cut_and_comes_again(rt: HostRuntime) -> Result<(), Fail> {
-    let answer = join(rt.alloc(), &[b"0090", GRANTED])?;
     let mut issuer = issuer(rt.alloc())?;
-    let (cut, front) = serve_purchase(rt.alloc(), &mut issuer, 10, 2)?;
-    assert!(rt; cut == Some(ServeFault::Write));
-    assert!(rt; front.as_slice() == b"0090021072".as_slice());
-    assert!(rt; has(&issuer, 4000, 1)?);
-    let (again, whole) = serve_purchase(rt.alloc(), &mut issuer, 4096, 0)?;
-    assert!(rt; again.is_none());
-    assert!(rt; whole.as_slice() == answer.as_slice());
-    assert!(rt; has(&issuer, 4000, 1)?);
-    Ok(())
+    check_cut_and_again(rt.alloc(), &mut issuer)
 }

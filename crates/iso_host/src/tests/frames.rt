@@ -71,6 +71,15 @@ fn small_issuer(alloc: Global) -> Result<Issuer, Fail> {
     Ok(Issuer::new(Accounts::from_json(alloc, ACCOUNTS)?, 2))
 }
 
+/// One of these two.
+fn issuer_for(alloc: Global, is_small: bool) -> Result<Issuer, Fail> {
+    if is_small {
+        small_issuer(alloc)
+    } else {
+        issuer(alloc)
+    }
+}
+
 /// What is served, and how: the bytes, how many a read gives and how many reads there are, how many bytes a write takes and
 /// how many writes there are, whether a flush fails, the turns, and whether the journal takes two orders in place of five.
 #[derive(Clone, Copy)]
@@ -120,6 +129,16 @@ impl SessionEnd {
     /// Whether serving ends so, and these bytes are written.
     pub fn is(&self, ended: Result<Report, ServeFault>, written: &[u8]) -> bool {
         self.ended == ended && self.written.as_slice() == written
+    }
+
+    /// Whether serving ends so, and the bytes of these pieces are written.
+    pub fn is_of(
+        &self,
+        alloc: Global,
+        ended: Result<Report, ServeFault>,
+        pieces: &[&[u8]],
+    ) -> Result<bool, Fail> {
+        Ok(self.is(ended, &join(alloc, pieces)?))
     }
 }
 
@@ -196,21 +215,37 @@ fn end_of(
     serving_end_behind(alloc, session.header, issuer, reader, writer, session.turns)
 }
 
-/// Serves once. The tests call this alone, so that their proofs don't look through what a host and an issuer promise.
-pub fn serve_once(alloc: Global, session: Session<'_>) -> Result<SessionEnd, Fail> {
-    let mut issuer = if session.is_small {
-        small_issuer(alloc)?
-    } else {
-        issuer(alloc)?
-    };
+/// Serves once by that issuer.
+fn serve_by(alloc: Global, issuer: &mut Issuer, session: Session<'_>) -> Result<SessionEnd, Fail> {
     let mut writer = FewTaken::new(alloc, session.taken, session.writes, session.fails_to_flush);
-    let ended = end_of(alloc, &mut issuer, session, &mut writer)?;
+    let ended = end_of(alloc, issuer, session, &mut writer)?;
+    let ledger = ledger(issuer)?;
     Ok(SessionEnd {
         ended,
         left: writer.calls,
         flushes: writer.flushes,
         written: writer.taken,
-        ledger: ledger(&issuer)?,
-        entries: entries(&issuer),
+        ledger,
+        entries: entries(issuer),
     })
+}
+
+/// Serves once. The tests call this alone, so that their proofs don't look through what a host and an issuer promise.
+pub fn serve_once(alloc: Global, session: Session<'_>) -> Result<SessionEnd, Fail> {
+    let mut issuer = issuer_for(alloc, session.is_small)?;
+    serve_by(alloc, &mut issuer, session)
+}
+
+/// Serves the bytes of these pieces once, and else as in that session.
+pub fn serve_pieces(
+    alloc: Global,
+    pieces: &[&[u8]],
+    session: Session<'_>,
+) -> Result<SessionEnd, Fail> {
+    let input = join(alloc, pieces)?;
+    let session = Session {
+        input: &input,
+        ..session
+    };
+    serve_once(alloc, session)
 }

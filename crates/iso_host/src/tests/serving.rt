@@ -1,21 +1,21 @@
 //! Streams of frames whose bytes are known from outside.
 
+use super::check_at;
 use super::frames::{
-    ECHO, ECHOED, GRANTED, PURCHASE, REPEAT, Session, SessionEnd, join, serve_once,
+    ECHO, ECHOED, GRANTED, PURCHASE, REPEAT, Session, SessionEnd, serve_once, serve_pieces,
 };
 use crate::fault::{Report, ServeFault};
+use iso_fakes::{check, check_of};
 use std::alloc::Global;
 use std::test::Fail;
 
-/// Serves once, where a read and a write move so many bytes.
-fn serve_by(alloc: Global, input: &[u8], piece: usize) -> Result<SessionEnd, Fail> {
-    let session = Session {
-        piece,
-        taken: piece,
-        ..Session::new(input)
-    };
-    serve_once(alloc, session)
-}
+/// Five frames: one of them is silent, and one has no message.
+const FRAMES: &[&[u8]] = &[
+    b"0082", PURCHASE, b"0082", REPEAT, b"0090", GRANTED, b"0003abc", b"0055", ECHO,
+];
+
+/// The frames of their answers.
+const ANSWERS: &[&[u8]] = &[b"0090", GRANTED, b"0090", GRANTED, b"0057", ECHOED];
 
 /// The report of the five frames that are served in pieces.
 const FIVE: Report = Report {
@@ -25,42 +25,52 @@ const FIVE: Report = Report {
     unreadable: 1,
 };
 
+/// Serves the five frames, where a read and a write move so many bytes.
+fn serve_by(alloc: Global, piece: usize) -> Result<SessionEnd, Fail> {
+    let session = Session {
+        piece,
+        taken: piece,
+        ..Session::new(b"")
+    };
+    serve_pieces(alloc, FRAMES, session)
+}
+
+/// Compares what comes of the five frames, where a read and a write move so many bytes.
+fn serves_by(alloc: Global, piece: usize) -> Result<(), Fail> {
+    let outcome = serve_by(alloc, piece)?;
+    let is_written = outcome.is_of(alloc, Ok(FIVE), ANSWERS)?;
+    check_at(is_written, piece, "the end and what is written")?;
+    check_at(outcome.flushes == 3, piece, "the flushes")?;
+    check_at(outcome.ledger == Some(4000), piece, "the ledger")
+}
+
 #[test]
 fn serves_in_pieces_of_any_size(rt: HostRuntime) -> Result<(), Fail> {
-    let alloc = rt.alloc();
-    let input = join(
-        alloc,
-        &[
-            b"0082", PURCHASE, b"0082", REPEAT, b"0090", GRANTED, b"0003abc", b"0055", ECHO,
-        ],
-    )?;
-    let wanted = join(
-        alloc,
-        &[b"0090", GRANTED, b"0090", GRANTED, b"0057", ECHOED],
-    )?;
-    for piece in [1usize, 7, 86, 5000] {
-        let outcome = serve_by(alloc, &input, piece)?;
-        assert!(rt; outcome.is(Ok(FIVE), &wanted), "{piece} bytes a call");
-        assert!(rt; outcome.flushes == 3, "{piece} bytes a call");
-        assert!(rt; outcome.ledger == Some(4000), "{piece} bytes a call");
+    for piece in &[1usize, 7, 86, 5000] {
+        serves_by(rt.alloc(), *piece)?;
     }
     Ok(())
 }
 
+/// How many frames are answered, or how serving ends else.
+fn answered(end: &SessionEnd) -> Result<u64, ServeFault> {
+    match end.ended {
+        Ok(report) => Ok(report.answered),
+        Err(fault) => Err(fault),
+    }
+}
+
 #[test]
 fn writes_a_response_at_once(rt: HostRuntime) -> Result<(), Fail> {
-    let alloc = rt.alloc();
-    let input = join(alloc, &[b"0055", ECHO])?;
     let session = Session {
         reads: 2,
         writes: 1,
         turns: 3,
-        ..Session::new(&input)
+        ..Session::new(b"")
     };
-    let outcome = serve_once(alloc, session)?;
-    assert_eq!(rt; outcome.ended.map(|report| report.answered), Ok(1));
-    assert_eq!(rt; outcome.left, 0);
-    Ok(())
+    let outcome = serve_pieces(rt.alloc(), &[b"0055", ECHO], session)?;
+    check(answered(&outcome) == Ok(1), "the frames that are answered")?;
+    check(outcome.left == 0, "the writes that are left")
 }
 
 /// Frames whose serving ends with a fault: how many reads and writes are made, how many bytes a write takes, the turns,
@@ -78,139 +88,138 @@ struct Ending {
     left: i64,
 }
 
-fn endings() -> [Ending; 8] {
-    [
-        Ending {
-            name: "a failing read",
-            sent: &[b"0082", PURCHASE],
-            reads: 1,
-            taken: 200,
-            writes: 9,
-            turns: 99,
-            fault: ServeFault::Read,
-            written: &[b"0090", GRANTED],
-            left: 4000,
-        },
-        Ending {
-            name: "a failing write",
-            sent: &[b"0082", PURCHASE],
-            reads: 9,
-            taken: 10,
-            writes: 1,
-            turns: 99,
-            fault: ServeFault::Write,
-            written: &[b"0090021072"],
-            left: 4000,
-        },
-        Ending {
-            name: "a writer that takes nothing",
-            sent: &[b"0082", PURCHASE],
-            reads: 9,
-            taken: 0,
-            writes: 9,
-            turns: 99,
-            fault: ServeFault::Write,
-            written: &[],
-            left: 4000,
-        },
-        Ending {
-            name: "a turn too few",
-            sent: &[b"0082", PURCHASE],
-            reads: 9,
-            taken: 200,
-            writes: 9,
-            turns: 1,
-            fault: ServeFault::TooManyTurns,
-            written: &[],
-            left: 4000,
-        },
-        Ending {
-            name: "no turn",
-            sent: &[],
-            reads: 9,
-            taken: 200,
-            writes: 9,
-            turns: 0,
-            fault: ServeFault::TooManyTurns,
-            written: &[],
-            left: 5000,
-        },
-        Ending {
-            name: "no digits",
-            sent: &[b"00A2"],
-            reads: 9,
-            taken: 200,
-            writes: 9,
-            turns: 99,
-            fault: ServeFault::BadHeader,
-            written: &[],
-            left: 5000,
-        },
-        Ending {
-            name: "a cut frame",
-            sent: &[b"00820123456789"],
-            reads: 9,
-            taken: 200,
-            writes: 9,
-            turns: 99,
-            fault: ServeFault::CutFrame,
-            written: &[],
-            left: 5000,
-        },
-        Ending {
-            name: "a cut header",
-            sent: &[b"008"],
-            reads: 9,
-            taken: 200,
-            writes: 9,
-            turns: 99,
-            fault: ServeFault::CutFrame,
-            written: &[],
-            left: 5000,
-        },
-    ]
-}
+const ENDINGS: &[Ending] = &[
+    Ending {
+        name: "a failing read",
+        sent: &[b"0082", PURCHASE],
+        reads: 1,
+        taken: 200,
+        writes: 9,
+        turns: 99,
+        fault: ServeFault::Read,
+        written: &[b"0090", GRANTED],
+        left: 4000,
+    },
+    Ending {
+        name: "a failing write",
+        sent: &[b"0082", PURCHASE],
+        reads: 9,
+        taken: 10,
+        writes: 1,
+        turns: 99,
+        fault: ServeFault::Write,
+        written: &[b"0090021072"],
+        left: 4000,
+    },
+    Ending {
+        name: "a writer that takes nothing",
+        sent: &[b"0082", PURCHASE],
+        reads: 9,
+        taken: 0,
+        writes: 9,
+        turns: 99,
+        fault: ServeFault::Write,
+        written: &[],
+        left: 4000,
+    },
+    Ending {
+        name: "a turn too few",
+        sent: &[b"0082", PURCHASE],
+        reads: 9,
+        taken: 200,
+        writes: 9,
+        turns: 1,
+        fault: ServeFault::TooManyTurns,
+        written: &[],
+        left: 4000,
+    },
+    Ending {
+        name: "no turn",
+        sent: &[],
+        reads: 9,
+        taken: 200,
+        writes: 9,
+        turns: 0,
+        fault: ServeFault::TooManyTurns,
+        written: &[],
+        left: 5000,
+    },
+    Ending {
+        name: "no digits",
+        sent: &[b"00A2"],
+        reads: 9,
+        taken: 200,
+        writes: 9,
+        turns: 99,
+        fault: ServeFault::BadHeader,
+        written: &[],
+        left: 5000,
+    },
+    Ending {
+        name: "a cut frame",
+        sent: &[b"00820123456789"],
+        reads: 9,
+        taken: 200,
+        writes: 9,
+        turns: 99,
+        fault: ServeFault::CutFrame,
+        written: &[],
+        left: 5000,
+    },
+    Ending {
+        name: "a cut header",
+        sent: &[b"008"],
+        reads: 9,
+        taken: 200,
+        writes: 9,
+        turns: 99,
+        fault: ServeFault::CutFrame,
+        written: &[],
+        left: 5000,
+    },
+];
 
 /// Serves the frames of such a case.
 fn serve_to_end(alloc: Global, case: &Ending) -> Result<SessionEnd, Fail> {
-    let input = join(alloc, case.sent)?;
     let session = Session {
         piece: 200,
         reads: case.reads,
         taken: case.taken,
         writes: case.writes,
         turns: case.turns,
-        ..Session::new(&input)
+        ..Session::new(b"")
     };
-    serve_once(alloc, session)
+    serve_pieces(alloc, case.sent, session)
+}
+
+/// Compares what comes of the frames of such a case.
+fn ends_so(alloc: Global, case: &Ending) -> Result<(), Fail> {
+    let outcome = serve_to_end(alloc, case)?;
+    let is_written = outcome.is_of(alloc, Err(case.fault), case.written)?;
+    check_of(is_written, case.name, "the end and what is written")?;
+    check_of(outcome.ledger == Some(case.left), case.name, "the ledger")
 }
 
 #[test]
 fn ends_where_a_stream_does(rt: HostRuntime) -> Result<(), Fail> {
-    for case in &endings() {
-        let written = join(rt.alloc(), case.written)?;
-        let outcome = serve_to_end(rt.alloc(), case)?;
-        assert!(rt; outcome.is(Err(case.fault), &written), "{}", case.name);
-        assert!(rt; outcome.ledger == Some(case.left), "{}", case.name);
+    for case in ENDINGS {
+        ends_so(rt.alloc(), case)?;
     }
     Ok(())
 }
 
 #[test]
 fn a_failing_flush_is_a_failing_write(rt: HostRuntime) -> Result<(), Fail> {
-    let alloc = rt.alloc();
-    let input = join(alloc, &[b"0055", ECHO])?;
     let session = Session {
         reads: 9,
         writes: 9,
         fails_to_flush: true,
         turns: 99,
-        ..Session::new(&input)
+        ..Session::new(b"")
     };
-    let outcome = serve_once(alloc, session)?;
-    assert_eq!(rt; outcome.ended, Err(ServeFault::Write));
-    assert_eq!(rt; outcome.written.len(), 61);
-    Ok(())
+    let outcome = serve_pieces(rt.alloc(), &[b"0055", ECHO], session)?;
+    check(outcome.ended == Err(ServeFault::Write), "the end")?;
+    check(outcome.written.len() == 61, "how much is written")
 }
 
 #[test]
@@ -228,47 +237,42 @@ fn nothing_to_serve(rt: HostRuntime) -> Result<(), Fail> {
         silent: 0,
         unreadable: 0,
     };
-    assert!(rt; outcome.ended == Ok(report));
-    Ok(())
+    check(outcome.ended == Ok(report), "the end")
 }
 
-/// A purchase, two others and its repeat, each in its frame.
-fn three_purchases(alloc: Global) -> Result<Vec<u8>, Fail> {
-    let second: &[u8] =
-        b"0200722000010000800016411111111111111100000000000000100001020304050000100512345840";
-    let third: &[u8] =
-        b"0200722000010000800016411111111111111100000000000000100001020304050000110512345840";
-    join(
-        alloc,
-        &[
-            b"0082", PURCHASE, b"0082", second, b"0082", third, b"0082", REPEAT,
-        ],
-    )
-}
+/// Two other purchases.
+const SECOND: &[u8] =
+    b"0200722000010000800016411111111111111100000000000000100001020304050000100512345840";
+
+const THIRD: &[u8] =
+    b"0200722000010000800016411111111111111100000000000000100001020304050000110512345840";
 
 /// The answers to them, where the journal takes two orders.
-fn two_granted(alloc: Global) -> Result<Vec<u8>, Fail> {
-    let second_granted: &[u8] =
-        b"021072200001060080001641111111111111110000000000000010000102030405000010051234500000200840";
-    let third_refused: &[u8] =
-        b"021072200001020080001641111111111111110000000000000010000102030405000011051234596840";
-    join(
-        alloc,
-        &[
-            b"0090",
-            GRANTED,
-            b"0090",
-            second_granted,
-            b"0084",
-            third_refused,
-            b"0090",
-            GRANTED,
-        ],
-    )
-}
+const SECOND_GRANTED: &[u8] =
+    b"021072200001060080001641111111111111110000000000000010000102030405000010051234500000200840";
+
+const THIRD_REFUSED: &[u8] =
+    b"021072200001020080001641111111111111110000000000000010000102030405000011051234596840";
+
+/// A purchase, two others and its repeat, each in its frame.
+const THREE_PURCHASES: &[&[u8]] = &[
+    b"0082", PURCHASE, b"0082", SECOND, b"0082", THIRD, b"0082", REPEAT,
+];
+
+/// The answers to them, where the journal takes two orders.
+const TWO_GRANTED: &[&[u8]] = &[
+    b"0090",
+    GRANTED,
+    b"0090",
+    SECOND_GRANTED,
+    b"0084",
+    THIRD_REFUSED,
+    b"0090",
+    GRANTED,
+];
 
 /// Serves with a journal that takes two orders.
-fn serve_small(alloc: Global, input: &[u8]) -> Result<SessionEnd, Fail> {
+fn serve_small(alloc: Global, frames: &[&[u8]]) -> Result<SessionEnd, Fail> {
     let session = Session {
         piece: 4096,
         reads: 9,
@@ -276,24 +280,22 @@ fn serve_small(alloc: Global, input: &[u8]) -> Result<SessionEnd, Fail> {
         writes: 9,
         turns: 99,
         is_small: true,
-        ..Session::new(input)
+        ..Session::new(b"")
     };
-    serve_once(alloc, session)
+    serve_pieces(alloc, frames, session)
 }
 
 #[test]
 fn a_full_journal_answers_ninety_six(rt: HostRuntime) -> Result<(), Fail> {
-    let input = three_purchases(rt.alloc())?;
-    let wanted = two_granted(rt.alloc())?;
-    let outcome = serve_small(rt.alloc(), &input)?;
+    let outcome = serve_small(rt.alloc(), THREE_PURCHASES)?;
     let report = Report {
         frames: 4,
         answered: 4,
         silent: 0,
         unreadable: 0,
     };
-    assert!(rt; outcome.is(Ok(report), &wanted));
-    assert!(rt; outcome.entries == 2);
-    assert!(rt; outcome.ledger == Some(3000));
-    Ok(())
+    let is_written = outcome.is_of(rt.alloc(), Ok(report), TWO_GRANTED)?;
+    check(is_written, "the end and what is written")?;
+    check(outcome.entries == 2, "the entries")?;
+    check(outcome.ledger == Some(3000), "the ledger")
 }

@@ -1,7 +1,8 @@
 //! Each frame is answered before the next is read, and reads and writes are counted.
 
-use super::frames::{ECHO, ECHOED, Session, SessionEnd, join, serve_once};
+use super::frames::{ECHO, ECHOED, Session, SessionEnd, serve_pieces};
 use crate::fault::{Report, ServeFault};
+use iso_fakes::check_of;
 use std::alloc::Global;
 use std::test::Fail;
 
@@ -23,67 +24,68 @@ const BOTH: Report = Report {
     unreadable: 0,
 };
 
-fn cases() -> [Turns; 5] {
-    [
-        Turns {
-            name: "a read",
-            turns: 1,
-            ended: Err(ServeFault::TooManyTurns),
-            written: &[],
-            flushes: 0,
-        },
-        Turns {
-            name: "a read and a write",
-            turns: 2,
-            ended: Err(ServeFault::TooManyTurns),
-            written: &[b"0057", ECHOED],
-            flushes: 1,
-        },
-        Turns {
-            name: "two reads and a write",
-            turns: 3,
-            ended: Err(ServeFault::TooManyTurns),
-            written: &[b"0057", ECHOED],
-            flushes: 1,
-        },
-        Turns {
-            name: "two reads and two writes",
-            turns: 4,
-            ended: Err(ServeFault::TooManyTurns),
-            written: &[b"0057", ECHOED, b"0057", ECHOED],
-            flushes: 2,
-        },
-        Turns {
-            name: "and the read at the end",
-            turns: 5,
-            ended: Ok(BOTH),
-            written: &[b"0057", ECHOED, b"0057", ECHOED],
-            flushes: 2,
-        },
-    ]
-}
+const CASES: &[Turns] = &[
+    Turns {
+        name: "a read",
+        turns: 1,
+        ended: Err(ServeFault::TooManyTurns),
+        written: &[],
+        flushes: 0,
+    },
+    Turns {
+        name: "a read and a write",
+        turns: 2,
+        ended: Err(ServeFault::TooManyTurns),
+        written: &[b"0057", ECHOED],
+        flushes: 1,
+    },
+    Turns {
+        name: "two reads and a write",
+        turns: 3,
+        ended: Err(ServeFault::TooManyTurns),
+        written: &[b"0057", ECHOED],
+        flushes: 1,
+    },
+    Turns {
+        name: "two reads and two writes",
+        turns: 4,
+        ended: Err(ServeFault::TooManyTurns),
+        written: &[b"0057", ECHOED, b"0057", ECHOED],
+        flushes: 2,
+    },
+    Turns {
+        name: "and the read at the end",
+        turns: 5,
+        ended: Ok(BOTH),
+        written: &[b"0057", ECHOED, b"0057", ECHOED],
+        flushes: 2,
+    },
+];
 
 /// Serves two echo tests in so many turns.
 fn serve_two(alloc: Global, turns: u64) -> Result<SessionEnd, Fail> {
-    let input = join(alloc, &[b"0055", ECHO, b"0055", ECHO])?;
     let session = Session {
         piece: 59,
         reads: 9,
         writes: 9,
         turns,
-        ..Session::new(&input)
+        ..Session::new(b"")
     };
-    serve_once(alloc, session)
+    serve_pieces(alloc, &[b"0055", ECHO, b"0055", ECHO], session)
+}
+
+/// Compares what comes of two echo tests in the turns of that case.
+fn answers_in_turns(alloc: Global, case: &Turns) -> Result<(), Fail> {
+    let outcome = serve_two(alloc, case.turns)?;
+    let is_written = outcome.is_of(alloc, case.ended, case.written)?;
+    check_of(is_written, case.name, "the end and what is written")?;
+    check_of(outcome.flushes == case.flushes, case.name, "the flushes")
 }
 
 #[test]
 fn answers_a_frame_before_it_reads_the_next(rt: HostRuntime) -> Result<(), Fail> {
-    for case in &cases() {
-        let name = case.name;
-        let written = join(rt.alloc(), case.written)?;
-        let outcome = serve_two(rt.alloc(), case.turns)?;
-        assert!(rt; outcome.is(case.ended, &written), "{name}");
-        assert!(rt; outcome.flushes == case.flushes, "{name}");
+    for case in CASES {
+        answers_in_turns(rt.alloc(), case)?;
     }
     Ok(())
 }

@@ -1,4 +1,5 @@
 //! Generated schedules: what both ends agree on, by plain look-ups after each event.
+use super::agreement::{agree, debit_amount_of, is_closed, taken_total};
 use super::draws::Draws;
 use super::*;
 use std::collections::BTreeSet;
@@ -6,91 +7,13 @@ use std::collections::BTreeSet;
 /// How many orders the issuer takes.
 const LIMIT: u32 = 30;
 
-/// The amount of a debit.
-fn debit_amount_of(order: &Order) -> Option<i64> {
-    match order.act() {
-        Act::Debit(money) => i64::try_from(money.amount).ok(),
-        _ => None,
+/// Ends the test with an event, unless it is so.
+fn check_event(is_so: bool, event: &Event) -> Result<(), Fail> {
+    if is_so {
+        Ok(())
+    } else {
+        Err(Fail::new(format_args!("{event:?}")))
     }
-}
-
-/// The code that the orders of a key got, where one was answered.
-fn code_of(rt: &impl Abort, world: &World, key: TxKey) -> Option<u8> {
-    let mut code = None;
-    for given in given_in(world) {
-        if given.key == key {
-            // Each answer to the key is the first one again.
-            assert!(rt;
-                code.is_none() || code == Some(given.answer.code),
-                "{key:?}"
-            );
-            code = Some(given.answer.code);
-        }
-    }
-    code
-}
-
-/// The key of the reversal of an order that was sent, where it was.
-fn undo_of(rt: &impl Abort, world: &World, original: TxKey) -> Option<TxKey> {
-    let mut undo = None;
-    for order in sent_by(world) {
-        if order.act() == (Act::Undo { original, left: 0 }) {
-            // There is one reversal at most, however often it is sent.
-            assert!(rt; undo.is_none() || undo == Some(order.key()), "{original:?}");
-            undo = Some(order.key());
-        }
-    }
-    undo
-}
-
-/// Whether a state is what was sent and given of the transaction of that key.
-fn is_told(rt: &impl Abort, world: &World, key: TxKey, state: State) -> bool {
-    let code = code_of(rt, world, key);
-    let undo = undo_of(rt, world, key);
-    match state {
-        State::Waiting(count) => matches!(count, 1 | 2) && undo.is_none(),
-        State::Approved => code == Some(0) && undo.is_none(),
-        State::Declined(told) => code == Some(told) && told != 0 && undo.is_none(),
-        State::Reversing => undo.is_some(),
-        State::Reversed => match undo {
-            Some(undo) => code_of(rt, world, undo) == Some(0),
-            None => false,
-        },
-    }
-}
-
-/// What the transactions take from the account: those that were granted, and whose reversal wasn't delivered.
-fn taken_total(rt: &impl Abort, world: &World) -> i64 {
-    let mut taken: i64 = 0;
-    let mut last = 0;
-    for order in sent_by(world) {
-        let key = order.key();
-        // Trace numbers rise, and a repeat has its first one's.
-        if key.stan > last {
-            last = key.stan;
-            if let Some(amount) = debit_amount_of(order) {
-                if is_standing(rt, world, key) {
-                    taken = taken.saturating_add(amount);
-                }
-            }
-        }
-    }
-    taken
-}
-
-fn is_standing(rt: &impl Abort, world: &World, key: TxKey) -> bool {
-    let reversed = match undo_of(rt, world, key) {
-        Some(undo) => code_of(rt, world, undo) == Some(0),
-        None => false,
-    };
-    code_of(rt, world, key) == Some(0) && !reversed
-}
-
-fn is_closed(state: State) -> bool {
-    matches!(
-        state,
-        State::Approved | State::Declined(_) | State::Reversed
-    )
 }
 
 /// The state of each transaction so far, the first at 0.
@@ -150,53 +73,58 @@ fn sizes(world: &World) -> Result<(usize, usize, u32, Option<i64>), Fail> {
     Ok((sent, given, entered(world), ledger_in(world)?))
 }
 
-/// Compares each transaction's state with what was sent and given, and with its state before.
-fn agree(rt: &impl Abort, world: &World, before: &[Option<State>]) {
-    let mut last = 0;
-    for order in sent_by(world) {
-        let key = order.key();
-        if key.stan > last {
-            last = key.stan;
-            let state = state_in(world, key.stan);
-            assert_eq!(rt;
-                state.is_some(),
-                debit_amount_of(order).is_some(),
-                "{key:?}"
-            );
-            if let Some(state) = state {
-                assert!(rt; is_told(rt, world, key, state), "{key:?} {state:?}");
-                if let Some(Some(earlier)) = before.get((key.stan as usize).saturating_sub(1)) {
-                    assert!(rt;
-                        !is_closed(*earlier) || *earlier == state,
-                        "{key:?} {state:?}"
-                    );
-                }
-            }
-        }
+/// Whether that comes of an event as expected, or of a full journal.
+fn is_expected(
+    world: &World,
+    told: Result<(), StepFault>,
+    expected: Result<(), StepFault>,
+) -> bool {
+    if told == Err(StepFault::Issuer(Refused::Full)) {
+        (expected, entered(world)) == (Ok(()), LIMIT)
+    } else {
+        told == expected
     }
 }
 
-/// Makes an event, and compares what came of it.
-fn make(rt: &impl Abort, alloc: Global, world: &mut World, event: &Event) -> Result<(), Fail> {
-    let before = states(alloc, world)?;
-    let told_before = sizes(world)?;
+/// Makes an event, compares what came of it, and tells whether it was refused.
+fn is_refused(world: &mut World, event: &Event) -> Result<bool, Fail> {
     let expected = expected_result(world, event);
     let told = outcome(world, *event)?;
-    if told == Err(StepFault::Issuer(Refused::Full)) {
-        assert_eq!(rt; (expected, entered(world)), (Ok(()), LIMIT), "{event:?}");
-    } else {
-        assert_eq!(rt; told, expected, "{event:?}");
+    check_event(is_expected(world, told, expected), event)?;
+    Ok(told.is_err())
+}
+
+/// Makes an event, and compares the sizes with those before, where it was refused.
+fn make_event(world: &mut World, event: &Event) -> Result<bool, Fail> {
+    let before = sizes(world)?;
+    let refused = is_refused(world, event)?;
+    check_event(!refused || sizes(world)? == before, event)?;
+    Ok(refused)
+}
+
+/// Whether the transactions are in these states.
+fn are_states(alloc: Global, world: &World, want: &[Option<State>]) -> Result<bool, Fail> {
+    let states = states(alloc, world)?;
+    Ok(states.as_slice() == want)
+}
+
+/// Makes an event, and compares what came of it with the states before.
+fn make_after(
+    alloc: Global,
+    world: &mut World,
+    event: &Event,
+    before: &[Option<State>],
+) -> Result<(), Fail> {
+    if make_event(world, event)? {
+        check_event(are_states(alloc, world, before)?, event)?;
     }
-    if told.is_err() {
-        assert_eq!(rt; sizes(world)?, told_before, "{event:?}");
-        assert_eq!(rt;
-            states(alloc, world)?.as_slice(),
-            before.as_slice(),
-            "{event:?}"
-        );
-    }
-    agree(rt, world, before.as_slice());
-    Ok(())
+    agree(world, before)
+}
+
+/// Makes an event, and compares what came of it.
+fn make(alloc: Global, world: &mut World, event: &Event) -> Result<(), Fail> {
+    let before = states(alloc, world)?;
+    make_after(alloc, world, event, before.as_slice())
 }
 
 /// Asks again until the transaction is closed, each time with the answer at once.
@@ -213,10 +141,14 @@ fn close(world: &mut World, stan: u32) -> Result<(), Fail> {
 
 /// Whether all transactions are closed.
 fn are_all_closed(states: &[Option<State>]) -> bool {
-    states.iter().all(|state| match state {
-        Some(state) => is_closed(*state),
-        None => true,
-    })
+    for state in states {
+        if let Some(state) = state {
+            if !is_closed(*state) {
+                return false;
+            }
+        }
+    }
+    true
 }
 
 /// The amounts of the approved transactions, added up.
@@ -237,75 +169,158 @@ fn approved_total(world: &World) -> i64 {
     approved
 }
 
-/// Compares what is on the account with what was sent and given, where no other's orders are on it.
-fn balances(rt: &impl Abort, world: &World) -> Result<(), Fail> {
-    let ledger = Some(5000_i64.saturating_sub(taken_total(rt, world)));
-    assert_eq!(rt; ledger_in(world)?, ledger);
-    assert_eq!(rt; available_in(world)?, ledger);
-    Ok(())
+/// Compares what is on the account, and what is available of it.
+fn compare_account(world: &World, left: i64) -> Result<(), Fail> {
+    check(is_on_ledger(world, left)?, "what is on the account")?;
+    check(is_available(world, left)?, "what is available")
 }
 
-/// Closes all transactions, and compares the books of both ends. Then all comes once more and changes nothing.
-fn settle(rt: &impl Abort, alloc: Global, world: &mut World, alone: bool) -> Result<(), Fail> {
+/// Compares what is on the account with what was sent and given, where no other's orders are on it.
+fn balances(world: &World) -> Result<(), Fail> {
+    compare_account(world, 5000_i64.saturating_sub(taken_total(world)))
+}
+
+/// Closes all transactions.
+fn close_all(world: &mut World) -> Result<(), Fail> {
     let mut stan: u32 = 0;
     for _ in 0..sent_by(world).len() {
         stan = stan.saturating_add(1);
         close(world, stan)?;
     }
-    let closed = states(alloc, world)?;
-    agree(rt, world, closed.as_slice());
-    if are_all_closed(closed.as_slice()) && alone {
-        let left = Some(5000_i64.saturating_sub(approved_total(world)));
-        assert_eq!(rt; ledger_in(world)?, left);
-        assert_eq!(rt; available_in(world)?, left);
-    }
-    let ledger = ledger_in(world)?;
+    Ok(())
+}
+
+/// Delivers again all orders that were sent.
+fn deliver_all(world: &mut World) -> Result<(), Fail> {
     for place in 0..sent_by(world).len() {
         let _ = outcome(world, Event::Deliver(place))?;
-    }
-    for place in 0..given_in(world).len() {
-        let _ = outcome(world, Event::Answer(place))?;
-    }
-    agree(rt, world, closed.as_slice());
-    if are_all_closed(closed.as_slice()) {
-        assert_eq!(rt; ledger_in(world)?, ledger);
     }
     Ok(())
 }
 
-/// Plays a schedule, and collects the codes that were given.
-fn schedule(
-    rt: &impl Abort,
+/// Hands over again all answers that were given.
+fn answer_all(world: &mut World) -> Result<(), Fail> {
+    for place in 0..given_in(world).len() {
+        let _ = outcome(world, Event::Answer(place))?;
+    }
+    Ok(())
+}
+
+/// All comes once more. Gives what was on the account before.
+fn repeat_all(world: &mut World) -> Result<Option<i64>, Fail> {
+    let ledger = ledger_in(world)?;
+    deliver_all(world)?;
+    answer_all(world)?;
+    Ok(ledger)
+}
+
+/// Whether that is on the account.
+fn has_ledger(world: &World, ledger: Option<i64>) -> Result<bool, Fail> {
+    Ok(ledger_in(world)? == ledger)
+}
+
+/// All comes once more, and changes nothing.
+fn repeat(world: &mut World, closed: &[Option<State>]) -> Result<(), Fail> {
+    let ledger = repeat_all(world)?;
+    agree(world, closed)?;
+    if are_all_closed(closed) {
+        check(
+            has_ledger(world, ledger)?,
+            "the account once all came again",
+        )?;
+    }
+    Ok(())
+}
+
+/// Compares the books of both ends, where all transactions are closed and no other's orders are on the account.
+fn compare_books(world: &World, closed: &[Option<State>], alone: bool) -> Result<(), Fail> {
+    agree(world, closed)?;
+    if are_all_closed(closed) && alone {
+        compare_account(world, 5000_i64.saturating_sub(approved_total(world)))?;
+    }
+    Ok(())
+}
+
+/// Closes all transactions, and compares the books of both ends. Then all comes once more and changes nothing.
+fn settle(alloc: Global, world: &mut World, alone: bool) -> Result<(), Fail> {
+    close_all(world)?;
+    let closed = states(alloc, world)?;
+    compare_books(world, closed.as_slice(), alone)?;
+    repeat(world, closed.as_slice())
+}
+
+/// Plays an event that is drawn. An order of others is on the other account where the acquirer is alone.
+fn play_next(alloc: Global, world: &mut World, draws: &mut Draws, alone: bool) -> Result<(), Fail> {
+    let others = if alone { OTHER } else { ACCOUNT };
+    let event = draws.event(world, pan(others)?)?;
+    make(alloc, world, &event)
+}
+
+/// Plays events that are drawn.
+fn play_drawn(
     alloc: Global,
+    world: &mut World,
+    draws: &mut Draws,
+    alone: bool,
+) -> Result<(), Fail> {
+    for _ in 0..30 {
+        play_next(alloc, world, draws, alone)?;
+        if alone {
+            balances(world)?;
+        }
+    }
+    Ok(())
+}
+
+/// Collects the codes that were given.
+fn collect(world: &World, codes: &mut BTreeSet<u8>) -> Result<(), Fail> {
+    for given in given_in(world) {
+        codes.insert(given.answer.code)?;
+    }
+    Ok(())
+}
+
+/// Plays a schedule in a new world, and collects the codes that were given.
+fn schedule_in(
+    alloc: Global,
+    world: &mut World,
     draws: &mut Draws,
     codes: &mut BTreeSet<u8>,
 ) -> Result<(), Fail> {
-    let mut world = world(alloc, LIMIT)?;
     let alone = draws.next() % 2 == 0;
-    let others = if alone { OTHER } else { ACCOUNT };
-    for _ in 0..30 {
-        let event = draws.event(&world, pan(others)?)?;
-        make(rt, alloc, &mut world, &event)?;
-        if alone {
-            balances(rt, &world)?;
-        }
+    play_drawn(alloc, world, draws, alone)?;
+    settle(alloc, world, alone)?;
+    collect(world, codes)
+}
+
+/// Plays a schedule, and collects the codes that were given.
+fn schedule(alloc: Global, draws: &mut Draws, codes: &mut BTreeSet<u8>) -> Result<(), Fail> {
+    let mut world = world(alloc, LIMIT)?;
+    schedule_in(alloc, &mut world, draws, codes)
+}
+
+/// Plays schedules.
+fn schedules(alloc: Global, codes: &mut BTreeSet<u8>) -> Result<(), Fail> {
+    let mut draws = Draws(1);
+    for _ in 0..2000 {
+        schedule(alloc, &mut draws, codes)?;
     }
-    settle(rt, alloc, &mut world, alone)?;
-    for given in given_in(&world) {
-        codes.insert(given.answer.code)?;
+    Ok(())
+}
+
+/// Compares that these codes were given.
+fn check_codes(codes: &BTreeSet<u8>, wanted: &[u8]) -> Result<(), Fail> {
+    for code in wanted {
+        if !codes.contains(code) {
+            return Err(Fail::new(format_args!("{code}")));
+        }
     }
     Ok(())
 }
 
 #[test]
 fn generated_schedules(rt: HostRuntime) -> Result<(), Fail> {
-    let mut draws = Draws(1);
     let mut codes = BTreeSet::new(rt.alloc());
-    for _ in 0..2000 {
-        schedule(&rt, rt.alloc(), &mut draws, &mut codes)?;
-    }
-    for code in [0, 21, 51] {
-        assert!(rt; codes.contains(&code), "{code}");
-    }
-    Ok(())
+    schedules(rt.alloc(), &mut codes)?;
+    check_codes(&codes, &[0, 21, 51])
 }

@@ -26,137 +26,156 @@ fn gave_codes(alloc: Global, world: &World, want: &[u8]) -> Result<bool, Fail> {
     Ok(codes.as_slice() == want)
 }
 
-fn early_reversal() -> [PlayedEvent; 7] {
-    [
-        (Happens::Begin(1000), Ok(()), ASKED, 5000),
-        (Happens::Timeout(1), Ok(()), AGAIN, 5000),
-        (Happens::Timeout(1), Ok(()), REVERSING, 5000),
-        (Happens::Deliver(2), Ok(()), REVERSING, 5000),
-        (Happens::Answer(0), Ok(()), REVERSED, 5000),
-        (Happens::Deliver(0), Ok(()), REVERSED, 5000),
-        (Happens::Answer(1), Ok(()), REVERSED, 5000),
-    ]
+fn has_sent(world: &World, count: usize) -> bool {
+    sent_by(world).len() == count
 }
 
-fn refused_events() -> [PlayedEvent; 4] {
-    [
-        (
-            Happens::Timeout(1),
-            Err(StepFault::Acquirer(AcqFault::Closed)),
-            REVERSED,
-            5000,
-        ),
-        (
-            Happens::Timeout(5),
-            Err(StepFault::Acquirer(AcqFault::NoSuch)),
-            REVERSED,
-            5000,
-        ),
-        (Happens::Deliver(9), Err(StepFault::NoSuch), REVERSED, 5000),
-        (Happens::Answer(2), Err(StepFault::NoSuch), REVERSED, 5000),
-    ]
+fn has_given(world: &World, count: usize) -> bool {
+    given_in(world).len() == count
+}
+
+fn has_entered(world: &World, count: u32) -> bool {
+    entered(world) == count
+}
+
+const EARLY_REVERSAL: &[PlayedEvent] = &[
+    (Happens::Begin(1000), Ok(()), ASKED, 5000),
+    (Happens::Timeout(1), Ok(()), AGAIN, 5000),
+    (Happens::Timeout(1), Ok(()), REVERSING, 5000),
+    (Happens::Deliver(2), Ok(()), REVERSING, 5000),
+    (Happens::Answer(0), Ok(()), REVERSED, 5000),
+    (Happens::Deliver(0), Ok(()), REVERSED, 5000),
+    (Happens::Answer(1), Ok(()), REVERSED, 5000),
+];
+
+const REFUSED_EVENTS: &[PlayedEvent] = &[
+    (
+        Happens::Timeout(1),
+        Err(StepFault::Acquirer(AcqFault::Closed)),
+        REVERSED,
+        5000,
+    ),
+    (
+        Happens::Timeout(5),
+        Err(StepFault::Acquirer(AcqFault::NoSuch)),
+        REVERSED,
+        5000,
+    ),
+    (Happens::Deliver(9), Err(StepFault::NoSuch), REVERSED, 5000),
+    (Happens::Answer(2), Err(StepFault::NoSuch), REVERSED, 5000),
+];
+
+/// Plays an early reversal, and then what is refused.
+fn play_early_reversal(alloc: Global, world: &mut World) -> Result<(), Fail> {
+    play(world, 1, EARLY_REVERSAL)?;
+    check(gave_codes(alloc, world, &[0, 21])?, "codes")?;
+    play(world, 1, REFUSED_EVENTS)
 }
 
 #[test]
 fn reversed_before_it_came(rt: HostRuntime) -> Result<(), Fail> {
     let mut world = world(rt.alloc(), 10)?;
-    play(&rt, &mut world, 1, &early_reversal())?;
-    assert!(rt; gave_codes(rt.alloc(), &world, &[0, 21])?);
-    play(&rt, &mut world, 1, &refused_events())
+    play_early_reversal(rt.alloc(), &mut world)
 }
 
-fn late_approval() -> [PlayedEvent; 7] {
-    [
-        (Happens::Begin(1000), Ok(()), ASKED, 5000),
-        (Happens::Deliver(0), Ok(()), ASKED, 4000),
-        (Happens::Timeout(1), Ok(()), AGAIN, 4000),
-        (Happens::Timeout(1), Ok(()), REVERSING, 4000),
-        (Happens::Answer(0), Ok(()), REVERSING, 4000),
-        (Happens::Deliver(2), Ok(()), REVERSING, 5000),
-        (Happens::Answer(1), Ok(()), REVERSED, 5000),
-    ]
+const LATE_APPROVAL: &[PlayedEvent] = &[
+    (Happens::Begin(1000), Ok(()), ASKED, 5000),
+    (Happens::Deliver(0), Ok(()), ASKED, 4000),
+    (Happens::Timeout(1), Ok(()), AGAIN, 4000),
+    (Happens::Timeout(1), Ok(()), REVERSING, 4000),
+    (Happens::Answer(0), Ok(()), REVERSING, 4000),
+    (Happens::Deliver(2), Ok(()), REVERSING, 5000),
+    (Happens::Answer(1), Ok(()), REVERSED, 5000),
+];
+
+/// Plays a late approval.
+fn play_late_approval(world: &mut World) -> Result<(), Fail> {
+    play(world, 1, LATE_APPROVAL)?;
+    check(has_sent(world, 3), "orders that were sent")
 }
 
 #[test]
 fn late_approval_while_reversing(rt: HostRuntime) -> Result<(), Fail> {
     let mut world = world(rt.alloc(), 10)?;
-    play(&rt, &mut world, 1, &late_approval())?;
-    assert_eq!(rt; sent_by(&world).len(), 3);
-    Ok(())
+    play_late_approval(&mut world)
 }
 
-fn approval_of_a_repeat() -> [PlayedEvent; 4] {
-    [
-        (Happens::Begin(1000), Ok(()), ASKED, 5000),
-        (Happens::Deliver(0), Ok(()), ASKED, 4000),
-        (Happens::Deliver(0), Ok(()), ASKED, 4000),
-        (Happens::Answer(1), Ok(()), APPROVED, 4000),
-    ]
-}
+const APPROVAL_OF_A_REPEAT: &[PlayedEvent] = &[
+    (Happens::Begin(1000), Ok(()), ASKED, 5000),
+    (Happens::Deliver(0), Ok(()), ASKED, 4000),
+    (Happens::Deliver(0), Ok(()), ASKED, 4000),
+    (Happens::Answer(1), Ok(()), APPROVED, 4000),
+];
 
-fn another_that_is_declined() -> [PlayedEvent; 3] {
-    [
-        (Happens::Begin(9000), Ok(()), ASKED, 4000),
-        (Happens::Deliver(1), Ok(()), ASKED, 4000),
-        (Happens::Answer(2), Ok(()), Some(State::Declined(51)), 4000),
-    ]
+const ANOTHER_THAT_IS_DECLINED: &[PlayedEvent] = &[
+    (Happens::Begin(9000), Ok(()), ASKED, 4000),
+    (Happens::Deliver(1), Ok(()), ASKED, 4000),
+    (Happens::Answer(2), Ok(()), Some(State::Declined(51)), 4000),
+];
+
+/// Plays the approval of a repeat, and then a debit that is declined.
+fn play_approval_of_a_repeat(alloc: Global, world: &mut World) -> Result<(), Fail> {
+    play(world, 1, APPROVAL_OF_A_REPEAT)?;
+    play(world, 2, ANOTHER_THAT_IS_DECLINED)?;
+    check(gave_codes(alloc, world, &[0, 0, 51])?, "codes")
 }
 
 #[test]
 fn approved_by_the_answer_to_the_repeat(rt: HostRuntime) -> Result<(), Fail> {
     let mut world = world(rt.alloc(), 10)?;
-    play(&rt, &mut world, 1, &approval_of_a_repeat())?;
-    play(&rt, &mut world, 2, &another_that_is_declined())?;
-    assert!(rt; gave_codes(rt.alloc(), &world, &[0, 0, 51])?);
-    Ok(())
+    play_approval_of_a_repeat(rt.alloc(), &mut world)
 }
 
-fn full_journal() -> [PlayedEvent; 4] {
-    [
-        (Happens::Begin(1000), Ok(()), ASKED, 5000),
-        (Happens::Begin(1000), Ok(()), ASKED, 5000),
-        (Happens::Deliver(0), Ok(()), ASKED, 4000),
-        (
-            Happens::Deliver(1),
-            Err(StepFault::Issuer(Refused::Full)),
-            ASKED,
-            4000,
-        ),
-    ]
+const FULL_JOURNAL: &[PlayedEvent] = &[
+    (Happens::Begin(1000), Ok(()), ASKED, 5000),
+    (Happens::Begin(1000), Ok(()), ASKED, 5000),
+    (Happens::Deliver(0), Ok(()), ASKED, 4000),
+    (
+        Happens::Deliver(1),
+        Err(StepFault::Issuer(Refused::Full)),
+        ASKED,
+        4000,
+    ),
+];
+
+/// Plays what fills a journal of one order.
+fn play_full_journal(world: &mut World) -> Result<(), Fail> {
+    play(world, 1, FULL_JOURNAL)?;
+    check(has_given(world, 1), "answers that were given")?;
+    check(has_entered(world, 1), "orders that were entered")
 }
 
 #[test]
 fn full(rt: HostRuntime) -> Result<(), Fail> {
     let mut world = world(rt.alloc(), 1)?;
-    play(&rt, &mut world, 1, &full_journal())?;
-    assert_eq!(rt; given_in(&world).len(), 1);
-    assert_eq!(rt; entered(&world), 1);
-    Ok(())
+    play_full_journal(&mut world)
 }
 
-fn orders_among_others() -> [PlayedEvent; 6] {
-    [
-        (Happens::Other(12_345), Err(StepFault::OwnKey), None, 5000),
-        (Happens::Other(777), Ok(()), None, 4300),
-        (Happens::Begin(1000), Ok(()), ASKED, 4300),
-        (Happens::Deliver(0), Ok(()), ASKED, 3300),
-        (Happens::Other(777), Ok(()), ASKED, 3300),
-        (
-            Happens::Other(778),
-            Err(StepFault::Issuer(Refused::Full)),
-            ASKED,
-            3300,
-        ),
-    ]
+const ORDERS_AMONG_OTHERS: &[PlayedEvent] = &[
+    (Happens::Other(12_345), Err(StepFault::OwnKey), None, 5000),
+    (Happens::Other(777), Ok(()), None, 4300),
+    (Happens::Begin(1000), Ok(()), ASKED, 4300),
+    (Happens::Deliver(0), Ok(()), ASKED, 3300),
+    (Happens::Other(777), Ok(()), ASKED, 3300),
+    (
+        Happens::Other(778),
+        Err(StepFault::Issuer(Refused::Full)),
+        ASKED,
+        3300,
+    ),
+];
+
+/// Plays a debit among orders of others.
+fn play_orders_of_others(world: &mut World) -> Result<(), Fail> {
+    play(world, 1, ORDERS_AMONG_OTHERS)?;
+    check(has_given(world, 1), "answers that were given")?;
+    check(has_sent(world, 1), "orders that were sent")
 }
 
 #[test]
 fn orders_of_others(rt: HostRuntime) -> Result<(), Fail> {
     let mut world = world(rt.alloc(), 2)?;
-    play(&rt, &mut world, 1, &orders_among_others())?;
-    assert_eq!(rt; given_in(&world).len(), 1);
-    assert_eq!(rt; sent_by(&world).len(), 1);
-    Ok(())
+    play_orders_of_others(&mut world)
 }
 
 /// Hands over a list of events, and tells how many were refused.
@@ -178,15 +197,20 @@ fn ends_agree(world: &World) {
     world.books_agree();
 }
 
+/// Hands over a list of events, and compares what comes of it.
+fn run_all(world: &mut World) -> Result<(), Fail> {
+    // Where memory runs out (`rt try --test --fail-alloc N`), more are refused.
+    if refused_count(world)? != 3 {
+        return Err("memory ran out")?;
+    }
+    check(is_in_state(world, 1, APPROVED), "the state")?;
+    check(is_available(world, 4000)?, "what is available")?;
+    ends_agree(world);
+    Ok(())
+}
+
 #[test]
 fn runs(rt: HostRuntime) -> Result<(), Fail> {
     let mut world = world(rt.alloc(), 10)?;
-    // Where memory runs out (`rt try --test --fail-alloc N`), more are refused.
-    if refused_count(&mut world)? != 3 {
-        return Err("memory ran out")?;
-    }
-    assert!(rt; is_in_state(&world, 1, APPROVED));
-    assert!(rt; is_available(&world, 4000)?);
-    ends_agree(&world);
-    Ok(())
+    run_all(&mut world)
 }

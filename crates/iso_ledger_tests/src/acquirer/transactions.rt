@@ -30,10 +30,10 @@ fn new_acquirer(alloc: Global) -> Acquirer {
 }
 
 /// An acquirer that began a debit of 1000.
-fn acquirer_with_one(rt: &impl Abort, alloc: Global) -> Result<Acquirer, Fail> {
+fn acquirer_with_one(alloc: Global) -> Result<Acquirer, Fail> {
     let mut acquirer = new_acquirer(alloc);
     let order = begin_debit(&mut acquirer)??;
-    assert!(rt; is_first_debit(order)?);
+    check(is_first_debit(order)?, "the first debit")?;
     Ok(acquirer)
 }
 
@@ -76,64 +76,98 @@ fn tell(acquirer: &mut Acquirer, key: TxKey, code: u8) {
     acquirer.answer(key, code);
 }
 
+/// Compares what an acquirer with one transaction makes of two timeouts.
+fn repeats_and_reverses(acquirer: &mut Acquirer) -> Result<(), Fail> {
+    check(holds(acquirer, 1, Some(State::Waiting(1))), "asked once")?;
+    check(asks_again(acquirer)?, "the repeat")?;
+    check(holds(acquirer, 1, Some(State::Waiting(2))), "asked twice")?;
+    check(reverses(acquirer)?, "the reversal")?;
+    check(holds(acquirer, 1, Some(State::Reversing)), "reversing")
+}
+
+/// Compares what it makes of two more.
+fn reverses_again(acquirer: &mut Acquirer) -> Result<(), Fail> {
+    check(reverses(acquirer)?, "the reversal's repeat")?;
+    check(reverses(acquirer)?, "the reversal's next repeat")?;
+    check(
+        holds(acquirer, 1, Some(State::Reversing)),
+        "still reversing",
+    )
+}
+
 #[test]
 fn begins_asks_again_and_reverses(rt: HostRuntime) -> Result<(), Fail> {
-    let mut acquirer = acquirer_with_one(&rt, rt.alloc())?;
-    assert!(rt; holds(&acquirer, 1, Some(State::Waiting(1))));
-    assert!(rt; asks_again(&mut acquirer)?);
-    assert!(rt; holds(&acquirer, 1, Some(State::Waiting(2))));
-    assert!(rt; reverses(&mut acquirer)?);
-    assert!(rt; holds(&acquirer, 1, Some(State::Reversing)));
-    assert!(rt; reverses(&mut acquirer)?);
-    assert!(rt; reverses(&mut acquirer)?);
-    assert!(rt; holds(&acquirer, 1, Some(State::Reversing)));
-    Ok(())
+    let mut acquirer = acquirer_with_one(rt.alloc())?;
+    repeats_and_reverses(&mut acquirer)?;
+    reverses_again(&mut acquirer)
 }
 
 /// An acquirer that reverses its first transaction.
-fn reversing(rt: &impl Abort, alloc: Global) -> Result<Acquirer, Fail> {
-    let mut acquirer = acquirer_with_one(rt, alloc)?;
+fn reversing(alloc: Global) -> Result<Acquirer, Fail> {
+    let mut acquirer = acquirer_with_one(alloc)?;
     sent_after(&mut acquirer, 1)?;
     sent_after(&mut acquirer, 1)?;
     Ok(acquirer)
 }
 
+/// Ends the test with a trace number, unless it is so.
+fn check_number(is_so: bool, stan: u32) -> Result<(), Fail> {
+    if is_so {
+        Ok(())
+    } else {
+        Err(Fail::new(format_args!("{stan}")))
+    }
+}
+
+/// Compares that an acquirer knows no transaction of these trace numbers.
+fn knows_none(acquirer: &mut Acquirer, stans: &[u32]) -> Result<(), Fail> {
+    for stan in stans {
+        check_number(holds(acquirer, *stan, None), *stan)?;
+        check_number(refuses(acquirer, *stan, AcqFault::NoSuch), *stan)?;
+    }
+    Ok(())
+}
+
+/// Whether the next debit has that key.
+fn begins_under(acquirer: &mut Acquirer, key: TxKey) -> Result<bool, Fail> {
+    Ok(key_of_next(acquirer)? == key)
+}
+
+/// Compares that the next debit has the third trace number.
+fn begins_third(acquirer: &mut Acquirer) -> Result<(), Fail> {
+    check(begins_under(acquirer, key(200, 3, ID))?, "the next key")?;
+    check(holds(acquirer, 3, Some(State::Waiting(1))), "the next one")
+}
+
 #[test]
 fn knows_transactions_by_their_own_numbers(rt: HostRuntime) -> Result<(), Fail> {
-    let mut acquirer = reversing(&rt, rt.alloc())?;
-    for stan in [0, 2, 3, 4_294_967_295] {
-        assert!(rt; holds(&acquirer, stan, None), "{stan}");
-        assert!(rt; refuses(&mut acquirer, stan, AcqFault::NoSuch), "{stan}");
-    }
-    assert_eq!(rt; key_of_next(&mut acquirer)?, key(200, 3, ID));
-    assert!(rt; holds(&acquirer, 3, Some(State::Waiting(1))));
-    Ok(())
+    let mut acquirer = reversing(rt.alloc())?;
+    knows_none(&mut acquirer, &[0, 2, 3, 4_294_967_295])?;
+    begins_third(&mut acquirer)
 }
 
 /// The key and the code of an answer, and what an acquirer with one transaction then holds of it.
 type Answered = (TxKey, u8, State);
 
-fn answers_to_waiting() -> [Answered; 10] {
-    [
-        (key(200, 1, ID), 0, State::Approved),
-        (key(200, 1, ID), 51, State::Declined(51)),
-        (key(200, 1, ID), 94, State::Waiting(1)),
-        (key(200, 1, ID), 96, State::Waiting(1)),
-        (key(200, 1, ID), 255, State::Declined(255)),
-        (key(420, 1, ID), 0, State::Waiting(1)),
-        (key(200, 2, ID), 0, State::Waiting(1)),
-        (key(200, 0, ID), 0, State::Waiting(1)),
-        (key(200, 1, 777), 0, State::Waiting(1)),
-        (
-            TxKey {
-                sent: 1,
-                ..key(200, 1, ID)
-            },
-            0,
-            State::Waiting(1),
-        ),
-    ]
-}
+const ANSWERS_TO_WAITING: &[Answered] = &[
+    (key!(200, 1, ID), 0, State::Approved),
+    (key!(200, 1, ID), 51, State::Declined(51)),
+    (key!(200, 1, ID), 94, State::Waiting(1)),
+    (key!(200, 1, ID), 96, State::Waiting(1)),
+    (key!(200, 1, ID), 255, State::Declined(255)),
+    (key!(420, 1, ID), 0, State::Waiting(1)),
+    (key!(200, 2, ID), 0, State::Waiting(1)),
+    (key!(200, 0, ID), 0, State::Waiting(1)),
+    (key!(200, 1, 777), 0, State::Waiting(1)),
+    (
+        TxKey {
+            sent: 1,
+            ..key!(200, 1, ID)
+        },
+        0,
+        State::Waiting(1),
+    ),
+];
 
 /// Whether an answer leaves a transaction so.
 fn leaves(acquirer: &mut Acquirer, key: TxKey, code: u8, state: State) -> bool {
@@ -141,57 +175,85 @@ fn leaves(acquirer: &mut Acquirer, key: TxKey, code: u8, state: State) -> bool {
     holds(acquirer, 1, Some(state))
 }
 
+/// Whether an answer leaves a waiting transaction so.
+fn leaves_waiting(alloc: Global, key: TxKey, code: u8, state: State) -> Result<bool, Fail> {
+    let mut acquirer = acquirer_with_one(alloc)?;
+    Ok(leaves(&mut acquirer, key, code, state))
+}
+
+/// Whether an answer leaves a transaction so while it is reversed.
+fn leaves_reversing(alloc: Global, key: TxKey, code: u8, state: State) -> Result<bool, Fail> {
+    let mut acquirer = reversing(alloc)?;
+    Ok(leaves(&mut acquirer, key, code, state))
+}
+
+/// Ends the test with the key and the code of an answer, unless it is so.
+fn check_answered(is_so: bool, key: TxKey, code: u8) -> Result<(), Fail> {
+    if is_so {
+        Ok(())
+    } else {
+        Err(Fail::new(format_args!("{key:?} {code}")))
+    }
+}
+
 #[test]
 fn answers_while_waiting(rt: HostRuntime) -> Result<(), Fail> {
-    for (key, code, state) in &answers_to_waiting() {
-        let mut acquirer = acquirer_with_one(&rt, rt.alloc())?;
-        assert!(rt;
-            leaves(&mut acquirer, *key, *code, *state),
-            "{key:?} {code}"
-        );
+    for (key, code, state) in ANSWERS_TO_WAITING {
+        let left = leaves_waiting(rt.alloc(), *key, *code, *state)?;
+        check_answered(left, *key, *code)?;
     }
     Ok(())
 }
 
-fn answers_to_reversing() -> [Answered; 6] {
-    [
-        (key(420, 2, ID), 0, State::Reversed),
-        (key(420, 2, ID), 96, State::Reversing),
-        (key(420, 2, ID), 21, State::Reversing),
-        (key(200, 1, ID), 0, State::Reversing),
-        (key(200, 1, ID), 51, State::Reversing),
-        (key(420, 2, 777), 0, State::Reversing),
-    ]
-}
+const ANSWERS_TO_REVERSING: &[Answered] = &[
+    (key!(420, 2, ID), 0, State::Reversed),
+    (key!(420, 2, ID), 96, State::Reversing),
+    (key!(420, 2, ID), 21, State::Reversing),
+    (key!(200, 1, ID), 0, State::Reversing),
+    (key!(200, 1, ID), 51, State::Reversing),
+    (key!(420, 2, 777), 0, State::Reversing),
+];
 
 #[test]
 fn answers_while_reversing(rt: HostRuntime) -> Result<(), Fail> {
-    for (key, code, state) in &answers_to_reversing() {
-        let mut acquirer = reversing(&rt, rt.alloc())?;
-        assert!(rt;
-            leaves(&mut acquirer, *key, *code, *state),
-            "{key:?} {code}"
-        );
+    for (key, code, state) in ANSWERS_TO_REVERSING {
+        let left = leaves_reversing(rt.alloc(), *key, *code, *state)?;
+        check_answered(left, *key, *code)?;
     }
     Ok(())
 }
 
-/// Closes a transaction by an answer, and compares what is held of it once others come, and a timeout.
-fn stays_closed(rt: &impl Abort, alloc: Global, code: u8, state: State) -> Result<(), Fail> {
-    let mut acquirer = acquirer_with_one(rt, alloc)?;
-    tell(&mut acquirer, key(200, 1, ID), code);
-    for later in [0, 21, 51, 94, 96] {
-        let kept = leaves(&mut acquirer, key(200, 1, ID), later, state);
-        assert!(rt; kept, "{code} {later}");
+/// Compares what is held of a transaction, which an answer closed, once others come.
+fn stays(acquirer: &mut Acquirer, code: u8, state: State, others: &[u8]) -> Result<(), Fail> {
+    for later in others {
+        if !leaves(acquirer, key(200, 1, ID), *later, state) {
+            return Err(Fail::new(format_args!("{code} {later}")));
+        }
     }
-    assert!(rt; refuses(&mut acquirer, 1, AcqFault::Closed), "{code}");
     Ok(())
+}
+
+/// Compares that a transaction, which an answer closed, has no timeout.
+fn check_no_timeout(acquirer: &mut Acquirer, code: u8) -> Result<(), Fail> {
+    if refuses(acquirer, 1, AcqFault::Closed) {
+        Ok(())
+    } else {
+        Err(Fail::new(format_args!("{code}")))
+    }
+}
+
+/// Closes a transaction by an answer, and compares what is held of it once others come, and a timeout.
+fn stays_closed(alloc: Global, code: u8, state: State) -> Result<(), Fail> {
+    let mut acquirer = acquirer_with_one(alloc)?;
+    tell(&mut acquirer, key(200, 1, ID), code);
+    stays(&mut acquirer, code, state, &[0, 21, 51, 94, 96])?;
+    check_no_timeout(&mut acquirer, code)
 }
 
 #[test]
 fn closed_for_good(rt: HostRuntime) -> Result<(), Fail> {
-    stays_closed(&rt, rt.alloc(), 0, State::Approved)?;
-    stays_closed(&rt, rt.alloc(), 51, State::Declined(51))
+    stays_closed(rt.alloc(), 0, State::Approved)?;
+    stays_closed(rt.alloc(), 51, State::Declined(51))
 }
 
 /// Begins as many debits as there are trace numbers, and gives the first one's order.
@@ -211,14 +273,31 @@ fn wants_trace_numbers(acquirer: &mut Acquirer) -> Result<bool, Fail> {
     Ok(begin_debit(acquirer)? == Err(AcqFault::NoMoreTrace))
 }
 
+/// Compares what an acquirer with no more trace numbers makes of two timeouts.
+fn repeats_alone(acquirer: &mut Acquirer, first: Order) -> Result<(), Fail> {
+    check(asks_again_by(acquirer, first), "the repeat")?;
+    check(refuses(acquirer, 1, AcqFault::NoMoreTrace), "the reversal")?;
+    check(holds(acquirer, 1, Some(State::Waiting(2))), "asked twice")
+}
+
+/// Compares that an acquirer has no more trace numbers.
+fn check_all_begun(acquirer: &mut Acquirer) -> Result<(), Fail> {
+    check(wants_trace_numbers(acquirer)?, "one more debit")?;
+    check(
+        holds(acquirer, 999_999, Some(State::Waiting(1))),
+        "the last one",
+    )
+}
+
+/// Begins all, and compares what an acquirer makes of more.
+fn uses_all(acquirer: &mut Acquirer) -> Result<(), Fail> {
+    let first = begin_all(acquirer)?;
+    check_all_begun(acquirer)?;
+    repeats_alone(acquirer, first)
+}
+
 #[test]
 fn all_trace_numbers_used(rt: HostRuntime) -> Result<(), Fail> {
     let mut acquirer = new_acquirer(rt.alloc());
-    let first = begin_all(&mut acquirer)?;
-    assert!(rt; wants_trace_numbers(&mut acquirer)?);
-    assert!(rt; holds(&acquirer, 999_999, Some(State::Waiting(1))));
-    assert!(rt; asks_again_by(&mut acquirer, first));
-    assert!(rt; refuses(&mut acquirer, 1, AcqFault::NoMoreTrace));
-    assert!(rt; holds(&acquirer, 1, Some(State::Waiting(2))));
-    Ok(())
+    uses_all(&mut acquirer)
 }

@@ -11,7 +11,7 @@ pub type Reply = (u8, u32, Option<i64>);
 pub type OnAccount = (Option<i64>, Option<i64>);
 
 /// What is asked on the account, in currency 840, unless it says otherwise. The first `u32` is its own trace number.
-#[derive(Clone, Copy, Debug)]
+#[derive(Clone, Copy)]
 pub enum Ask {
     /// The type of its message, its trace number and an amount.
     Debit(u16, u32, u64),
@@ -41,10 +41,6 @@ fn money(digits: &[u8], amount: u64, currency: [u8; 3]) -> Result<Money, Fail> {
     })
 }
 
-fn dollars(amount: u64) -> Result<Money, Fail> {
-    money(ACCOUNT, amount, *b"840")
-}
-
 fn key_of(asked: Ask) -> TxKey {
     match asked {
         Ask::Debit(base, stan, _) => key(base, stan),
@@ -55,19 +51,33 @@ fn key_of(asked: Ask) -> TxKey {
     }
 }
 
+/// The digits, the amount and the currency of what is asked. A reversal moves no money of its own.
+fn terms_of(asked: Ask) -> (&'static [u8], u64, [u8; 3]) {
+    match asked {
+        Ask::Debit(_, _, amount) | Ask::Credit(_, amount) | Ask::Complete(_, _, amount) => {
+            (ACCOUNT, amount, *b"840")
+        }
+        Ask::DebitIn(currency, _, amount) => (ACCOUNT, amount, currency),
+        Ask::DebitOf(digits, _, amount) | Ask::CompleteOf(digits, _, _, amount) => {
+            (digits, amount, *b"840")
+        }
+        Ask::Inquiry(_) | Ask::Undo(_, _, _, _) | Ask::UndoOf(_, _, _) => (ACCOUNT, 0, *b"840"),
+    }
+}
+
+fn money_of(asked: Ask) -> Result<Money, Fail> {
+    let (digits, amount, currency) = terms_of(asked);
+    money(digits, amount, currency)
+}
+
 fn act_of(asked: Ask) -> Result<Act, Fail> {
+    let money = money_of(asked)?;
     Ok(match asked {
-        Ask::Debit(_, _, amount) => Act::Debit(dollars(amount)?),
-        Ask::Credit(_, amount) => Act::Credit(dollars(amount)?),
-        Ask::Inquiry(_) => Act::Inquiry(dollars(0)?),
-        Ask::DebitIn(currency, _, amount) => Act::Debit(money(ACCOUNT, amount, currency)?),
-        Ask::DebitOf(digits, _, amount) => Act::Debit(money(digits, amount, *b"840")?),
-        Ask::Complete(_, hold, amount) => Act::Complete {
-            money: dollars(amount)?,
-            hold: key(100, hold),
-        },
-        Ask::CompleteOf(digits, _, hold, amount) => Act::Complete {
-            money: money(digits, amount, *b"840")?,
+        Ask::Debit(_, _, _) | Ask::DebitIn(_, _, _) | Ask::DebitOf(_, _, _) => Act::Debit(money),
+        Ask::Credit(_, _) => Act::Credit(money),
+        Ask::Inquiry(_) => Act::Inquiry(money),
+        Ask::Complete(_, hold, _) | Ask::CompleteOf(_, _, hold, _) => Act::Complete {
+            money,
             hold: key(100, hold),
         },
         Ask::Undo(_, base, original, left) => Act::Undo {
@@ -84,9 +94,13 @@ fn act_of(asked: Ask) -> Result<Act, Fail> {
     })
 }
 
+/// The order of a key, if a message can carry it.
+pub fn made_order(key: TxKey, act: Act) -> Option<Order> {
+    Order::new(key, act)
+}
+
 pub fn order(asked: Ask) -> Result<Order, Fail> {
-    let act = act_of(asked)?;
-    Ok(Order::new(key_of(asked), act).ok_or("what a message can carry")?)
+    Ok(made_order(key_of(asked), act_of(asked)?).ok_or("what a message can carry")?)
 }
 
 /// The answer to an order.

@@ -1,25 +1,51 @@
 use super::*;
 
+const TWO_ACCOUNTS: &[u8] =
+    b"{\"accounts\":[{\"currency\":\"840\",\"opening\":9000000000000000,\"pan\":\"01\"},
+        {\"opening\":-9000000000000000,\"pan\":\"1\",\"currency\":\"a9Z\"}]}";
+
+/// Names, the digits of numbers, and what is on their accounts.
+const BALANCES: &[(&str, &[u8], Option<i64>)] = &[
+    ("the most", b"01", Some(9_000_000_000_000_000)),
+    ("the least", b"1", Some(-9_000_000_000_000_000)),
+    ("a zero more", b"001", None),
+    ("another digit", b"2", None),
+];
+
+/// Whether that is on the account of these digits, and all of it available.
+fn has_balance(issuer: &Issuer, digits: &[u8], balance: Option<i64>) -> Result<bool, Fail> {
+    Ok(balances_of(issuer, digits)? == (balance, balance))
+}
+
+fn issuer_of_two(alloc: Global) -> Result<Issuer, Fail> {
+    Ok(Issuer::new(Accounts::from_json(alloc, TWO_ACCOUNTS)?, 2))
+}
+
+fn issuer_of_none(alloc: Global) -> Result<Issuer, Fail> {
+    Ok(Issuer::new(Accounts::from_json(alloc, b"{\"accounts\":[]}")?, 1))
+}
+
+/// Compares what is on each account, and that no order is entered.
+fn compare_two(issuer: &Issuer) -> Result<(), Fail> {
+    for (name, digits, balance) in BALANCES {
+        check(has_balance(issuer, *digits, *balance)?, *name)?;
+    }
+    check(entries(issuer) == 0, "no order")
+}
+
+fn two_are_read(alloc: Global) -> Result<(), Fail> {
+    compare_two(&issuer_of_two(alloc)?)
+}
+
+fn none_is_read(alloc: Global) -> Result<(), Fail> {
+    let none = issuer_of_none(alloc)?;
+    check(has_balance(&none, b"01", None)?, "no account")
+}
+
 #[test]
 fn accounts_are_read(rt: HostRuntime) -> Result<(), Fail> {
-    let text = b"{\"accounts\":[{\"currency\":\"840\",\"opening\":9000000000000000,\"pan\":\"01\"},
-        {\"opening\":-9000000000000000,\"pan\":\"1\",\"currency\":\"a9Z\"}]}";
-    let issuer = Issuer::new(Accounts::from_json(rt.alloc(), text)?, 2);
-    let most = Some(9_000_000_000_000_000);
-    let least = Some(-9_000_000_000_000_000);
-    for (digits, balance) in [
-        (b"01".as_slice(), most),
-        (b"1", least),
-        (b"001", None),
-        (b"2", None),
-    ] {
-        assert_eq!(rt; balances_of(&issuer, digits)?, (balance, balance));
-    }
-    assert_eq!(rt; entries(&issuer), 0);
-    let none = Accounts::from_json(rt.alloc(), b"{\"accounts\":[]}")?;
-    let none = Issuer::new(none, 1);
-    assert_eq!(rt; balances_of(&none, b"01")?, (None, None));
-    Ok(())
+    two_are_read(rt.alloc())?;
+    none_is_read(rt.alloc())
 }
 
 /// What is wrong with a document; where memory runs out, the test ends.
@@ -30,23 +56,26 @@ fn fault_in(alloc: Global, text: &[u8]) -> Result<Option<AccountsFault>, Fail> {
     }
 }
 
+/// Documents, and what is wrong with them.
+const DOCUMENTS: &[(&str, &[u8], AccountsFault)] = &[
+    ("no text", b"", AccountsFault::NotJson),
+    ("an open bracket", b"{", AccountsFault::NotJson),
+    ("no UTF-8", b"\"\xFF\"", AccountsFault::NotJson),
+    ("an array", b"[]", AccountsFault::Shape),
+    ("no accounts", b"{}", AccountsFault::Shape),
+    (
+        "a member more",
+        b"{\"accounts\":[],\"a\":1}",
+        AccountsFault::Shape,
+    ),
+    ("an object", b"{\"accounts\":{}}", AccountsFault::Shape),
+    ("a number", b"{\"accounts\":[1]}", AccountsFault::Shape),
+];
+
 #[test]
 fn documents_are_refused(rt: HostRuntime) -> Result<(), Fail> {
-    for (name, text, fault) in [
-        ("no text", b"".as_slice(), AccountsFault::NotJson),
-        ("an open bracket", b"{", AccountsFault::NotJson),
-        ("no UTF-8", b"\"\xFF\"", AccountsFault::NotJson),
-        ("an array", b"[]", AccountsFault::Shape),
-        ("no accounts", b"{}", AccountsFault::Shape),
-        (
-            "a member more",
-            b"{\"accounts\":[],\"a\":1}",
-            AccountsFault::Shape,
-        ),
-        ("an object", b"{\"accounts\":{}}", AccountsFault::Shape),
-        ("a number", b"{\"accounts\":[1]}", AccountsFault::Shape),
-    ] {
-        assert_eq!(rt; fault_in(rt.alloc(), text)?, Some(fault), "{name}");
+    for (name, text, fault) in DOCUMENTS {
+        check(fault_in(rt.alloc(), *text)? == Some(*fault), *name)?;
     }
     Ok(())
 }
@@ -75,7 +104,7 @@ const SHAPE: Option<AccountsFault> = Some(AccountsFault::Shape);
 const OUT_OF_RANGE: Option<AccountsFault> = Some(AccountsFault::OutOfRange(0));
 
 /// Documents of one account: its members, and what is wrong with them.
-const MEMBERS: [(&str, &str, &str, &str, Option<AccountsFault>); 20] = [
+const MEMBERS: &[(&str, &str, &str, &str, Option<AccountsFault>)] = &[
     ("an account", "\"1\"", "\"840\"", "5000", None),
     (
         "nineteen nines",
@@ -137,8 +166,8 @@ const MEMBERS: [(&str, &str, &str, &str, Option<AccountsFault>); 20] = [
 #[test]
 fn members_are_judged(rt: HostRuntime) -> Result<(), Fail> {
     for (name, pan, currency, opening, fault) in MEMBERS {
-        let judged = fault_of_members(rt.alloc(), pan, currency, opening)?;
-        assert_eq!(rt; judged, fault, "{name}");
+        let judged = fault_of_members(rt.alloc(), *pan, *currency, *opening)?;
+        check(judged == *fault, *name)?;
     }
     Ok(())
 }
@@ -149,30 +178,47 @@ fn fault_behind(alloc: Global, accounts: &str, later: &str) -> Result<Option<Acc
     fault_of(alloc, accounts.as_str())
 }
 
+const FIRST: &str = "{\"currency\":\"840\",\"opening\":5000,\"pan\":\"1\"}";
+
+const OTHER: &str = "{\"currency\":\"USD\",\"opening\":5000,\"pan\":\"1\"}";
+
+const RICH: &str = "{\"currency\":\"840\",\"opening\":9000000000000001,\"pan\":\"1\"}";
+
+const SECOND: &str = "{\"currency\":\"840\",\"opening\":5000,\"pan\":\"01\"}";
+
+const MISSING: &str = "{\"currency\":\"840\",\"pan\":\"2\"}";
+
+const TWICE: &str =
+    "{\"currency\":\"840\",\"opening\":5000,\"pan\":\"1\"},{\"currency\":\"840\",\"opening\":5000,\"pan\":\"1\"}";
+
+const AGAIN: Option<AccountsFault> = Some(AccountsFault::Twice(1));
+
+const RANGE: Option<AccountsFault> = Some(AccountsFault::OutOfRange(1));
+
+/// Accounts, and what is wrong with a document that has them behind the first account, and behind the first account
+/// twice.
+const LATER: &[(&str, &str, Option<AccountsFault>, Option<AccountsFault>)] = &[
+    ("the same", FIRST, AGAIN, AGAIN),
+    ("another currency", OTHER, AGAIN, AGAIN),
+    ("out of range too", RICH, RANGE, AGAIN),
+    ("another shape", MISSING, SHAPE, SHAPE),
+    ("another number", SECOND, None, AGAIN),
+];
+
+/// Whether an account behind the first one, and behind the first one twice, is judged so.
+fn is_judged(
+    alloc: Global,
+    later: &str,
+    fault: Option<AccountsFault>,
+    before: Option<AccountsFault>,
+) -> Result<bool, Fail> {
+    Ok(fault_behind(alloc, FIRST, later)? == fault && fault_behind(alloc, TWICE, later)? == before)
+}
+
 #[test]
 fn accounts_are_judged_in_order(rt: HostRuntime) -> Result<(), Fail> {
-    let first = "{\"currency\":\"840\",\"opening\":5000,\"pan\":\"1\"}";
-    let other = "{\"currency\":\"USD\",\"opening\":5000,\"pan\":\"1\"}";
-    let rich = "{\"currency\":\"840\",\"opening\":9000000000000001,\"pan\":\"1\"}";
-    let second = "{\"currency\":\"840\",\"opening\":5000,\"pan\":\"01\"}";
-    let missing = "{\"currency\":\"840\",\"pan\":\"2\"}";
-    let twice =
-        "{\"currency\":\"840\",\"opening\":5000,\"pan\":\"1\"},{\"currency\":\"840\",\"opening\":5000,\"pan\":\"1\"}";
-    let again = Some(AccountsFault::Twice(1));
-    let range = Some(AccountsFault::OutOfRange(1));
-    let shape = Some(AccountsFault::Shape);
-    // behind the first account, and behind the first account twice
-    for (name, later, fault, before) in [
-        ("the same", first, again, again),
-        ("another currency", other, again, again),
-        ("out of range too", rich, range, again),
-        ("another shape", missing, shape, shape),
-        ("another number", second, None, again),
-    ] {
-        let judged = fault_behind(rt.alloc(), first, later)?;
-        assert_eq!(rt; judged, fault, "{name}");
-        let judged = fault_behind(rt.alloc(), twice, later)?;
-        assert_eq!(rt; judged, before, "{name}");
+    for (name, later, fault, before) in LATER {
+        check(is_judged(rt.alloc(), *later, *fault, *before)?, *name)?;
     }
     Ok(())
 }

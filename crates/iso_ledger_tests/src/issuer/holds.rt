@@ -53,99 +53,177 @@ const TWO_ACCOUNTS: &[u8] =
 
 #[test]
 fn completions(rt: HostRuntime) -> Result<(), Fail> {
-    let rows = [
-        (Debit(100, 10, 1000), 0, 5000, 4000),
-        (Complete(11, 10, 700), 0, 4300, 4300),
-        (Complete(11, 10, 700), 0, 4300, 4300),
-        (Complete(12, 10, 200), 0, 4100, 4100),
-        (Undo(20, 220, 11, 0), 0, 4800, 4800),
-        (Undo(21, 220, 12, 0), 0, 5000, 4000),
-    ];
-    play(&rt, rt.alloc(), 5000, &rows)
+    play(
+        rt.alloc(),
+        5000,
+        &[
+            ("a hold", Debit(100, 10, 1000), Granted(1), (5000, 4000)),
+            (
+                "its completion",
+                Complete(11, 10, 700),
+                Granted(2),
+                (4300, 4300),
+            ),
+            (
+                "the same again",
+                Complete(11, 10, 700),
+                Granted(2),
+                (4300, 4300),
+            ),
+            (
+                "another completion",
+                Complete(12, 10, 200),
+                Granted(3),
+                (4100, 4100),
+            ),
+            (
+                "the reversal of the first",
+                Undo(20, 220, 11, 0),
+                Granted(4),
+                (4800, 4800),
+            ),
+            (
+                "the reversal of the second",
+                Undo(21, 220, 12, 0),
+                Granted(5),
+                (5000, 4000),
+            ),
+        ],
+    )
 }
 
 #[test]
 fn late_holds(rt: HostRuntime) -> Result<(), Fail> {
-    let rows = [
-        (Complete(11, 10, 700), 0, 4300, 4300),
-        (Debit(100, 10, 1000), 0, 4300, 4300),
-        (Undo(20, 100, 10, 0), 0, 4300, 4300),
-    ];
-    play(&rt, rt.alloc(), 5000, &rows)
+    play(
+        rt.alloc(),
+        5000,
+        &[
+            (
+                "the completion",
+                Complete(11, 10, 700),
+                Granted(1),
+                (4300, 4300),
+            ),
+            ("its hold", Debit(100, 10, 1000), Granted(2), (4300, 4300)),
+            (
+                "the reversal of the hold",
+                Undo(20, 100, 10, 0),
+                Granted(3),
+                (4300, 4300),
+            ),
+        ],
+    )
 }
 
 #[test]
 fn partly_reversed_completions(rt: HostRuntime) -> Result<(), Fail> {
-    let rows = [
-        (Debit(100, 10, 1000), 0, 5000, 4000),
-        (Undo(19, 100, 10, 600), 0, 5000, 4400),
-        (Complete(11, 10, 700), 0, 4300, 4300),
-        (Undo(20, 220, 11, 100), 0, 4900, 4900),
-        (Undo(21, 220, 11, 0), 0, 4900, 4900),
-    ];
-    play(&rt, rt.alloc(), 5000, &rows)
+    play(
+        rt.alloc(),
+        5000,
+        &[
+            ("a hold", Debit(100, 10, 1000), Granted(1), (5000, 4000)),
+            (
+                "a reversal of it that leaves 600",
+                Undo(19, 100, 10, 600),
+                Granted(2),
+                (5000, 4400),
+            ),
+            (
+                "its completion",
+                Complete(11, 10, 700),
+                Granted(3),
+                (4300, 4300),
+            ),
+            (
+                "a reversal of that which leaves 100",
+                Undo(20, 220, 11, 100),
+                Granted(4),
+                (4900, 4900),
+            ),
+            (
+                "a second reversal of that",
+                Undo(21, 220, 11, 0),
+                Granted(5),
+                (4900, 4900),
+            ),
+        ],
+    )
 }
 
-fn compare_ledger(
-    rt: &impl Abort,
-    issuer: &Issuer,
-    digits: &[u8],
-    expected: i64,
-) -> Result<(), Fail> {
+/// Whether that is the ledger of the account of these digits.
+fn has_ledger(issuer: &Issuer, digits: &[u8], expected: i64) -> Result<bool, Fail> {
     let (ledger, _) = balances_of(issuer, digits)?;
-    assert_eq!(rt; ledger, Some(expected));
-    Ok(())
+    Ok(ledger == Some(expected))
 }
+
+fn of_two_accounts(alloc: Global) -> Result<Issuer, Fail> {
+    Ok(Issuer::new(Accounts::from_json(alloc, TWO_ACCOUNTS)?, 100))
+}
+
+/// A hold of one account, and a completion of the other one that names it.
+const HOLD_AND_COMPLETION: &[Step] = &[
+    ("a hold", Debit(100, 10, 1000), Granted(1), (5000, 4000)),
+    (
+        "a completion of the other account",
+        CompleteOf(b"4000000000000002", 11, 10, 700),
+        Granted(2),
+        (5000, 4000),
+    ),
+];
 
 #[test]
 fn completions_of_another_account(rt: HostRuntime) -> Result<(), Fail> {
-    let mut issuer = Issuer::new(Accounts::from_json(rt.alloc(), TWO_ACCOUNTS)?, 100);
-    let completion = CompleteOf(b"4000000000000002", 11, 10, 700);
-    let rows = [
-        (Debit(100, 10, 1000), 0, 5000, 4000),
-        (completion, 0, 5000, 4000),
-    ];
-    play_on(&rt, &mut issuer, &rows)?;
-    compare_ledger(&rt, &issuer, b"4000000000000002", 4300)
+    let mut issuer = of_two_accounts(rt.alloc())?;
+    play_on(&mut issuer, HOLD_AND_COMPLETION)?;
+    check(
+        has_ledger(&issuer, b"4000000000000002", 4300)?,
+        "the ledger of the other account",
+    )
 }
 
 #[test]
 fn a_hold_is_completed_twice_by_bytes(rt: HostRuntime) -> Result<(), Fail> {
-    let day = [
-        ("a hold", HOLD, HELD, 5000, 4000),
-        ("its completion", COMPLETION, COMPLETED, 4300, 4300),
-        ("the same again", COMPLETION_AGAIN, COMPLETED, 4300, 4300),
-        (
-            "another completion",
-            NEXT_COMPLETION,
-            NEXT_COMPLETED,
-            4100,
-            4100,
-        ),
-        ("the reversal of the first", REVERSAL, REVERSED, 4800, 4800),
-        (
-            "the reversal of the second",
-            NEXT_REVERSAL,
-            NEXT_REVERSED,
-            5000,
-            4000,
-        ),
-    ];
-    exchanges(&rt, rt.alloc(), 5000, &day)
+    exchanges(
+        rt.alloc(),
+        5000,
+        &[
+            ("a hold", HOLD, HELD, 5000, 4000),
+            ("its completion", COMPLETION, COMPLETED, 4300, 4300),
+            ("the same again", COMPLETION_AGAIN, COMPLETED, 4300, 4300),
+            (
+                "another completion",
+                NEXT_COMPLETION,
+                NEXT_COMPLETED,
+                4100,
+                4100,
+            ),
+            ("the reversal of the first", REVERSAL, REVERSED, 4800, 4800),
+            (
+                "the reversal of the second",
+                NEXT_REVERSAL,
+                NEXT_REVERSED,
+                5000,
+                4000,
+            ),
+        ],
+    )
 }
 
 #[test]
 fn a_completion_comes_before_its_hold(rt: HostRuntime) -> Result<(), Fail> {
-    let day = [
-        ("the completion", COMPLETION, COMPLETED_FIRST, 4300, 4300),
-        ("its hold", HOLD, HELD_SECOND, 4300, 4300),
-        (
-            "the reversal of the hold",
-            HOLD_REVERSAL,
-            HOLD_REVERSED,
-            4300,
-            4300,
-        ),
-    ];
-    exchanges(&rt, rt.alloc(), 5000, &day)
+    exchanges(
+        rt.alloc(),
+        5000,
+        &[
+            ("the completion", COMPLETION, COMPLETED_FIRST, 4300, 4300),
+            ("its hold", HOLD, HELD_SECOND, 4300, 4300),
+            (
+                "the reversal of the hold",
+                HOLD_REVERSAL,
+                HOLD_REVERSED,
+                4300,
+                4300,
+            ),
+        ],
+    )
 }

@@ -1,9 +1,8 @@
 //! Lists of orders of distinct keys, no two of which reverse one key, and none of which is declined for
 //! want of money: whatever their order, each account ends with the same.
-use super::generated::Draws;
+use super::generated::{Draws, check_codes};
 use super::*;
 use std::collections::BTreeSet;
-use std::process::Abort;
 
 /// Accounts on which is enough for every order.
 const ACCOUNTS: &[u8] =
@@ -11,7 +10,7 @@ const ACCOUNTS: &[u8] =
     {\"currency\":\"840\",\"opening\":8000000,\"pan\":\"01\"},{\"currency\":\"978\",\"opening\":7000000,\"pan\":\"1\"}]}";
 
 /// The numbers of the accounts.
-const NUMBERS: [&[u8]; 3] = [b"4111111111111111", b"01", b"1"];
+const NUMBERS: &[&[u8]] = &[b"4111111111111111", b"01", b"1"];
 
 /// The keys that came, and those that were reversed.
 #[derive(Drop)]
@@ -63,16 +62,20 @@ fn shuffle(draws: &mut Draws, orders: &mut [Order]) {
     }
 }
 
+/// Whether an issuer has entered that many orders.
+fn has_entered(issuer: &Issuer, count: usize) -> bool {
+    entries(issuer) as usize == count
+}
+
+fn issuer_of_three(alloc: Global) -> Result<Issuer, Fail> {
+    Ok(Issuer::new(Accounts::from_json(alloc, ACCOUNTS)?, 999))
+}
+
 /// An issuer that handled the orders, each of which was new, and collects the codes.
-fn handled(
-    rt: &impl Abort,
-    alloc: Global,
-    orders: &[Order],
-    codes: &mut BTreeSet<u8>,
-) -> Result<Issuer, Fail> {
-    let mut issuer = Issuer::new(Accounts::from_json(alloc, ACCOUNTS)?, 999);
+fn handled(alloc: Global, orders: &[Order], codes: &mut BTreeSet<u8>) -> Result<Issuer, Fail> {
+    let mut issuer = issuer_of_three(alloc)?;
     hand_over(&mut issuer, orders, codes)?;
-    assert_eq!(rt; entries(&issuer) as usize, orders.len());
+    check(has_entered(&issuer, orders.len()), "each order is entered")?;
     Ok(issuer)
 }
 
@@ -84,49 +87,68 @@ fn hand_over(issuer: &mut Issuer, orders: &[Order], codes: &mut BTreeSet<u8>) ->
     Ok(())
 }
 
+/// Ends the test with the list, unless it is so.
+fn check_list(is_so: bool, list: u64) -> Result<(), Fail> {
+    if is_so {
+        Ok(())
+    } else {
+        Err(Fail::new(format_args!("list {list}")))
+    }
+}
+
+/// Whether both have the account of these digits, and the same on it.
+fn have_the_same(one: &Issuer, other: &Issuer, digits: &[u8]) -> Result<bool, Fail> {
+    let (ledger, available) = balances_of(one, digits)?;
+    Ok(ledger.is_some() && (ledger, available) == balances_of(other, digits)?)
+}
+
 /// Compares what is on each account.
-fn tell_the_same(rt: &impl Abort, one: &Issuer, other: &Issuer, name: u64) -> Result<(), Fail> {
+fn tell_the_same(one: &Issuer, other: &Issuer, list: u64) -> Result<(), Fail> {
     for digits in NUMBERS {
-        let (ledger, available) = balances_of(one, digits)?;
-        assert!(rt; ledger.is_some());
-        assert_eq!(rt;
-            (ledger, available),
-            balances_of(other, digits)?,
-            "list {name}"
-        );
+        check_list(have_the_same(one, other, *digits)?, list)?;
     }
     Ok(())
 }
 
-/// Hands over a list, and then the same list in three other orders.
-fn compare(
-    rt: &impl Abort,
+/// Hands over the list in another order, and compares what is on each account.
+fn compare_shuffled(
     alloc: Global,
-    list: u64,
+    first: &Issuer,
+    draws: &mut Draws,
+    orders: &mut [Order],
     codes: &mut BTreeSet<u8>,
+    list: u64,
 ) -> Result<(), Fail> {
+    shuffle(draws, orders);
+    let other = handled(alloc, orders, codes)?;
+    tell_the_same(first, &other, list)
+}
+
+/// Hands over a list, and then the same list in three other orders.
+fn compare(alloc: Global, list: u64, codes: &mut BTreeSet<u8>) -> Result<(), Fail> {
     let mut draws = Draws::new(list, 200);
     let mut orders = distinct(alloc, &mut draws)?;
-    assert!(rt; orders.len() >= 250, "list {list}");
-    let first = handled(rt, alloc, &orders, codes)?;
+    check_list(orders.len() >= 250, list)?;
+    let first = handled(alloc, &orders, codes)?;
     for _ in 0..3 {
-        shuffle(&mut draws, &mut orders);
-        let other = handled(rt, alloc, &orders, codes)?;
-        tell_the_same(rt, &first, &other, list)?;
+        compare_shuffled(alloc, &first, &mut draws, &mut orders, codes, list)?;
     }
     Ok(())
+}
+
+/// Hands over eight lists, and tells the codes.
+fn codes_of_lists(alloc: Global) -> Result<BTreeSet<u8>, Fail> {
+    let mut codes = BTreeSet::new(alloc);
+    for list in 1..9 {
+        compare(alloc, list, &mut codes)?;
+    }
+    Ok(codes)
 }
 
 #[test]
 fn reordered_lists(rt: HostRuntime) -> Result<(), Fail> {
-    let mut codes = BTreeSet::new(rt.alloc());
-    for list in 1..9 {
-        compare(&rt, rt.alloc(), list, &mut codes)?;
-    }
+    let codes = codes_of_lists(rt.alloc())?;
     // Some came after the reversal that takes them back, and none was declined for want of money.
-    for code in [0, 12, 14, 21] {
-        assert!(rt; codes.contains(&code), "{code}");
-    }
-    assert_eq!(rt; codes.len(), 4);
-    Ok(())
+    check_codes(&codes, &[0, 12, 14, 21])?;
+    check(codes.len() == 4, "four codes")
 }

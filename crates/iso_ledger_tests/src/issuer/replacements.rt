@@ -31,57 +31,105 @@ const NEXT_REVERSED: &[u8] =
 
 #[test]
 fn partial_reversal_of_a_payment(rt: HostRuntime) -> Result<(), Fail> {
-    let rows = [
-        (Debit(200, 7, 1000), 0, 4000, 4000),
-        (Undo(8, 200, 7, 400), 0, 4600, 4600),
-        (Undo(9, 200, 7, 0), 0, 4600, 4600),
-    ];
-    play(&rt, rt.alloc(), 5000, &rows)
+    play(
+        rt.alloc(),
+        5000,
+        &[
+            ("a payment", Debit(200, 7, 1000), Granted(1), (4000, 4000)),
+            (
+                "its partial reversal",
+                Undo(8, 200, 7, 400),
+                Granted(2),
+                (4600, 4600),
+            ),
+            ("a later one", Undo(9, 200, 7, 0), Granted(3), (4600, 4600)),
+        ],
+    )
 }
 
-/// A partial reversal that leaves 400, and then its payment of 1000, which has this code.
-fn early(rt: &impl Abort, alloc: Global, opening: i64, code: u8, left: i64) -> Result<(), Fail> {
-    let rows = [
-        (Undo(8, 200, 7, 400), 0, opening, opening),
-        (Debit(200, 7, 1000), code, left, left),
-    ];
-    play(rt, alloc, opening, &rows)
+/// A partial reversal that leaves 400, and then its payment of 1000, which is told this and leaves that.
+fn early(alloc: Global, opening: i64, told: Told, left: i64) -> Result<(), Fail> {
+    play(
+        alloc,
+        opening,
+        &[
+            (
+                "the partial reversal",
+                Undo(8, 200, 7, 400),
+                Granted(1),
+                (opening, opening),
+            ),
+            ("its payment", Debit(200, 7, 1000), told, (left, left)),
+        ],
+    )
 }
 
 #[test]
 fn early_partial_reversals(rt: HostRuntime) -> Result<(), Fail> {
-    early(&rt, rt.alloc(), 5000, 0, 4600)?;
-    early(&rt, rt.alloc(), 500, 0, 100)?;
-    early(&rt, rt.alloc(), 300, 51, 300)
+    early(rt.alloc(), 5000, Granted(2), 4600)?;
+    early(rt.alloc(), 500, Granted(2), 100)?;
+    early(rt.alloc(), 300, Declined(51, 2), 300)
+}
+
+/// A payment comes, and then its reversals.
+fn late_by_bytes(alloc: Global) -> Result<(), Fail> {
+    exchanges(
+        alloc,
+        5000,
+        &[
+            ("a payment", PAYMENT, GRANTED, 4000, 4000),
+            ("its partial reversal", LEAVES_400, REVERSED, 4600, 4600),
+            ("a later one", NEXT_REVERSAL, NEXT_REVERSED, 4600, 4600),
+        ],
+    )
+}
+
+/// The reversal comes before its payment.
+fn early_by_bytes(alloc: Global) -> Result<(), Fail> {
+    exchanges(
+        alloc,
+        5000,
+        &[
+            ("the partial reversal", LEAVES_400, REVERSED, 5000, 5000),
+            ("its payment", PAYMENT, GRANTED_SECOND, 4600, 4600),
+        ],
+    )
+}
+
+/// The reversal leaves more than the payment.
+fn above_by_bytes(alloc: Global) -> Result<(), Fail> {
+    exchanges(
+        alloc,
+        5000,
+        &[
+            ("a payment", PAYMENT, GRANTED, 4000, 4000),
+            ("a replacement above it", LEAVES_2000, REVERSED, 4000, 4000),
+        ],
+    )
+}
+
+/// The reversal leaves nothing.
+fn none_by_bytes(alloc: Global) -> Result<(), Fail> {
+    exchanges(
+        alloc,
+        5000,
+        &[
+            ("a payment", PAYMENT, GRANTED, 4000, 4000),
+            (
+                "a replacement of nothing",
+                LEAVES_NOTHING,
+                REVERSED,
+                5000,
+                5000,
+            ),
+        ],
+    )
 }
 
 #[test]
 fn partial_reversals_by_bytes(rt: HostRuntime) -> Result<(), Fail> {
-    let late = [
-        ("a payment", PAYMENT, GRANTED, 4000, 4000),
-        ("its partial reversal", LEAVES_400, REVERSED, 4600, 4600),
-        ("a later one", NEXT_REVERSAL, NEXT_REVERSED, 4600, 4600),
-    ];
-    exchanges(&rt, rt.alloc(), 5000, &late)?;
-    let early = [
-        ("the partial reversal", LEAVES_400, REVERSED, 5000, 5000),
-        ("its payment", PAYMENT, GRANTED_SECOND, 4600, 4600),
-    ];
-    exchanges(&rt, rt.alloc(), 5000, &early)?;
-    let above = [
-        ("a payment", PAYMENT, GRANTED, 4000, 4000),
-        ("a replacement above it", LEAVES_2000, REVERSED, 4000, 4000),
-    ];
-    exchanges(&rt, rt.alloc(), 5000, &above)?;
-    let none = [
-        ("a payment", PAYMENT, GRANTED, 4000, 4000),
-        (
-            "a replacement of nothing",
-            LEAVES_NOTHING,
-            REVERSED,
-            5000,
-            5000,
-        ),
-    ];
-    exchanges(&rt, rt.alloc(), 5000, &none)
+    late_by_bytes(rt.alloc())?;
+    early_by_bytes(rt.alloc())?;
+    above_by_bytes(rt.alloc())?;
+    none_by_bytes(rt.alloc())
 }

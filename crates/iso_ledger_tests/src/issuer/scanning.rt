@@ -43,7 +43,12 @@ impl Scanning {
     }
 
     fn account(&self, pan: Pan) -> Option<Listed> {
-        self.accounts.iter().copied().find(|a| a.pan == pan)
+        for account in &self.accounts {
+            if account.pan == pan {
+                return Some(*account);
+            }
+        }
+        None
     }
 
     /// What the first reversal of a key leaves.
@@ -83,28 +88,44 @@ impl Scanning {
         false
     }
 
+    /// The amount of an entry, less what is taken back of it.
+    fn moved(&self, kept: Kept) -> i64 {
+        match kept.order.act() {
+            Act::Debit(money) | Act::Credit(money) | Act::Inquiry(money) => {
+                self.amount(kept.order.key(), money.amount) as i64
+            }
+            Act::Complete { money, .. } => self.amount(kept.order.key(), money.amount) as i64,
+            Act::Undo { .. } => 0,
+        }
+    }
+
+    /// What a granted entry adds to the ledger of an account, and what it holds of it.
+    fn effect(&self, kept: Kept, pan: Pan) -> (i64, i64) {
+        let key = kept.order.key();
+        match kept.order.act() {
+            Act::Credit(money) if money.pan == pan => (self.moved(kept), 0),
+            Act::Complete { money, .. } if money.pan == pan => {
+                (0i64.wrapping_sub(self.moved(kept)), 0)
+            }
+            Act::Debit(money) if money.pan == pan && key.class() == 2 => {
+                (0i64.wrapping_sub(self.moved(kept)), 0)
+            }
+            Act::Debit(money) if money.pan == pan && !self.is_completed(key, pan) => {
+                (0, self.moved(kept))
+            }
+            _ => (0, 0),
+        }
+    }
+
     /// The ledger of an account, and what is available.
     pub fn balances(&self, pan: Pan) -> Option<(i64, i64)> {
         let mut ledger = self.account(pan)?.opening;
         let mut held = 0i64;
         for kept in &self.journal {
-            let key = kept.order.key();
             if self.is_granted(*kept) {
-                match kept.order.act() {
-                    Act::Credit(money) if money.pan == pan => {
-                        ledger = ledger.wrapping_add(self.amount(key, money.amount) as i64);
-                    }
-                    Act::Complete { money, .. } if money.pan == pan => {
-                        ledger = ledger.wrapping_sub(self.amount(key, money.amount) as i64);
-                    }
-                    Act::Debit(money) if money.pan == pan && key.class() == 2 => {
-                        ledger = ledger.wrapping_sub(self.amount(key, money.amount) as i64);
-                    }
-                    Act::Debit(money) if money.pan == pan && !self.is_completed(key, pan) => {
-                        held = held.wrapping_add(self.amount(key, money.amount) as i64);
-                    }
-                    _ => {}
-                }
+                let (added, more) = self.effect(*kept, pan);
+                ledger = ledger.wrapping_add(added);
+                held = held.wrapping_add(more);
             }
         }
         Some((ledger, ledger.wrapping_sub(held)))
@@ -142,24 +163,40 @@ impl Scanning {
         }
     }
 
-    pub fn handle(&mut self, order: Order) -> Result<Told, Refused> {
-        let key = order.key();
-        if let Some(kept) = self.journal.iter().copied().find(|k| k.order.key() == key) {
-            return Ok(if kept.order == order {
-                kept.told
-            } else {
-                (94, 0, None)
-            });
+    /// What was entered under a key.
+    fn kept(&self, key: TxKey) -> Option<Kept> {
+        for kept in &self.journal {
+            if kept.order.key() == key {
+                return Some(*kept);
+            }
         }
+        None
+    }
+
+    /// What is told of an order of a new key.
+    fn told(&self, order: Order) -> Told {
+        let code = self.code(order);
+        let shown = if code == 0 { self.shown(order) } else { None };
+        (code, self.journal.len().saturating_add(1), shown)
+    }
+
+    /// Enters an order of a new key.
+    fn enter(&mut self, order: Order) -> Result<Told, Refused> {
         if self.journal.len() >= self.limit {
             return Err(Refused::Full);
         }
-        let code = self.code(order);
-        let shown = if code == 0 { self.shown(order) } else { None };
-        let told = (code, self.journal.len().saturating_add(1), shown);
+        let told = self.told(order);
         match self.journal.push(Kept { order, told }) {
             Ok(()) => Ok(told),
             Err(_) => Err(Refused::Memory),
+        }
+    }
+
+    pub fn handle(&mut self, order: Order) -> Result<Told, Refused> {
+        match self.kept(order.key()) {
+            Some(kept) if kept.order == order => Ok(kept.told),
+            Some(_) => Ok((94, 0, None)),
+            None => self.enter(order),
         }
     }
 }

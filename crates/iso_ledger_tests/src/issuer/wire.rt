@@ -123,103 +123,107 @@ fn is_answered_by(
     Ok(bytes.as_slice() == response)
 }
 
-fn is_left(issuer: &Issuer, ledger: i64, available: i64) -> Result<bool, Fail> {
-    Ok(balances(issuer)? == (Some(ledger), Some(available)))
+fn is_on_account(issuer: &Issuer, ledger: i64, available: i64) -> Result<bool, Fail> {
+    Ok(is_left(balances(issuer)?, ledger, available))
 }
 
-pub fn exchanges(
-    rt: &impl Abort,
-    alloc: Global,
-    opening: i64,
-    day: &[Exchange],
-) -> Result<(), Fail> {
+/// Hands each request to an issuer that never was asked before.
+pub fn exchanges(alloc: Global, opening: i64, day: &[Exchange]) -> Result<(), Fail> {
     let table = Table::ascii87(alloc)?;
     let mut issuer = issuer(alloc, opening, 999_999)?;
-    exchange_all(rt, alloc, &table, &mut issuer, day)
+    exchange_all(alloc, &table, &mut issuer, day)
 }
 
 /// Hands each request to an issuer, and compares its response and what is on the account.
 fn exchange_all(
-    rt: &impl Abort,
     alloc: Global,
     table: &Table,
     issuer: &mut Issuer,
     day: &[Exchange],
 ) -> Result<(), Fail> {
     for (name, request, response, ledger, available) in day {
-        assert!(rt;
+        check(
             is_answered_by(alloc, table, issuer, *request, *response)?,
-            "{name}"
-        );
-        assert!(rt; is_left(issuer, *ledger, *available)?, "{name}");
+            *name,
+        )?;
+        check(is_on_account(issuer, *ledger, *available)?, *name)?;
     }
     Ok(())
 }
 
 #[test]
 fn a_payment_its_repeats_and_its_reversal(rt: HostRuntime) -> Result<(), Fail> {
-    let day = [
-        ("a payment", PAYMENT, GRANTED, 4000, 4000),
-        ("its repeat", PAYMENT_AGAIN, GRANTED, 4000, 4000),
-        (
-            "another amount under its key",
-            PAYMENT_OF_MORE,
-            ANOTHER_ORDER,
-            4000,
-            4000,
-        ),
-        ("an inquiry", INQUIRY, BALANCE, 4000, 4000),
-        ("its reversal", REVERSAL, REVERSED, 5000, 5000),
-        (
-            "its repeat, once it is reversed",
-            PAYMENT_AGAIN,
-            GRANTED,
-            5000,
-            5000,
-        ),
-        ("the inquiry again", INQUIRY, BALANCE, 5000, 5000),
-        (
-            "another reversal of it",
-            NEXT_REVERSAL,
-            NEXT_REVERSED,
-            5000,
-            5000,
-        ),
-    ];
-    exchanges(&rt, rt.alloc(), 5000, &day)
+    exchanges(
+        rt.alloc(),
+        5000,
+        &[
+            ("a payment", PAYMENT, GRANTED, 4000, 4000),
+            ("its repeat", PAYMENT_AGAIN, GRANTED, 4000, 4000),
+            (
+                "another amount under its key",
+                PAYMENT_OF_MORE,
+                ANOTHER_ORDER,
+                4000,
+                4000,
+            ),
+            ("an inquiry", INQUIRY, BALANCE, 4000, 4000),
+            ("its reversal", REVERSAL, REVERSED, 5000, 5000),
+            (
+                "its repeat, once it is reversed",
+                PAYMENT_AGAIN,
+                GRANTED,
+                5000,
+                5000,
+            ),
+            ("the inquiry again", INQUIRY, BALANCE, 5000, 5000),
+            (
+                "another reversal of it",
+                NEXT_REVERSAL,
+                NEXT_REVERSED,
+                5000,
+                5000,
+            ),
+        ],
+    )
 }
 
 #[test]
 fn a_reversal_before_its_payment(rt: HostRuntime) -> Result<(), Fail> {
-    let day = [
-        ("the reversal", REVERSAL, REVERSED, 5000, 5000),
-        ("the payment", PAYMENT, UNDONE_BEFORE, 5000, 5000),
-        ("the reversal again", REVERSAL_AGAIN, REVERSED, 5000, 5000),
-        (
-            "the payment again",
-            PAYMENT_AGAIN,
-            UNDONE_BEFORE,
-            5000,
-            5000,
-        ),
-    ];
-    exchanges(&rt, rt.alloc(), 5000, &day)
+    exchanges(
+        rt.alloc(),
+        5000,
+        &[
+            ("the reversal", REVERSAL, REVERSED, 5000, 5000),
+            ("the payment", PAYMENT, UNDONE_BEFORE, 5000, 5000),
+            ("the reversal again", REVERSAL_AGAIN, REVERSED, 5000, 5000),
+            (
+                "the payment again",
+                PAYMENT_AGAIN,
+                UNDONE_BEFORE,
+                5000,
+                5000,
+            ),
+        ],
+    )
 }
 
 #[test]
 fn a_hold_and_an_advice(rt: HostRuntime) -> Result<(), Fail> {
-    let day = [
-        ("a hold", HOLD, HELD, 100, 30),
-        ("a debit over what is available", DEBIT, TOO_MUCH, 100, 30),
-        (
-            "the hold's reversal",
-            HOLD_REVERSAL,
-            HOLD_REVERSED,
-            100,
-            100,
-        ),
-        ("an advice", ADVICE, ADVISED, -50, -50),
-        ("an inquiry", LATE_INQUIRY, LATE_BALANCE, -50, -50),
-    ];
-    exchanges(&rt, rt.alloc(), 100, &day)
+    exchanges(
+        rt.alloc(),
+        100,
+        &[
+            ("a hold", HOLD, HELD, 100, 30),
+            ("a debit over what is available", DEBIT, TOO_MUCH, 100, 30),
+            (
+                "the hold's reversal",
+                HOLD_REVERSAL,
+                HOLD_REVERSED,
+                100,
+                100,
+            ),
+            ("an advice", ADVICE, ADVISED, -50, -50),
+            ("an inquiry", LATE_INQUIRY, LATE_BALANCE, -50, -50),
+        ],
+    )
 }

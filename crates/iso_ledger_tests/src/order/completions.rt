@@ -2,24 +2,27 @@
 
 use super::Change::{Nothing, Set, Without};
 use super::{ACCOUNT, Asked, Change, Does, asks, changed};
+use iso_fakes::check;
 use iso_order::TxKey;
 use iso_wire::Message;
 use std::alloc::Global;
 use std::test::Fail;
 
+/// The elements of a completion of 7.00.
+const COMPLETION: &[(u8, &'static [u8])] = &[
+    (2, ACCOUNT),
+    (3, b"000000"),
+    (4, b"000000000700"),
+    (7, b"0102030700"),
+    (11, b"000011"),
+    (32, b"12345"),
+    (49, b"840"),
+    (90, b"010000001001020304050000001234500000000000"),
+];
+
 /// A completion of 7.00, but for the change.
 fn completion(alloc: Global, mti: u16, change: Change) -> Result<Message, Fail> {
-    let elements: [(u8, &[u8]); 8] = [
-        (2, ACCOUNT),
-        (3, b"000000"),
-        (4, b"000000000700"),
-        (7, b"0102030700"),
-        (11, b"000011"),
-        (32, b"12345"),
-        (49, b"840"),
-        (90, b"010000001001020304050000001234500000000000"),
-    ];
-    changed(alloc, mti, &elements, change)
+    changed(alloc, mti, COMPLETION, change)
 }
 
 /// What a completion asks: a debit by a message of that type, the completion of the hold of that type, or an answer.
@@ -62,100 +65,95 @@ fn is_asked(alloc: Global, mti: u16, change: Change, expected: Asks) -> Result<b
     asks(&made, asked(expected))
 }
 
-fn good_completions() -> [(&'static str, u16, Change, Asks); 6] {
-    [
-        ("as it stands", 220, Nothing, Asks::Complete(100)),
-        ("a repeat", 221, Nothing, Asks::Complete(100)),
-        (
-            "the repeat of a hold",
-            220,
-            Set(90, b"010100001001020304050000001234500000000000"),
-            Asks::Complete(100),
-        ),
-        (
-            "an advice that holds",
-            220,
-            Set(90, b"012000001001020304050000001234500000000000"),
-            Asks::Complete(120),
-        ),
-        (
-            "no acquirer named",
-            220,
-            Set(90, b"010000001001020304050000000000000000000000"),
-            Asks::Complete(100),
-        ),
-        ("without element 90", 220, Without(90), Asks::Debit(220)),
-    ]
-}
+const GOOD_COMPLETIONS: &[(&'static str, u16, Change, Asks)] = &[
+    ("as it stands", 220, Nothing, Asks::Complete(100)),
+    ("a repeat", 221, Nothing, Asks::Complete(100)),
+    (
+        "the repeat of a hold",
+        220,
+        Set(90, b"010100001001020304050000001234500000000000"),
+        Asks::Complete(100),
+    ),
+    (
+        "an advice that holds",
+        220,
+        Set(90, b"012000001001020304050000001234500000000000"),
+        Asks::Complete(120),
+    ),
+    (
+        "no acquirer named",
+        220,
+        Set(90, b"010000001001020304050000000000000000000000"),
+        Asks::Complete(100),
+    ),
+    ("without element 90", 220, Without(90), Asks::Debit(220)),
+];
 
 #[test]
 fn completions(rt: HostRuntime) -> Result<(), Fail> {
-    for (name, mti, change, asked) in &good_completions() {
-        assert!(rt; is_asked(rt.alloc(), *mti, *change, *asked)?, "{name}");
+    for (name, mti, change, asked) in GOOD_COMPLETIONS {
+        check(is_asked(rt.alloc(), *mti, *change, *asked)?, *name)?;
     }
     Ok(())
 }
 
-fn bad_completions() -> [(&'static str, Change, u8); 11] {
-    [
-        (
-            "41 digits",
-            Set(90, b"01000000100102030405000000123450000000000"),
-            30,
-        ),
-        (
-            "a letter",
-            Set(90, b"010000001001020304050000001234500000000A00"),
-            30,
-        ),
-        (
-            "a purchase is no hold",
-            Set(90, b"020000001001020304050000001234500000000000"),
-            12,
-        ),
-        (
-            "a response is no hold",
-            Set(90, b"011000001001020304050000001234500000000000"),
-            12,
-        ),
-        (
-            "an origin above 5",
-            Set(90, b"010600001001020304050000001234500000000000"),
-            12,
-        ),
-        (
-            "another version",
-            Set(90, b"110000001001020304050000001234500000000000"),
-            12,
-        ),
-        (
-            "another acquirer",
-            Set(90, b"010000001001020304050000005432100000000000"),
-            12,
-        ),
-        ("a return completes nothing", Set(3, b"200000"), 12),
-        ("a deposit completes nothing", Set(3, b"210000"), 12),
-        ("no amount", Without(4), 30),
-        ("an amount of zero", Set(4, b"000000000000"), 13),
-    ]
-}
+const BAD_COMPLETIONS: &[(&'static str, Change, u8)] = &[
+    (
+        "41 digits",
+        Set(90, b"01000000100102030405000000123450000000000"),
+        30,
+    ),
+    (
+        "a letter",
+        Set(90, b"010000001001020304050000001234500000000A00"),
+        30,
+    ),
+    (
+        "a purchase is no hold",
+        Set(90, b"020000001001020304050000001234500000000000"),
+        12,
+    ),
+    (
+        "a response is no hold",
+        Set(90, b"011000001001020304050000001234500000000000"),
+        12,
+    ),
+    (
+        "an origin above 5",
+        Set(90, b"010600001001020304050000001234500000000000"),
+        12,
+    ),
+    (
+        "another version",
+        Set(90, b"110000001001020304050000001234500000000000"),
+        12,
+    ),
+    (
+        "another acquirer",
+        Set(90, b"010000001001020304050000005432100000000000"),
+        12,
+    ),
+    ("a return completes nothing", Set(3, b"200000"), 12),
+    ("a deposit completes nothing", Set(3, b"210000"), 12),
+    ("no amount", Without(4), 30),
+    ("an amount of zero", Set(4, b"000000000000"), 13),
+];
 
 #[test]
 fn refused_completions(rt: HostRuntime) -> Result<(), Fail> {
-    for (name, change, code) in &bad_completions() {
-        assert!(rt;
+    for (name, change, code) in BAD_COMPLETIONS {
+        check(
             is_asked(rt.alloc(), 220, *change, Asks::Reply(*code))?,
-            "{name}"
-        );
+            *name,
+        )?;
     }
     Ok(())
 }
 
 #[test]
 fn a_request_names_no_hold(rt: HostRuntime) -> Result<(), Fail> {
-    assert!(rt;
+    check(
         is_asked(rt.alloc(), 200, Nothing, Asks::Debit(200))?,
-        "a debit"
-    );
-    Ok(())
+        "a debit",
+    )
 }

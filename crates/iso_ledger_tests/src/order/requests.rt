@@ -1,77 +1,80 @@
 //! The messages that ask for orders.
 
-use super::{ACCOUNT, Does, key, order};
+use super::{ACCOUNT, Does, order};
+use iso_fakes::check;
 use iso_order::{Order, TxKey, request};
 use iso_table::Table;
 use iso_wire::{Message, pack};
 use std::alloc::Global;
-use std::process::Abort;
 use std::test::Fail;
 
 /// The key of another message of the acquirer.
-const fn other_key(base: u16, stan: u32, sent: u64) -> TxKey {
-    TxKey {
-        base,
-        stan,
-        sent,
-        acquirer: 12_345,
-    }
+macro_rules! other_key {
+    ($base:expr, $stan:expr, $sent:expr) => {
+        TxKey {
+            base: $base,
+            stan: $stan,
+            sent: $sent,
+            acquirer: 12_345,
+        }
+    };
 }
 
 /// An order that a message asks for, and the bytes of the message.
 type Request = (&'static str, TxKey, Does, &'static [u8]);
 
-fn plain_payments() -> [Request; 7] {
-    let spent = Does::Debit(ACCOUNT, 1000, *b"840");
-    let nobody = TxKey {
-        acquirer: 0,
-        ..key(200)
-    };
-    [
-        (
-            "a purchase",
-            key(200),
-            spent,
-            b"0200722000010000800016411111111111111100000000000000100001020304050000070512345840",
-        ),
-        (
-            "a return",
-            key(200),
-            Does::Credit(ACCOUNT, 1000, *b"840"),
-            b"0200722000010000800016411111111111111120000000000000100001020304050000070512345840",
-        ),
-        (
-            "a balance inquiry",
-            other_key(200, 9, 102_030_600),
-            Does::Inquiry(ACCOUNT, 0, *b"840"),
-            b"0200622000010000800016411111111111111131000001020306000000090512345840",
-        ),
-        (
-            "a hold",
-            other_key(100, 10, 102_030_405),
-            spent,
-            b"0100722000010000800016411111111111111100000000000000100001020304050000100512345840",
-        ),
-        (
-            "an advice of another origin",
-            key(222),
-            spent,
-            b"0222722000010000800016411111111111111100000000000000100001020304050000070512345840",
-        ),
-        (
-            "no acquirer",
-            nobody,
-            spent,
-            b"020072200001000080001641111111111111110000000000000010000102030405000007010840",
-        ),
-        (
-            "an account number with a zero before it, in letters",
-            key(200),
-            Does::Debit(b"01", 999_999_999_999, *b"USD"),
-            b"02007220000100008000020100000099999999999901020304050000070512345USD",
-        ),
-    ]
-}
+const SPENT: Does = Does::Debit(ACCOUNT, 1000, *b"840");
+
+/// The key of a payment without an acquirer.
+const NOBODY: TxKey = TxKey {
+    acquirer: 0,
+    ..key!(200)
+};
+
+const PLAIN_PAYMENTS: &[Request] = &[
+    (
+        "a purchase",
+        key!(200),
+        SPENT,
+        b"0200722000010000800016411111111111111100000000000000100001020304050000070512345840",
+    ),
+    (
+        "a return",
+        key!(200),
+        Does::Credit(ACCOUNT, 1000, *b"840"),
+        b"0200722000010000800016411111111111111120000000000000100001020304050000070512345840",
+    ),
+    (
+        "a balance inquiry",
+        other_key!(200, 9, 102_030_600),
+        Does::Inquiry(ACCOUNT, 0, *b"840"),
+        b"0200622000010000800016411111111111111131000001020306000000090512345840",
+    ),
+    (
+        "a hold",
+        other_key!(100, 10, 102_030_405),
+        SPENT,
+        b"0100722000010000800016411111111111111100000000000000100001020304050000100512345840",
+    ),
+    (
+        "an advice of another origin",
+        key!(222),
+        SPENT,
+        b"0222722000010000800016411111111111111100000000000000100001020304050000070512345840",
+    ),
+    (
+        "no acquirer",
+        NOBODY,
+        SPENT,
+        b"020072200001000080001641111111111111110000000000000010000102030405000007010840",
+    ),
+    (
+        "an account number with a zero before it, in letters",
+        key!(200),
+        Does::Debit(b"01", 999_999_999_999, *b"USD"),
+        b"02007220000100008000020100000099999999999901020304050000070512345USD",
+    ),
+];
 
 fn message_for(alloc: Global, order: &Order) -> Result<Message, Fail> {
     Ok(request(alloc, order)?)
@@ -96,46 +99,47 @@ fn is_request(
 }
 
 /// Compares the message for each order with its bytes.
-fn compare(rt: &impl Abort, alloc: Global, requests: &[Request]) -> Result<(), Fail> {
+fn compare(alloc: Global, requests: &[Request]) -> Result<(), Fail> {
     let table = Table::ascii87(alloc)?;
     for (name, key, does, want) in requests {
-        assert!(rt; is_request(alloc, &table, *key, *does, *want)?, "{name}");
+        check(is_request(alloc, &table, *key, *does, *want)?, *name)?;
     }
     Ok(())
 }
 
 #[test]
 fn payments(rt: HostRuntime) -> Result<(), Fail> {
-    compare(&rt, rt.alloc(), &plain_payments())
+    compare(rt.alloc(), PLAIN_PAYMENTS)
 }
 
-fn later_orders() -> [Request; 3] {
-    let reversal = other_key(420, 8, 102_030_500);
-    let hold = other_key(100, 10, 102_030_405);
-    let completion = Does::Complete(ACCOUNT, 700, *b"840", hold);
-    [
-        (
-            "a reversal",
-            reversal,
-            Does::Undo(key(200), 0),
-            b"04208220000100000000000000400000000001020305000000080512345020000000701020304050000001234500000000000",
-        ),
-        (
-            "a reversal that leaves a part",
-            reversal,
-            Does::Undo(key(200), 400),
-            b"04208220000100000000000000420000000001020305000000080512345020000000701020304050000001234500000000000000000000400000000000000D00000000D00000000",
-        ),
-        (
-            "a completion",
-            other_key(220, 11, 102_030_700),
-            completion,
-            b"0220F220000100008000000000400000000016411111111111111100000000000000070001020307000000110512345840010000001001020304050000001234500000000000",
-        ),
-    ]
-}
+const REVERSAL: TxKey = other_key!(420, 8, 102_030_500);
+
+const HOLD: TxKey = other_key!(100, 10, 102_030_405);
+
+const COMPLETION: Does = Does::Complete(ACCOUNT, 700, *b"840", HOLD);
+
+const LATER_ORDERS: &[Request] = &[
+    (
+        "a reversal",
+        REVERSAL,
+        Does::Undo(key!(200), 0),
+        b"04208220000100000000000000400000000001020305000000080512345020000000701020304050000001234500000000000",
+    ),
+    (
+        "a reversal that leaves a part",
+        REVERSAL,
+        Does::Undo(key!(200), 400),
+        b"04208220000100000000000000420000000001020305000000080512345020000000701020304050000001234500000000000000000000400000000000000D00000000D00000000",
+    ),
+    (
+        "a completion",
+        other_key!(220, 11, 102_030_700),
+        COMPLETION,
+        b"0220F220000100008000000000400000000016411111111111111100000000000000070001020307000000110512345840010000001001020304050000001234500000000000",
+    ),
+];
 
 #[test]
 fn orders_that_name_another(rt: HostRuntime) -> Result<(), Fail> {
-    compare(&rt, rt.alloc(), &later_orders())
+    compare(rt.alloc(), LATER_ORDERS)
 }

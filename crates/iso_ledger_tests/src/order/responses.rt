@@ -1,6 +1,7 @@
 //! The responses that messages get.
 
 use super::{Change, message, payment};
+use iso_fakes::{check, check_of};
 use iso_order::{Act, Answer, Verdict, order_of, respond, respond_into};
 use iso_wire::Message;
 use std::alloc::Global;
@@ -32,112 +33,115 @@ struct Case {
     answered: &'static [(u8, &'static [u8])],
 }
 
-fn cases() -> [Case; 4] {
-    [
-        Case {
-            name: "granted",
-            mti: 201,
-            asked: &[
-                (2, b"4111111111111111"),
-                (3, b"000000"),
-                (4, b"000000001000"),
-                (7, b"0102030405"),
-                (11, b"000007"),
-                (32, b"12345"),
-                (49, b"840"),
-            ],
-            code: 0,
-            seq: 1,
-            response: 210,
-            answered: &[
-                (2, b"4111111111111111"),
-                (3, b"000000"),
-                (4, b"000000001000"),
-                (7, b"0102030405"),
-                (11, b"000007"),
-                (32, b"12345"),
-                (38, b"000001"),
-                (39, b"00"),
-                (49, b"840"),
-            ],
-        },
-        Case {
-            name: "declined",
-            mti: 100,
-            asked: &[
-                (2, b"4111111111111111"),
-                (3, b"000000"),
-                (4, b"000000001000"),
-                (7, b"0102030405"),
-                (11, b"000007"),
-                (14, b"0130"),
-                (32, b"12345"),
-                (41, b"TERM1"),
-                (49, b"840"),
-            ],
-            code: 51,
-            seq: 2,
-            response: 110,
-            answered: &[
-                (2, b"4111111111111111"),
-                (3, b"000000"),
-                (4, b"000000001000"),
-                (7, b"0102030405"),
-                (11, b"000007"),
-                (32, b"12345"),
-                (39, b"51"),
-                (41, b"TERM1"),
-                (49, b"840"),
-            ],
-        },
-        Case {
-            name: "reversed",
-            mti: 420,
-            asked: &[
-                (7, b"0102030500"),
-                (11, b"000008"),
-                (32, b"12345"),
-                (90, b"020000000701020304050000001234500000000000"),
-            ],
-            code: 0,
-            seq: 2,
-            response: 430,
-            answered: &[
-                (7, b"0102030500"),
-                (11, b"000008"),
-                (32, b"12345"),
-                (39, b"00"),
-                (90, b"020000000701020304050000001234500000000000"),
-            ],
-        },
-        Case {
-            name: "signed on",
-            mti: 820,
-            asked: &[(7, b"0102030405"), (70, b"001"), (128, b"code")],
-            code: 0,
-            seq: 0,
-            response: 830,
-            answered: &[(7, b"0102030405"), (39, b"00"), (70, b"001")],
-        },
-    ]
-}
+const CASES: &[Case] = &[
+    Case {
+        name: "granted",
+        mti: 201,
+        asked: &[
+            (2, b"4111111111111111"),
+            (3, b"000000"),
+            (4, b"000000001000"),
+            (7, b"0102030405"),
+            (11, b"000007"),
+            (32, b"12345"),
+            (49, b"840"),
+        ],
+        code: 0,
+        seq: 1,
+        response: 210,
+        answered: &[
+            (2, b"4111111111111111"),
+            (3, b"000000"),
+            (4, b"000000001000"),
+            (7, b"0102030405"),
+            (11, b"000007"),
+            (32, b"12345"),
+            (38, b"000001"),
+            (39, b"00"),
+            (49, b"840"),
+        ],
+    },
+    Case {
+        name: "declined",
+        mti: 100,
+        asked: &[
+            (2, b"4111111111111111"),
+            (3, b"000000"),
+            (4, b"000000001000"),
+            (7, b"0102030405"),
+            (11, b"000007"),
+            (14, b"0130"),
+            (32, b"12345"),
+            (41, b"TERM1"),
+            (49, b"840"),
+        ],
+        code: 51,
+        seq: 2,
+        response: 110,
+        answered: &[
+            (2, b"4111111111111111"),
+            (3, b"000000"),
+            (4, b"000000001000"),
+            (7, b"0102030405"),
+            (11, b"000007"),
+            (32, b"12345"),
+            (39, b"51"),
+            (41, b"TERM1"),
+            (49, b"840"),
+        ],
+    },
+    Case {
+        name: "reversed",
+        mti: 420,
+        asked: &[
+            (7, b"0102030500"),
+            (11, b"000008"),
+            (32, b"12345"),
+            (90, b"020000000701020304050000001234500000000000"),
+        ],
+        code: 0,
+        seq: 2,
+        response: 430,
+        answered: &[
+            (7, b"0102030500"),
+            (11, b"000008"),
+            (32, b"12345"),
+            (39, b"00"),
+            (90, b"020000000701020304050000001234500000000000"),
+        ],
+    },
+    Case {
+        name: "signed on",
+        mti: 820,
+        asked: &[(7, b"0102030405"), (70, b"001"), (128, b"code")],
+        code: 0,
+        seq: 0,
+        response: 830,
+        answered: &[(7, b"0102030405"), (39, b"00"), (70, b"001")],
+    },
+];
 
 fn is_equal(one: &Message, other: &Message) -> bool {
     one.equals(other)
+}
+
+/// Whether that is the response of a case.
+fn is_response(alloc: Global, case: &Case, made: &Message) -> Result<bool, Fail> {
+    let want = message(alloc, case.response, case.answered)?;
+    Ok(is_equal(made, &want))
 }
 
 /// Whether the message of a case gets its response.
 fn is_answered(alloc: Global, case: &Case) -> Result<bool, Fail> {
     let asked = message(alloc, case.mti, case.asked)?;
     let made = response(alloc, &asked, case.code, case.seq)?;
-    let want = message(alloc, case.response, case.answered)?;
-    Ok(is_equal(&made, &want))
+    is_response(alloc, case, &made)
 }
 
 #[test]
 fn responses(rt: HostRuntime) -> Result<(), Fail> {
-    for case in &cases() {
-        assert!(rt; is_answered(rt.alloc(), case)?, "{}", case.name);
+    for case in CASES {
+        check(is_answered(rt.alloc(), case)?, case.name)?;
     }
     Ok(())
 }
@@ -161,25 +165,30 @@ fn earlier(alloc: Global) -> Result<Message, Fail> {
     message(alloc, 210, &[(39, b"51"), (54, b"0002840C000000004000")])
 }
 
+/// Makes a message the response to the message of a case.
+fn answer_over(alloc: Global, case: &Case, made: &mut Message) -> Result<(), Fail> {
+    let asked = message(alloc, case.mti, case.asked)?;
+    respond_over(&asked, case.code, case.seq, made)
+}
+
 /// Whether a message becomes the response of a case.
 fn is_answered_over(alloc: Global, case: &Case, made: &mut Message) -> Result<bool, Fail> {
-    let asked = message(alloc, case.mti, case.asked)?;
-    respond_over(&asked, case.code, case.seq, made)?;
-    let want = message(alloc, case.response, case.answered)?;
-    Ok(is_equal(made, &want))
+    answer_over(alloc, case, made)?;
+    is_response(alloc, case, made)
+}
+
+/// Compares what a message becomes, one response after the other.
+fn answer_all_over(alloc: Global, made: &mut Message) -> Result<(), Fail> {
+    for case in CASES {
+        check(is_answered_over(alloc, case, made)?, case.name)?;
+    }
+    Ok(())
 }
 
 #[test]
 fn a_response_is_made_in_place_of_another(rt: HostRuntime) -> Result<(), Fail> {
     let mut made = earlier(rt.alloc())?;
-    for case in &cases() {
-        assert!(rt;
-            is_answered_over(rt.alloc(), case, &mut made)?,
-            "{}",
-            case.name
-        );
-    }
-    Ok(())
+    answer_all_over(rt.alloc(), &mut made)
 }
 
 /// The response to an inquiry that shows a balance.
@@ -215,22 +224,25 @@ fn has(message: &Message, n: u8, want: &[u8]) -> bool {
     message.get(n) == Some(want)
 }
 
-fn shown_balances() -> [(&'static str, i64, &'static [u8]); 4] {
-    [
-        ("above zero", 4000, b"0002840C000000004000"),
-        ("below zero", -50, b"0002840D000000000050"),
-        ("zero", 0, b"0002840C000000000000"),
-        ("twelve digits", -999_999_999_999, b"0002840D999999999999"),
-    ]
+const SHOWN_BALANCES: &[(&'static str, i64, &'static [u8])] = &[
+    ("above zero", 4000, b"0002840C000000004000"),
+    ("below zero", -50, b"0002840D000000000050"),
+    ("zero", 0, b"0002840C000000000000"),
+    ("twelve digits", -999_999_999_999, b"0002840D999999999999"),
+];
+
+/// Compares a response that shows a balance.
+fn compare_shown(made: &Message, name: &str, text: &[u8]) -> Result<(), Fail> {
+    check_of(has(made, 54, text), name, "balance")?;
+    check_of(has(made, 39, b"00"), name, "code")?;
+    check_of(has(made, 38, b"000002"), name, "authorization")
 }
 
 #[test]
 fn balances(rt: HostRuntime) -> Result<(), Fail> {
-    for (name, balance, text) in &shown_balances() {
+    for (name, balance, text) in SHOWN_BALANCES {
         let made = shown_balance(rt.alloc(), *balance)?;
-        assert!(rt; has(&made, 54, *text), "{name}");
-        assert!(rt; has(&made, 39, b"00"), "{name}");
-        assert!(rt; has(&made, 38, b"000002"), "{name}");
+        compare_shown(&made, *name, *text)?;
     }
     Ok(())
 }

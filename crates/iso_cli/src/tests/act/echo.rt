@@ -3,125 +3,124 @@
 use super::{Case, ECHO_TEST, PAYMENT, TERMINALS, run_cases};
 use std::test::Fail;
 
-fn answered() -> [Case; 9] {
-    [
-        Case {
-            name: "the echo test",
-            words: &[],
-            input: ECHO_TEST,
-            status: 0,
-            output: b"MTI=0800 1987 NetworkManagement Request Acquirer\nDE007=0102030405\nDE011=000001\nDE070=301\nUS\
+const ANSWERED: &[Case] = &[
+    Case {
+        name: "the echo test",
+        words: &[],
+        input: ECHO_TEST,
+        status: 0,
+        output: b"MTI=0800 1987 NetworkManagement Request Acquirer\nDE007=0102030405\nDE011=000001\nDE070=301\nUS\
               ED=55/55\nANSWER=081082200000020000000400000000000000010203040500000100301\n",
-            faults: b"",
-        },
-        Case {
-            name: "bytes behind the echo test",
-            words: &[],
-            input: b"0800822000000000000004000000000000000102030405000001301XYZ",
-            status: 0,
-            output: b"MTI=0800 1987 NetworkManagement Request Acquirer\nDE007=0102030405\nDE011=000001\nDE070=301\nUS\
+        faults: b"",
+    },
+    Case {
+        name: "bytes behind the echo test",
+        words: &[],
+        input: b"0800822000000000000004000000000000000102030405000001301XYZ",
+        status: 0,
+        output: b"MTI=0800 1987 NetworkManagement Request Acquirer\nDE007=0102030405\nDE011=000001\nDE070=301\nUS\
               ED=55/58\nANSWER=081082200000020000000400000000000000010203040500000100301\n",
-            faults: b"",
-        },
-        Case {
-            name: "a sign-on",
-            words: &[],
-            input: b"0800822000000000000004000000000000000102030405000001001",
-            status: 0,
-            output: b"MTI=0800 1987 NetworkManagement Request Acquirer\nDE007=0102030405\nDE011=000001\nDE070=001\nUS\
+        faults: b"",
+    },
+    Case {
+        name: "a sign-on",
+        words: &[],
+        input: b"0800822000000000000004000000000000000102030405000001001",
+        status: 0,
+        output: b"MTI=0800 1987 NetworkManagement Request Acquirer\nDE007=0102030405\nDE011=000001\nDE070=001\nUS\
               ED=55/55\nANSWER=081082200000020000000400000000000000010203040500000100001\n",
-            faults: b"",
-        },
-        Case {
-            name: "a sign-off",
-            words: &[],
-            input: b"0800822000000000000004000000000000000102030405000001002",
-            status: 0,
-            output: b"MTI=0800 1987 NetworkManagement Request Acquirer\nDE007=0102030405\nDE011=000001\nDE070=002\nUS\
+        faults: b"",
+    },
+    Case {
+        name: "a sign-off",
+        words: &[],
+        input: b"0800822000000000000004000000000000000102030405000001002",
+        status: 0,
+        output: b"MTI=0800 1987 NetworkManagement Request Acquirer\nDE007=0102030405\nDE011=000001\nDE070=002\nUS\
               ED=55/55\nANSWER=081082200000020000000400000000000000010203040500000100002\n",
-            faults: b"",
-        },
-        Case {
-            name: "another network code",
-            words: &[],
-            input: b"0800822000000000000004000000000000000102030405000001999",
-            status: 0,
-            output: b"MTI=0800 1987 NetworkManagement Request Acquirer\nDE007=0102030405\nDE011=000001\nDE070=999\nUS\
+        faults: b"",
+    },
+    Case {
+        name: "another network code",
+        words: &[],
+        input: b"0800822000000000000004000000000000000102030405000001999",
+        status: 0,
+        output: b"MTI=0800 1987 NetworkManagement Request Acquirer\nDE007=0102030405\nDE011=000001\nDE070=999\nUS\
               ED=55/55\nANSWER=081082200000020000000400000000000000010203040500000112999\n",
-            faults: b"",
-        },
-        Case {
-            name: "no network code",
-            words: &[],
-            input: b"080002200000000000000102030405000001",
-            status: 0,
-            output: b"MTI=0800 1987 NetworkManagement Request Acquirer\nDE007=0102030405\nDE011=000001\nUSED=36/36\nA\
+        faults: b"",
+    },
+    Case {
+        name: "no network code",
+        words: &[],
+        input: b"080002200000000000000102030405000001",
+        status: 0,
+        output: b"MTI=0800 1987 NetworkManagement Request Acquirer\nDE007=0102030405\nDE011=000001\nUSED=36/36\nA\
               NSWER=08100220000002000000010203040500000130\n",
-            faults: b"",
-        },
-        Case {
-            name: "a response",
-            words: &[],
-            input: b"0810822000000000000004000000000000000102030405000001301",
-            status: 0,
-            output: b"MTI=0810 1987 NetworkManagement Response Acquirer\nDE007=0102030405\nDE011=000001\nDE070=301\nU\
+        faults: b"",
+    },
+    Case {
+        name: "a response",
+        words: &[],
+        input: b"0810822000000000000004000000000000000102030405000001301",
+        status: 0,
+        output: b"MTI=0810 1987 NetworkManagement Response Acquirer\nDE007=0102030405\nDE011=000001\nDE070=301\nU\
               SED=55/55\nANSWER=none\n",
-            faults: b"",
-        },
-        Case {
-            name: "an order",
-            words: &[],
-            input: PAYMENT,
-            status: 0,
-            output: b"MTI=0200 1987 Financial Request Acquirer\nDE002=411111******1111\nDE003=000000\nDE004=000000001\
+        faults: b"",
+    },
+    Case {
+        name: "an order",
+        words: &[],
+        input: PAYMENT,
+        status: 0,
+        output: b"MTI=0200 1987 Financial Request Acquirer\nDE002=411111******1111\nDE003=000000\nDE004=000000001\
               000\nDE007=0102030405\nDE011=000007\nDE032=12345\nDE049=840\nUSED=82/82\nANSWER=none\n",
-            faults: b"",
-        },
-        Case {
-            name: "another class",
-            words: &[],
-            input: b"0300722000010000800016411111111111111100000000000000100001020304050000070512345840",
-            status: 0,
-            output: b"MTI=0300 1987 FileAction Request Acquirer\nDE002=411111******1111\nDE003=000000\nDE004=00000000\
+        faults: b"",
+    },
+    Case {
+        name: "another class",
+        words: &[],
+        input: b"0300722000010000800016411111111111111100000000000000100001020304050000070512345840",
+        status: 0,
+        output: b"MTI=0300 1987 FileAction Request Acquirer\nDE002=411111******1111\nDE003=000000\nDE004=00000000\
               1000\nDE007=0102030405\nDE011=000007\nDE032=12345\nDE049=840\nUSED=82/82\nANSWER=0310722000010200800016\
               41111111111111110000000000000010000102030405000007051234512840\n",
-            faults: b"",
-        },
-    ]
-}
+        faults: b"",
+    },
+];
 
 #[test]
 fn the_echo_answers(rt: HostRuntime) -> Result<(), Fail> {
-    run_cases(&rt, &answered(), TERMINALS)
+    run_cases(rt.alloc(), ANSWERED, TERMINALS)
 }
+
+const REFUSED: &[Case] = &[
+    Case {
+        name: "no input",
+        words: &[],
+        input: b"",
+        status: 1,
+        output: b"",
+        faults: b"refused: unpack Short element 0 at 0\n",
+    },
+    Case {
+        name: "a letter in the type",
+        words: &[],
+        input: b"08A0",
+        status: 1,
+        output: b"",
+        faults: b"refused: unpack BadMti element 0 at 0\n",
+    },
+    Case {
+        name: "another version",
+        words: &[],
+        input: b"1800",
+        status: 1,
+        output: b"",
+        faults: b"refused: unpack WrongVersion element 0 at 0\n",
+    },
+];
 
 #[test]
 fn a_message_is_refused(rt: HostRuntime) -> Result<(), Fail> {
-    let cases = [
-        Case {
-            name: "no input",
-            words: &[],
-            input: b"",
-            status: 1,
-            output: b"",
-            faults: b"refused: unpack Short element 0 at 0\n",
-        },
-        Case {
-            name: "a letter in the type",
-            words: &[],
-            input: b"08A0",
-            status: 1,
-            output: b"",
-            faults: b"refused: unpack BadMti element 0 at 0\n",
-        },
-        Case {
-            name: "another version",
-            words: &[],
-            input: b"1800",
-            status: 1,
-            output: b"",
-            faults: b"refused: unpack WrongVersion element 0 at 0\n",
-        },
-    ];
-    run_cases(&rt, &cases, TERMINALS)
+    run_cases(rt.alloc(), REFUSED, TERMINALS)
 }

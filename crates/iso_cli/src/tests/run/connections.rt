@@ -48,15 +48,19 @@ fn answers(alloc: Global, peer: &mut TcpStream) -> Result<Vec<u8>, Fail> {
 }
 
 /// Compares what a peer is answered.
-fn check_answers(
-    rt: &(impl Abort + AllocGlobal),
-    answered: &[u8],
+fn check_answers(answered: &[u8], wanted: &[&[u8]], name: &str) -> Result<(), Fail> {
+    check_of(is_joined(answered, wanted), name, "the answers")
+}
+
+/// Compares all that a peer is answered.
+fn check_peer(
+    alloc: Global,
+    peer: &mut TcpStream,
     wanted: &[&[u8]],
     name: &str,
 ) -> Result<(), Fail> {
-    let wanted = join(rt.alloc(), wanted)?;
-    assert_eq!(rt; answered, wanted.as_slice(), "{name}");
-    Ok(())
+    let answered = answers(alloc, peer)?;
+    check_answers(&answered, wanted, name)
 }
 
 /// What is told of so many connections: the output, the fault stream and the status. Then how many orders are entered.
@@ -129,15 +133,11 @@ fn serve_first(
 
 /// Compares the lines of a host whose status is 0, and those of its fault stream.
 fn check_told(
-    rt: &(impl Abort + AllocGlobal),
     ended: &ConnectionsEnd,
     lines: &[&[u8]],
     faults: &[u8],
     name: &str,
 ) -> Result<(), Fail> {
-    let lines = join(rt.alloc(), lines)?;
-    assert_eq!(rt; ended.status, 0, "{name}");
-    assert_eq!(rt; ended.output.as_slice(), lines.as_slice(), "{name}");
-    assert_eq!(rt; ended.faults.as_slice(), faults, "{name}");
-    Ok(())
+    check_of(is_joined(&ended.output, lines), name, "the output")?;
+    check_stop(ended.status, &ended.faults, 0, faults, name)
 }

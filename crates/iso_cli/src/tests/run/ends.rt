@@ -14,60 +14,67 @@ struct Ends {
     faults: &'static [u8],
 }
 
+const ENDS: &[Ends] = &[
+    Ends {
+        name: "the input fails behind a purchase",
+        reads: 1,
+        writes: 9,
+        lines: 9,
+        output: &[b"0090", GRANTED],
+        faults: b"failed: Read\n",
+    },
+    Ends {
+        name: "the output fails",
+        reads: 9,
+        writes: 0,
+        lines: 9,
+        output: &[],
+        faults: b"failed: Write\n",
+    },
+    Ends {
+        name: "the fault stream fails",
+        reads: 9,
+        writes: 9,
+        lines: 0,
+        output: &[b"0090", GRANTED],
+        faults: b"",
+    },
+];
+
+/// What comes of the frames over such streams.
+fn act_ending(alloc: Global, framed: &[u8], ends: &Ends) -> End {
+    let input = FewBytes {
+        bytes: framed,
+        piece: 4096,
+        calls: ends.reads,
+    };
+    let mut output = FewTaken::new(alloc, 4096, ends.writes, false);
+    let mut faults = FewTaken::new(alloc, 4096, ends.lines, false);
+    let status = act(
+        alloc,
+        &["run", "ascii87", "accounts.json", "ascii4"],
+        &DOCUMENTS,
+        &mut Std::new(input),
+        &mut Std::new(&mut output),
+        &mut Std::new(&mut faults),
+    );
+    End {
+        status,
+        output: output.taken,
+        faults: faults.taken,
+    }
+}
+
+fn run_ending(alloc: Global, framed: &[u8], ends: &Ends) -> Result<(), Fail> {
+    let ended = act_ending(alloc, framed, ends);
+    check_end(&ended, 3, ends.output, ends.faults, ends.name)
+}
+
 #[test]
 fn streams_that_fail_end_it(rt: HostRuntime) -> Result<(), Fail> {
-    let alloc = rt.alloc();
-    let cases = [
-        Ends {
-            name: "the input fails behind a purchase",
-            reads: 1,
-            writes: 9,
-            lines: 9,
-            output: &[b"0090", GRANTED],
-            faults: b"failed: Read\n",
-        },
-        Ends {
-            name: "the output fails",
-            reads: 9,
-            writes: 0,
-            lines: 9,
-            output: &[],
-            faults: b"failed: Write\n",
-        },
-        Ends {
-            name: "the fault stream fails",
-            reads: 9,
-            writes: 9,
-            lines: 0,
-            output: &[b"0090", GRANTED],
-            faults: b"",
-        },
-    ];
-    let framed = join(alloc, &[b"0082", PURCHASE])?;
-    for case in &cases {
-        let name = case.name;
-        let wanted = join(alloc, case.output)?;
-        let mut input = Std::new(FewBytes {
-            bytes: &framed,
-            piece: 4096,
-            calls: case.reads,
-        });
-        let mut taken = FewTaken::new(alloc, 4096, case.writes, false);
-        let mut output = Std::new(&mut taken);
-        let mut told = FewTaken::new(alloc, 4096, case.lines, false);
-        let mut faults = Std::new(&mut told);
-        let words = ["run", "ascii87", "accounts.json", "ascii4"];
-        let status = act(
-            alloc,
-            &words,
-            &DOCUMENTS,
-            &mut input,
-            &mut output,
-            &mut faults,
-        );
-        assert_eq!(rt; status, 3, "{name}");
-        assert_eq!(rt; taken.taken.as_slice(), wanted.as_slice(), "{name}");
-        assert_eq!(rt; told.taken.as_slice(), case.faults, "{name}");
+    let framed = join(rt.alloc(), &[b"0082", PURCHASE])?;
+    for ends in ENDS {
+        run_ending(rt.alloc(), &framed, ends)?;
     }
     Ok(())
 }

@@ -20,44 +20,50 @@ struct Shows {
     output: &'static [&'static [u8]],
 }
 
+const SHOWS: &[Shows] = &[
+    Shows {
+        name: "twelve digits",
+        accounts: b"{\"accounts\":[{\"currency\":\"840\",\"opening\":999999999999,\"pan\":\"4111111111111111\"}]}",
+        output: &[b"0101", SHOWN_MOST, b"0101", SHOWN_MOST],
+    },
+    Shows {
+        name: "thirteen digits",
+        accounts: b"{\"accounts\":[{\"currency\":\"840\",\"opening\":1000000000000,\"pan\":\"4111111111111111\"}]}",
+        output: &[b"0072", NOT_SHOWN, b"0072", NOT_SHOWN],
+    },
+    Shows {
+        name: "twelve digits below zero",
+        accounts: b"{\"accounts\":[{\"currency\":\"840\",\"opening\":-999999999999,\"pan\":\"4111111111111111\"}]}",
+        output: &[b"0101", SHOWN_LEAST, b"0101", SHOWN_LEAST],
+    },
+    Shows {
+        name: "thirteen digits below zero",
+        accounts: b"{\"accounts\":[{\"currency\":\"840\",\"opening\":-1000000000000,\"pan\":\"4111111111111111\"}]}",
+        output: &[b"0072", NOT_SHOWN, b"0072", NOT_SHOWN],
+    },
+];
+
+/// Runs an inquiry and its repeat over such accounts.
+fn ask_twice(alloc: Global, shows: &Shows) -> Result<(), Fail> {
+    let documents = Documents {
+        accounts: shows.accounts,
+        ..DOCUMENTS
+    };
+    let asked_twice = Case {
+        name: shows.name,
+        header: "ascii4",
+        input: &[b"0070", INQUIRY, b"0070", INQUIRY_REPEAT],
+        status: 0,
+        output: shows.output,
+        faults: b"frames=2 answered=2 silent=0 unreadable=0\n",
+    };
+    run_case(alloc, &documents, &asked_twice)
+}
+
 #[test]
 fn an_inquiry_shows_twelve_digits(rt: HostRuntime) -> Result<(), Fail> {
-    let cases = [
-        Shows {
-            name: "twelve digits",
-            accounts: b"{\"accounts\":[{\"currency\":\"840\",\"opening\":999999999999,\"pan\":\"4111111111111111\"}]}",
-            output: &[b"0101", SHOWN_MOST, b"0101", SHOWN_MOST],
-        },
-        Shows {
-            name: "thirteen digits",
-            accounts: b"{\"accounts\":[{\"currency\":\"840\",\"opening\":1000000000000,\"pan\":\"4111111111111111\"}]}",
-            output: &[b"0072", NOT_SHOWN, b"0072", NOT_SHOWN],
-        },
-        Shows {
-            name: "twelve digits below zero",
-            accounts: b"{\"accounts\":[{\"currency\":\"840\",\"opening\":-999999999999,\"pan\":\"4111111111111111\"}]}",
-            output: &[b"0101", SHOWN_LEAST, b"0101", SHOWN_LEAST],
-        },
-        Shows {
-            name: "thirteen digits below zero",
-            accounts: b"{\"accounts\":[{\"currency\":\"840\",\"opening\":-1000000000000,\"pan\":\"4111111111111111\"}]}",
-            output: &[b"0072", NOT_SHOWN, b"0072", NOT_SHOWN],
-        },
-    ];
-    for case in &cases {
-        let documents = Documents {
-            accounts: case.accounts,
-            ..DOCUMENTS
-        };
-        let asked_twice = Case {
-            name: case.name,
-            header: "ascii4",
-            input: &[b"0070", INQUIRY, b"0070", INQUIRY_REPEAT],
-            status: 0,
-            output: case.output,
-            faults: b"frames=2 answered=2 silent=0 unreadable=0\n",
-        };
-        run_cases_over(&rt, &documents, &[asked_twice])?;
+    for shows in SHOWS {
+        ask_twice(rt.alloc(), shows)?;
     }
     Ok(())
 }

@@ -42,29 +42,28 @@ fn meet_between(rt: &HostRuntime, sent: &[&[u8]]) -> Result<Met, Fail> {
 }
 
 /// Compares what is told of such peers, and that the second is answered nothing.
-fn check_between(
-    rt: &(impl Abort + AllocGlobal),
-    met: &Met,
-    output: &[u8],
-    faults: &[u8],
-    name: &str,
-) -> Result<(), Fail> {
+fn check_between(met: &Met, output: &[u8], faults: &[u8], name: &str) -> Result<(), Fail> {
     let lines = [ONE_ANSWERED, output, ONE_ANSWERED];
-    check_told(rt, &met.ended, &lines, faults, name)?;
-    check_answers(rt, &met.first, &[b"0090", GRANTED], name)?;
-    check_answers(rt, &met.second, &[], name)?;
-    check_answers(rt, &met.third, &[b"0090", GRANTED], name)
+    check_told(&met.ended, &lines, faults, name)?;
+    check_answers(&met.first, &[b"0090", GRANTED], name)?;
+    check_answers(&met.second, &[], name)?;
+    check_answers(&met.third, &[b"0090", GRANTED], name)
+}
+
+/// Compares what is told of a peer with a bad header between such peers, and what each is answered.
+fn check_three(met: &Met) -> Result<(), Fail> {
+    let lines = [ONE_ANSWERED, ONE_ANSWERED];
+    check_told(&met.ended, &lines, b"refused: BadHeader\n", "the host")?;
+    check(met.first.len() == 94, "the bytes of the first answer")?;
+    check_answers(&met.first, &[b"0090", GRANTED], "the first")?;
+    check_answers(&met.second, &[], "the second")?;
+    check_answers(&met.third, &[b"0090", GRANTED], "the third")
 }
 
 #[test]
 fn three_peers_meet_one_journal(rt: HostRuntime) -> Result<(), Fail> {
     let met = meet_between(&rt, &[b"00A2"])?;
-    let lines = [ONE_ANSWERED, ONE_ANSWERED];
-    check_told(&rt, &met.ended, &lines, b"refused: BadHeader\n", "the host")?;
-    assert!(rt; met.first.len() == 94);
-    check_answers(&rt, &met.first, &[b"0090", GRANTED], "the first")?;
-    check_answers(&rt, &met.second, &[], "the second")?;
-    check_answers(&rt, &met.third, &[b"0090", GRANTED], "the third")
+    check_three(&met)
 }
 
 /// What is told of four peers, and what each is answered.
@@ -93,23 +92,29 @@ fn meet_four(rt: &HostRuntime) -> Result<FourMet, Fail> {
     })
 }
 
+/// What is told of the four.
+const FOUR_LINES: &[&[u8]] = &[
+    ONE_ANSWERED,
+    ONE_ANSWERED,
+    b"frames=0 answered=0 silent=0 unreadable=0\n",
+    b"frames=2 answered=2 silent=0 unreadable=0\n",
+];
+
+/// Compares what is told of the four, and what each is answered.
+fn check_four(met: &FourMet) -> Result<(), Fail> {
+    check_told(&met.ended, FOUR_LINES, b"", "the host")?;
+    check_answers(&met.early, &[b"0103", REVERSED], "the reversal")?;
+    check_answers(&met.late, &[b"0084", UNDONE], "its purchase")?;
+    check_answers(&met.none, &[], "no frame")?;
+    let two = &[b"0103", REVERSED, b"0084", UNDONE];
+    check_answers(&met.both, two, "both again")?;
+    check(met.ended.entries == 2, "the orders")
+}
+
 #[test]
 fn orders_meet_those_of_earlier_peers(rt: HostRuntime) -> Result<(), Fail> {
     let met = meet_four(&rt)?;
-    let lines: [&[u8]; 4] = [
-        ONE_ANSWERED,
-        ONE_ANSWERED,
-        b"frames=0 answered=0 silent=0 unreadable=0\n",
-        b"frames=2 answered=2 silent=0 unreadable=0\n",
-    ];
-    check_told(&rt, &met.ended, &lines, b"", "the host")?;
-    check_answers(&rt, &met.early, &[b"0103", REVERSED], "the reversal")?;
-    check_answers(&rt, &met.late, &[b"0084", UNDONE], "its purchase")?;
-    check_answers(&rt, &met.none, &[], "no frame")?;
-    let two: [&[u8]; 4] = [b"0103", REVERSED, b"0084", UNDONE];
-    check_answers(&rt, &met.both, &two, "both again")?;
-    assert!(rt; met.ended.entries == 2);
-    Ok(())
+    check_four(&met)
 }
 
 /// What a bad peer sends, and what is told of it.
@@ -121,52 +126,54 @@ struct Bad {
     faults: &'static [u8],
 }
 
-fn bad_peers() -> [Bad; 6] {
-    [
-        Bad {
-            name: "it closes inside a header",
-            sent: &[b"00"],
-            output: b"",
-            faults: b"refused: CutFrame\n",
-        },
-        Bad {
-            name: "it closes inside a body",
-            sent: &[b"0082", b"0200722000"],
-            output: b"",
-            faults: b"refused: CutFrame\n",
-        },
-        Bad {
-            name: "no digits in the header",
-            sent: &[b"GET / HTTP/1.1\r\n\r\n"],
-            output: b"",
-            faults: b"refused: BadHeader\n",
-        },
-        Bad {
-            name: "a body that is no message",
-            sent: &[b"0003", b"abc"],
-            output: ONE_UNREADABLE,
-            faults: b"",
-        },
-        Bad {
-            name: "an empty body",
-            sent: &[b"0000"],
-            output: ONE_UNREADABLE,
-            faults: b"",
-        },
-        Bad {
-            name: "a response",
-            sent: &[b"0090", GRANTED],
-            output: b"frames=1 answered=0 silent=1 unreadable=0\n",
-            faults: b"",
-        },
-    ]
+const BAD_PEERS: &[Bad] = &[
+    Bad {
+        name: "it closes inside a header",
+        sent: &[b"00"],
+        output: b"",
+        faults: b"refused: CutFrame\n",
+    },
+    Bad {
+        name: "it closes inside a body",
+        sent: &[b"0082", b"0200722000"],
+        output: b"",
+        faults: b"refused: CutFrame\n",
+    },
+    Bad {
+        name: "no digits in the header",
+        sent: &[b"GET / HTTP/1.1\r\n\r\n"],
+        output: b"",
+        faults: b"refused: BadHeader\n",
+    },
+    Bad {
+        name: "a body that is no message",
+        sent: &[b"0003", b"abc"],
+        output: ONE_UNREADABLE,
+        faults: b"",
+    },
+    Bad {
+        name: "an empty body",
+        sent: &[b"0000"],
+        output: ONE_UNREADABLE,
+        faults: b"",
+    },
+    Bad {
+        name: "a response",
+        sent: &[b"0090", GRANTED],
+        output: b"frames=1 answered=0 silent=1 unreadable=0\n",
+        faults: b"",
+    },
+];
+
+fn run_bad(rt: &HostRuntime, bad: &Bad) -> Result<(), Fail> {
+    let met = meet_between(rt, bad.sent)?;
+    check_between(&met, bad.output, bad.faults, bad.name)
 }
 
 #[test]
 fn a_bad_peer_harms_no_other(rt: HostRuntime) -> Result<(), Fail> {
-    for bad in &bad_peers() {
-        let met = meet_between(&rt, bad.sent)?;
-        check_between(&rt, &met, bad.output, bad.faults, bad.name)?;
+    for bad in BAD_PEERS {
+        run_bad(&rt, bad)?;
     }
     Ok(())
 }
@@ -189,19 +196,22 @@ struct OneMet {
     answered: Vec<u8>,
 }
 
+/// Serves a peer that sends a purchase byte by byte.
+fn meet_slow(rt: &HostRuntime) -> Result<OneMet, Fail> {
+    let listener = listen(rt)?;
+    let framed = join(rt.alloc(), &[b"0082", PURCHASE])?;
+    let mut slow = slow_peer(rt, &listener, &framed)?;
+    Ok(OneMet {
+        ended: serve_first(rt.alloc(), &listener, "ascii4", 1)?,
+        answered: answers(rt.alloc(), &mut slow)?,
+    })
+}
+
 #[test]
 fn a_peer_may_send_a_byte_at_a_time(rt: HostRuntime) -> Result<(), Fail> {
-    let listener = TcpListener::bind(&rt, "127.0.0.1:0")?;
-    let framed = join(rt.alloc(), &[b"0082", PURCHASE])?;
-    let mut slow = slow_peer(&rt, &listener, &framed)?;
-    let ended = serve_first(rt.alloc(), &listener, "ascii4", 1)?;
-    check_told(&rt, &ended, &[ONE_ANSWERED], b"", "the host")?;
-    check_answers(
-        &rt,
-        &answers(rt.alloc(), &mut slow)?,
-        &[b"0090", GRANTED],
-        "the peer",
-    )
+    let met = meet_slow(&rt)?;
+    check_told(&met.ended, &[ONE_ANSWERED], b"", "the host")?;
+    check_answers(&met.answered, &[b"0090", GRANTED], "the peer")
 }
 
 /// Serves a peer that sends a frame of the largest body, of this byte alone, one that sends a front of it, and one that
@@ -213,15 +223,22 @@ fn meet_large(rt: &HostRuntime, byte: u8) -> Result<Met, Fail> {
     meet(rt, "binary2", &large, &cut, &[b"\0\x52", PURCHASE])
 }
 
+/// Compares what is told of such peers, and what each is answered.
+fn check_large(met: &Met, name: &str) -> Result<(), Fail> {
+    let lines = [ONE_UNREADABLE, ONE_ANSWERED];
+    check_told(&met.ended, &lines, b"refused: CutFrame\n", name)?;
+    check_answers(&met.first, &[], name)?;
+    check_answers(&met.second, &[], name)?;
+    check_answers(&met.third, &[b"\0\x5A", GRANTED], name)
+}
+
+const LARGE: &[(&str, u8)] = &[("zeros", 0x30), ("bytes that are no digits", 0xFF)];
+
 #[test]
 fn a_peer_may_send_the_largest_frames(rt: HostRuntime) -> Result<(), Fail> {
-    for (name, byte) in [("zeros", 0x30u8), ("bytes that are no digits", 0xFF)] {
-        let met = meet_large(&rt, byte)?;
-        let lines = [ONE_UNREADABLE, ONE_ANSWERED];
-        check_told(&rt, &met.ended, &lines, b"refused: CutFrame\n", name)?;
-        check_answers(&rt, &met.first, &[], name)?;
-        check_answers(&rt, &met.second, &[], name)?;
-        check_answers(&rt, &met.third, &[b"\0\x5A", GRANTED], name)?;
+    for (name, byte) in LARGE {
+        let met = meet_large(&rt, *byte)?;
+        check_large(&met, *name)?;
     }
     Ok(())
 }
@@ -245,17 +262,16 @@ fn meet_gone(rt: &HostRuntime) -> Result<OneMet, Fail> {
     })
 }
 
+/// Compares what is told of such peers, and what the second is answered.
+fn check_gone(met: &OneMet) -> Result<(), Fail> {
+    let lines = [ONE_ANSWERED];
+    check_told(&met.ended, &lines, b"failed: Write\n", "the host")?;
+    check_answers(&met.answered, &[b"0090", GRANTED], "the next peer")?;
+    check(met.ended.entries == 1, "the orders")
+}
+
 #[test]
 fn a_peer_that_is_gone_loses_its_answers_alone(rt: HostRuntime) -> Result<(), Fail> {
     let met = meet_gone(&rt)?;
-    check_told(
-        &rt,
-        &met.ended,
-        &[ONE_ANSWERED],
-        b"failed: Write\n",
-        "the host",
-    )?;
-    check_answers(&rt, &met.answered, &[b"0090", GRANTED], "the next peer")?;
-    assert!(rt; met.ended.entries == 1);
-    Ok(())
+    check_gone(&met)
 }

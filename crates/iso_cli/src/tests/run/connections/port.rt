@@ -18,22 +18,24 @@ fn status_and_faults(rt: &HostRuntime, words: &[&str]) -> (u8, Vec<u8>) {
     (status, told)
 }
 
-#[test]
-fn a_port_that_is_taken_is_a_failed_read(rt: HostRuntime) -> Result<(), Fail> {
-    let taken = TcpListener::bind(&rt, "127.0.0.1:0")?;
-    let port = taken.local_addr()?.port();
+/// Compares what comes of a port that is taken.
+fn run_taken(rt: &HostRuntime, port: u16) -> Result<(), Fail> {
     let port = format!(in rt.alloc(); "{port}")?;
     let words = ["serve", "ascii87", "accounts.json", "ascii4", &port, "3"];
-    let (status, told) = status_and_faults(&rt, &words);
-    assert_eq!(rt; status, 3);
-    assert_eq!(rt; told.as_slice(), b"failed: Read\n".as_slice());
-    Ok(())
+    let (status, told) = status_and_faults(rt, &words);
+    check_stop(status, &told, 3, b"failed: Read\n", "a port that is taken")
 }
 
 #[test]
-fn no_port_is_bound_for_refused_words(rt: HostRuntime) {
+fn a_port_that_is_taken_is_a_failed_read(rt: HostRuntime) -> Result<(), Fail> {
+    let taken = listen(&rt)?;
+    let port = taken.local_addr()?.port();
+    run_taken(&rt, port)
+}
+
+#[test]
+fn no_port_is_bound_for_refused_words(rt: HostRuntime) -> Result<(), Fail> {
     let words = ["serve", "ascii87", "accounts.json", "ascii4", "0", "3"];
     let (status, told) = status_and_faults(&rt, &words);
-    assert_eq!(rt; status, 2);
-    assert_eq!(rt; told.as_slice(), b"command line refused\n".as_slice());
+    check_stop(status, &told, 2, b"command line refused\n", "port 0")
 }

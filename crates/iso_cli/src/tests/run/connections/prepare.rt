@@ -3,7 +3,7 @@
 use super::*;
 
 /// What a host serves with: its port, how many connections, the header, the rows of its table, and its journal's entries
-/// and the ledger of the account.
+/// and the ledger of the account. Then the fault line.
 #[derive(Drop)]
 struct Held {
     port: u16,
@@ -12,6 +12,7 @@ struct Held {
     rows: usize,
     entries: u32,
     ledger: Option<i64>,
+    told: Vec<u8>,
 }
 
 /// The ledger of the account.
@@ -21,51 +22,101 @@ fn ledger(serving: &Serving) -> Option<i64> {
 }
 
 /// What the words name, and the fault line.
-fn held_by(alloc: Global, words: &[&str]) -> Result<(Held, Vec<u8>), Fail> {
+fn held_by(alloc: Global, words: &[&str]) -> Result<Held, Fail> {
     let mut told = Vec::new(alloc);
     let serving = match prepare(alloc, words, &DOCUMENTS, &mut Std::new(&mut told)) {
         Ok(serving) => serving,
         Err(_) => return Err(Fail::from(AllocError)),
     };
-    let held = Held {
+    Ok(Held {
         port: serving.port,
         count: serving.count,
         header: serving.header,
         rows: serving.table.rows(),
         entries: entries(&serving),
         ledger: ledger(&serving),
-    };
-    Ok((held, told))
+        told,
+    })
 }
 
 /// A port and a count as they are written, and what they say.
-fn numbers() -> [(&'static str, &'static str, &'static str, u16, u32); 5] {
-    [
-        ("as it is written", "8583", "3", 8583, 3),
-        ("the least", "1", "1", 1, 1),
-        ("the most", "65535", "1000", 65_535, 1_000),
-        ("a plus in front", "+8583", "+3", 8583, 3),
-        ("zeros in front", "08583", "0003", 8583, 3),
-    ]
+struct Numbers {
+    name: &'static str,
+    port: &'static str,
+    count: &'static str,
+    wanted_port: u16,
+    wanted_count: u32,
 }
 
-/// What a host holds by this port and this count, and the fault line.
-fn held_at(alloc: Global, port: &str, count: &str) -> Result<(Held, Vec<u8>), Fail> {
+const NUMBERS: &[Numbers] = &[
+    Numbers {
+        name: "as it is written",
+        port: "8583",
+        count: "3",
+        wanted_port: 8583,
+        wanted_count: 3,
+    },
+    Numbers {
+        name: "the least",
+        port: "1",
+        count: "1",
+        wanted_port: 1,
+        wanted_count: 1,
+    },
+    Numbers {
+        name: "the most",
+        port: "65535",
+        count: "1000",
+        wanted_port: 65_535,
+        wanted_count: 1_000,
+    },
+    Numbers {
+        name: "a plus in front",
+        port: "+8583",
+        count: "+3",
+        wanted_port: 8583,
+        wanted_count: 3,
+    },
+    Numbers {
+        name: "zeros in front",
+        port: "08583",
+        count: "0003",
+        wanted_port: 8583,
+        wanted_count: 3,
+    },
+];
+
+/// What a host holds by this port and this count.
+fn held_at(alloc: Global, port: &str, count: &str) -> Result<Held, Fail> {
     let words = ["serve", "ascii87", "accounts.json", "ascii4", port, count];
     held_by(alloc, &words)
 }
 
+/// Compares what a host holds.
+fn check_held(held: &Held, numbers: &Numbers) -> Result<(), Fail> {
+    let name = numbers.name;
+    check_of(held.port == numbers.wanted_port, name, "the port")?;
+    check_of(held.count == numbers.wanted_count, name, "the count")?;
+    check_of(held.header == Header::Ascii4, name, "the header")?;
+    check_of(held.rows == 126, name, "the rows")?;
+    check_of(held.entries == 0, name, "the entries")?;
+    check_of(held.ledger == Some(5000), name, "the ledger")?;
+    check_of(
+        held.told.as_slice() == b"".as_slice(),
+        name,
+        "the fault line",
+    )
+}
+
+fn hold(alloc: Global, numbers: &Numbers) -> Result<(), Fail> {
+    let held = held_at(alloc, numbers.port, numbers.count)?;
+    check_held(&held, numbers)
+}
+
 #[test]
 fn a_host_has_what_the_words_name(rt: HostRuntime) -> Result<(), Fail> {
-    for (name, port, count, wanted_port, wanted_count) in numbers() {
-        let (held, told) = held_at(rt.alloc(), port, count)?;
-        assert!(rt; held.port == wanted_port, "{name}");
-        assert!(rt; held.count == wanted_count, "{name}");
-        assert!(rt; held.header == Header::Ascii4, "{name}");
-        assert!(rt; held.rows == 126, "{name}");
-        assert!(rt; held.entries == 0, "{name}");
-        assert!(rt; held.ledger == Some(5000), "{name}");
-        assert!(rt; told.as_slice() == b"".as_slice(), "{name}");
+    for numbers in NUMBERS {
+        hold(rt.alloc(), numbers)?;
     }
     Ok(())
 }
@@ -80,140 +131,153 @@ fn status_and_line(alloc: Global, words: &[&str]) -> (u8, Vec<u8>) {
     (status, told)
 }
 
+const WORDS_REFUSED: &[u8] = b"command line refused\n";
+
+/// Words, the status and the fault line.
+type RefusedWords = (&'static str, &'static [&'static str], u8, &'static [u8]);
+
+const REFUSED: &[RefusedWords] = &[
+    (
+        "port 0",
+        &["serve", "ascii87", "accounts.json", "ascii4", "0", "3"],
+        2,
+        WORDS_REFUSED,
+    ),
+    (
+        "a port above the highest, and no such files",
+        &["serve", "none.json", "none.json", "ascii4", "65536", "3"],
+        2,
+        WORDS_REFUSED,
+    ),
+    (
+        "a port below zero",
+        &["serve", "ascii87", "accounts.json", "ascii4", "-1", "3"],
+        2,
+        WORDS_REFUSED,
+    ),
+    (
+        "a port that is no whole number",
+        &["serve", "ascii87", "accounts.json", "ascii4", "8583.0", "3"],
+        2,
+        WORDS_REFUSED,
+    ),
+    (
+        "an empty port",
+        &["serve", "ascii87", "accounts.json", "ascii4", "", "3"],
+        2,
+        WORDS_REFUSED,
+    ),
+    (
+        "a plus and no digit",
+        &["serve", "ascii87", "accounts.json", "ascii4", "+", "3"],
+        2,
+        WORDS_REFUSED,
+    ),
+    (
+        "no connection",
+        &["serve", "ascii87", "accounts.json", "ascii4", "8583", "0"],
+        2,
+        WORDS_REFUSED,
+    ),
+    (
+        "more connections than the most",
+        &[
+            "serve",
+            "ascii87",
+            "accounts.json",
+            "ascii4",
+            "8583",
+            "1001",
+        ],
+        2,
+        WORDS_REFUSED,
+    ),
+    (
+        "no such header",
+        &["serve", "ascii87", "accounts.json", "ascii2", "8583", "3"],
+        2,
+        WORDS_REFUSED,
+    ),
+    (
+        "no count",
+        &["serve", "ascii87", "accounts.json", "ascii4", "8583"],
+        2,
+        WORDS_REFUSED,
+    ),
+    (
+        "a word too many",
+        &[
+            "serve",
+            "ascii87",
+            "accounts.json",
+            "ascii4",
+            "8583",
+            "3",
+            "3",
+        ],
+        2,
+        WORDS_REFUSED,
+    ),
+    (
+        "another command",
+        &["run", "ascii87", "accounts.json", "ascii4"],
+        2,
+        WORDS_REFUSED,
+    ),
+    ("no words", &[], 2, WORDS_REFUSED),
+    (
+        "no such table, and no such accounts",
+        &["serve", "table", "none.json", "ascii4", "8583", "3"],
+        3,
+        b"failed: File\n",
+    ),
+    (
+        "a table under which no host can serve, before accounts that aren't there",
+        &["serve", "table.json", "none.json", "ascii4", "8583", "3"],
+        1,
+        b"refused: host NoRow element 2\n",
+    ),
+    (
+        "no such accounts",
+        &["serve", "bcd87", "none.json", "ascii4", "8583", "3"],
+        3,
+        b"failed: File\n",
+    ),
+    (
+        "a table in the place of the accounts",
+        &["serve", "bcd87", "table.json", "ascii4", "8583", "3"],
+        1,
+        b"refused: accounts Shape\n",
+    ),
+];
+
+fn run_refused(alloc: Global, refused: &RefusedWords) -> Result<(), Fail> {
+    let (name, words, status, line) = refused;
+    let (given, told) = status_and_line(alloc, *words);
+    check_stop(given, &told, *status, *line, *name)
+}
+
 #[test]
 fn words_and_documents_of_a_port_are_refused_in_order(rt: HostRuntime) -> Result<(), Fail> {
-    let refused = b"command line refused\n".as_slice();
-    for (name, words, status, line) in [
-        (
-            "port 0",
-            ["serve", "ascii87", "accounts.json", "ascii4", "0", "3"].as_slice(),
-            2u8,
-            refused,
-        ),
-        (
-            "a port above the highest, and no such files",
-            ["serve", "none.json", "none.json", "ascii4", "65536", "3"].as_slice(),
-            2,
-            refused,
-        ),
-        (
-            "a port below zero",
-            ["serve", "ascii87", "accounts.json", "ascii4", "-1", "3"].as_slice(),
-            2,
-            refused,
-        ),
-        (
-            "a port that is no whole number",
-            ["serve", "ascii87", "accounts.json", "ascii4", "8583.0", "3"].as_slice(),
-            2,
-            refused,
-        ),
-        (
-            "an empty port",
-            ["serve", "ascii87", "accounts.json", "ascii4", "", "3"].as_slice(),
-            2,
-            refused,
-        ),
-        (
-            "a plus and no digit",
-            ["serve", "ascii87", "accounts.json", "ascii4", "+", "3"].as_slice(),
-            2,
-            refused,
-        ),
-        (
-            "no connection",
-            ["serve", "ascii87", "accounts.json", "ascii4", "8583", "0"].as_slice(),
-            2,
-            refused,
-        ),
-        (
-            "more connections than the most",
-            [
-                "serve",
-                "ascii87",
-                "accounts.json",
-                "ascii4",
-                "8583",
-                "1001",
-            ]
-            .as_slice(),
-            2,
-            refused,
-        ),
-        (
-            "no such header",
-            ["serve", "ascii87", "accounts.json", "ascii2", "8583", "3"].as_slice(),
-            2,
-            refused,
-        ),
-        (
-            "no count",
-            ["serve", "ascii87", "accounts.json", "ascii4", "8583"].as_slice(),
-            2,
-            refused,
-        ),
-        (
-            "a word too many",
-            [
-                "serve",
-                "ascii87",
-                "accounts.json",
-                "ascii4",
-                "8583",
-                "3",
-                "3",
-            ]
-            .as_slice(),
-            2,
-            refused,
-        ),
-        (
-            "another command",
-            ["run", "ascii87", "accounts.json", "ascii4"].as_slice(),
-            2,
-            refused,
-        ),
-        ("no words", [].as_slice(), 2, refused),
-        (
-            "no such table, and no such accounts",
-            ["serve", "table", "none.json", "ascii4", "8583", "3"].as_slice(),
-            3,
-            b"failed: File\n".as_slice(),
-        ),
-        (
-            "a table under which no host can serve, before accounts that aren't there",
-            ["serve", "table.json", "none.json", "ascii4", "8583", "3"].as_slice(),
-            1,
-            b"refused: host NoRow element 2\n".as_slice(),
-        ),
-        (
-            "no such accounts",
-            ["serve", "bcd87", "none.json", "ascii4", "8583", "3"].as_slice(),
-            3,
-            b"failed: File\n".as_slice(),
-        ),
-        (
-            "a table in the place of the accounts",
-            ["serve", "bcd87", "table.json", "ascii4", "8583", "3"].as_slice(),
-            1,
-            b"refused: accounts Shape\n".as_slice(),
-        ),
-    ] {
-        let (given, told) = status_and_line(rt.alloc(), words);
-        assert_eq!(rt; given, status, "{name}");
-        assert_eq!(rt; told.as_slice(), line, "{name}");
+    for refused in REFUSED {
+        run_refused(rt.alloc(), refused)?;
     }
     Ok(())
 }
 
-#[test]
-fn a_fault_stream_that_fails_has_status_3(rt: HostRuntime) {
-    let words = ["serve", "ascii87", "accounts.json", "ascii4", "0", "3"];
-    let mut told = FewTaken::new(rt.alloc(), 4096, 0, false);
-    let given = match prepare(rt.alloc(), &words, &DOCUMENTS, &mut Std::new(&mut told)) {
+/// The status of these words over a fault stream that fails, and what that took.
+fn status_and_taken(alloc: Global, words: &[&str]) -> (u8, FewTaken) {
+    let mut told = FewTaken::new(alloc, 4096, 0, false);
+    let status = match prepare(alloc, words, &DOCUMENTS, &mut Std::new(&mut told)) {
         Ok(_) => 0,
         Err(status) => status,
     };
-    assert_eq!(rt; given, 3);
-    assert_eq!(rt; told.taken.as_slice(), b"".as_slice());
+    (status, told)
+}
+
+#[test]
+fn a_fault_stream_that_fails_has_status_3(rt: HostRuntime) -> Result<(), Fail> {
+    let words = ["serve", "ascii87", "accounts.json", "ascii4", "0", "3"];
+    let (given, told) = status_and_taken(rt.alloc(), &words);
+    check_stop(given, &told.taken, 3, b"", "port 0")
 }
