@@ -3,7 +3,8 @@ use Rattle.std.proofs.Common.{◌≡◌, ℕ, ◌+◌, ◌<◌, ◌≤◌, Bool,
 use Rattle.std.proofs.lemmas.Bool.{eqb-true}
 use Rattle.std.proofs.lemmas.Bool.Decides.{nat_tests}
 use Rattle.std.proofs.lemmas.List.{length-append, length-take-le, take-append-drop, drop_at, take_at}
-use Rattle.iso_parts.specs.declared.prefix.Digits.TheVariants as digits
+use Rattle.iso_parts.specs.Digits.{four_digits_of}
+use Rattle.iso_parts.specs.declared.digits.Digits.TheVariants as digits
 use Rattle.iso_parts.specs.declared.prefix.Length.{Length}
 use Rattle.iso_parts.specs.declared.prefix.Length.TheVariants as lengths
 use Rattle.iso_parts.specs.declared.spec.FieldSpec.{FieldSpec}
@@ -11,11 +12,10 @@ use Rattle.iso_parts.specs.Part.{prefix}
 use Rattle.iso_parts.specs.Reading.{prefix_size}
 use Rattle.iso_table.specs.Layout.{Layout, row_at}
 use Rattle.iso_wire.specs.Elements.{value_in, has, IsAscending}
-use Rattle.iso_wire.specs.Spelling.{Spelling, mti_bytes}
+use Rattle.iso_wire.specs.Spelling.{Spelling}
 use Rattle.iso_wire.specs.Contents.{Contents}
 use Rattle.iso_wire.specs.declared.fault.UnpackFault.{UnpackFault}
-use Rattle.iso_wire.specs.Bodies.{front_of}
-use Rattle.iso_wire.specs.Viewing.{Viewed, Views, IsViewed, Wired}
+use Rattle.iso_wire.specs.Viewing.{Viewed, Views, IsViewed, Wired, front_of}
 use Rattle.iso_c.specs.declared.fault.RumpadolFault.{RumpadolFault}
 use Rattle.iso_c.specs.Causes.{no_element}
 use Rattle.iso_c.specs.Later.{from_number, sizes_of}
@@ -126,7 +126,7 @@ placed t view b n w is found =
     let wired : Wired t.rows is.0.elements view.wires spelling.parts = is.3.1 in
     let asc : IsAscending 2 view.wires = wires_ascend t.rows 2 is.0.elements view.wires spelling.parts wired spelling.ascending in
     let a : Around t.rows view.wires spelling.parts n w = around t.rows 2 n w is.0.elements view.wires spelling.parts wired asc found in
-    let mti : List ℕ = mti_bytes t.mti is.0.mti in
+    let mti : List ℕ = four_digits_of t.mti is.0.mti in
     let front : List ℕ = (mti ++ spelling.maps) ++ a.before in
     let tail : List ℕ = w ++ a.behind in
     let after : List ℕ = drop view.used b in

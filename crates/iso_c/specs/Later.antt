@@ -1,9 +1,9 @@
 -- The elements from a number on, and how many bytes their parts take.
 -- Inner: bodies and proofs cite it, and no public clause does.
 use Rattle.std.specs.Prelude.{ℕ, ◌+◌, nat_lt, if◌then◌else◌, List, [], ◌∷◌, length, Option}
+use Rattle.iso_wire.specs.Viewing.{front_of}
 use Rattle.iso_parts.specs.declared.spec.FieldSpec.{FieldSpec}
 use Rattle.iso_table.specs.Layout.{row_at}
-use Rattle.iso_wire.specs.Bodies.{front_of}
 
 -- the elements from a number on, of elements in ascending order
 abbrev pub from_number : ℕ → List (ℕ × List ℕ) → List (ℕ × List ℕ)

@@ -1,6 +1,7 @@
 -- Values that lie in bytes, and parts that tell where.
 use Rattle.std.specs.Prelude.{ℕ, ◌+◌, ◌-◌, ◌&&◌, nat_le, Bool, if◌then◌else◌, List, [], ◌∷◌, ◌++◌, length, take, drop, map, Option, Some, None, Result, Ok, Err}
-use Rattle.iso_wire.specs.Elements.{is_number, put}
+use Rattle.iso_parts.specs.Numbers.{is_element}
+use Rattle.iso_wire.specs.Elements.{put}
 use Rattle.iso_c.specs.declared.fault.RumpadolFault.{RumpadolFault}
 use Rattle.iso_c.specs.declared.parts.RumpadolPart.{RumpadolPart}
 use Rattle.iso_c.specs.Causes.{bad_part, bad_number}
@@ -39,7 +40,7 @@ is_part_within size p = nat_le p.start size && nat_le p.length (size - p.start)
 -- a part outside the bytes, or of a number that no element has
 abbrev pub part_refusal : ℕ → RumpadolPart → Option RumpadolFault
 part_refusal size p =
-    if is_part_within size p then (if is_number p.element then None else Some (bad_number p.element))
+    if is_part_within size p then (if is_element p.element then None else Some (bad_number p.element))
     else Some (bad_part p.element p.start)
 
 abbrev pub unless_refused : {A : Type 0} → Option RumpadolFault → Result A RumpadolFault → Result A RumpadolFault

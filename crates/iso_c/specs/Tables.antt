@@ -1,6 +1,6 @@
 -- The tables that slots hold, and messages from one to another.
 use Rattle.std.specs.Prelude.{ℕ, ◌≡◌, ◌≢◌, ◌⊎◌, nat_lt, if◌then◌else◌, List, length, Option, Some, None, Result, Ok, Err}
-use Rattle.iso_parts.specs.declared.prefix.Digits.TheVariants.{Ascii, Bcd}
+use Rattle.iso_parts.specs.declared.digits.Digits.TheVariants.{Ascii, Bcd}
 use Rattle.iso_table.specs.declared.fault.TableFault.{TableFault}
 use Rattle.iso_table.specs.declared.fault.TableFault.TheVariants.{Memory, NotJson}
 use Rattle.iso_table.specs.Layout.{Layout}

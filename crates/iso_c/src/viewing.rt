@@ -1,9 +1,9 @@
 //! The body of an element, left where it lies.
 
 ghost use Rattle.std.specs.Prelude.{◌≡◌, ◌+◌, ◌≤◌, ℕ, length, IfOk, IfErr};
+ghost use Rattle.iso_wire.specs.Viewing.{front_of};
 ghost use Rattle.iso_table.specs.Layout.{row_at};
 ghost use Rattle.iso_wire.specs.Elements.{IsAscending};
-ghost use Rattle.iso_wire.specs.Bodies.{front_of};
 ghost use Rattle.iso_c.specs.Causes.{no_element};
 ghost use Rattle.iso_c.specs.Later.{from_number, sizes_of};
 ghost use Rattle.iso_c.specs.Viewing.{IsBodyAt, IsViewFault, IsBodyAtHeld, IsViewFaultHeld, ViewsBody};

@@ -2,7 +2,7 @@
 -- Public: `act` promises it.
 use Rattle.std.specs.Prelude.{◌≡◌, ◌⊎◌, ℕ, ◌≤◌, List, [], ◌∷◌, ◌++◌, length, take, Option, None, IfSome, codes}
 use Rattle.std.specs.Io.KnownBytes.{Appends}
-use Rattle.iso_parts.specs.declared.prefix.Digits.TheVariants.{Ascii}
+use Rattle.iso_parts.specs.declared.digits.Digits.TheVariants.{Ascii}
 use Rattle.iso_table.specs.Layout.{Layout}
 use Rattle.iso_table.specs.Edition87.{IsEdition87}
 use Rattle.iso_wire.specs.Contents.{Contents}

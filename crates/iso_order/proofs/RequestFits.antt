@@ -5,7 +5,8 @@ use Rattle.std.specs.List.{list_all}
 use Rattle.std.proofs.lemmas.Bool.{and_parts, and_from, eqb-true}
 use Rattle.std.proofs.lemmas.Bool.Decides.{nat_tests}
 use Rattle.std.proofs.lemmas.List.Folds.{list_all-append}
-use Rattle.iso_parts.specs.declared.prefix.Digits.{Digits}
+use Rattle.iso_parts.specs.Numbers.{is_element}
+use Rattle.iso_parts.specs.declared.digits.Digits.{Digits}
 use Rattle.iso_parts.specs.declared.class.CharClass.TheVariants as classes
 use Rattle.iso_parts.specs.declared.spec.FieldSpec.{FieldSpec}
 use Rattle.iso_parts.specs.Class.{is_digit}
@@ -16,7 +17,6 @@ use Rattle.iso_table.specs.declared.edition87.LengthKind.TheVariants as kinds
 use Rattle.iso_table.specs.Edition87.{IsEdition87, line, none, spec_of, row87}
 use Rattle.iso_table.specs.Layout.{Layout}
 use Rattle.iso_wire.specs.Decimal.{decimal}
-use Rattle.iso_wire.specs.Elements.{is_number}
 use Rattle.iso_wire.specs.OneSpelling.{WellFormed}
 use Rattle.iso_wire.specs.Refusal.{refused_field, refused_by, message_refusal}
 use Rattle.iso_wire.specs.Spelling.{AreBytes}
@@ -214,6 +214,6 @@ requests_well_formed_lem o h =
     subst WellFormed (sym (request-listed o))
     (record {
       mti = omega (arith, facts.small);
-      ascending = ascending-at is_number value (λ n is. is) 2 numbers refl;
+      ascending = ascending-at is_element value (λ n is. is) 2 numbers refl;
       bytes = bytes-at value numbers (each-requested o.key o.act (λ n v. AreBytes v) (each-bytes o.key o.act (money-account o.key o.act parts.1)));
     })

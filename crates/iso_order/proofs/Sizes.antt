@@ -4,14 +4,15 @@ use Rattle.std.specs.Prelude.{nat_le, ◌==◌, IfSome}
 use Rattle.std.specs.List.{flat_map, list_all}
 use Rattle.std.proofs.lemmas.Bool.{and_parts, eqb-true}
 use Rattle.std.proofs.lemmas.Bool.Decides.{nat_tests}
+use Rattle.iso_parts.specs.Digits.{four_digits_of}
 use Rattle.iso_parts.specs.declared.fault.FieldFault.{FieldFault}
 use Rattle.iso_parts.specs.declared.padding.Pad.{Pad}
 use Rattle.iso_parts.specs.declared.padding.Pad.TheVariants as pads
-use Rattle.iso_parts.specs.declared.prefix.Digits.{Digits}
-use Rattle.iso_parts.specs.declared.prefix.Digits.TheVariants as digits
+use Rattle.iso_parts.specs.declared.digits.Digits.{Digits}
+use Rattle.iso_parts.specs.declared.digits.Digits.TheVariants as digits
 use Rattle.iso_parts.specs.declared.spec.FieldSpec.{FieldSpec}
 use Rattle.iso_parts.specs.MapLaws.{MapLaws}
-use Rattle.iso_parts.specs.Part.{with_pads, padded, prefix, plain, plain_part}
+use Rattle.iso_parts.specs.Part.{with_pads, with_padding, prefix, plain, plain_part}
 use Rattle.iso_parts.specs.PartLaws.{PartLaws}
 use Rattle.iso_parts.specs.Spec.{is_exact, refusal, Fits}
 use Rattle.iso_table.specs.declared.host_ready.HostRow.{HostRow}
@@ -21,7 +22,7 @@ use Rattle.iso_table.specs.HostReady.{is_n, is_an, is_n_or_an, is_fixed, is_ll_o
 use Rattle.iso_table.specs.Layout.{row_at}
 use Rattle.iso_wire.specs.Contents.{Contents}
 use Rattle.iso_wire.specs.Refusal.{refused_field, refused_by}
-use Rattle.iso_wire.specs.Spelling.{mti_bytes, plain_by, plain_of}
+use Rattle.iso_wire.specs.Spelling.{plain_by, plain_of}
 use Rattle.iso_order.specs.Fields.{text}
 use Rattle.iso_order.specs.Fitting.{ResponsesAreShort}
 use Rattle.iso_order.specs.Listing.{entry}
@@ -48,7 +49,7 @@ unpadded_short : PartLaws → (s : FieldSpec) (v : List ℕ) → is_unpadded s.p
 unpadded_short laws s v is fits few =
     let narrow : FieldSpec = record s { max = length v } in
     let fits_narrow : Fits narrow v = record { length = length_by (is_exact s.length s.pad) (length v) (length v) refl; class = fits.class; pad = fits.pad } in
-    let same : padded narrow v ≡ padded s v = unpadded s.pad (length v - length v) v is ∙ sym (unpadded s.pad (s.max - length v) v is) in
+    let same : with_padding narrow v ≡ with_padding s v = unpadded s.pad (length v - length v) v is ∙ sym (unpadded s.pad (s.max - length v) v is) in
     let alike : length (plain_part narrow v) ≡ length (plain_part s v) = ap (λ (w : List ℕ). length (prefix s.length (length v) ++ plain s.coding w)) same in
     omega (arith, laws.short narrow v fits_narrow)
 
@@ -120,7 +121,7 @@ amount_twenty m a shown n is =
 
 -- ---- the type
 
-type_short : (k : Digits) (n : ℕ) → length (mti_bytes k n) ≤ 4
+type_short : (k : Digits) (n : ℕ) → length (four_digits_of k n) ≤ 4
 type_short digits.Ascii n = omega arith
 type_short digits.Bcd n = omega arith
 
@@ -137,6 +138,6 @@ responses_short_lem laws map_laws t m a out s plain =
     let bitmaps = map_laws.short t.bitmap _ maps plain.bitmaps in
     let written : length parts ≡ length (flat_map (plain_of t.rows) (elements_with_value value (map (λ (h : HostRow). h.number) host_rows))) = ap length (plain.parts ∙ ap (flat_map (plain_of t.rows)) listed) in
     let elements = elements_short laws t.rows value host_rows refl s.ready.rows (element_taken laws t m a s) (amount_twenty m a s.shown) in
-    let front = length-append (mti_bytes t.mti (response m a).mti) (maps ++ parts) in
+    let front = length-append (four_digits_of t.mti (response m a).mti) (maps ++ parts) in
     let behind = length-append maps parts in
     omega arith

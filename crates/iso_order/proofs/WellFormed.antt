@@ -3,9 +3,10 @@ use Rattle.std.proofs.Common.{◌≡◌, ◌≢◌, ℕ, zero, suc, ◌+◌, ◌
 use Rattle.std.specs.Prelude.{ℤ, pos, int_lt, unsigned_abs, unwrap_or, ◌==◌, ◌||◌, if◌then◌else◌, IfSome, option_map}
 use Rattle.std.proofs.lemmas.Bool.{and_parts}
 use Rattle.std.proofs.lemmas.Bool.Decides.{nat_tests}
+use Rattle.iso_parts.specs.Numbers.{is_element}
 use Rattle.iso_wire.specs.Contents.{Contents}
 use Rattle.iso_wire.specs.Decimal.{decimal}
-use Rattle.iso_wire.specs.Elements.{value_in, is_number, IsAscending}
+use Rattle.iso_wire.specs.Elements.{value_in, IsAscending}
 use Rattle.iso_wire.specs.OneSpelling.{AreOfBytes, WellFormed}
 use Rattle.iso_wire.specs.Spelling.{AreBytes}
 use Rattle.iso_order.specs.Fields.{text}
@@ -80,26 +81,26 @@ bytes-at value (n ∷ ns) each = bytes-entry n (value n) (elements_with_value va
 -- ---- their order
 
 -- a number that an element may have is at most 128, and not 65
-in-range : (n : ℕ) → is_number n ≡ true → (n ≤ 128) × (n ≢ 65)
+in-range : (n : ℕ) → is_element n ≡ true → (n ≤ 128) × (n ≢ 65)
 in-range n number = (grind (arith, nat_tests), (λ is. grind (arith, nat_tests)))
 
 ascending-from : (low high : ℕ) (es : Values) → low ≤ high → IsAscending high es → IsAscending low es
 ascending-from low high [] le rest = tt
 ascending-from low high (e ∷ es) le rest = (omega arith, rest.1, rest.2, rest.3)
 
-ascending-entry : (low n : ℕ) (v : Option (List ℕ)) (es : Values) → low ≤ n → is_number n ≡ true → IsAscending (n + 1) es → IsAscending low (entry n v ++ es)
+ascending-entry : (low n : ℕ) (v : Option (List ℕ)) (es : Values) → low ≤ n → is_element n ≡ true → IsAscending (n + 1) es → IsAscending low (entry n v ++ es)
 ascending-entry low n (Some v) es le number rest = let range = in-range n number in (le, range.0, range.1, rest)
 ascending-entry low n None es le number rest = ascending-from low (n + 1) es (omega arith) rest
 
-pub ascending-at : (test : ℕ → Bool) (value : ℕ → Option (List ℕ)) → ((n : ℕ) → test n ≡ true → is_number n ≡ true) → (low : ℕ) (ns : List ℕ) → are_ascending test low ns ≡ true → IsAscending low (elements_with_value value ns)
+pub ascending-at : (test : ℕ → Bool) (value : ℕ → Option (List ℕ)) → ((n : ℕ) → test n ≡ true → is_element n ≡ true) → (low : ℕ) (ns : List ℕ) → are_ascending test low ns ≡ true → IsAscending low (elements_with_value value ns)
 ascending-at test value number low [] h = tt
 ascending-at test value number low (n ∷ ns) h =
     let parts = are_ascending-parts test low n ns h in
     ascending-entry low n (value n) (elements_with_value value ns) parts.0 (number n parts.1) (ascending-at test value number (n + 1) ns parts.2)
 
 -- a number that an element of a response can have
-responded-number : (n : ℕ) → is_responded n ≡ true → is_number n ≡ true
-responded-number n h = (and_parts (is_number n) (n == 38 || n == 39 || n == 54 || is_echoed n) h).0
+responded-number : (n : ℕ) → is_responded n ≡ true → is_element n ≡ true
+responded-number n h = (and_parts (is_element n) (n == 38 || n == 39 || n == 54 || is_echoed n) h).0
 
 -- ---- its type
 

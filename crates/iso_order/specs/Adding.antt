@@ -1,7 +1,7 @@
 -- How a message is built: element by element, of ascending numbers.
 -- Inner: bodies and proofs cite it, and no public clause does.
 use Rattle.std.specs.Prelude.{ℕ, ◌+◌, Bool, true, ◌==◌, ◌&&◌, ◌||◌, nat_le, List, [], ◌∷◌, ◌++◌, Option}
-use Rattle.iso_wire.specs.Elements.{is_number}
+use Rattle.iso_parts.specs.Numbers.{is_element}
 use Rattle.iso_order.specs.Listing.{entry}
 use Rattle.iso_order.specs.Response.{is_echoed}
 
@@ -17,4 +17,4 @@ are_ascending test low (n ∷ ns) = nat_le low n && test n && are_ascending test
 
 -- a number that an element of a response can have
 abbrev pub is_responded : ℕ → Bool
-is_responded n = is_number n && (n == 38 || n == 39 || n == 54 || is_echoed n)
+is_responded n = is_element n && (n == 38 || n == 39 || n == 54 || is_echoed n)

@@ -1,6 +1,6 @@
 -- The message that asks for an order, and what it keeps.
 use Rattle.std.specs.Prelude.{◌≡◌, ℕ, ◌==◌, if◌then◌else◌, List, [], ◌∷◌, ◌++◌, Option, Some, None, option_map, IsTrue}
-use Rattle.iso_parts.specs.declared.prefix.Digits.{Digits}
+use Rattle.iso_parts.specs.declared.digits.Digits.{Digits}
 use Rattle.iso_table.specs.Edition87.{IsEdition87}
 use Rattle.iso_table.specs.Layout.{Layout}
 use Rattle.iso_wire.specs.Contents.{Contents}

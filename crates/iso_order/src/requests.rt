@@ -1,8 +1,9 @@
 //! The message that asks for an order.
 
 ghost use Rattle.std.specs.Prelude.{◌≡◌, ℕ, ◌≤◌, ◌++◌, ◌∷◌, [], true, OnOk, IfOk, option_map};
+ghost use Rattle.iso_parts.specs.Numbers.{is_element};
 ghost use Rattle.iso_wire.specs.Decimal.{decimal};
-ghost use Rattle.iso_wire.specs.Elements.{value_in, is_number, IsBelow};
+ghost use Rattle.iso_wire.specs.Elements.{value_in, IsBelow};
 ghost use Rattle.iso_order.specs.Listing.{entry};
 ghost use Rattle.iso_order.specs.Adding.{elements_with_value, are_ascending};
 ghost use Rattle.iso_order.specs.Requests.{processing_code, moved_amount, named_by, partial_left, acquirer_code, account_number};
@@ -73,7 +74,7 @@ fn partial_left(act: &Act) -> Option<u64>
 
 /// Adds a number in so many digits.
 fn add_number(n: u8, v: u64, digits: usize, request: &mut Message) -> Result<(), AllocError>
-    requires number { is_number n ≡ true }
+    requires number { is_element n ≡ true }
     requires behind { IsBelow n request.old.elements }
     requires few { digits ≤ 19 }
     ensures { OnOk result (request.new ≡ record request.old {
@@ -88,7 +89,7 @@ fn add_number(n: u8, v: u64, digits: usize, request: &mut Message) -> Result<(),
 
 /// Adds a number in so many digits, where there is one.
 fn add_some(n: u8, v: Option<u64>, digits: usize, request: &mut Message) -> Result<(), AllocError>
-    requires number { is_number n ≡ true }
+    requires number { is_element n ≡ true }
     requires behind { IsBelow n request.old.elements }
     requires few { digits ≤ 19 }
     ensures { OnOk result (request.new ≡ record request.old {
@@ -210,7 +211,7 @@ fn add(key: &TxKey, act: &Act, n: u8, request: &mut Message) -> Result<(), Alloc
 
 /// Adds the elements of those numbers.
 fn add_all(key: &TxKey, act: &Act, numbers: &[u8], request: &mut Message) -> Result<(), AllocError>
-    requires numbers { are_ascending is_number 2 numbers.now ≡ true }
+    requires numbers { are_ascending is_element 2 numbers.now ≡ true }
     requires empty { request.old.elements ≡ [] }
     requires acquirer { key.now.acquirer ≤ 99999999999 }
     ensures { OnOk result (request.new ≡ record request.old {

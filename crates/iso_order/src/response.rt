@@ -1,9 +1,10 @@
 //! The response to a message.
 
 ghost use Rattle.std.specs.Prelude.{◌≡◌, ℕ, ◌≤◌, ◌++◌, ◌∷◌, length, true, false, [], OnOk, IfOk};
+ghost use Rattle.iso_parts.specs.Numbers.{is_element};
 ghost use Rattle.iso_parts.specs.Mti.{mti_number};
 ghost use Rattle.iso_wire.specs.Decimal.{decimal};
-ghost use Rattle.iso_wire.specs.Elements.{value_in, is_number, IsBelow};
+ghost use Rattle.iso_wire.specs.Elements.{value_in, IsBelow};
 ghost use Rattle.iso_order.specs.Fields.{class, function, text};
 ghost use Rattle.iso_parts.specs.Mti.{is_answered};
 ghost use Rattle.iso_order.specs.Listing.{entry};
@@ -121,7 +122,7 @@ fn add_balance(message: &Message, answer: &Answer, response: &mut Message) -> Re
 
 /// Gives an element of the message back.
 fn echo(message: &Message, n: u8, response: &mut Message) -> Result<(), AllocError>
-    requires number { is_number n ≡ true }
+    requires number { is_element n ≡ true }
     requires behind { IsBelow n response.old.elements }
     ensures { OnOk result (response.new ≡ record response.old {
       elements = response.old.elements ++ entry n (value_in message.now.elements n);

@@ -13,7 +13,7 @@ use Rattle.iso_parts.specs.declared.bitmap.BitmapCause.TheVariants.{ThirdBitmap}
 use Rattle.iso_parts.specs.declared.bitmap.BitmapFault.{BitmapFault}
 use Rattle.iso_parts.specs.declared.bitmap.BitmapStep.{BitmapStep}
 use Rattle.iso_parts.specs.declared.bitmap.BitmapStep.TheVariants as steps
-use Rattle.iso_parts.specs.Bits.{BitsIn, map_size, contains, in_words, AreElements, primary_bits, secondary_bits, One, Two, Bitmaps}
+use Rattle.iso_parts.specs.Bitmap.{BitsIn, map_size, contains, in_words, AreElements, primary_bits, secondary_bits, One, Two, Bitmaps}
 use Rattle.iso_parts.specs.BitmapReading.{Maps, IfRead, got, more, fault, top, word_in, primary_by, secondary_by, maps_at, ReadsMaps, FoundMaps, IsSetRead}
 use Rattle.iso_parts.proofs.Words.{word_again, word_taken}
 

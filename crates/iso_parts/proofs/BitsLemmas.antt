@@ -12,7 +12,7 @@ use Rattle.std.proofs.lemmas.Slice.{take-put_mid}
 use borrow.Rule.Slice.PartMut.{put_mid}
 use Rattle.iso_parts.specs.declared.bitmap.Bitmap.{Bitmap}
 use Rattle.iso_parts.specs.declared.bitmap.BitmapCoding.TheVariants.{Raw}
-use Rattle.iso_parts.specs.Bits.{Bits, Two, HasAbove, contains, primary_bits, secondary_bits}
+use Rattle.iso_parts.specs.Bitmap.{Bits, Two, HasAbove, contains, primary_bits, secondary_bits}
 
 pub Bits-to_be_bytes : (set : ℕ → Bool) (w : ℕ) → w < 2 ^ 64 → ((k : ℕ) → 0 < k → k ≤ 64 → eqb (bit_at w (64 - k)) 1 ≡ set k) → Bits set (to_be_bytes w64 w)
 Bits-to_be_bytes set w lt h = record { eight = refl; bit = λ k low high. ap (λ (n : ℕ). eqb (bit_at n (64 - k)) 1) (from_be_bytes-to_be_bytes_8 w lt) ∙ h k low high }

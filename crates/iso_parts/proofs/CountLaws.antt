@@ -8,7 +8,7 @@ use Rattle.std.proofs.lemmas.Nat.{mod-pow-add, pow_pos, ones_cat, ones_le_self, 
 use Rattle.std.proofs.lemmas.Nat.Bits.{bit_at-lt, bit_at-suc}
 use Rattle.std.proofs.Math.Pow.{shr_lt, shr-shr}
 use Rattle.std.proofs.Math.Nat.{mod-lt, mod-eq_of_lt}
-use Rattle.iso_parts.specs.Bits.{in_words}
+use Rattle.iso_parts.specs.Bitmap.{in_words}
 use Rattle.iso_parts.specs.Numbers.{numbers, numbers_in}
 use Rattle.iso_parts.proofs.NumberLaws.{one_more, no_more, no_numbers}
 

@@ -10,7 +10,7 @@ use Rattle.iso_parts.specs.declared.padding.Pad.{Pad}
 use Rattle.iso_parts.specs.declared.padding.Pad.TheVariants as pads
 use Rattle.iso_parts.specs.declared.spec.FieldSpec.{FieldSpec}
 use Rattle.iso_parts.specs.Spec.{is_padded, is_good_pad, is_exact, limit, IsGood, Fits}
-use Rattle.iso_parts.specs.Part.{with_pads, padded, prefix}
+use Rattle.iso_parts.specs.Part.{with_pads, with_padding, prefix}
 
 pub length-replicate : (n p : ℕ) → length (replicate n p) ≡ n
 length-replicate zero p = refl
@@ -53,7 +53,7 @@ counts_by_pad s (pads.Right p) v good fits =
     let whole = filled s.max p v fits_filled in
     padded_counts s.length s.max (length (v ++ replicate (s.max - length v) p)) (length v) fixed (length-append v (replicate (s.max - length v) p) ∙ omega arith)
 
-pub counts : (s : FieldSpec) (v : List ℕ) → IsGood s → Fits s v → IsWireCount s.length s.max (length (padded s v)) (length v)
+pub counts : (s : FieldSpec) (v : List ℕ) → IsGood s → Fits s v → IsWireCount s.length s.max (length (with_padding s v)) (length v)
 counts s v good fits = counts_by_pad s s.pad v good.pad fits.length
 
 -- the greatest count has a prefix

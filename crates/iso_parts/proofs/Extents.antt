@@ -9,13 +9,13 @@ use Rattle.iso_parts.specs.declared.encoding.Coding.TheVariants as codings
 use Rattle.iso_parts.specs.declared.spec.FieldSpec.{FieldSpec}
 use Rattle.iso_parts.specs.declared.fault.FieldFault.{FieldFault}
 use Rattle.iso_parts.specs.declared.fault.FieldFault.TheVariants.{BadLengthDigits, LengthOver, BadFiller, BadHex, NotInClass}
-use Rattle.iso_parts.specs.declared.prefix.Digits.TheVariants as digits
+use Rattle.iso_parts.specs.declared.digits.Digits.TheVariants as digits
 use Rattle.iso_parts.specs.declared.prefix.Length.{Length}
 use Rattle.iso_parts.specs.declared.prefix.Length.TheVariants as lengths
 use Rattle.iso_parts.specs.Class.{is_digit, is_in_class}
 use Rattle.iso_parts.specs.Part.{characters}
 use Rattle.iso_parts.specs.PartLaws.{IsUpTo, IsLengthFault, IsBodyFault}
-use Rattle.iso_parts.specs.Reading.{◌>>=◌, or_bad_length, number_of, prefix_size, prefix_of, count_of, behind_filler, or_bad_hex, text_of, unpadded, value_of, body_size, body_of, FieldReading, more, at_body, at_prefix, part_at}
+use Rattle.iso_parts.specs.Reading.{◌>>=◌, or_bad_length, number_of, prefix_size, prefix_of, count_of, behind_filler, or_bad_hex, text_of, without_padding, value_of, body_size, body_of, FieldReading, more, at_body, at_prefix, part_at}
 
 more_up_to : (t : Bool) (most len size : ℕ) (o : FieldReading) → ltb len size ≡ t → size ≤ most → IsUpTo most len o → IsUpTo most len (cond t more o)
 more_up_to true most len size o is le rest = omega (arith, ltb-true len size is)
@@ -100,7 +100,7 @@ class_fault true v e is = absurd cc
 class_fault false v e is = let same : NotInClass ≡ e = cc in subst IsBodyFault same tt
 
 value_fault : (s : FieldSpec) (r : Result (List ℕ) FieldFault) (e : FieldFault) → ((f : FieldFault) → r ≡ Err f → IsBodyFault f) → (r >>= value_of s) ≡ Err e → IsBodyFault e
-value_fault s (Ok w) e of_text is = class_fault (is_in_class s.class (unpadded s.pad w)) (unpadded s.pad w) e is
+value_fault s (Ok w) e of_text is = class_fault (is_in_class s.class (without_padding s.pad w)) (without_padding s.pad w) e is
 value_fault s (Err f) e of_text is = of_text e is
 
 filler_by : (t : Bool) (w : List ℕ) (e : FieldFault) → cond t (Ok w) (Err BadFiller) ≡ Err e → IsBodyFault e

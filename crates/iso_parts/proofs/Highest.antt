@@ -5,7 +5,7 @@ use Rattle.std.proofs.lemmas.Bool.{cases_lt}
 use Rattle.std.proofs.lemmas.Bool.Decides.{nat_tests}
 use Rattle.std.proofs.lemmas.Nat.Bits.{bit_at-trailing_zeros, bit_at-zero}
 use Rattle.iso_parts.specs.declared.bitmap.Bitmap.{Bitmap}
-use Rattle.iso_parts.specs.Bits.{IsHighest, contains}
+use Rattle.iso_parts.specs.Bitmap.{IsHighest, contains}
 
 pub highest_second : (s : Bitmap) → s.secondary ≢ 0 → IsHighest (contains s) (128 - trailing_zeros w64 s.secondary)
 highest_second s other =

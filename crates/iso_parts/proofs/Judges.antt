@@ -9,6 +9,7 @@ use Rattle.std.proofs.lemmas.List.Sums.{AllPass-from_list_all, list_all-from_All
 use Rattle.hex.specs.Hex.{decode_of, is_hex_digit}
 use Rattle.hex.specs.declared.error.FromHexError.{FromHexError}
 use Rattle.hex.proofs.HexLemmas.{decode_of-digits, decode_of-ok}
+use Rattle.iso_parts.specs.Judging.{Judges, IfJudged, count_at, size_at, some_count, some_size}
 use Rattle.iso_parts.specs.declared.class.CharClass.{CharClass}
 use Rattle.iso_parts.specs.declared.class.CharClass.TheVariants as classes
 use Rattle.iso_parts.specs.declared.encoding.Coding.{Coding}
@@ -23,13 +24,13 @@ use Rattle.iso_parts.specs.declared.judging.Judged.TheVariants as judgements
 use Rattle.iso_parts.specs.Class.{is_digit, is_within, is_in_class}
 use Rattle.iso_parts.specs.Spec.{IsGood, is_coded}
 use Rattle.iso_parts.specs.Part.{characters, Part}
-use Rattle.iso_parts.specs.Reading.{◌>>=◌, or_bad_hex, text_of, without_front, unpadded, value_of, body_of, prefix_size, prefix_of, body_size, some_count, count_at, some_size, size_at, got, more, fault, at_prefix, at_body, part_at, Judges, IfJudged}
+use Rattle.iso_parts.specs.Reading.{◌>>=◌, or_bad_hex, text_of, without_front, without_padding, value_of, body_of, prefix_size, prefix_of, body_size, got, more, fault, at_prefix, at_body, part_at}
 use Rattle.iso_parts.proofs.Takes.{part_takes}
 use Rattle.iso_parts.proofs.Texts.{has_nibbles}
 
 -- characters that are in the class without their padding
-pub value_is : (s : FieldSpec) (w : List ℕ) → is_in_class s.class (unpadded s.pad w) ≡ true → value_of s w ≡ Ok (unpadded s.pad w)
-value_is s w h = cond-true (is_in_class s.class (unpadded s.pad w)) (Ok (unpadded s.pad w)) (Err NotInClass) h
+pub value_is : (s : FieldSpec) (w : List ℕ) → is_in_class s.class (without_padding s.pad w) ≡ true → value_of s w ≡ Ok (without_padding s.pad w)
+value_is s w h = cond-true (is_in_class s.class (without_padding s.pad w)) (Ok (without_padding s.pad w)) (Err NotInClass) h
 
 digits_in_class : (w : List ℕ) → is_in_class classes.N w ≡ list_all is_digit w
 digits_in_class [] = refl
@@ -39,11 +40,11 @@ class_of_digits : (c : CharClass) (w : List ℕ) → c ≡ classes.N → is_in_c
 class_of_digits c w is = ap (λ (d : CharClass). is_in_class d w) is ∙ digits_in_class w
 
 -- digits behind their padding
-pub digits_judged : (s : FieldSpec) (w : List ℕ) → s.class ≡ classes.N → list_all is_digit (unpadded s.pad w) ≡ true → value_of s w ≡ Ok (unpadded s.pad w)
-digits_judged s w is h = value_is s w (class_of_digits s.class (unpadded s.pad w) is ∙ h)
+pub digits_judged : (s : FieldSpec) (w : List ℕ) → s.class ≡ classes.N → list_all is_digit (without_padding s.pad w) ≡ true → value_of s w ≡ Ok (without_padding s.pad w)
+digits_judged s w is h = value_is s w (class_of_digits s.class (without_padding s.pad w) is ∙ h)
 
-pub digits_refused : (s : FieldSpec) (w : List ℕ) → s.class ≡ classes.N → list_all is_digit (unpadded s.pad w) ≡ false → value_of s w ≡ Err NotInClass
-digits_refused s w is h = ap (λ (t : Bool). cond t (Ok (unpadded s.pad w)) (Err NotInClass)) (class_of_digits s.class (unpadded s.pad w) is ∙ h)
+pub digits_refused : (s : FieldSpec) (w : List ℕ) → s.class ≡ classes.N → list_all is_digit (without_padding s.pad w) ≡ false → value_of s w ≡ Err NotInClass
+digits_refused s w is h = ap (λ (t : Bool). cond t (Ok (without_padding s.pad w)) (Err NotInClass)) (class_of_digits s.class (without_padding s.pad w) is ∙ h)
 
 -- ---- packed characters of any nibble
 
@@ -91,20 +92,20 @@ nibbles_stripped p (x ∷ xs) all =
     let rest = nibbles_stripped p xs (and_parts (is_within 48 63 x) (has_nibbles xs) all).1 in
     stripped_by (eqb x p) (without_front p xs) (x ∷ xs) rest all
 
-nibbles_unpadded : (p : Pad) (w : List ℕ) → has_nibbles w ≡ true → has_nibbles (unpadded p w) ≡ true
+nibbles_unpadded : (p : Pad) (w : List ℕ) → has_nibbles w ≡ true → has_nibbles (without_padding p w) ≡ true
 nibbles_unpadded pads.None w all = all
 nibbles_unpadded (pads.Left p) w all = nibbles_stripped p w all
 nibbles_unpadded (pads.Right p) w all = nibbles_reversed (without_front p (reverse w)) (nibbles_stripped p (reverse w) (nibbles_reversed w all))
 
 -- any nibbles are a value
 pub any_packed : (s : FieldSpec) (n : ℕ) (b : List ℕ) → IsGood s → s.coding ≡ codings.Bcd → s.class ≢ classes.N → ((i : ℕ) → get_or b i 0 < 256)
-    → value_of s (drop n (characters b)) ≡ Ok (unpadded s.pad (drop n (characters b)))
+    → value_of s (drop n (characters b)) ≡ Ok (without_padding s.pad (drop n (characters b)))
 any_packed s n b good coded other bytes =
     let w : List ℕ = drop n (characters b) in
     let is : s.class ≡ classes.Z = class_of_packed s.class (subst (λ (c : Coding). is_coded c s.class ≡ true) coded good.coding) other in
     value_is s w (
-    ap (λ (c : CharClass). is_in_class c (unpadded s.pad w)) is
-    ∙ nibbles_in_class (unpadded s.pad w) (nibbles_unpadded s.pad w (nibbles_behind n (characters b) (characters_nibbles b bytes))))
+    ap (λ (c : CharClass). is_in_class c (without_padding s.pad w)) is
+    ∙ nibbles_in_class (without_padding s.pad w) (nibbles_unpadded s.pad w (nibbles_behind n (characters b) (characters_nibbles b bytes))))
 
 -- ---- hexadecimal digits
 
@@ -127,15 +128,15 @@ class_of_hex classes.ZD h = absurd cc
 class_of_hex classes.XN h = absurd cc
 
 -- without padding each value of bytes is taken
-pub any_bytes : (s : FieldSpec) (w : List ℕ) → s.class ≡ classes.B → value_of s w ≡ Ok (unpadded s.pad w)
-any_bytes s w is = value_is s w (ap (λ (c : CharClass). is_in_class c (unpadded s.pad w)) is ∙ bytes_in_class (unpadded s.pad w))
+pub any_bytes : (s : FieldSpec) (w : List ℕ) → s.class ≡ classes.B → value_of s w ≡ Ok (without_padding s.pad w)
+any_bytes s w is = value_is s w (ap (λ (c : CharClass). is_in_class c (without_padding s.pad w)) is ∙ bytes_in_class (without_padding s.pad w))
 
 pub hex_judged : (s : FieldSpec) (n : ℕ) (b : List ℕ) → IsGood s → s.coding ≡ codings.HexText → length b ≡ 2 * n → list_all is_hex_digit b ≡ true → (v : List ℕ) × (body_of s n b ≡ Ok v)
 hex_judged s n b good is size digits =
     let even : length b % 2 ≡ 0 = omega arith in
     let read = decode_of-digits b even (AllPass-from_list_all is_hex_digit b digits) in
     let class : s.class ≡ classes.B = class_of_hex s.class (subst (λ (c : Coding). is_coded c s.class ≡ true) is good.coding) in (
-      unpadded s.pad read.0,
+      without_padding s.pad read.0,
       ap (λ (c : Coding). text_of c n b >>= value_of s) is
           ∙ ap (λ r. or_bad_hex r >>= value_of s) read.1
           ∙ any_bytes s read.0 class,

@@ -7,7 +7,7 @@ use Rattle.iso_parts.specs.declared.padding.Pad.{Pad}
 use Rattle.iso_parts.specs.declared.padding.Pad.TheVariants as pads
 use Rattle.iso_parts.specs.Spec.{begins_with, has_pad_end}
 use Rattle.iso_parts.specs.Part.{with_pads}
-use Rattle.iso_parts.specs.Reading.{without_front, unpadded}
+use Rattle.iso_parts.specs.Reading.{without_front, without_padding}
 
 without_front-clean : (p : ℕ) (v : List ℕ) → begins_with p v ≡ false → without_front p v ≡ v
 without_front-clean p [] h = refl
@@ -49,10 +49,10 @@ reverse-replicate zero p = refl
 reverse-replicate (suc n) p = reverse-append (p ∷ []) (replicate n p) ∙ rw (reverse-replicate n p) (replicate_end n p)
 
 -- what is put on is taken off
-pub unpadded-with_pads : (pad : Pad) (n : ℕ) (v : List ℕ) → has_pad_end pad v ≡ false → unpadded pad (with_pads pad n v) ≡ v
-unpadded-with_pads pads.None n v h = refl
-unpadded-with_pads (pads.Left p) n v h = without_front-replicate p n v h
-unpadded-with_pads (pads.Right p) n v h =
+pub without_padding-with_pads : (pad : Pad) (n : ℕ) (v : List ℕ) → has_pad_end pad v ≡ false → without_padding pad (with_pads pad n v) ≡ v
+without_padding-with_pads pads.None n v h = refl
+without_padding-with_pads (pads.Left p) n v h = without_front-replicate p n v h
+without_padding-with_pads (pads.Right p) n v h =
     rw (reverse-append, reverse-replicate, without_front-replicate p n (reverse v) h) (reverse-reverse v)
 
 -- what is taken off leaves a value without a pad at its end, and is what puts it on again
@@ -61,12 +61,12 @@ pub record IsUnpadded (pad : Pad) (w v : List ℕ) : Type 0 where
   pub clean : has_pad_end pad v ≡ false
   pub shorter : length v ≤ length w
 
-pub IsUnpadded-unpadded : (pad : Pad) (w : List ℕ) → IsUnpadded pad w (unpadded pad w)
-IsUnpadded-unpadded pads.None w = record { whole = refl; clean = refl; shorter = omega arith }
-IsUnpadded-unpadded (pads.Left p) w =
+pub IsUnpadded-without_padding : (pad : Pad) (w : List ℕ) → IsUnpadded pad w (without_padding pad w)
+IsUnpadded-without_padding pads.None w = record { whole = refl; clean = refl; shorter = omega arith }
+IsUnpadded-without_padding (pads.Left p) w =
     let front = IsFront-without p w in
     record { whole = front.whole; clean = front.clean; shorter = front.shorter }
-IsUnpadded-unpadded (pads.Right p) w =
+IsUnpadded-without_padding (pads.Right p) w =
     let v = without_front p (reverse w) in
     let front = IsFront-without p (reverse w) in
     let whole : reverse v ++ replicate (length w - length (reverse v)) p ≡ w =

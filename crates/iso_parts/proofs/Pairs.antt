@@ -4,7 +4,7 @@ use Rattle.std.proofs.lemmas.List.{length-append, length-replicate, drop_more}
 use Rattle.iso_parts.specs.declared.padding.Pad.{Pad}
 use Rattle.iso_parts.specs.declared.padding.Pad.TheVariants as pads
 use Rattle.iso_parts.specs.declared.spec.FieldSpec.{FieldSpec}
-use Rattle.iso_parts.specs.Part.{with_pads, padded, with_filler, pairs}
+use Rattle.iso_parts.specs.Part.{with_pads, with_padding, with_filler, pairs}
 
 -- two characters and what is behind them
 pub pairs_from : (w : List ℕ) (at : ℕ) → at + 1 < length w → pairs (drop at w) ≡ (16 * (get_or w at 0 % 16) + get_or w (at + 1) 0 % 16) ∷ pairs (drop (at + 2) w)
@@ -29,7 +29,7 @@ length_with_pads (pads.Left p) n max v whole none = omega (arith, length-append 
 length_with_pads (pads.Right p) n max v whole none = omega (arith, length-append v (replicate n p), length-replicate n p)
 
 -- a value is filled up to the row's maximum
-pub length_padded : (s : FieldSpec) (v : List ℕ) → length v ≤ s.max → (s.pad ≡ pads.None → length v ≡ s.max) → length (padded s v) ≡ s.max
+pub length_padded : (s : FieldSpec) (v : List ℕ) → length v ≤ s.max → (s.pad ≡ pads.None → length v ≡ s.max) → length (with_padding s v) ≡ s.max
 length_padded s v room exact = length_with_pads s.pad (s.max - length v) s.max v (omega arith) (λ none. let whole = exact none in omega arith)
 
 behind_filler : (w : List ℕ) → 0 < length w → pairs (48 ∷ w) ≡ (get_or w 0 0 % 16) ∷ pairs (drop 1 w)

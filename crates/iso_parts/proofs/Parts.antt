@@ -3,13 +3,13 @@ use Rattle.std.proofs.Common.{◌≡◌, ℕ, ◌+◌, ◌-◌, ◌≤◌, false
 use Rattle.std.proofs.lemmas.Bool.{le-ltb, cond-false}
 use Rattle.std.proofs.lemmas.List.{length-append, take_at, drop_at}
 use Rattle.iso_parts.specs.declared.prefix.Length.{Length}
-use Rattle.iso_parts.specs.declared.prefix.Digits.TheVariants as digits
+use Rattle.iso_parts.specs.declared.digits.Digits.TheVariants as digits
 use Rattle.iso_parts.specs.declared.prefix.Length.TheVariants as lengths
 use Rattle.iso_parts.specs.declared.spec.FieldSpec.{FieldSpec}
 use Rattle.iso_parts.specs.Spec.{IsGood, Fits, limit}
-use Rattle.iso_parts.specs.Part.{padded, prefix, Part, Stands}
+use Rattle.iso_parts.specs.Part.{with_padding, prefix, Part, Stands}
 use Rattle.iso_parts.specs.Reading.{◌>>=◌, prefix_size, prefix_of, body_size, value_of, body_of, got, more, at_body, at_prefix, part_at}
-use Rattle.iso_parts.proofs.Pads.{unpadded-with_pads}
+use Rattle.iso_parts.proofs.Pads.{without_padding-with_pads}
 use Rattle.iso_parts.proofs.Prefixes.{count_again}
 use Rattle.iso_parts.proofs.Texts.{text_again, size_again}
 use Rattle.iso_parts.proofs.Counts.{counts, max_small}
@@ -28,8 +28,8 @@ length-prefix (lengths.LLLL digits.Bcd) n = refl
 prefix_again : (s : FieldSpec) (n : ℕ) → n ≤ s.max → n ≤ limit s.length → (s.length ≡ lengths.Fixed → n ≡ s.max) → prefix_of s (prefix s.length n) ≡ Ok n
 prefix_again s n le small fixed = rw (count_again s.length s.max n small fixed, le-ltb s.max n le) refl
 
-value_again : (s : FieldSpec) (v : List ℕ) → Fits s v → value_of s (padded s v) ≡ Ok v
-value_again s v fits = rw (unpadded-with_pads s.pad (s.max - length v) v fits.pad, fits.class) refl
+value_again : (s : FieldSpec) (v : List ℕ) → Fits s v → value_of s (with_padding s v) ≡ Ok v
+value_again s v fits = rw (without_padding-with_pads s.pad (s.max - length v) v fits.pad, fits.class) refl
 
 -- a good prefix and a good body, and then anything
 pieces_read : (s : FieldSpec) (n : ℕ) (p body v rest : List ℕ) → length p ≡ prefix_size s.length → prefix_of s p ≡ Ok n → length body ≡ body_size s.coding n → body_of s n body ≡ Ok v
@@ -53,7 +53,7 @@ pieces_read s n p body v rest plen pok blen bok =
 pub part_again : (s : FieldSpec) (v b rest : List ℕ) → IsGood s → Part s v b → part_at s (b ++ rest) ≡ got v (length b)
 part_again s v b rest good part =
     let body : List ℕ = part.0 in
-    let w : List ℕ = padded s v in
+    let w : List ℕ = with_padding s v in
     let n = length w in
     let fits : Fits s v = part.1.0 in
     let stands : Stands s.coding body w = part.1.1 in

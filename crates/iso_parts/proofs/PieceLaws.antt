@@ -6,7 +6,7 @@ use Rattle.hex.specs.Hex.{decode_of}
 use Rattle.hex.specs.declared.error.FromHexError.{FromHexError}
 use Rattle.iso_parts.specs.declared.encoding.Coding.{Coding}
 use Rattle.iso_parts.specs.declared.encoding.Coding.TheVariants as codings
-use Rattle.iso_parts.specs.declared.prefix.Digits.TheVariants as digits
+use Rattle.iso_parts.specs.declared.digits.Digits.TheVariants as digits
 use Rattle.iso_parts.specs.declared.prefix.Length.{Length}
 use Rattle.iso_parts.specs.declared.prefix.Length.TheVariants as lengths
 use Rattle.iso_parts.specs.declared.spec.FieldSpec.{FieldSpec}
@@ -17,8 +17,8 @@ use Rattle.iso_parts.specs.Part.{characters, prefix}
 use Rattle.iso_parts.specs.Spec.{limit}
 use Rattle.iso_parts.specs.PieceLaws.{PieceLaws}
 use Rattle.iso_parts.specs.Pieces.{TellsCount, IsCount, IsText, IsBadCount, IsBadBody}
-use Rattle.iso_parts.specs.Reading.{◌>>=◌, prefix_size, or_bad_length, number_of, count_of, prefix_of, body_size, behind_filler, or_bad_hex, text_of, unpadded, value_of, body_of}
-use Rattle.iso_parts.proofs.Pads.{unpadded-with_pads, IsUnpadded-unpadded}
+use Rattle.iso_parts.specs.Reading.{◌>>=◌, prefix_size, or_bad_length, number_of, count_of, prefix_of, body_size, behind_filler, or_bad_hex, text_of, without_padding, value_of, body_of}
+use Rattle.iso_parts.proofs.Pads.{without_padding-with_pads, IsUnpadded-without_padding}
 use Rattle.iso_parts.proofs.Prefixes.{count_again, count_takes}
 use Rattle.iso_parts.proofs.Texts.{text_again, text_takes}
 
@@ -150,9 +150,9 @@ text_tells s c w p len h = let text = text_takes s.coding c p w len h in (text.s
 
 refused_body : (s : FieldSpec) (c : ℕ) (e : FieldFault) (p : List ℕ) → length p ≡ body_size s.coding c → (r : Result (List ℕ) FieldFault) → text_of s.coding c p ≡ r → r >>= value_of s ≡ Err e → IsBadBody s c p e
 refused_body s c e p len (Ok w) is h =
-    let v : List ℕ = unpadded s.pad w in
+    let v : List ℕ = without_padding s.pad w in
     let got = chosen_err (is_in_class s.class v) faults.NotInClass e v h in
-    let bare = IsUnpadded-unpadded s.pad w in
+    let bare = IsUnpadded-without_padding s.pad w in
     subst (IsBadBody s c p) got.1 (w, v, text_tells s c w p len is, (length w - length v, bare.whole, bare.clean), got.0)
 refused_body s c e p len (Err d) is h =
     let none : (w : List ℕ) → IsText s c w p → ⊥ = λ w text. absurd (let other : Err d ≡ Ok w = sym is ∙ text_told s c w p text in cc) in
@@ -182,9 +182,9 @@ bad_body_is_refused s c faults.BadFiller p len bad = not_filled s c p len bad.0 
 bad_body_is_refused s c faults.BadHex p len bad = not_hex s c p len bad.0 bad.1 (text_of s.coding c p) refl
 bad_body_is_refused s c faults.NotInClass p len bad =
     let w : List ℕ = bad.0 in
-    let bare : unpadded s.pad w ≡ bad.1 = ap (unpadded s.pad) (sym bad.3.1) ∙ unpadded-with_pads s.pad bad.3.0 bad.1 bad.3.2 in
+    let bare : without_padding s.pad w ≡ bad.1 = ap (without_padding s.pad) (sym bad.3.1) ∙ without_padding-with_pads s.pad bad.3.0 bad.1 bad.3.2 in
     ap (λ r. r >>= value_of s) (text_told s c w p bad.2)
-    ∙ cond-false (is_in_class s.class (unpadded s.pad w)) (Ok (unpadded s.pad w)) (Err faults.NotInClass) (ap (is_in_class s.class) bare ∙ bad.4)
+    ∙ cond-false (is_in_class s.class (without_padding s.pad w)) (Ok (without_padding s.pad w)) (Err faults.NotInClass) (ap (is_in_class s.class) bare ∙ bad.4)
 bad_body_is_refused s c faults.WrongLength p len bad = absurd bad
 bad_body_is_refused s c faults.PadEnd p len bad = absurd bad
 bad_body_is_refused s c faults.BadLengthDigits p len bad = absurd bad

@@ -14,7 +14,7 @@ use Rattle.iso_parts.specs.declared.fault.FieldFault.{FieldFault}
 use Rattle.iso_parts.specs.declared.fault.FieldFault.TheVariants.{WrongLength, NotInClass, PadEnd}
 use Rattle.iso_parts.specs.Class.{is_within, is_digit, is_in_class}
 use Rattle.iso_parts.specs.Spec.{is_coded, is_pad_byte, is_good_pad, is_length, has_pad_end, refusal, IsGood, Fits}
-use Rattle.iso_parts.specs.Part.{with_pads, padded, plain, plain_part, Part}
+use Rattle.iso_parts.specs.Part.{with_pads, with_padding, plain, plain_part, Part}
 use Rattle.iso_parts.proofs.Texts.{has_nibbles, AreCoded, plain_stands}
 
 both : (a b : Bool) → a ≡ true → b ≡ true → (a && b) ≡ true
@@ -72,11 +72,11 @@ unpadded_hex s (pads.Right p) n v hex good = absurd (no_hex_pad s.coding p hex (
 
 pub plain_is_part : (s : FieldSpec) (v : List ℕ) → IsGood s → Fits s v → ((i : ℕ) → get_or v i 0 < 256) → Part s v (plain_part s v)
 plain_is_part s v good fits bytes =
-    let coded : AreCoded s.coding (padded s v) = record {
+    let coded : AreCoded s.coding (with_padding s v) = record {
       bytes = λ hex i. rw (unpadded_hex s s.pad (s.max - length v) v hex good.pad) (bytes i);
       nibbles = λ bcd. pads_nibbles s s.pad (s.max - length v) v bcd good.pad (class_nibbles s.class v (subst (λ (c : Coding). is_coded c s.class ≡ true) bcd good.coding) fits.class);
     } in
-    (plain s.coding (padded s v), (fits, plain_stands s.coding (padded s v) coded), refl)
+    (plain s.coding (with_padding s v), (fits, plain_stands s.coding (with_padding s v) coded), refl)
 
 accepted_by : (a b c : Bool) (x y z : FieldFault) → cond (not a) (Some x) (cond (not b) (Some y) (cond c (Some z) None)) ≡ None → (a ≡ true) × (b ≡ true) × (c ≡ false)
 accepted_by true true false x y z e = (refl, refl, refl)

@@ -5,7 +5,7 @@ use Rattle.hex.specs.Hex.{decode_of, encode_with, encode_upper, upper_digits, Is
 use Rattle.hex.proofs.HexLemmas.{decode_of-encode_upper, length-encode_with}
 use Rattle.iso_parts.specs.declared.bitmap.BitmapCoding.{BitmapCoding}
 use Rattle.iso_parts.specs.declared.bitmap.BitmapCoding.TheVariants.{Raw, Hex}
-use Rattle.iso_parts.specs.Bits.{Bits, BitsIn, primary_bits, secondary_bits, Bitmaps, in_coding}
+use Rattle.iso_parts.specs.Bitmap.{Bits, BitsIn, primary_bits, secondary_bits, Bitmaps, in_coding}
 use Rattle.iso_parts.proofs.BitmapLaws.{bytes_take, bytes_drop}
 
 encode_with-append : (t xs ys : List ℕ) → encode_with t (xs ++ ys) ≡ encode_with t xs ++ encode_with t ys

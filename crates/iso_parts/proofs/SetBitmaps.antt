@@ -9,7 +9,7 @@ use Rattle.std.proofs.lemmas.Nat.Bits.{bit_at-lt, bit_at-suc, bit_at_lowest, sam
 use Rattle.hex.specs.Hex.{IsBytes}
 use Rattle.iso_parts.specs.declared.bitmap.BitmapCoding.{BitmapCoding}
 use Rattle.iso_parts.specs.declared.bitmap.BitmapCoding.TheVariants.{Raw}
-use Rattle.iso_parts.specs.Bits.{Bits, HasAbove, primary_bits, secondary_bits, Bitmaps, in_coding, PlainBitmaps}
+use Rattle.iso_parts.specs.Bitmap.{Bits, HasAbove, primary_bits, secondary_bits, Bitmaps, in_coding, PlainBitmaps}
 use Rattle.iso_parts.proofs.BitmapLaws.{bytes_take, bytes_drop}
 use Rattle.iso_parts.proofs.BitsLemmas.{Bits-to_be_bytes}
 use Rattle.iso_parts.proofs.PlainBitmaps.{plain_maps}

@@ -12,12 +12,12 @@ use Rattle.iso_parts.specs.declared.encoding.Coding.{Coding}
 use Rattle.iso_parts.specs.declared.encoding.Coding.TheVariants as codings
 use Rattle.iso_parts.specs.declared.padding.Pad.{Pad}
 use Rattle.iso_parts.specs.declared.padding.Pad.TheVariants as pads
-use Rattle.iso_parts.specs.declared.prefix.Digits.TheVariants as digits
+use Rattle.iso_parts.specs.declared.digits.Digits.TheVariants as digits
 use Rattle.iso_parts.specs.declared.prefix.Length.{Length}
 use Rattle.iso_parts.specs.declared.prefix.Length.TheVariants as lengths
 use Rattle.iso_parts.specs.declared.spec.FieldSpec.{FieldSpec}
-use Rattle.iso_parts.specs.Bits.{Bitmaps, PlainBitmaps, in_coding}
-use Rattle.iso_parts.specs.Part.{with_pads, padded, with_filler, prefix, pairs, plain, plain_part}
+use Rattle.iso_parts.specs.Bitmap.{Bitmaps, PlainBitmaps, in_coding}
+use Rattle.iso_parts.specs.Part.{with_pads, with_padding, with_filler, prefix, pairs, plain, plain_part}
 use Rattle.iso_parts.specs.Spec.{is_exact, Fits}
 
 -- ---- a part
@@ -50,11 +50,11 @@ prefix_most (lengths.LLLL digits.Ascii) n = omega arith
 prefix_most (lengths.LLLL digits.Bcd) n = omega arith
 
 -- at most four bytes for the length, and two for each character
-pub plain_part_most : (s : FieldSpec) (v : List ℕ) → length (plain_part s v) ≤ 2 * length (padded s v) + 4
+pub plain_part_most : (s : FieldSpec) (v : List ℕ) → length (plain_part s v) ≤ 2 * length (with_padding s v) + 4
 plain_part_most s v =
     let front = prefix_most s.length (length v) in
-    let body = plain_most s.coding (padded s v) in
-    omega (arith, length-append (prefix s.length (length v)) (plain s.coding (padded s v)))
+    let body = plain_most s.coding (with_padding s v) in
+    omega (arith, length-append (prefix s.length (length v)) (plain s.coding (with_padding s v)))
 
 most_by : (t : Bool) (n max : ℕ) → (if t then n == max else nat_le n max) ≡ true → n ≤ max
 most_by true n max h = grind (arith, nat_tests)
@@ -66,7 +66,7 @@ with_pads_most (pads.Left p) v max within = omega (arith, length-append (replica
 with_pads_most (pads.Right p) v max within = omega (arith, length-append v (replicate (max - length v) p), length-replicate (max - length v) p)
 
 -- a value that fits is filled up to the row's maximum at most
-pub padded_most : (s : FieldSpec) (v : List ℕ) → Fits s v → length (padded s v) ≤ s.max
+pub padded_most : (s : FieldSpec) (v : List ℕ) → Fits s v → length (with_padding s v) ≤ s.max
 padded_most s v fits = with_pads_most s.pad v s.max (most_by (is_exact s.length s.pad) (length v) s.max fits.length)
 
 -- ---- bitmaps

@@ -4,19 +4,19 @@ use Rattle.std.proofs.lemmas.List.{take_at, drop_at, take-take, length-append}
 use Rattle.iso_parts.specs.declared.padding.Pad.TheVariants as pads
 use Rattle.iso_parts.specs.Reading.{without_front}
 use Rattle.iso_parts.proofs.Counts.{length-replicate}
-use Rattle.iso_parts.proofs.Pads.{IsUnpadded-unpadded}
+use Rattle.iso_parts.proofs.Pads.{IsUnpadded-without_padding}
 
 pub back_is : (p : ℕ) (w : List ℕ) → drop (length w - length (without_front p w)) w ≡ without_front p w
 back_is p w =
     let v : List ℕ = without_front p w in
     let n = length w - length v in
-    let whole : replicate n p ++ v ≡ w = (IsUnpadded-unpadded (pads.Left p) w).whole in
+    let whole : replicate n p ++ v ≡ w = (IsUnpadded-without_padding (pads.Left p) w).whole in
     sym (ap (drop n) whole) ∙ drop_at (replicate n p) v n (length-replicate n p)
 
 pub front_is : (p : ℕ) (w : List ℕ) → take (length (reverse (without_front p (reverse w)))) w ≡ reverse (without_front p (reverse w))
 front_is p w =
     let v : List ℕ = reverse (without_front p (reverse w)) in
-    let whole : v ++ replicate (length w - length v) p ≡ w = (IsUnpadded-unpadded (pads.Right p) w).whole in
+    let whole : v ++ replicate (length w - length v) p ≡ w = (IsUnpadded-without_padding (pads.Right p) w).whole in
     sym (ap (take (length v)) whole) ∙ take_at v (replicate (length w - length v) p) (length v) refl
 
 -- the front and what follows it, at the head of a longer list

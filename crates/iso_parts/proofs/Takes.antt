@@ -15,9 +15,9 @@ use Rattle.iso_parts.specs.declared.field.Step.{Step}
 use Rattle.iso_parts.specs.declared.field.Step.TheVariants as steps
 use Rattle.iso_parts.specs.Class.{is_in_class}
 use Rattle.iso_parts.specs.Spec.{IsGood, Fits, is_exact, is_good_pad}
-use Rattle.iso_parts.specs.Part.{padded, with_pads, prefix, Part, Stands}
-use Rattle.iso_parts.specs.Reading.{◌>>=◌, prefix_size, prefix_of, count_of, body_size, text_of, unpadded, value_of, body_of, FieldReading, got, more, at_body, at_prefix, part_at, Reads, IfGot}
-use Rattle.iso_parts.proofs.Pads.{IsUnpadded, IsUnpadded-unpadded}
+use Rattle.iso_parts.specs.Part.{with_padding, with_pads, prefix, Part, Stands}
+use Rattle.iso_parts.specs.Reading.{◌>>=◌, prefix_size, prefix_of, count_of, body_size, text_of, without_padding, value_of, body_of, FieldReading, got, more, at_body, at_prefix, part_at, Reads, IfGot}
+use Rattle.iso_parts.proofs.Pads.{IsUnpadded, IsUnpadded-without_padding}
 use Rattle.iso_parts.proofs.Prefixes.{count_takes, chosen_ok}
 use Rattle.iso_parts.proofs.Texts.{text_takes}
 use Rattle.iso_parts.proofs.Counts.{counts, padded_is_fixed, max_small}
@@ -74,20 +74,20 @@ length_fits (lengths.LLLL d) pad max w v le full un = let lt : length v ≤ max 
 -- what a body of the right size tells
 record TellsValue (s : FieldSpec) (m : ℕ) (body v : List ℕ) : Type 0 where
   pub fits : Fits s v
-  pub stands : Stands s.coding body (padded s v)
-  pub count : length (padded s v) ≡ m
+  pub stands : Stands s.coding body (with_padding s v)
+  pub count : length (with_padding s v) ≡ m
 
 body_takes : (s : FieldSpec) (m : ℕ) (body v : List ℕ) → IsGood s → m ≤ s.max → (s.length ≡ lengths.Fixed → m ≡ s.max) → length body ≡ body_size s.coding m → body_of s m body ≡ Ok v → TellsValue s m body v
 body_takes s m body v good le full len e =
     let read = bind_ok (text_of s.coding m body) (value_of s) v e in
     let w : List ℕ = read.0 in
     let text = text_takes s.coding m body w len read.1 in
-    let kept = chosen_ok (is_in_class s.class (unpadded s.pad w)) NotInClass (unpadded s.pad w) v read.2 in
-    let un : IsUnpadded s.pad w v = subst (λ (x : List ℕ). IsUnpadded s.pad w x) kept.1 (IsUnpadded-unpadded s.pad w) in
+    let kept = chosen_ok (is_in_class s.class (without_padding s.pad w)) NotInClass (without_padding s.pad w) v read.2 in
+    let un : IsUnpadded s.pad w v = subst (λ (x : List ℕ). IsUnpadded s.pad w x) kept.1 (IsUnpadded-without_padding s.pad w) in
     let in_class : IsTrue (is_in_class s.class v) = subst (λ (x : List ℕ). is_in_class s.class x ≡ true) kept.1 kept.0 in
     let count : length w ≡ m = text.count in
     let w_full : s.length ≡ lengths.Fixed → length w ≡ s.max = λ fixed. count ∙ full fixed in
-    let again : padded s v ≡ w = refilled s s.pad w v good.pad w_full un in
+    let again : with_padding s v ≡ w = refilled s s.pad w v good.pad w_full un in
     record {
       fits = record { length = length_fits s.length s.pad s.max w v (omega arith) w_full un; class = in_class; pad = un.clean };
       stands = subst (λ (x : List ℕ). Stands s.coding body x) (sym again) text.stands;

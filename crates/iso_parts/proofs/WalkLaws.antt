@@ -5,8 +5,8 @@ use Rattle.std.proofs.lemmas.Bool.{cases_lt}
 use Rattle.std.proofs.lemmas.Bool.Decides.{nat_tests}
 use Rattle.std.proofs.Math.Nat.{pow-suc}
 use Rattle.std.proofs.lemmas.Nat.Bits.{bit_at-zero, bit_at_above, bit_at_cat_low, bit_at_cat_high}
-use Rattle.iso_parts.specs.Bits.{in_words}
-use Rattle.iso_parts.specs.FirstBit.{TakesFirstBit}
+use Rattle.iso_parts.specs.Bitmap.{in_words}
+use Rattle.iso_parts.specs.Bits.{TakesFirstBit}
 use Rattle.iso_parts.specs.Numbers.{numbers_in}
 use Rattle.iso_parts.proofs.NumberLaws.{IsLowest, numbers_lowest, numbers_agree, numbers_none}
 

@@ -7,7 +7,7 @@ use Rattle.std.proofs.lemmas.Bool.{cases_lt}
 use Rattle.std.proofs.lemmas.Bool.Decides.{nat_tests}
 use Rattle.std.proofs.lemmas.Nat.{and_le_l}
 use Rattle.std.proofs.lemmas.Nat.Bits.{bit_at-lt, bit_at_and, same_from_bits_below}
-use Rattle.iso_parts.specs.Bits.{in_words}
+use Rattle.iso_parts.specs.Bitmap.{in_words}
 
 -- each bit of the first word is one of the second
 bit_within : (a b i : ℕ) → bit_and a b ≡ a → bit_at a i ≤ bit_at b i

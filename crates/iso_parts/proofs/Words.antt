@@ -6,7 +6,7 @@ use Rattle.hex.specs.declared.error.FromHexError.{FromHexError}
 use Rattle.hex.proofs.HexLemmas.{decode_of-ok}
 use Rattle.iso_parts.specs.declared.bitmap.BitmapCoding.{BitmapCoding}
 use Rattle.iso_parts.specs.declared.bitmap.BitmapCoding.TheVariants.{Raw, Hex}
-use Rattle.iso_parts.specs.Bits.{Bits, BitsIn, map_size}
+use Rattle.iso_parts.specs.Bitmap.{Bits, BitsIn, map_size}
 use Rattle.iso_parts.specs.MapLaws.{IsWordOf}
 use Rattle.iso_parts.specs.BitmapReading.{word_of, word_in}
 

@@ -10,7 +10,7 @@ use Rattle.iso_parts.specs.declared.bitmap.BitmapCause.TheVariants.{BadHex, Thir
 use Rattle.iso_parts.specs.declared.bitmap.BitmapFault.{BitmapFault}
 use Rattle.iso_parts.specs.declared.bitmap.BitmapStep.{BitmapStep}
 use Rattle.iso_parts.specs.declared.bitmap.BitmapStep.TheVariants as steps
-use Rattle.iso_parts.specs.Bits.{map_size, contains, in_words, Bitmaps}
+use Rattle.iso_parts.specs.Bitmap.{map_size, contains, in_words, Bitmaps}
 
 -- ---- one bitmap
 

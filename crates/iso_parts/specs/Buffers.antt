@@ -1,5 +1,4 @@
 -- What a buffer still holds where it could not grow.
--- Inner: bodies and proofs cite it, and no public clause does.
 use Rattle.std.specs.Prelude.{◌≡◌, ℕ, List, length, take}
 
 -- the new list begins with the old one

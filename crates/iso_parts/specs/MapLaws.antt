@@ -3,7 +3,7 @@ use Rattle.std.specs.Prelude.{◌≡◌, ℕ, ◌-◌, ◌<◌, ◌≤◌, ◌^�
 use Rattle.std.specs.Int.{bit_at}
 use Rattle.hex.specs.Hex.{IsBytes}
 use Rattle.iso_parts.specs.declared.bitmap.BitmapCoding.{BitmapCoding}
-use Rattle.iso_parts.specs.Bits.{BitsIn, PlainBitmaps, map_size}
+use Rattle.iso_parts.specs.Bitmap.{BitsIn, PlainBitmaps, map_size}
 use Rattle.iso_parts.specs.BitmapReading.{word_in}
 
 -- whether bit k of a word is set, the most significant being bit 1

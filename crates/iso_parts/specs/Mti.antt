@@ -1,7 +1,7 @@
 -- Message types: four decimal digits, for version, class, function and origin (ISO 8583:1987, message type identifier).
 use Rattle.std.specs.Prelude.{ℕ, ◌+◌, ◌-◌, ◌*◌, ◌/◌, ◌%◌, ◌==◌, ◌&&◌, ◌||◌, nat_le, Bool, List, [], ◌∷◌, Option, Some, None, if◌then◌else◌}
-use Rattle.iso_parts.specs.declared.prefix.Digits.{Digits}
-use Rattle.iso_parts.specs.declared.prefix.Digits.TheVariants.{Ascii, Bcd}
+use Rattle.iso_parts.specs.declared.digits.Digits.{Digits}
+use Rattle.iso_parts.specs.declared.digits.Digits.TheVariants.{Ascii, Bcd}
 use Rattle.iso_parts.specs.Class.{is_digit}
 use Rattle.iso_parts.specs.declared.mti.Mti.{Mti}
 use Rattle.iso_parts.specs.declared.mti.MtiClass.{MtiClass}
@@ -21,8 +21,8 @@ mti_size Ascii = 4
 mti_size Bcd = 2
 
 -- the digits of a number below 10000
-abbrev pub digits_of : ℕ → Option (ℕ × ℕ × ℕ × ℕ)
-digits_of n = if nat_le n 9999 then Some (n / 1000, n / 100 % 10, n / 10 % 10, n % 10) else None
+abbrev pub type_digits : ℕ → Option (ℕ × ℕ × ℕ × ℕ)
+type_digits n = if nat_le n 9999 then Some (n / 1000, n / 100 % 10, n / 10 % 10, n % 10) else None
 
 -- the digits that a text of four ASCII digits writes
 abbrev pub digits_in : List ℕ → Option (ℕ × ℕ × ℕ × ℕ)

@@ -1,7 +1,11 @@
 -- The numbers of a bitmap's elements, in ascending order (ISO 8583:1987, primary and secondary bitmap).
-use Rattle.std.specs.Prelude.{◌≡◌, ℕ, zero, suc, ◌+◌, ◌-◌, Bool, not, if◌then◌else◌, List, [], ◌∷◌, find, Option, Some, None}
+use Rattle.std.specs.Prelude.{◌≡◌, ℕ, zero, suc, ◌+◌, ◌-◌, ◌==◌, ◌&&◌, nat_le, Bool, not, if◌then◌else◌, List, [], ◌∷◌, find, Option, Some, None}
 use Rattle.iso_parts.specs.declared.bitmap.Bitmap.{Bitmap}
-use Rattle.iso_parts.specs.Bits.{in_words}
+use Rattle.iso_parts.specs.Bitmap.{in_words}
+
+-- whether an element may have the number: bit 1 tells of the secondary bitmap, and bit 65 of a third one
+abbrev pub is_element : ℕ → Bool
+is_element n = nat_le 2 n && nat_le n 128 && not (n == 65)
 
 -- of count numbers from n on, those in the set
 unfoldable pub numbers : (ℕ → Bool) → ℕ → ℕ → List ℕ

@@ -4,13 +4,13 @@ use Rattle.std.specs.List.{flat_map}
 use Rattle.hex.specs.Hex.{decode_of, encode_upper}
 use Rattle.iso_parts.specs.declared.encoding.Coding.{Coding}
 use Rattle.iso_parts.specs.declared.encoding.Coding.TheVariants as codings
-use Rattle.iso_parts.specs.declared.prefix.Digits.TheVariants as digits
+use Rattle.iso_parts.specs.declared.digits.Digits.TheVariants as digits
 use Rattle.iso_parts.specs.declared.prefix.Length.{Length}
 use Rattle.iso_parts.specs.declared.prefix.Length.TheVariants as lengths
 use Rattle.iso_parts.specs.declared.padding.Pad.{Pad}
 use Rattle.iso_parts.specs.declared.padding.Pad.TheVariants as pads
 use Rattle.iso_parts.specs.declared.spec.FieldSpec.{FieldSpec}
-use Rattle.iso_parts.specs.FourDigits.{four_digits_of}
+use Rattle.iso_parts.specs.Digits.{four_digits_of}
 use Rattle.iso_parts.specs.Spec.{Fits}
 
 -- n pad bytes at the padded end
@@ -20,8 +20,8 @@ with_pads (pads.Left p) n v = replicate n p ++ v
 with_pads (pads.Right p) n v = v ++ replicate n p
 
 -- the characters on the wire: the value and its pads
-abbrev pub padded : FieldSpec → List ℕ → List ℕ
-padded s v = with_pads s.pad (s.max - length v) v
+abbrev pub with_padding : FieldSpec → List ℕ → List ℕ
+with_padding s v = with_pads s.pad (s.max - length v) v
 
 -- the two characters of a byte, the high nibble first
 abbrev pub nibbles : ℕ → List ℕ
@@ -43,7 +43,7 @@ Stands codings.HexText b w = decode_of b ≡ Ok w
 
 -- the bytes are a body of the value
 abbrev pub Body : FieldSpec → List ℕ → List ℕ → Type 0
-Body s v b = Fits s v × Stands s.coding b (padded s v)
+Body s v b = Fits s v × Stands s.coding b (with_padding s v)
 
 -- the digits of a length
 abbrev pub prefix : Length → ℕ → List ℕ
@@ -73,4 +73,4 @@ plain codings.Bcd w = pairs (with_filler 48 w)
 plain codings.HexText w = encode_upper w
 
 abbrev pub plain_part : FieldSpec → List ℕ → List ℕ
-plain_part s v = prefix s.length (length v) ++ plain s.coding (padded s v)
+plain_part s v = prefix s.length (length v) ++ plain s.coding (with_padding s v)

@@ -4,7 +4,7 @@ use Rattle.hex.specs.Hex.{IsBytes}
 use Rattle.iso_parts.specs.declared.spec.FieldSpec.{FieldSpec}
 use Rattle.iso_parts.specs.declared.fault.FieldFault.{FieldFault}
 use Rattle.iso_parts.specs.declared.fault.FieldFault.TheVariants.{BadLengthDigits, LengthOver, BadFiller, BadHex, NotInClass}
-use Rattle.iso_parts.specs.Part.{Part, Body, padded, plain_part}
+use Rattle.iso_parts.specs.Part.{Part, Body, with_padding, plain_part}
 use Rattle.iso_parts.specs.Reading.{FieldReading, got, more, fault, prefix_size, prefix_of, body_size, body_of, part_at}
 use Rattle.iso_parts.specs.Spec.{Fits, IsGood, refusal}
 
@@ -52,4 +52,4 @@ pub record PartLaws : Type 0 where
   pub length_fault : (s : FieldSpec) (p : List ℕ) (e : FieldFault) → prefix_of s p ≡ Err e → IsLengthFault e
   pub body_fault : (s : FieldSpec) (n : ℕ) (b : List ℕ) (e : FieldFault) → body_of s n b ≡ Err e → IsBodyFault e
   -- all bodies of one value have one length
-  pub sized : (s : FieldSpec) (v b : List ℕ) → Body s v b → length b ≡ body_size s.coding (length (padded s v))
+  pub sized : (s : FieldSpec) (v b : List ℕ) → Body s v b → length b ≡ body_size s.coding (length (with_padding s v))

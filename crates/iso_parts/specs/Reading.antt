@@ -4,7 +4,7 @@ use Rattle.hex.specs.Hex.{decode_of}
 use Rattle.hex.specs.declared.error.FromHexError.{FromHexError}
 use Rattle.iso_parts.specs.declared.encoding.Coding.{Coding}
 use Rattle.iso_parts.specs.declared.encoding.Coding.TheVariants as codings
-use Rattle.iso_parts.specs.declared.prefix.Digits.TheVariants as digits
+use Rattle.iso_parts.specs.declared.digits.Digits.TheVariants as digits
 use Rattle.iso_parts.specs.declared.prefix.Length.{Length}
 use Rattle.iso_parts.specs.declared.prefix.Length.TheVariants as lengths
 use Rattle.iso_parts.specs.declared.padding.Pad.{Pad}
@@ -14,10 +14,8 @@ use Rattle.iso_parts.specs.declared.fault.FieldFault.{FieldFault}
 use Rattle.iso_parts.specs.declared.fault.FieldFault.TheVariants.{BadLengthDigits, LengthOver, BadFiller, BadHex, NotInClass, Memory}
 use Rattle.iso_parts.specs.declared.field.Step.{Step}
 use Rattle.iso_parts.specs.declared.field.Step.TheVariants as steps
-use Rattle.iso_parts.specs.declared.judging.Judged.{Judged}
-use Rattle.iso_parts.specs.declared.judging.Judged.TheVariants as judgements
 use Rattle.iso_parts.specs.Class.{is_in_class}
-use Rattle.iso_parts.specs.FourDigits.{four_digits}
+use Rattle.iso_parts.specs.Digits.{four_digits}
 use Rattle.iso_parts.specs.Part.{characters}
 
 infixl 10 ◌>>=◌
@@ -95,13 +93,13 @@ without_front p [] = []
 without_front p (x ∷ xs) = if x == p then without_front p xs else x ∷ xs
 
 -- the characters without their padding
-abbrev pub unpadded : Pad → List ℕ → List ℕ
-unpadded pads.None w = w
-unpadded (pads.Left p) w = without_front p w
-unpadded (pads.Right p) w = reverse (without_front p (reverse w))
+abbrev pub without_padding : Pad → List ℕ → List ℕ
+without_padding pads.None w = w
+without_padding (pads.Left p) w = without_front p w
+without_padding (pads.Right p) w = reverse (without_front p (reverse w))
 
 abbrev pub value_of : FieldSpec → List ℕ → Result (List ℕ) FieldFault
-value_of s w = if is_in_class s.class (unpadded s.pad w) then Ok (unpadded s.pad w) else Err NotInClass
+value_of s w = if is_in_class s.class (without_padding s.pad w) then Ok (without_padding s.pad w) else Err NotInClass
 
 -- the value that a whole body of n characters tells
 abbrev pub body_of : FieldSpec → ℕ → List ℕ → Result (List ℕ) FieldFault
@@ -150,35 +148,3 @@ abbrev pub IfGot : Result Step FieldFault → (List ℕ → ℕ → Type 0) → 
 IfGot (Ok (steps.Got value used)) P = P value.items used
 IfGot (Ok steps.More) P = Unit {0}
 IfGot (Err e) P = Unit {0}
-
--- ---- judging alone
-
-abbrev pub some_count : Result ℕ FieldFault → Result (Option ℕ) FieldFault
-some_count (Ok n) = Ok (Some n)
-some_count (Err e) = Err e
-
--- the count that the length at the front tells; nothing where bytes are missing
-abbrev pub count_at : FieldSpec → List ℕ → Result (Option ℕ) FieldFault
-count_at s b = if nat_lt (length b) (prefix_size s.length) then Ok None else some_count (prefix_of s (take (prefix_size s.length) b))
-
-abbrev pub some_size : ℕ → Result (List ℕ) FieldFault → Result (Option ℕ) FieldFault
-some_size size (Ok v) = Ok (Some size)
-some_size size (Err e) = Err e
-
--- how many bytes the body of n characters at the front takes; nothing where bytes are missing
-abbrev pub size_at : FieldSpec → ℕ → List ℕ → Result (Option ℕ) FieldFault
-size_at s n b =
-    let size = body_size s.coding n in
-    if nat_lt (length b) size then Ok None else some_size size (body_of s n (take size b))
-
--- the answer is that of reading, with where the body begins in place of the value
-abbrev pub Judges : ℕ → Result Judged FieldFault → FieldReading → Type 0
-Judges front (Ok (judgements.Got body used)) o = (body ≡ front) × ((value : List ℕ) × (o ≡ got value used))
-Judges front (Ok judgements.More) o = o ≡ more
-Judges front (Err e) o = o ≡ fault e
-
--- of what was judged good: where its body begins, and how many bytes its part takes
-abbrev pub IfJudged : Result Judged FieldFault → (ℕ → ℕ → Type 0) → Type 0
-IfJudged (Ok (judgements.Got body used)) P = P body used
-IfJudged (Ok judgements.More) P = Unit {0}
-IfJudged (Err e) P = Unit {0}

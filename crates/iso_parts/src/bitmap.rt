@@ -72,7 +72,7 @@ impl BitmapCause {
 
 impl BitmapCoding {
     ghost use Rattle.hex.specs.Hex.{IsBytes};
-    ghost use Rattle.iso_parts.specs.Bits.{map_size, in_coding};
+    ghost use Rattle.iso_parts.specs.Bitmap.{map_size, in_coding};
     ghost use Rattle.iso_parts.specs.BitmapReading.{word_in};
 
     /// How many bytes a bitmap takes.
@@ -112,7 +112,7 @@ impl BitmapCoding {
 }
 
 impl Bitmap {
-    ghost use Rattle.iso_parts.specs.Bits.{contains, in_words, AreElements, Bitmaps, PlainBitmaps, HasAbove, IsHighest};
+    ghost use Rattle.iso_parts.specs.Bitmap.{contains, in_words, AreElements, Bitmaps, PlainBitmaps, HasAbove, IsHighest};
     ghost use Rattle.iso_parts.specs.BitmapReading.{ReadsMaps, FoundMaps, IfRead, IsSetRead, maps_at};
     ghost use Rattle.iso_parts.specs.Numbers.{numbers_in, members, members_below, TakesFirst, first_missing};
 

@@ -4,11 +4,11 @@ ghost use Rattle.std.specs.Prelude.{◌≡◌, ◌<◌, ◌^◌, length, true};
 ghost use Rattle.std.specs.Int.{w64, from_be_bytes};
 ghost use Rattle.std.specs.List.{list_all};
 ghost use Rattle.hex.specs.Hex.{decode_of, hex_digit_value, is_hex_digit};
-ghost use Rattle.iso_parts.specs.Bits.{map_size};
+ghost use Rattle.iso_parts.specs.Bitmap.{map_size};
 ghost use Rattle.iso_parts.specs.BitmapReading.{ReadsMaps, word_in, word_of, secondary_by, maps_at};
 
 use crate::bitmap::{Bitmap, BitmapCause, BitmapCoding, BitmapFault, BitmapStep};
-use crate::bits::FIRST_BIT;
+use crate::bits::{FIRST_BIT, tells_another};
 use crate::encoding::are_hex_digits;
 
 /// The word of eight bytes.
@@ -75,7 +75,7 @@ fn read_secondary(
             at,
             cause: BitmapCause::BadHex,
         }),
-        Some(secondary) if secondary < FIRST_BIT => Ok(BitmapStep::Got {
+        Some(secondary) if !tells_another(secondary) => Ok(BitmapStep::Got {
             bits: Bitmap::from_words(primary, secondary),
             used: at + at,
         }),
@@ -101,7 +101,7 @@ pub(crate) fn read(coding: BitmapCoding, bytes: &[u8]) -> Result<BitmapStep, Bit
             cause: BitmapCause::BadHex,
         });
     };
-    if primary < FIRST_BIT {
+    if !tells_another(primary) {
         let bits = Bitmap::from_words(primary, 0);
         return Ok(BitmapStep::Got { bits, used: size });
     }

@@ -1,11 +1,21 @@
 //! The bits of a bitmap's word, the first of which is the most significant one.
 
 ghost use Rattle.std.specs.Int.{bit_at};
-ghost use Rattle.std.specs.Prelude.{◌≡◌, ◌≢◌, ◌/◌, ◌<◌, ◌≤◌, ◌^◌, ℕ, count_ones};
-ghost use Rattle.iso_parts.specs.FirstBit.{TakesFirstBit};
+ghost use Rattle.std.specs.Prelude.{◌≡◌, ◌≢◌, ◌/◌, ◌<◌, ◌≤◌, ◌^◌, ℕ, false, nat_le, count_ones};
+ghost use Rattle.iso_parts.specs.BitmapReading.{top};
+ghost use Rattle.iso_parts.specs.Bits.{TakesFirstBit};
 
-/// The first bit of a word. In a primary bitmap it tells that a secondary one follows; it is none of an element.
-pub const FIRST_BIT: u64 = 0x8000_0000_0000_0000;
+/// The first bit of a word, which is none of an element.
+pub(crate) const FIRST_BIT: u64 = 0x8000_0000_0000_0000;
+
+/// Whether the first bit of a bitmap's word is set. Bit 1 tells of the secondary bitmap, and bit 65 of a third one.
+#[inline(always)]
+pub fn tells_another(word: u64) -> bool
+    ensures exact { result ≡ nat_le top word }
+    ensures low { result ≡ false → word < 2 ^ 63 }
+{
+    FIRST_BIT <= word
+}
 
 /// Takes the first bit that is set out of a word: how many bits stand before it, and the word without it.
 pub(crate) fn take_bit(word: u64) -> (u8, u64)

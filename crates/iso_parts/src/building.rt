@@ -38,7 +38,7 @@ fn decode_judged_body(
     ensures { Builds out.old.items out.new.items result (body_of spec.now n body.now) }
 {
     match spec.coding {
-        Coding::Ascii | Coding::Raw => out.extend_from_slice(spec.pad.unpadded(body)),
+        Coding::Ascii | Coding::Raw => out.extend_from_slice(spec.pad.without_padding(body)),
         Coding::Bcd | Coding::HexText => {
             let before = out.len();
             decode_judged_text(spec.coding, n, body, out)?;

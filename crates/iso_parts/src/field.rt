@@ -5,7 +5,7 @@ ghost use Rattle.std.specs.Prelude.{IfOk, IfSome};
 ghost use Rattle.std.specs.Prelude.{OnOk, OnErr, IfErr, IsTrue, None, Some};
 ghost use Rattle.iso_parts.specs.declared.fault.FieldFault.TheVariants.{Memory};
 ghost use Rattle.iso_parts.specs.Spec.{is_length, refusal, IsGood, Fits};
-ghost use Rattle.iso_parts.specs.Part.{with_pads, padded, pairs, plain, plain_part, Part};
+ghost use Rattle.iso_parts.specs.Part.{with_pads, with_padding, pairs, plain, plain_part, Part};
 ghost use Rattle.iso_parts.specs.Buffers.{Keeps};
 ghost use Rattle.iso_parts.specs.Texts.{Decodes};
 ghost use Rattle.iso_parts.specs.Reading.{prefix_size, Reads, DecodesValue, IfGot, got, prefix_of, value_of, body_of, part_at};
@@ -71,7 +71,7 @@ fn encode_padded_pairs(
     requires room { length value.now ≤ spec.now.max }
     requires exact { spec.now.pad ≡ Pad.None → length value.now ≡ spec.now.max }
     requires few { from ≤ 1 }
-    ensures ok { OnOk result (out.new.items ≡ out.old.items ++ pairs (drop from (padded spec.now value.now))) }
+    ensures ok { OnOk result (out.new.items ≡ out.old.items ++ pairs (drop from (with_padding spec.now value.now))) }
     ensures err { OnErr result (Keeps out.old.items out.new.items) }
 {
     let count = spec.max as usize;
@@ -90,7 +90,7 @@ fn encode_padded_pairs(
 fn encode_padded_bcd(spec: &FieldSpec, value: &[u8], out: &mut Vec<u8>) -> Result<(), AllocError>
     requires room { length value.now ≤ spec.now.max }
     requires exact { spec.now.pad ≡ Pad.None → length value.now ≡ spec.now.max }
-    ensures ok { OnOk result (out.new.items ≡ out.old.items ++ plain Coding.Bcd (padded spec.now value.now)) }
+    ensures ok { OnOk result (out.new.items ≡ out.old.items ++ plain Coding.Bcd (with_padding spec.now value.now)) }
     ensures err { OnErr result (Keeps out.old.items out.new.items) }
 {
     let count = spec.max as usize;
@@ -163,7 +163,7 @@ pub(crate) fn prefix_of(spec: &FieldSpec, prefix: &[u8]) -> Result<u16, FieldFau
 fn decode_text(spec: &FieldSpec, text: &[u8], out: &mut Vec<u8>) -> Result<(), FieldFault>
     ensures { Decodes out.old.items out.new.items result (value_of spec.now text.now) }
 {
-    let value = spec.pad.unpadded(text);
+    let value = spec.pad.without_padding(text);
     if !spec.class.takes_apart(value) {
         return Err(FieldFault::NotInClass);
     }
@@ -176,7 +176,7 @@ fn decode_in_place(spec: &FieldSpec, before: usize, out: &mut Vec<u8>) -> Result
     ensures { Decodes (take before out.old.items) out.new.items result (value_of spec.now (drop before out.old.items)) }
 {
     let (_, text) = out.as_slice().split_at(before);
-    let value = spec.pad.unpadded(text);
+    let value = spec.pad.without_padding(text);
     if !spec.class.takes_apart(value) {
         return Err(FieldFault::NotInClass);
     }

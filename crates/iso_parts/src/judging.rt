@@ -2,21 +2,23 @@
 
 ghost use Rattle.std.specs.Prelude.{◌≡◌, ◌≢◌, ◌≤◌, ◌+◌, ◌*◌, ◌/◌, ℕ, List, take, drop, length};
 ghost use Rattle.std.specs.Prelude.{IfErr, IfOk, IfSome, true, false};
+ghost use Rattle.iso_parts.specs.Judging.{Judges, IfJudged, count_at, size_at};
 ghost use Rattle.iso_parts.specs.Building.{IsPart};
 ghost use Rattle.iso_parts.specs.Class.{is_in_class};
 ghost use Rattle.iso_parts.specs.Spec.{IsGood};
 ghost use Rattle.iso_parts.specs.declared.fault.FieldFault.TheVariants.{Memory};
 ghost use Rattle.iso_parts.specs.Part.{characters, Part};
 ghost use Rattle.iso_parts.specs.Texts.{IsJudged, is_plain};
-ghost use Rattle.iso_parts.specs.Reading.{Judges, IfJudged, unpadded, count_at, size_at, prefix_size, body_size, value_of, body_of, part_at};
+ghost use Rattle.iso_parts.specs.Reading.{without_padding, prefix_size, body_size, value_of, body_of, part_at};
 
 use crate::class::CharClass;
+use crate::digits::Digits;
 use crate::encoding::{Coding, are_hex_digits};
 use crate::fault::FieldFault;
 use crate::field::prefix_of;
 use crate::packed::are_unpadded_digits;
 use crate::padding::Pad;
-use crate::prefix::{Digits, Length};
+use crate::prefix::Length;
 use crate::spec::FieldSpec;
 
 /// What judging finds at the front of some bytes.
@@ -31,12 +33,12 @@ pub enum Judged {
 /// Whether characters without their padding are in the class. Most rows have no padding.
 #[inline(always)]
 fn are_in_class(spec: &FieldSpec, text: &[u8]) -> bool
-    ensures { result ≡ is_in_class spec.now.class (unpadded spec.now.pad text.now) }
+    ensures { result ≡ is_in_class spec.now.class (without_padding spec.now.pad text.now) }
 {
     if spec.pad == Pad::None {
         spec.class.takes(text)
     } else {
-        spec.class.takes_apart(spec.pad.unpadded(text))
+        spec.class.takes_apart(spec.pad.without_padding(text))
     }
 }
 

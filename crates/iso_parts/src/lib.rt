@@ -6,26 +6,32 @@ mod bitmap_reading;
 mod bits;
 mod building;
 mod class;
+mod digits;
 mod encoding;
 mod fault;
 mod field;
 mod judging;
 pub mod laws;
 mod mti;
+mod numbers;
 mod packed;
 mod padding;
 mod prefix;
 mod spec;
 
 pub use bitmap::{Bitmap, BitmapCause, BitmapCoding, BitmapFault, BitmapStep};
-pub use bits::FIRST_BIT;
+pub use bits::tells_another;
 pub use building::decode_judged;
 pub use class::CharClass;
+pub use digits::{
+    Digits, bcd_characters, four_ascii_digits, four_bcd_digits, four_digits, four_digits_in,
+};
 pub use encoding::Coding;
 pub use fault::FieldFault;
 pub use field::{Step, decode_field, decode_value, encode_field};
 pub use judging::{Judged, judge_body, judge_field, judge_length};
 pub use mti::{Mti, MtiClass};
+pub use numbers::{PLACES, is_element};
 pub use padding::Pad;
-pub use prefix::{Digits, LONGEST_VALUE, Length, four_ascii_digits, four_bcd_digits, four_digits};
+pub use prefix::{LONGEST_VALUE, Length};
 pub use spec::{FieldSpec, SpecFault};

@@ -35,11 +35,11 @@ pub enum MtiClass {
 }
 
 impl Mti {
-    ghost use Rattle.iso_parts.specs.Mti.{digits, digits_of, digits_in, mti_number, class_of, base_digits, response_digits};
+    ghost use Rattle.iso_parts.specs.Mti.{digits, type_digits, digits_in, mti_number, class_of, base_digits, response_digits};
 
     /// The type with the digits of a number, `None` above 9999.
     pub fn from_digits(n: u16) -> Option<Mti>
-        ensures { option_map digits result ≡ digits_of n }
+        ensures { option_map digits result ≡ type_digits n }
     {
         if n > 9999 {
             return None;

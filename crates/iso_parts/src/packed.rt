@@ -4,7 +4,7 @@ ghost use Rattle.std.specs.Prelude.{◌≡◌, ◌≤◌, ◌<◌, ◌-◌, ◌*
 ghost use Rattle.std.specs.List.{list_all};
 ghost use Rattle.iso_parts.specs.Class.{is_digit};
 ghost use Rattle.iso_parts.specs.Part.{characters};
-ghost use Rattle.iso_parts.specs.Reading.{without_front, unpadded};
+ghost use Rattle.iso_parts.specs.Reading.{without_front, without_padding};
 
 use crate::padding::Pad;
 
@@ -102,7 +102,7 @@ fn are_digits_between(from: usize, to: usize, body: &[u8]) -> bool
 pub(crate) fn are_unpadded_digits(pad: Pad, skip: usize, body: &[u8]) -> bool
     requires few { skip ≤ 1 }
     requires within { skip ≤ 2 * length body.now }
-    ensures { result ≡ list_all is_digit (unpadded pad (drop skip (characters body.now))) }
+    ensures { result ≡ list_all is_digit (without_padding pad (drop skip (characters body.now))) }
 {
     let end = 2 * body.len();
     match pad {

@@ -3,7 +3,7 @@
 ghost use Rattle.std.specs.Prelude.{◌≡◌, ◌≤◌, ◌<◌, ◌-◌, ◌++◌, length, reverse, take, drop, vec_len, slice_index};
 ghost use Rattle.iso_parts.specs.Spec.{has_pad_end};
 ghost use Rattle.iso_parts.specs.Part.{with_pads};
-ghost use Rattle.iso_parts.specs.Reading.{without_front, unpadded};
+ghost use Rattle.iso_parts.specs.Reading.{without_front, without_padding};
 
 /// What fills a value up on the wire, to the row's maximum. The value is kept without it.
 #[derive(Clone, Copy, Debug, PartialEq, Eq)]
@@ -68,8 +68,8 @@ impl Pad {
     }
 
     /// The characters without their padding.
-    pub(crate) fn unpadded(self, text: &[u8]) -> &[u8]
-        ensures { result.now ≡ unpadded self text.now }
+    pub(crate) fn without_padding(self, text: &[u8]) -> &[u8]
+        ensures { result.now ≡ without_padding self text.now }
     {
         match self {
             Pad::None => text,
@@ -98,7 +98,7 @@ impl Pad {
     /// Takes the padding off the characters that stand behind the first `before` bytes.
     pub(crate) fn strip(self, before: usize, out: &mut Vec<u8>)
         requires { before ≤ vec_len out.old }
-        ensures { out.new.items ≡ take before out.old.items ++ unpadded self (drop before out.old.items) }
+        ensures { out.new.items ≡ take before out.old.items ++ without_padding self (drop before out.old.items) }
     {
         match self {
             Pad::None => {}

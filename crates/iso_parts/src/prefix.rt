@@ -3,9 +3,10 @@
 ghost use Rattle.std.specs.Prelude.{◌≡◌, ◌≤◌, ◌∷◌, [], ◌++◌, length, OnOk, OnErr};
 ghost use Rattle.iso_parts.specs.Spec.{limit, longest_value};
 ghost use Rattle.iso_parts.specs.Part.{prefix};
-ghost use Rattle.iso_parts.specs.FourDigits.{four_digits, four_digits_of};
+ghost use Rattle.iso_parts.specs.Digits.{four_digits_of};
 ghost use Rattle.iso_parts.specs.Reading.{number_of, count_of, prefix_size};
 
+use crate::digits::{Digits, bcd_characters, four_ascii_digits, four_bcd_digits, four_digits};
 use crate::fault::FieldFault;
 use std::alloc::AllocError;
 
@@ -14,15 +15,6 @@ pub const LONGEST_VALUE: usize = 9_999;
 
 /// The most characters of a value of a fixed length, so also of one that is padded.
 const LONGEST_FIXED: usize = 999;
-
-/// How decimal digits are written.
-#[derive(Clone, Copy, Debug, PartialEq, Eq)]
-pub enum Digits {
-    /// One ASCII digit a byte.
-    Ascii,
-    /// Two digits a byte, the high nibble first.
-    Bcd,
-}
 
 /// Whether a length stands before the value. It counts characters, under `Raw` and `HexText` the value's bytes.
 #[derive(Clone, Copy, Debug, PartialEq, Eq)]
@@ -37,64 +29,14 @@ pub enum Length {
     LLLL(Digits),
 }
 
-impl Digits {
-    ghost use Rattle.iso_parts.specs.Mti.{mti_size};
-
-    /// How many bytes a message type takes, whose four digits are written so.
-    pub fn mti_size(self) -> usize
-        ensures { result ≡ mti_size self }
-    {
-        match self {
-            Digits::Ascii => 4,
-            Digits::Bcd => 2,
-        }
-    }
-}
-
 /// The number of the four characters of a length.
-fn number_of(k: u8, h: u8, t: u8, o: u8) -> Result<u16, FieldFault>
-    ensures { result ≡ number_of (k ∷ h ∷ t ∷ o ∷ []) }
+fn number_of(text: [u8; 4]) -> Result<u16, FieldFault>
+    ensures { result ≡ number_of text }
 {
-    match (k, h, t, o) {
-        (b'0'..=b'9', b'0'..=b'9', b'0'..=b'9', b'0'..=b'9') => Ok(
-            1000 * (k - b'0') as u16
-                + 100 * (h - b'0') as u16
-                + 10 * (t - b'0') as u16
-                + (o - b'0') as u16,
-        ),
-        _ => Err(FieldFault::BadLengthDigits),
+    match four_digits(text[0], text[1], text[2], text[3]) {
+        Some(number) => Ok(number),
+        None => Err(FieldFault::BadLengthDigits),
     }
-}
-
-/// The number of four ASCII digits, `None` for any other characters. Takes no memory.
-pub fn four_digits(a: u8, b: u8, c: u8, d: u8) -> Option<u16>
-    ensures { result ≡ four_digits a b c d }
-{
-    number_of(a, b, c, d).ok()
-}
-
-/// A number in four ASCII digits. Takes no memory.
-pub fn four_ascii_digits(n: usize) -> [u8; 4]
-    requires { n ≤ longest_value }
-    ensures { result ≡ four_digits_of Digits.Ascii n }
-{
-    [
-        b'0' + (n / 1000) as u8,
-        b'0' + (n / 100 % 10) as u8,
-        b'0' + (n / 10 % 10) as u8,
-        b'0' + (n % 10) as u8,
-    ]
-}
-
-/// A number in four BCD digits, two a byte. Takes no memory.
-pub fn four_bcd_digits(n: usize) -> [u8; 2]
-    requires { n ≤ longest_value }
-    ensures { result ≡ four_digits_of Digits.Bcd n }
-{
-    [
-        (16 * (n / 1000) + n / 100 % 10) as u8,
-        (16 * (n / 10 % 10) + n % 10) as u8,
-    ]
 }
 
 impl Length {
@@ -134,24 +76,17 @@ impl Length {
     {
         match (self, prefix) {
             (Length::Fixed, _) => Ok(max),
-            (Length::LL(Digits::Ascii), [t, o]) => number_of(b'0', b'0', *t, *o),
-            (Length::LL(Digits::Bcd), [x]) => {
-                number_of(b'0', b'0', b'0' + *x / 16, b'0' + *x % 16)
-            }
-            (Length::LLL(Digits::Ascii), [h, t, o]) => number_of(b'0', *h, *t, *o),
+            (Length::LL(Digits::Ascii), [t, o]) => number_of([b'0', b'0', *t, *o]),
+            (Length::LL(Digits::Bcd), [x]) => number_of(bcd_characters(0, *x)),
+            (Length::LLL(Digits::Ascii), [h, t, o]) => number_of([b'0', *h, *t, *o]),
             (Length::LLL(Digits::Bcd), [x, y]) => {
                 if *x / 16 != 0 {
                     return Err(FieldFault::BadLengthDigits);
                 }
-                number_of(b'0', b'0' + *x % 16, b'0' + *y / 16, b'0' + *y % 16)
+                number_of(bcd_characters(*x, *y))
             }
-            (Length::LLLL(Digits::Ascii), [k, h, t, o]) => number_of(*k, *h, *t, *o),
-            (Length::LLLL(Digits::Bcd), [x, y]) => number_of(
-                b'0' + *x / 16,
-                b'0' + *x % 16,
-                b'0' + *y / 16,
-                b'0' + *y % 16,
-            ),
+            (Length::LLLL(Digits::Ascii), [k, h, t, o]) => number_of([*k, *h, *t, *o]),
+            (Length::LLLL(Digits::Bcd), [x, y]) => number_of(bcd_characters(*x, *y)),
             _ => unreachable!(),
         }
     }

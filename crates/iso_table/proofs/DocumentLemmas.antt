@@ -6,6 +6,7 @@ use Rattle.std.proofs.Math.Seq.{drop-cons}
 use Rattle.serde_json.specs.Data.{Data}
 use Rattle.serde_json.specs.View.{view, items_view}
 use Rattle.serde_json.specs.declared.value.Value.{Value}
+use Rattle.iso_parts.specs.Numbers.{is_element}
 use Rattle.iso_parts.specs.declared.spec.SpecFault.{SpecFault}
 use Rattle.iso_parts.specs.declared.spec.SpecFault.TheVariants as specs
 use Rattle.iso_parts.specs.Spec.{spec_fault}
@@ -13,7 +14,7 @@ use Rattle.iso_table.specs.declared.draft.Row.{Row}
 use Rattle.iso_table.specs.declared.reading.Profile.{Profile}
 use Rattle.iso_table.specs.declared.fault.TableFault.{TableFault}
 use Rattle.iso_table.specs.declared.fault.TableFault.TheVariants.{NotJson, BadVersion, BadNumber, Twice}
-use Rattle.iso_table.specs.Layout.{is_version, is_element}
+use Rattle.iso_table.specs.Layout.{is_version}
 use Rattle.iso_table.specs.Accepted.{DraftContents, Accepted, at_row, row_fault, row_of, rows_fault, draft_fault}
 use Rattle.iso_table.specs.Document.{◌>>=◌, document_row, rows_in, draft_in, table_in}
 use Rattle.iso_table.proofs.RowLemmas.{none_from_accepted, new_first}

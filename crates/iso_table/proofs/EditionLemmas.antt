@@ -5,11 +5,12 @@ use Rattle.std.specs.List.{list_all}
 use Rattle.std.proofs.lemmas.Bool.{cases_eq, cases_lt}
 use Rattle.std.proofs.lemmas.Bool.Decides.{nat_tests}
 use Rattle.std.proofs.lemmas.Option.{slice_get_past}
+use Rattle.iso_parts.specs.Numbers.{is_element}
 use Rattle.iso_parts.specs.declared.class.CharClass.{CharClass}
 use Rattle.iso_parts.specs.declared.class.CharClass.TheVariants.{N, B}
 use Rattle.iso_parts.specs.declared.encoding.Coding.TheVariants as codings
-use Rattle.iso_parts.specs.declared.prefix.Digits.{Digits}
-use Rattle.iso_parts.specs.declared.prefix.Digits.TheVariants as digits
+use Rattle.iso_parts.specs.declared.digits.Digits.{Digits}
+use Rattle.iso_parts.specs.declared.digits.Digits.TheVariants as digits
 use Rattle.iso_parts.specs.declared.padding.Pad.{Pad}
 use Rattle.iso_parts.specs.declared.padding.Pad.TheVariants as pads
 use Rattle.iso_parts.specs.declared.spec.FieldSpec.{FieldSpec}
@@ -17,7 +18,7 @@ use Rattle.iso_parts.specs.Spec.{IsGood, is_good_max, is_coded, is_padded, is_pa
 use Rattle.iso_table.specs.declared.edition87.LengthKind.{LengthKind}
 use Rattle.iso_table.specs.declared.edition87.LengthKind.TheVariants.{Fixed, LL, LLL}
 use Rattle.iso_table.specs.declared.edition87.EditionLine.{EditionLine}
-use Rattle.iso_table.specs.Layout.{Layout, IsAccepted, row_at, row_in, is_element}
+use Rattle.iso_table.specs.Layout.{Layout, IsAccepted, row_at, row_in}
 use Rattle.iso_table.specs.Edition87.{lines, has_number, length_of, coding_of, spec_of, row87}
 use Rattle.iso_table.proofs.RowLemmas.{row_at-set_same, row_at-set_other}
 

@@ -7,12 +7,13 @@ use Rattle.hex.specs.Hex.{encode_upper, upper_digits, IsBytes}
 use Rattle.hex.proofs.HexLemmas.{decode_of-encode_upper, length-encode_with, decode_sized-twice}
 use Rattle.serde_json.specs.Data.{Data, number, unsigned, string, object, member, depth, items_depth}
 use Rattle.serde_json.specs.Written.{has_float, items_have_float}
+use Rattle.iso_parts.specs.Numbers.{is_element}
 use Rattle.iso_parts.specs.declared.class.CharClass.{CharClass}
 use Rattle.iso_parts.specs.declared.class.CharClass.TheVariants.{N, A, AN, ANS, Z, ZD, XN, B}
 use Rattle.iso_parts.specs.declared.encoding.Coding.{Coding}
 use Rattle.iso_parts.specs.declared.encoding.Coding.TheVariants as codings
-use Rattle.iso_parts.specs.declared.prefix.Digits.{Digits}
-use Rattle.iso_parts.specs.declared.prefix.Digits.TheVariants as digits
+use Rattle.iso_parts.specs.declared.digits.Digits.{Digits}
+use Rattle.iso_parts.specs.declared.digits.Digits.TheVariants as digits
 use Rattle.iso_parts.specs.declared.prefix.Length.{Length}
 use Rattle.iso_parts.specs.declared.prefix.Length.TheVariants as lengths
 use Rattle.iso_parts.specs.declared.padding.Pad.{Pad}
@@ -23,7 +24,7 @@ use Rattle.iso_parts.specs.declared.bitmap.BitmapCoding.TheVariants as bitmaps
 use Rattle.iso_parts.specs.Spec.{IsGood, limit, is_pad_byte, is_good_pad, is_padded}
 use Rattle.iso_table.specs.declared.draft.Row.{Row}
 use Rattle.iso_table.specs.declared.reading.Profile.TheVariants.{Two}
-use Rattle.iso_table.specs.Layout.{Layout, IsAccepted, row_at, is_version, is_element}
+use Rattle.iso_table.specs.Layout.{Layout, IsAccepted, row_at, is_version}
 use Rattle.iso_table.specs.Accepted.{DraftContents, Accepted, Holds, AreRows, OtherNumbers, HasEachOnce, row_of}
 use Rattle.iso_table.specs.Document.{◌>>=◌, class_name, class_named, coding_name, coding_named, digits_name, digits_named, bitmap_name, bitmap_named, length_name, pad_name, pad_named, byte_by, byte_of, up_to, whole_at, digits_at, class_in, coding_in, length_in, pad_in, spec_in, document_row, rows_in, bitmap_in, list_in, with_rows, members_in, or_shape, draft_in, table_in, prefix_named, prefix_members, row_object, row_data, rows_data, document}
 use Rattle.iso_table.proofs.RowLemmas.{row_of_here, row_of_after}

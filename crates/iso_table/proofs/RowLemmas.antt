@@ -6,6 +6,7 @@ use Rattle.std.proofs.lemmas.Bool.{cases_eq, eq-eqb, ne_eqb, cond-true, cond-fal
 use Rattle.std.proofs.lemmas.Bool.Decides.{nat_tests}
 use Rattle.std.proofs.lemmas.List.{take_more}
 use Rattle.std.proofs.Math.Seq.{drop-cons}
+use Rattle.iso_parts.specs.Numbers.{is_element}
 use Rattle.iso_parts.specs.declared.spec.FieldSpec.{FieldSpec}
 use Rattle.iso_parts.specs.declared.spec.SpecFault.{SpecFault}
 use Rattle.iso_parts.specs.declared.spec.SpecFault.TheVariants as specs
@@ -13,7 +14,7 @@ use Rattle.iso_parts.specs.Spec.{IsGood, is_good_max, is_coded, is_good_pad, spe
 use Rattle.iso_table.specs.declared.draft.Row.{Row}
 use Rattle.iso_table.specs.declared.fault.TableFault.{TableFault}
 use Rattle.iso_table.specs.declared.fault.TableFault.TheVariants.{BadNumber, Twice}
-use Rattle.iso_table.specs.Layout.{Layout, IsAccepted, row_at, is_version, is_element}
+use Rattle.iso_table.specs.Layout.{Layout, IsAccepted, row_at, is_version}
 use Rattle.iso_table.specs.Accepted.{DraftContents, Accepted, AreRows, OtherNumbers, HasEachOnce, row_of, at_row, row_fault, rows_fault}
 
 -- ---- places

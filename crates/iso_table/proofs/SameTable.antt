@@ -1,7 +1,7 @@
 -- A text stands for one table alone.
 use Rattle.std.proofs.Common.{◌≡◌, ◌≢◌, ℕ, zero, suc, List, [], ◌∷◌, length, Option, Result, Ok, Err, refl, sym, ap, ap₂, subst, ◌∙◌, arith}
 use Rattle.std.specs.Prelude.{IfOk, IfErr, IsErrOf, MatchResult}
-use Rattle.iso_parts.specs.declared.prefix.Digits.{Digits}
+use Rattle.iso_parts.specs.declared.digits.Digits.{Digits}
 use Rattle.iso_parts.specs.declared.bitmap.BitmapCoding.{BitmapCoding}
 use Rattle.iso_parts.specs.declared.spec.FieldSpec.{FieldSpec}
 use Rattle.iso_table.specs.declared.fault.TableFault.{TableFault}

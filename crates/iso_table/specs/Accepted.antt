@@ -1,7 +1,8 @@
 -- Which tables are accepted, and what is wrong with the others.
 use Rattle.std.specs.Option.{option_or}
 use Rattle.std.specs.Prelude.{◌≡◌, ◌≢◌, ℕ, ◌==◌, Bool, not, is_some, IsTrue, if◌then◌else◌, List, [], ◌∷◌, ◌++◌, Option, Some, None}
-use Rattle.iso_parts.specs.declared.prefix.Digits.{Digits}
+use Rattle.iso_parts.specs.Numbers.{is_element}
+use Rattle.iso_parts.specs.declared.digits.Digits.{Digits}
 use Rattle.iso_parts.specs.declared.spec.FieldSpec.{FieldSpec}
 use Rattle.iso_parts.specs.declared.spec.SpecFault.{SpecFault}
 use Rattle.iso_parts.specs.declared.spec.SpecFault.TheVariants as specs
@@ -11,7 +12,7 @@ use Rattle.iso_table.specs.declared.draft.Row.{Row}
 use Rattle.iso_table.specs.declared.draft.Draft.{Draft}
 use Rattle.iso_table.specs.declared.fault.TableFault.{TableFault}
 use Rattle.iso_table.specs.declared.fault.TableFault.TheVariants.{BadVersion, BadNumber, Twice, BadMax, CodingClass, PadNotAllowed}
-use Rattle.iso_table.specs.Layout.{Layout, row_at, is_version, is_element}
+use Rattle.iso_table.specs.Layout.{Layout, row_at, is_version}
 
 -- what a draft says, without where its rows lie in memory
 pub record DraftContents : Type 0 where

@@ -10,8 +10,8 @@ use Rattle.iso_parts.specs.declared.class.CharClass.{CharClass}
 use Rattle.iso_parts.specs.declared.class.CharClass.TheVariants.{N, A, AN, ANS, Z, ZD, XN, B}
 use Rattle.iso_parts.specs.declared.encoding.Coding.{Coding}
 use Rattle.iso_parts.specs.declared.encoding.Coding.TheVariants as codings
-use Rattle.iso_parts.specs.declared.prefix.Digits.{Digits}
-use Rattle.iso_parts.specs.declared.prefix.Digits.TheVariants as digits
+use Rattle.iso_parts.specs.declared.digits.Digits.{Digits}
+use Rattle.iso_parts.specs.declared.digits.Digits.TheVariants as digits
 use Rattle.iso_parts.specs.declared.prefix.Length.{Length}
 use Rattle.iso_parts.specs.declared.prefix.Length.TheVariants as lengths
 use Rattle.iso_parts.specs.declared.padding.Pad.{Pad}

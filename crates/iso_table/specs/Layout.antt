@@ -1,8 +1,8 @@
 -- A table as its users see it: the rows stand at their numbers.
 use Rattle.std.specs.Prelude.{◌≡◌, ℕ, ◌==◌, ◌||◌, Bool, is_some, IsTrue, List, length, slice_get, Option, Some, None}
-use Rattle.iso_parts.specs.declared.prefix.Digits.{Digits}
+use Rattle.iso_parts.specs.Numbers.{is_element}
+use Rattle.iso_parts.specs.declared.digits.Digits.{Digits}
 use Rattle.iso_parts.specs.declared.spec.FieldSpec.{FieldSpec}
-use Rattle.iso_parts.specs.Class.{is_within}
 use Rattle.iso_parts.specs.Spec.{IsGood}
 use Rattle.iso_parts.specs.declared.bitmap.BitmapCoding.{BitmapCoding}
 
@@ -33,10 +33,6 @@ AreGood rows = (n : ℕ) (s : FieldSpec) → row_at rows n ≡ Some s → IsGood
 -- the first digit of a message type that a table may be for
 abbrev pub is_version : ℕ → Bool
 is_version v = (v == 0 || v == 1) || (v == 2 || v == 9)
-
--- the number of an element that may have a row
-abbrev pub is_element : ℕ → Bool
-is_element n = is_within 2 64 n || is_within 66 128 n
 
 -- a table that was accepted
 pub record IsAccepted (t : Layout) : Type 0 where

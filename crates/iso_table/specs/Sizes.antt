@@ -1,7 +1,7 @@
 -- How many bytes a message has at most.
 use Rattle.std.specs.Prelude.{ℕ, ◌+◌, ◌*◌, sum_by, Option, Some, None}
 use Rattle.iso_parts.specs.declared.spec.FieldSpec.{FieldSpec}
-use Rattle.iso_parts.specs.Bits.{map_size}
+use Rattle.iso_parts.specs.Bitmap.{map_size}
 use Rattle.iso_parts.specs.Mti.{mti_size}
 use Rattle.iso_parts.specs.Reading.{prefix_size, body_size}
 use Rattle.iso_table.specs.Layout.{Layout}

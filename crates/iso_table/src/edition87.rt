@@ -6,10 +6,9 @@ ghost use Rattle.iso_table.specs.Layout.{row_at};
 ghost use Rattle.iso_table.specs.Edition87.{has_number, lines, length_of, coding_of, spec_of, row87, bitmap87};
 
 use self::LengthKind::{Fixed, LL, LLL};
-use crate::placing::PLACES;
 use iso_parts::CharClass::{AN, ANS, B, N, XN, ZD};
 use iso_parts::Pad::{None as Unpadded, Right};
-use iso_parts::{BitmapCoding, CharClass, Coding, Digits, FieldSpec, Length, Pad};
+use iso_parts::{BitmapCoding, CharClass, Coding, Digits, FieldSpec, Length, PLACES, Pad};
 
 /// Which length stands before a value, however its digits are written.
 #[derive(Clone, Copy, Debug, PartialEq, Eq)]
@@ -171,7 +170,7 @@ fn line_of(number: usize) -> Option<EditionLine>
 }
 
 /// The row of an element in the table of these digits.
-fn row_of(digits: Digits, number: usize) -> Option<FieldSpec>
+fn row87(digits: Digits, number: usize) -> Option<FieldSpec>
     ensures { result ≡ row87 digits number }
 {
     match line_of(number) {
@@ -187,7 +186,7 @@ pub fn places87(digits: Digits) -> [Option<FieldSpec>; PLACES]
 {
     let mut places = [None; PLACES];
     for number in 0..PLACES {
-        places[number] = row_of(digits, number);
+        places[number] = row87(digits, number);
     }
     places
 }

@@ -3,30 +3,21 @@
 ghost use Rattle.std.specs.Prelude.{◌≡◌, ◌≢◌, ◌≤◌, ◌<◌, []};
 ghost use Rattle.std.specs.Prelude.{ℕ, IsTrue, IfOk, IfErr, OnOk, OnErr, None, Some, length, is_some, slice_set, slice_get};
 ghost use Rattle.std.specs.Option.{option_copied};
-ghost use Rattle.iso_parts.specs.Bits.{contains};
+ghost use Rattle.iso_parts.specs.Numbers.{is_element};
+ghost use Rattle.iso_parts.specs.Bitmap.{contains};
 ghost use Rattle.iso_parts.specs.declared.spec.FieldSpec.{FieldSpec};
-ghost use Rattle.iso_table.specs.Layout.{is_version, is_element, row_at, Knows};
+ghost use Rattle.iso_table.specs.Layout.{is_version, row_at, Knows};
 ghost use Rattle.iso_table.specs.Accepted.{row_fault, rows_fault, row_of};
 
 use crate::draft::Row;
 use crate::fault::TableFault;
-use iso_parts::{Bitmap, FieldSpec};
-
-/// How many places a table has: one for each number up to the highest element.
-pub const PLACES: usize = 129;
+use iso_parts::{Bitmap, FieldSpec, PLACES, is_element};
 
 /// Whether there are tables of the version.
 pub fn is_version(version: u8) -> bool
     ensures { result ≡ is_version version }
 {
     matches!(version, 0 | 1 | 2 | 9)
-}
-
-/// Whether an element with this number may have a row.
-fn is_element(number: u16) -> bool
-    ensures { result ≡ is_element number }
-{
-    matches!(number, 2..=64 | 66..=128)
 }
 
 /// The first fault of a row whose number stood earlier, or did not.
@@ -68,7 +59,7 @@ fn place(places: &mut [Option<FieldSpec>], row: &Row) -> Result<(), TableFault>
 }
 
 /// The rows at their numbers, or the first fault among them.
-pub fn placed(rows: &[Row]) -> Result<[Option<FieldSpec>; PLACES], TableFault>
+pub fn places_of(rows: &[Row]) -> Result<[Option<FieldSpec>; PLACES], TableFault>
     ensures size { IfOk result (λ places. length places ≡ 129) }
     ensures rows { IfOk result (λ places. (n : ℕ) → row_at places n ≡ row_of rows.now n) }
     ensures good { OnOk result (rows_fault [] rows.now ≡ None) }

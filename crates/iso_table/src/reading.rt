@@ -29,7 +29,7 @@ pub enum Profile {
 
 impl Profile {
     /// The profile of this number.
-    fn numbered(number: u16) -> Option<Profile>
+    fn of_number(number: u16) -> Option<Profile>
         ensures { result ≡ profile_numbered number }
     {
         match number {
@@ -154,7 +154,7 @@ fn digits_at(value: &Value, key: &str) -> Option<Digits>
 }
 
 /// How the digits of a length are written, in an object that has the member `prefix` too.
-fn prefix_of(value: &Value) -> Option<Digits>
+fn prefix_in(value: &Value) -> Option<Digits>
     ensures { result ≡ prefix_in (view value.now) }
 {
     if has_members(value, 7) {
@@ -169,47 +169,47 @@ fn length_named(profile: Profile, value: &Value, name: &str) -> Option<Length>
 {
     match name {
         "fixed" if has_members(value, 6) => Some(Length::Fixed),
-        "LL" => prefix_of(value).map(Length::LL),
-        "LLL" => prefix_of(value).map(Length::LLL),
-        "LLLL" if profile.has_four_digits() => prefix_of(value).map(Length::LLLL),
+        "LL" => prefix_in(value).map(Length::LL),
+        "LLL" => prefix_in(value).map(Length::LLL),
+        "LLLL" if profile.has_four_digits() => prefix_in(value).map(Length::LLLL),
         _ => None,
     }
 }
 
-fn length_of(profile: Profile, value: &Value) -> Option<Length>
+fn length_in(profile: Profile, value: &Value) -> Option<Length>
     ensures { result ≡ length_in profile (view value.now) }
 {
     length_named(profile, value, text_at(value, "length")?)
 }
 
-fn class_of(value: &Value) -> Option<CharClass>
+fn class_in(value: &Value) -> Option<CharClass>
     ensures { result ≡ class_in (view value.now) }
 {
     class_named(text_at(value, "class")?)
 }
 
-fn coding_of(value: &Value) -> Option<Coding>
+fn coding_in(value: &Value) -> Option<Coding>
     ensures { result ≡ coding_in (view value.now) }
 {
     coding_named(text_at(value, "coding")?)
 }
 
-fn pad_of(value: &Value) -> Option<Pad>
+fn pad_in(value: &Value) -> Option<Pad>
     ensures { result ≡ pad_in (view value.now) }
 {
     pad_named(text_at(value, "pad")?)
 }
 
 /// How the field of a row is laid out.
-fn spec_of(profile: Profile, value: &Value) -> Option<FieldSpec>
+fn spec_in(profile: Profile, value: &Value) -> Option<FieldSpec>
     ensures { result ≡ spec_in profile (view value.now) }
 {
     Some(FieldSpec {
-        class: class_of(value)?,
-        coding: coding_of(value)?,
-        length: length_of(profile, value)?,
+        class: class_in(value)?,
+        coding: coding_in(value)?,
+        length: length_in(profile, value)?,
         max: u16_at(value, "max")?,
-        pad: pad_of(value)?,
+        pad: pad_in(value)?,
     })
 }
 
@@ -219,12 +219,12 @@ fn document_row(profile: Profile, value: &Value) -> Option<Row>
 {
     Some(Row {
         number: u16_at(value, "number")?,
-        spec: spec_of(profile, value)?,
+        spec: spec_in(profile, value)?,
     })
 }
 
 /// The rows that these JSON values are.
-fn rows_of(alloc: Global, profile: Profile, values: &[Value]) -> Result<Vec<Row>, TableFault>
+fn rows_in(alloc: Global, profile: Profile, values: &[Value]) -> Result<Vec<Row>, TableFault>
     ensures ok { IfOk result (λ rows. rows_in profile (items_view values.now) ≡ Some rows.items) }
     ensures fault { IfErr result (λ e. e ≢ Memory → e ≡ Shape) }
     ensures shape { IfErr result (λ e. e ≢ Memory → rows_in profile (items_view values.now) ≡ None) }
@@ -247,26 +247,26 @@ struct Head {
     bitmap: BitmapCoding,
 }
 
-fn bitmap_of(value: &Value) -> Option<BitmapCoding>
+fn bitmap_in(value: &Value) -> Option<BitmapCoding>
     ensures { result ≡ bitmap_in (view value.now) }
 {
     bitmap_named(text_at(value, "bitmap")?)
 }
 
 /// What an object of all members says beside its rows.
-fn head_of(profile: Profile, value: &Value) -> Option<Head>
+fn head_in(profile: Profile, value: &Value) -> Option<Head>
     ensures some { IfSome result (λ h. members_in profile (view value.now) ≡ with_rows h.version h.mti h.bitmap (list_in profile (view value.now))) }
     ensures none { IsNone result → members_in profile (view value.now) ≡ None }
 {
     Some(Head {
         version: u8_at(value, "version")?,
         mti: digits_at(value, "mti")?,
-        bitmap: bitmap_of(value)?,
+        bitmap: bitmap_in(value)?,
     })
 }
 
 /// The rows of an object, each of them one.
-fn list_of(alloc: Global, profile: Profile, value: &Value) -> Result<Vec<Row>, TableFault>
+fn list_in(alloc: Global, profile: Profile, value: &Value) -> Result<Vec<Row>, TableFault>
     ensures ok { IfOk result (λ rows. list_in profile (view value.now) ≡ Some rows.items) }
     ensures fault { IfErr result (λ e. e ≢ Memory → e ≡ Shape) }
     ensures shape { IfErr result (λ e. e ≢ Memory → list_in profile (view value.now) ≡ None) }
@@ -277,11 +277,11 @@ fn list_of(alloc: Global, profile: Profile, value: &Value) -> Result<Vec<Row>, T
     let Some(values) = list.as_array() else {
         return Err(TableFault::Shape);
     };
-    rows_of(alloc, profile, values.as_slice())
+    rows_in(alloc, profile, values.as_slice())
 }
 
 /// The draft that an object of all members is.
-fn contents_of(alloc: Global, profile: Profile, value: &Value) -> Result<Draft, TableFault>
+fn contents_in(alloc: Global, profile: Profile, value: &Value) -> Result<Draft, TableFault>
     ensures ok { IfOk result (λ d. contents_in profile (view value.now) ≡ Some (contents d)) }
     ensures fault { IfErr result (λ e. e ≢ Memory → e ≡ Shape) }
     ensures shape { IfErr result (λ e. e ≢ Memory → contents_in profile (view value.now) ≡ None) }
@@ -289,19 +289,19 @@ fn contents_of(alloc: Global, profile: Profile, value: &Value) -> Result<Draft, 
     if !has_members(value, 5) {
         return Err(TableFault::Shape);
     }
-    let Some(head) = head_of(profile, value) else {
+    let Some(head) = head_in(profile, value) else {
         return Err(TableFault::Shape);
     };
     Ok(Draft {
         version: head.version,
         mti: head.mti,
         bitmap: head.bitmap,
-        rows: list_of(alloc, profile, value)?,
+        rows: list_in(alloc, profile, value)?,
     })
 }
 
 /// The draft that a JSON value is.
-pub fn draft_of(alloc: Global, value: &Value) -> Result<Draft, TableFault>
+pub fn draft_in(alloc: Global, value: &Value) -> Result<Draft, TableFault>
     ensures ok { IfOk result (λ d. draft_in (view value.now) ≡ Ok (contents d)) }
     ensures fault { IfErr result (λ e. e ≢ Memory → draft_in (view value.now) ≡ Err e) }
     ensures json { IsErrOf result TableFault.NotJson → ⊥ }
@@ -309,8 +309,8 @@ pub fn draft_of(alloc: Global, value: &Value) -> Result<Draft, TableFault>
     let Some(number) = u16_at(value, "profile") else {
         return Err(TableFault::Shape);
     };
-    match Profile::numbered(number) {
-        Some(profile) => contents_of(alloc, profile, value),
+    match Profile::of_number(number) {
+        Some(profile) => contents_in(alloc, profile, value),
         None => Err(TableFault::Profile),
     }
 }

@@ -4,7 +4,7 @@ ghost use Rattle.std.specs.Prelude.{◌≡◌, ◌≢◌, ◌+◌, ◌↔◌};
 ghost use Rattle.std.specs.Prelude.{ℕ, length, is_some, count_by, sum_by, IfOk, IfErr, IsErrOf, IsOk, MatchResult, Some};
 ghost use Rattle.std.specs.Option.{option_copied};
 ghost use Rattle.iso_table.specs.declared.fault.TableFault.TheVariants.{NotJson, Memory};
-ghost use Rattle.iso_parts.specs.Bits.{contains};
+ghost use Rattle.iso_parts.specs.Bitmap.{contains};
 ghost use Rattle.iso_table.specs.Layout.{Layout, IsAccepted, AreGood, Knows, row_at};
 ghost use Rattle.iso_table.specs.Accepted.{Accepted, Holds, contents, draft_fault};
 ghost use Rattle.iso_table.specs.Document.{IsTableOf, IsDocumentFault, IsNotJson, document};
@@ -17,8 +17,8 @@ use crate::draft::Draft;
 use crate::edition87::{bitmap87, places87};
 use crate::fault::{HostTableFault, NoMemory, TableFault};
 use crate::host_ready::host_rows_fault;
-use crate::placing::{is_version, known_in, placed, row_at};
-use crate::reading::{draft_of, value_of};
+use crate::placing::{is_version, known_in, places_of, row_at};
+use crate::reading::{draft_in, value_of};
 use crate::sizes::places_bytes;
 use crate::writing::document;
 use iso_parts::{Bitmap, BitmapCoding, Digits, FieldSpec};
@@ -58,7 +58,7 @@ impl Table {
         if !is_version(draft.version) {
             return Err(TableFault::BadVersion);
         }
-        let places = placed(draft.rows.as_slice())?;
+        let places = places_of(draft.rows.as_slice())?;
         let known = known_in(&places);
         Ok(Table {
             version: draft.version,
@@ -77,7 +77,7 @@ impl Table {
         ensures fault { IfErr result (λ e. e ≢ Memory → e ≢ NotJson → IsDocumentFault text.now e) }
     {
         let value = value_of(alloc, text)?;
-        let draft = draft_of(alloc, &value)?;
+        let draft = draft_in(alloc, &value)?;
         Table::check(alloc, draft)
     }
 

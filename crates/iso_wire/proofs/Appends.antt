@@ -1,7 +1,7 @@
 -- Elements to which one is added behind the others.
 use Rattle.std.proofs.Common.{◌≡◌, ℕ, ◌≤◌, false, List, [], ◌∷◌, ◌++◌, length, refl, sym, ap, subst, ◌∙◌, append_assoc, arith}
 use Rattle.std.proofs.lemmas.List.{append-nil, length-append}
-use Rattle.iso_parts.specs.Bits.{contains}
+use Rattle.iso_parts.specs.Bitmap.{contains}
 use Rattle.iso_parts.specs.Numbers.{members, members_below}
 use Rattle.iso_wire.specs.declared.elements.Elements.{Elements}
 use Rattle.iso_wire.specs.Elements.{has, IsBelow}

@@ -2,9 +2,10 @@
 use Rattle.std.proofs.Common.{◌≡◌, ℕ, ◌+◌, ◌≤◌, Bool, true, false, cond, ltb, List, [], ◌∷◌, ◌++◌, length, take, drop, Option, Some, None, Result, Ok, Err, refl, sym, ap, subst, ◌∙◌, arith}
 use Rattle.std.proofs.lemmas.Bool.{ltb-false, le-ltb, cond-false}
 use Rattle.std.proofs.lemmas.List.{length-append, length-drop, take-append-le, drop-append-le}
+use Rattle.iso_parts.specs.Digits.{four_digits_in}
 use Rattle.iso_parts.specs.declared.bitmap.BitmapCoding.{BitmapCoding}
 use Rattle.iso_parts.specs.declared.spec.FieldSpec.{FieldSpec}
-use Rattle.iso_parts.specs.Bits.{map_size}
+use Rattle.iso_parts.specs.Bitmap.{map_size}
 use Rattle.iso_parts.specs.BitmapReading.{word_in, top}
 use Rattle.iso_parts.specs.Reading.{FieldReading, got, more, fault, part_at}
 use Rattle.iso_parts.specs.MapLaws.{MapLaws}
@@ -16,7 +17,7 @@ use Rattle.iso_parts.specs.Numbers.{numbers_in}
 use Rattle.iso_wire.specs.Numbers.{unknown}
 use Rattle.iso_wire.specs.Spelling.{AreBytes}
 use Rattle.iso_parts.specs.Mti.{mti_size}
-use Rattle.iso_wire.specs.Reading.{◌>>=◌, halt, mti_of, of_version, type_at, word_by, word_at, known_by, primary_at, secondary_known, secondary_at, words_by, words_at, answer, value_by, value_at, elements_at, message_at, whole}
+use Rattle.iso_wire.specs.Reading.{◌>>=◌, halt, of_version, type_at, word_by, word_at, known_by, primary_at, secondary_known, secondary_at, words_by, words_at, answer, value_by, value_at, elements_at, message_at, whole}
 use Rattle.iso_wire.specs.ReadingLaws.{IsShort, ReadingStays}
 use Rattle.iso_wire.proofs.Bytes.{bytes_drop}
 use Rattle.iso_wire.proofs.ElementLaws.{bind_ok, value_taken}
@@ -41,7 +42,7 @@ piece_by false n element at b x r r' is h =
 pub type_stays : (t : Layout) (b x : List ℕ) → Stays (type_at t b) (type_at t (b ++ x))
 type_stays t b x =
     let size = mti_size t.mti in
-    piece_by (ltb (length b) size) size 0 0 b x (of_version t.version (mti_of t.mti (take size b))) (of_version t.version (mti_of t.mti (take size (b ++ x)))) refl (λ room long. ap (λ (l : List ℕ). of_version t.version (mti_of t.mti l)) (take-append-le size b x room))
+    piece_by (ltb (length b) size) size 0 0 b x (of_version t.version (four_digits_in t.mti (take size b))) (of_version t.version (four_digits_in t.mti (take size (b ++ x)))) refl (λ room long. ap (λ (l : List ℕ). of_version t.version (four_digits_in t.mti l)) (take-append-le size b x room))
 
 word_stays : (c : BitmapCoding) (element at : ℕ) (b x : List ℕ) → Stays (word_at c element at b) (word_at c element at (b ++ x))
 word_stays c element at b x =
@@ -90,7 +91,7 @@ entries x = Ok x
 type_room : (t : Layout) (b : List ℕ) (n : ℕ) → type_at t b ≡ Ok n → mti_size t.mti ≤ length b
 type_room t b n e =
     let size = mti_size t.mti in
-    ltb-false (length b) size (short_or (ltb (length b) size) 0 0 (of_version t.version (mti_of t.mti (take size b))) n e).0
+    ltb-false (length b) size (short_or (ltb (length b) size) 0 0 (of_version t.version (four_digits_in t.mti (take size b))) n e).0
 
 module _ (part_laws : PartLaws) (map_laws : MapLaws) where
   value_stays : (r : Option FieldSpec) (n at : ℕ) (b x : List ℕ) → Stays (value_by r n at b) (value_by r n at (b ++ x))

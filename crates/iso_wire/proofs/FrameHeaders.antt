@@ -2,7 +2,7 @@
 use Rattle.std.proofs.Common.{◌≡◌, ℕ, ◌+◌, ◌*◌, ◌/◌, ◌<◌, ◌≤◌, List, [], ◌∷◌, ◌++◌, length, get_or, take, drop, Some, sym, refl, ap, ◌∙◌, arith, append_assoc}
 use Rattle.std.proofs.lemmas.List.{length-take-le, take-append-drop}
 use Rattle.std.proofs.Math.Seq.{drop-append_seam}
-use Rattle.iso_parts.specs.declared.prefix.Digits.TheVariants as digits
+use Rattle.iso_parts.specs.declared.digits.Digits.TheVariants as digits
 use Rattle.iso_wire.specs.Framing.{largest, header_size, header_of, frame_of, Begins, header_length}
 use Rattle.iso_wire.specs.declared.header.Header.{Header}
 use Rattle.iso_wire.specs.declared.header.Header.TheVariants.{Binary2, Ascii4, Bcd2}
@@ -29,20 +29,12 @@ header_takes Binary2 n [] fits e = absurd cc
 header_takes Binary2 n (x ∷ []) fits e = absurd cc
 header_takes Binary2 n (x ∷ y ∷ []) fits e = binary_takes x y n (fits 1) (fits 0) e
 header_takes Binary2 n (x ∷ y ∷ z ∷ p) fits e = absurd cc
-header_takes Ascii4 n [] fits e = absurd cc
-header_takes Ascii4 n (a ∷ []) fits e = absurd cc
-header_takes Ascii4 n (a ∷ b ∷ []) fits e = absurd cc
-header_takes Ascii4 n (a ∷ b ∷ c ∷ []) fits e = absurd cc
-header_takes Ascii4 n (a ∷ b ∷ c ∷ d ∷ []) fits e =
-    let t = mti_takes digits.Ascii n (a ∷ b ∷ c ∷ d ∷ []) fits e in
+header_takes Ascii4 n p fits e =
+    let t = mti_takes digits.Ascii n p fits e in
     record { same = t.bytes; fits = omega (arith, t.small) }
-header_takes Ascii4 n (a ∷ b ∷ c ∷ d ∷ z ∷ p) fits e = absurd cc
-header_takes Bcd2 n [] fits e = absurd cc
-header_takes Bcd2 n (x ∷ []) fits e = absurd cc
-header_takes Bcd2 n (x ∷ y ∷ []) fits e =
-    let t = mti_takes digits.Bcd n (x ∷ y ∷ []) fits e in
+header_takes Bcd2 n p fits e =
+    let t = mti_takes digits.Bcd n p fits e in
     record { same = t.bytes; fits = omega (arith, t.small) }
-header_takes Bcd2 n (x ∷ y ∷ z ∷ p) fits e = absurd cc
 
 -- where a header is followed by its body, their frame begins the bytes
 begins_with : (h : Header) (n : ℕ) (front rest : List ℕ) → IsHeader h n front → n ≤ length rest → front ++ rest ≡ frame_of h (take n rest) ++ drop n rest

@@ -4,9 +4,10 @@ use Rattle.std.specs.Prelude.{sum_by}
 use Rattle.std.proofs.lemmas.Bool.{ltb-true}
 use Rattle.std.proofs.lemmas.List.Sums.{sum_by-cons}
 use Rattle.std.proofs.lemmas.List.{length-drop}
+use Rattle.iso_parts.specs.Digits.{four_digits_in}
 use Rattle.iso_parts.specs.declared.spec.FieldSpec.{FieldSpec}
 use Rattle.iso_parts.specs.declared.bitmap.BitmapCoding.{BitmapCoding}
-use Rattle.iso_parts.specs.Bits.{map_size, in_words}
+use Rattle.iso_parts.specs.Bitmap.{map_size, in_words}
 use Rattle.iso_parts.specs.BitmapReading.{word_in, top}
 use Rattle.iso_parts.specs.Reading.{FieldReading, got, more, fault, part_at}
 use Rattle.iso_parts.specs.PartLaws.{PartLaws, IsUpTo}
@@ -18,7 +19,7 @@ use Rattle.iso_wire.specs.Contents.{Contents}
 use Rattle.iso_parts.specs.Numbers.{numbers, numbers_in}
 use Rattle.iso_wire.specs.Numbers.{unknown}
 use Rattle.iso_parts.specs.Mti.{mti_size}
-use Rattle.iso_wire.specs.Reading.{◌>>=◌, halt, mti_of, of_version, type_at, word_by, word_at, known_by, primary_at, secondary_known, secondary_at, words_by, words_at, answer, value_by, elements_at, message_at, whole}
+use Rattle.iso_wire.specs.Reading.{◌>>=◌, halt, of_version, type_at, word_by, word_at, known_by, primary_at, secondary_known, secondary_at, words_by, words_at, answer, value_by, elements_at, message_at, whole}
 use Rattle.iso_wire.specs.ReadingLaws.{IsShort}
 use Rattle.iso_wire.specs.Taking.{IsReady}
 use Rattle.iso_wire.proofs.NumberLaws.{one_more, no_more, no_numbers}
@@ -62,7 +63,7 @@ version_long version None = λ e. cc
 version_long version (Some n) = either (eqb (n / 1000) version) (Ok n) (halt 0 0 WrongVersion) (λ h. h) (λ e. cc)
 
 type_short : (t : Layout) (b : List ℕ) → IsShort (type_at t b) → length b < mti_size t.mti
-type_short t b h = fewer (ltb (length b) (mti_size t.mti)) 0 0 (length b) (mti_size t.mti) (of_version t.version (mti_of t.mti (take (mti_size t.mti) b))) refl (version_long t.version (mti_of t.mti (take (mti_size t.mti) b))) h
+type_short t b h = fewer (ltb (length b) (mti_size t.mti)) 0 0 (length b) (mti_size t.mti) (of_version t.version (four_digits_in t.mti (take (mti_size t.mti) b))) refl (version_long t.version (four_digits_in t.mti (take (mti_size t.mti) b))) h
 
 hex_long : (element at : ℕ) (o : Option ℕ) → IsShort (word_by element at o) → ⊥
 hex_long element at None = λ e. cc

@@ -4,7 +4,8 @@ use Rattle.std.proofs.lemmas.Bool.{cases_eq, eqb-true, ltb-false, le-ltb, cond-t
 use Rattle.std.proofs.lemmas.Bool.Decides.{nat_tests}
 use Rattle.std.proofs.lemmas.List.{take_at, drop_at, drop-drop, length-append, length-drop, length-take, take-append-drop}
 use Rattle.std.proofs.Math.Seq.{take-add}
-use Rattle.iso_parts.specs.Bits.{in_words, primary_bits, Bitmaps}
+use Rattle.iso_parts.specs.Digits.{four_digits_of, four_digits_in}
+use Rattle.iso_parts.specs.Bitmap.{in_words, primary_bits, Bitmaps}
 use Rattle.iso_parts.specs.declared.bitmap.BitmapCoding.{BitmapCoding}
 use Rattle.iso_parts.specs.MapLaws.{MapLaws}
 use Rattle.iso_parts.specs.PartLaws.{PartLaws}
@@ -13,15 +14,15 @@ use Rattle.iso_wire.specs.Contents.{Contents}
 use Rattle.iso_wire.specs.Elements.{has, IsAscending}
 use Rattle.iso_table.specs.Layout.{Layout, AreGood}
 use Rattle.iso_parts.specs.Numbers.{numbers_in}
-use Rattle.iso_wire.specs.Spelling.{mti_bytes, AreBytes, BeginsWith, Spelling}
+use Rattle.iso_wire.specs.Spelling.{AreBytes, BeginsWith, Spelling}
 use Rattle.iso_parts.specs.Mti.{mti_size}
-use Rattle.iso_wire.specs.Reading.{◌>>=◌, halt, mti_of, of_version, type_at, words_at, elements_at, message_at, whole}
+use Rattle.iso_wire.specs.Reading.{◌>>=◌, halt, of_version, type_at, words_at, elements_at, message_at, whole}
 use Rattle.iso_wire.specs.ReadingLaws.{ReadsSpellings}
 use Rattle.iso_wire.proofs.Bytes.{bytes_take, bytes_drop}
 use Rattle.iso_wire.proofs.Orders.{numbers_of, Values}
 use Rattle.iso_wire.proofs.ElementLaws.{elements_again, elements_taken, has_row, bind_ok, ok_is}
 use Rattle.iso_wire.proofs.Sets.{numbers_from_set, made_from_set, has_after}
-use Rattle.iso_wire.proofs.Types.{length-mti_bytes, mti_again, mti_takes}
+use Rattle.iso_wire.proofs.Types.{length-four_digits_of, mti_again, mti_takes}
 use Rattle.iso_wire.proofs.WordLaws.{bits_agree, short_or, words_again, words_taken}
 
 no_65 : (low : ℕ) (es : Values) → IsAscending low es → has es 65 ≡ false
@@ -30,15 +31,15 @@ no_65 low (e ∷ es) asc = has_after e es 65 asc.2 ∙ no_65 (e.0 + 1) es asc.3
 
 -- ---- what is spelled is read
 
-pub type_again : (t : Layout) (n : ℕ) (rest : List ℕ) → n < 10000 → n / 1000 ≡ t.version → type_at t (mti_bytes t.mti n ++ rest) ≡ Ok n
+pub type_again : (t : Layout) (n : ℕ) (rest : List ℕ) → n < 10000 → n / 1000 ≡ t.version → type_at t (four_digits_of t.mti n ++ rest) ≡ Ok n
 type_again t n rest small version =
-    let front : List ℕ = mti_bytes t.mti n in
+    let front : List ℕ = four_digits_of t.mti n in
     let size = mti_size t.mti in
-    let len = length-mti_bytes t.mti n in
+    let len = length-four_digits_of t.mti n in
     let long : ltb (length (front ++ rest)) size ≡ false = le-ltb (length (front ++ rest)) size (omega (arith, length-append front rest)) in
     let same : eqb (n / 1000) t.version ≡ true = grind (arith, nat_tests) in
-    cond-false (ltb (length (front ++ rest)) size) (halt 0 0 Short) (of_version t.version (mti_of t.mti (take size (front ++ rest)))) long
-    ∙ ap (λ (l : List ℕ). of_version t.version (mti_of t.mti l)) (take_at front rest size len)
+    cond-false (ltb (length (front ++ rest)) size) (halt 0 0 Short) (of_version t.version (four_digits_in t.mti (take size (front ++ rest)))) long
+    ∙ ap (λ (l : List ℕ). of_version t.version (four_digits_in t.mti l)) (take_at front rest size len)
     ∙ ap (of_version t.version) (mti_again t.mti n small)
     ∙ cond-true (eqb (n / 1000) t.version) (Ok n) (halt 0 0 WrongVersion) same
 
@@ -51,9 +52,9 @@ joined t b mti first second used es end one two three = rw (one, two, three) ref
 module _ (part_laws : PartLaws) (map_laws : MapLaws) where
   pub spelling_again : (t : Layout) (m : Contents) (p rest : List ℕ) → AreGood t.rows → AreBytes (p ++ rest) → Spelling t m p → message_at t (p ++ rest) ≡ whole m (length p)
   spelling_again t m p rest good fits s =
-      let front : List ℕ = mti_bytes t.mti m.mti in
+      let front : List ℕ = four_digits_of t.mti m.mti in
       let size = mti_size t.mti in
-      let len : length front ≡ size = length-mti_bytes t.mti m.mti in
+      let len : length front ≡ size = length-four_digits_of t.mti m.mti in
       let b : List ℕ = p ++ rest in
       let es : Values = m.elements in
       let split : b ≡ front ++ (s.maps ++ (s.parts ++ rest)) = ap (λ (l : List ℕ). l ++ rest) s.bytes ∙ append_assoc front (s.maps ++ s.parts) rest ∙ ap (λ (l : List ℕ). front ++ l) (append_assoc s.maps s.parts rest) in
@@ -118,9 +119,9 @@ module _ (part_laws : PartLaws) (map_laws : MapLaws) where
       let three = bind_ok (elements_at t.rows (numbers_in words.0 words.1) (size + words.2) (drop (size + words.2) b)) (λ read. whole (record { mti = mti; elements = read.0 }) read.1) (m, n) two.2 in
       let es : Values = three.0.0 in
       let made = ok_is (record { mti = mti; elements = es }, three.0.1) (m, n) three.2 in
-      let typed = short_or (ltb (length b) size) 0 0 (of_version t.version (mti_of t.mti (take size b))) mti one.1 in
+      let typed = short_or (ltb (length b) size) 0 0 (of_version t.version (four_digits_in t.mti (take size b))) mti one.1 in
       let front_room : size ≤ length b = ltb-false (length b) size typed.0 in
-      let version = version_or t.version (mti_of t.mti (take size b)) mti typed.1 in
+      let version = version_or t.version (four_digits_in t.mti (take size b)) mti typed.1 in
       let type = mti_takes t.mti mti (take size b) (bytes_take size b fits) version.0 in
       let mapped = words_taken map_laws t size rest words (bytes_drop size b fits) two.1 in
       let place : drop (size + words.2) b ≡ drop words.2 rest = sym (drop-drop words.2 size b) in
@@ -129,8 +130,8 @@ module _ (part_laws : PartLaws) (map_laws : MapLaws) where
       let inner : words.2 + taken.used ≤ length rest = omega (arith, mapped.room, taken.room, length-drop words.2 rest) in
       let all : size + (words.2 + taken.used) ≤ length b = omega (arith, length-drop size b) in
       let end : three.0.1 ≡ size + (words.2 + taken.used) = omega (arith, taken.offset) in
-      let split : take three.0.1 b ≡ mti_bytes t.mti mti ++ (take words.2 rest ++ take taken.used (drop words.2 rest)) =
-      ap (λ (k : ℕ). take k b) end ∙ take-add size (words.2 + taken.used) b ∙ ap (λ (l : List ℕ). l ++ take (words.2 + taken.used) rest) type.bytes ∙ ap (λ (l : List ℕ). mti_bytes t.mti mti ++ l) (take-add words.2 taken.used rest) in
+      let split : take three.0.1 b ≡ four_digits_of t.mti mti ++ (take words.2 rest ++ take taken.used (drop words.2 rest)) =
+      ap (λ (k : ℕ). take k b) end ∙ take-add size (words.2 + taken.used) b ∙ ap (λ (l : List ℕ). l ++ take (words.2 + taken.used) rest) type.bytes ∙ ap (λ (l : List ℕ). four_digits_of t.mti mti ++ l) (take-add words.2 taken.used rest) in
       let spelled : Spelling t (record { mti = mti; elements = es }) (take three.0.1 b) = record {
         mti = type.small;
         version = version.1;

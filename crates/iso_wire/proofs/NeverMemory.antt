@@ -1,7 +1,8 @@
 -- Reading never runs out of memory.
 use Rattle.std.proofs.Common.{◌≢◌, ℕ, ◌+◌, Bool, true, false, cond, ltb, eqb, ◌/◌, List, [], ◌∷◌, length, take, drop, Option, Some, None, Result, Ok, Err}
+use Rattle.iso_parts.specs.Digits.{four_digits_in}
 use Rattle.iso_parts.specs.declared.spec.FieldSpec.{FieldSpec}
-use Rattle.iso_parts.specs.Bits.{map_size}
+use Rattle.iso_parts.specs.Bitmap.{map_size}
 use Rattle.iso_parts.specs.BitmapReading.{word_in, top}
 use Rattle.iso_parts.specs.Reading.{FieldReading, got, more, fault, part_at}
 use Rattle.iso_parts.specs.declared.bitmap.BitmapCoding.{BitmapCoding}
@@ -11,7 +12,7 @@ use Rattle.iso_wire.specs.declared.fault.UnpackCause.TheVariants.{Short, WrongVe
 use Rattle.iso_parts.specs.Numbers.{numbers_in}
 use Rattle.iso_wire.specs.Numbers.{unknown}
 use Rattle.iso_parts.specs.Mti.{mti_size}
-use Rattle.iso_wire.specs.Reading.{◌>>=◌, halt, mti_of, of_version, type_at, word_by, word_at, known_by, primary_at, secondary_known, secondary_at, words_by, words_at, answer, value_by, value_at, elements_at, message_at, whole}
+use Rattle.iso_wire.specs.Reading.{◌>>=◌, halt, of_version, type_at, word_by, word_at, known_by, primary_at, secondary_known, secondary_at, words_by, words_at, answer, value_by, value_at, elements_at, message_at, whole}
 use Rattle.iso_wire.proofs.Orders.{Values}
 
 abbrev pub NeverMemory : {A : Type 0} → Result A UnpackFault → Type 0
@@ -31,7 +32,7 @@ type_by version None = λ e. cc
 type_by version (Some n) = either (eqb (n / 1000) version) (Ok n) (halt 0 0 WrongVersion) tt (λ e. cc)
 
 type : (t : Layout) (b : List ℕ) → NeverMemory (type_at t b)
-type t b = either (ltb (length b) (mti_size t.mti)) (halt 0 0 Short) (of_version t.version (mti_of t.mti (take (mti_size t.mti) b))) (λ e. cc) (type_by t.version (mti_of t.mti (take (mti_size t.mti) b)))
+type t b = either (ltb (length b) (mti_size t.mti)) (halt 0 0 Short) (of_version t.version (four_digits_in t.mti (take (mti_size t.mti) b))) (λ e. cc) (type_by t.version (four_digits_in t.mti (take (mti_size t.mti) b)))
 
 hex : (element at : ℕ) (o : Option ℕ) → NeverMemory (word_by element at o)
 hex element at None = λ e. cc

@@ -4,7 +4,7 @@ use Rattle.std.specs.declared.alloc.AllocError.{AllocError}
 use Rattle.std.proofs.lemmas.Bool.{cases_eq, cases_lt, eqb-true, ltb-true}
 use Rattle.std.proofs.lemmas.Bool.Decides.{nat_tests}
 use Rattle.iso_parts.specs.declared.bitmap.Bitmap.{Bitmap}
-use Rattle.iso_parts.specs.Bits.{contains, AreElements}
+use Rattle.iso_parts.specs.Bitmap.{contains, AreElements}
 use Rattle.iso_parts.specs.Numbers.{members}
 use Rattle.iso_wire.specs.Elements.{has, put, without, IsAscending}
 use Rattle.iso_wire.specs.Ends.{Adds}

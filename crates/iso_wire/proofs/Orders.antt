@@ -2,7 +2,8 @@
 use Rattle.std.proofs.Common.{◌≡◌, ◌≢◌, ℕ, ◌+◌, ◌<◌, ◌≤◌, Bool, true, false, cond, eqb, ltb, Some, None, List, [], ◌∷◌, ◌++◌, map, refl, ap, subst, ◌∙◌, arith}
 use Rattle.std.proofs.lemmas.Bool.{eqb-true, ltb-true}
 use Rattle.std.proofs.lemmas.Bool.Decides.{nat_tests}
-use Rattle.iso_wire.specs.Elements.{value_in, is_number, IsAscending, IsBelow, put, without}
+use Rattle.iso_parts.specs.Numbers.{is_element}
+use Rattle.iso_wire.specs.Elements.{value_in, IsAscending, IsBelow, put, without}
 use Rattle.iso_wire.specs.Ends.{IsAbove}
 
 abbrev pub Values : Type 0
@@ -15,7 +16,7 @@ numbers_of es = map (λ e. e.0) es
 -- ---- bounds
 
 -- what the test of a number says
-pub IsAscending-one : (n : ℕ) (v : List ℕ) → is_number n ≡ true → IsAscending 2 ((n, v) ∷ [])
+pub IsAscending-one : (n : ℕ) (v : List ℕ) → is_element n ≡ true → IsAscending 2 ((n, v) ∷ [])
 IsAscending-one n v good = (grind (arith, nat_tests), grind (arith, nat_tests), (λ same. grind (arith, nat_tests)), tt)
 
 pub IsAscending-from : (low high : ℕ) (es : Values) → low ≤ high → IsAscending high es → IsAscending low es

@@ -4,10 +4,11 @@ use Rattle.std.proofs.Common.{◌≡◌, ◌≢◌, ℕ, ◌/◌, ◌≤◌, ◌
 use Rattle.std.specs.Prelude.{IfErr}
 use Rattle.std.specs.List.{flat_map}
 use Rattle.std.proofs.lemmas.Bool.Decides.{nat_tests}
+use Rattle.iso_parts.specs.Digits.{four_digits_of}
 use Rattle.iso_parts.specs.declared.bitmap.BitmapCoding.{BitmapCoding}
 use Rattle.iso_parts.specs.declared.bitmap.BitmapCoding.TheVariants.{Raw}
 use Rattle.iso_parts.specs.declared.spec.FieldSpec.{FieldSpec}
-use Rattle.iso_parts.specs.Bits.{PlainBitmaps}
+use Rattle.iso_parts.specs.Bitmap.{PlainBitmaps}
 use Rattle.iso_parts.specs.Buffers.{Keeps}
 use Rattle.iso_parts.specs.Spec.{refusal, Fits}
 use Rattle.iso_wire.specs.declared.fault.PackFault.{PackFault}
@@ -16,8 +17,8 @@ use Rattle.iso_wire.specs.Contents.{Contents}
 use Rattle.iso_wire.specs.Elements.{has, IsAscending}
 use Rattle.iso_table.specs.Layout.{Layout, row_at, AreGood}
 use Rattle.iso_wire.specs.Reading.{message_at, whole}
-use Rattle.iso_wire.specs.Refusal.{refused_field, refused_by, refused, message_refusal}
-use Rattle.iso_wire.specs.Spelling.{AreBytes, mti_bytes, PartAs, Parts, plain_of, Spelling, PlainSpelling}
+use Rattle.iso_wire.specs.Refusal.{refused_field, refused_by, first_refusal, message_refusal}
+use Rattle.iso_wire.specs.Spelling.{AreBytes, PartAs, Parts, plain_of, Spelling, PlainSpelling}
 use Rattle.iso_wire.specs.ReadingLaws.{ReadsSpellings}
 use Rattle.std.proofs.lemmas.List.{drop_at, take_at, take-take, length-append}
 use Rattle.iso_wire.proofs.Bytes.{bytes_append, bytes_drop}
@@ -33,9 +34,9 @@ fits_taken s v fits = rw (fits.length, fits.class, fits.pad) refl
 part_taken : (rows : List (Option FieldSpec)) (n : ℕ) (v b : List ℕ) → PartAs rows n v b → refused_by (row_at rows n) n v ≡ None
 part_taken rows n v b part = ap (λ (r : Option FieldSpec). refused_by r n v) part.1 ∙ ap (refused_field n) (fits_taken part.0 v part.2.1.0)
 
-parts_taken : (rows : List (Option FieldSpec)) (es : Values) (b : List ℕ) → Parts rows es b → refused rows es ≡ None
+parts_taken : (rows : List (Option FieldSpec)) (es : Values) (b : List ℕ) → Parts rows es b → first_refusal rows es ≡ None
 parts_taken rows [] b parts = refl
-parts_taken rows (e ∷ es) b parts = ap (λ (o : Option PackFault). option_or o (refused rows es)) (part_taken rows e.0 e.1 parts.0 parts.2) ∙ parts_taken rows es parts.1 parts.3
+parts_taken rows (e ∷ es) b parts = ap (λ (o : Option PackFault). option_or o (first_refusal rows es)) (part_taken rows e.0 e.1 parts.0 parts.2) ∙ parts_taken rows es parts.1 parts.3
 
 -- a message that has a spelling is not refused
 spelled_taken : (t : Layout) (m : Contents) (b : List ℕ) → Spelling t m b → message_refusal t m ≡ None
@@ -70,7 +71,7 @@ plain_agree c set other b agrees plain = record {
 }
 
 pub plain_spelling_lem : (t : Layout) (m : Contents) (set : ℕ → Bool) (maps out : List ℕ) → m.mti < 10000 → m.mti / 1000 ≡ t.version → IsAscending 2 m.elements → ((k : ℕ) → set k ≡ has m.elements k) → PlainBitmaps t.bitmap set maps
-    → Parts t.rows m.elements (flat_map (plain_of t.rows) m.elements) → out ≡ mti_bytes t.mti m.mti ++ (maps ++ flat_map (plain_of t.rows) m.elements) → PlainSpelling t m out
+    → Parts t.rows m.elements (flat_map (plain_of t.rows) m.elements) → out ≡ four_digits_of t.mti m.mti ++ (maps ++ flat_map (plain_of t.rows) m.elements) → PlainSpelling t m out
 plain_spelling_lem t m set maps out small version ascending agrees plain parts is =
     let same = plain_agree t.bitmap set (has m.elements) maps (λ k low high. sym (agrees k)) plain in
     record {

@@ -1,7 +1,7 @@
 -- The numbers of a set below one number, that number, and those above it.
 use Rattle.std.proofs.Common.{◌≡◌, ◌≢◌, ℕ, zero, suc, ◌+◌, ◌-◌, ◌<◌, ◌≤◌, Bool, true, false, List, [], ◌∷◌, ◌++◌, refl, sym, ap, subst, ◌∙◌, arith}
 use Rattle.iso_parts.specs.declared.bitmap.Bitmap.{Bitmap}
-use Rattle.iso_parts.specs.Bits.{in_words, contains}
+use Rattle.iso_parts.specs.Bitmap.{in_words, contains}
 use Rattle.iso_parts.specs.Numbers.{numbers, members, members_below}
 use Rattle.iso_wire.proofs.Buffers.{Below, Above}
 use Rattle.iso_wire.proofs.NumberLaws.{one_more, no_more, no_numbers, numbers_agree, numbers_none}

@@ -2,13 +2,14 @@
 use Rattle.std.proofs.Common.{◌≡◌, ◌≢◌, ℕ, ◌+◌, ◌≤◌, Bool, true, false, cond, ltb, List, [], ◌∷◌, ◌++◌, length, take, drop, Option, Some, None, Result, Ok, Err, refl, sym, ap, subst, ◌∙◌, append_assoc, arith}
 use Rattle.std.proofs.lemmas.Bool.{cond-true, cond-false, ltb-true, ltb-false, lt-ltb, le-ltb}
 use Rattle.std.proofs.lemmas.List.{drop-append-le, take-append-le, drop-drop, length-append, length-drop, append-nil}
+use Rattle.iso_parts.specs.Judging.{count_at, size_at, some_count, some_size}
 use Rattle.iso_parts.specs.declared.fault.FieldFault.{FieldFault}
 use Rattle.iso_parts.specs.declared.fault.FieldFault.TheVariants.{WrongLength, NotInClass, PadEnd, BadLengthDigits, LengthOver, BadFiller, BadHex, Memory}
 use Rattle.iso_parts.specs.declared.spec.FieldSpec.{FieldSpec}
-use Rattle.iso_parts.specs.Bits.{map_size}
+use Rattle.iso_parts.specs.Bitmap.{map_size}
 use Rattle.iso_parts.specs.BitmapReading.{top}
 use Rattle.iso_parts.specs.PartLaws.{PartLaws, IsBodyFault, IsLengthFault}
-use Rattle.iso_parts.specs.Reading.{FieldReading, more, fault, prefix_size, prefix_of, body_size, body_of, some_count, count_at, some_size, size_at, at_body, at_prefix, part_at}
+use Rattle.iso_parts.specs.Reading.{FieldReading, more, fault, prefix_size, prefix_of, body_size, body_of, at_body, at_prefix, part_at}
 use Rattle.iso_table.specs.Layout.{Layout, row_at}
 use Rattle.iso_wire.specs.declared.fault.UnpackFault.{UnpackFault}
 use Rattle.iso_wire.specs.declared.fault.UnpackCause.TheVariants as causes

@@ -3,7 +3,7 @@ use Rattle.std.proofs.Common.{◌≡◌, ℕ, ◌+◌, ◌-◌, ◌≤◌, ◌<�
 use Rattle.std.proofs.lemmas.Bool.{cases_eq, cases_lt, and_parts, ltb-false, lt-ltb, le-ltb, cond-true, cond-false, leb-true}
 use Rattle.std.proofs.lemmas.Bool.Decides.{nat_tests}
 use Rattle.std.proofs.lemmas.List.{take_at, length-append}
-use Rattle.iso_parts.specs.Bits.{map_size, in_words, primary_bits, secondary_bits}
+use Rattle.iso_parts.specs.Bitmap.{map_size, in_words, primary_bits, secondary_bits}
 use Rattle.iso_parts.specs.BitmapReading.{top, word_in}
 use Rattle.iso_parts.specs.MapLaws.{MapLaws, has_bit}
 use Rattle.iso_table.specs.Layout.{Layout, row_at}

@@ -4,8 +4,9 @@ use Rattle.std.proofs.lemmas.Bool.{cases_eq, cases_lt, eqb-true, ltb-false, ltb-
 use Rattle.std.proofs.lemmas.Bool.Decides.{nat_tests}
 use Rattle.std.proofs.lemmas.Nat.Bits.{bit_at-zero}
 use Rattle.std.proofs.lemmas.List.{length-take}
+use Rattle.iso_parts.specs.Digits.{four_digits_in}
 use Rattle.iso_parts.specs.declared.bitmap.BitmapCoding.{BitmapCoding}
-use Rattle.iso_parts.specs.Bits.{BitsIn, map_size, in_words, secondary_bits}
+use Rattle.iso_parts.specs.Bitmap.{BitsIn, map_size, in_words, secondary_bits}
 use Rattle.iso_parts.specs.BitmapReading.{top, word_in}
 use Rattle.iso_parts.specs.MapLaws.{MapLaws, has_bit}
 use Rattle.iso_table.specs.Layout.{Layout}
@@ -15,7 +16,7 @@ use Rattle.iso_wire.specs.declared.fault.UnpackCause.TheVariants as causes
 use Rattle.iso_parts.specs.Numbers.{numbers_in}
 use Rattle.iso_wire.specs.Numbers.{unknown}
 use Rattle.iso_parts.specs.Mti.{mti_size}
-use Rattle.iso_wire.specs.Reading.{◌>>=◌, halt, mti_of, of_version, type_at, word_by, word_at, known_by, primary_at, secondary_known, secondary_at}
+use Rattle.iso_wire.specs.Reading.{◌>>=◌, halt, of_version, type_at, word_by, word_at, known_by, primary_at, secondary_known, secondary_at}
 use Rattle.iso_wire.specs.Spelling.{AreBytes}
 use Rattle.iso_wire.specs.Stops.{Piece, type, primary, secondary, owner, IsType, IsOwnType, HaveRows, IsUnknown, Halts}
 use Rattle.iso_wire.proofs.Bytes.{bytes_take}
@@ -48,16 +49,16 @@ version_by true t b n e room is_type is h = absurd cc
 version_by false t b n e room is_type is h =
     (causes.WrongVersion, fault_is {A = ℕ} _ e h, (room, (n, is_type, λ same. absurd (let other : eqb (n / 1000) t.version ≡ true = grind (arith, nat_tests) in let x : true ≡ false = sym other ∙ is in cc))))
 
-digits_by : (o : Option ℕ) (t : Layout) (b : List ℕ) (e : UnpackFault) → AreBytes b → mti_size t.mti ≤ length b → mti_of t.mti (take (mti_size t.mti) b) ≡ o → of_version t.version o ≡ Err e → HaltsAs t type 0 b e
+digits_by : (o : Option ℕ) (t : Layout) (b : List ℕ) (e : UnpackFault) → AreBytes b → mti_size t.mti ≤ length b → four_digits_in t.mti (take (mti_size t.mti) b) ≡ o → of_version t.version o ≡ Err e → HaltsAs t type 0 b e
 digits_by None t b e bytes room is h =
-    (causes.BadMti, fault_is {A = ℕ} _ e h, (room, λ n typed. absurd (let other : None ≡ Some n = sym is ∙ ap (mti_of t.mti) typed.1 ∙ mti_again t.mti n typed.0 in cc)))
+    (causes.BadMti, fault_is {A = ℕ} _ e h, (room, λ n typed. absurd (let other : None ≡ Some n = sym is ∙ ap (four_digits_in t.mti) typed.1 ∙ mti_again t.mti n typed.0 in cc)))
 digits_by (Some n) t b e bytes room is h =
     let typed = mti_takes t.mti n (take (mti_size t.mti) b) (bytes_take (mti_size t.mti) b bytes) is in
     version_by (eqb (n / 1000) t.version) t b n e room (typed.small, typed.bytes) refl h
 
-type_by : (c : Bool) (t : Layout) (b : List ℕ) (e : UnpackFault) → AreBytes b → ltb (length b) (mti_size t.mti) ≡ c → cond c (halt 0 0 causes.Short) (of_version t.version (mti_of t.mti (take (mti_size t.mti) b))) ≡ Err e → HaltsAs t type 0 b e
+type_by : (c : Bool) (t : Layout) (b : List ℕ) (e : UnpackFault) → AreBytes b → ltb (length b) (mti_size t.mti) ≡ c → cond c (halt 0 0 causes.Short) (of_version t.version (four_digits_in t.mti (take (mti_size t.mti) b))) ≡ Err e → HaltsAs t type 0 b e
 type_by true t b e bytes is h = (causes.Short, fault_is {A = ℕ} _ e h, ltb-true (length b) (mti_size t.mti) is)
-type_by false t b e bytes is h = digits_by (mti_of t.mti (take (mti_size t.mti) b)) t b e bytes (ltb-false (length b) (mti_size t.mti) is) refl h
+type_by false t b e bytes is h = digits_by (four_digits_in t.mti (take (mti_size t.mti) b)) t b e bytes (ltb-false (length b) (mti_size t.mti) is) refl h
 
 -- where no type is read, it isn't whole or is bad
 pub type_halts : (t : Layout) (b : List ℕ) (e : UnpackFault) → AreBytes b → type_at t b ≡ Err e → HaltsAs t type 0 b e
@@ -71,15 +72,15 @@ pub record TypeTaken (t : Layout) (b : List ℕ) : Type 0 where
 pub type_taken : (t : Layout) (b : List ℕ) (n : ℕ) → AreBytes b → type_at t b ≡ Ok n → TypeTaken t b
 type_taken t b n bytes e =
     let size = mti_size t.mti in
-    let typed = short_or (ltb (length b) size) 0 0 (of_version t.version (mti_of t.mti (take size b))) n e in
-    let version = version_or t.version (mti_of t.mti (take size b)) n typed.1 in
+    let typed = short_or (ltb (length b) size) 0 0 (of_version t.version (four_digits_in t.mti (take size b))) n e in
+    let version = version_or t.version (four_digits_in t.mti (take size b)) n typed.1 in
     let got = mti_takes t.mti n (take size b) (bytes_take size b bytes) version.0 in
     record { room = ltb-false (length b) size typed.0; own = (n, (got.small, got.bytes), version.1) }
 
-whole_type : (t : Layout) (b : List ℕ) → mti_size t.mti ≤ length b → type_at t b ≡ of_version t.version (mti_of t.mti (take (mti_size t.mti) b))
-whole_type t b room = cond-false (ltb (length b) (mti_size t.mti)) (halt 0 0 causes.Short) (of_version t.version (mti_of t.mti (take (mti_size t.mti) b))) (le-ltb (length b) (mti_size t.mti) room)
+whole_type : (t : Layout) (b : List ℕ) → mti_size t.mti ≤ length b → type_at t b ≡ of_version t.version (four_digits_in t.mti (take (mti_size t.mti) b))
+whole_type t b room = cond-false (ltb (length b) (mti_size t.mti)) (halt 0 0 causes.Short) (of_version t.version (four_digits_in t.mti (take (mti_size t.mti) b))) (le-ltb (length b) (mti_size t.mti) room)
 
-no_digits : (o : Option ℕ) (t : Layout) (b : List ℕ) → AreBytes b → mti_of t.mti (take (mti_size t.mti) b) ≡ o → ((n : ℕ) → IsType t n (take (mti_size t.mti) b) → ⊥) → of_version t.version o ≡ halt 0 0 causes.BadMti
+no_digits : (o : Option ℕ) (t : Layout) (b : List ℕ) → AreBytes b → four_digits_in t.mti (take (mti_size t.mti) b) ≡ o → ((n : ℕ) → IsType t n (take (mti_size t.mti) b) → ⊥) → of_version t.version o ≡ halt 0 0 causes.BadMti
 no_digits None t b bytes is none = refl
 no_digits (Some n) t b bytes is none =
     let typed = mti_takes t.mti n (take (mti_size t.mti) b) (bytes_take (mti_size t.mti) b bytes) is in
@@ -92,11 +93,11 @@ other_version false n version is other = refl
 -- where the type isn't whole or is bad, reading stops there
 pub type_is_halted : (t : Layout) (b : List ℕ) (cause : UnpackCause) → AreBytes b → Halts t type b cause → type_at t b ≡ halt 0 0 cause
 type_is_halted t b causes.Short bytes h =
-    cond-true (ltb (length b) (mti_size t.mti)) (halt 0 0 causes.Short) (of_version t.version (mti_of t.mti (take (mti_size t.mti) b))) (lt-ltb (length b) (mti_size t.mti) h)
-type_is_halted t b causes.BadMti bytes h = whole_type t b h.0 ∙ no_digits (mti_of t.mti (take (mti_size t.mti) b)) t b bytes refl h.1
+    cond-true (ltb (length b) (mti_size t.mti)) (halt 0 0 causes.Short) (of_version t.version (four_digits_in t.mti (take (mti_size t.mti) b))) (lt-ltb (length b) (mti_size t.mti) h)
+type_is_halted t b causes.BadMti bytes h = whole_type t b h.0 ∙ no_digits (four_digits_in t.mti (take (mti_size t.mti) b)) t b bytes refl h.1
 type_is_halted t b causes.WrongVersion bytes h =
     let n : ℕ = h.1.0 in
-    whole_type t b h.0 ∙ ap (λ (p : List ℕ). of_version t.version (mti_of t.mti p)) h.1.1.1 ∙ ap (of_version t.version) (mti_again t.mti n h.1.1.0) ∙ other_version (eqb (n / 1000) t.version) n t.version refl h.1.2
+    whole_type t b h.0 ∙ ap (λ (p : List ℕ). of_version t.version (four_digits_in t.mti p)) h.1.1.1 ∙ ap (of_version t.version) (mti_again t.mti n h.1.1.0) ∙ other_version (eqb (n / 1000) t.version) n t.version refl h.1.2
 type_is_halted t b causes.BadHex bytes h = absurd h.1
 type_is_halted t b causes.ThirdBitmap bytes h = absurd h.1
 type_is_halted t b (causes.UnknownElement n) bytes h = absurd h.1

@@ -3,7 +3,7 @@ use Rattle.std.proofs.Common.{◌≡◌, ℕ, ◌+◌, ◌≤◌, ◌<◌, Bool,
 use Rattle.std.proofs.lemmas.Bool.{ltb-false, ltb-true, lt-ltb, le-ltb, cond-true, cond-false}
 use Rattle.std.proofs.lemmas.List.{take_at, drop_at, drop-drop, length-append, length-take, length-drop}
 use Rattle.std.proofs.Math.Seq.{take-add}
-use Rattle.iso_parts.specs.declared.prefix.Digits.TheVariants as digits
+use Rattle.iso_parts.specs.declared.digits.Digits.TheVariants as digits
 use Rattle.iso_parts.specs.declared.prefix.Length.{Length}
 use Rattle.iso_parts.specs.declared.prefix.Length.TheVariants as lengths
 use Rattle.iso_parts.specs.declared.spec.FieldSpec.{FieldSpec}

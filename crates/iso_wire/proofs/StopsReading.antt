@@ -3,7 +3,7 @@ use Rattle.std.proofs.Common.{◌≡◌, ℕ, ◌+◌, ◌≤◌, Bool, true, fa
 use Rattle.std.proofs.lemmas.Bool.{ltb-false, le-ltb, cond-false}
 use Rattle.std.proofs.lemmas.List.{take_at, drop_at, drop-drop, length-append, length-take, take-append-drop}
 use Rattle.iso_parts.specs.declared.spec.FieldSpec.{FieldSpec}
-use Rattle.iso_parts.specs.Bits.{map_size, in_words}
+use Rattle.iso_parts.specs.Bitmap.{map_size, in_words}
 use Rattle.iso_parts.specs.BitmapReading.{top}
 use Rattle.iso_parts.specs.MapLaws.{MapLaws}
 use Rattle.iso_parts.specs.PartLaws.{PartLaws}
@@ -28,7 +28,7 @@ use Rattle.iso_wire.proofs.StopsHalted.{primary_is_halted, secondary_is_halted, 
 use Rattle.iso_wire.proofs.StopsMaps.{fault_is, fault_at, HaltsAs, TypeTaken, type_halts, type_taken, type_is_halted, primary_halts, secondary_halts}
 use Rattle.iso_wire.proofs.StopsNumbers.{behind_below, is_split, some_is}
 use Rattle.iso_wire.proofs.StopsParts.{value_halts, count_is_halted, body_is_halted, elements_halt, elements_are_halted}
-use Rattle.iso_wire.proofs.Types.{length-mti_bytes}
+use Rattle.iso_wire.proofs.Types.{length-four_digits_of}
 use Rattle.iso_wire.proofs.WordLaws.{words_taken}
 
 -- ---- the readings, one after another
@@ -192,7 +192,7 @@ record OwnTypeRead (t : Layout) (p : List ℕ) : Type 0 where
 own_type_read : (t : Layout) (p : List ℕ) → IsOwnType t p → OwnTypeRead t p
 own_type_read t p own = record {
   mti = own.0;
-  size = ap length own.1.1 ∙ length-mti_bytes t.mti own.0;
+  size = ap length own.1.1 ∙ length-four_digits_of t.mti own.0;
   read = λ rest. ap (λ (l : List ℕ). type_at t (l ++ rest)) own.1.1 ∙ type_again t own.0 rest own.1.0 own.2;
 }
 

@@ -3,13 +3,11 @@ use Rattle.std.proofs.Common.{◌≡◌, ℕ, ◌+◌, ◌-◌, ◌*◌, ◌/◌
 use Rattle.std.proofs.lemmas.Bool.{and_parts}
 use Rattle.std.proofs.lemmas.Bool.Decides.{nat_tests}
 use Rattle.std.proofs.lemmas.Option.{cond_some}
-use Rattle.iso_parts.specs.declared.prefix.Digits.{Digits}
-use Rattle.iso_parts.specs.declared.prefix.Digits.TheVariants as digits
+use Rattle.iso_parts.specs.declared.digits.Digits.{Digits}
+use Rattle.iso_parts.specs.declared.digits.Digits.TheVariants as digits
 use Rattle.iso_parts.specs.Class.{is_digit}
-use Rattle.iso_wire.specs.Spelling.{mti_bytes}
 use Rattle.iso_parts.specs.Mti.{mti_size}
-use Rattle.iso_parts.specs.FourDigits.{four_digits}
-use Rattle.iso_wire.specs.Reading.{mti_of}
+use Rattle.iso_parts.specs.Digits.{four_digits, four_digits_of, four_digits_in}
 
 record AreDigits (a b c d n : ℕ) : Type 0 where
   pub a_low : 48 ≤ a
@@ -52,11 +50,11 @@ four_takes a b c d n h =
       value = got.1;
     }
 
-pub length-mti_bytes : (k : Digits) (n : ℕ) → length (mti_bytes k n) ≡ mti_size k
-length-mti_bytes digits.Ascii n = refl
-length-mti_bytes digits.Bcd n = refl
+pub length-four_digits_of : (k : Digits) (n : ℕ) → length (four_digits_of k n) ≡ mti_size k
+length-four_digits_of digits.Ascii n = refl
+length-four_digits_of digits.Bcd n = refl
 
-pub mti_again : (k : Digits) (n : ℕ) → n < 10000 → mti_of k (mti_bytes k n) ≡ Some n
+pub mti_again : (k : Digits) (n : ℕ) → n < 10000 → four_digits_in k (four_digits_of k n) ≡ Some n
 mti_again digits.Ascii n lt = four_again (48 + n / 1000) (48 + n / 100 % 10) (48 + n / 10 % 10) (48 + n % 10) n (record { a_low = omega arith; a_high = omega arith; b_low = omega arith; b_high = omega arith; c_low = omega arith; c_high = omega arith; d_low = omega arith; d_high = omega arith; value = omega arith })
 mti_again digits.Bcd n lt =
     let x = 16 * (n / 1000) + n / 100 % 10 in
@@ -64,10 +62,10 @@ mti_again digits.Bcd n lt =
     four_again (48 + x / 16) (48 + x % 16) (48 + y / 16) (48 + y % 16) n (record { a_low = omega arith; a_high = omega arith; b_low = omega arith; b_high = omega arith; c_low = omega arith; c_high = omega arith; d_low = omega arith; d_high = omega arith; value = omega arith })
 
 pub record IsType (k : Digits) (n : ℕ) (p : List ℕ) : Type 0 where
-  pub bytes : p ≡ mti_bytes k n
+  pub bytes : p ≡ four_digits_of k n
   pub small : n < 10000
 
-pub mti_takes : (k : Digits) (n : ℕ) (p : List ℕ) → ((i : ℕ) → get_or p i 0 < 256) → mti_of k p ≡ Some n → IsType k n p
+pub mti_takes : (k : Digits) (n : ℕ) (p : List ℕ) → ((i : ℕ) → get_or p i 0 < 256) → four_digits_in k p ≡ Some n → IsType k n p
 mti_takes digits.Ascii n (a ∷ b ∷ c ∷ d ∷ []) fits h =
     let f = four_takes a b c d n h in
     record {

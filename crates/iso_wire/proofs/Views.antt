@@ -3,11 +3,12 @@ use Rattle.std.proofs.Common.{◌≡◌, ◌≢◌, ℕ, ◌+◌, ◌-◌, ◌�
 use Rattle.std.proofs.lemmas.Bool.{cases_lt}
 use Rattle.std.proofs.lemmas.List.{drop-take, drop_at, length-drop, length-append, length-take}
 use Rattle.std.proofs.Math.Seq.{take-add}
+use Rattle.iso_parts.specs.Digits.{four_digits_of}
 use Rattle.iso_parts.specs.declared.spec.FieldSpec.{FieldSpec}
-use Rattle.iso_parts.specs.Part.{Body, Part, padded, prefix}
+use Rattle.iso_parts.specs.Part.{Body, Part, with_padding, prefix}
 use Rattle.iso_parts.specs.Reading.{prefix_size, body_size}
 use Rattle.iso_parts.specs.PartLaws.{PartLaws}
-use Rattle.iso_parts.specs.declared.prefix.Digits.TheVariants as digits
+use Rattle.iso_parts.specs.declared.digits.Digits.TheVariants as digits
 use Rattle.iso_parts.specs.declared.prefix.Length.{Length}
 use Rattle.iso_parts.specs.declared.prefix.Length.TheVariants as lengths
 use Rattle.iso_table.specs.Layout.{Layout, row_at, AreGood}
@@ -19,7 +20,7 @@ use Rattle.iso_parts.specs.Numbers.{numbers_in}
 use Rattle.iso_parts.specs.Mti.{mti_size}
 use Rattle.iso_wire.specs.Reading.{◌>>=◌, type_at, words_at, value_at, elements_at, IsFaultOf, message_at, whole}
 use Rattle.iso_wire.specs.ReadingLaws.{ReadsSpellings, ReadingStays}
-use Rattle.iso_wire.specs.Spelling.{mti_bytes, AreBytes, BeginsWithNone, PartAs, Parts}
+use Rattle.iso_wire.specs.Spelling.{AreBytes, BeginsWithNone, PartAs, Parts}
 use Rattle.iso_wire.specs.Bodies.{wire_at, wires_at, view_at}
 use Rattle.iso_wire.specs.Viewing.{Viewed, Wired, Views, ViewsSpelled, IsViewed}
 use Rattle.iso_wire.proofs.Bytes.{bytes_drop}
@@ -174,7 +175,7 @@ some_is : (a b : FieldSpec) → Some a ≡ Some b → a ≡ b
 some_is a b e = cc
 
 abbrev part_size : FieldSpec → List ℕ → ℕ
-part_size s v = length (prefix s.length (length v)) + body_size s.coding (length (padded s v))
+part_size s v = length (prefix s.length (length v)) + body_size s.coding (length (with_padding s v))
 
 -- all parts of one value have one length
 part_sized : (laws : PartLaws) (s : FieldSpec) (v b : List ℕ) → Part s v b → length b ≡ part_size s v
@@ -219,8 +220,8 @@ is_viewed laws reads t b (Ok v) good fits h =
     let begins = (reads t m v.used b good fits).0 h.2 in
     let s = begins.1 in
     let w : List ℕ = take v.used b in
-    let head : List ℕ = mti_bytes t.mti v.mti ++ s.maps in
-    let split : w ≡ head ++ s.parts = s.bytes ∙ sym (append_assoc (mti_bytes t.mti v.mti) s.maps s.parts) in
+    let head : List ℕ = four_digits_of t.mti v.mti ++ s.maps in
+    let split : w ≡ head ++ s.parts = s.bytes ∙ sym (append_assoc (four_digits_of t.mti v.mti) s.maps s.parts) in
     let size = same_parts laws t.rows es (drop h.1 w) s.parts (Wired-Parts t.rows es v.wires (drop h.1 w) h.3) s.elements in
     (m, refl, begins.0, (s, subst (Wired t.rows es v.wires) (same_end w head s.parts h.1 split size) h.3))
 is_viewed laws reads t b (Err e) good fits h = tt

@@ -3,13 +3,14 @@ use Rattle.std.proofs.Common.{◌≡◌, ℕ, zero, suc, ◌+◌, ◌-◌, ◌*�
 use Rattle.std.proofs.lemmas.Bool.{cases_eq, cond-true, cond-false, and_parts, leb-true}
 use Rattle.std.proofs.lemmas.Bool.Decides.{nat_tests}
 use Rattle.std.proofs.lemmas.List.{drop-drop, append-nil, get_or-set_same, get_or-set_other}
+use Rattle.iso_wire.specs.Viewing.{front_of}
 use Rattle.iso_parts.specs.declared.spec.FieldSpec.{FieldSpec}
 use Rattle.iso_parts.specs.declared.encoding.Coding.{Coding}
 use Rattle.iso_parts.specs.declared.encoding.Coding.TheVariants as codings
-use Rattle.iso_parts.specs.declared.prefix.Digits.TheVariants as digits
+use Rattle.iso_parts.specs.declared.digits.Digits.TheVariants as digits
 use Rattle.iso_parts.specs.declared.prefix.Length.{Length}
 use Rattle.iso_parts.specs.declared.prefix.Length.TheVariants as lengths
-use Rattle.iso_parts.specs.Bits.{in_words, contains, AreElements}
+use Rattle.iso_parts.specs.Bitmap.{in_words, contains, AreElements}
 use Rattle.iso_parts.specs.PartLaws.{PartLaws, IsUpTo}
 use Rattle.iso_parts.specs.Reading.{got, prefix_size, body_size, part_at}
 use Rattle.iso_parts.specs.Spec.{IsGood, limit, longest_value}
@@ -20,7 +21,7 @@ use Rattle.iso_parts.specs.declared.bitmap.Bitmap.{Bitmap}
 use Rattle.iso_wire.specs.Elements.{value_in}
 use Rattle.iso_parts.specs.Numbers.{numbers}
 use Rattle.iso_wire.specs.Reading.{◌>>=◌, value_at}
-use Rattle.iso_wire.specs.Bodies.{longest_part, start_at, body_size_at, body_in, wire_of, wires_in, IsBodyWithin, AreWithin, front_of, wire_at, wires_at}
+use Rattle.iso_wire.specs.Bodies.{longest_part, start_at, body_size_at, body_in, wire_of, wires_in, IsBodyWithin, AreWithin, wire_at, wires_at}
 use Rattle.iso_parts.specs.Numbers.{members}
 use Rattle.iso_wire.proofs.Loop.{with_front}
 use Rattle.iso_wire.proofs.NumberLaws.{one_more, no_more, no_numbers}

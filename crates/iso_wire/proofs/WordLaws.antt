@@ -7,7 +7,7 @@ use Rattle.std.proofs.lemmas.Nat.Bits.{bit_at-zero}
 use Rattle.std.proofs.lemmas.List.{take_at, length-append, length-take, length-drop, take-append-drop, drop-append-le, take-take, drop-take}
 use Rattle.iso_parts.specs.declared.bitmap.BitmapCoding.{BitmapCoding}
 use Rattle.iso_parts.specs.declared.bitmap.BitmapCoding.TheVariants.{Raw, Hex}
-use Rattle.iso_parts.specs.Bits.{BitsIn, map_size, in_words, primary_bits, secondary_bits, One, Two, Bitmaps}
+use Rattle.iso_parts.specs.Bitmap.{BitsIn, map_size, in_words, primary_bits, secondary_bits, One, Two, Bitmaps}
 use Rattle.iso_parts.specs.BitmapReading.{top, word_in}
 use Rattle.iso_parts.specs.MapLaws.{MapLaws, has_bit}
 use Rattle.iso_wire.specs.declared.fault.UnpackFault.{UnpackFault}

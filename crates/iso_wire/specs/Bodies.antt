@@ -3,7 +3,6 @@
 use Rattle.std.specs.Prelude.{◌≡◌, ℕ, ◌+◌, ◌-◌, ◌*◌, ◌≤◌, List, [], ◌∷◌, take, drop, map, Option, Some, None, Result, Ok, Err}
 use Rattle.std.specs.List.{slice_index_or}
 use Rattle.iso_parts.specs.declared.spec.FieldSpec.{FieldSpec}
-use Rattle.iso_parts.specs.Reading.{prefix_size}
 use Rattle.iso_parts.specs.Spec.{longest_value}
 use Rattle.iso_wire.specs.declared.bodies.Bodies.{Bodies}
 use Rattle.iso_wire.specs.declared.bodies.Outline.{Outline}
@@ -12,7 +11,7 @@ use Rattle.iso_parts.specs.Numbers.{members, numbers_in}
 use Rattle.iso_parts.specs.Mti.{mti_number, mti_size}
 use Rattle.iso_wire.specs.Reading.{◌>>=◌, type_at, words_at, value_at}
 use Rattle.iso_table.specs.Layout.{Layout, row_at}
-use Rattle.iso_wire.specs.Viewing.{Viewed}
+use Rattle.iso_wire.specs.Viewing.{Viewed, front_of}
 
 -- where the body with a number begins, and how many bytes it is
 abbrev pub start_at : Bodies → ℕ → ℕ
@@ -50,11 +49,6 @@ AreWithin size bodies (n ∷ ns) = IsBodyWithin size bodies n × AreWithin size 
 -- the most bytes of a part: four of length, and two for each character
 abbrev pub longest_part : ℕ
 longest_part = 2 * longest_value + 4
-
--- how many bytes of a part stand before its body
-abbrev pub front_of : Option FieldSpec → ℕ
-front_of None = 0
-front_of (Some s) = prefix_size s.length
 
 -- the body of a part that takes so many bytes
 abbrev pub wire_at : Option FieldSpec → List ℕ → ℕ → List ℕ

@@ -1,6 +1,7 @@
 -- A message as lines for human eyes: its type with the words for its digits, and each element.
 use Rattle.std.specs.Prelude.{ℕ, ◌+◌, ◌-◌, ◌/◌, ◌%◌, ◌==◌, nat_lt, Bool, if◌then◌else◌, List, [], ◌∷◌, ◌++◌, length, take, drop, replicate, Option, Some, None, codes}
-use Rattle.iso_parts.specs.declared.prefix.Digits.TheVariants.{Ascii}
+use Rattle.iso_parts.specs.Digits.{four_digits_of}
+use Rattle.iso_parts.specs.declared.digits.Digits.TheVariants.{Ascii}
 use Rattle.iso_parts.specs.declared.class.CharClass.{CharClass}
 use Rattle.iso_parts.specs.declared.class.CharClass.TheVariants as classes
 use Rattle.iso_parts.specs.declared.spec.FieldSpec.{FieldSpec}
@@ -8,13 +9,12 @@ use Rattle.iso_table.specs.Layout.{Layout, row_at}
 use Rattle.iso_wire.specs.Contents.{Contents}
 use Rattle.iso_wire.specs.Decimal.{decimal}
 use Rattle.iso_wire.specs.Masking.{shown_front, shown_end}
-use Rattle.iso_wire.specs.Spelling.{mti_bytes}
 
 -- ---- the type
 
 -- a digit without a meaning
-abbrev pub reserved : ℕ → List ℕ
-reserved d = codes "Reserved(" ++ (48 + d) ∷ 41 ∷ []
+abbrev pub reserved_word : ℕ → List ℕ
+reserved_word d = codes "Reserved(" ++ (48 + d) ∷ 41 ∷ []
 
 unfoldable pub version_word : ℕ → List ℕ
 version_word d =
@@ -22,7 +22,7 @@ version_word d =
     else if d == 1 then codes "1993"
     else if d == 2 then codes "2003"
     else if d == 9 then codes "Private"
-    else reserved d
+    else reserved_word d
 
 unfoldable pub class_word : ℕ → List ℕ
 class_word d =
@@ -34,7 +34,7 @@ class_word d =
     else if d == 6 then codes "Administrative"
     else if d == 7 then codes "FeeCollection"
     else if d == 8 then codes "NetworkManagement"
-    else reserved d
+    else reserved_word d
 
 unfoldable pub function_word : ℕ → List ℕ
 function_word d =
@@ -42,7 +42,7 @@ function_word d =
     else if d == 1 then codes "Response"
     else if d == 2 then codes "Advice"
     else if d == 3 then codes "AdviceResponse"
-    else reserved d
+    else reserved_word d
 
 unfoldable pub origin_word : ℕ → List ℕ
 origin_word d =
@@ -52,12 +52,12 @@ origin_word d =
     else if d == 3 then codes "IssuerRepeat"
     else if d == 4 then codes "Other"
     else if d == 5 then codes "OtherRepeat"
-    else reserved d
+    else reserved_word d
 
 -- the four digits, and the word of each
 abbrev pub type_line : ℕ → List ℕ
 type_line n =
-    codes "MTI=" ++ mti_bytes Ascii n ++ 32 ∷ version_word (n / 1000) ++ 32 ∷ class_word (n / 100 % 10) ++ 32 ∷ function_word (n / 10 % 10) ++ 32 ∷ origin_word (n % 10) ++ 10 ∷ []
+    codes "MTI=" ++ four_digits_of Ascii n ++ 32 ∷ version_word (n / 1000) ++ 32 ∷ class_word (n / 100 % 10) ++ 32 ∷ function_word (n / 10 % 10) ++ 32 ∷ origin_word (n % 10) ++ 10 ∷ []
 
 -- ---- an element
 

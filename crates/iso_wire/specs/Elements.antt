@@ -1,9 +1,5 @@
 -- Elements: numbers with values, in ascending order.
-use Rattle.std.specs.Prelude.{◌≢◌, ℕ, ◌+◌, ◌<◌, ◌≤◌, ◌==◌, ◌&&◌, nat_le, nat_lt, Bool, not, is_some, if◌then◌else◌, List, [], ◌∷◌, Option, Some, None}
-
--- whether an element may have the number
-abbrev pub is_number : ℕ → Bool
-is_number n = nat_le 2 n && nat_le n 128 && not (n == 65)
+use Rattle.std.specs.Prelude.{◌≢◌, ℕ, ◌+◌, ◌<◌, ◌≤◌, ◌==◌, nat_lt, Bool, is_some, if◌then◌else◌, List, [], ◌∷◌, Option, Some, None}
 
 -- the value of an element, if it is there
 abbrev pub value_in : List (ℕ × List ℕ) → ℕ → Option (List ℕ)

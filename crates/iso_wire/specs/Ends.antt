@@ -3,7 +3,7 @@
 use Rattle.std.specs.Prelude.{◌≡◌, ◌≢◌, ℕ, ◌+◌, ◌-◌, ◌<◌, ◌≤◌, true, List, [], ◌∷◌, ◌++◌, length, take, drop}
 use Rattle.iso_wire.specs.declared.elements.Elements.{Elements}
 use Rattle.iso_parts.specs.declared.bitmap.Bitmap.{Bitmap}
-use Rattle.iso_parts.specs.Bits.{contains}
+use Rattle.iso_parts.specs.Bitmap.{contains}
 use Rattle.iso_parts.specs.Numbers.{members}
 use Rattle.iso_wire.specs.Elements.{has}
 

@@ -3,8 +3,8 @@ use Rattle.std.specs.Prelude.{◌≡◌, ℕ, ◌+◌, ◌*◌, ◌/◌, ◌%◌
 use Rattle.std.specs.List.{list_all}
 use Rattle.iso_parts.specs.Class.{is_digit}
 use Rattle.iso_parts.specs.Part.{characters}
-use Rattle.iso_parts.specs.declared.prefix.Digits.TheVariants as digits
-use Rattle.iso_parts.specs.FourDigits.{four_digits, four_digits_of}
+use Rattle.iso_parts.specs.declared.digits.Digits.TheVariants as digits
+use Rattle.iso_parts.specs.Digits.{four_digits_of, four_digits_in}
 use Rattle.iso_wire.specs.declared.header.Header.{Header}
 use Rattle.iso_wire.specs.declared.header.Header.TheVariants.{Binary2, Ascii4, Bcd2}
 use Rattle.iso_wire.specs.declared.framing.Framed.{Framed}
@@ -121,23 +121,23 @@ CutNeedsMore = (h : Header) (n : ℕ) (part : List ℕ) → n ≤ largest h → 
 -- the length that a whole header tells, where it is of digits
 abbrev pub header_length : Header → List ℕ → Option ℕ
 header_length Binary2 (x ∷ y ∷ []) = Some (256 * x + y)
-header_length Ascii4 (a ∷ b ∷ c ∷ d ∷ []) = four_digits a b c d
-header_length Bcd2 (x ∷ y ∷ []) = four_digits (48 + x / 16) (48 + x % 16) (48 + y / 16) (48 + y % 16)
-header_length h other = None
+header_length Binary2 other = None
+header_length Ascii4 b = four_digits_in digits.Ascii b
+header_length Bcd2 b = four_digits_in digits.Bcd b
 
 -- a body and how many bytes its frame takes; or that bytes are missing; or a header that isn't of digits
-pub data FrameOutcome : Type 0 where
-  got : List ℕ → ℕ → FrameOutcome
-  more : FrameOutcome
-  bad : FrameOutcome
+pub data FrameReading : Type 0 where
+  got : List ℕ → ℕ → FrameReading
+  more : FrameReading
+  bad : FrameReading
 
-abbrev pub at_length : Header → List ℕ → Option ℕ → FrameOutcome
+abbrev pub at_length : Header → List ℕ → Option ℕ → FrameReading
 at_length h bytes None = bad
 at_length h bytes (Some n) =
     if nat_lt (length bytes) (header_size h + n) then more
     else got (take n (drop (header_size h) bytes)) (header_size h + n)
 
-abbrev pub frame_at : Header → List ℕ → FrameOutcome
+abbrev pub frame_at : Header → List ℕ → FrameReading
 frame_at h bytes =
     if nat_lt (length bytes) (header_size h) then more
     else at_length h bytes (header_length h (take (header_size h) bytes))
@@ -145,7 +145,7 @@ frame_at h bytes =
 -- ---- what functions answer
 
 -- what unframing answers is what reading gives
-abbrev pub Unframes : Result Framed FrameFault → FrameOutcome → Type 0
+abbrev pub Unframes : Result Framed FrameFault → FrameReading → Type 0
 Unframes (Ok (Got body used)) o = o ≡ got body.now used
 Unframes (Ok More) o = o ≡ more
 Unframes (Err e) o = (e ≡ BadDigits) × (o ≡ bad)

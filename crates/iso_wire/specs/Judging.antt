@@ -1,10 +1,10 @@
 -- Reading on from a piece that isn't whole yet: what stood before it isn't read again.
 -- Inner: bodies and proofs cite it, and no public clause does.
 use Rattle.std.specs.Prelude.{◌≡◌, ℕ, ◌+◌, ◌≤◌, List, ◌++◌, length, drop, Option, Some, None, Result, Ok, Err}
+use Rattle.iso_parts.specs.Judging.{size_at}
 use Rattle.iso_parts.specs.declared.fault.FieldFault.{FieldFault}
 use Rattle.iso_parts.specs.declared.spec.FieldSpec.{FieldSpec}
-use Rattle.iso_parts.specs.Bits.{map_size}
-use Rattle.iso_parts.specs.Reading.{size_at}
+use Rattle.iso_parts.specs.Bitmap.{map_size}
 use Rattle.iso_wire.specs.declared.fault.UnpackFault.{UnpackFault}
 use Rattle.iso_wire.specs.declared.fault.UnpackCause.TheVariants.{Short, UnknownElement, Field}
 use Rattle.iso_wire.specs.declared.judging.ResumePoint.{ResumePoint}

@@ -2,17 +2,15 @@
 -- bit of the primary says so, and then for each element its length and its body. A piece is judged when it is whole.
 -- A fault tells the offset of the piece, and whose it is: 0 for the type and the primary bitmap, 1 for the secondary
 -- bitmap, else the element's number.
-use Rattle.std.specs.Prelude.{◌≡◌, ◌≢◌, ℕ, ◌+◌, ◌/◌, ◌%◌, ◌==◌, nat_lt, List, [], ◌∷◌, length, take, drop, Option, Some, None, Result, Ok, Err, if◌then◌else◌}
-use Rattle.iso_parts.specs.declared.prefix.Digits.{Digits}
-use Rattle.iso_parts.specs.declared.prefix.Digits.TheVariants as digits
+use Rattle.std.specs.Prelude.{◌≡◌, ◌≢◌, ℕ, ◌+◌, ◌/◌, ◌==◌, nat_lt, List, [], ◌∷◌, length, take, drop, Option, Some, None, Result, Ok, Err, if◌then◌else◌}
 use Rattle.iso_parts.specs.declared.bitmap.BitmapCoding.{BitmapCoding}
 use Rattle.iso_parts.specs.declared.spec.FieldSpec.{FieldSpec}
 use Rattle.iso_parts.specs.declared.fault.FieldFault.{FieldFault}
 use Rattle.iso_parts.specs.declared.fault.FieldFault.TheVariants as fields
-use Rattle.iso_parts.specs.Bits.{map_size}
+use Rattle.iso_parts.specs.Bitmap.{map_size}
 use Rattle.iso_parts.specs.Mti.{mti_size}
 use Rattle.iso_parts.specs.BitmapReading.{word_in, top}
-use Rattle.iso_parts.specs.FourDigits.{four_digits}
+use Rattle.iso_parts.specs.Digits.{four_digits_in}
 use Rattle.iso_parts.specs.Reading.{FieldReading, got, more, fault, prefix_size, part_at}
 use Rattle.iso_wire.specs.declared.fault.UnpackFault.{UnpackFault}
 use Rattle.iso_wire.specs.declared.fault.UnpackCause.{UnpackCause}
@@ -34,13 +32,6 @@ halt element at cause = Err (record { at = at; element = element; cause = cause 
 
 -- ---- the message type
 
--- the number that the bytes of a message type tell
-abbrev pub mti_of : Digits → List ℕ → Option ℕ
-mti_of digits.Ascii (a ∷ b ∷ c ∷ d ∷ []) = four_digits a b c d
-mti_of digits.Ascii other = None
-mti_of digits.Bcd (x ∷ y ∷ []) = four_digits (48 + x / 16) (48 + x % 16) (48 + y / 16) (48 + y % 16)
-mti_of digits.Bcd other = None
-
 abbrev pub of_version : ℕ → Option ℕ → Result ℕ UnpackFault
 of_version version None = halt 0 0 BadMti
 of_version version (Some n) = if n / 1000 == version then Ok n else halt 0 0 WrongVersion
@@ -48,7 +39,7 @@ of_version version (Some n) = if n / 1000 == version then Ok n else halt 0 0 Wro
 abbrev pub type_at : Layout → List ℕ → Result ℕ UnpackFault
 type_at t b =
     if nat_lt (length b) (mti_size t.mti) then halt 0 0 Short
-    else of_version t.version (mti_of t.mti (take (mti_size t.mti) b))
+    else of_version t.version (four_digits_in t.mti (take (mti_size t.mti) b))
 
 -- ---- the bitmaps, as words
 

@@ -2,18 +2,14 @@
 -- the parts of its elements in ascending order.
 use Rattle.std.specs.Prelude.{◌≡◌, ℕ, ◌/◌, ◌<◌, Bool, List, [], ◌∷◌, ◌++◌, Option, Some, None, ◌≤◌, take, length, slice_index}
 use Rattle.std.specs.List.{flat_map}
-use Rattle.iso_parts.specs.declared.prefix.Digits.{Digits}
+use Rattle.iso_parts.specs.declared.digits.Digits.{Digits}
 use Rattle.iso_parts.specs.declared.spec.FieldSpec.{FieldSpec}
-use Rattle.iso_parts.specs.Bits.{Bitmaps, PlainBitmaps}
-use Rattle.iso_parts.specs.FourDigits.{four_digits_of}
+use Rattle.iso_parts.specs.Bitmap.{Bitmaps, PlainBitmaps}
+use Rattle.iso_parts.specs.Digits.{four_digits_of}
 use Rattle.iso_parts.specs.Part.{Part, plain_part}
 use Rattle.iso_wire.specs.Contents.{Contents}
 use Rattle.iso_wire.specs.Elements.{has, IsAscending}
 use Rattle.iso_table.specs.Layout.{Layout, row_at}
-
--- the four digits of a message type, a byte for each or two in a byte
-abbrev pub mti_bytes : Digits → ℕ → List ℕ
-mti_bytes d n = four_digits_of d n
 
 -- the bytes are a part of the value as element n
 abbrev pub PartAs : List (Option FieldSpec) → ℕ → List ℕ → List ℕ → Type 0
@@ -34,7 +30,7 @@ pub record Spelling (t : Layout) (m : Contents) (b : List ℕ) : Type 0 where
   pub parts : List ℕ
   pub bitmaps : Bitmaps t.bitmap secondary (has m.elements) maps
   pub elements : Parts t.rows m.elements parts
-  pub bytes : b ≡ mti_bytes t.mti m.mti ++ (maps ++ parts)
+  pub bytes : b ≡ four_digits_of t.mti m.mti ++ (maps ++ parts)
 
 -- ---- spellings at the front of bytes
 

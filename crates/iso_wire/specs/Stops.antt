@@ -3,8 +3,9 @@
 -- it isn't whole, or it is whole and bad. Nothing is read here: pieces are told by the grammar that says which bytes
 -- spell a message, and only how many bytes a whole piece has is told by the tables that reading goes by too.
 use Rattle.std.specs.Prelude.{◌≡◌, ◌≢◌, ℕ, ◌/◌, ◌<◌, ◌≤◌, ◌&&◌, nat_lt, Bool, true, false, is_some, List, [], ◌++◌, length, take, Some, None}
+use Rattle.iso_parts.specs.Digits.{four_digits_of}
 use Rattle.iso_parts.specs.declared.spec.FieldSpec.{FieldSpec}
-use Rattle.iso_parts.specs.Bits.{map_size, BitsIn, Bitmaps, primary_bits, secondary_bits}
+use Rattle.iso_parts.specs.Bitmap.{map_size, BitsIn, Bitmaps, primary_bits, secondary_bits}
 use Rattle.iso_parts.specs.Pieces.{IsCount, IsBadCount, IsBadBody}
 use Rattle.iso_parts.specs.Reading.{prefix_size, body_size}
 use Rattle.iso_table.specs.Layout.{Layout, row_at}
@@ -12,7 +13,7 @@ use Rattle.iso_wire.specs.declared.fault.UnpackCause.{UnpackCause}
 use Rattle.iso_wire.specs.declared.fault.UnpackCause.TheVariants.{Short, BadMti, WrongVersion, BadHex, ThirdBitmap, UnknownElement, Field}
 use Rattle.iso_wire.specs.Elements.{has, IsAscending}
 use Rattle.iso_parts.specs.Mti.{mti_size}
-use Rattle.iso_wire.specs.Spelling.{mti_bytes, Parts}
+use Rattle.iso_wire.specs.Spelling.{Parts}
 
 -- ---- the pieces of a message
 
@@ -49,7 +50,7 @@ size_of t (body n s c) = body_size s.coding c
 
 -- the bytes are the four digits of a message type (ISO 8583:1987, message type identifier)
 abbrev pub IsType : Layout → ℕ → List ℕ → Type 0
-IsType t n p = (n < 10000) × (p ≡ mti_bytes t.mti n)
+IsType t n p = (n < 10000) × (p ≡ four_digits_of t.mti n)
 
 -- the bytes are a message type of the table's version (its first digit)
 abbrev pub IsOwnType : Layout → List ℕ → Type 0

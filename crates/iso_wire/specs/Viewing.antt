@@ -1,5 +1,6 @@
 -- A message that is left where it lies: its type, its length, and the bodies of its elements.
-use Rattle.std.specs.Prelude.{◌≡◌, ℕ, ◌≤◌, List, [], ◌∷◌, ◌++◌, length, take, drop, Option, Some, Result, Ok, Err}
+use Rattle.std.specs.Prelude.{◌≡◌, ℕ, ◌≤◌, List, [], ◌∷◌, ◌++◌, length, take, drop, Option, Some, None, Result, Ok, Err}
+use Rattle.iso_parts.specs.Reading.{prefix_size}
 use Rattle.iso_parts.specs.declared.spec.FieldSpec.{FieldSpec}
 use Rattle.iso_parts.specs.Part.{Body, prefix}
 use Rattle.iso_wire.specs.declared.fault.UnpackFault.{UnpackFault}
@@ -13,6 +14,11 @@ pub record Viewed : Type 0 where
   pub mti : ℕ
   pub used : ℕ
   pub wires : List (ℕ × List ℕ)
+
+-- how many bytes of a part stand before its body
+abbrev pub front_of : Option FieldSpec → ℕ
+front_of None = 0
+front_of (Some s) = prefix_size s.length
 
 -- the bytes are the parts of the elements, with these bodies
 abbrev pub Wired : List (Option FieldSpec) → List (ℕ × List ℕ) → List (ℕ × List ℕ) → List ℕ → Type 0

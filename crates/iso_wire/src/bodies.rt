@@ -11,13 +11,10 @@ ghost use Rattle.iso_wire.specs.Bodies.{longest_part, wires_in, AreWithin, wires
 use crate::fault::{UnpackCause, UnpackFault};
 use crate::front::{type_of, words_of};
 use crate::unpacking::fault_place;
-use iso_parts::{Bitmap, Judged, Mti, judge_field};
+use iso_parts::{Bitmap, Judged, Mti, PLACES, judge_field};
 use iso_table::Table;
 use std::fmt;
 use std::marker::Model;
-
-/// Each number up to 128 has a place.
-const PLACES: usize = 129;
 
 /// Where the bodies of elements lie in the bytes, by their numbers: where each begins, and how many bytes it is.
 #[derive(Clone, Copy, Debug)]

@@ -6,7 +6,7 @@ ghost use Rattle.iso_wire.specs.Ends.{views, Awaits, IsWhole, IsNumbered};
 ghost use Rattle.iso_wire.specs.Taking.{IsRead};
 ghost use Rattle.iso_wire.specs.Appending.{AppendsElement};
 ghost use Rattle.iso_wire.specs.Reading.{Gives, Unpacks, value_at, elements_at, message_at};
-ghost use Rattle.iso_parts.specs.Bits.{contains, AreElements};
+ghost use Rattle.iso_parts.specs.Bitmap.{contains, AreElements};
 ghost use Rattle.iso_parts.specs.Numbers.{members};
 
 use crate::elements::Elements;

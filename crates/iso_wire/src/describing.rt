@@ -139,7 +139,7 @@ fn lines_of(
     ensures { IfOk result (λ lines. lines.items ≡ description is_clear table.now message.now) }
 {
     let mut out = Vec::new(alloc);
-    push_type(message.mti().number(), &mut out)?;
+    push_type(message.mti(), &mut out)?;
     push_elements(table, is_clear, message, &mut out)?;
     Ok(out)
 }

@@ -3,7 +3,8 @@
 ghost use Rattle.std.specs.Prelude.{◌≡◌, ◌+◌, ◌-◌, ◌^◌, ◌<◌, ◌≤◌, ◌↔◌, ◌++◌, ◌∷◌, []};
 ghost use Rattle.std.specs.Prelude.{All, length, map, take, drop};
 ghost use Rattle.std.specs.Prelude.{vec_len, vec_capacity, IsTrue, true, IfOk, OnOk, OnErr, MatchOption, Some, None};
-ghost use Rattle.iso_wire.specs.Elements.{value_in, has, is_number, IsAscending, IsBelow, put, without};
+ghost use Rattle.iso_parts.specs.Numbers.{is_element};
+ghost use Rattle.iso_wire.specs.Elements.{value_in, has, IsAscending, IsBelow, put, without};
 ghost use Rattle.iso_wire.specs.Ends.{views, last_end, shifted_end, Ascend, IsWhole, IsNumbered, Adds, IsMadeOf, IsSame};
 
 use iso_parts::Bitmap;
@@ -165,7 +166,7 @@ impl Elements {
         requires place { at ≤ length self.old.ends.items }
         requires within { start ≤ length self.old.values.items }
         requires ends { Ascend start (drop at self.old.ends.items) (length self.old.values.items) }
-        requires number { is_number n ≡ true }
+        requires number { is_element n ≡ true }
         ensures ok { OnOk result (IsMadeOf self.new
             (take at self.old.ends.items ++ map (shifted_end 0 (length value.now)) (start ∷ drop at self.old.ends.items))
             (take start self.old.values.items ++ (value.now ++ drop start self.old.values.items))) }
@@ -207,7 +208,7 @@ impl Elements {
 
     /// Adds an element behind the others.
     pub fn append(&mut self, n: u8, value: &[u8]) -> Result<(), AllocError>
-        requires number { is_number n ≡ true }
+        requires number { is_element n ≡ true }
         requires whole { IsWhole self.old }
         requires numbered { IsNumbered self.old }
         requires behind { IsBelow n (views self.old) }
@@ -232,7 +233,7 @@ impl Elements {
 
     /// Puts a value at its number, in place of the one that was there.
     pub fn put(&mut self, n: u8, value: &[u8]) -> Result<(), AllocError>
-        requires number { is_number n ≡ true }
+        requires number { is_element n ≡ true }
         requires whole { IsWhole self.old }
         requires ascending { IsAscending 2 (views self.old) }
         requires numbered { IsNumbered self.old }

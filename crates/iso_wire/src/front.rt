@@ -1,31 +1,27 @@
 //! What a message begins with: its type, and its bitmaps, which tell the elements that follow.
 
 ghost use Rattle.std.specs.Prelude.{◌≡◌, ◌≢◌, ◌≤◌, ◌<◌, ◌^◌, length, option_map, IfOk, IfErr, OnOk};
-ghost use Rattle.iso_parts.specs.Bits.{map_size};
+ghost use Rattle.iso_parts.specs.Digits.{four_digits_in};
+ghost use Rattle.iso_parts.specs.Bitmap.{map_size};
 ghost use Rattle.iso_parts.specs.Mti.{mti_number, mti_size};
 ghost use Rattle.iso_parts.specs.Numbers.{numbers_in};
 ghost use Rattle.iso_table.specs.Layout.{AreGood};
 ghost use Rattle.iso_wire.specs.Numbers.{unknown};
 ghost use Rattle.iso_wire.specs.declared.fault.UnpackCause.TheVariants.{Memory};
-ghost use Rattle.iso_wire.specs.Reading.{Gives, mti_of, type_at, word_at, known_by, primary_at, secondary_at, words_at};
+ghost use Rattle.iso_wire.specs.Reading.{Gives, type_at, word_at, known_by, primary_at, secondary_at, words_at};
 
 use crate::fault::{UnpackCause, UnpackFault};
-use iso_parts::{Bitmap, BitmapCoding, Digits, FIRST_BIT, Mti};
+use iso_parts::{Bitmap, BitmapCoding, Digits, Mti, bcd_characters, tells_another};
 use iso_table::Table;
 
 /// The type that the bytes of one tell.
 fn mti_of(digits: Digits, bytes: &[u8]) -> Option<Mti>
     requires { length bytes.now ≡ mti_size digits }
-    ensures { option_map mti_number result ≡ mti_of digits bytes.now }
+    ensures { option_map mti_number result ≡ four_digits_in digits bytes.now }
 {
     match (digits, bytes) {
         (Digits::Ascii, _) => Mti::from_text(bytes),
-        (Digits::Bcd, [x, y]) => Mti::from_text(&[
-            b'0' + *x / 16,
-            b'0' + *x % 16,
-            b'0' + *y / 16,
-            b'0' + *y % 16,
-        ]),
+        (Digits::Bcd, [x, y]) => Mti::from_text(&bcd_characters(*x, *y)),
         _ => unreachable!(),
     }
 }
@@ -109,11 +105,10 @@ pub fn secondary_of(table: &Table, at: usize, bytes: &[u8]) -> Result<u64, Unpac
     ensures low { IfOk result (λ word. word < 2 ^ 63) }
 {
     let word = word_of(table.bitmap(), 1, at, bytes)?;
-    if word < FIRST_BIT {
-        known_word(1, at, word, unknown_of(table, 0, word))
-    } else {
-        Err(UnpackFault::stop(1, at, UnpackCause::ThirdBitmap))
+    if tells_another(word) {
+        return Err(UnpackFault::stop(1, at, UnpackCause::ThirdBitmap));
     }
+    known_word(1, at, word, unknown_of(table, 0, word))
 }
 
 /// The words of the bitmaps that the bytes begin with, and how many bytes they take.
@@ -128,7 +123,7 @@ pub fn words_of(table: &Table, at: usize, bytes: &[u8]) -> Result<(u64, u64, usi
 {
     let size = table.bitmap().size();
     let primary = primary_of(table, at, bytes)?;
-    if primary < FIRST_BIT {
+    if !tells_another(primary) {
         return Ok((primary, 0, size));
     }
     let (_, rest) = bytes.split_at(size);

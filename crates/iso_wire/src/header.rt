@@ -3,7 +3,7 @@
 ghost use Rattle.std.specs.Prelude.{◌≡◌, ◌≤◌, length};
 ghost use Rattle.iso_wire.specs.Framing.{largest, header_size, header_of, header_length};
 
-use iso_parts::{four_ascii_digits, four_bcd_digits, four_digits};
+use iso_parts::{Digits, four_ascii_digits, four_bcd_digits, four_digits_in};
 
 /// How a frame counts its body. The header's own bytes don't count.
 #[derive(Clone, Copy, Debug, PartialEq, Eq)]
@@ -43,14 +43,9 @@ impl Header {
     {
         match (self, header) {
             (Header::Binary2, [high, low]) => Some(256 * *high as u16 + *low as u16),
-            (Header::Ascii4, [a, b, c, d]) => four_digits(*a, *b, *c, *d),
-            (Header::Bcd2, [x, y]) => four_digits(
-                b'0' + *x / 16,
-                b'0' + *x % 16,
-                b'0' + *y / 16,
-                b'0' + *y % 16,
-            ),
-            _ => None,
+            (Header::Binary2, _) => None,
+            (Header::Ascii4, _) => four_digits_in(Digits::Ascii, header),
+            (Header::Bcd2, _) => four_digits_in(Digits::Bcd, header),
         }
     }
 

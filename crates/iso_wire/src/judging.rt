@@ -1,7 +1,7 @@
 //! Judging a message without building it: from a piece on, and without memory.
 
 ghost use Rattle.std.specs.Prelude.{◌≡◌, ◌≤◌, ◌+◌, ◌∷◌, ◌<◌, length, IfOk, Some};
-ghost use Rattle.iso_parts.specs.Bits.{map_size};
+ghost use Rattle.iso_parts.specs.Bitmap.{map_size};
 ghost use Rattle.iso_parts.specs.Spec.{IsGood};
 ghost use Rattle.iso_parts.specs.Mti.{mti_size};
 ghost use Rattle.iso_wire.specs.Judging.{IsPointWithin, Resumes, Steps, body_end};
@@ -9,7 +9,7 @@ ghost use Rattle.iso_parts.specs.Numbers.{members};
 
 use crate::fault::{UnpackCause, UnpackFault};
 use crate::front::{primary_of, secondary_of, type_of};
-use iso_parts::{Bitmap, FIRST_BIT, FieldSpec, judge_body, judge_length};
+use iso_parts::{Bitmap, FieldSpec, judge_body, judge_length, tells_another};
 use iso_table::Table;
 
 /// The piece from which judging goes on, since it isn't whole yet.
@@ -198,15 +198,15 @@ fn judge_primary(table: &Table, bytes: &[u8]) -> (ResumePoint, Result<usize, Unp
     let (_, maps) = bytes.split_at(start);
     match primary_of(table, start, maps) {
         Ok(primary) => {
-            if primary < FIRST_BIT {
+            if tells_another(primary) {
+                judge_secondary(table, primary, bytes)
+            } else {
                 judge_elements(
                     table,
                     Bitmap::from_words(primary, 0),
                     start + table.bitmap().size(),
                     bytes,
                 )
-            } else {
-                judge_secondary(table, primary, bytes)
             }
         }
         Err(fault) => (ResumePoint::Primary, Err(fault)),

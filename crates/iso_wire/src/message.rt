@@ -3,11 +3,12 @@
 ghost use Rattle.std.specs.Prelude.{◌≡◌, ◌<◌, ◌≤◌, ◌^◌, ◌++◌, ◌∷◌, [], ◌↔◌};
 ghost use Rattle.std.specs.Prelude.{ℕ, All, true, false, IfOk, OnOk, OnErr, IsTrue, IsOkUnless};
 ghost use Rattle.std.specs.Prelude.{MatchOption, Some, None};
-ghost use Rattle.iso_parts.specs.Bits.{contains};
+ghost use Rattle.iso_parts.specs.Numbers.{is_element};
+ghost use Rattle.iso_parts.specs.Bitmap.{contains};
 ghost use Rattle.iso_parts.specs.Mti.{mti_number};
 ghost use Rattle.iso_wire.specs.Contents.{Contents};
 ghost use Rattle.iso_wire.specs.Decimal.{decimal, number_at};
-ghost use Rattle.iso_wire.specs.Elements.{value_in, has, is_number, IsBelow, put, without};
+ghost use Rattle.iso_wire.specs.Elements.{value_in, has, IsBelow, put, without};
 ghost use Rattle.iso_wire.specs.Ends.{IsSame};
 ghost use Rattle.iso_wire.specs.Equality.{same_contents, same_contents_equiv};
 ghost use Rattle.std.specs.Cmp.{partial_equiv_from_equiv};
@@ -17,7 +18,7 @@ use crate::elements::Elements;
 use crate::fault::SetFault;
 use crate::iteration::Iter;
 use crate::masking::masked;
-use iso_parts::{Bitmap, Mti};
+use iso_parts::{Bitmap, Mti, is_element};
 use std::alloc::{AllocError, Global};
 use std::fmt;
 use std::marker::Model;
@@ -98,13 +99,6 @@ impl PartialEq for Message {
 
 impl Eq for Message {
     ghost laws = { same_contents_equiv };
-}
-
-/// Whether an element may have the number: 2 to 128, but for 65.
-fn is_element(n: u8) -> bool
-    ensures { result ≡ is_number n }
-{
-    2 <= n && n <= 128 && n != 65
 }
 
 impl Message {
@@ -188,11 +182,11 @@ impl Message {
     /// Puts a value at its number, in place of the one that was there.
     pub fn set(&mut self, n: u8, value: &[u8]) -> Result<(), SetFault>
         ensures ok { OnOk result (self.new ≡ record self.old { elements = put n value.now self.old.elements }) }
-        ensures bad_number { is_number n ≡ false → result ≡ Err (SetFault.BadNumber n) }
-        ensures memory { is_number n ≡ true → IsOkUnless result SetFault.Memory }
+        ensures bad_number { is_element n ≡ false → result ≡ Err (SetFault.BadNumber n) }
+        ensures memory { is_element n ≡ true → IsOkUnless result SetFault.Memory }
         ensures unchanged { OnErr result (self.new ≡ self.old) }
     {
-        if !is_element(n) {
+        if !is_element(u16::from(n)) {
             return Err(SetFault::BadNumber(n));
         }
         self.elements.put(n, value)?;
@@ -205,8 +199,8 @@ impl Message {
         requires few { digits ≤ 19 }
         requires fits { v < 10 ^ digits }
         ensures ok { OnOk result (self.new ≡ record self.old { elements = put n (decimal digits v) self.old.elements }) }
-        ensures bad_number { is_number n ≡ false → result ≡ Err (SetFault.BadNumber n) }
-        ensures memory { is_number n ≡ true → IsOkUnless result SetFault.Memory }
+        ensures bad_number { is_element n ≡ false → result ≡ Err (SetFault.BadNumber n) }
+        ensures memory { is_element n ≡ true → IsOkUnless result SetFault.Memory }
         ensures unchanged { OnErr result (self.new ≡ self.old) }
     {
         let mut room = [0; 19];
@@ -217,7 +211,7 @@ impl Message {
 
     /// Adds an element behind the others.
     pub fn append(&mut self, n: u8, value: &[u8]) -> Result<(), AllocError>
-        requires number { is_number n ≡ true }
+        requires number { is_element n ≡ true }
         requires behind { IsBelow n self.old.elements }
         ensures ok { OnOk result (self.new ≡ record self.old { elements = self.old.elements ++ (n, value.now) ∷ [] }) }
         ensures unchanged { OnErr result (self.new ≡ self.old) }

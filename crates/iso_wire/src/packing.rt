@@ -2,20 +2,22 @@
 
 ghost use Rattle.std.specs.Prelude.{◌≡◌, ◌≢◌, ℕ, ◌++◌, ◌<◌, List, length, OnOk, OnErr, IfOk, IfErr, None, Some};
 ghost use Rattle.std.specs.List.{flat_map};
+ghost use Rattle.iso_parts.specs.Digits.{four_digits_of};
+ghost use Rattle.iso_parts.specs.Mti.{mti_number};
 ghost use Rattle.iso_wire.specs.declared.fault.PackFault.TheVariants as pack;
 ghost use Rattle.iso_wire.specs.Ends.{views, IsWhole};
 ghost use Rattle.iso_parts.specs.Buffers.{Keeps};
 ghost use Rattle.iso_table.specs.Layout.{row_at, AreGood};
 ghost use Rattle.iso_wire.specs.Reading.{message_at, whole};
-ghost use Rattle.iso_wire.specs.Refusal.{as_pack, refused_by, refused, message_refusal};
-ghost use Rattle.iso_wire.specs.Spelling.{mti_bytes, PartAs, Parts, plain_of, Spelling, PlainSpelling, AreBytes};
+ghost use Rattle.iso_wire.specs.Refusal.{as_pack, refused_by, first_refusal, message_refusal};
+ghost use Rattle.iso_wire.specs.Spelling.{PartAs, Parts, plain_of, Spelling, PlainSpelling, AreBytes};
 
 use crate::elements::Elements;
 use crate::fault::PackFault;
 use crate::iteration::Iter;
 use crate::laws::reads_spellings;
 use crate::message::Message;
-use iso_parts::{Digits, FieldFault, encode_field, four_ascii_digits, four_bcd_digits};
+use iso_parts::{Digits, FieldFault, Mti, encode_field, four_ascii_digits, four_bcd_digits};
 use iso_table::Table;
 use std::alloc::{AllocError, Global};
 
@@ -58,8 +60,8 @@ fn append_part(table: &Table, n: u8, value: &[u8], out: &mut Vec<u8>) -> Result<
 fn append_elements(table: &Table, elements: Iter<'_>, out: &mut Vec<u8>) -> Result<(), PackFault>
     ensures written { OnOk result (out.new.items ≡ out.old.items ++ flat_map (plain_of table.now.rows) elements.entry) }
     ensures spelled { OnOk result (Parts table.now.rows elements.entry (flat_map (plain_of table.now.rows) elements.entry)) }
-    ensures fits { OnOk result (refused table.now.rows elements.entry ≡ None) }
-    ensures fault { IfErr result (λ e. e ≢ pack.Memory → refused table.now.rows elements.entry ≡ Some e) }
+    ensures fits { OnOk result (first_refusal table.now.rows elements.entry ≡ None) }
+    ensures fault { IfErr result (λ e. e ≢ pack.Memory → first_refusal table.now.rows elements.entry ≡ Some e) }
     ensures kept { OnErr result (Keeps out.old.items out.new.items) }
 {
     for (n, value) in elements {
@@ -73,8 +75,8 @@ fn append_parts(table: &Table, elements: &Elements, out: &mut Vec<u8>) -> Result
     requires { IsWhole elements.now }
     ensures written { OnOk result (out.new.items ≡ out.old.items ++ flat_map (plain_of table.now.rows) (views elements.now)) }
     ensures spelled { OnOk result (Parts table.now.rows (views elements.now) (flat_map (plain_of table.now.rows) (views elements.now))) }
-    ensures fits { OnOk result (refused table.now.rows (views elements.now) ≡ None) }
-    ensures fault { IfErr result (λ e. e ≢ pack.Memory → refused table.now.rows (views elements.now) ≡ Some e) }
+    ensures fits { OnOk result (first_refusal table.now.rows (views elements.now) ≡ None) }
+    ensures fault { IfErr result (λ e. e ≢ pack.Memory → first_refusal table.now.rows (views elements.now) ≡ Some e) }
     ensures kept { OnErr result (Keeps out.old.items out.new.items) }
     // Each item is a byte.
     ensures bytes { AreBytes out.new.items }
@@ -83,12 +85,11 @@ fn append_parts(table: &Table, elements: &Elements, out: &mut Vec<u8>) -> Result
 }
 
 /// Appends the four digits of a message type.
-fn append_mti(digits: Digits, n: u16, out: &mut Vec<u8>) -> Result<(), AllocError>
-    requires { n < 10000 }
-    ensures ok { OnOk result (out.new.items ≡ out.old.items ++ mti_bytes digits n) }
+fn append_mti(digits: Digits, mti: Mti, out: &mut Vec<u8>) -> Result<(), AllocError>
+    ensures ok { OnOk result (out.new.items ≡ out.old.items ++ four_digits_of digits (mti_number mti)) }
     ensures unchanged { OnErr result (out.new.items ≡ out.old.items) }
 {
-    let number = usize::from(n);
+    let number = usize::from(mti.number());
     match digits {
         Digits::Ascii => out.extend_from_slice(&four_ascii_digits(number)),
         Digits::Bcd => out.extend_from_slice(&four_bcd_digits(number)),
@@ -120,7 +121,7 @@ fn append_spelling(table: &Table, message: &Message, out: &mut Vec<u8>) -> Resul
     }
     let elements = message.parts();
     make_room(elements, out)?;
-    append_mti(table.mti(), mti.number(), out)?;
+    append_mti(table.mti(), mti, out)?;
     let numbers = message.elements();
     numbers.append(table.bitmap(), out)?;
     append_parts(table, elements, out)?;

@@ -14,7 +14,7 @@ ghost use Rattle.iso_wire.specs.Reading.{Gives, fault_place, value_at, elements_
 ghost use Rattle.iso_wire.specs.Reading.{message_at, Unpacks, whole};
 ghost use Rattle.iso_wire.specs.Spelling.{Spelling, AreBytes, BeginsWith, BeginsWithNone, IsUnambiguous};
 ghost use Rattle.iso_wire.specs.Stops.{Stops};
-ghost use Rattle.iso_parts.specs.Bits.{contains, AreElements};
+ghost use Rattle.iso_parts.specs.Bitmap.{contains, AreElements};
 ghost use Rattle.iso_parts.specs.Numbers.{members};
 
 use crate::elements::Elements;
@@ -154,7 +154,7 @@ pub(crate) fn message_of(
     Ok((Message::from_elements(mti, elements), end))
 }
 
-/// Reads the message that the bytes begin with, and says how many bytes it takes; bytes behind it are members.
+/// Reads the message that the bytes begin with, and says how many bytes it takes; bytes behind it are left.
 ///
 /// The bytes are read piece by piece: the message type, the primary bitmap, the secondary one, and for each element
 /// its length and its body. Each piece is judged when it is whole, and the first one that is not good or not whole

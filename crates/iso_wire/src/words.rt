@@ -1,12 +1,13 @@
 //! The words for the digits of a message type.
 
 ghost use Rattle.std.specs.Prelude.{◌≡◌, ◌<◌, ◌≤◌, ◌++◌, ◌∷◌, OnOk, codes};
-ghost use Rattle.iso_parts.specs.declared.prefix.Digits.TheVariants.{Ascii};
-ghost use Rattle.iso_wire.specs.Spelling.{mti_bytes};
+ghost use Rattle.iso_parts.specs.Digits.{four_digits_of};
+ghost use Rattle.iso_parts.specs.Mti.{mti_number};
+ghost use Rattle.iso_parts.specs.declared.digits.Digits.TheVariants.{Ascii};
 ghost use Rattle.iso_wire.specs.Describing.{version_word, class_word, function_word, origin_word, type_line};
 ghost use Rattle.iso_wire.specs.DigitWords.{word_or};
 
-use iso_parts::four_ascii_digits;
+use iso_parts::{Mti, four_ascii_digits};
 use std::alloc::AllocError;
 
 /// The word for the version.
@@ -85,30 +86,22 @@ fn push_word(digit: u8, word: &[u8], out: &mut Vec<u8>) -> Result<(), AllocError
 }
 
 /// Appends the digits of a message type.
-fn push_digits(n: u16, out: &mut Vec<u8>) -> Result<(), AllocError>
-    requires { n < 10000 }
-    ensures { OnOk result (out.new.items ≡ out.old.items ++ (codes "MTI=" ++ mti_bytes Ascii n)) }
+fn push_digits(mti: Mti, out: &mut Vec<u8>) -> Result<(), AllocError>
+    ensures { OnOk result (out.new.items ≡ out.old.items ++ (codes "MTI=" ++ four_digits_of Ascii (mti_number mti))) }
 {
     out.extend_from_slice(b"MTI=")?;
-    out.extend_from_slice(&four_ascii_digits(usize::from(n)))
+    out.extend_from_slice(&four_ascii_digits(usize::from(mti.number())))
 }
 
 /// Appends the line of a message type.
-pub(crate) fn push_type(n: u16, out: &mut Vec<u8>) -> Result<(), AllocError>
-    requires { n < 10000 }
-    ensures { OnOk result (out.new.items ≡ out.old.items ++ type_line n) }
+pub(crate) fn push_type(mti: Mti, out: &mut Vec<u8>) -> Result<(), AllocError>
+    ensures { OnOk result (out.new.items ≡ out.old.items ++ type_line (mti_number mti)) }
 {
-    let (a, b, c, d) = (
-        (n / 1000) as u8,
-        (n / 100 % 10) as u8,
-        (n / 10 % 10) as u8,
-        (n % 10) as u8,
-    );
-    push_digits(n, out)?;
-    push_word(a, version_word(a), out)?;
-    push_word(b, class_word(b), out)?;
-    push_word(c, function_word(c), out)?;
-    push_word(d, origin_word(d), out)?;
+    push_digits(mti, out)?;
+    push_word(mti.version, version_word(mti.version), out)?;
+    push_word(mti.class, class_word(mti.class), out)?;
+    push_word(mti.function, function_word(mti.function), out)?;
+    push_word(mti.origin, origin_word(mti.origin), out)?;
     out.extend_from_slice(b"\n")?;
     Ok(())
 }

@@ -1,6 +1,6 @@
 use Rattle.std.proofs.Common.{ℕ, List, ◌++◌, get_or, sym, ap, ◌∙◌}
+use Rattle.iso_parts.specs.Numbers.{is_element}
 use Rattle.iso_wire.specs.Contents.{Contents}
-use Rattle.iso_wire.specs.Elements.{is_number}
 use Rattle.iso_order.specs.Listing.{entry}
 use Rattle.iso_order.specs.Requests.{request_value}
 use Rattle.iso_order.proofs.Ascending.{IsBelow-front, elements_with_value-more}
@@ -8,7 +8,7 @@ use Rattle.iso_order.proofs.requests.add_all.Goals as goal
 
 pub add-requires-clause-behind : goal.add-requires-clause-behind
 add-requires-clause-behind c =
-    rw c.loop-n.invariant (IsBelow-front is_number (request_value c.args.key.now c.args.act.now) 2 c.args.numbers.now c.loop-n.n-index c.requires.numbers c.loop-n-test.true)
+    rw c.loop-n.invariant (IsBelow-front is_element (request_value c.args.key.now c.args.act.now) 2 c.args.numbers.now c.loop-n.n-index c.requires.numbers c.loop-n-test.true)
 
 pub loop-n-preserved : goal.loop-n-preserved
 loop-n-preserved c =

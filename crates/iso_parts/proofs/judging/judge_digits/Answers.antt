@@ -1,6 +1,6 @@
 use Rattle.std.proofs.Common.{sym, drop, ◌∙◌}
 use Rattle.iso_parts.specs.Part.{characters}
-use Rattle.iso_parts.specs.Reading.{unpadded}
+use Rattle.iso_parts.specs.Reading.{without_padding}
 use Rattle.iso_parts.proofs.Judges.{digits_judged, digits_refused}
 use Rattle.iso_parts.proofs.judging.judge_digits.Goals as goal
 
@@ -8,7 +8,7 @@ pub returns-then-are_unpadded_digits : goal.returns-then-are_unpadded_digits
 returns-then-are_unpadded_digits c =
     let s = c.args.spec.now in
     let w = drop c.args.skip (characters c.args.body.now) in
-    (unpadded s.pad w, digits_judged s w c.requires.class (sym c.are_unpadded_digits.ensures ∙ c.if-are_unpadded_digits.true))
+    (without_padding s.pad w, digits_judged s w c.requires.class (sym c.are_unpadded_digits.ensures ∙ c.if-are_unpadded_digits.true))
 
 pub returns-else-are_unpadded_digits : goal.returns-else-are_unpadded_digits
 returns-else-are_unpadded_digits c =

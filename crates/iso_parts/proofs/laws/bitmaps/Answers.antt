@@ -1,7 +1,7 @@
 use Rattle.std.proofs.Common.{◌≡◌, ◌<◌, ◌^◌, ℕ, List, length, Some}
 use Rattle.hex.specs.Hex.{IsBytes}
 use Rattle.iso_parts.specs.declared.bitmap.BitmapCoding.{BitmapCoding}
-use Rattle.iso_parts.specs.Bits.{BitsIn, map_size}
+use Rattle.iso_parts.specs.Bitmap.{BitsIn, map_size}
 use Rattle.iso_parts.specs.BitmapReading.{word_in}
 use Rattle.iso_parts.specs.MapLaws.{has_bit}
 use Rattle.iso_parts.proofs.SetBitmaps.{has_plain_maps, plain_maps_once}

@@ -1,7 +1,7 @@
 use Rattle.std.proofs.Common.{◌≤◌, ◌+◌, ◌*◌, ℕ, List, length, arith}
 use Rattle.iso_parts.specs.declared.spec.FieldSpec.{FieldSpec}
 use Rattle.iso_parts.specs.Spec.{Fits}
-use Rattle.iso_parts.specs.Part.{padded, plain_part}
+use Rattle.iso_parts.specs.Part.{with_padding, plain_part}
 use Rattle.iso_parts.proofs.Extents.{part_up_to, length_fault, body_fault}
 use Rattle.iso_parts.proofs.Parts.{part_again}
 use Rattle.iso_parts.proofs.Plain.{fits_from_refusal, plain_is_part, refusal_from_fits}
@@ -25,5 +25,5 @@ returns c = record {
   most = part_up_to;
   length_fault = length_fault;
   body_fault = body_fault;
-  sized = λ s v b body. size_again s.coding b (padded s v) body.1;
+  sized = λ s v b body. size_again s.coding b (with_padding s v) body.1;
 }

@@ -6,7 +6,7 @@ use Rattle.iso_table.proofs.edition87.places87.Goals as goal
 pub loop-number-preserved : goal.loop-number-preserved
 loop-number-preserved c =
     let was = c.loop-number.invariant in
-    rw c.row_of.ensures record {
+    rw c.row87.ensures record {
       size = length-set _ _ _ ∙ was.size;
       rows = one_more c.args.digits c.loop-number.places c.loop-number.number c.loop-number-test.true was.size was.rows;
     }

@@ -1,5 +1,5 @@
 use Rattle.std.proofs.Common.{◌∙◌}
-use Rattle.iso_parts.specs.Bits.{in_words}
+use Rattle.iso_parts.specs.Bitmap.{in_words}
 use Rattle.iso_wire.specs.Ends.{views}
 use Rattle.iso_parts.specs.Numbers.{members}
 use Rattle.iso_wire.proofs.ElementLaws.{numbers_read}

@@ -1,5 +1,5 @@
 use Rattle.std.proofs.Common.{ap, ◌∙◌}
-use Rattle.iso_parts.specs.Bits.{contains}
+use Rattle.iso_parts.specs.Bitmap.{contains}
 use Rattle.iso_parts.specs.Numbers.{members}
 use Rattle.iso_wire.specs.Numbers.{unknown}
 use Rattle.iso_wire.proofs.NumberLaws.{missing_unknown}

@@ -1,7 +1,7 @@
 use Rattle.std.proofs.Common.{◌≡◌, ◌++◌}
 use Rattle.std.specs.List.{flat_map}
 use Rattle.iso_parts.specs.Buffers.{Keeps}
-use Rattle.iso_wire.specs.Refusal.{refused}
+use Rattle.iso_wire.specs.Refusal.{first_refusal}
 use Rattle.iso_wire.specs.Spelling.{plain_of, Parts}
 use Rattle.iso_wire.proofs.packing.append_elements.Given as goal
 
@@ -14,5 +14,5 @@ invariant-loop-n l =
       kept : Keeps l.fn.out.items l.out.items;
       written : l.out.items ++ flat_map f todo ≡ l.fn.out.items ++ flat_map f all;
       spelled : Parts l.table.rows todo (flat_map f todo) → Parts l.table.rows all (flat_map f all);
-      judged : refused l.table.rows todo ≡ refused l.table.rows all;
+      judged : first_refusal l.table.rows todo ≡ first_refusal l.table.rows all;
     }

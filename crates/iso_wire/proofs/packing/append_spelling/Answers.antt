@@ -1,11 +1,12 @@
 use Rattle.std.proofs.Common.{◌≡◌, ◌<◌, ◌/◌, ◌++◌, ℕ, ap, subst, refl, ◌∙◌, arith}
 use Rattle.std.proofs.lemmas.Result.{err_from_is_err_and}
 use Rattle.std.specs.List.{flat_map}
+use Rattle.iso_parts.specs.Digits.{four_digits_of}
 use Rattle.iso_parts.specs.declared.bitmap.BitmapCoding.{BitmapCoding}
-use Rattle.iso_parts.specs.declared.prefix.Digits.{Digits}
-use Rattle.iso_parts.specs.Bits.{contains, PlainBitmaps}
+use Rattle.iso_parts.specs.declared.digits.Digits.{Digits}
+use Rattle.iso_parts.specs.Bitmap.{contains, PlainBitmaps}
 use Rattle.iso_parts.specs.Mti.{mti_number}
-use Rattle.iso_wire.specs.Spelling.{mti_bytes, Parts, plain_of}
+use Rattle.iso_wire.specs.Spelling.{Parts, plain_of}
 use Rattle.iso_wire.proofs.Orders.{Values}
 use Rattle.iso_wire.proofs.Packs.{plain_spelling_lem, three_pieces, kept_behind}
 use Rattle.iso_wire.proofs.packing.append_spelling.Goals as goal
@@ -24,11 +25,11 @@ returns-clause-packed c =
     let plain : PlainBitmaps t.bitmap set maps = subst (λ (k : BitmapCoding). PlainBitmaps k set maps) c.bitmap.ensures c.in_ok-append.ensures.ok.1 in
     let spelled : Parts t.rows m.elements (flat_map f m.elements) = subst (λ (es : Values). Parts t.rows es (flat_map f es)) c.parts-elements.ensures.elements c.in_ok-append_parts.ensures.spelled in
     let start = c.make_room.new.out.items in
-    let head : c.append_mti.new.out.items ≡ start ++ mti_bytes t.mti m.mti =
-    c.in_ok-append_mti.ensures.ok ∙ ap (λ (k : Digits). start ++ mti_bytes k c.number.result) c.mti.ensures ∙ ap (λ (n : ℕ). start ++ mti_bytes t.mti n) (c.number.ensures ∙ same) in
+    let head : c.append_mti.new.out.items ≡ start ++ four_digits_of t.mti m.mti =
+    c.in_ok-append_mti.ensures.ok ∙ ap (λ (k : Digits). start ++ four_digits_of k (mti_number mti)) c.mti.ensures ∙ ap (λ (n : ℕ). start ++ four_digits_of t.mti n) same in
     let tail : c.append_parts.new.out.items ≡ c.append.new.out.items ++ flat_map f m.elements = c.in_ok-append_parts.ensures.written ∙ ap (λ (es : Values). c.append.new.out.items ++ flat_map f es) c.parts-elements.ensures.elements in
-    let whole = three_pieces c.args.out.now.items c.make_room.new.out.items c.append_mti.new.out.items c.append.new.out.items c.append_parts.new.out.items (mti_bytes t.mti m.mti) maps (flat_map f m.elements) c.make_room.ensures head c.in_ok-append.ensures.ok.2 tail in
-    let bytes = mti_bytes t.mti m.mti ++ (maps ++ flat_map f m.elements) in
+    let whole = three_pieces c.args.out.now.items c.make_room.new.out.items c.append_mti.new.out.items c.append.new.out.items c.append_parts.new.out.items (four_digits_of t.mti m.mti) maps (flat_map f m.elements) c.make_room.ensures head c.in_ok-append.ensures.ok.2 tail in
+    let bytes = four_digits_of t.mti m.mti ++ (maps ++ flat_map f m.elements) in
     (bytes, plain_spelling_lem t m set maps bytes small version c.parts-elements.ensures.ascending c.elements-numbers.ensures plain spelled refl, whole)
 
 pub returns-in_err-append_parts-clause-kept : goal.returns-in_err-append_parts-clause-kept

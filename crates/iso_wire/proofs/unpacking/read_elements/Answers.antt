@@ -1,6 +1,6 @@
 use Rattle.std.proofs.Common.{drop, ap, subst, ◌∙◌}
 use Rattle.std.proofs.lemmas.List.{drop-drop}
-use Rattle.iso_parts.specs.Bits.{contains}
+use Rattle.iso_parts.specs.Bitmap.{contains}
 use Rattle.iso_wire.specs.Ends.{views, Awaits}
 use Rattle.iso_parts.specs.Numbers.{members}
 use Rattle.iso_wire.proofs.ElementLaws.{numbers_read}

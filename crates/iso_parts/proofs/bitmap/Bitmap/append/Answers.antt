@@ -2,7 +2,7 @@ use Rattle.std.proofs.Common.{◌≡◌, ◌++◌, ◌==◌, ◌⊎◌, ℕ, Boo
 use Rattle.std.proofs.lemmas.Bool.Decides.{nat_tests}
 use Rattle.std.proofs.lemmas.Result.{on_ok_weaker}
 use Rattle.hex.specs.Hex.{IsBytes}
-use Rattle.iso_parts.specs.Bits.{contains, PlainBitmaps, HasAbove, in_coding}
+use Rattle.iso_parts.specs.Bitmap.{contains, PlainBitmaps, HasAbove, in_coding}
 use Rattle.iso_parts.proofs.PlainBitmaps.{plain_maps}
 use Rattle.iso_parts.proofs.bitmap.Bitmap.append.Goals as goal
 

@@ -1,5 +1,5 @@
 use Rattle.std.proofs.Common.{sym}
-use Rattle.iso_parts.specs.Bits.{contains}
+use Rattle.iso_parts.specs.Bitmap.{contains}
 use Rattle.iso_parts.proofs.NumberLaws.{all_there}
 use Rattle.iso_parts.proofs.bitmap.Bitmap.missing_from.Goals as goal
 

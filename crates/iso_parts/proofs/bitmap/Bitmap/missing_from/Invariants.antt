@@ -1,5 +1,5 @@
 use Rattle.std.proofs.Common.{◌≡◌, length}
-use Rattle.iso_parts.specs.Bits.{contains}
+use Rattle.iso_parts.specs.Bitmap.{contains}
 use Rattle.iso_parts.specs.Numbers.{members, first_missing}
 use Rattle.iso_parts.proofs.bitmap.Bitmap.missing_from.Given as goal
 

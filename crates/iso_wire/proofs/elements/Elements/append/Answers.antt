@@ -1,5 +1,5 @@
 use Rattle.std.proofs.Common.{◌∙◌, ◌∷◌, ◌++◌, [], length, ap, sym}
-use Rattle.iso_parts.specs.Bits.{contains}
+use Rattle.iso_parts.specs.Bitmap.{contains}
 use Rattle.iso_wire.specs.declared.elements.Elements.{Elements}
 use Rattle.iso_wire.specs.Elements.{has}
 use Rattle.iso_wire.specs.Ends.{views, Adds, IsMadeOf}

@@ -1,6 +1,6 @@
 use Rattle.std.proofs.Common.{◌≡◌, ◌≤◌, true, length, get_or, take, refl, sym, ap, ◌∙◌, arith, rules}
 use Rattle.std.proofs.lemmas.List.{get_or_default}
-use Rattle.iso_parts.specs.Bits.{contains}
+use Rattle.iso_parts.specs.Bitmap.{contains}
 use Rattle.iso_wire.specs.Ends.{last_end}
 use Rattle.iso_wire.proofs.Changes.{fits, there, own, own_within, value_there}
 use Rattle.iso_wire.proofs.elements.Elements.get.Goals as goal

@@ -1,7 +1,7 @@
 use Rattle.std.proofs.Common.{◌≡◌, ◌+◌, ◌-◌, ◌<◌, ◌^◌, ◌++◌, ℕ, true, length, get_or, map, take, drop, suc, refl, sym, ap, ◌∙◌, arith, rules}
 use Rattle.std.specs.Vec.{with_items}
 use Rattle.std.proofs.lemmas.List.{get_or_default, take_at, drop_at, length-take, with_items_is}
-use Rattle.iso_parts.specs.Bits.{contains}
+use Rattle.iso_parts.specs.Bitmap.{contains}
 use Rattle.iso_wire.specs.declared.elements.Elements.{Elements}
 use Rattle.iso_wire.specs.Elements.{has}
 use Rattle.iso_wire.specs.Ends.{last_end, shifted_end, views, IsMadeOf}

@@ -1,7 +1,7 @@
 -- Four decimal digits, as a message type, a length and a frame's header have them: how they are written and read.
 use Rattle.std.specs.Prelude.{ℕ, ◌+◌, ◌-◌, ◌*◌, ◌/◌, ◌%◌, ◌&&◌, List, [], ◌∷◌, Option, Some, None, if◌then◌else◌}
-use Rattle.iso_parts.specs.declared.prefix.Digits.{Digits}
-use Rattle.iso_parts.specs.declared.prefix.Digits.TheVariants as digits
+use Rattle.iso_parts.specs.declared.digits.Digits.{Digits}
+use Rattle.iso_parts.specs.declared.digits.Digits.TheVariants as digits
 use Rattle.iso_parts.specs.Class.{is_digit}
 
 -- a number below 10,000 in four digits: one ASCII digit a byte, or two BCD digits a byte
@@ -15,3 +15,14 @@ four_digits a b c d =
     if is_digit a && is_digit b && is_digit c && is_digit d
     then Some (1000 * (a - 48) + 100 * (b - 48) + 10 * (c - 48) + (d - 48))
     else None
+
+-- the characters of the digits in two BCD bytes
+abbrev pub bcd_characters : ℕ → ℕ → List ℕ
+bcd_characters x y = (48 + x / 16) ∷ (48 + x % 16) ∷ (48 + y / 16) ∷ (48 + y % 16) ∷ []
+
+-- the number of the four digits that the bytes are
+abbrev pub four_digits_in : Digits → List ℕ → Option ℕ
+four_digits_in digits.Ascii (a ∷ b ∷ c ∷ d ∷ []) = four_digits a b c d
+four_digits_in digits.Ascii other = None
+four_digits_in digits.Bcd (x ∷ y ∷ []) = four_digits (48 + x / 16) (48 + x % 16) (48 + y / 16) (48 + y % 16)
+four_digits_in digits.Bcd other = None

@@ -1,7 +1,7 @@
 use Rattle.std.proofs.Common.{refl, ◌∙◌}
 use Rattle.std.proofs.lemmas.List.{length-set}
 use Rattle.iso_table.proofs.RowLemmas.{row_at-replicate, placed_more, judged_more}
-use Rattle.iso_table.proofs.placing.placed.Goals as goal
+use Rattle.iso_table.proofs.placing.places_of.Goals as goal
 
 pub loop-row-init : goal.loop-row-init
 loop-row-init c = record { size = refl; rows = λ n. row_at-replicate 129 n; judged = refl }

@@ -3,7 +3,7 @@ use Rattle.serde_json.specs.View.{view}
 use Rattle.serde_json.specs.declared.value.Value.{Value}
 use Rattle.iso_table.specs.Document.{document_row}
 use Rattle.iso_table.proofs.DocumentLemmas.{rows_more}
-use Rattle.iso_table.proofs.reading.rows_of.Goals as goal
+use Rattle.iso_table.proofs.reading.rows_in.Goals as goal
 
 pub loop-value-preserved : goal.loop-value-preserved
 loop-value-preserved c =

@@ -1,7 +1,7 @@
 use Rattle.std.proofs.Common.{◌≡◌, ℕ, [], length, take, drop}
 use Rattle.iso_table.specs.Layout.{row_at}
 use Rattle.iso_table.specs.Accepted.{rows_fault, row_of}
-use Rattle.iso_table.proofs.placing.placed.Given as goal
+use Rattle.iso_table.proofs.placing.places_of.Given as goal
 
 -- the rows so far stand at their places, and what is wrong is wrong with the rest
 abbrev pub invariant-loop-row : goal.invariant-loop-row

@@ -1,7 +1,7 @@
 use Rattle.std.proofs.Common.{◌≡◌, ◌++◌, drop, option_map}
 use Rattle.serde_json.specs.View.{items_view}
 use Rattle.iso_table.specs.Document.{rows_in}
-use Rattle.iso_table.proofs.reading.rows_of.Given as goal
+use Rattle.iso_table.proofs.reading.rows_in.Given as goal
 
 -- the rows so far, and then those of the rest
 abbrev pub invariant-loop-value : goal.invariant-loop-value
