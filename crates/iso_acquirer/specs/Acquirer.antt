@@ -1,5 +1,4 @@
 -- What an acquirer keeps, by trace number, and what its calls do to it.
--- Public: the calls of `Acquirer` promise it, and both ends are told by it.
 use Rattle.std.specs.Prelude.{◌≡◌, ◌≤◌, ℕ, true, List, [], ◌∷◌, ◌++◌, ◌==◌, ◌||◌, ◌+◌, length, nat_lt, find, map, Option, Some, None, option_map, option_and_then, Result, Ok, Err, if◌then◌else◌}
 use Rattle.iso_order.specs.declared.key.TxKey.{TxKey}
 use Rattle.iso_order.specs.declared.act.Act.TheVariants.{Debit, Undo}

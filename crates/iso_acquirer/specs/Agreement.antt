@@ -1,5 +1,4 @@
 -- What both ends agree on.
--- Public: `World::both_agree`, `World::books_agree`, `World::step` and `World::run` promise it.
 use Rattle.std.specs.Prelude.{◌≡◌, ℕ, Bool, true, false, List, Option, Some, None, sum_by, pos, ◌-ℤ◌, if◌then◌else◌}
 use Rattle.std.specs.List.{AllByRecursion}
 use Rattle.iso_order.specs.declared.act.Act.{Act}

@@ -1,5 +1,4 @@
 -- The numbers of faults, as logs and monitors show them.
--- Public: `AcqFault::number` and `StepFault::number` promise it.
 use Rattle.std.specs.Prelude.{ℕ}
 use Rattle.iso_acquirer.specs.declared.fault.AcqFault.{AcqFault}
 use Rattle.iso_acquirer.specs.declared.fault.AcqFault.TheVariants as acquirer

@@ -1,5 +1,4 @@
 -- Both ends, and what may happen to them.
--- Public: the calls of `World` promise it.
 use Rattle.std.specs.Prelude.{◌≡◌, ◌≢◌, ◌<◌, ℕ, List, [], ◌∷◌, ◌++◌, ◌+◌, length, Option, Some, None, slice_get, Ok, Err}
 use Rattle.iso_order.specs.Order.{Instruction}
 use Rattle.iso_issuer.specs.Decision.{reply}

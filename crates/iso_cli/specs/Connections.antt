@@ -1,5 +1,4 @@
 -- What the connections of a host on a port leave.
--- Public: `serve_connections` promises it.
 use Rattle.std.specs.Prelude.{◌≡◌, ◌≢◌, ◌⊎◌, ◌≤◌, ℕ, List, [], ◌++◌, length, flat_map, All, Option, unwrap_or, codes, decimal, Result, Ok, Err}
 use Rattle.std.specs.Io.KnownBytes.{Appends}
 use Rattle.iso_table.specs.Layout.{Layout}

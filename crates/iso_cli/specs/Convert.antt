@@ -1,5 +1,4 @@
 -- What `convert` writes.
--- Public: `act` promises it.
 use Rattle.std.specs.Prelude.{◌≡◌, ℕ, List, [], ◌∷◌, Option, IfSome, codes}
 use Rattle.std.specs.Io.KnownBytes.{Appends}
 use Rattle.iso_table.specs.Layout.{Layout}

@@ -1,5 +1,4 @@
 -- The numbers of faults, as logs and monitors show them.
--- Public: `SourceFault::number` promises it.
 use Rattle.std.specs.Prelude.{ℕ}
 use Rattle.iso_cli.specs.declared.source.SourceFault.{SourceFault}
 use Rattle.iso_cli.specs.declared.source.SourceFault.TheVariants.{File, Memory}

@@ -1,5 +1,4 @@
 -- What the words of a host on a port ask.
--- Public: `parse_serve` and `prepare` promise it.
 use Rattle.std.specs.Prelude.{◌≡◌, ◌≤◌, ℕ, List, [], ◌∷◌, codes}
 use Rattle.std.specs.Str.Parse.{IsNumeral, digits_value, without_leading_plus}
 use Rattle.iso_cli.specs.declared.listening.Listening.{Listening}

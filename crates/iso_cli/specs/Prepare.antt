@@ -1,5 +1,4 @@
 -- What a host on a port serves with.
--- Public: `prepare` promises it.
 use Rattle.std.specs.Prelude.{◌≡◌, ℕ, List, Option, IfSome}
 use Rattle.iso_table.specs.HostReady.{IsHostReady}
 use Rattle.iso_issuer.specs.declared.account.Account.{Account}

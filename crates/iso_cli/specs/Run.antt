@@ -1,5 +1,4 @@
 -- What the host on a stream writes.
--- Public: `act` promises it, and `prepare` its empty journal.
 use Rattle.std.specs.Prelude.{◌≡◌, ℕ, List, [], ◌∷◌, Option, IfSome, codes}
 use Rattle.std.specs.Io.KnownBytes.{Appends}
 use Rattle.iso_table.specs.Layout.{Layout}

@@ -1,5 +1,4 @@
 -- What the command takes of a file.
--- Public: `Source::read` promises it.
 use Rattle.std.specs.Prelude.{ℕ, List, take}
 
 -- the bytes that are read of a file that holds these: one more than an input may have, so that a longer file can be told

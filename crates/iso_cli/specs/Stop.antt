@@ -1,5 +1,4 @@
 -- How each way to stop is told.
--- Public: `Stop::status` promises it, and `serve_connections` its fault lines.
 use Rattle.std.specs.Prelude.{ℕ, List, [], ◌∷◌, ◌++◌, Option, Some, None, option_map, codes}
 use Rattle.iso_host.specs.declared.fault.ServeFault.{ServeFault}
 use Rattle.iso_host.specs.declared.fault.ServeFault.TheVariants as serving

@@ -1,5 +1,4 @@
 -- The tables that the command line names.
--- Public: `act` and `prepare` promise it.
 use Rattle.std.specs.Prelude.{ℕ, List, Option, IfSome, MatchBool, bytes_eq, codes}
 use Rattle.iso_parts.specs.declared.digits.Digits.TheVariants.{Ascii, Bcd}
 use Rattle.iso_table.specs.Layout.{Layout}

@@ -1,5 +1,4 @@
 -- What the words of a command line ask.
--- Public: `parse` promises it, and `act` and `prepare` the names of headers.
 use Rattle.std.specs.Prelude.{◌≡◌, ◌⊎◌, ◌==◌, not, IsTrue, Bool, true, false, ℕ, List, [], ◌∷◌, codes}
 use Rattle.iso_wire.specs.declared.header.Header.{Header}
 use Rattle.iso_wire.specs.declared.header.Header.TheVariants.{Binary2, Ascii4, Bcd2}

@@ -1,5 +1,4 @@
 -- What one call adds to the counts.
--- Public: `Tally::then` and the calls of `Inlet` and `Outlet` promise it.
 use Rattle.std.specs.Prelude.{◌+◌}
 use Rattle.iso_host.specs.Counts.{Counts}
 use Rattle.iso_host.specs.declared.counting.Call.{Call}

@@ -1,5 +1,4 @@
 -- What is counted of a stream's calls.
--- Public: the clauses of `Inlet`, `Outlet`, `Tally`, `write_all` and `serve` speak of it.
 use Rattle.std.specs.Prelude.{ℕ}
 
 -- how often a stream was called, how many bytes it moved, how often it failed, and how many bytes were written since the

@@ -1,5 +1,4 @@
 -- The numbers of faults, as logs and monitors show them.
--- Public: `ServeFault::number` promises it.
 use Rattle.std.specs.Prelude.{ℕ}
 use Rattle.iso_host.specs.declared.fault.ServeFault.{ServeFault}
 use Rattle.iso_host.specs.declared.fault.ServeFault.TheVariants.{Read, Write, BadHeader, CutFrame, Memory, TooManyTurns}

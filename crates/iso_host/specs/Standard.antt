@@ -1,5 +1,4 @@
 -- A std reader or writer with the counts of its calls, as contracts see it.
--- Public: `Std::new` promises it, and `Std` is an inlet and an outlet by it.
 use Rattle.iso_host.specs.Counts.{Counts}
 use Rattle.iso_host.specs.declared.standard.Std.{Std}
 

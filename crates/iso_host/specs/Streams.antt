@@ -1,5 +1,4 @@
 -- What a call of a stream does to its counts.
--- Public: the calls of `Inlet` and `Outlet` promise it.
 use Rattle.std.specs.Prelude.{◌≡◌, ℕ, ◌<◌, List, length, Result, Ok, Err}
 use Rattle.iso_host.specs.Counts.{Counts}
 use Rattle.iso_host.specs.Counting.{counts_after}

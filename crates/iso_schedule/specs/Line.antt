@@ -1,5 +1,4 @@
 -- What a line of a schedule may be.
--- Public: `schedule_line` promises it.
 use Rattle.iso_acquirer.specs.World.{IsFairEvent}
 use Rattle.iso_schedule.specs.declared.line.ScheduleLine.{ScheduleLine}
 use Rattle.iso_schedule.specs.declared.line.ScheduleLine.TheVariants.{Said, Event, Unknown}
