@@ -1,6 +1,7 @@
 /* Rumpadol from C: ISO 8583:1987 messages, read, written, converted and described under tables.
  *
- * Every call answers a length, or -1 and a fault; a fault is written only then. A call keeps none of its arguments.
+ * A call that takes a rumpadol_fault answers a length or 0, or -1 and a fault; the fault is written only then. No other
+ * call fails. A call keeps none of its arguments.
  *
  * What a caller owes to every call, besides what stands at the call:
  * - Each pointer has room for what it points to, for as long as the call runs; an address with a length n has room for n
