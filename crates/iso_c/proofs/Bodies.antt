@@ -17,7 +17,7 @@ use Rattle.iso_wire.specs.Contents.{Contents}
 use Rattle.iso_wire.specs.declared.fault.UnpackFault.{UnpackFault}
 use Rattle.iso_wire.specs.Viewing.{Viewed, Views, IsViewed, Wired, front_of}
 use Rattle.iso_c.specs.declared.fault.RumpadolFault.{RumpadolFault}
-use Rattle.iso_c.specs.Causes.{no_element}
+use Rattle.iso_c.specs.FaultNumbers.{no_element}
 use Rattle.iso_c.specs.Later.{from_number, sizes_of}
 use Rattle.iso_c.specs.Viewing.{body_fault}
 use Rattle.iso_c.proofs.Spreads.{Values, some_is, none_below, from_all, from_found, from_missing, from_end}

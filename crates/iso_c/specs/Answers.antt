@@ -1,7 +1,7 @@
 -- What a call answers: how many bytes it wrote to the front of the caller's room, or -1 and a fault.
 use Rattle.std.specs.Prelude.{◌≡◌, ◌⊎◌, ℤ, pos, negsuc, ℕ, ◌<◌, ◌≤◌, List, length, take, drop, Result, Ok, Err}
 use Rattle.iso_c.specs.declared.fault.RumpadolFault.{RumpadolFault}
-use Rattle.iso_c.specs.Causes.{short_room}
+use Rattle.iso_c.specs.FaultNumbers.{short_room}
 
 -- the room's first bytes, so many, have the property, and the others are as they were
 pub record Written (P : List ℕ → Type 0) (n : ℕ) (old new : List ℕ) : Type 0 where

@@ -6,7 +6,7 @@ use Rattle.iso_wire.specs.declared.framing.FrameFault.TheVariants.{TooLong, BadD
 use Rattle.iso_wire.specs.Framing.{largest, Frames, Begins, NeedsMore, is_bad_header}
 use Rattle.iso_c.specs.declared.fault.RumpadolFault.{RumpadolFault}
 use Rattle.iso_c.specs.declared.parts.RumpadolPart.{RumpadolPart}
-use Rattle.iso_c.specs.Causes.{no_memory, no_such_header, frame_fault}
+use Rattle.iso_c.specs.FaultNumbers.{no_memory, no_such_header, frame_fault}
 use Rattle.iso_c.specs.Parts.{bytes_in}
 
 -- 0 names two bytes, 1 four ASCII digits, 2 four BCD digits

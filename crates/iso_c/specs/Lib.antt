@@ -1,7 +1,7 @@
 pub mod Answers
-pub mod Causes
+pub mod FaultNumbers
 pub mod Slot
-pub mod Tables
+pub mod Convert
 pub mod Views
 pub mod Frames
 pub mod Parts

@@ -7,7 +7,7 @@ use Rattle.iso_wire.specs.Refusal.{message_refusal}
 use Rattle.iso_wire.specs.Spelling.{PlainSpelling}
 use Rattle.iso_c.specs.declared.fault.RumpadolFault.{RumpadolFault}
 use Rattle.iso_c.specs.declared.parts.RumpadolPart.{RumpadolPart}
-use Rattle.iso_c.specs.Causes.{no_memory, empty_slot, bad_type, pack_fault}
+use Rattle.iso_c.specs.FaultNumbers.{no_memory, empty_slot, bad_type, pack_fault}
 use Rattle.iso_c.specs.Parts.{elements_or_fault}
 
 -- a message that is refused by its table

@@ -4,7 +4,7 @@ use Rattle.iso_parts.specs.Numbers.{is_element}
 use Rattle.iso_wire.specs.Elements.{put}
 use Rattle.iso_c.specs.declared.fault.RumpadolFault.{RumpadolFault}
 use Rattle.iso_c.specs.declared.parts.RumpadolPart.{RumpadolPart}
-use Rattle.iso_c.specs.Causes.{bad_part, bad_number}
+use Rattle.iso_c.specs.FaultNumbers.{bad_part, bad_number}
 
 -- the bytes that a part tells of
 abbrev pub bytes_in : List ℕ → RumpadolPart → List ℕ

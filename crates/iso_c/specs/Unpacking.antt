@@ -8,7 +8,7 @@ use Rattle.iso_wire.specs.Spelling.{BeginsWith}
 use Rattle.iso_c.specs.declared.fault.RumpadolFault.{RumpadolFault}
 use Rattle.iso_c.specs.declared.parts.RumpadolPart.{RumpadolPart}
 use Rattle.iso_c.specs.declared.parts.RumpadolMessage.{RumpadolMessage}
-use Rattle.iso_c.specs.Causes.{no_memory, empty_slot, short_parts, short_room, unpack_fault}
+use Rattle.iso_c.specs.FaultNumbers.{no_memory, empty_slot, short_parts, short_room, unpack_fault}
 use Rattle.iso_c.specs.Parts.{elements_in, parts_from, values_of}
 
 -- why bytes aren't read, unless memory ran out

@@ -8,7 +8,7 @@ use Rattle.iso_wire.specs.Reading.{message_at}
 use Rattle.iso_wire.specs.Viewing.{Viewed, IsViewed}
 use Rattle.iso_c.specs.declared.fault.RumpadolFault.{RumpadolFault}
 use Rattle.iso_c.specs.declared.parts.RumpadolPart.{RumpadolPart}
-use Rattle.iso_c.specs.Causes.{empty_slot, no_element, unpack_fault}
+use Rattle.iso_c.specs.FaultNumbers.{empty_slot, no_element, unpack_fault}
 use Rattle.iso_c.specs.Parts.{bytes_in}
 
 -- the body of element n of the message that the bytes begin with lies there

@@ -3,7 +3,7 @@
 ghost use Rattle.std.specs.Prelude.{◌≡◌, IfOk, IfErr};
 ghost use Rattle.iso_wire.specs.Spelling.{Converts};
 ghost use Rattle.iso_c.specs.Answers.{Replies};
-ghost use Rattle.iso_c.specs.Tables.{IsConvertFault, ConvertsHeld, IsHeldConvertFault};
+ghost use Rattle.iso_c.specs.Convert.{IsConvertFault, ConvertsHeld, IsConvertFaultHeld};
 
 use crate::answers::answer;
 use crate::fault::RumpadolFault;
@@ -41,7 +41,7 @@ fn converted_by(
     bytes: &[u8],
 ) -> Result<Vec<u8>, RumpadolFault>
     ensures ok { IfOk result (λ packed. ConvertsHeld from.now to.now bytes.now packed.items) }
-    ensures fault { IfErr result (IsHeldConvertFault from.now to.now bytes.now) }
+    ensures fault { IfErr result (IsConvertFaultHeld from.now to.now bytes.now) }
 {
     match (from, to) {
         (Some(from), Some(to)) => converted(alloc, from, to, bytes),
@@ -61,7 +61,7 @@ pub extern "C" fn rumpadol_convert(
     fault: &mut RumpadolFault,
 ) -> i64
     ensures reply { Replies (ConvertsHeld from.old.value to.old.value bytes.now)
-        (IsHeldConvertFault from.old.value to.old.value bytes.now) result out.old out.new fault.new }
+        (IsConvertFaultHeld from.old.value to.old.value bytes.now) result out.old out.new fault.new }
     ensures from { from.new.value ≡ from.old.value }
     ensures to { to.new.value ≡ to.old.value }
 {

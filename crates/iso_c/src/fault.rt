@@ -1,7 +1,7 @@
 //! Why a call was refused, as C sees it.
 
 ghost use Rattle.std.specs.Prelude.{◌≡◌};
-ghost use Rattle.iso_c.specs.Causes.{field_code, unpack_code, unpack_fault, pack_fault, table_fault, frame_fault, set_fault, only, no_memory};
+ghost use Rattle.iso_c.specs.FaultNumbers.{field_code, unpack_code, unpack_fault, pack_fault, table_fault, frame_fault, set_fault, only, no_memory};
 
 use iso_parts::FieldFault;
 use iso_table::{NoMemory, TableFault};

@@ -4,7 +4,7 @@ ghost use Rattle.std.specs.Prelude.{◌≡◌, ◌≢◌, nat_le, true, false, [
 ghost use Rattle.iso_parts.specs.Mti.{mti_number};
 ghost use Rattle.iso_wire.specs.Elements.{put};
 ghost use Rattle.iso_c.specs.Answers.{Replies};
-ghost use Rattle.iso_c.specs.Causes.{no_memory};
+ghost use Rattle.iso_c.specs.FaultNumbers.{no_memory};
 ghost use Rattle.iso_c.specs.Parts.{bytes_in, elements_or_fault, is_part_within, part_refusal};
 ghost use Rattle.iso_c.specs.Packing.{message_of, Packs, IsPackingFault, PacksHeld, IsPackingFaultHeld};
 

@@ -4,9 +4,8 @@ ghost use Rattle.std.specs.Prelude.{◌≡◌, ◌≤◌, Option, Some, None, Is
 ghost use Rattle.iso_table.specs.Layout.{Layout, IsAccepted};
 ghost use Rattle.iso_table.specs.Document.{IsTableOf};
 ghost use Rattle.iso_c.specs.Answers.{Done};
-ghost use Rattle.iso_c.specs.Causes.{no_memory};
-ghost use Rattle.iso_c.specs.Slot.{slot, slot_lies_at, slot_bytes};
-ghost use Rattle.iso_c.specs.Tables.{IsBuiltIn, IsBuiltInFault, IsTableFault};
+ghost use Rattle.iso_c.specs.FaultNumbers.{no_memory};
+ghost use Rattle.iso_c.specs.Slot.{slot, slot_lies_at, slot_bytes, IsBuiltIn, IsBuiltInFault, IsTableFault};
 ghost use Rattle.std.specs.Ptr.{room_at};
 ghost use types.Logic.{sem};
 

@@ -4,7 +4,7 @@ ghost use Rattle.std.specs.Prelude.{◌≡◌, ◌+◌, ◌≤◌, ℕ, length, 
 ghost use Rattle.iso_wire.specs.Viewing.{front_of};
 ghost use Rattle.iso_table.specs.Layout.{row_at};
 ghost use Rattle.iso_wire.specs.Elements.{IsAscending};
-ghost use Rattle.iso_c.specs.Causes.{no_element};
+ghost use Rattle.iso_c.specs.FaultNumbers.{no_element};
 ghost use Rattle.iso_c.specs.Later.{from_number, sizes_of};
 ghost use Rattle.iso_c.specs.Viewing.{IsBodyAt, IsViewFault, IsBodyAtHeld, IsViewFaultHeld, ViewsBody};
 
