@@ -1,3 +1,3 @@
-pub mod Bodies
-pub mod Spreads
-pub mod Unpacks
+pub mod SpreadingLemmas
+pub mod UnpackingLemmas
+pub mod ViewingLemmas

@@ -1,7 +1,6 @@
 //! A message from bytes into the caller's room.
 
 ghost use Rattle.std.specs.Prelude.{◌≡◌, ◌≤◌, [], ◌∷◌, ◌++◌, length, OnOk, IfOk, IfErr};
-ghost use Rattle.iso_wire.specs.Elements.{IsAscending};
 ghost use Rattle.iso_c.specs.Parts.{part_of, parts_from, values_of};
 ghost use Rattle.iso_c.specs.Spreading.{IsSpread, IsSpreadHeld, GivesMessage};
 ghost use Rattle.iso_c.specs.Unpacking.{IsReadFault, IsReadFaultHeld, IsUnpackReply};
@@ -11,7 +10,6 @@ use crate::fault::RumpadolFault;
 use crate::parts::{RumpadolMessage, RumpadolPart};
 use crate::slot::RumpadolSlot;
 use iso_table::Table;
-use iso_wire::laws::well_formed;
 use iso_wire::{Message, unpack};
 use std::alloc::{AllocError, Global};
 
@@ -53,11 +51,8 @@ pub(crate) fn spread(
     ensures parts { OnOk result (parts.new.items ≡ parts_from 0 message.now.elements) }
     ensures values { OnOk result (values.new.items ≡ values_of message.now.elements) }
 {
-    well_formed(message);
-    for n in 2..129 {
-        if let Some(value) = message.get(n) {
-            add(n, value, parts, values)?;
-        }
+    for (n, value) in message.iter() {
+        add(n, value, parts, values)?;
     }
     Ok(())
 }

@@ -3,7 +3,7 @@ use Rattle.std.proofs.Math.Facts.{to_z-of_z}
 use Rattle.iso_table.specs.Layout.{Layout}
 use Rattle.iso_c.specs.Spreading.{IsSpreadHeld}
 use Rattle.iso_c.specs.Unpacking.{IsUnpackReply, IsReadFaultHeld}
-use Rattle.iso_c.proofs.Unpacks.{within, given, not_read}
+use Rattle.iso_c.proofs.UnpackingLemmas.{within, given, not_read}
 use Rattle.iso_c.proofs.unpacking.rumpadol_unpack.Goals as goal
 
 pub give-requires : goal.give-requires

@@ -1,7 +1,7 @@
 use Rattle.std.proofs.Common.{◌≡◌, ◌-◌, List, ℕ, Some, length, take, drop, sym, ap, ◌∙◌, arith}
 use Rattle.iso_wire.specs.Viewing.{Viewed}
 use Rattle.iso_wire.specs.Reading.{message_at}
-use Rattle.iso_c.proofs.Bodies.{placed, viewed_ascend, body_missing}
+use Rattle.iso_c.proofs.ViewingLemmas.{placed, viewed_ascend, body_missing}
 use Rattle.iso_c.proofs.viewing.body_at.Goals as goal
 
 pub returns-in_default-clause-fault : goal.returns-in_default-clause-fault

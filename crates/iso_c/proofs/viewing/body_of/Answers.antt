@@ -1,6 +1,6 @@
 use Rattle.std.proofs.Common.{◌<◌, arith}
 use Rattle.iso_wire.specs.Reading.{message_at}
-use Rattle.iso_c.proofs.Bodies.{viewed_ascend, body_missing, none_above}
+use Rattle.iso_c.proofs.ViewingLemmas.{viewed_ascend, body_missing, none_above}
 use Rattle.iso_c.proofs.viewing.body_of.Goals as goal
 
 pub returns-clause-fault : goal.returns-clause-fault

@@ -1,5 +1,5 @@
 use Rattle.std.proofs.Common.{◌≡◌, ◌+◌, ◌≤◌, arith}
-use Rattle.iso_c.proofs.Bodies.{behind_next, behind_passed, behind_last}
+use Rattle.iso_c.proofs.ViewingLemmas.{behind_next, behind_passed, behind_last}
 use Rattle.iso_c.proofs.viewing.size_behind.Goals.{in-Some, in_default}
 use Rattle.iso_c.proofs.viewing.size_behind.Goals as goal
 

@@ -1,6 +1,6 @@
 -- Where the bodies of elements lie in the bytes of a message.
 use Rattle.std.proofs.Common.{◌≡◌, ℕ, ◌+◌, ◌<◌, ◌≤◌, Bool, true, false, cond, eqb, ltb, is_some, Option, Some, None, Result, Ok, List, [], ◌∷◌, ◌++◌, length, take, drop, refl, sym, ap, subst, ◌∙◌, append_assoc, arith}
-use Rattle.std.proofs.lemmas.Bool.{eqb-true}
+use Rattle.std.proofs.lemmas.Bool.{eqb-true, ltb-true}
 use Rattle.std.proofs.lemmas.Bool.Decides.{nat_tests}
 use Rattle.std.proofs.lemmas.List.{length-append, length-take-le, take-append-drop, drop_at, take_at}
 use Rattle.iso_parts.specs.Digits.{four_digits_of}
@@ -20,10 +20,85 @@ use Rattle.iso_c.specs.declared.fault.RumpadolFault.{RumpadolFault}
 use Rattle.iso_c.specs.FaultNumbers.{no_element}
 use Rattle.iso_c.specs.Later.{from_number, sizes_of}
 use Rattle.iso_c.specs.Viewing.{body_fault}
-use Rattle.iso_c.proofs.Spreads.{Values, some_is, none_below, from_all, from_found, from_missing, from_end}
+
+abbrev Values : Type 0
+Values = List (ℕ × List ℕ)
 
 abbrev Rows : Type 0
 Rows = List (Option FieldSpec)
+
+-- ---- the elements from a number on
+
+some_is : (v w : List ℕ) → Some v ≡ Some w → v ≡ w
+some_is v w e = cc
+
+from_all_by : (t : Bool) (low : ℕ) (e : ℕ × List ℕ) (es : Values) → ltb e.0 low ≡ t → low ≤ e.0 → cond t (from_number low es) (e ∷ es) ≡ e ∷ es
+from_all_by true low e es h le = absurd (let lt : e.0 < low = ltb-true e.0 low h in omega (arith, lt, le))
+from_all_by false low e es h le = refl
+
+-- all of them, where they ascend from it
+from_all : (low : ℕ) (es : Values) → IsAscending low es → from_number low es ≡ es
+from_all low [] asc = refl
+from_all low (e ∷ es) asc = from_all_by (ltb e.0 low) low e es refl asc.0
+
+none_below_by : (u : Bool) (n : ℕ) (e : ℕ × List ℕ) (es : Values) → eqb e.0 n ≡ u → n < e.0 → value_in es n ≡ None → cond u (Some e.1) (value_in es n) ≡ None
+none_below_by true n e es h lt none = absurd (let same : e.0 ≡ n = eqb-true e.0 n h in omega (arith, same, lt))
+none_below_by false n e es h lt none = none
+
+none_below : (low n : ℕ) (es : Values) → IsAscending low es → n < low → value_in es n ≡ None
+none_below low n [] asc lt = refl
+none_below low n (e ∷ es) asc lt =
+    let over : n < e.0 = omega (arith, asc.0, lt) in
+    none_below_by (eqb e.0 n) n e es refl over (none_below (e.0 + 1) n es asc.3 (omega (arith, over)))
+
+-- an element that is there comes next
+abbrev ComesNext : ℕ → List ℕ → Values → Type 0
+ComesNext n v es = value_in es n ≡ Some v → from_number n es ≡ (n, v) ∷ from_number (n + 1) es
+
+from_found_by : (t u s : Bool) (low n : ℕ) (v : List ℕ) (e : ℕ × List ℕ) (es : Values) → ltb e.0 n ≡ t → eqb e.0 n ≡ u → ltb e.0 (n + 1) ≡ s
+    → IsAscending low (e ∷ es) → ComesNext n v es → cond u (Some e.1) (value_in es n) ≡ Some v → cond t (from_number n es) (e ∷ es) ≡ (n, v) ∷ cond s (from_number (n + 1) es) (e ∷ es)
+from_found_by true true s low n v e es is same over asc next h = absurd (let lt : e.0 < n = ltb-true e.0 n is in let eq : e.0 ≡ n = eqb-true e.0 n same in omega (arith, lt, eq))
+from_found_by true false true low n v e es is same over asc next h = next h
+from_found_by true false false low n v e es is same over asc next h = absurd (grind (arith, nat_tests))
+from_found_by false true true low n v e es is same over asc next h =
+    let eq : e.0 ≡ n = eqb-true e.0 n same in
+    let behind : IsAscending (n + 1) es = subst (λ (k : ℕ). IsAscending (k + 1) es) eq asc.3 in
+    ap (λ (x : ℕ). (x, e.1) ∷ es) eq ∙ ap (λ (w : List ℕ). (n, w) ∷ es) (some_is e.1 v h) ∙ ap (λ (rest : Values). (n, v) ∷ rest) (sym (from_all (n + 1) es behind))
+from_found_by false true false low n v e es is same over asc next h = absurd (grind (arith, nat_tests))
+from_found_by false false s low n v e es is same over asc next h =
+    absurd (let lt : n < e.0 = grind (arith, nat_tests) in let none : value_in es n ≡ None = none_below (e.0 + 1) n es asc.3 (omega (arith, lt)) in let no : None ≡ Some v = sym none ∙ h in cc)
+
+from_found : (low n : ℕ) (v : List ℕ) (es : Values) → IsAscending low es → ComesNext n v es
+from_found low n v [] asc h = absurd cc
+from_found low n v (e ∷ es) asc h =
+    from_found_by (ltb e.0 n) (eqb e.0 n) (ltb e.0 (n + 1)) low n v e es refl refl refl asc (from_found (e.0 + 1) n v es asc.3) h
+
+-- one that isn't there is passed
+abbrev Passed : ℕ → Values → Type 0
+Passed n es = value_in es n ≡ None → from_number n es ≡ from_number (n + 1) es
+
+from_missing_by : (t u s : Bool) (n : ℕ) (e : ℕ × List ℕ) (es : Values) → ltb e.0 n ≡ t → eqb e.0 n ≡ u → ltb e.0 (n + 1) ≡ s
+    → Passed n es → cond u (Some e.1) (value_in es n) ≡ None → cond t (from_number n es) (e ∷ es) ≡ cond s (from_number (n + 1) es) (e ∷ es)
+from_missing_by t true s n e es is same over passed h = absurd cc
+from_missing_by true false true n e es is same over passed h = passed h
+from_missing_by true false false n e es is same over passed h = absurd (grind (arith, nat_tests))
+from_missing_by false false true n e es is same over passed h = absurd (grind (arith, nat_tests))
+from_missing_by false false false n e es is same over passed h = refl
+
+from_missing : (n : ℕ) (es : Values) → Passed n es
+from_missing n [] h = refl
+from_missing n (e ∷ es) h = from_missing_by (ltb e.0 n) (eqb e.0 n) (ltb e.0 (n + 1)) n e es refl refl refl (from_missing n es) h
+
+from_end_by : (t : Bool) (e : ℕ × List ℕ) (es : Values) → ltb e.0 129 ≡ t → e.0 ≤ 128 → from_number 129 es ≡ [] → cond t (from_number 129 es) (e ∷ es) ≡ []
+from_end_by true e es h le rest = rest
+from_end_by false e es h le rest = absurd (grind (arith, nat_tests))
+
+-- none is above 128
+from_end : (low : ℕ) (es : Values) → IsAscending low es → from_number 129 es ≡ []
+from_end low [] asc = refl
+from_end low (e ∷ es) asc = from_end_by (ltb e.0 129) e es refl asc.1 (from_end (e.0 + 1) es asc.3)
+
+-- ---- where bodies lie
 
 length-prefix : (k : Length) (n : ℕ) → length (prefix k n) ≡ prefix_size k
 length-prefix lengths.Fixed n = refl

@@ -13,7 +13,7 @@ use Rattle.iso_c.specs.declared.unpacking.SpreadMessage.{SpreadMessage}
 use Rattle.iso_c.specs.Parts.{elements_in, parts_from, values_of}
 use Rattle.iso_c.specs.Spreading.{IsSpread, IsSpreadHeld, GivesMessage, GivesSpread}
 use Rattle.iso_c.specs.Unpacking.{IsReadFaultHeld, Unpacked, IsUnpackReply, read_fault, given_fault, room_fault}
-use Rattle.iso_c.proofs.Spreads.{Values, told, length_parts}
+use Rattle.iso_c.proofs.SpreadingLemmas.{Values, told, length_parts}
 
 pub within : (t : Option Layout) (b : List ℕ) (found : SpreadMessage) → IsSpreadHeld t b found → found.used ≤ length b
 within (Some t) b found is = is.begins.0
