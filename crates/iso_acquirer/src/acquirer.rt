@@ -1,12 +1,15 @@
 //! The acquirer.
 
-ghost use Rattle.std.specs.Prelude.{◌≡◌, ◌≢◌, ◌≤◌, ◌<◌, ◌↔◌, [], length, true, Ok, Err, Some, IfSome, List, slice_get, IfOk, OnOk, OnErr, IfErr};
+ghost use Rattle.std.specs.Prelude.{◌≡◌, ◌≢◌, ◌≤◌, ◌<◌, ◌↔◌, []};
+ghost use Rattle.std.specs.Prelude.{length, true, Ok, Err, Some, IfSome, List, slice_get, IfOk, OnOk, OnErr, IfErr};
 ghost use Rattle.iso_order.specs.Key.{is_valid_key, same_key};
 ghost use Rattle.iso_order.specs.declared.act.Act.TheVariants.{Debit};
 ghost use Rattle.iso_acquirer.specs.declared.fault.AcqFault.TheVariants.{NoMoreTrace, Memory};
 ghost use Rattle.iso_acquirer.specs.declared.slot.Role.TheVariants.{Transaction};
-ghost use Rattle.iso_acquirer.specs.Acquirer.{slot_at, state_by, state_of, on_stage, slots_at_stage, slots_with, debit_of, IsFair, next_reversal, slots_with_reversal, timeout, timeout_by, slots_after_answer_in, stage_after, stage_after_undo, slots_after_answer};
+ghost use Rattle.iso_acquirer.specs.Acquirer.{slot_at, state_by, state_of, on_stage, slots_at_stage, slots_with};
 ghost use Rattle.iso_acquirer.specs.Room.{AreNumbered, reversals_at, reversals_of, IsRequest};
+ghost use Rattle.iso_acquirer.specs.Acquirer.{debit_of, IsFair, next_reversal, slots_with_reversal, timeout, timeout_by, slots_after_answer_in};
+ghost use Rattle.iso_acquirer.specs.Acquirer.{stage_after, stage_after_undo, slots_after_answer};
 
 use crate::fault::AcqFault;
 use crate::slot::{Role, Slot, Stage};

@@ -3,7 +3,8 @@
 ghost use Rattle.std.specs.Prelude.{◌≡◌, Option, All, length, ◌<◌, [], OnOk, OnErr, IfErr, slice_get};
 ghost use Rattle.iso_acquirer.specs.declared.fault.StepFault;
 ghost use Rattle.iso_acquirer.specs.Acquirer.{debit_of, IsFair, slots_after_answer};
-ghost use Rattle.iso_acquirer.specs.World.{World as Both, IsDelivered, IsNotDelivered, IsAnswerGiven, IsNotTold, IsOther, IsNotOther, IsBegun, IsNotBegun, IsAsked, IsNotAsked, IsFairEvent, IsMade, IsNotMade, IsStep, IsRan, refusal_count};
+ghost use Rattle.iso_acquirer.specs.World.{World as Both, IsDelivered, IsNotDelivered, IsAnswerGiven, IsNotTold, IsOther, IsNotOther, IsBegun};
+ghost use Rattle.iso_acquirer.specs.World.{IsNotBegun, IsAsked, IsNotAsked, IsFairEvent, IsMade, IsNotMade, IsStep, IsRan, refusal_count};
 ghost use Rattle.iso_acquirer.specs.Agreement.{BothAgree, StaysClosed, BooksAgree};
 
 use crate::acquirer::Acquirer;

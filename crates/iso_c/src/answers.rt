@@ -4,7 +4,7 @@ ghost use Rattle.std.specs.Prelude.{◌≡◌, negsuc};
 ghost use Rattle.iso_c.specs.Answers.{RepliesTo};
 ghost use Rattle.iso_c.specs.Views.{bytes_of};
 
-use crate::fault::RumpadolFault;
+use crate::fault::{RumpadolFault, SHORT_ROOM};
 
 /// Leaves a fault, and answers -1.
 pub(crate) fn refuse(reason: RumpadolFault, fault: &mut RumpadolFault) -> i64
@@ -19,13 +19,8 @@ pub(crate) fn refuse(reason: RumpadolFault, fault: &mut RumpadolFault) -> i64
 pub(crate) fn give(bytes: &[u8], room: &mut [u8], fault: &mut RumpadolFault) -> i64
     ensures { RepliesTo (Ok bytes.now) result room.old room.new fault.new }
 {
-    let short = RumpadolFault {
-        number: 4,
-        element: 0,
-        offset: bytes.len(),
-    };
     if room.len() < bytes.len() {
-        return refuse(short, fault);
+        return refuse(RumpadolFault::at_offset(SHORT_ROOM, bytes.len()), fault);
     }
     match i64::try_from(bytes.len()) {
         Ok(n) => {

@@ -6,7 +6,7 @@ ghost use Rattle.iso_c.specs.Answers.{Replies};
 ghost use Rattle.iso_c.specs.Convert.{IsConvertFault, ConvertsHeld, IsConvertFaultHeld};
 
 use crate::answers::answer;
-use crate::fault::RumpadolFault;
+use crate::fault::{EMPTY_SLOT, RumpadolFault, TRAILING_BYTES};
 use crate::slot::RumpadolSlot;
 use iso_table::Table;
 use iso_wire::{pack, unpack};
@@ -24,11 +24,7 @@ pub(crate) fn converted(
 {
     let (message, used) = unpack(alloc, from, bytes)?;
     if used < bytes.len() {
-        return Err(RumpadolFault {
-            number: 5,
-            element: 0,
-            offset: used,
-        });
+        return Err(RumpadolFault::at_offset(TRAILING_BYTES, used));
     }
     Ok(pack(alloc, to, &message)?)
 }
@@ -45,7 +41,7 @@ fn converted_by(
 {
     match (from, to) {
         (Some(from), Some(to)) => converted(alloc, from, to, bytes),
-        _ => Err(RumpadolFault::only(2)),
+        _ => Err(RumpadolFault::only(EMPTY_SLOT)),
     }
 }
 

@@ -6,7 +6,7 @@ ghost use Rattle.iso_c.specs.Describing.{IsDecimal, IsUsedLine, Describes, Descr
 ghost use Rattle.iso_c.specs.Unpacking.{IsReadFault, IsReadFaultHeld};
 
 use crate::answers::answer;
-use crate::fault::RumpadolFault;
+use crate::fault::{EMPTY_SLOT, RumpadolFault};
 use crate::slot::RumpadolSlot;
 use iso_table::Table;
 use iso_wire::{describe, digits_of, unpack, write_decimal};
@@ -60,7 +60,7 @@ fn described_by(
 {
     match table {
         Some(table) => described(alloc, table, bytes),
-        None => Err(RumpadolFault::only(2)),
+        None => Err(RumpadolFault::only(EMPTY_SLOT)),
     }
 }
 

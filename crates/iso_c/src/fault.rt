@@ -1,12 +1,44 @@
-//! Why a call was refused, as C sees it.
+//! Why a call was refused, as C sees it. The number of a fault of a library is a hundred for its type, and its own; want
+//! of memory is 1 everywhere.
 
 ghost use Rattle.std.specs.Prelude.{◌≡◌};
-ghost use Rattle.iso_c.specs.FaultNumbers.{field_code, unpack_code, unpack_fault, pack_fault, table_fault, frame_fault, set_fault, only, no_memory};
+ghost use Rattle.iso_c.specs.FaultNumbers.{field_code, unpack_code, unpack_fault, pack_fault, table_fault, frame_fault, bad_number, set_fault};
+ghost use Rattle.iso_c.specs.FaultNumbers.{only, at_element, at_offset, no_memory};
 
 use iso_parts::FieldFault;
 use iso_table::{NoMemory, TableFault};
 use iso_wire::{FrameFault, PackFault, SetFault, UnpackCause, UnpackFault};
 use std::alloc::{AllocError, AllocFailed};
+
+/// Memory ran out.
+pub(crate) const MEMORY: u32 = 1;
+
+/// A slot has no table.
+pub(crate) const EMPTY_SLOT: u32 = 2;
+
+/// No built-in table has the number.
+pub(crate) const NO_SUCH_TABLE: u32 = 3;
+
+/// The room has fewer bytes than are wanted.
+pub(crate) const SHORT_ROOM: u32 = 4;
+
+/// Bytes follow the message that is converted.
+pub(crate) const TRAILING_BYTES: u32 = 5;
+
+/// The message doesn't have the element.
+pub(crate) const NO_ELEMENT: u32 = 6;
+
+/// The part lies outside the values.
+pub(crate) const BAD_PART: u32 = 7;
+
+/// The type isn't of four digits.
+pub(crate) const BAD_TYPE: u32 = 8;
+
+/// No header has the number.
+pub(crate) const NO_SUCH_HEADER: u32 = 9;
+
+/// There are fewer places for parts than are wanted.
+pub(crate) const SHORT_PARTS: u32 = 10;
 
 /// Why a call was refused: its number, and where it has one, an element and an offset.
 #[repr(C)]
@@ -31,6 +63,36 @@ impl RumpadolFault {
             offset: 0,
         }
     }
+
+    /// A fault at an element.
+    pub(crate) fn at_element(number: u32, element: u32) -> RumpadolFault
+        ensures { result ≡ at_element number element }
+    {
+        RumpadolFault {
+            number,
+            element,
+            offset: 0,
+        }
+    }
+
+    /// A fault at an offset.
+    pub(crate) fn at_offset(number: u32, offset: usize) -> RumpadolFault
+        ensures { result ≡ at_offset number offset }
+    {
+        RumpadolFault {
+            number,
+            element: 0,
+            offset,
+        }
+    }
+
+    /// No element has the number.
+    pub(crate) fn bad_number(n: u32) -> RumpadolFault
+        ensures { result ≡ bad_number n }
+    {
+        let own = SetFault::BadNumber(0).number();
+        RumpadolFault::at_element(600 + u32::from(own), n)
+    }
 }
 
 /// The number of a field's fault.
@@ -38,14 +100,14 @@ fn field_code(fault: FieldFault) -> u32
     ensures { result ≡ field_code fault }
 {
     match fault {
-        FieldFault::WrongLength => 201,
-        FieldFault::NotInClass => 202,
-        FieldFault::PadEnd => 203,
-        FieldFault::BadLengthDigits => 204,
-        FieldFault::LengthOver => 205,
-        FieldFault::BadFiller => 206,
-        FieldFault::BadHex => 207,
-        FieldFault::Memory => 1,
+        FieldFault::Memory => MEMORY,
+        FieldFault::WrongLength
+        | FieldFault::NotInClass
+        | FieldFault::PadEnd
+        | FieldFault::BadLengthDigits
+        | FieldFault::LengthOver
+        | FieldFault::BadFiller
+        | FieldFault::BadHex => 200 + u32::from(fault.number()),
     }
 }
 
@@ -54,14 +116,14 @@ fn unpack_code(cause: UnpackCause) -> u32
     ensures { result ≡ unpack_code cause }
 {
     match cause {
-        UnpackCause::Short => 101,
-        UnpackCause::BadMti => 102,
-        UnpackCause::WrongVersion => 103,
-        UnpackCause::BadHex => 104,
-        UnpackCause::ThirdBitmap => 105,
-        UnpackCause::UnknownElement(_) => 106,
+        UnpackCause::Memory => MEMORY,
         UnpackCause::Field(fault) => field_code(fault),
-        UnpackCause::Memory => 1,
+        UnpackCause::Short
+        | UnpackCause::BadMti
+        | UnpackCause::WrongVersion
+        | UnpackCause::BadHex
+        | UnpackCause::ThirdBitmap
+        | UnpackCause::UnknownElement(_) => 100 + u32::from(cause.number()),
     }
 }
 
@@ -69,7 +131,7 @@ impl From<NoMemory> for RumpadolFault {
     ghost from_gives = { λ _ e. e ≡ no_memory };
 
     fn from(_e: NoMemory) -> RumpadolFault {
-        RumpadolFault::only(1)
+        RumpadolFault::only(MEMORY)
     }
 }
 
@@ -77,7 +139,7 @@ impl From<AllocError> for RumpadolFault {
     ghost from_gives = { λ _ e. e ≡ no_memory };
 
     fn from(_e: AllocError) -> RumpadolFault {
-        RumpadolFault::only(1)
+        RumpadolFault::only(MEMORY)
     }
 }
 
@@ -85,7 +147,7 @@ impl<T: Drop> From<AllocFailed<T>> for RumpadolFault {
     ghost from_gives = { λ _ e. e ≡ no_memory };
 
     fn from(_e: AllocFailed<T>) -> RumpadolFault {
-        RumpadolFault::only(1)
+        RumpadolFault::only(MEMORY)
     }
 }
 
@@ -105,18 +167,14 @@ impl From<PackFault> for RumpadolFault {
     ghost from_gives = { λ f e. e ≡ pack_fault f };
 
     fn from(fault: PackFault) -> RumpadolFault {
-        let (number, element) = match fault {
-            PackFault::WrongVersion => (301, 0),
-            PackFault::NoRow(n) => (302, n),
-            PackFault::WrongLength(n) => (303, n),
-            PackFault::NotInClass(n) => (304, n),
-            PackFault::PadEnd(n) => (305, n),
-            PackFault::Memory => (1, 0),
-        };
-        RumpadolFault {
-            number,
-            element: u32::from(element),
-            offset: 0,
+        let number = 300 + u32::from(fault.number());
+        match fault {
+            PackFault::Memory => RumpadolFault::only(MEMORY),
+            PackFault::WrongVersion => RumpadolFault::only(number),
+            PackFault::NoRow(n)
+            | PackFault::WrongLength(n)
+            | PackFault::NotInClass(n)
+            | PackFault::PadEnd(n) => RumpadolFault::at_element(number, u32::from(n)),
         }
     }
 }
@@ -125,22 +183,18 @@ impl From<TableFault> for RumpadolFault {
     ghost from_gives = { λ f e. e ≡ table_fault f };
 
     fn from(fault: TableFault) -> RumpadolFault {
-        let (number, element) = match fault {
-            TableFault::NotJson => (401, 0),
-            TableFault::Shape => (402, 0),
-            TableFault::BadVersion => (403, 0),
-            TableFault::BadNumber(n) => (404, n),
-            TableFault::Twice(n) => (405, n),
-            TableFault::BadMax(n) => (406, n),
-            TableFault::CodingClass(n) => (407, n),
-            TableFault::PadNotAllowed(n) => (408, n),
-            TableFault::Profile => (409, 0),
-            TableFault::Memory => (1, 0),
-        };
-        RumpadolFault {
-            number,
-            element: u32::from(element),
-            offset: 0,
+        let number = 400 + u32::from(fault.number());
+        match fault {
+            TableFault::Memory => RumpadolFault::only(MEMORY),
+            TableFault::NotJson
+            | TableFault::Shape
+            | TableFault::BadVersion
+            | TableFault::Profile => RumpadolFault::only(number),
+            TableFault::BadNumber(n)
+            | TableFault::Twice(n)
+            | TableFault::BadMax(n)
+            | TableFault::CodingClass(n)
+            | TableFault::PadNotAllowed(n) => RumpadolFault::at_element(number, u32::from(n)),
         }
     }
 }
@@ -149,11 +203,12 @@ impl From<FrameFault> for RumpadolFault {
     ghost from_gives = { λ f e. e ≡ frame_fault f };
 
     fn from(fault: FrameFault) -> RumpadolFault {
-        RumpadolFault::only(match fault {
-            FrameFault::TooLong => 501,
-            FrameFault::BadDigits => 502,
-            FrameFault::Memory => 1,
-        })
+        match fault {
+            FrameFault::Memory => RumpadolFault::only(MEMORY),
+            FrameFault::TooLong | FrameFault::BadDigits => {
+                RumpadolFault::only(500 + u32::from(fault.number()))
+            }
+        }
     }
 }
 
@@ -161,14 +216,9 @@ impl From<SetFault> for RumpadolFault {
     ghost from_gives = { λ f e. e ≡ set_fault f };
 
     fn from(fault: SetFault) -> RumpadolFault {
-        let (number, element) = match fault {
-            SetFault::BadNumber(n) => (601, n),
-            SetFault::Memory => (1, 0),
-        };
-        RumpadolFault {
-            number,
-            element: u32::from(element),
-            offset: 0,
+        match fault {
+            SetFault::BadNumber(n) => RumpadolFault::bad_number(u32::from(n)),
+            SetFault::Memory => RumpadolFault::only(MEMORY),
         }
     }
 }

@@ -5,7 +5,7 @@ ghost use Rattle.iso_c.specs.Answers.{Replies};
 ghost use Rattle.iso_c.specs.Frames.{header_named, FramesBy, IsFrameFault, Unframed};
 
 use crate::answers::{answer, refuse};
-use crate::fault::RumpadolFault;
+use crate::fault::{NO_SUCH_HEADER, RumpadolFault};
 use crate::parts::RumpadolPart;
 use iso_wire::{Framed, Header, frame, unframe};
 use std::alloc::Global;
@@ -29,7 +29,7 @@ fn framed(alloc: Global, header: u32, body: &[u8]) -> Result<Vec<u8>, RumpadolFa
 {
     match header_named(header) {
         Some(header) => Ok(frame(alloc, header, body)?),
-        None => Err(RumpadolFault::only(9)),
+        None => Err(RumpadolFault::only(NO_SUCH_HEADER)),
     }
 }
 
@@ -60,7 +60,7 @@ pub extern "C" fn rumpadol_unframe(
     ensures { Unframed (header_named header) input.now result body.old body.new fault.new }
 {
     let Some(header) = header_named(header) else {
-        return refuse(RumpadolFault::only(9), fault);
+        return refuse(RumpadolFault::only(NO_SUCH_HEADER), fault);
     };
     match unframe(header, input) {
         Ok(Framed::Got { body: _, used }) => {

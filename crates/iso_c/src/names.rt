@@ -5,23 +5,26 @@ ghost use Rattle.iso_c.specs.Answers.{RepliesTo};
 ghost use Rattle.iso_c.specs.Names.{own_name, unpack_name, field_name, pack_name, table_name, frame_name, name_of};
 
 use crate::answers::give;
-use crate::fault::RumpadolFault;
+use crate::fault::{
+    BAD_PART, BAD_TYPE, EMPTY_SLOT, MEMORY, NO_ELEMENT, NO_SUCH_HEADER, NO_SUCH_TABLE,
+    RumpadolFault, SHORT_PARTS, SHORT_ROOM, TRAILING_BYTES,
+};
 
 /// The name of a fault of this library.
 fn own_name(number: u32) -> &'static [u8]
     ensures { result.now ≡ own_name number }
 {
     match number {
-        1 => b"Memory",
-        2 => b"EmptySlot",
-        3 => b"NoSuchTable",
-        4 => b"ShortRoom",
-        5 => b"TrailingBytes",
-        6 => b"NoElement",
-        7 => b"BadPart",
-        8 => b"BadType",
-        9 => b"NoSuchHeader",
-        10 => b"ShortParts",
+        MEMORY => b"Memory",
+        EMPTY_SLOT => b"EmptySlot",
+        NO_SUCH_TABLE => b"NoSuchTable",
+        SHORT_ROOM => b"ShortRoom",
+        TRAILING_BYTES => b"TrailingBytes",
+        NO_ELEMENT => b"NoElement",
+        BAD_PART => b"BadPart",
+        BAD_TYPE => b"BadType",
+        NO_SUCH_HEADER => b"NoSuchHeader",
+        SHORT_PARTS => b"ShortParts",
         _ => b"",
     }
 }

@@ -9,7 +9,7 @@ ghost use Rattle.iso_c.specs.Parts.{bytes_in, elements_or_fault, is_part_within,
 ghost use Rattle.iso_c.specs.Packing.{message_of, Packs, IsPackingFault, PacksHeld, IsPackingFaultHeld};
 
 use crate::answers::answer;
-use crate::fault::RumpadolFault;
+use crate::fault::{BAD_PART, BAD_TYPE, EMPTY_SLOT, RumpadolFault};
 use crate::parts::RumpadolPart;
 use crate::slot::RumpadolSlot;
 use iso_parts::Mti;
@@ -32,7 +32,7 @@ fn put_part(message: &mut Message, part: &RumpadolPart, values: &[u8]) -> Result
 {
     if !is_part_within(part, values.len()) {
         return Err(RumpadolFault {
-            number: 7,
+            number: BAD_PART,
             element: part.element,
             offset: part.start,
         });
@@ -41,11 +41,7 @@ fn put_part(message: &mut Message, part: &RumpadolPart, values: &[u8]) -> Result
     let (value, _) = rest.split_at(part.length);
     match u8::try_from(part.element) {
         Ok(n) => Ok(message.set(n, value)?),
-        Err(_) => Err(RumpadolFault {
-            number: 601,
-            element: part.element,
-            offset: 0,
-        }),
+        Err(_) => Err(RumpadolFault::bad_number(part.element)),
     }
 }
 
@@ -89,7 +85,7 @@ fn message_of(
     ensures fault { IfErr result (λ f. f ≢ no_memory → message_of mti parts.now values.now ≡ Err f) }
 {
     let Some(mti) = type_of(mti) else {
-        return Err(RumpadolFault::only(8));
+        return Err(RumpadolFault::only(BAD_TYPE));
     };
     let mut message = Message::new(alloc, mti);
     put_parts(&mut message, parts, values)?;
@@ -124,7 +120,7 @@ fn packed_by(
 {
     match table {
         Some(table) => packed(alloc, table, mti, parts, values),
-        None => Err(RumpadolFault::only(2)),
+        None => Err(RumpadolFault::only(EMPTY_SLOT)),
     }
 }
 

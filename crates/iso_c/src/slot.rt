@@ -10,7 +10,7 @@ ghost use Rattle.std.specs.Ptr.{room_at};
 ghost use types.Logic.{sem};
 
 use crate::answers::refuse;
-use crate::fault::RumpadolFault;
+use crate::fault::{NO_SUCH_TABLE, RumpadolFault};
 use iso_table::Table;
 use std::alloc::Global;
 use std::marker::Model;
@@ -82,7 +82,7 @@ fn built_in(alloc: Global, name: u32) -> Result<Table, RumpadolFault>
     match name {
         0 => Ok(Table::ascii87(alloc)?),
         1 => Ok(Table::bcd87(alloc)?),
-        _ => Err(RumpadolFault::only(3)),
+        _ => Err(RumpadolFault::only(NO_SUCH_TABLE)),
     }
 }
 

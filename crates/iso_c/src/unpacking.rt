@@ -6,7 +6,7 @@ ghost use Rattle.iso_c.specs.Spreading.{IsSpread, IsSpreadHeld, GivesMessage};
 ghost use Rattle.iso_c.specs.Unpacking.{IsReadFault, IsReadFaultHeld, IsUnpackReply};
 
 use crate::answers::refuse;
-use crate::fault::RumpadolFault;
+use crate::fault::{EMPTY_SLOT, RumpadolFault, SHORT_PARTS, SHORT_ROOM};
 use crate::parts::{RumpadolMessage, RumpadolPart};
 use crate::slot::RumpadolSlot;
 use iso_table::Table;
@@ -89,7 +89,7 @@ fn found_by(
 {
     match table {
         Some(table) => found_under(alloc, table, bytes),
-        None => Err(RumpadolFault::only(2)),
+        None => Err(RumpadolFault::only(EMPTY_SLOT)),
     }
 }
 
@@ -105,16 +105,17 @@ fn give(
     requires { found.now.used ≤ length bytes.now }
     ensures { GivesMessage found.now result message.old message.new parts.old parts.new values.old values.new fault.new }
 {
-    let short = |number: u32, offset: usize| RumpadolFault {
-        number,
-        element: 0,
-        offset,
-    };
     if parts.len() < found.parts.len() {
-        return refuse(short(10, found.parts.len()), fault);
+        return refuse(
+            RumpadolFault::at_offset(SHORT_PARTS, found.parts.len()),
+            fault,
+        );
     }
     if values.len() < found.values.len() {
-        return refuse(short(4, found.values.len()), fault);
+        return refuse(
+            RumpadolFault::at_offset(SHORT_ROOM, found.values.len()),
+            fault,
+        );
     }
     let (places, _) = parts.split_at_mut(found.parts.len());
     places.copy_from_slice(&found.parts);

@@ -4,12 +4,11 @@ ghost use Rattle.std.specs.Prelude.{◌≡◌, ◌+◌, ◌≤◌, ℕ, length, 
 ghost use Rattle.iso_wire.specs.Viewing.{front_of};
 ghost use Rattle.iso_table.specs.Layout.{row_at};
 ghost use Rattle.iso_wire.specs.Elements.{IsAscending};
-ghost use Rattle.iso_c.specs.FaultNumbers.{no_element};
 ghost use Rattle.iso_c.specs.Later.{from_number, sizes_of};
 ghost use Rattle.iso_c.specs.Viewing.{IsBodyAt, IsViewFault, IsBodyAtHeld, IsViewFaultHeld, ViewsBody};
 
 use crate::answers::refuse;
-use crate::fault::RumpadolFault;
+use crate::fault::{EMPTY_SLOT, NO_ELEMENT, RumpadolFault};
 use crate::parts::RumpadolPart;
 use crate::slot::RumpadolSlot;
 use iso_table::Table;
@@ -41,17 +40,6 @@ fn size_behind(table: &Table, view: &View<'_>, n: u8, most: usize) -> usize
     size
 }
 
-/// A fault of an element that the message doesn't have.
-fn missing(n: u32) -> RumpadolFault
-    ensures { result ≡ no_element n }
-{
-    RumpadolFault {
-        number: 6,
-        element: n,
-        offset: 0,
-    }
-}
-
 /// Where the body of an element lies in the bytes.
 fn body_at(table: &Table, bytes: &[u8], n: u8) -> Result<RumpadolPart, RumpadolFault>
     requires { n ≤ 128 }
@@ -60,7 +48,7 @@ fn body_at(table: &Table, bytes: &[u8], n: u8) -> Result<RumpadolPart, RumpadolF
 {
     let viewed = view(table, bytes)?;
     let Some(wire) = viewed.wire(n) else {
-        return Err(missing(u32::from(n)));
+        return Err(RumpadolFault::at_element(NO_ELEMENT, u32::from(n)));
     };
     let behind = size_behind(table, &viewed, n, viewed.used());
     Ok(RumpadolPart {
@@ -83,7 +71,7 @@ pub(crate) fn body_of(
         return body_at(table, bytes, number as u8);
     }
     let viewed = view(table, bytes)?;
-    Err(missing(number))
+    Err(RumpadolFault::at_element(NO_ELEMENT, number))
 }
 
 /// The same under what a slot holds.
@@ -93,7 +81,7 @@ fn body_by(table: &Option<Table>, bytes: &[u8], number: u32) -> Result<RumpadolP
 {
     match table {
         Some(table) => body_of(table, bytes, number),
-        None => Err(RumpadolFault::only(2)),
+        None => Err(RumpadolFault::only(EMPTY_SLOT)),
     }
 }
 

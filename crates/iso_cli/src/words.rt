@@ -5,7 +5,8 @@ ghost use Rattle.std.specs.Prelude.{◌≡◌, IfOk, IfSome, IfNone, IfErr, IsEr
 ghost use Rattle.clap.specs.Words.{takes};
 ghost use Rattle.iso_cli.specs.Words.{Asks, AsksNothing, header_name, is_name};
 ghost use Rattle.iso_cli.specs.NoJob.{AsksNoCodec, AsksNoRun};
-ghost use Rattle.iso_cli.specs.CommandLine.{FollowsRule, IsCommand, bare_app, check_app, clear_rule, codec_app, convert_app, iso_alone, iso_app, name_rule, run_app, show_app};
+ghost use Rattle.iso_cli.specs.CommandLine.{FollowsRule, IsCommand, bare_app, check_app, clear_rule, codec_app, convert_app, iso_alone};
+ghost use Rattle.iso_cli.specs.CommandLine.{iso_app, name_rule, run_app, show_app};
 
 use clap::error::ErrorKind;
 use clap::{Arg, ArgAction, Command};

@@ -2,7 +2,8 @@
 
 ghost use Rattle.std.specs.Prelude.{◌≡◌, ◌≢◌, IfOk, IfErr, IsErrOf, None, Some, map, [], option_map, if◌then◌else◌};
 ghost use Rattle.iso_issuer.specs.declared.fault.AccountsFault.TheVariants.{NotJson, Shape, Memory};
-ghost use Rattle.iso_issuer.specs.Balances.{HasDistinctNumbers, accounts_of, opening_balance};
+ghost use Rattle.iso_issuer.specs.Balances.{HasDistinctNumbers};
+ghost use Rattle.iso_issuer.specs.Balances.{accounts_of, opening_balance};
 ghost use Rattle.iso_table.specs.Document.{IsNotJson};
 ghost use Rattle.iso_issuer.specs.Document.{is_out_of_range, accounts_fault, as_listed, ListsAccounts, HasFault};
 

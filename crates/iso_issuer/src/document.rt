@@ -4,7 +4,8 @@ ghost use Rattle.std.specs.Prelude.{◌≡◌, ◌≢◌, ℕ, List, IfOk, IfErr
 ghost use Rattle.std.specs.Str.{IsUtf8};
 ghost use Rattle.serde_json.specs.Read.{read};
 ghost use Rattle.serde_json.specs.View.{view, items_view};
-ghost use Rattle.iso_order.specs.Pan.{AccountNumber, pan_of};
+ghost use Rattle.iso_order.specs.Pan.{AccountNumber};
+ghost use Rattle.iso_order.specs.Pan.{pan_of};
 ghost use Rattle.iso_issuer.specs.declared.fault.AccountsFault.TheVariants.{NotJson, Shape, Memory};
 ghost use Rattle.iso_issuer.specs.Document.{i64_at, listed_in, listed_rows, document_in};
 ghost use Rattle.iso_table.specs.Document.{IsNotJson};

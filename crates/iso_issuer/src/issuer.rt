@@ -1,12 +1,14 @@
 //! The issuer.
 
-ghost use Rattle.std.specs.Prelude.{◌≡◌, ◌≢◌, ◌≤◌, ◌<◌, ◌↔◌, ◌++◌, ◌∷◌, [], IsTrue, true, false, length, take, IfOk, OnOk, OnErr, IfErr, IsOk, option_map};
+ghost use Rattle.std.specs.Prelude.{◌≡◌, ◌≢◌, ◌≤◌, ◌<◌, ◌↔◌, ◌++◌, ◌∷◌, []};
+ghost use Rattle.std.specs.Prelude.{IsTrue, true, false, length, take, IfOk, OnOk, OnErr, IfErr, IsOk, option_map};
 ghost use Rattle.iso_issuer.specs.declared.fault.Refused.TheVariants.{Memory};
 ghost use Rattle.iso_issuer.specs.Account.{account_of};
 ghost use Rattle.iso_issuer.specs.Journal.{firsts, is_entered, HasDistinctKeys};
 ghost use Rattle.iso_issuer.specs.Balance.{ledger, available};
-ghost use Rattle.iso_issuer.specs.Decision.{new_answer, reply, is_shown_for};
+ghost use Rattle.iso_issuer.specs.Decision.{new_answer, reply};
 ghost use Rattle.iso_issuer.specs.Books.{journal, IsFullFor, IsRoomFor, IsRun, answered_of};
+ghost use Rattle.iso_issuer.specs.Decision.{is_shown_for};
 
 use crate::accounts::Accounts;
 use crate::balances::Balances;

@@ -1,13 +1,16 @@
 //! The journal: the orders that were entered, each with the answer that it was given.
 
 ghost use Rattle.iso_issuer.specs.Effect.{is_key, effect_of};
-ghost use Rattle.iso_issuer.specs.Found.{touched_at, is_of_earlier, weight_in, IsFoundFor, reversed_by, ended_key, released_by};
+ghost use Rattle.iso_issuer.specs.Found.{touched_at, is_of_earlier, weight_in, IsFoundFor};
 ghost use Rattle.iso_issuer.specs.declared.journal.Entry.{Entry};
-ghost use Rattle.std.specs.Prelude.{◌≡◌, ◌≤◌, ◌<◌, ◌+◌, ◌==◌, ◌++◌, ◌∷◌, [], if◌then◌else◌, ℕ, List, is_some, true, false, map, None, OnOk, OnErr, length};
+ghost use Rattle.std.specs.Prelude.{◌≡◌, ◌≤◌, ◌<◌, ◌+◌, ◌==◌, ◌++◌, ◌∷◌, [], if◌then◌else◌};
+ghost use Rattle.std.specs.Prelude.{ℕ, List, is_some, true, false, map, None, OnOk, OnErr, length};
 ghost use Rattle.std.specs.BTreeMap as tree;
 ghost use Rattle.std.specs.Ordering.{nat_cmp};
 ghost use Rattle.iso_issuer.specs.Index.{added_by, dropped_of, dropped_by};
-ghost use Rattle.iso_issuer.specs.Journal.{entry_at, undone_key, left_at, is_nothing, smaller_of, is_counted_with, is_completed, is_ended, weight, HasDistinctKeys};
+ghost use Rattle.iso_issuer.specs.Journal.{entry_at, undone_key, left_at, is_nothing, smaller_of, is_counted_with, is_completed, is_ended, weight};
+ghost use Rattle.iso_issuer.specs.Journal.{HasDistinctKeys};
+ghost use Rattle.iso_issuer.specs.Found.{reversed_by, ended_key, released_by};
 
 use crate::effect::{Effect, Hold, Side, effect_amount, effect_of, ended_by, hold_by};
 use crate::found::{Found, Touched};

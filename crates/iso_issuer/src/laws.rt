@@ -1,6 +1,11 @@
 //! What holds of every journal: functions that do nothing, and whose contracts are laws.
 
-ghost use Rattle.iso_issuer.specs.Laws.{FirstsGoOn, FirstsStay, JournalsGoOn, AnswersAreKept, RepeatsAreAnswered, EntriesAnswer, EntriesAreOfOrders, EnteredHasEntry, JournalsGrow, FoundHasKey, FoundStays, NewIsFound, KnownChangesNothing, NewComesLast, KeysStayDistinct, RepliesAreKept, GrantedStands, GrantedWeighsAll, DeclinedFalls, ReversedFalls, FallenWeighsNothing, ReversalsStay, ReversedStays, NoneIsNone, NoneStaysNone, WhollyIsReversed, StandsNoMore, ReversedNeverStands, LateNeverStands, LedgersAgree, AvailableAgree};
+ghost use Rattle.iso_issuer.specs.Laws.{FirstsGoOn, FirstsStay, JournalsGoOn, AnswersAreKept, RepeatsAreAnswered, EntriesAnswer};
+ghost use Rattle.iso_issuer.specs.Laws.{EntriesAreOfOrders, EnteredHasEntry, JournalsGrow, FoundHasKey, FoundStays, NewIsFound};
+ghost use Rattle.iso_issuer.specs.Laws.{KnownChangesNothing, NewComesLast, KeysStayDistinct, RepliesAreKept};
+ghost use Rattle.iso_issuer.specs.Laws.{GrantedStands, GrantedWeighsAll, DeclinedFalls, ReversedFalls, FallenWeighsNothing};
+ghost use Rattle.iso_issuer.specs.Laws.{ReversalsStay, ReversedStays, NoneIsNone, NoneStaysNone, WhollyIsReversed};
+ghost use Rattle.iso_issuer.specs.Laws.{StandsNoMore, ReversedNeverStands, LateNeverStands, LedgersAgree, AvailableAgree};
 
 use iso_order::laws::comparisons;
 

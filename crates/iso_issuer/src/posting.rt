@@ -6,12 +6,14 @@ ghost use Rattle.iso_order.specs.Pan.{AccountNumber};
 ghost use Rattle.iso_issuer.specs.Effect.{effect_of};
 ghost use Rattle.iso_issuer.specs.declared.found.Touched.{Touched};
 ghost use Rattle.iso_issuer.specs.Journal.{left_at, weight};
-ghost use Rattle.iso_issuer.specs.Found.{effect_at, weight_at, entry_in, weight_in, amount_left, WasFoundFor};
+ghost use Rattle.iso_issuer.specs.Found.{effect_at, weight_at};
+ghost use Rattle.iso_issuer.specs.Found.{entry_in, weight_in, amount_left, WasFoundFor};
 ghost use Rattle.iso_issuer.specs.Change.{IsAmount};
-ghost use Rattle.iso_issuer.specs.Posting.{ledger_share, available_share, ledger_grown, available_grown, balance_by_weights, on_ledger, on_available};
+ghost use Rattle.iso_issuer.specs.Posting.{ledger_share, available_share};
 ghost use Rattle.iso_issuer.specs.declared.effect.Effect.{Effect};
 ghost use Rattle.iso_issuer.specs.Index.{account_place};
 ghost use Rattle.iso_issuer.specs.Balances.{accounts_of, IsNear};
+ghost use Rattle.iso_issuer.specs.Posting.{ledger_grown, available_grown, balance_by_weights, on_ledger, on_available};
 
 use crate::balances::Balances;
 use crate::change::Change;

@@ -2,7 +2,8 @@
 
 ghost use Rattle.std.specs.Prelude.{◌≡◌};
 ghost use Rattle.std.specs.List.{list_all};
-ghost use Rattle.iso_order.specs.Order.{is_letter_or_digit, is_currency, currency_of, is_account, has_amount, is_hold_for, is_valid_act, same_money, same_act, money_of};
+ghost use Rattle.iso_order.specs.Order.{is_letter_or_digit, is_currency, currency_of, is_account, has_amount, is_hold_for};
+ghost use Rattle.iso_order.specs.Order.{is_valid_act, same_money, same_act, money_of};
 
 use crate::key::TxKey;
 use crate::pan::Pan;

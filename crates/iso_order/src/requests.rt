@@ -6,8 +6,9 @@ ghost use Rattle.iso_wire.specs.Decimal.{decimal};
 ghost use Rattle.iso_wire.specs.Elements.{value_in, IsBelow};
 ghost use Rattle.iso_order.specs.Listing.{entry};
 ghost use Rattle.iso_order.specs.Adding.{elements_with_value, are_ascending};
-ghost use Rattle.iso_order.specs.Requests.{processing_code, moved_amount, named_by, partial_left, acquirer_code, account_number, original_data, replacement_amounts, request_value, request, AsksFor, FitsEdition87};
+ghost use Rattle.iso_order.specs.Requests.{processing_code, moved_amount, named_by, partial_left, acquirer_code, account_number};
 ghost use Rattle.iso_order.specs.Order.{money_of};
+ghost use Rattle.iso_order.specs.Requests.{original_data, replacement_amounts, request_value, request, AsksFor, FitsEdition87};
 
 use crate::act::Act;
 use crate::fields::mti_of;

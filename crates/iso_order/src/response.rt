@@ -2,13 +2,15 @@
 
 ghost use Rattle.std.specs.Prelude.{◌≡◌, ℕ, ◌≤◌, ◌++◌, ◌∷◌, length, true, false, [], OnOk, IfOk};
 ghost use Rattle.iso_parts.specs.Numbers.{is_element};
-ghost use Rattle.iso_parts.specs.Mti.{mti_number, is_answered};
+ghost use Rattle.iso_parts.specs.Mti.{mti_number};
 ghost use Rattle.iso_wire.specs.Decimal.{decimal};
 ghost use Rattle.iso_wire.specs.Elements.{value_in, IsBelow};
 ghost use Rattle.iso_order.specs.Fields.{class, function, text};
+ghost use Rattle.iso_parts.specs.Mti.{is_answered};
 ghost use Rattle.iso_order.specs.Listing.{entry};
-ghost use Rattle.iso_order.specs.Adding.{elements_with_value, are_ascending, is_responded};
+ghost use Rattle.iso_order.specs.Adding.{elements_with_value, are_ascending};
 ghost use Rattle.iso_order.specs.Response.{response, response_mti, is_approved, sign, approval, additional, balance, element, is_showable};
+ghost use Rattle.iso_order.specs.Adding.{is_responded};
 
 use crate::answer::Answer;
 use crate::fields::{text, type_of};

@@ -1,13 +1,17 @@
 //! What a message asks of an issuer.
 
-ghost use Rattle.std.specs.Prelude.{◌≡◌, ◌==◌, ◌&&◌, ◌≤◌, ◌++◌, ◌⊎◌, if◌then◌else◌, is_some, List, Bool, true, false, Some, None, IfSome, IsTrue};
+ghost use Rattle.std.specs.Prelude.{◌≡◌, ◌==◌, ◌&&◌, ◌≤◌, ◌++◌, ◌⊎◌, if◌then◌else◌};
+ghost use Rattle.std.specs.Prelude.{is_some, List, Bool, true, false, Some, None, IfSome, IsTrue};
 ghost use Rattle.iso_wire.specs.Elements.{has};
-ghost use Rattle.iso_order.specs.Fields.{version, class, function, origin, key_of, is_original, kind, is_debit, is_credit, is_inquiry, message_money, part, is_replacement, left_of, is_completion, hold_of};
+ghost use Rattle.iso_order.specs.Fields.{version, class, function, origin, key_of, is_original, kind, is_debit, is_credit};
 ghost use Rattle.iso_parts.specs.Mti.{is_answered};
+ghost use Rattle.iso_order.specs.Fields.{is_inquiry, message_money, part, is_replacement, left_of, is_completion, hold_of};
 ghost use Rattle.iso_order.specs.Key.{class_digit, function_digit, is_valid_key};
 ghost use Rattle.iso_order.specs.Order.{is_valid, is_hold_for, is_account, is_currency, is_payment};
 ghost use Rattle.iso_wire.specs.Decimal.{are_digits};
-ghost use Rattle.iso_order.specs.Verdict.{first_of, network_lines, key_lines, original_lines, reversal_lines, completion_lines, account_lines, act_lines, amount_lines, debited_by, credit_verdict, verdict, IfReply, IfOrder, IfAnswered};
+ghost use Rattle.iso_order.specs.Verdict.{first_of, network_lines, key_lines, original_lines, reversal_lines, completion_lines};
+ghost use Rattle.iso_order.specs.Verdict.{account_lines, act_lines, amount_lines, debited_by, credit_verdict, verdict, IfReply, IfOrder};
+ghost use Rattle.iso_order.specs.Verdict.{IfAnswered};
 
 use crate::act::{Act, Money, currency_of};
 use crate::fields::{has, key_of, part, text, type_of};

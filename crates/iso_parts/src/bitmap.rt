@@ -1,7 +1,8 @@
 //! Bitmaps: which elements a message has.
 
 ghost use Rattle.std.specs.Int.{bit_at};
-ghost use Rattle.std.specs.Prelude.{◌≡◌, ◌≢◌, ◌+◌, ◌-◌, ◌<◌, ◌≤◌, ◌^◌, ◌++◌, ◌==◌, ◌⊎◌, ◌↔◌, ℕ, Bool, true, false, IsTrue, List, length, take, drop, OnOk, OnErr};
+ghost use Rattle.std.specs.Prelude.{◌≡◌, ◌≢◌, ◌+◌, ◌-◌, ◌<◌, ◌≤◌, ◌^◌, ◌++◌, ◌==◌, ◌⊎◌};
+ghost use Rattle.std.specs.Prelude.{◌↔◌, ℕ, Bool, true, false, IsTrue, List, length, take, drop, OnOk, OnErr};
 
 use crate::bitmap_reading::{hex_word, raw_word, read};
 use crate::bits::{FIRST_BIT, bits_before, take_bit, with_bit, without_bit};

@@ -1,6 +1,7 @@
 //! Judging fields without their values, and without memory.
 
-ghost use Rattle.std.specs.Prelude.{◌≡◌, ◌≢◌, ◌≤◌, ◌+◌, ◌*◌, ◌/◌, ℕ, List, take, drop, length, IfErr, IfOk, IfSome, true, false};
+ghost use Rattle.std.specs.Prelude.{◌≡◌, ◌≢◌, ◌≤◌, ◌+◌, ◌*◌, ◌/◌, ℕ, List, take, drop, length};
+ghost use Rattle.std.specs.Prelude.{IfErr, IfOk, IfSome, true, false};
 ghost use Rattle.iso_parts.specs.Judging.{Judges, IfJudged, count_at, size_at};
 ghost use Rattle.iso_parts.specs.Building.{IsPart};
 ghost use Rattle.iso_parts.specs.Class.{is_in_class};

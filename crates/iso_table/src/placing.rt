@@ -1,6 +1,7 @@
 //! Rows at their numbers.
 
-ghost use Rattle.std.specs.Prelude.{◌≡◌, ◌≢◌, ◌≤◌, ◌<◌, [], ℕ, IsTrue, IfOk, IfErr, OnOk, OnErr, None, Some, length, is_some, slice_set, slice_get};
+ghost use Rattle.std.specs.Prelude.{◌≡◌, ◌≢◌, ◌≤◌, ◌<◌, []};
+ghost use Rattle.std.specs.Prelude.{ℕ, IsTrue, IfOk, IfErr, OnOk, OnErr, None, Some, length, is_some, slice_set, slice_get};
 ghost use Rattle.std.specs.Option.{option_copied};
 ghost use Rattle.iso_parts.specs.Numbers.{is_element};
 ghost use Rattle.iso_parts.specs.Bitmap.{contains};

@@ -1,6 +1,7 @@
 //! A table that was accepted.
 
-ghost use Rattle.std.specs.Prelude.{◌≡◌, ◌≢◌, ◌+◌, ◌↔◌, ℕ, length, is_some, count_by, sum_by, IfOk, IfErr, IsErrOf, IsOk, MatchResult, Some};
+ghost use Rattle.std.specs.Prelude.{◌≡◌, ◌≢◌, ◌+◌, ◌↔◌};
+ghost use Rattle.std.specs.Prelude.{ℕ, length, is_some, count_by, sum_by, IfOk, IfErr, IsErrOf, IsOk, MatchResult, Some};
 ghost use Rattle.std.specs.Option.{option_copied};
 ghost use Rattle.iso_table.specs.declared.fault.TableFault.TheVariants.{NotJson, Memory};
 ghost use Rattle.iso_parts.specs.Bitmap.{contains};

@@ -3,7 +3,8 @@
 ghost use Rattle.std.specs.Prelude.{◌≡◌, ◌++◌, ◌∷◌, [], None, Some, IfOk, option_map, string_bytes};
 ghost use Rattle.hex.specs.Hex.{encode_upper};
 ghost use Rattle.serde_json.specs.View.{view, items_view};
-ghost use Rattle.iso_table.specs.Document.{class_name, coding_name, digits_name, bitmap_name, length_name, pad_name, prefix_named, row_object, row_data, rows_data, document};
+ghost use Rattle.iso_table.specs.Document.{class_name, coding_name, digits_name, bitmap_name, length_name, pad_name, prefix_named};
+ghost use Rattle.iso_table.specs.Document.{row_object, row_data, rows_data, document};
 
 use iso_parts::{BitmapCoding, CharClass, Coding, Digits, FieldSpec, Length, Pad};
 use serde_json::{Value, json};

@@ -19,9 +19,10 @@ use Rattle.iso_wire.specs.declared.bodies.Bodies.{Bodies}
 use Rattle.iso_wire.specs.declared.fault.UnpackFault.{UnpackFault}
 use Rattle.iso_parts.specs.declared.bitmap.Bitmap.{Bitmap}
 use Rattle.iso_wire.specs.Elements.{value_in}
-use Rattle.iso_parts.specs.Numbers.{numbers, members}
+use Rattle.iso_parts.specs.Numbers.{numbers}
 use Rattle.iso_wire.specs.Reading.{◌>>=◌, value_at}
 use Rattle.iso_wire.specs.Bodies.{longest_part, start_at, body_size_at, body_in, wire_of, wires_in, IsBodyWithin, AreWithin, wire_at, wires_at}
+use Rattle.iso_parts.specs.Numbers.{members}
 use Rattle.iso_wire.proofs.Loop.{with_front}
 use Rattle.iso_wire.proofs.NumberLaws.{one_more, no_more, no_numbers}
 use Rattle.iso_wire.proofs.Orders.{Values}

@@ -12,9 +12,10 @@ use Rattle.iso_wire.specs.declared.judging.ResumePoint.TheVariants as points
 use Rattle.iso_wire.specs.declared.judging.JudgingStop.{JudgingStop}
 use Rattle.iso_parts.specs.declared.bitmap.Bitmap.{Bitmap}
 use Rattle.iso_table.specs.Layout.{Layout, row_at}
-use Rattle.iso_parts.specs.Numbers.{numbers_in, members}
+use Rattle.iso_parts.specs.Numbers.{numbers_in}
 use Rattle.iso_parts.specs.Mti.{mti_size}
 use Rattle.iso_wire.specs.Reading.{◌>>=◌, halt, secondary_at, words_at, elements_at, message_at}
+use Rattle.iso_parts.specs.Numbers.{members}
 
 -- where what was read ends, without what it was
 abbrev pub end_of : {A : Type 0} → Result (A × ℕ) UnpackFault → Result ℕ UnpackFault

@@ -2,7 +2,8 @@
 
 ghost use Rattle.std.specs.Prelude.{◌≡◌, ◌<◌, ◌++◌, IfOk, OnOk, replicate, true, false};
 ghost use Rattle.iso_table.specs.Layout.{row_at};
-ghost use Rattle.iso_wire.specs.Describing.{hex_digit, hex_of, plain_text, value_text, shown_text, class_by, element_line, element_lines, description};
+ghost use Rattle.iso_wire.specs.Describing.{hex_digit, hex_of, plain_text, value_text, shown_text, class_by};
+ghost use Rattle.iso_wire.specs.Describing.{element_line, element_lines, description};
 
 use crate::decimal::write_decimal;
 use crate::masking::masked;

@@ -1,6 +1,8 @@
 //! The elements of a message, their values one after another in one buffer.
 
-ghost use Rattle.std.specs.Prelude.{◌≡◌, ◌+◌, ◌-◌, ◌^◌, ◌<◌, ◌≤◌, ◌↔◌, ◌++◌, ◌∷◌, [], All, length, map, take, drop, vec_len, vec_capacity, IsTrue, true, IfOk, OnOk, OnErr, MatchOption, Some, None};
+ghost use Rattle.std.specs.Prelude.{◌≡◌, ◌+◌, ◌-◌, ◌^◌, ◌<◌, ◌≤◌, ◌↔◌, ◌++◌, ◌∷◌, []};
+ghost use Rattle.std.specs.Prelude.{All, length, map, take, drop};
+ghost use Rattle.std.specs.Prelude.{vec_len, vec_capacity, IsTrue, true, IfOk, OnOk, OnErr, MatchOption, Some, None};
 ghost use Rattle.iso_parts.specs.Numbers.{is_element};
 ghost use Rattle.iso_wire.specs.Elements.{value_in, has, IsAscending, IsBelow, put, without};
 ghost use Rattle.iso_wire.specs.Ends.{views, last_end, shifted_end, Ascend, IsWhole, IsNumbered, Adds, IsMadeOf, IsSame};

@@ -1,6 +1,7 @@
 //! Frames: a header that counts the body, and the body.
 
-ghost use Rattle.std.specs.Prelude.{◌≡◌, ◌↔◌, ◌+◌, ◌<◌, ◌≤◌, [], ◌∷◌, ◌++◌, drop, replicate, ℕ, List, length, IfOk, OnOk, OnErr, IsErrOf, IsOkUnless, true};
+ghost use Rattle.std.specs.Prelude.{◌≡◌, ◌↔◌, ◌+◌, ◌<◌, ◌≤◌, [], ◌∷◌, ◌++◌, drop, replicate};
+ghost use Rattle.std.specs.Prelude.{ℕ, List, length, IfOk, OnOk, OnErr, IsErrOf, IsOkUnless, true};
 ghost use Rattle.iso_wire.specs.declared.framing.FrameFault.TheVariants as faults;
 ghost use Rattle.iso_wire.specs.Framing.{largest, header_size, frame_of, Frames, frame_at, Unframes, AnswersFront, TellsLength, IsGot, is_bad_header};
 

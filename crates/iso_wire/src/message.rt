@@ -1,6 +1,8 @@
 //! Messages.
 
-ghost use Rattle.std.specs.Prelude.{◌≡◌, ◌<◌, ◌≤◌, ◌^◌, ◌++◌, ◌∷◌, [], ◌↔◌, ℕ, All, true, false, IfOk, OnOk, OnErr, IsTrue, IsOkUnless, MatchOption, Some, None};
+ghost use Rattle.std.specs.Prelude.{◌≡◌, ◌<◌, ◌≤◌, ◌^◌, ◌++◌, ◌∷◌, [], ◌↔◌};
+ghost use Rattle.std.specs.Prelude.{ℕ, All, true, false, IfOk, OnOk, OnErr, IsTrue, IsOkUnless};
+ghost use Rattle.std.specs.Prelude.{MatchOption, Some, None};
 ghost use Rattle.iso_parts.specs.Numbers.{is_element};
 ghost use Rattle.iso_parts.specs.Bitmap.{contains};
 ghost use Rattle.iso_parts.specs.Mti.{mti_number};

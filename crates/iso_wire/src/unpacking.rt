@@ -1,6 +1,7 @@
 //! Reading a message.
 
-ghost use Rattle.std.specs.Prelude.{◌≡◌, ◌≢◌, ℕ, ◌+◌, ◌≤◌, ◌<◌, ◌++◌, ◌∷◌, List, length, drop, IfOk, IfErr, OnOk};
+ghost use Rattle.std.specs.Prelude.{◌≡◌, ◌≢◌, ℕ, ◌+◌, ◌≤◌, ◌<◌, ◌++◌, ◌∷◌, List};
+ghost use Rattle.std.specs.Prelude.{length, drop, IfOk, IfErr, OnOk};
 ghost use Rattle.iso_wire.specs.declared.fault.UnpackCause.{UnpackCause};
 ghost use Rattle.iso_wire.specs.declared.fault.UnpackCause.TheVariants.{Short, Memory};
 ghost use Rattle.iso_wire.specs.Contents.{Contents};
@@ -9,7 +10,8 @@ ghost use Rattle.iso_wire.specs.Ends.{views, Awaits, IsWhole, IsNumbered};
 ghost use Rattle.iso_wire.specs.Faults.{out_of_memory};
 ghost use Rattle.iso_table.specs.Layout.{AreGood};
 ghost use Rattle.iso_wire.specs.Appending.{ReadsInto, AppendsPart, AppendsElement};
-ghost use Rattle.iso_wire.specs.Reading.{Gives, fault_place, value_at, elements_at, halt, message_at, Unpacks, whole};
+ghost use Rattle.iso_wire.specs.Reading.{Gives, fault_place, value_at, elements_at, halt};
+ghost use Rattle.iso_wire.specs.Reading.{message_at, Unpacks, whole};
 ghost use Rattle.iso_wire.specs.Spelling.{Spelling, AreBytes, BeginsWith, BeginsWithNone, IsUnambiguous};
 ghost use Rattle.iso_wire.specs.Stops.{Stops};
 ghost use Rattle.iso_parts.specs.Bitmap.{contains, AreElements};

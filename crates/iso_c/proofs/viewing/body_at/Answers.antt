@@ -6,7 +6,7 @@ use Rattle.iso_c.proofs.viewing.body_at.Goals as goal
 
 pub returns-in_default-clause-fault : goal.returns-in_default-clause-fault
 returns-in_default-clause-fault c =
-    rw c.missing.ensures (rw c.from.ensures
+    rw c.at_element.ensures (rw c.from.ensures
     (body_missing c.args.table.now c.in_ok-viewed.viewed c.args.bytes.now c.args.n (message_at c.args.table.now c.args.bytes.now) c.in_ok-viewed.ensures.exact c.in_default.ensures))
 
 pub size_behind-behind-requires-clause-ascending : goal.size_behind-behind-requires-clause-ascending

@@ -10,4 +10,4 @@ returns-clause-fault c =
     let view = c.in_ok-viewed.viewed in
     let high : 128 < c.args.number = omega (arith, c.if-number-le128.false) in
     let none = none_above 2 c.args.number view.wires (viewed_ascend t view b c.in_ok-viewed.ensures.found) high in
-    rw c.missing.ensures (body_missing t view b c.args.number (message_at t b) c.in_ok-viewed.ensures.exact none)
+    rw c.at_element.ensures (body_missing t view b c.args.number (message_at t b) c.in_ok-viewed.ensures.exact none)
