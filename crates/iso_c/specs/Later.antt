@@ -1,4 +1,4 @@
--- The elements from a number on, and how many bytes their parts take.
+-- The elements from a number on, and how many bytes they take.
 -- Inner: bodies and proofs cite it, and no public clause does.
 use Rattle.std.specs.Prelude.{ℕ, ◌+◌, nat_lt, if◌then◌else◌, List, [], ◌∷◌, length, Option}
 use Rattle.iso_wire.specs.Viewing.{front_of}
@@ -10,7 +10,7 @@ abbrev pub from_number : ℕ → List (ℕ × List ℕ) → List (ℕ × List �
 from_number n [] = []
 from_number n (e ∷ es) = if nat_lt e.0 n then from_number n es else e ∷ es
 
--- how many bytes the parts take whose bodies these are
+-- how many bytes the elements take whose bodies these are, with their lengths
 abbrev pub sizes_of : List (Option FieldSpec) → List (ℕ × List ℕ) → ℕ
 sizes_of rows [] = 0
 sizes_of rows (w ∷ ws) = (front_of (row_at rows w.0) + length w.1) + sizes_of rows ws

@@ -1,6 +1,6 @@
 //! Answers into the caller's room.
 
-ghost use Rattle.std.specs.Prelude.{◌≡◌, negsuc};
+ghost use Rattle.std.specs.Prelude.{◌≡◌, ◌≤◌, pos, negsuc, length};
 ghost use Rattle.iso_c.specs.Answers.{RepliesTo};
 ghost use Rattle.iso_c.specs.Views.{bytes_of};
 
@@ -15,21 +15,29 @@ pub(crate) fn refuse(reason: RumpadolFault, fault: &mut RumpadolFault) -> i64
     -1
 }
 
+/// How many bytes a front of the bytes has, as C is told.
+pub(crate) fn length_of(front: usize, bytes: &[u8]) -> i64
+    requires { front ≤ length bytes.now }
+    ensures { result ≡ pos front }
+{
+    // The split only helps the prover: of a slice it knows that an `i64` can count its bytes.
+    let (taken, _) = bytes.split_at(front);
+    match i64::try_from(taken.len()) {
+        Ok(n) => n,
+        Err(_) => unreachable!(),
+    }
+}
+
 /// Copies the bytes to the front of the room, and answers how many they are; -1 where the room is short.
-pub(crate) fn give(bytes: &[u8], room: &mut [u8], fault: &mut RumpadolFault) -> i64
+pub(crate) fn answer_bytes(bytes: &[u8], room: &mut [u8], fault: &mut RumpadolFault) -> i64
     ensures { RepliesTo (Ok bytes.now) result room.old room.new fault.new }
 {
     if room.len() < bytes.len() {
         return refuse(RumpadolFault::at_offset(SHORT_ROOM, bytes.len()), fault);
     }
-    match i64::try_from(bytes.len()) {
-        Ok(n) => {
-            let (front, _) = room.split_at_mut(bytes.len());
-            front.copy_from_slice(bytes);
-            n
-        }
-        Err(_) => unreachable!(),
-    }
+    let (front, _) = room.split_at_mut(bytes.len());
+    front.copy_from_slice(bytes);
+    length_of(bytes.len(), bytes)
 }
 
 /// Answers what was made, or why it wasn't.
@@ -41,7 +49,7 @@ pub(crate) fn answer(
     ensures { RepliesTo (bytes_of made) result room.old room.new fault.new }
 {
     match made {
-        Ok(bytes) => give(&bytes, room, fault),
+        Ok(bytes) => answer_bytes(&bytes, room, fault),
         Err(reason) => refuse(reason, fault),
     }
 }

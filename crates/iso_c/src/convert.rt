@@ -13,7 +13,7 @@ use iso_wire::{pack, unpack};
 use std::alloc::Global;
 
 /// The plain bytes, under the second table, of the message that the bytes spell under the first.
-pub(crate) fn converted(
+pub(crate) fn convert_bytes(
     alloc: Global,
     from: &Table,
     to: &Table,
@@ -30,7 +30,7 @@ pub(crate) fn converted(
 }
 
 /// The same under what two slots hold.
-fn converted_by(
+fn convert_held(
     alloc: Global,
     from: &Option<Table>,
     to: &Option<Table>,
@@ -40,7 +40,7 @@ fn converted_by(
     ensures fault { IfErr result (IsConvertFaultHeld from.now to.now bytes.now) }
 {
     match (from, to) {
-        (Some(from), Some(to)) => converted(alloc, from, to, bytes),
+        (Some(from), Some(to)) => convert_bytes(alloc, from, to, bytes),
         _ => Err(RumpadolFault::only(EMPTY_SLOT)),
     }
 }
@@ -63,7 +63,7 @@ pub extern "C" fn rumpadol_convert(
 {
     let first = from.replace(None);
     let second = to.replace(None);
-    let made = converted_by(alloc, &first, &second, bytes);
+    let made = convert_held(alloc, &first, &second, bytes);
     let _ = from.replace(first);
     let _ = to.replace(second);
     answer(made, out, fault)

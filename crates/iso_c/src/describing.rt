@@ -35,7 +35,7 @@ fn push_used(used: usize, total: usize, out: &mut Vec<u8>) -> Result<(), AllocEr
 }
 
 /// The lines of the message that the bytes begin with.
-pub(crate) fn described(
+pub(crate) fn describe_bytes(
     alloc: Global,
     table: &Table,
     bytes: &[u8],
@@ -50,7 +50,7 @@ pub(crate) fn described(
 }
 
 /// The same under what a slot holds.
-fn described_by(
+fn describe_held(
     alloc: Global,
     table: &Option<Table>,
     bytes: &[u8],
@@ -59,7 +59,7 @@ fn described_by(
     ensures fault { IfErr result (IsReadFaultHeld table.now bytes.now) }
 {
     match table {
-        Some(table) => described(alloc, table, bytes),
+        Some(table) => describe_bytes(alloc, table, bytes),
         None => Err(RumpadolFault::only(EMPTY_SLOT)),
     }
 }
@@ -79,7 +79,7 @@ pub extern "C" fn rumpadol_describe(
     ensures slot { slot.new.value ≡ slot.old.value }
 {
     let table = slot.replace(None);
-    let made = described_by(alloc, &table, bytes);
+    let made = describe_held(alloc, &table, bytes);
     let _ = slot.replace(table);
     answer(made, out, fault)
 }

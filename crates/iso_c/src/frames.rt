@@ -4,7 +4,7 @@ ghost use Rattle.std.specs.Prelude.{◌≡◌, IfOk, IfErr};
 ghost use Rattle.iso_c.specs.Answers.{Replies};
 ghost use Rattle.iso_c.specs.Frames.{header_named, FramesBy, IsFrameFault, Unframed};
 
-use crate::answers::{answer, refuse};
+use crate::answers::{answer, length_of, refuse};
 use crate::fault::{NO_SUCH_HEADER, RumpadolFault};
 use crate::parts::RumpadolPart;
 use iso_wire::{Framed, Header, frame, unframe};
@@ -23,7 +23,7 @@ fn header_named(name: u32) -> Option<Header>
 }
 
 /// The frame of a body.
-fn framed(alloc: Global, header: u32, body: &[u8]) -> Result<Vec<u8>, RumpadolFault>
+fn frame_body(alloc: Global, header: u32, body: &[u8]) -> Result<Vec<u8>, RumpadolFault>
     ensures ok { IfOk result (λ out. FramesBy (header_named header) body.now out.items) }
     ensures fault { IfErr result (IsFrameFault (header_named header) body.now) }
 {
@@ -45,7 +45,7 @@ pub extern "C" fn rumpadol_frame(
     ensures { Replies (FramesBy (header_named header) body.now)
         (IsFrameFault (header_named header) body.now) result out.old out.new fault.new }
 {
-    answer(framed(alloc, header, body), out, fault)
+    answer(frame_body(alloc, header, body), out, fault)
 }
 
 /// Finds the frame that the input begins with, and tells where its body lies. Answers how many bytes the frame takes, 0
@@ -70,10 +70,7 @@ pub extern "C" fn rumpadol_unframe(
                 start,
                 length: used - start,
             };
-            match i64::try_from(used) {
-                Ok(n) => n,
-                Err(_) => unreachable!(),
-            }
+            length_of(used, input)
         }
         Ok(Framed::More) => 0,
         Err(reason) => refuse(RumpadolFault::from(reason), fault),

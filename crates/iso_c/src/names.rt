@@ -4,7 +4,7 @@ ghost use Rattle.std.specs.Prelude.{◌≡◌, codes};
 ghost use Rattle.iso_c.specs.Answers.{RepliesTo};
 ghost use Rattle.iso_c.specs.Names.{own_name, unpack_name, field_name, pack_name, table_name, frame_name, name_of};
 
-use crate::answers::give;
+use crate::answers::answer_bytes;
 use crate::fault::{
     BAD_PART, BAD_TYPE, EMPTY_SLOT, MEMORY, NO_ELEMENT, NO_SUCH_HEADER, NO_SUCH_TABLE,
     RumpadolFault, SHORT_PARTS, SHORT_ROOM, TRAILING_BYTES,
@@ -125,5 +125,5 @@ fn name_of(number: u32) -> &'static [u8]
 pub extern "C" fn rumpadol_fault_name(number: u32, out: &mut [u8], fault: &mut RumpadolFault) -> i64
     ensures { RepliesTo (Ok (name_of number)) result out.old out.new fault.new }
 {
-    give(name_of(number), out, fault)
+    answer_bytes(name_of(number), out, fault)
 }

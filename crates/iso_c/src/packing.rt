@@ -93,7 +93,7 @@ fn message_of(
 }
 
 /// Its bytes under a table.
-pub(crate) fn packed(
+pub(crate) fn pack_parts(
     alloc: Global,
     table: &Table,
     mti: u32,
@@ -108,7 +108,7 @@ pub(crate) fn packed(
 }
 
 /// The same under what a slot holds.
-fn packed_by(
+fn pack_held(
     alloc: Global,
     table: &Option<Table>,
     mti: u32,
@@ -119,7 +119,7 @@ fn packed_by(
     ensures fault { IfErr result (IsPackingFaultHeld table.now (message_of mti parts.now values.now)) }
 {
     match table {
-        Some(table) => packed(alloc, table, mti, parts, values),
+        Some(table) => pack_parts(alloc, table, mti, parts, values),
         None => Err(RumpadolFault::only(EMPTY_SLOT)),
     }
 }
@@ -141,7 +141,7 @@ pub extern "C" fn rumpadol_pack(
     ensures slot { slot.new.value ≡ slot.old.value }
 {
     let table = slot.replace(None);
-    let made = packed_by(alloc, &table, mti, parts, values);
+    let made = pack_held(alloc, &table, mti, parts, values);
     let _ = slot.replace(table);
     answer(made, out, fault)
 }

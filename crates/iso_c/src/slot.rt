@@ -42,7 +42,7 @@ impl RumpadolSlot {
     }
 }
 
-/// No table.
+/// No table. The call only helps the prover: what a call gives is known to be a whole value of its type.
 fn none() -> Option<Table>
     ensures { result ≡ None }
 {

@@ -1,13 +1,13 @@
 //! Each call under a table on an echo test, and the calls without a table by rows.
 
-use crate::convert::converted;
-use crate::describing::described;
+use crate::convert::convert_bytes;
+use crate::describing::describe_bytes;
 use crate::fault::RumpadolFault;
 use crate::frames::{rumpadol_frame, rumpadol_unframe};
 use crate::names::rumpadol_fault_name;
-use crate::packing::packed;
+use crate::packing::pack_parts;
 use crate::parts::RumpadolPart;
-use crate::unpacking::{SpreadMessage, found_under};
+use crate::unpacking::{SpreadMessage, read_bytes};
 use crate::viewing::body_of;
 use iso_fakes::{check, check_of};
 use iso_table::Table;
@@ -66,22 +66,22 @@ fn check_spread(found: &SpreadMessage) -> Result<(), Fail> {
 }
 
 fn check_found(alloc: Global, table: &Table) -> Result<(), Fail> {
-    let found = found_under(alloc, table, ECHO)?;
+    let found = read_bytes(alloc, table, ECHO)?;
     check_spread(&found)
 }
 
 fn check_packed(alloc: Global, table: &Table) -> Result<(), Fail> {
-    let written = packed(alloc, table, 800, PARTS, VALUES)?;
+    let written = pack_parts(alloc, table, 800, PARTS, VALUES)?;
     check(written.as_slice() == ECHO, "packed")
 }
 
 fn check_converted(alloc: Global, from: &Table, to: &Table) -> Result<(), Fail> {
-    let converted = converted(alloc, from, to, ECHO)?;
+    let converted = convert_bytes(alloc, from, to, ECHO)?;
     check(converted.as_slice() == ECHO_BCD, "converted")
 }
 
 fn check_described(alloc: Global, table: &Table) -> Result<(), Fail> {
-    let lines = described(alloc, table, ECHO)?;
+    let lines = describe_bytes(alloc, table, ECHO)?;
     check(lines.as_slice() == ECHO_LINES, "described")
 }
 

@@ -5,7 +5,7 @@ ghost use Rattle.iso_c.specs.Parts.{part_of, parts_from, values_of};
 ghost use Rattle.iso_c.specs.Spreading.{IsSpread, IsSpreadHeld, GivesMessage};
 ghost use Rattle.iso_c.specs.Unpacking.{IsReadFault, IsReadFaultHeld, IsUnpackReply};
 
-use crate::answers::refuse;
+use crate::answers::{length_of, refuse};
 use crate::fault::{EMPTY_SLOT, RumpadolFault, SHORT_PARTS, SHORT_ROOM};
 use crate::parts::{RumpadolMessage, RumpadolPart};
 use crate::slot::RumpadolSlot;
@@ -58,7 +58,7 @@ pub(crate) fn spread(
 }
 
 /// The message that the bytes begin with.
-pub(crate) fn found_under(
+pub(crate) fn read_bytes(
     alloc: Global,
     table: &Table,
     bytes: &[u8],
@@ -79,7 +79,7 @@ pub(crate) fn found_under(
 }
 
 /// The same under what a slot holds.
-fn found_by(
+fn read_held(
     alloc: Global,
     table: &Option<Table>,
     bytes: &[u8],
@@ -88,13 +88,13 @@ fn found_by(
     ensures fault { IfErr result (IsReadFaultHeld table.now bytes.now) }
 {
     match table {
-        Some(table) => found_under(alloc, table, bytes),
+        Some(table) => read_bytes(alloc, table, bytes),
         None => Err(RumpadolFault::only(EMPTY_SLOT)),
     }
 }
 
 /// Gives what was found where there is room, and answers how many bytes the message takes.
-fn give(
+fn give_message(
     found: &SpreadMessage,
     bytes: &[u8],
     message: &mut RumpadolMessage,
@@ -126,11 +126,7 @@ fn give(
         parts: found.parts.len(),
         values: found.values.len(),
     };
-    let (taken, _) = bytes.split_at(found.used);
-    match i64::try_from(taken.len()) {
-        Ok(n) => n,
-        Err(_) => unreachable!(),
-    }
+    length_of(found.used, bytes)
 }
 
 /// Reads the message that the bytes begin with under the table of a slot: its values end to end into the room, and
@@ -149,10 +145,10 @@ pub extern "C" fn rumpadol_unpack(
     ensures slot { slot.new.value ≡ slot.old.value }
 {
     let table = slot.replace(None);
-    let made = found_by(alloc, &table, bytes);
+    let made = read_held(alloc, &table, bytes);
     let _ = slot.replace(table);
     match made {
-        Ok(found) => give(&found, bytes, message, parts, values, fault),
+        Ok(found) => give_message(&found, bytes, message, parts, values, fault),
         Err(reason) => refuse(reason, fault),
     }
 }

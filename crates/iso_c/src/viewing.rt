@@ -7,7 +7,7 @@ ghost use Rattle.iso_wire.specs.Elements.{IsAscending};
 ghost use Rattle.iso_c.specs.Later.{from_number, sizes_of};
 ghost use Rattle.iso_c.specs.Viewing.{IsBodyAt, IsViewFault, IsBodyAtHeld, IsViewFaultHeld, ViewsBody};
 
-use crate::answers::refuse;
+use crate::answers::{length_of, refuse};
 use crate::fault::{EMPTY_SLOT, NO_ELEMENT, RumpadolFault};
 use crate::parts::RumpadolPart;
 use crate::slot::RumpadolSlot;
@@ -24,7 +24,7 @@ fn front_size(table: &Table, n: u8) -> usize
     }
 }
 
-/// How many bytes the parts behind an element take, which are no more than the last number.
+/// How many bytes the later elements take, with their lengths: no more than `most`.
 fn size_behind(table: &Table, view: &View<'_>, n: u8, most: usize) -> usize
     requires number { n ≤ 128 }
     requires ascending { IsAscending 2 view.now.wires }
@@ -75,7 +75,11 @@ pub(crate) fn body_of(
 }
 
 /// The same under what a slot holds.
-fn body_by(table: &Option<Table>, bytes: &[u8], number: u32) -> Result<RumpadolPart, RumpadolFault>
+fn body_held(
+    table: &Option<Table>,
+    bytes: &[u8],
+    number: u32,
+) -> Result<RumpadolPart, RumpadolFault>
     ensures ok { IfOk result (IsBodyAtHeld table.now bytes.now number) }
     ensures fault { IfErr result (IsViewFaultHeld table.now bytes.now number) }
 {
@@ -99,15 +103,12 @@ pub extern "C" fn rumpadol_view(
     ensures slot { slot.new.value ≡ slot.old.value }
 {
     let table = slot.replace(None);
-    let made = body_by(&table, bytes, element);
+    let made = body_held(&table, bytes, element);
     let _ = slot.replace(table);
     match made {
         Ok(part) => {
             *body = part;
-            match i64::try_from(part.length) {
-                Ok(n) => n,
-                Err(_) => unreachable!(),
-            }
+            length_of(part.length, bytes)
         }
         Err(reason) => refuse(reason, fault),
     }

@@ -6,18 +6,18 @@ use Rattle.iso_c.specs.Unpacking.{IsUnpackReply, IsReadFaultHeld}
 use Rattle.iso_c.proofs.UnpackingLemmas.{within, given, not_read}
 use Rattle.iso_c.proofs.unpacking.rumpadol_unpack.Goals as goal
 
-pub give-requires : goal.give-requires
-give-requires c = within c.replace-table.result c.args.bytes.now c.in-Ok.found c.in-Ok.ensures.ok
+pub give_message-requires : goal.give_message-requires
+give_message-requires c = within c.replace-table.result c.args.bytes.now c.in-Ok.found c.in-Ok.ensures.ok
 
 pub returns-in-Ok-clause-reply : goal.returns-in-Ok-clause-reply
 returns-in-Ok-clause-reply c =
-    let z : ℤ = c.give.result in
-    let same : to_z w64 (of_z w64 z) ≡ z = to_z-of_z {w = w64} (record { sfits = c.give.type_inv }) in
-    let reply = λ (t : Option Layout). λ (y : ℤ). IsUnpackReply t c.args.bytes.now y c.args.message.now c.give.new.message c.args.parts.now c.give.new.parts c.args.values.now c.give.new.values c.give.new.fault in
+    let z : ℤ = c.give_message.result in
+    let same : to_z w64 (of_z w64 z) ≡ z = to_z-of_z {w = w64} (record { sfits = c.give_message.type_inv }) in
+    let reply = λ (t : Option Layout). λ (y : ℤ). IsUnpackReply t c.args.bytes.now y c.args.message.now c.give_message.new.message c.args.parts.now c.give_message.new.parts c.args.values.now c.give_message.new.values c.give_message.new.fault in
     let is : IsSpreadHeld c.args.slot.now.value c.args.bytes.now c.in-Ok.found =
     subst (λ (t : Option Layout). IsSpreadHeld t c.args.bytes.now c.in-Ok.found) c.replace-table.ensures.0 c.in-Ok.ensures.ok in
     subst (reply c.args.slot.now.value) (sym same)
-    (given c.args.slot.now.value c.args.bytes.now c.in-Ok.found z c.args.message.now c.give.new.message c.args.parts.now c.give.new.parts c.args.values.now c.give.new.values c.give.new.fault is c.give.ensures)
+    (given c.args.slot.now.value c.args.bytes.now c.in-Ok.found z c.args.message.now c.give_message.new.message c.args.parts.now c.give_message.new.parts c.args.values.now c.give_message.new.values c.give_message.new.fault is c.give_message.ensures)
 
 pub returns-in-Err-clause-reply : goal.returns-in-Err-clause-reply
 returns-in-Err-clause-reply c =
