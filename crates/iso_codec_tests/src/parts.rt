@@ -102,7 +102,7 @@ fn is_judged(row: &FieldSpec, expected: Result<(), SpecFault>) -> bool {
 }
 
 #[test]
-fn rows_are_judged(rt: HostRuntime) -> Result<(), Fail> {
+fn rows_are_judged() -> Result<(), Fail> {
     for (name, row, expected) in JUDGED_ROWS {
         check(is_judged(row, *expected), *name)?;
     }
@@ -196,7 +196,7 @@ fn has_class(number: u16, class: MtiClass) -> bool {
 }
 
 #[test]
-fn message_types(rt: HostRuntime) -> Result<(), Fail> {
+fn message_types() -> Result<(), Fail> {
     check(!is_type(10000), "five digits")?;
     for case in TYPES {
         let (name, number) = (case.name, case.number);
@@ -227,7 +227,7 @@ fn tells_number(text: &[u8], number: Option<u16>) -> bool {
 }
 
 #[test]
-fn types_are_read_from_text(rt: HostRuntime) -> Result<(), Fail> {
+fn types_are_read_from_text() -> Result<(), Fail> {
     for (name, text, number) in TYPE_TEXTS {
         check(tells_number(text, *number), *name)?;
     }
@@ -249,7 +249,7 @@ fn takes_bytes(length: Length, size: usize) -> bool {
 }
 
 #[test]
-fn lengths_take_bytes(rt: HostRuntime) -> Result<(), Fail> {
+fn lengths_take_bytes() -> Result<(), Fail> {
     for (name, length, size) in PREFIX_SIZES {
         check(takes_bytes(*length, *size), *name)?;
     }

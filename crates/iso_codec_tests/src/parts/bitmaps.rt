@@ -70,7 +70,7 @@ fn are_taken(words: [u64; 2], numbers: &[u8]) -> bool {
 }
 
 #[test]
-fn sets_are_made_from_words(rt: HostRuntime) -> Result<(), Fail> {
+fn sets_are_made_from_words() -> Result<(), Fail> {
     for (name, words, numbers) in WORDS {
         check(are_words_of(*words, numbers), *name)?;
         check_of(are_unset(*words, numbers), *name, "unset")?;
@@ -91,7 +91,7 @@ fn are_equal(set: &[u8], other: &[u8]) -> bool {
 }
 
 #[test]
-fn sets_are_compared(rt: HostRuntime) -> Result<(), Fail> {
+fn sets_are_compared() -> Result<(), Fail> {
     for (name, numbers, is_same) in OTHER_SETS {
         let answer = are_equal(&[2, 64, 66, 128], numbers);
         check(answer == *is_same, *name)?;
@@ -115,7 +115,7 @@ fn are_below(numbers: &[u8], n: u8, count: usize) -> bool {
 }
 
 #[test]
-fn the_numbers_below_one_are_counted(rt: HostRuntime) -> Result<(), Fail> {
+fn the_numbers_below_one_are_counted() -> Result<(), Fail> {
     for (name, n, count) in NUMBERS_BELOW {
         let are_below = are_below(&[2, 7, 64, 66, 70, 128], *n, *count);
         check(are_below, *name)?;
@@ -137,7 +137,7 @@ fn is_missing(set: &[u8], numbers: &[u8], missing: Option<u8>) -> bool {
 }
 
 #[test]
-fn the_least_missing_number_is_told(rt: HostRuntime) -> Result<(), Fail> {
+fn the_least_missing_number_is_told() -> Result<(), Fail> {
     for (name, numbers, missing) in MISSING_NUMBERS {
         let is_told = is_missing(&[2, 7, 64, 66, 70], numbers, *missing);
         check(is_told, *name)?;
@@ -284,7 +284,7 @@ fn is_refused(raw: &[u8], fault: Option<(usize, BitmapCause)>) -> bool {
 }
 
 #[test]
-fn raw_bitmaps_are_refused(rt: HostRuntime) -> Result<(), Fail> {
+fn raw_bitmaps_are_refused() -> Result<(), Fail> {
     for (name, raw, fault) in REFUSED_BITMAPS {
         check(is_refused(raw, *fault), *name)?;
     }
@@ -315,7 +315,7 @@ fn are_refused_digits(digits: &[u8], fault: Option<(usize, BitmapCause)>) -> boo
 }
 
 #[test]
-fn hexadecimal_bitmaps_are_refused(rt: HostRuntime) -> Result<(), Fail> {
+fn hexadecimal_bitmaps_are_refused() -> Result<(), Fail> {
     let lower = is_read_of_digits(b"022a000000000000", &[7, 11, 13, 15]);
     check(lower, "digits in lower case")?;
     for (name, digits, fault) in REFUSED_DIGITS {
@@ -345,7 +345,7 @@ fn is_word(coding: BitmapCoding, bytes: &[u8], word: Option<u64>) -> bool {
 }
 
 #[test]
-fn one_bitmap_is_a_word(rt: HostRuntime) -> Result<(), Fail> {
+fn one_bitmap_is_a_word() -> Result<(), Fail> {
     for (name, coding, bytes, word) in SINGLE_BITMAPS {
         check(is_word(*coding, bytes, *word), *name)?;
     }

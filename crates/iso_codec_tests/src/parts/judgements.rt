@@ -68,7 +68,7 @@ const JUDGEMENTS: &[Judgement] = &[
 ];
 
 #[test]
-fn judging_answers_as_decoding(rt: HostRuntime) -> Result<(), Fail> {
+fn judging_answers_as_decoding() -> Result<(), Fail> {
     for (name, spec, bytes, want) in JUDGEMENTS {
         check(is_judged_field(spec, bytes, *want), *name)?;
     }
@@ -101,7 +101,7 @@ fn is_length(spec: &FieldSpec, bytes: &[u8], want: Result<Option<u16>, FieldFaul
 }
 
 #[test]
-fn lengths_are_judged(rt: HostRuntime) -> Result<(), Fail> {
+fn lengths_are_judged() -> Result<(), Fail> {
     for (name, spec, bytes, want) in LENGTHS {
         check(is_length(spec, bytes, *want), *name)?;
     }
@@ -130,7 +130,7 @@ fn are_three_digits(bytes: &[u8], want: Result<Option<usize>, FieldFault>) -> bo
 }
 
 #[test]
-fn bodies_are_judged(rt: HostRuntime) -> Result<(), Fail> {
+fn bodies_are_judged() -> Result<(), Fail> {
     for (name, bytes, want) in BODIES {
         check(are_three_digits(bytes, *want), *name)?;
     }

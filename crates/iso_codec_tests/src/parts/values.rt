@@ -280,7 +280,7 @@ fn is_number(text: [u8; 4], number: Option<u16>) -> bool {
 }
 
 #[test]
-fn four_digits_are_a_number(rt: HostRuntime) -> Result<(), Fail> {
+fn four_digits_are_a_number() -> Result<(), Fail> {
     for (text, number) in [
         (*b"0000", Some(0)),
         (*b"0055", Some(55)),
@@ -298,7 +298,7 @@ fn has_digits(number: usize, ascii: [u8; 4], bcd: [u8; 2]) -> bool {
 }
 
 #[test]
-fn a_number_has_four_digits(rt: HostRuntime) -> Result<(), Fail> {
+fn a_number_has_four_digits() -> Result<(), Fail> {
     for (number, ascii, bcd) in [
         (0, b"0000", [0x00, 0x00]),
         (55, b"0055", [0x00, 0x55]),

@@ -43,7 +43,7 @@ fn number_host_faults() -> Result<(), Fail> {
 }
 
 #[test]
-fn numbers_faults(rt: HostRuntime) -> Result<(), Fail> {
+fn numbers_faults() -> Result<(), Fail> {
     number_table_faults()?;
     number_host_faults()
 }

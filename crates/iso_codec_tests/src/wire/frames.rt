@@ -196,7 +196,7 @@ const UNFRAMED: &[Unframed] = &[
 ];
 
 #[test]
-fn frames_are_read(rt: HostRuntime) -> Result<(), Fail> {
+fn frames_are_read() -> Result<(), Fail> {
     for (name, header, bytes, want) in UNFRAMED {
         check(is_unframed(*header, bytes, *want), *name)?;
     }
@@ -239,7 +239,7 @@ fn check_lengths(cases: &[LengthCase]) -> Result<(), Fail> {
 }
 
 #[test]
-fn headers_are_read_alone(rt: HostRuntime) -> Result<(), Fail> {
+fn headers_are_read_alone() -> Result<(), Fail> {
     check_lengths(HEADERS)
 }
 
@@ -315,7 +315,7 @@ fn limit(header: Header) -> usize {
 }
 
 #[test]
-fn headers_tell_lengths(rt: HostRuntime) -> Result<(), Fail> {
+fn headers_tell_lengths() -> Result<(), Fail> {
     check_lengths(LENGTHS)?;
     check(limit(Binary2) == 65_535, "the limit of two bytes")
 }

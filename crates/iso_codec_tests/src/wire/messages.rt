@@ -195,7 +195,7 @@ const DIGITS: &[(&str, u64, u8)] = &[
 ];
 
 #[test]
-fn digits(rt: HostRuntime) -> Result<(), Fail> {
+fn digits() -> Result<(), Fail> {
     for (name, v, want) in DIGITS {
         check(has_digits(*v, *want), *name)?;
     }
