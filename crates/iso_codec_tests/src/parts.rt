@@ -1,3 +1,5 @@
+//! The pieces of a message: rows, parts, message types, lengths and bitmaps.
+
 use iso_fakes::{check, check_of};
 use iso_parts::*;
 use std::alloc::Global;
@@ -17,13 +19,34 @@ mod long_values;
 mod refusals;
 mod values;
 
-const TERMINAL: FieldSpec = row!(
+/// Lengths in ASCII digits.
+pub(super) const LL: Length = Length::LL(Digits::Ascii);
+
+pub(super) const LLL: Length = Length::LLL(Digits::Ascii);
+
+pub(super) const LLLL: Length = Length::LLLL(Digits::Ascii);
+
+/// Lengths in packed digits.
+pub(super) const LL_BCD: Length = Length::LL(Digits::Bcd);
+
+pub(super) const LLL_BCD: Length = Length::LLL(Digits::Bcd);
+
+pub(super) const LLLL_BCD: Length = Length::LLLL(Digits::Bcd);
+
+/// The row of a terminal: eight characters, filled up with blanks.
+pub(super) const TERMINAL_ROW: FieldSpec = row!(
     CharClass::ANS,
     Coding::Ascii,
     Length::Fixed,
     8,
     Pad::Right(b' ')
 );
+
+/// The row of an account number: at most 19 digits behind their count.
+pub(super) const ACCOUNT_ROW: FieldSpec = number!(Coding::Ascii, LL, 19);
+
+/// The row of an account number whose digits and count are packed.
+pub(super) const PACKED_ACCOUNT_ROW: FieldSpec = number!(Coding::Bcd, LL_BCD, 19);
 
 /// Whether a part under a good row is judged so.
 fn is_judged_field(row: &FieldSpec, part: &[u8], want: Result<Judged, FieldFault>) -> bool {
@@ -45,10 +68,6 @@ fn is_decoded(
     let answer = decode_value(row, part, &mut out);
     Ok(answer == want && out.strip_prefix(b"before") == Some(value))
 }
-
-const LL: Length = Length::LL(Digits::Ascii);
-
-const LLLL: Length = Length::LLLL(Digits::Bcd);
 
 const ZEROS: Pad = Pad::Left(b'0');
 
@@ -76,7 +95,7 @@ const JUDGED_ROWS: &[(&'static str, FieldSpec, Result<(), SpecFault>)] = &[
     ("LL of 99", number!(Coding::Ascii, LL, 99), Ok(())),
     (
         "LLL of 1,000",
-        number!(Coding::Ascii, Length::LLL(Digits::Ascii), 1_000),
+        number!(Coding::Ascii, LLL, 1_000),
         Err(SpecFault::BadMax),
     ),
     (
@@ -84,15 +103,19 @@ const JUDGED_ROWS: &[(&'static str, FieldSpec, Result<(), SpecFault>)] = &[
         number!(Coding::Ascii, Length::Fixed, 1_000),
         Err(SpecFault::BadMax),
     ),
-    ("LLLL of 9,999", number!(Coding::Bcd, LLLL, 9_999), Ok(())),
+    (
+        "LLLL of 9,999",
+        number!(Coding::Bcd, LLLL_BCD, 9_999),
+        Ok(()),
+    ),
     (
         "LLLL of 10,000",
-        number!(Coding::Bcd, LLLL, 10_000),
+        number!(Coding::Bcd, LLLL_BCD, 10_000),
         Err(SpecFault::BadMax),
     ),
     (
         "a pad on LLLL",
-        row!(CharClass::N, Coding::Bcd, LLLL, 9, ZEROS),
+        row!(CharClass::N, Coding::Bcd, LLLL_BCD, 9, ZEROS),
         Err(SpecFault::PadNotAllowed),
     ),
 ];
@@ -236,12 +259,12 @@ fn types_are_read_from_text() -> Result<(), Fail> {
 
 const PREFIX_SIZES: &[(&'static str, Length, usize)] = &[
     ("none", Length::Fixed, 0),
-    ("two digits", Length::LL(Digits::Ascii), 2),
-    ("two digits under BCD", Length::LL(Digits::Bcd), 1),
-    ("three digits", Length::LLL(Digits::Ascii), 3),
-    ("three digits under BCD", Length::LLL(Digits::Bcd), 2),
-    ("four digits", Length::LLLL(Digits::Ascii), 4),
-    ("four digits under BCD", Length::LLLL(Digits::Bcd), 2),
+    ("two digits", LL, 2),
+    ("two digits under BCD", LL_BCD, 1),
+    ("three digits", LLL, 3),
+    ("three digits under BCD", LLL_BCD, 2),
+    ("four digits", LLLL, 4),
+    ("four digits under BCD", LLLL_BCD, 2),
 ];
 
 fn takes_bytes(length: Length, size: usize) -> bool {

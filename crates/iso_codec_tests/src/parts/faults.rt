@@ -82,14 +82,12 @@ fn faults_are_numbered(rt: HostRuntime) -> Result<(), Fail> {
     bitmap_causes_are_numbered(rt.alloc())
 }
 
-const ACCOUNT: FieldSpec = number!(Coding::Ascii, Length::LL(Digits::Ascii), 19);
-
 /// The step that reads an account number.
 fn account_step(alloc: Global, part: &[u8]) -> Result<Step, Fail> {
-    if ACCOUNT.good().is_err() {
+    if ACCOUNT_ROW.good().is_err() {
         return Err("the row isn't good".into());
     }
-    Ok(decode_field(alloc, &ACCOUNT, part)?)
+    Ok(decode_field(alloc, &ACCOUNT_ROW, part)?)
 }
 
 /// Whether that is printed of the step that reads an account number.

@@ -10,46 +10,60 @@ type Judgement = (
     Result<Judged, FieldFault>,
 );
 
-const ASCII: FieldSpec = number!(Coding::Ascii, Length::LL(Digits::Bcd), 19);
-
-const PACKED: FieldSpec = number!(Coding::Bcd, Length::LL(Digits::Bcd), 19);
+/// An account number whose count alone is packed.
+const ACCOUNT_BEHIND_BCD: FieldSpec = number!(Coding::Ascii, LL_BCD, 19);
 
 const FILLED: FieldSpec = zero_filled!(Coding::Bcd);
 
-const HEX: FieldSpec = bytes!(Coding::HexText, Length::LL(Digits::Ascii), 9);
+const HEX: FieldSpec = bytes!(Coding::HexText, LL, 9);
 
 const JUDGEMENTS: &[Judgement] = &[
     (
         "an account number of 15 digits",
-        PACKED,
+        PACKED_ACCOUNT_ROW,
         b"\x15\x03\x78\x28\x22\x46\x31\x00\x05",
         Ok(Judged::Got { body: 1, used: 9 }),
     ),
-    ("its length alone", PACKED, b"\x15", Ok(Judged::More)),
+    (
+        "its length alone",
+        PACKED_ACCOUNT_ROW,
+        b"\x15",
+        Ok(Judged::More),
+    ),
     (
         "a whole value",
-        ASCII,
+        ACCOUNT_BEHIND_BCD,
         b"\x0212",
         Ok(Judged::Got { body: 1, used: 3 }),
     ),
-    ("no bytes", ASCII, b"", Ok(Judged::More)),
-    ("an unfinished body", ASCII, b"\x021", Ok(Judged::More)),
+    ("no bytes", ACCOUNT_BEHIND_BCD, b"", Ok(Judged::More)),
+    (
+        "an unfinished body",
+        ACCOUNT_BEHIND_BCD,
+        b"\x021",
+        Ok(Judged::More),
+    ),
     (
         "no digits",
-        ASCII,
+        ACCOUNT_BEHIND_BCD,
         b"\x1A1",
         Err(FieldFault::BadLengthDigits),
     ),
-    ("too long", ASCII, b"\x20", Err(FieldFault::LengthOver)),
+    (
+        "too long",
+        ACCOUNT_BEHIND_BCD,
+        b"\x20",
+        Err(FieldFault::LengthOver),
+    ),
     (
         "a bad filler",
-        PACKED,
+        PACKED_ACCOUNT_ROW,
         b"\x03\x11\x23",
         Err(FieldFault::BadFiller),
     ),
     (
         "a nibble above 9",
-        PACKED,
+        PACKED_ACCOUNT_ROW,
         b"\x03\xF1\x2A",
         Err(FieldFault::NotInClass),
     ),
@@ -84,16 +98,21 @@ type LengthCase = (
 );
 
 const LENGTHS: &[LengthCase] = &[
-    ("15 digits", PACKED, b"\x15", Ok(Some(15))),
-    ("no byte", PACKED, b"", Ok(None)),
-    ("20 digits", PACKED, b"\x20", Err(FieldFault::LengthOver)),
+    ("15 digits", PACKED_ACCOUNT_ROW, b"\x15", Ok(Some(15))),
+    ("no byte", PACKED_ACCOUNT_ROW, b"", Ok(None)),
+    (
+        "20 digits",
+        PACKED_ACCOUNT_ROW,
+        b"\x20",
+        Err(FieldFault::LengthOver),
+    ),
     (
         "a nibble A",
-        PACKED,
+        PACKED_ACCOUNT_ROW,
         b"\x1A",
         Err(FieldFault::BadLengthDigits),
     ),
-    ("no length before the value", TERMINAL, b"", Ok(Some(8))),
+    ("no length before the value", TERMINAL_ROW, b"", Ok(Some(8))),
 ];
 
 fn is_length(spec: &FieldSpec, bytes: &[u8], want: Result<Option<u16>, FieldFault>) -> bool {
@@ -125,7 +144,7 @@ const BODIES: &[(
 
 /// Whether three packed digits are judged so.
 fn are_three_digits(bytes: &[u8], want: Result<Option<usize>, FieldFault>) -> bool {
-    let packed = number!(Coding::Bcd, Length::LL(Digits::Bcd), 19);
+    let packed = PACKED_ACCOUNT_ROW;
     packed.good().is_ok() && 3 <= packed.max && judge_body(&packed, 3, bytes) == want
 }
 

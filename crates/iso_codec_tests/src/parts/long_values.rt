@@ -5,22 +5,11 @@ use super::*;
 /// A row, the byte that a long value is of, how often it stands there, the bytes of the length, and the size of the body.
 type LongCase = (&'static str, FieldSpec, u8, usize, &'static [u8], usize);
 
-const ASCII: Digits = Digits::Ascii;
-
-const BCD: Digits = Digits::Bcd;
-
 const LONG_VALUES: &[LongCase] = &[
-    (
-        "999 characters",
-        text!(Length::LLL(ASCII), 999),
-        b'A',
-        999,
-        b"999",
-        999,
-    ),
+    ("999 characters", text!(LLL, 999), b'A', 999, b"999", 999),
     (
         "1,000 characters",
-        text!(Length::LLLL(ASCII), 1_000),
+        text!(LLLL, 1_000),
         b'A',
         1_000,
         b"1000",
@@ -28,7 +17,7 @@ const LONG_VALUES: &[LongCase] = &[
     ),
     (
         "9,999 characters",
-        text!(Length::LLLL(ASCII), 9_999),
+        text!(LLLL, 9_999),
         b'A',
         9_999,
         b"9999",
@@ -36,7 +25,7 @@ const LONG_VALUES: &[LongCase] = &[
     ),
     (
         "1,000 under BCD",
-        text!(Length::LLLL(BCD), 9_999),
+        text!(LLLL_BCD, 9_999),
         b'A',
         1_000,
         b"\x10\x00",
@@ -44,7 +33,7 @@ const LONG_VALUES: &[LongCase] = &[
     ),
     (
         "9,999 packed digits",
-        number!(Coding::Bcd, Length::LLLL(BCD), 9_999),
+        number!(Coding::Bcd, LLLL_BCD, 9_999),
         b'1',
         9_999,
         b"\x99\x99",
@@ -52,7 +41,7 @@ const LONG_VALUES: &[LongCase] = &[
     ),
     (
         "9,998 packed digits",
-        number!(Coding::Bcd, Length::LLLL(BCD), 9_998),
+        number!(Coding::Bcd, LLLL_BCD, 9_998),
         b'1',
         9_998,
         b"\x99\x98",
@@ -60,13 +49,7 @@ const LONG_VALUES: &[LongCase] = &[
     ),
     (
         "9,999 packed characters",
-        row!(
-            CharClass::Z,
-            Coding::Bcd,
-            Length::LLLL(ASCII),
-            9_999,
-            Pad::None
-        ),
+        row!(CharClass::Z, Coding::Bcd, LLLL, 9_999, Pad::None),
         b'?',
         9_999,
         b"9999",
@@ -74,7 +57,7 @@ const LONG_VALUES: &[LongCase] = &[
     ),
     (
         "9,999 bytes as digits",
-        bytes!(Coding::HexText, Length::LLLL(ASCII), 9_999),
+        bytes!(Coding::HexText, LLLL, 9_999),
         0xAB,
         9_999,
         b"9999",

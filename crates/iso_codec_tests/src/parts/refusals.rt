@@ -28,25 +28,25 @@ const REFUSED_VALUES: &[Refused] = &[
     ),
     (
         "a blank at the padded end",
-        TERMINAL,
+        TERMINAL_ROW,
         b"TERM1 ",
         FieldFault::PadEnd,
     ),
     (
         "a blank at the end of a full value",
-        TERMINAL,
+        TERMINAL_ROW,
         b"TERMINA ",
         FieldFault::PadEnd,
     ),
     (
         "one character too many",
-        TERMINAL,
+        TERMINAL_ROW,
         b"TERMINALS",
         FieldFault::WrongLength,
     ),
     (
         "a control character",
-        TERMINAL,
+        TERMINAL_ROW,
         b"TERM\x1F",
         FieldFault::NotInClass,
     ),
@@ -77,21 +77,11 @@ fn values_are_refused(rt: HostRuntime) -> Result<(), Fail> {
 
 const DIGITS: FieldSpec = bytes!(Coding::HexText, Length::Fixed, 8);
 
-const BCD: FieldSpec = number!(Coding::Bcd, Length::LL(Digits::Bcd), 19);
+const LONG: FieldSpec = text!(LLL_BCD, 120);
 
-const LONG: FieldSpec = row!(
-    CharClass::ANS,
-    Coding::Ascii,
-    Length::LLL(Digits::Bcd),
-    120,
-    Pad::None
-);
+const FOUR: FieldSpec = bytes!(Coding::HexText, LLLL, 9_998);
 
-const ASCII: FieldSpec = number!(Coding::Ascii, Length::LL(Digits::Ascii), 19);
-
-const FOUR: FieldSpec = bytes!(Coding::HexText, Length::LLLL(Digits::Ascii), 9_998);
-
-const PACKED_FOUR: FieldSpec = bytes!(Coding::Raw, Length::LLLL(Digits::Bcd), 9_999);
+const PACKED_FOUR: FieldSpec = bytes!(Coding::Raw, LLLL_BCD, 9_999);
 
 const REFUSED_PARTS: &[Refused] = &[
     (
@@ -108,19 +98,19 @@ const REFUSED_PARTS: &[Refused] = &[
     ),
     (
         "a letter in a length",
-        ASCII,
+        ACCOUNT_ROW,
         b"1x",
         FieldFault::BadLengthDigits,
     ),
     (
         "a length over the maximum",
-        ASCII,
+        ACCOUNT_ROW,
         b"20",
         FieldFault::LengthOver,
     ),
     (
         "a letter in a length that begins above the maximum",
-        ASCII,
+        ACCOUNT_ROW,
         b"9x",
         FieldFault::BadLengthDigits,
     ),
@@ -142,14 +132,24 @@ const REFUSED_PARTS: &[Refused] = &[
         b"\xA0\x00",
         FieldFault::BadLengthDigits,
     ),
-    ("a filler of 1", BCD, b"\x03\x13\x01", FieldFault::BadFiller),
+    (
+        "a filler of 1",
+        PACKED_ACCOUNT_ROW,
+        b"\x03\x13\x01",
+        FieldFault::BadFiller,
+    ),
     (
         "a filler of 1 before a nibble above 9",
-        BCD,
+        PACKED_ACCOUNT_ROW,
         b"\x03\x1A\x01",
         FieldFault::BadFiller,
     ),
-    ("a nibble above 9", BCD, b"\x02\x0A", FieldFault::NotInClass),
+    (
+        "a nibble above 9",
+        PACKED_ACCOUNT_ROW,
+        b"\x02\x0A",
+        FieldFault::NotInClass,
+    ),
 ];
 
 #[test]
@@ -171,7 +171,7 @@ const UNFINISHED_PARTS: &[(&'static str, &'static [u8])] = &[
 #[test]
 fn bytes_are_missing(rt: HostRuntime) -> Result<(), Fail> {
     for (name, part) in UNFINISHED_PARTS {
-        let is_cut = is_decoded(rt.alloc(), &ASCII, *part, Ok(None), b"")?;
+        let is_cut = is_decoded(rt.alloc(), &ACCOUNT_ROW, *part, Ok(None), b"")?;
         check(is_cut, *name)?;
     }
     Ok(())

@@ -11,14 +11,10 @@ struct Case {
     part: &'static [u8],
 }
 
-const ASCII: Digits = Digits::Ascii;
-
-const BCD: Digits = Digits::Bcd;
-
 const PARTS: &[Case] = &[
     Case {
         name: "an odd number under BCD",
-        row: number!(Coding::Bcd, Length::LL(BCD), 19),
+        row: number!(Coding::Bcd, LL_BCD, 19),
         value: b"378282246310005",
         part: b"\x15\x03\x78\x28\x22\x46\x31\x00\x05",
     },
@@ -30,19 +26,13 @@ const PARTS: &[Case] = &[
     },
     Case {
         name: "three digits of a length under BCD",
-        row: row!(
-            CharClass::ANS,
-            Coding::Ascii,
-            Length::LLL(BCD),
-            120,
-            Pad::None
-        ),
+        row: text!(LLL_BCD, 120),
         value: b"0002840C000000004000",
         part: b"\x00\x200002840C000000004000",
     },
     Case {
         name: "three raw bytes",
-        row: bytes!(Coding::Raw, Length::LLL(BCD), 999),
+        row: bytes!(Coding::Raw, LLL_BCD, 999),
         value: b"\x9F\x26\x08",
         part: b"\x00\x03\x9F\x26\x08",
     },
@@ -54,7 +44,7 @@ const PARTS: &[Case] = &[
     },
     Case {
         name: "two bytes as digits behind a length",
-        row: bytes!(Coding::HexText, Length::LL(ASCII), 8),
+        row: bytes!(Coding::HexText, LL, 8),
         value: b"\x0A\xB0",
         part: b"020AB0",
     },
@@ -66,19 +56,13 @@ const PARTS: &[Case] = &[
     },
     Case {
         name: "an empty number",
-        row: number!(Coding::Ascii, Length::LL(ASCII), 19),
+        row: number!(Coding::Ascii, LL, 19),
         value: b"",
         part: b"00",
     },
     Case {
         name: "an empty signed amount",
-        row: row!(
-            CharClass::XN,
-            Coding::Ascii,
-            Length::LL(ASCII),
-            9,
-            Pad::None
-        ),
+        row: row!(CharClass::XN, Coding::Ascii, LL, 9, Pad::None),
         value: b"",
         part: b"00",
     },
@@ -114,25 +98,25 @@ const PARTS: &[Case] = &[
     },
     Case {
         name: "a track under BCD",
-        row: row!(CharClass::Z, Coding::Bcd, Length::LL(BCD), 37, Pad::None),
+        row: row!(CharClass::Z, Coding::Bcd, LL_BCD, 37, Pad::None),
         value: b"4=1",
         part: b"\x03\x04\xD1",
     },
     Case {
         name: "a terminal with blanks",
-        row: TERMINAL,
+        row: TERMINAL_ROW,
         value: b"TERM1",
         part: b"TERM1   ",
     },
     Case {
         name: "blanks alone",
-        row: TERMINAL,
+        row: TERMINAL_ROW,
         value: b"",
         part: b"        ",
     },
     Case {
         name: "a terminal of full length",
-        row: TERMINAL,
+        row: TERMINAL_ROW,
         value: b"TERMINAL",
         part: b"TERMINAL",
     },
@@ -144,37 +128,25 @@ const PARTS: &[Case] = &[
     },
     Case {
         name: "letters behind three digits of a length",
-        row: row!(
-            CharClass::A,
-            Coding::Ascii,
-            Length::LLL(ASCII),
-            999,
-            Pad::None
-        ),
+        row: row!(CharClass::A, Coding::Ascii, LLL, 999, Pad::None),
         value: b"Abc",
         part: b"003Abc",
     },
     Case {
         name: "bytes as digits behind four digits of a length",
-        row: bytes!(Coding::HexText, Length::LLLL(ASCII), 9_999),
+        row: bytes!(Coding::HexText, LLLL, 9_999),
         value: b"\x01\x02\x0A",
         part: b"000301020A",
     },
     Case {
         name: "four digits of a length under BCD",
-        row: bytes!(Coding::Raw, Length::LLLL(BCD), 9_999),
+        row: bytes!(Coding::Raw, LLLL_BCD, 9_999),
         value: b"\x9F\x26\x08",
         part: b"\x00\x03\x9F\x26\x08",
     },
     Case {
         name: "an odd track behind four digits under BCD",
-        row: row!(
-            CharClass::Z,
-            Coding::Bcd,
-            Length::LLLL(BCD),
-            9_999,
-            Pad::None
-        ),
+        row: row!(CharClass::Z, Coding::Bcd, LLLL_BCD, 9_999, Pad::None),
         value: b"4=1",
         part: b"\x00\x03\x04\xD1",
     },
@@ -251,7 +223,7 @@ fn judged_parts_are_built(rt: HostRuntime) -> Result<(), Fail> {
 const OTHER_SPELLINGS: &[Case] = &[
     Case {
         name: "filler F",
-        row: number!(Coding::Bcd, Length::LL(Digits::Bcd), 19),
+        row: number!(Coding::Bcd, LL_BCD, 19),
         value: b"378282246310005",
         part: b"\x15\xF3\x78\x28\x22\x46\x31\x00\x05",
     },
@@ -279,16 +251,19 @@ fn is_number(text: [u8; 4], number: Option<u16>) -> bool {
     four_digits(a, b, c, d) == number
 }
 
+/// Four characters, and the number that they are, where they are digits.
+const FOUR_CHARACTERS: &[(&'static str, [u8; 4], Option<u16>)] = &[
+    ("four zeros", *b"0000", Some(0)),
+    ("zeros in front", *b"0055", Some(55)),
+    ("four nines", *b"9999", Some(9999)),
+    ("a letter", *b"00A5", None),
+    ("the byte before a zero", *b"/000", None),
+];
+
 #[test]
 fn four_digits_are_a_number() -> Result<(), Fail> {
-    for (text, number) in [
-        (*b"0000", Some(0)),
-        (*b"0055", Some(55)),
-        (*b"9999", Some(9999)),
-        (*b"00A5", None),
-        (*b"/000", None),
-    ] {
-        check(is_number(text, number), "four digits")?;
+    for (name, text, number) in FOUR_CHARACTERS {
+        check(is_number(*text, *number), *name)?;
     }
     Ok(())
 }
@@ -297,15 +272,18 @@ fn has_digits(number: usize, ascii: [u8; 4], bcd: [u8; 2]) -> bool {
     number <= 9999 && four_ascii_digits(number) == ascii && four_bcd_digits(number) == bcd
 }
 
+/// A number, and its four digits in ASCII and in BCD.
+const FOUR_DIGITS: &[(&'static str, usize, [u8; 4], [u8; 2])] = &[
+    ("zero", 0, *b"0000", [0x00, 0x00]),
+    ("two digits", 55, *b"0055", [0x00, 0x55]),
+    ("four digits", 1234, *b"1234", [0x12, 0x34]),
+    ("the greatest", 9999, *b"9999", [0x99, 0x99]),
+];
+
 #[test]
 fn a_number_has_four_digits() -> Result<(), Fail> {
-    for (number, ascii, bcd) in [
-        (0, b"0000", [0x00, 0x00]),
-        (55, b"0055", [0x00, 0x55]),
-        (1234, b"1234", [0x12, 0x34]),
-        (9999, b"9999", [0x99, 0x99]),
-    ] {
-        check(has_digits(number, *ascii, bcd), "its digits")?;
+    for (name, number, ascii, bcd) in FOUR_DIGITS {
+        check(has_digits(*number, *ascii, *bcd), *name)?;
     }
     Ok(())
 }
