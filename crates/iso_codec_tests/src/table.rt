@@ -1,3 +1,8 @@
+//! Tables: drafts that are checked, the tables of the 1987 edition, and their documents.
+
+use super::parts::{
+    ACCOUNT_ROW, LL, LL_BCD, LLL, LLL_BCD, LLLL, LLLL_BCD, PACKED_ACCOUNT_ROW, TERMINAL_ROW,
+};
 use iso_fakes::{check, check_of};
 use iso_parts::{CharClass, Coding, Digits, FieldSpec, Length, Pad};
 use iso_table::*;
@@ -36,15 +41,6 @@ mod edition87;
 mod faults;
 mod hosts;
 mod members;
-
-/// The row of a terminal: eight characters, filled up with blanks.
-const TERMINAL_ROW: FieldSpec = row!(
-    CharClass::ANS,
-    Coding::Ascii,
-    Length::Fixed,
-    8,
-    Pad::Right(0x20)
-);
 
 /// What a table says: it has these rows and no others.
 #[derive(Clone, Copy)]
@@ -110,12 +106,12 @@ fn has_row(table: &Table, element: u8, row: Option<FieldSpec>) -> bool {
 }
 
 /// The table of the 1987 edition in ASCII.
-fn ascii87(alloc: Global) -> Result<Table, Fail> {
+pub(super) fn ascii87(alloc: Global) -> Result<Table, Fail> {
     Ok(Table::ascii87(alloc)?)
 }
 
 /// The table of the 1987 edition in BCD.
-fn bcd87(alloc: Global) -> Result<Table, Fail> {
+pub(super) fn bcd87(alloc: Global) -> Result<Table, Fail> {
     Ok(Table::bcd87(alloc)?)
 }
 
@@ -123,10 +119,6 @@ fn bcd87(alloc: Global) -> Result<Table, Fail> {
 fn read(alloc: Global, text: &[u8]) -> Result<Table, Fail> {
     Ok(Table::from_json(alloc, text)?)
 }
-
-const LL: Length = Length::LL(Digits::Ascii);
-
-const LLL: Length = Length::LLL(Digits::Ascii);
 
 const ASCII87_ROWS: &[(u8, Option<FieldSpec>)] = &[
     (1, None),
@@ -157,10 +149,6 @@ fn builds_ascii87(rt: HostRuntime) -> Result<(), Fail> {
     }
     Ok(())
 }
-
-const LL_BCD: Length = Length::LL(Digits::Bcd);
-
-const LLL_BCD: Length = Length::LLL(Digits::Bcd);
 
 const BCD87_ROWS: &[(u8, FieldSpec)] = &[
     (2, number!(Coding::Bcd, LL_BCD, 19)),

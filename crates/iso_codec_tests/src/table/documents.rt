@@ -1,3 +1,5 @@
+//! Documents: which are tables, which are refused, and what is written of a table.
+
 use super::*;
 use iso_table::TableFault::{
     BadMax, BadNumber, BadVersion, CodingClass, NotJson, PadNotAllowed, Profile, Shape, Twice,
@@ -16,11 +18,11 @@ const CHIP: &str =
     "{\"bitmap\":\"hex\",\"mti\":\"ascii\",\"profile\":2,\"rows\":[{\"class\":\"B\",\"coding\":\"hex\",\"length\":\"LLLL\",\
 \"max\":9999,\"number\":48,\"pad\":\"none\",\"prefix\":\"ascii\"}],\"version\":0}";
 
-/// Its rows.
+/// The rows of `TERMINAL`.
 const ROWS: &str =
     r#"[{"class":"ANS","coding":"ascii","length":"fixed","max":8,"number":41,"pad":"right:20"}]"#;
 
-/// Its row twice.
+/// The row of `TERMINAL`, twice.
 const ROW_TWICE: &str =
     r#"[{"class":"ANS","coding":"ascii","length":"fixed","max":8,"number":41,"pad":"right:20"},
         {"class":"ANS","coding":"ascii","length":"fixed","max":8,"number":41,"pad":"right:20"}]"#;
@@ -38,7 +40,7 @@ fn edited(alloc: Global, old: &str, new: &str) -> Result<String, Fail> {
     edited_in(alloc, TERMINAL, old, new)
 }
 
-/// The rows of the documents with other rows than the terminal's.
+/// A terminal's row that is filled up on the left.
 const PADDED_ROW: FieldSpec = row!(
     CharClass::ANS,
     Coding::Ascii,
@@ -47,49 +49,20 @@ const PADDED_ROW: FieldSpec = row!(
     Pad::Left(0x2F)
 );
 
-const ACCOUNT_ROWS: &[(u8, FieldSpec)] = &[(
-    2,
-    FieldSpec {
-        class: CharClass::N,
-        coding: Coding::Bcd,
-        length: Length::LL(Digits::Bcd),
-        max: 19,
-        pad: Pad::None,
-    },
-)];
-
-const CHIP_ROWS: &[(u8, FieldSpec)] = &[(
-    48,
-    FieldSpec {
-        class: CharClass::B,
-        coding: Coding::HexText,
-        length: Length::LLLL(Digits::Ascii),
-        max: 9_999,
-        pad: Pad::None,
-    },
-)];
+const CHIP_ROW: FieldSpec = bytes!(Coding::HexText, LLLL, 9_999);
 
 const THREE_ROWS: &[(u8, FieldSpec)] = &[
     (
         3,
-        FieldSpec {
-            class: CharClass::A,
-            coding: Coding::Ascii,
-            length: Length::Fixed,
-            max: 3,
-            pad: Pad::Left(0x2A),
-        },
+        row!(
+            CharClass::A,
+            Coding::Ascii,
+            Length::Fixed,
+            3,
+            Pad::Left(0x2A)
+        ),
     ),
-    (
-        35,
-        FieldSpec {
-            class: CharClass::Z,
-            coding: Coding::Bcd,
-            length: Length::LLL(Digits::Ascii),
-            max: 37,
-            pad: Pad::None,
-        },
-    ),
+    (35, row!(CharClass::Z, Coding::Bcd, LLL, 37, Pad::None)),
     (41, TERMINAL_ROW),
 ];
 
@@ -110,7 +83,7 @@ const DOCUMENTS: &[Document] = &[
         "four digits",
         TERMINAL,
         CHIP,
-        ascii_table!(0, CHIP_ROWS, 20_038),
+        ascii_table!(0, &[(48, CHIP_ROW)], 20_038),
     ),
     ("version 1", ":0", ":1", TERMINAL_1),
     ("no rows", ROWS, "[]", ascii_table!(0, &[], 36)),
@@ -124,7 +97,7 @@ const DOCUMENTS: &[Document] = &[
         "a prefix behind LL",
         ROWS,
         r#"[{"class":"N","coding":"bcd","length":"LL","max":19,"number":2,"pad":"none","prefix":"bcd"}]"#,
-        ascii_table!(0, ACCOUNT_ROWS, 47),
+        ascii_table!(0, &[(2, PACKED_ACCOUNT_ROW)], 47),
     ),
     (
         "members and rows in another order",
@@ -194,7 +167,7 @@ const REFUSED_DOCUMENTS: &[Refused] = &[
     ("another bitmap", r#""hex""#, r#""bcd""#, Shape),
 ];
 
-/// Edits of its rows alone, but for the last two.
+/// Edits of the rows of `TERMINAL` alone, but for the last two.
 const REFUSED_ROWS: &[Refused] = &[
     ("rows that are no array", ROWS, "{}", Shape),
     ("a row that is no object", ROWS, "[41]", Shape),

@@ -1,19 +1,13 @@
+//! Drafts: which are tables, and which are refused.
+
 use super::*;
 
-const ACCOUNT: FieldSpec = number!(Coding::Ascii, Length::LL(Digits::Ascii), 19);
-
-const TRACK: FieldSpec = row!(
-    CharClass::Z,
-    Coding::Bcd,
-    Length::LLL(Digits::Bcd),
-    999,
-    Pad::None
-);
+const TRACK: FieldSpec = row!(CharClass::Z, Coding::Bcd, LLL_BCD, 999, Pad::None);
 
 const TEXT: FieldSpec = text!(Length::Fixed, 999);
 
 const DRAFTS: &[(&'static str, Says<'static>)] = &[
-    ("one row", ascii_table!(0, &[(41, ACCOUNT)], 57)),
+    ("one row", ascii_table!(0, &[(41, ACCOUNT_ROW)], 57)),
     ("no row, private use", ascii_table!(9, &[], 36)),
     (
         "a terminal of 1993",
@@ -23,7 +17,7 @@ const DRAFTS: &[(&'static str, Says<'static>)] = &[
         "the least and greatest numbers",
         bcd_table!(
             2,
-            &[(128, TRACK), (66, TEXT), (2, ACCOUNT), (64, TRACK)],
+            &[(128, TRACK), (66, TEXT), (2, ACCOUNT_ROW), (64, TRACK)],
             2042
         ),
     ),
@@ -56,33 +50,15 @@ fn accepts_drafts(rt: HostRuntime) -> Result<(), Fail> {
     Ok(())
 }
 
-const TOO_LONG: FieldSpec = number!(Coding::Ascii, Length::LL(Digits::Ascii), 100);
+const TOO_LONG: FieldSpec = number!(Coding::Ascii, LL, 100);
 
 const PACKED_TEXT: FieldSpec = row!(CharClass::ANS, Coding::Bcd, Length::Fixed, 8, Pad::None);
 
-const PADDED: FieldSpec = row!(
-    CharClass::ANS,
-    Coding::Ascii,
-    Length::LL(Digits::Ascii),
-    8,
-    Pad::Right(0x20)
-);
+const PADDED: FieldSpec = row!(CharClass::ANS, Coding::Ascii, LL, 8, Pad::Right(0x20));
 
-const PADDED_PACKED_TEXT: FieldSpec = row!(
-    CharClass::ANS,
-    Coding::Bcd,
-    Length::LL(Digits::Ascii),
-    8,
-    Pad::Right(0x20)
-);
+const PADDED_PACKED_TEXT: FieldSpec = row!(CharClass::ANS, Coding::Bcd, LL, 8, Pad::Right(0x20));
 
-const ALL_WRONG: FieldSpec = row!(
-    CharClass::ANS,
-    Coding::Bcd,
-    Length::LL(Digits::Ascii),
-    0,
-    Pad::Right(0x20)
-);
+const ALL_WRONG: FieldSpec = row!(CharClass::ANS, Coding::Bcd, LL, 0, Pad::Right(0x20));
 
 /// A draft that is no table: its version, its rows, and the fault.
 type Refused = (&'static str, u8, &'static [(u16, FieldSpec)], TableFault);
@@ -91,11 +67,11 @@ const REFUSED_DRAFTS: &[Refused] = &[
     (
         "version 3 and row 65",
         3,
-        &[(65, ACCOUNT)],
+        &[(65, ACCOUNT_ROW)],
         TableFault::BadVersion,
     ),
-    ("number 0", 0, &[(0, ACCOUNT)], TableFault::BadNumber(0)),
-    ("number 1", 0, &[(1, ACCOUNT)], TableFault::BadNumber(1)),
+    ("number 0", 0, &[(0, ACCOUNT_ROW)], TableFault::BadNumber(0)),
+    ("number 1", 0, &[(1, ACCOUNT_ROW)], TableFault::BadNumber(1)),
     (
         "number 65 and too long",
         0,
@@ -105,19 +81,19 @@ const REFUSED_DRAFTS: &[Refused] = &[
     (
         "number 129",
         0,
-        &[(129, ACCOUNT)],
+        &[(129, ACCOUNT_ROW)],
         TableFault::BadNumber(129),
     ),
     (
         "number 65535",
         0,
-        &[(65535, ACCOUNT)],
+        &[(65535, ACCOUNT_ROW)],
         TableFault::BadNumber(65535),
     ),
     (
         "row 2 twice, then too long",
         0,
-        &[(2, ACCOUNT), (2, TOO_LONG)],
+        &[(2, ACCOUNT_ROW), (2, TOO_LONG)],
         TableFault::Twice(2),
     ),
     (
@@ -153,13 +129,13 @@ const REFUSED_DRAFTS: &[Refused] = &[
     (
         "the first row's fault",
         0,
-        &[(3, PADDED), (1, ACCOUNT)],
+        &[(3, PADDED), (1, ACCOUNT_ROW)],
         TableFault::PadNotAllowed(3),
     ),
     (
         "the second row's fault",
         2,
-        &[(3, ACCOUNT), (66, PACKED_TEXT)],
+        &[(3, ACCOUNT_ROW), (66, PACKED_TEXT)],
         TableFault::CodingClass(66),
     ),
 ];

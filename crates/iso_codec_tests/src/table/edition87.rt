@@ -1,3 +1,5 @@
+//! The built-in tables of the 1987 edition, as they are written and read.
+
 use super::*;
 
 /// The table of the 1987 edition in ASCII, a row a line: without its line ends it is `tables/ascii87.json`.

@@ -1,3 +1,5 @@
+//! The numbers of faults, and what is told of them.
+
 use super::*;
 
 const TABLE_FAULTS: &[(TableFault, u8)] = &[

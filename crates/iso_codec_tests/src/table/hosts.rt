@@ -1,3 +1,5 @@
+//! Which tables serve a host.
+
 use super::*;
 
 /// The 1987 table in ASCII, with another row for one element, or with none.
@@ -88,29 +90,31 @@ fn needs_rows(rt: HostRuntime) -> Result<(), Fail> {
     check_not_needed(rt.alloc(), &[5, 12, 13, 33, 37, 41, 42, 128])
 }
 
-const ASCII: Coding = Coding::Ascii;
-
 const FIXED: Length = Length::Fixed;
-
-const LLLL: Length = Length::LLLL(Digits::Ascii);
 
 const GOOD_ROWS: &[(u8, FieldSpec)] = &[
     (2, number!(Coding::Bcd, LLL_BCD, 1)),
     (3, number!(Coding::Bcd, FIXED, 6)),
     (12, bytes!(Coding::Raw, LLL_BCD, 99)),
-    (13, row!(CharClass::A, ASCII, FIXED, 99, Pad::Left(0x20))),
-    (32, number!(ASCII, LL, 10)),
+    (
+        13,
+        row!(CharClass::A, Coding::Ascii, FIXED, 99, Pad::Left(0x20)),
+    ),
+    (32, number!(Coding::Ascii, LL, 10)),
     (33, text!(LLL_BCD, 99)),
     (37, text!(LLLL, 99)),
     (42, bytes!(Coding::HexText, LLLL, 99)),
     (48, bytes!(Coding::HexText, LLLL, 9_999)),
-    (38, number!(ASCII, FIXED, 6)),
-    (38, row!(CharClass::AN, ASCII, FIXED, 6, Pad::None)),
+    (38, number!(Coding::Ascii, FIXED, 6)),
+    (38, row!(CharClass::AN, Coding::Ascii, FIXED, 6, Pad::None)),
     (39, text!(FIXED, 2)),
-    (41, row!(CharClass::ANS, ASCII, FIXED, 99, Pad::Right(0x20))),
-    (49, number!(ASCII, FIXED, 3)),
+    (
+        41,
+        row!(CharClass::ANS, Coding::Ascii, FIXED, 99, Pad::Right(0x20)),
+    ),
+    (49, number!(Coding::Ascii, FIXED, 3)),
     (54, text!(LLL_BCD, 20)),
-    (54, row!(CharClass::AN, ASCII, LL, 99, Pad::None)),
+    (54, row!(CharClass::AN, Coding::Ascii, LL, 99, Pad::None)),
     (90, number!(Coding::Bcd, FIXED, 42)),
 ];
 
@@ -123,43 +127,44 @@ fn takes_rows(rt: HostRuntime) -> Result<(), Fail> {
     Ok(())
 }
 
-const LLLL_BCD: Length = Length::LLLL(Digits::Bcd);
-
 const BAD_ROWS: &[(u8, FieldSpec)] = &[
-    (2, number!(ASCII, LL, 20)),
-    (2, number!(ASCII, FIXED, 19)),
+    (2, number!(Coding::Ascii, LL, 20)),
+    (2, number!(Coding::Ascii, FIXED, 19)),
     (2, text!(LL, 19)),
-    (2, number!(ASCII, LLLL_BCD, 19)),
+    (2, number!(Coding::Ascii, LLLL_BCD, 19)),
     (32, number!(Coding::Bcd, LLLL_BCD, 11)),
     (37, text!(LLLL_BCD, 100)),
     (54, text!(LLLL_BCD, 120)),
-    (90, number!(ASCII, LLLL_BCD, 42)),
-    (3, number!(ASCII, FIXED, 5)),
-    (3, row!(CharClass::N, ASCII, FIXED, 6, Pad::Left(0x30))),
-    (4, number!(ASCII, LL, 12)),
+    (90, number!(Coding::Ascii, LLLL_BCD, 42)),
+    (3, number!(Coding::Ascii, FIXED, 5)),
+    (
+        3,
+        row!(CharClass::N, Coding::Ascii, FIXED, 6, Pad::Left(0x30)),
+    ),
+    (4, number!(Coding::Ascii, LL, 12)),
     (7, text!(FIXED, 10)),
-    (11, number!(ASCII, FIXED, 12)),
-    (12, number!(ASCII, FIXED, 100)),
-    (13, number!(ASCII, LLL, 100)),
-    (32, number!(ASCII, LL, 12)),
-    (33, number!(ASCII, LLL, 100)),
+    (11, number!(Coding::Ascii, FIXED, 12)),
+    (12, number!(Coding::Ascii, FIXED, 100)),
+    (13, number!(Coding::Ascii, LLL, 100)),
+    (32, number!(Coding::Ascii, LL, 12)),
+    (33, number!(Coding::Ascii, LLL, 100)),
     (37, text!(FIXED, 100)),
-    (38, row!(CharClass::A, ASCII, FIXED, 6, Pad::None)),
+    (38, row!(CharClass::A, Coding::Ascii, FIXED, 6, Pad::None)),
     (38, text!(LL, 6)),
-    (39, row!(CharClass::AN, ASCII, FIXED, 3, Pad::None)),
+    (39, row!(CharClass::AN, Coding::Ascii, FIXED, 3, Pad::None)),
     (
         41,
-        row!(CharClass::ANS, ASCII, FIXED, 100, Pad::Right(0x20)),
+        row!(CharClass::ANS, Coding::Ascii, FIXED, 100, Pad::Right(0x20)),
     ),
     (42, text!(FIXED, 100)),
     (49, bytes!(Coding::Raw, FIXED, 3)),
     (54, text!(LLL, 19)),
     (54, text!(FIXED, 120)),
-    (54, number!(ASCII, LLL, 120)),
+    (54, number!(Coding::Ascii, LLL, 120)),
     (70, text!(FIXED, 3)),
-    (70, number!(ASCII, FIXED, 2)),
-    (90, number!(ASCII, FIXED, 41)),
-    (90, number!(ASCII, LLL, 42)),
+    (70, number!(Coding::Ascii, FIXED, 2)),
+    (90, number!(Coding::Ascii, FIXED, 41)),
+    (90, number!(Coding::Ascii, LLL, 42)),
 ];
 
 #[test]

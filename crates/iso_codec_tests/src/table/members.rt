@@ -1,3 +1,5 @@
+//! The members of an object.
+
 use super::*;
 use iso_table::members::{has_members, text_at};
 use serde_json::Value;
