@@ -1,3 +1,7 @@
+//! Messages: what is read of bytes, and which bytes are written.
+
+use super::parts::TERMINAL_ROW;
+use super::table::{ascii87, bcd87};
 use iso_fakes::{check, check_of};
 use iso_parts::{BitmapCoding, CharClass, Coding, Digits, FieldSpec, Length, Mti, Pad};
 use iso_table::{Draft, Row, Table, TableFault};
@@ -9,13 +13,6 @@ use std::test::*;
 macro_rules! digits {
     ($coding:ident, $max:expr) => {
         number!(Coding::$coding, Length::Fixed, $max)
-    };
-}
-
-/// A row of so many characters.
-macro_rules! characters {
-    ($max:expr, $pad:expr) => {
-        row!(CharClass::ANS, Coding::Ascii, Length::Fixed, $max, $pad)
     };
 }
 
@@ -49,13 +46,22 @@ const REVERSAL: &[u8] = b"042082200001000000000000004000000000010203050000000805
 const PACKED_ECHO: &[u8] =
     b"\x08\x00\x82\x20\0\0\0\0\0\0\x04\0\0\0\0\0\0\0\x01\x02\x03\x04\x05\0\0\x01\x03\x01";
 
+/// The packed echo test with another filler.
+const FILLED_ECHO: &[u8] =
+    b"\x08\x00\x82\x20\0\0\0\0\0\0\x04\0\0\0\0\0\0\0\x01\x02\x03\x04\x05\0\0\x01\xF3\x01";
+
+/// The elements of a message.
+type Elements = &'static [(u8, &'static [u8])];
+
+const ECHO_ELEMENTS: Elements = &[(7, b"0102030405"), (11, b"000001"), (70, b"301")];
+
 /// The bytes of a message, and what they say.
 #[derive(Drop)]
 struct Case {
     name: &'static str,
     bytes: &'static [u8],
     used: usize,
-    elements: &'static [(u8, &'static [u8])],
+    elements: Elements,
     plain: &'static [u8],
 }
 
@@ -82,7 +88,7 @@ fn table(
 }
 
 /// A terminal alone.
-const TERMINAL: &[(u8, FieldSpec)] = &[(41, characters!(8, Pad::Right(b' ')))];
+const TERMINAL_ROWS: &[(u8, FieldSpec)] = &[(41, TERMINAL_ROW)];
 
 const ASCII_ROWS: &[(u8, FieldSpec)] = &[
     (2, counted!(19)),
@@ -93,8 +99,8 @@ const ASCII_ROWS: &[(u8, FieldSpec)] = &[
     (13, digits!(Ascii, 4)),
     (15, digits!(Ascii, 4)),
     (32, counted!(11)),
-    (41, characters!(8, Pad::Right(b' '))),
-    (49, characters!(3, Pad::None)),
+    (41, TERMINAL_ROW),
+    (49, text!(Length::Fixed, 3)),
     (70, digits!(Ascii, 3)),
     (90, digits!(Ascii, 42)),
 ];
@@ -118,7 +124,7 @@ const ASCII_CASES: &[Case] = &[
         name: "echo",
         bytes: ECHO,
         used: 55,
-        elements: &[(7, b"0102030405"), (11, b"000001"), (70, b"301")],
+        elements: ECHO_ELEMENTS,
         plain: ECHO,
     },
     Case {
@@ -167,17 +173,17 @@ const ASCII_CASES: &[Case] = &[
 const PACKED_CASES: &[Case] = &[
     Case {
         name: "echo under BCD",
-        bytes: b"\x08\x00\x82\x20\0\0\0\0\0\0\x04\0\0\0\0\0\0\0\x01\x02\x03\x04\x05\0\0\x01\x03\x01",
+        bytes: PACKED_ECHO,
         used: 28,
-        elements: &[(7, b"0102030405"), (11, b"000001"), (70, b"301")],
-        plain: b"\x08\x00\x82\x20\0\0\0\0\0\0\x04\0\0\0\0\0\0\0\x01\x02\x03\x04\x05\0\0\x01\x03\x01",
+        elements: ECHO_ELEMENTS,
+        plain: PACKED_ECHO,
     },
     Case {
         name: "filler F",
-        bytes: b"\x08\x00\x82\x20\0\0\0\0\0\0\x04\0\0\0\0\0\0\0\x01\x02\x03\x04\x05\0\0\x01\xF3\x01",
+        bytes: FILLED_ECHO,
         used: 28,
-        elements: &[(7, b"0102030405"), (11, b"000001"), (70, b"301")],
-        plain: b"\x08\x00\x82\x20\0\0\0\0\0\0\x04\0\0\0\0\0\0\0\x01\x02\x03\x04\x05\0\0\x01\x03\x01",
+        elements: ECHO_ELEMENTS,
+        plain: PACKED_ECHO,
     },
 ];
 
@@ -213,16 +219,6 @@ fn message(alloc: Global, mti: u16, elements: &[(u8, &[u8])]) -> Result<Message,
     Ok(message)
 }
 
-/// The table of the 1987 edition in ASCII.
-fn ascii87(alloc: Global) -> Result<Table, Fail> {
-    Ok(Table::ascii87(alloc)?)
-}
-
-/// The table of the 1987 edition in BCD.
-fn bcd87(alloc: Global) -> Result<Table, Fail> {
-    Ok(Table::bcd87(alloc)?)
-}
-
 /// Bytes that are no message, where they stop being one, in the piece of which element, and why.
 type Stop = (&'static str, &'static [u8], usize, u8, UnpackCause);
 
@@ -232,6 +228,15 @@ fn stop(at: usize, element: u8, cause: UnpackCause) -> UnpackFault {
 
 fn is_refused(alloc: Global, table: &Table, bytes: &[u8], fault: UnpackFault) -> bool {
     unpack(alloc, table, bytes).err() == Some(fault)
+}
+
+/// That each of the bytes is refused where it stops being a message.
+fn check_stops(alloc: Global, table: &Table, stops: &[Stop]) -> Result<(), Fail> {
+    for (name, bytes, at, element, cause) in stops {
+        let fault = stop(*at, *element, *cause);
+        check(is_refused(alloc, table, bytes, fault), *name)?;
+    }
+    Ok(())
 }
 
 /// Where each piece of a message begins, with its element.
@@ -274,6 +279,29 @@ fn short_at(pieces: &[(usize, u8)], size: usize) -> UnpackFault {
         }
     }
     fault
+}
+
+/// Ends the test with how many bytes there are, unless it is so.
+fn check_size(is_so: bool, size: usize) -> Result<(), Fail> {
+    if is_so {
+        Ok(())
+    } else {
+        Err(Fail::new(format_args!("{size} bytes")))
+    }
+}
+
+/// That a message is short wherever it is cut.
+fn check_short(
+    alloc: Global,
+    table: &Table,
+    bytes: &[u8],
+    pieces: &[(usize, u8)],
+) -> Result<(), Fail> {
+    for size in 0..bytes.len() {
+        let fault = short_at(pieces, size);
+        check_size(is_refused(alloc, table, &bytes[..size], fault), size)?;
+    }
+    Ok(())
 }
 
 /// Whether a case is read, and nothing else.

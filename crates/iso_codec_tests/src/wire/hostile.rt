@@ -259,7 +259,13 @@ fn check_alike(alloc: Global, table: &Table, stops: &[Stop]) -> Result<(), Fail>
 
 #[test]
 fn bad_pieces_are_refused_alike(rt: HostRuntime) -> Result<(), Fail> {
-    let table = table(rt.alloc(), 0, Digits::Ascii, BitmapCoding::Hex, TERMINAL)?;
+    let table = table(
+        rt.alloc(),
+        0,
+        Digits::Ascii,
+        BitmapCoding::Hex,
+        TERMINAL_ROWS,
+    )?;
     check_alike(rt.alloc(), &table, BAD_PIECES)
 }
 

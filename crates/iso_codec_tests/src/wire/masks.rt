@@ -53,11 +53,7 @@ fn check_shown_for_debugging(
     want: &str,
 ) -> Result<(), Fail> {
     let text = shown_for_debugging(alloc, n, value)?;
-    if text.as_str() == want {
-        Ok(())
-    } else {
-        Err(Fail::new(format_args!("{name}, for debugging: {text}")))
-    }
+    check_of(text.as_str() == want, name, "for debugging")
 }
 
 #[test]
@@ -68,9 +64,6 @@ fn values_are_masked(rt: HostRuntime) -> Result<(), Fail> {
     }
     Ok(())
 }
-
-/// The elements of a message.
-type Elements = &'static [(u8, &'static [u8])];
 
 /// A message, and what is printed of it.
 const PRINTED_MESSAGES: &[(&str, u16, Elements, &str)] = &[
@@ -133,7 +126,7 @@ const DESCRIBED_MESSAGES: &[Described] = &[
     (
         "an echo test",
         800,
-        &[(7, b"0102030405"), (11, b"000001"), (70, b"301")],
+        ECHO_ELEMENTS,
         b"MTI=0800 1987 NetworkManagement Request Acquirer\n\
         DE007=0102030405\nDE011=000001\nDE070=301\n",
         b"MTI=0800 1987 NetworkManagement Request Acquirer\n\

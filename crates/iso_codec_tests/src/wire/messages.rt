@@ -2,10 +2,7 @@
 
 use super::*;
 
-/// The elements of a message, in the order in which they are set.
-type Elements = &'static [(u8, &'static [u8])];
-
-/// A value of a message.
+/// A value of a message whose elements are set in that order.
 type ValueCase = (&'static str, Elements, u8, Option<&'static [u8]>);
 
 const VALUE_CASES: &[ValueCase] = &[

@@ -1,5 +1,6 @@
+//! Bytes that are no message, and messages that a table doesn't take.
+
 use super::*;
-use iso_fakes::check;
 use iso_parts::FieldFault;
 use iso_wire::UnpackCause::{
     BadHex, BadMti, Field, Short, ThirdBitmap, UnknownElement, WrongVersion,
@@ -75,15 +76,6 @@ const REFUSED_BYTES: &[Stop] = &[
     ),
 ];
 
-/// That each of the bytes is refused where it stops being a message.
-pub(super) fn check_stops(alloc: Global, table: &Table, stops: &[Stop]) -> Result<(), Fail> {
-    for (name, bytes, at, element, cause) in stops {
-        let fault = stop(*at, *element, *cause);
-        check(is_refused(alloc, table, bytes, fault), *name)?;
-    }
-    Ok(())
-}
-
 #[test]
 fn bytes_are_refused(rt: HostRuntime) -> Result<(), Fail> {
     let table = ascii(rt.alloc())?;
@@ -97,8 +89,7 @@ fn is_filler_refused(
     last: &[u8],
     fault: FieldFault,
 ) -> Result<bool, Fail> {
-    let head = b"\x08\x00\x82\x20\0\0\0\0\0\0\x04\0\0\0\0\0\0\0\x01\x02\x03\x04\x05\0\0\x01";
-    let bytes = [head.as_slice(), last].concat(alloc)?;
+    let bytes = [&PACKED_ECHO[..26], last].concat(alloc)?;
     Ok(is_refused(alloc, table, &bytes, stop(26, 70, Field(fault))))
 }
 
@@ -112,29 +103,6 @@ fn fillers_are_judged(rt: HostRuntime) -> Result<(), Fail> {
     check(nibble, "a nibble A")
 }
 
-/// Ends the test with how many bytes there are, unless it is so.
-fn check_size(is_so: bool, size: usize) -> Result<(), Fail> {
-    if is_so {
-        Ok(())
-    } else {
-        Err(Fail::new(format_args!("{size} bytes")))
-    }
-}
-
-/// That a message is short wherever it is cut.
-pub(super) fn check_short(
-    alloc: Global,
-    table: &Table,
-    bytes: &[u8],
-    pieces: &[(usize, u8)],
-) -> Result<(), Fail> {
-    for size in 0..bytes.len() {
-        let fault = short_at(pieces, size);
-        check_size(is_refused(alloc, table, &bytes[..size], fault), size)?;
-    }
-    Ok(())
-}
-
 #[test]
 fn cut_messages_are_short(rt: HostRuntime) -> Result<(), Fail> {
     let table = ascii(rt.alloc())?;
@@ -144,13 +112,11 @@ fn cut_messages_are_short(rt: HostRuntime) -> Result<(), Fail> {
 /// The version and the rows of a table that doesn't take a message, and the fault.
 type NotPacked = (&'static str, u8, &'static [(u8, FieldSpec)], PackFault);
 
-const PADDED: FieldSpec = characters!(8, Pad::Right(b' '));
+const SEVEN: FieldSpec = text!(Length::Fixed, 7);
 
-const SEVEN: FieldSpec = characters!(7, Pad::None);
+const SIX: FieldSpec = text!(Length::Fixed, 6);
 
-const SIX: FieldSpec = characters!(6, Pad::None);
-
-const TWO: FieldSpec = characters!(2, Pad::None);
+const TWO: FieldSpec = text!(Length::Fixed, 2);
 
 const SIX_DIGITS: FieldSpec = digits!(Ascii, 6);
 
@@ -160,25 +126,25 @@ const OTHER_TABLES: &[NotPacked] = &[
     (
         "another version",
         1,
-        &[(41, PADDED), (42, PADDED)],
+        &[(41, TERMINAL_ROW), (42, TERMINAL_ROW)],
         PackFault::WrongVersion,
     ),
     (
         "a pad at the end",
         0,
-        &[(41, PADDED), (42, PADDED)],
+        &[(41, TERMINAL_ROW), (42, TERMINAL_ROW)],
         PackFault::PadEnd(41),
     ),
     (
         "too short",
         0,
-        &[(41, SEVEN), (42, PADDED)],
+        &[(41, SEVEN), (42, TERMINAL_ROW)],
         PackFault::WrongLength(41),
     ),
     (
         "no digits",
         0,
-        &[(41, SIX_DIGITS), (42, PADDED)],
+        &[(41, SIX_DIGITS), (42, TERMINAL_ROW)],
         PackFault::NotInClass(41),
     ),
     (
@@ -190,7 +156,7 @@ const OTHER_TABLES: &[NotPacked] = &[
     (
         "the later element has no row",
         0,
-        &[(41, PADDED)],
+        &[(41, TERMINAL_ROW)],
         PackFault::PadEnd(41),
     ),
     ("no row at all", 0, &[], PackFault::NoRow(41)),

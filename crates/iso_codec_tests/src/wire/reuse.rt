@@ -1,7 +1,6 @@
 //! Messages that are read one after another, each into the memory of those before it.
 
 use super::*;
-use iso_fakes::{check, check_of};
 use iso_parts::FieldFault;
 use iso_wire::UnpackCause::{BadHex, BadMti, Field, Short};
 
@@ -68,8 +67,6 @@ const FAULTY_MESSAGES: &[Stop] = &[
 fn stops(unpacker: &mut Unpacker, alloc: Global, bytes: &[u8], fault: UnpackFault) -> bool {
     unpacker.unpack(alloc, bytes).err() == Some(fault)
 }
-
-const ECHO_ELEMENTS: &[(u8, &[u8])] = &[(7, b"0102030405"), (11, b"000001"), (70, b"301")];
 
 /// Whether the echo test is read, and gives its memory back.
 fn reads_echo(unpacker: &mut Unpacker, alloc: Global) -> Result<bool, Fail> {

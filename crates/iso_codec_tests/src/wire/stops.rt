@@ -1,8 +1,6 @@
 //! Where bytes stop being a message, under the tables of the 1987 edition.
 
-use super::refusals::{check_short, check_stops};
 use super::*;
-use iso_fakes::check;
 use iso_parts::FieldFault;
 use iso_wire::UnpackCause::{BadMti, Field, Short, UnknownElement};
 
@@ -136,7 +134,7 @@ fn packed_lengths_and_fillers_are_told(rt: HostRuntime) -> Result<(), Fail> {
 
 /// The table that has a row for element 41 alone, with raw bitmaps.
 fn terminals(alloc: Global) -> Result<Table, TableFault> {
-    table(alloc, 0, Digits::Ascii, BitmapCoding::Raw, TERMINAL)
+    table(alloc, 0, Digits::Ascii, BitmapCoding::Raw, TERMINAL_ROWS)
 }
 
 /// The fault of a message with that bit alone.
@@ -227,6 +225,12 @@ const LOWEST_BITS: &[Stop] = &[
 
 #[test]
 fn the_lowest_bit_without_a_row_is_told(rt: HostRuntime) -> Result<(), Fail> {
-    let table = table(rt.alloc(), 0, Digits::Ascii, BitmapCoding::Hex, TERMINAL)?;
+    let table = table(
+        rt.alloc(),
+        0,
+        Digits::Ascii,
+        BitmapCoding::Hex,
+        TERMINAL_ROWS,
+    )?;
     check_stops(rt.alloc(), &table, LOWEST_BITS)
 }

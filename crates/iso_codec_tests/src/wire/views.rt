@@ -1,7 +1,6 @@
 //! Messages that are left where they lie.
 
 use super::*;
-use iso_fakes::{check, check_of};
 
 /// A message, and the bodies of its elements as they lie there.
 #[derive(Drop)]
@@ -71,7 +70,7 @@ const PACKED_VIEWS: &[Seen] = &[
     },
     Seen {
         name: "filler F",
-        bytes: b"\x08\x00\x82\x20\0\0\0\0\0\0\x04\0\0\0\0\0\0\0\x01\x02\x03\x04\x05\0\0\x01\xF3\x01",
+        bytes: FILLED_ECHO,
         mti: 800,
         used: 28,
         wires: &[
