@@ -1,14 +1,21 @@
-//! Values from outside, and that the calls succeed.
+//! What messages ask and what responses tell, by examples whose values come from outside.
+
+/// The key of a message of the acquirer, as tables have it: its type, its trace number, and its date and time.
+macro_rules! other_key {
+    ($base:expr, $stan:expr, $sent:expr) => {
+        TxKey {
+            base: $base,
+            stan: $stan,
+            sent: $sent,
+            acquirer: 12_345,
+        }
+    };
+}
 
 /// The key of the payment of a type, as tables have it.
 macro_rules! key {
     ($base:expr) => {
-        TxKey {
-            base: $base,
-            stan: 7,
-            sent: 102_030_405,
-            acquirer: 12_345,
-        }
+        other_key!($base, 7, 102_030_405)
     };
 }
 
@@ -21,14 +28,13 @@ mod requests;
 mod responses;
 mod verdicts;
 
+use crate::accounts::{ACCOUNT, money, pan};
 use iso_fakes::check;
-use iso_order::{Act, Money, Order, Pan, TxKey, Verdict, order_of};
+use iso_order::{Act, Order, Pan, TxKey, Verdict, order_of};
 use iso_parts::Mti;
 use iso_wire::Message;
 use std::alloc::Global;
 use std::test::Fail;
-
-const ACCOUNT: &[u8] = b"4111111111111111";
 
 /// Sets these elements of a message.
 fn set_all(message: &mut Message, elements: &[(u8, &[u8])]) -> Result<(), Fail> {
@@ -93,14 +99,14 @@ const fn key(base: u16) -> TxKey {
     key!(base)
 }
 
-fn money(digits: &[u8], amount: u64, currency: [u8; 3]) -> Result<Money, Fail> {
-    let pan = Pan::from_digits(digits).ok_or("no account number")?;
-    Ok(Money {
-        pan,
-        amount,
-        currency,
-    })
-}
+/// The key of a hold.
+const HOLD_KEY: TxKey = other_key!(100, 10, 102_030_405);
+
+/// The key of a completion, which names the hold.
+const COMPLETION_KEY: TxKey = other_key!(220, 11, 102_030_700);
+
+/// The key of a reversal, which names the payment.
+const REVERSAL_KEY: TxKey = other_key!(420, 8, 102_030_500);
 
 /// What an order does, as tables have it: money is the digits of its account, its amount and its currency.
 #[derive(Clone, Copy)]

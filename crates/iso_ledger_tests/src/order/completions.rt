@@ -1,7 +1,7 @@
 //! Advices that complete a hold.
 
 use super::Change::{Nothing, Set, Without};
-use super::{ACCOUNT, Asked, Change, Does, asks, changed};
+use super::{ACCOUNT, Asked, COMPLETION_KEY, Change, Does, HOLD_KEY, asks, changed};
 use iso_fakes::check;
 use iso_order::TxKey;
 use iso_wire::Message;
@@ -34,26 +34,18 @@ enum Asks {
 }
 
 fn asked(asks: Asks) -> Asked {
-    let key = TxKey {
-        base: 220,
-        stan: 11,
-        sent: 102_030_700,
-        acquirer: 12_345,
-    };
-    let hold = TxKey {
-        base: 100,
-        stan: 10,
-        sent: 102_030_405,
-        acquirer: 12_345,
-    };
     match asks {
-        Asks::Debit(base) => Asked::Order(
-            TxKey { base, ..key },
-            Does::Debit(ACCOUNT, 700, *b"840"),
-        ),
+        Asks::Debit(base) => {
+            let key = TxKey {
+                base,
+                ..COMPLETION_KEY
+            };
+            Asked::Order(key, Does::Debit(ACCOUNT, 700, *b"840"))
+        }
         Asks::Complete(base) => {
-            let hold = TxKey { base, ..hold };
-            Asked::Order(key, Does::Complete(ACCOUNT, 700, *b"840", hold))
+            let hold = TxKey { base, ..HOLD_KEY };
+            let does = Does::Complete(ACCOUNT, 700, *b"840", hold);
+            Asked::Order(COMPLETION_KEY, does)
         }
         Asks::Reply(code) => Asked::Reply(code),
     }

@@ -1,8 +1,8 @@
 //! What logs show: no account number in clear.
 
-use super::{ACCOUNT, Does, act, key, money, order};
+use super::{ACCOUNT, Does, act, key, money, order, pan};
 use iso_fakes::check;
-use iso_order::{Pan, TxKey, Verdict};
+use iso_order::{TxKey, Verdict};
 use std::alloc::Global;
 use std::test::Fail;
 
@@ -20,7 +20,7 @@ const SHOWN_NUMBERS: &[(&'static str, &'static [u8], &'static str)] = &[
 ];
 
 fn shows_number(alloc: Global, digits: &[u8], want: &str) -> Result<bool, Fail> {
-    let pan = Pan::from_digits(digits).ok_or("no account number")?;
+    let pan = pan(digits)?;
     let text = format!(in alloc; "{pan:?}")?;
     Ok(text.as_str() == want)
 }

@@ -1,24 +1,12 @@
 //! The messages that ask for orders.
 
-use super::{ACCOUNT, Does, order};
+use super::{ACCOUNT, COMPLETION_KEY, Does, HOLD_KEY, REVERSAL_KEY, order};
 use iso_fakes::check;
 use iso_order::{Order, TxKey, request};
 use iso_table::Table;
 use iso_wire::{Message, pack};
 use std::alloc::Global;
 use std::test::Fail;
-
-/// The key of another message of the acquirer.
-macro_rules! other_key {
-    ($base:expr, $stan:expr, $sent:expr) => {
-        TxKey {
-            base: $base,
-            stan: $stan,
-            sent: $sent,
-            acquirer: 12_345,
-        }
-    };
-}
 
 /// An order that a message asks for, and the bytes of the message.
 type Request = (&'static str, TxKey, Does, &'static [u8]);
@@ -52,7 +40,7 @@ const PLAIN_PAYMENTS: &[Request] = &[
     ),
     (
         "a hold",
-        other_key!(100, 10, 102_030_405),
+        HOLD_KEY,
         SPENT,
         b"0100722000010000800016411111111111111100000000000000100001020304050000100512345840",
     ),
@@ -99,7 +87,7 @@ fn is_request(
 }
 
 /// Compares the message for each order with its bytes.
-fn compare(alloc: Global, requests: &[Request]) -> Result<(), Fail> {
+fn check_requests(alloc: Global, requests: &[Request]) -> Result<(), Fail> {
     let table = Table::ascii87(alloc)?;
     for (name, key, does, want) in requests {
         check(is_request(alloc, &table, *key, *does, *want)?, *name)?;
@@ -109,31 +97,27 @@ fn compare(alloc: Global, requests: &[Request]) -> Result<(), Fail> {
 
 #[test]
 fn payments(rt: HostRuntime) -> Result<(), Fail> {
-    compare(rt.alloc(), PLAIN_PAYMENTS)
+    check_requests(rt.alloc(), PLAIN_PAYMENTS)
 }
 
-const REVERSAL: TxKey = other_key!(420, 8, 102_030_500);
-
-const HOLD: TxKey = other_key!(100, 10, 102_030_405);
-
-const COMPLETION: Does = Does::Complete(ACCOUNT, 700, *b"840", HOLD);
+const COMPLETION: Does = Does::Complete(ACCOUNT, 700, *b"840", HOLD_KEY);
 
 const LATER_ORDERS: &[Request] = &[
     (
         "a reversal",
-        REVERSAL,
+        REVERSAL_KEY,
         Does::Undo(key!(200), 0),
         b"04208220000100000000000000400000000001020305000000080512345020000000701020304050000001234500000000000",
     ),
     (
         "a reversal that leaves a part",
-        REVERSAL,
+        REVERSAL_KEY,
         Does::Undo(key!(200), 400),
         b"04208220000100000000000000420000000001020305000000080512345020000000701020304050000001234500000000000000000000400000000000000D00000000D00000000",
     ),
     (
         "a completion",
-        other_key!(220, 11, 102_030_700),
+        COMPLETION_KEY,
         COMPLETION,
         b"0220F220000100008000000000400000000016411111111111111100000000000000070001020307000000110512345840010000001001020304050000001234500000000000",
     ),
@@ -141,5 +125,5 @@ const LATER_ORDERS: &[Request] = &[
 
 #[test]
 fn orders_that_name_another(rt: HostRuntime) -> Result<(), Fail> {
-    compare(rt.alloc(), LATER_ORDERS)
+    check_requests(rt.alloc(), LATER_ORDERS)
 }

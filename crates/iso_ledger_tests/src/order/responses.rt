@@ -1,6 +1,6 @@
 //! The responses that messages get.
 
-use super::{Change, message, payment};
+use super::{ACCOUNT, Change, message, payment};
 use iso_fakes::{check, check_of};
 use iso_order::{Act, Answer, Verdict, order_of, respond, respond_into};
 use iso_wire::Message;
@@ -38,7 +38,7 @@ const CASES: &[Case] = &[
         name: "granted",
         mti: 201,
         asked: &[
-            (2, b"4111111111111111"),
+            (2, ACCOUNT),
             (3, b"000000"),
             (4, b"000000001000"),
             (7, b"0102030405"),
@@ -50,7 +50,7 @@ const CASES: &[Case] = &[
         seq: 1,
         response: 210,
         answered: &[
-            (2, b"4111111111111111"),
+            (2, ACCOUNT),
             (3, b"000000"),
             (4, b"000000001000"),
             (7, b"0102030405"),
@@ -65,7 +65,7 @@ const CASES: &[Case] = &[
         name: "declined",
         mti: 100,
         asked: &[
-            (2, b"4111111111111111"),
+            (2, ACCOUNT),
             (3, b"000000"),
             (4, b"000000001000"),
             (7, b"0102030405"),
@@ -79,7 +79,7 @@ const CASES: &[Case] = &[
         seq: 2,
         response: 110,
         answered: &[
-            (2, b"4111111111111111"),
+            (2, ACCOUNT),
             (3, b"000000"),
             (4, b"000000001000"),
             (7, b"0102030405"),
@@ -178,7 +178,7 @@ fn is_answered_over(alloc: Global, case: &Case, made: &mut Message) -> Result<bo
 }
 
 /// Compares what a message becomes, one response after the other.
-fn answer_all_over(alloc: Global, made: &mut Message) -> Result<(), Fail> {
+fn check_responses_over(alloc: Global, made: &mut Message) -> Result<(), Fail> {
     for case in CASES {
         check(is_answered_over(alloc, case, made)?, case.name)?;
     }
@@ -188,7 +188,7 @@ fn answer_all_over(alloc: Global, made: &mut Message) -> Result<(), Fail> {
 #[test]
 fn a_response_is_made_in_place_of_another(rt: HostRuntime) -> Result<(), Fail> {
     let mut made = earlier(rt.alloc())?;
-    answer_all_over(rt.alloc(), &mut made)
+    check_responses_over(rt.alloc(), &mut made)
 }
 
 /// The response to an inquiry that shows a balance.
@@ -232,7 +232,7 @@ const SHOWN_BALANCES: &[(&'static str, i64, &'static [u8])] = &[
 ];
 
 /// Compares a response that shows a balance.
-fn compare_shown(made: &Message, name: &str, text: &[u8]) -> Result<(), Fail> {
+fn check_shown(made: &Message, name: &str, text: &[u8]) -> Result<(), Fail> {
     check_of(has(made, 54, text), name, "balance")?;
     check_of(has(made, 39, b"00"), name, "code")?;
     check_of(has(made, 38, b"000002"), name, "authorization")
@@ -242,7 +242,7 @@ fn compare_shown(made: &Message, name: &str, text: &[u8]) -> Result<(), Fail> {
 fn balances(rt: HostRuntime) -> Result<(), Fail> {
     for (name, balance, text) in SHOWN_BALANCES {
         let made = shown_balance(rt.alloc(), *balance)?;
-        compare_shown(&made, *name, *text)?;
+        check_shown(&made, *name, *text)?;
     }
     Ok(())
 }

@@ -1,9 +1,8 @@
 //! What messages ask.
 
 use super::Change::{Nothing, Set, Without};
-use super::{ACCOUNT, Asked, Change, Does, asks, changed, key, payment};
+use super::{ACCOUNT, Asked, Change, Does, REVERSAL_KEY, asks, changed, key, payment};
 use iso_fakes::check;
-use iso_order::TxKey;
 use iso_wire::Message;
 use std::alloc::Global;
 use std::test::Fail;
@@ -35,18 +34,12 @@ enum Asks {
 }
 
 fn asked(asks: Asks) -> Asked {
-    let reversal = TxKey {
-        base: 420,
-        stan: 8,
-        sent: 102_030_500,
-        acquirer: 12_345,
-    };
     match asks {
         Asks::Silence => Asked::Nothing,
         Asks::Reply(code) => Asked::Reply(code),
         Asks::Debit(base) => Asked::Order(key(base), Does::Debit(ACCOUNT, 1000, *b"840")),
         Asks::Other(base, does) => Asked::Order(key(base), does),
-        Asks::Undo(base, left) => Asked::Order(reversal, Does::Undo(key(base), left)),
+        Asks::Undo(base, left) => Asked::Order(REVERSAL_KEY, Does::Undo(key(base), left)),
     }
 }
 
