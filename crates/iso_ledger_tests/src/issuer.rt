@@ -1,7 +1,9 @@
-use Told::{Declined, Granted, Shows};
+//! What an issuer answers to orders, and what is on its accounts then.
+use crate::accounts::{ACCOUNT, money, pan};
+use Expected::{Declined, Granted, Shows};
 use asking::Ask::*;
 use asking::*;
-use iso_fakes::check;
+use iso_fakes::{check, check_of};
 use iso_issuer::{Accounts, AccountsFault, Issuer, Refused};
 use iso_order::{Act, Answer, Money, Order, Pan, TxKey};
 use std::alloc::Global;
@@ -28,20 +30,16 @@ const fn key(base: u16, stan: u32) -> TxKey {
     }
 }
 
-fn pan(text: &[u8]) -> Result<Pan, Fail> {
-    Ok(Pan::from_digits(text).ok_or("1 to 19 digits")?)
-}
-
-/// The answer to what is asked: its place in the journal, and a code other than 0 or what is shown.
+/// The answer that a table expects: its place in the journal, and a code other than 0 or what is shown.
 #[derive(Clone, Copy)]
-enum Told {
+enum Expected {
     Granted(u32),
     Declined(u8, u32),
     Shows(u32, i64),
 }
 
-fn reply(told: Told) -> Reply {
-    match told {
+fn reply(expected: Expected) -> Reply {
+    match expected {
         Granted(seq) => (0, seq, None),
         Declined(code, seq) => (code, seq, None),
         Shows(seq, amount) => (0, seq, Some(amount)),
@@ -49,7 +47,7 @@ fn reply(told: Told) -> Reply {
 }
 
 /// A name, what is asked, its answer, and the ledger and the available amount after it.
-type Step = (&'static str, Ask, Told, (i64, i64));
+type Step = (&'static str, Ask, Expected, (i64, i64));
 
 /// The answer to what is asked, and what is on the account then.
 fn step(issuer: &mut Issuer, asked: Ask) -> Result<(Reply, OnAccount), Fail> {
@@ -57,8 +55,8 @@ fn step(issuer: &mut Issuer, asked: Ask) -> Result<(Reply, OnAccount), Fail> {
     Ok((told, balances(issuer)?))
 }
 
-fn is_reply(one: Reply, other: Told) -> bool {
-    one == reply(other)
+fn is_reply(told: Reply, expected: Expected) -> bool {
+    told == reply(expected)
 }
 
 fn is_left(left: OnAccount, ledger: i64, available: i64) -> bool {
@@ -75,8 +73,8 @@ fn play(alloc: Global, opening: i64, steps: &[Step]) -> Result<(), Fail> {
 fn play_on(issuer: &mut Issuer, steps: &[Step]) -> Result<(), Fail> {
     for (name, asked, expected, (ledger, available)) in steps {
         let (told, left) = step(issuer, *asked)?;
-        check(is_reply(told, *expected), *name)?;
-        check(is_left(left, *ledger, *available), *name)?;
+        check_of(is_reply(told, *expected), *name, "the answer")?;
+        check_of(is_left(left, *ledger, *available), *name, "the account")?;
     }
     Ok(())
 }
@@ -115,9 +113,9 @@ fn play_up_to(
     books: Books,
 ) -> Result<(), Fail> {
     let mut issuer = issuer(alloc, 100, limit)?;
-    compare_new(&mut issuer, new)?;
-    compare_replies(&mut issuer, others)?;
-    compare_books(&issuer, books)
+    check_new(&mut issuer, new)?;
+    check_replies(&mut issuer, others)?;
+    check_books(&issuer, "the books at the end", books)
 }
 
 /// Whether an order is taken, and gets that answer.
@@ -126,7 +124,7 @@ fn is_answered(issuer: &mut Issuer, asked: Ask, told: Reply) -> Result<bool, Fai
 }
 
 /// Hands new orders to an issuer, and compares their answers.
-fn compare_new(issuer: &mut Issuer, rows: &[New]) -> Result<(), Fail> {
+fn check_new(issuer: &mut Issuer, rows: &[New]) -> Result<(), Fail> {
     for (name, asked, told) in rows {
         check(is_answered(issuer, *asked, *told)?, *name)?;
     }
@@ -138,8 +136,8 @@ fn has_books(issuer: &Issuer, books: Books) -> Result<bool, Fail> {
 }
 
 /// Compares how many orders were entered, and what is on the account.
-fn compare_books(issuer: &Issuer, books: Books) -> Result<(), Fail> {
-    check(has_books(issuer, books)?, "the books at the end")
+fn check_books(issuer: &Issuer, name: &str, books: Books) -> Result<(), Fail> {
+    check(has_books(issuer, books)?, name)
 }
 
 /// Whether an order gets that answer, or that refusal.
@@ -148,7 +146,7 @@ fn is_told(issuer: &mut Issuer, asked: Ask, told: Result<Reply, Refused>) -> Res
 }
 
 /// Hands orders to an issuer, and compares their answers and refusals.
-fn compare_replies(issuer: &mut Issuer, rows: &[Other]) -> Result<(), Fail> {
+fn check_replies(issuer: &mut Issuer, rows: &[Other]) -> Result<(), Fail> {
     for (name, asked, told) in rows {
         check(is_told(issuer, *asked, *told)?, *name)?;
     }
@@ -233,5 +231,9 @@ fn run_three(alloc: Global, issuer: &mut Issuer) -> Result<(), Fail> {
 fn runs(rt: HostRuntime) -> Result<(), Fail> {
     let mut issuer = issuer(rt.alloc(), 5000, 1)?;
     run_three(rt.alloc(), &mut issuer)?;
-    compare_books(&issuer, (1, (Some(4000), Some(4000))))
+    check_books(
+        &issuer,
+        "the books at the end",
+        (1, (Some(4000), Some(4000))),
+    )
 }

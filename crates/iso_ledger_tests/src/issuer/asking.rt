@@ -31,16 +31,6 @@ pub enum Ask {
     UndoOf(u32, u64, u32),
 }
 
-const ACCOUNT: &[u8] = b"4111111111111111";
-
-fn money(digits: &[u8], amount: u64, currency: [u8; 3]) -> Result<Money, Fail> {
-    Ok(Money {
-        pan: pan(digits)?,
-        amount,
-        currency,
-    })
-}
-
 fn key_of(asked: Ask) -> TxKey {
     match asked {
         Ask::Debit(base, stan, _) => key(base, stan),
@@ -139,5 +129,5 @@ pub fn balances_of(issuer: &Issuer, digits: &[u8]) -> Result<OnAccount, Fail> {
 
 /// What is on the account.
 pub fn balances(issuer: &Issuer) -> Result<OnAccount, Fail> {
-    balances_of(issuer, b"4111111111111111")
+    balances_of(issuer, ACCOUNT)
 }

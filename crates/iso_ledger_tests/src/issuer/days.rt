@@ -1,3 +1,4 @@
+//! Days of one account, order by order.
 use super::*;
 
 const PURCHASE: Ask = Debit(200, 7, 1000);
@@ -89,28 +90,41 @@ fn advice_over_a_hold(rt: HostRuntime) -> Result<(), Fail> {
     )
 }
 
-/// What an inquiry on an account of this opening amount is told.
-fn inquire(alloc: Global, opening: i64, told: Told) -> Result<(), Fail> {
+/// Inquires on an account of this opening amount.
+fn inquire(
+    alloc: Global,
+    name: &'static str,
+    opening: i64,
+    expected: Expected,
+) -> Result<(), Fail> {
     play(
         alloc,
         opening,
-        &[("an inquiry", Inquiry(1), told, (opening, opening))],
+        &[(name, Inquiry(1), expected, (opening, opening))],
     )
 }
 
-/// Opening amounts, and what an inquiry is told.
-const OPENINGS: &[(i64, Told)] = &[
-    (999_999_999_999, Shows(1, 999_999_999_999)),
-    (1_000_000_000_000, Declined(96, 1)),
-    (-50, Shows(1, -50)),
-    (-999_999_999_999, Shows(1, -999_999_999_999)),
-    (-1_000_000_000_000, Declined(96, 1)),
+/// Names, opening amounts, and what an inquiry is told.
+const OPENINGS: &[(&'static str, i64, Expected)] = &[
+    (
+        "the most that is shown",
+        999_999_999_999,
+        Shows(1, 999_999_999_999),
+    ),
+    ("one more", 1_000_000_000_000, Declined(96, 1)),
+    ("below zero", -50, Shows(1, -50)),
+    (
+        "the least that is shown",
+        -999_999_999_999,
+        Shows(1, -999_999_999_999),
+    ),
+    ("one less", -1_000_000_000_000, Declined(96, 1)),
 ];
 
 #[test]
 fn wide_balances(rt: HostRuntime) -> Result<(), Fail> {
-    for (opening, told) in OPENINGS {
-        inquire(rt.alloc(), *opening, *told)?;
+    for (name, opening, expected) in OPENINGS {
+        inquire(rt.alloc(), *name, *opening, *expected)?;
     }
     Ok(())
 }
@@ -119,27 +133,40 @@ const MOST: i64 = 9_000_000_000_000_000;
 
 const AMOUNT: u64 = 999_999_999_999;
 
-/// An advice leads from the opening amount down to less, and a refund back to it.
-fn down_and_back(alloc: Global, opening: i64, less: i64) -> Result<(), Fail> {
+/// An advice leads from the opening amount down to less, and a refund back to it, under these names.
+fn down_and_back(
+    alloc: Global,
+    down: &'static str,
+    back: &'static str,
+    opening: i64,
+    less: i64,
+) -> Result<(), Fail> {
     play(
         alloc,
         opening,
         &[
-            ("an advice", Debit(220, 1, AMOUNT), Granted(1), (less, less)),
-            (
-                "a refund",
-                Credit(2, AMOUNT),
-                Granted(2),
-                (opening, opening),
-            ),
+            (down, Debit(220, 1, AMOUNT), Granted(1), (less, less)),
+            (back, Credit(2, AMOUNT), Granted(2), (opening, opening)),
         ],
     )
 }
 
 #[test]
 fn ends_of_the_range(rt: HostRuntime) -> Result<(), Fail> {
-    down_and_back(rt.alloc(), MOST, 8_999_000_000_000_001)?;
-    down_and_back(rt.alloc(), -MOST, -9_000_999_999_999_999)
+    down_and_back(
+        rt.alloc(),
+        "an advice on the most",
+        "a refund up to the most",
+        MOST,
+        8_999_000_000_000_001,
+    )?;
+    down_and_back(
+        rt.alloc(),
+        "an advice on the least",
+        "a refund up to the least",
+        -MOST,
+        -9_000_999_999_999_999,
+    )
 }
 
 #[test]
@@ -202,7 +229,7 @@ fn early_reversals(rt: HostRuntime) -> Result<(), Fail> {
 
 /// Reverses a purchase before it comes, and tells how many orders are entered then, how the purchase is answered and
 /// what it leaves. Where memory runs out (`rt try --test --fail-alloc N`), the reversal leaves no entry and no mark.
-fn reversal_first(issuer: &mut Issuer) -> Result<(u32, Told, i64), Fail> {
+fn reversal_first(issuer: &mut Issuer) -> Result<(u32, Expected, i64), Fail> {
     match reply_to(issuer, REVERSAL)? {
         Err(Refused::Memory) => Ok((0, Granted(1), 4000)),
         told => {
@@ -212,14 +239,15 @@ fn reversal_first(issuer: &mut Issuer) -> Result<(u32, Told, i64), Fail> {
     }
 }
 
-fn compare_entries(issuer: &Issuer, count: u32) -> Result<(), Fail> {
-    check(entries(issuer) == count, "how many orders are entered")
+/// Compares how many orders are entered.
+fn check_entries(issuer: &Issuer, name: &str, count: u32) -> Result<(), Fail> {
+    check(entries(issuer) == count, name)
 }
 
 /// The reversal, its purchase and the reversal again.
 fn reversal_and_purchase(issuer: &mut Issuer) -> Result<(), Fail> {
     let (count, answer, left) = reversal_first(issuer)?;
-    compare_entries(issuer, count)?;
+    check_entries(issuer, "the entries before the purchase", count)?;
     let again = Granted(if count == 1 { 1 } else { 2 });
     play_on(
         issuer,
@@ -228,7 +256,7 @@ fn reversal_and_purchase(issuer: &mut Issuer) -> Result<(), Fail> {
             ("the reversal again", REVERSAL, again, (5000, 5000)),
         ],
     )?;
-    compare_entries(issuer, 2)
+    check_entries(issuer, "the entries at the end", 2)
 }
 
 #[test]

@@ -1,3 +1,4 @@
+//! Documents of accounts: what is read of them, and what is wrong with them.
 use super::*;
 
 const TWO_ACCOUNTS: &[u8] =
@@ -26,26 +27,26 @@ fn issuer_of_none(alloc: Global) -> Result<Issuer, Fail> {
 }
 
 /// Compares what is on each account, and that no order is entered.
-fn compare_two(issuer: &Issuer) -> Result<(), Fail> {
+fn check_two(issuer: &Issuer) -> Result<(), Fail> {
     for (name, digits, balance) in BALANCES {
         check(has_balance(issuer, *digits, *balance)?, *name)?;
     }
     check(entries(issuer) == 0, "no order")
 }
 
-fn two_are_read(alloc: Global) -> Result<(), Fail> {
-    compare_two(&issuer_of_two(alloc)?)
+fn check_two_read(alloc: Global) -> Result<(), Fail> {
+    check_two(&issuer_of_two(alloc)?)
 }
 
-fn none_is_read(alloc: Global) -> Result<(), Fail> {
+fn check_none_read(alloc: Global) -> Result<(), Fail> {
     let none = issuer_of_none(alloc)?;
     check(has_balance(&none, b"01", None)?, "no account")
 }
 
 #[test]
 fn accounts_are_read(rt: HostRuntime) -> Result<(), Fail> {
-    two_are_read(rt.alloc())?;
-    none_is_read(rt.alloc())
+    check_two_read(rt.alloc())?;
+    check_none_read(rt.alloc())
 }
 
 /// What is wrong with a document; where memory runs out, the test ends.

@@ -1,3 +1,4 @@
+//! The numbers and the texts of the faults of accounts and of refusals.
 use super::*;
 
 const ACCOUNTS_FAULTS: &[(AccountsFault, u8, &str)] = &[

@@ -1,6 +1,7 @@
 //! Generated runs: the issuer answers as the plain program does.
-use super::scanning::{Listed, Scanning, Told};
+use super::scanning::{Listed, PlainReply, Scanning};
 use super::*;
+use crate::generated::{Generator, check_codes};
 use std::collections::BTreeSet;
 
 const ACCOUNTS: &[u8] =
@@ -8,35 +9,28 @@ const ACCOUNTS: &[u8] =
     {\"currency\":\"840\",\"opening\":0,\"pan\":\"01\"},{\"currency\":\"978\",\"opening\":100,\"pan\":\"1\"}]}";
 
 /// The numbers of the accounts, and one that has none.
-const NUMBERS: &[&[u8]] = &[b"4111111111111111", b"01", b"1", b"2"];
+const NUMBERS: &[&[u8]] = &[ACCOUNT, b"01", b"1", b"2"];
 
 /// Stands for a refusal among the codes.
 const FULL: u8 = 255;
 
-/// Draws numbers, always the same ones.
+/// Draws orders.
 #[derive(Drop)]
 pub struct Draws {
-    state: u64,
+    pub generator: Generator,
     /// How many trace numbers there are.
     stans: u32,
 }
 
 impl Draws {
     pub fn new(state: u64, stans: u32) -> Draws {
-        Draws { state, stans }
-    }
-
-    pub fn next(&mut self) -> u64 {
-        self.state = self
-            .state
-            .wrapping_mul(6_364_136_223_846_793_005)
-            .wrapping_add(1_442_695_040_888_963_407);
-        self.state >> 33
+        let generator = Generator::new(state);
+        Draws { generator, stans }
     }
 
     /// The type of a payment.
     fn base(&mut self) -> u16 {
-        match self.next() % 4 {
+        match self.generator.next() % 4 {
             0 => 100,
             1 => 220,
             _ => 200,
@@ -45,30 +39,30 @@ impl Draws {
 
     /// One of few trace numbers, so that keys come again and reversals find them.
     fn stan(&mut self) -> u32 {
-        (self.next() % 600_000) as u32 % self.stans.max(1)
+        (self.generator.next() % 600_000) as u32 % self.stans.max(1)
     }
 
     /// What a reversal leaves: often nothing.
     fn left(&mut self) -> u64 {
-        match self.next() % 2 {
+        match self.generator.next() % 2 {
             0 => 0,
-            _ => self.next() % 2000,
+            _ => self.generator.next() % 2000,
         }
     }
 
     /// The number of one of four accounts, of which one is unknown.
     fn number(&mut self) -> &'static [u8] {
-        match self.next() % 8 {
+        match self.generator.next() % 8 {
             0 => b"1",
             1 | 2 => b"01",
             3 => b"2",
-            _ => b"4111111111111111",
+            _ => ACCOUNT,
         }
     }
 
     /// Seldom another currency.
     fn currency(&mut self) -> [u8; 3] {
-        if self.next() % 16 == 0 {
+        if self.generator.next() % 16 == 0 {
             *b"978"
         } else {
             *b"840"
@@ -77,19 +71,15 @@ impl Draws {
 
     /// Money of an account.
     fn money(&mut self) -> Result<Money, Fail> {
-        let pan = pan(self.number())?;
-        let amount = self.next() % 3000 + 1;
+        let number = self.number();
+        let amount = self.generator.next() % 3000 + 1;
         let currency = self.currency();
-        Ok(Money {
-            pan,
-            amount,
-            currency,
-        })
+        money(number, amount, currency)
     }
 
     /// An order that a message can carry, or none.
     pub fn order(&mut self) -> Result<Option<Order>, Fail> {
-        let kind = self.next() % 10;
+        let kind = self.generator.next() % 10;
         let (base, stan) = (self.base(), self.stan());
         let money = self.money()?;
         let act = match kind {
@@ -113,25 +103,28 @@ impl Draws {
     }
 }
 
-/// What an answer tells.
-fn told_of(answer: Result<Answer, Refused>) -> Result<Told, Refused> {
+/// An answer as the plain program gives it.
+fn plain_reply(answer: Result<Answer, Refused>) -> Result<PlainReply, Refused> {
     let answer = answer?;
     Ok((answer.code, answer.seq as usize, answer.shown))
 }
 
 /// Handles an order, and again where memory ran out, which changed nothing.
-fn answered(issuer: &mut Issuer, order: Order) -> Result<Result<Told, Refused>, Fail> {
+fn answered(issuer: &mut Issuer, order: Order) -> Result<Result<PlainReply, Refused>, Fail> {
     let len = entries(issuer);
-    let told = told_of(answer_to(issuer, order));
+    let told = plain_reply(answer_to(issuer, order));
     if told != Err(Refused::Memory) {
         return Ok(told);
     }
     check(entries(issuer) == len, "no entry without memory")?;
-    Ok(told_of(answer_to(issuer, order)))
+    Ok(plain_reply(answer_to(issuer, order)))
 }
 
 /// What the plain program answers to an order.
-fn plainly_answered(scanning: &mut Scanning, order: Order) -> Result<Result<Told, Refused>, Fail> {
+fn plainly_answered(
+    scanning: &mut Scanning,
+    order: Order,
+) -> Result<Result<PlainReply, Refused>, Fail> {
     let told = scanning.handle(order);
     if told == Err(Refused::Memory) {
         return Err("the plain program has no memory")?;
@@ -148,14 +141,14 @@ fn plain_balances(scanning: &Scanning, number: Pan) -> OnAccount {
 }
 
 /// Whether the balances of a number are those that the plain program tells.
-fn tell_the_same(issuer: &Issuer, scanning: &Scanning, number: Pan) -> bool {
+fn has_plain_balances(issuer: &Issuer, scanning: &Scanning, number: Pan) -> bool {
     (ledger_of(issuer, number), available_to(issuer, number)) == plain_balances(scanning, number)
 }
 
 /// Whether the balances of each number are the same.
-fn tell_the_same_of_all(issuer: &Issuer, scanning: &Scanning) -> Result<bool, Fail> {
+fn has_all_plain_balances(issuer: &Issuer, scanning: &Scanning) -> Result<bool, Fail> {
     for text in NUMBERS {
-        if !tell_the_same(issuer, scanning, pan(*text)?) {
+        if !has_plain_balances(issuer, scanning, pan(*text)?) {
             return Ok(false);
         }
     }
@@ -163,32 +156,33 @@ fn tell_the_same_of_all(issuer: &Issuer, scanning: &Scanning) -> Result<bool, Fa
 }
 
 /// Whether as many orders were entered, and the balances of each number are the same.
-fn have_the_same(issuer: &Issuer, scanning: &Scanning) -> Result<bool, Fail> {
-    Ok(entries(issuer) as usize == scanning.len() && tell_the_same_of_all(issuer, scanning)?)
+fn are_alike(issuer: &Issuer, scanning: &Scanning) -> Result<bool, Fail> {
+    Ok(entries(issuer) as usize == scanning.len() && has_all_plain_balances(issuer, scanning)?)
 }
 
-/// Ends the test with the order, unless it is so.
-fn check_order(is_so: bool, order: Order) -> Result<(), Fail> {
+/// Ends the test with the order and what was compared, unless it is so.
+fn check_order(is_so: bool, order: Order, what: &str) -> Result<(), Fail> {
     if is_so {
         Ok(())
     } else {
-        Err(Fail::new(format_args!("{order:?}")))
+        Err(Fail::new(format_args!("{order:?}: {what}")))
     }
 }
 
 /// The code of what was told.
-fn code_of(told: Result<Told, Refused>) -> u8 {
+fn code_of(told: Result<PlainReply, Refused>) -> u8 {
     match told {
         Ok((code, _, _)) => code,
         Err(_) => FULL,
     }
 }
 
-/// Hands an order to the issuer and to the plain program, and tells its code.
-fn step(issuer: &mut Issuer, scanning: &mut Scanning, order: Order) -> Result<u8, Fail> {
+/// Hands an order to the issuer and to the plain program, compares both, and gives the code.
+fn check_answer(issuer: &mut Issuer, scanning: &mut Scanning, order: Order) -> Result<u8, Fail> {
     let told = answered(issuer, order)?;
-    check_order(told == plainly_answered(scanning, order)?, order)?;
-    check_order(have_the_same(issuer, scanning)?, order)?;
+    let is_same = told == plainly_answered(scanning, order)?;
+    check_order(is_same, order, "the answer")?;
+    check_order(are_alike(issuer, scanning)?, order, "the books")?;
     Ok(code_of(told))
 }
 
@@ -196,7 +190,7 @@ fn step(issuer: &mut Issuer, scanning: &mut Scanning, order: Order) -> Result<u8
 fn listed() -> Result<[Listed; 3], Fail> {
     let accounts = [
         Listed {
-            pan: pan(b"4111111111111111")?,
+            pan: pan(ACCOUNT)?,
             currency: *b"840",
             opening: 5000,
         },
@@ -214,15 +208,15 @@ fn listed() -> Result<[Listed; 3], Fail> {
     Ok(accounts)
 }
 
-/// Hands the orders that are drawn to a new issuer and to the plain program, and collects the codes.
-fn compare(alloc: Global, draws: &mut Draws, codes: &mut BTreeSet<u8>) -> Result<(), Fail> {
+/// Hands the orders that are drawn to a new issuer and to the plain program, compares both, and collects the codes.
+fn check_run(alloc: Global, draws: &mut Draws, codes: &mut BTreeSet<u8>) -> Result<(), Fail> {
     let mut scanning = Scanning::new(alloc, listed()?, 120);
     let mut issuer = Issuer::new(Accounts::from_json(alloc, ACCOUNTS)?, 120);
-    compare_all(&mut issuer, &mut scanning, draws, codes)
+    check_answers(&mut issuer, &mut scanning, draws, codes)
 }
 
-/// Hands the orders that are drawn to both.
-fn compare_all(
+/// Hands the orders that are drawn to both, compares them after each, and collects the codes.
+fn check_answers(
     issuer: &mut Issuer,
     scanning: &mut Scanning,
     draws: &mut Draws,
@@ -230,17 +224,7 @@ fn compare_all(
 ) -> Result<(), Fail> {
     for _ in 0..300 {
         if let Some(order) = draws.order()? {
-            codes.insert(step(issuer, scanning, order)?)?;
-        }
-    }
-    Ok(())
-}
-
-/// Ends the test with a code of these that isn't among those that were collected.
-pub fn check_codes(codes: &BTreeSet<u8>, expected: &[u8]) -> Result<(), Fail> {
-    for code in expected {
-        if !codes.contains(code) {
-            return Err(Fail::new(*code));
+            codes.insert(check_answer(issuer, scanning, order)?)?;
         }
     }
     Ok(())
@@ -251,7 +235,7 @@ fn codes_of_runs(alloc: Global) -> Result<BTreeSet<u8>, Fail> {
     let mut draws = Draws::new(1, 60);
     let mut codes = BTreeSet::new(alloc);
     for _ in 0..12 {
-        compare(alloc, &mut draws, &mut codes)?;
+        check_run(alloc, &mut draws, &mut codes)?;
     }
     Ok(codes)
 }

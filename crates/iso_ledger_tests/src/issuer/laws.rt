@@ -183,7 +183,7 @@ type Length = (&'static str, Ask, u32);
 /// Hands what is asked to an issuer, and compares how many orders it has entered after each.
 fn grow(alloc: Global, rows: &[Length]) -> Result<(), Fail> {
     let mut issuer = issuer(alloc, 5000, 100)?;
-    compare_lengths(&mut issuer, rows)
+    check_lengths(&mut issuer, rows)
 }
 
 /// Whether an issuer has entered that many orders once it is asked.
@@ -192,7 +192,8 @@ fn grows_to(issuer: &mut Issuer, asked: Ask, length: u32) -> Result<bool, Fail> 
     Ok(entries(issuer) == length)
 }
 
-fn compare_lengths(issuer: &mut Issuer, rows: &[Length]) -> Result<(), Fail> {
+/// Compares how many orders are entered after each.
+fn check_lengths(issuer: &mut Issuer, rows: &[Length]) -> Result<(), Fail> {
     for (name, asked, length) in rows {
         check(grows_to(issuer, *asked, *length)?, *name)?;
     }
@@ -221,11 +222,11 @@ fn known_keys_enter_once(rt: HostRuntime) -> Result<(), Fail> {
 /// A payment, another one under its key, its reversal, and the payment again.
 fn repeat(alloc: Global) -> Result<(), Fail> {
     let mut issuer = issuer(alloc, 5000, 100)?;
-    compare_new(
+    check_new(
         &mut issuer,
         &[("a payment", Debit(200, 1, 700), (0, 1, None))],
     )?;
-    compare_replies(
+    check_replies(
         &mut issuer,
         &[
             ("another amount", Debit(200, 1, 900), Ok((94, 0, None))),
@@ -257,34 +258,34 @@ const DAY: &[(&'static str, Ask)] = &[
     ("a credit", Credit(9, 350)),
 ];
 
-/// The orders of the day in another order leave the same on the account: 5000 less 200 and 100, with
-/// 350 more, of which 40 are held.
-fn leaves_the_same(alloc: Global, places: &[usize]) -> Result<(), Fail> {
+/// Compares that the orders of the day, in another order of that name, leave the same on the account: 5000 less
+/// 200 and 100, with 350 more, of which 40 are held.
+fn check_day(alloc: Global, name: &str, places: &[usize]) -> Result<(), Fail> {
     let mut issuer = issuer(alloc, 5000, 100)?;
-    hand_over_all(&mut issuer, places)?;
-    compare_books(&issuer, (9, (Some(5050), Some(5010))))
+    hand_over_all(&mut issuer, name, places)?;
+    check_books(&issuer, name, (9, (Some(5050), Some(5010))))
 }
 
 /// Hands over the orders of the day that stand at these places.
-fn hand_over_all(issuer: &mut Issuer, places: &[usize]) -> Result<(), Fail> {
+fn hand_over_all(issuer: &mut Issuer, name: &str, places: &[usize]) -> Result<(), Fail> {
     for place in places {
-        hand_over(issuer, *place)?;
+        hand_over(issuer, name, *place)?;
     }
     Ok(())
 }
 
 /// Hands over the order of the day that stands at this place, and isn't declined for want of money.
-fn hand_over(issuer: &mut Issuer, place: usize) -> Result<(), Fail> {
-    let (name, asked) = DAY.get(place).copied().ok_or("a place of the day")?;
+fn hand_over(issuer: &mut Issuer, name: &str, place: usize) -> Result<(), Fail> {
+    let (what, asked) = DAY.get(place).copied().ok_or("a place of the day")?;
     let (code, _, _) = reply_to(issuer, asked)??;
-    check(code != 51, name)
+    check_of(code != 51, name, what)
 }
 
 #[test]
 fn any_order_leaves_the_same(rt: HostRuntime) -> Result<(), Fail> {
     reordered();
-    leaves_the_same(rt.alloc(), &[0, 1, 2, 3, 4, 5, 6, 7, 8])?;
-    leaves_the_same(rt.alloc(), &[8, 7, 6, 5, 4, 3, 2, 1, 0])?;
-    leaves_the_same(rt.alloc(), &[3, 6, 1, 4, 0, 8, 5, 2, 7])?;
-    leaves_the_same(rt.alloc(), &[5, 2, 7, 0, 6, 3, 8, 1, 4])
+    check_day(rt.alloc(), "in order", &[0, 1, 2, 3, 4, 5, 6, 7, 8])?;
+    check_day(rt.alloc(), "backwards", &[8, 7, 6, 5, 4, 3, 2, 1, 0])?;
+    check_day(rt.alloc(), "mixed", &[3, 6, 1, 4, 0, 8, 5, 2, 7])?;
+    check_day(rt.alloc(), "mixed again", &[5, 2, 7, 0, 6, 3, 8, 1, 4])
 }

@@ -1,7 +1,8 @@
 //! Lists of orders of distinct keys, no two of which reverse one key, and none of which is declined for
 //! want of money: whatever their order, each account ends with the same.
-use super::generated::{Draws, check_codes};
+use super::generated::Draws;
 use super::*;
+use crate::generated::{Generator, check_codes};
 use std::collections::BTreeSet;
 
 /// Accounts on which is enough for every order.
@@ -10,7 +11,7 @@ const ACCOUNTS: &[u8] =
     {\"currency\":\"840\",\"opening\":8000000,\"pan\":\"01\"},{\"currency\":\"978\",\"opening\":7000000,\"pan\":\"1\"}]}";
 
 /// The numbers of the accounts.
-const NUMBERS: &[&[u8]] = &[b"4111111111111111", b"01", b"1"];
+const NUMBERS: &[&[u8]] = &[ACCOUNT, b"01", b"1"];
 
 /// The keys that came, and those that were reversed.
 #[derive(Drop)]
@@ -52,10 +53,10 @@ fn distinct(alloc: Global, draws: &mut Draws) -> Result<Vec<Order>, Fail> {
 }
 
 /// Puts the orders into another order.
-fn shuffle(draws: &mut Draws, orders: &mut [Order]) {
+fn shuffle(generator: &mut Generator, orders: &mut [Order]) {
     let len = orders.len();
     for i in 0..len {
-        let other = (draws.next() % (len as u64).max(1)) as usize;
+        let other = (generator.next() % (len as u64).max(1)) as usize;
         if i < orders.len() && other < orders.len() {
             orders.swap(i, other);
         }
@@ -71,11 +72,26 @@ fn issuer_of_three(alloc: Global) -> Result<Issuer, Fail> {
     Ok(Issuer::new(Accounts::from_json(alloc, ACCOUNTS)?, 999))
 }
 
-/// An issuer that handled the orders, each of which was new, and collects the codes.
-fn handled(alloc: Global, orders: &[Order], codes: &mut BTreeSet<u8>) -> Result<Issuer, Fail> {
+/// Ends the test with the list and what was compared, unless it is so.
+fn check_list(is_so: bool, list: u64, what: &str) -> Result<(), Fail> {
+    if is_so {
+        Ok(())
+    } else {
+        Err(Fail::new(format_args!("list {list}: {what}")))
+    }
+}
+
+/// An issuer that handled the orders of a list, each of which was new, and collects the codes.
+fn handled(
+    alloc: Global,
+    list: u64,
+    orders: &[Order],
+    codes: &mut BTreeSet<u8>,
+) -> Result<Issuer, Fail> {
     let mut issuer = issuer_of_three(alloc)?;
     hand_over(&mut issuer, orders, codes)?;
-    check(has_entered(&issuer, orders.len()), "each order is entered")?;
+    let are_entered = has_entered(&issuer, orders.len());
+    check_list(are_entered, list, "each order is entered")?;
     Ok(issuer)
 }
 
@@ -87,51 +103,42 @@ fn hand_over(issuer: &mut Issuer, orders: &[Order], codes: &mut BTreeSet<u8>) ->
     Ok(())
 }
 
-/// Ends the test with the list, unless it is so.
-fn check_list(is_so: bool, list: u64) -> Result<(), Fail> {
-    if is_so {
-        Ok(())
-    } else {
-        Err(Fail::new(format_args!("list {list}")))
-    }
-}
-
 /// Whether both have the account of these digits, and the same on it.
-fn have_the_same(one: &Issuer, other: &Issuer, digits: &[u8]) -> Result<bool, Fail> {
+fn has_same_account(one: &Issuer, other: &Issuer, digits: &[u8]) -> Result<bool, Fail> {
     let (ledger, available) = balances_of(one, digits)?;
     Ok(ledger.is_some() && (ledger, available) == balances_of(other, digits)?)
 }
 
 /// Compares what is on each account.
-fn tell_the_same(one: &Issuer, other: &Issuer, list: u64) -> Result<(), Fail> {
+fn check_accounts(one: &Issuer, other: &Issuer, list: u64) -> Result<(), Fail> {
     for digits in NUMBERS {
-        check_list(have_the_same(one, other, *digits)?, list)?;
+        check_list(has_same_account(one, other, *digits)?, list, "the accounts")?;
     }
     Ok(())
 }
 
 /// Hands over the list in another order, and compares what is on each account.
-fn compare_shuffled(
+fn check_shuffled(
     alloc: Global,
+    list: u64,
     first: &Issuer,
     draws: &mut Draws,
     orders: &mut [Order],
     codes: &mut BTreeSet<u8>,
-    list: u64,
 ) -> Result<(), Fail> {
-    shuffle(draws, orders);
-    let other = handled(alloc, orders, codes)?;
-    tell_the_same(first, &other, list)
+    shuffle(&mut draws.generator, orders);
+    let other = handled(alloc, list, orders, codes)?;
+    check_accounts(first, &other, list)
 }
 
 /// Hands over a list, and then the same list in three other orders.
-fn compare(alloc: Global, list: u64, codes: &mut BTreeSet<u8>) -> Result<(), Fail> {
+fn check_orders(alloc: Global, list: u64, codes: &mut BTreeSet<u8>) -> Result<(), Fail> {
     let mut draws = Draws::new(list, 200);
     let mut orders = distinct(alloc, &mut draws)?;
-    check_list(orders.len() >= 250, list)?;
-    let first = handled(alloc, &orders, codes)?;
+    check_list(orders.len() >= 250, list, "at least 250 orders")?;
+    let first = handled(alloc, list, &orders, codes)?;
     for _ in 0..3 {
-        compare_shuffled(alloc, &first, &mut draws, &mut orders, codes, list)?;
+        check_shuffled(alloc, list, &first, &mut draws, &mut orders, codes)?;
     }
     Ok(())
 }
@@ -140,7 +147,7 @@ fn compare(alloc: Global, list: u64, codes: &mut BTreeSet<u8>) -> Result<(), Fai
 fn codes_of_lists(alloc: Global) -> Result<BTreeSet<u8>, Fail> {
     let mut codes = BTreeSet::new(alloc);
     for list in 1..9 {
-        compare(alloc, list, &mut codes)?;
+        check_orders(alloc, list, &mut codes)?;
     }
     Ok(codes)
 }

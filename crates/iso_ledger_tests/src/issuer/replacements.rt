@@ -1,12 +1,6 @@
 //! Partial reversals: of an original all but the replacement amount is taken back, once.
-use super::wire::exchanges;
+use super::wire::{GRANTED, NEXT_REVERSAL, NEXT_REVERSED, PAYMENT, REVERSED, exchanges};
 use super::*;
-
-const PAYMENT: &[u8] =
-    b"0200722000010000800016411111111111111100000000000000100001020304050000070512345840";
-
-const GRANTED: &[u8] =
-    b"021072200001060080001641111111111111110000000000000010000102030405000007051234500000100840";
 
 const GRANTED_SECOND: &[u8] =
     b"021072200001060080001641111111111111110000000000000010000102030405000007051234500000200840";
@@ -19,15 +13,6 @@ const LEAVES_2000: &[u8] =
 
 const LEAVES_NOTHING: &[u8] =
     b"04208220000100000000000000420000000001020305000000080512345020000000701020304050000001234500000000000000000000000000000000000D00000000D00000000";
-
-const REVERSED: &[u8] =
-    b"0430822000010200000000000040000000000102030500000008051234500020000000701020304050000001234500000000000";
-
-const NEXT_REVERSAL: &[u8] =
-    b"04208220000100000000000000400000000001020305000000090512345020000000701020304050000001234500000000000";
-
-const NEXT_REVERSED: &[u8] =
-    b"0430822000010200000000000040000000000102030500000009051234500020000000701020304050000001234500000000000";
 
 #[test]
 fn partial_reversal_of_a_payment(rt: HostRuntime) -> Result<(), Fail> {
@@ -47,28 +32,57 @@ fn partial_reversal_of_a_payment(rt: HostRuntime) -> Result<(), Fail> {
     )
 }
 
-/// A partial reversal that leaves 400, and then its payment of 1000, which is told this and leaves that.
-fn early(alloc: Global, opening: i64, told: Told, left: i64) -> Result<(), Fail> {
+/// A partial reversal that leaves 400, and then its payment of 1000, which is told this and leaves that,
+/// under these names.
+fn early(
+    alloc: Global,
+    reversal: &'static str,
+    payment: &'static str,
+    opening: i64,
+    expected: Expected,
+    left: i64,
+) -> Result<(), Fail> {
     play(
         alloc,
         opening,
         &[
             (
-                "the partial reversal",
+                reversal,
                 Undo(8, 200, 7, 400),
                 Granted(1),
                 (opening, opening),
             ),
-            ("its payment", Debit(200, 7, 1000), told, (left, left)),
+            (payment, Debit(200, 7, 1000), expected, (left, left)),
         ],
     )
 }
 
 #[test]
 fn early_partial_reversals(rt: HostRuntime) -> Result<(), Fail> {
-    early(rt.alloc(), 5000, Granted(2), 4600)?;
-    early(rt.alloc(), 500, Granted(2), 100)?;
-    early(rt.alloc(), 300, Declined(51, 2), 300)
+    early(
+        rt.alloc(),
+        "a reversal on 5000",
+        "its payment out of 5000",
+        5000,
+        Granted(2),
+        4600,
+    )?;
+    early(
+        rt.alloc(),
+        "a reversal on 500",
+        "its payment out of 500",
+        500,
+        Granted(2),
+        100,
+    )?;
+    early(
+        rt.alloc(),
+        "a reversal on 300",
+        "its payment out of 300",
+        300,
+        Declined(51, 2),
+        300,
+    )
 }
 
 /// A payment comes, and then its reversals.
@@ -90,7 +104,7 @@ fn early_by_bytes(alloc: Global) -> Result<(), Fail> {
         alloc,
         5000,
         &[
-            ("the partial reversal", LEAVES_400, REVERSED, 5000, 5000),
+            ("an early reversal", LEAVES_400, REVERSED, 5000, 5000),
             ("its payment", PAYMENT, GRANTED_SECOND, 4600, 4600),
         ],
     )
@@ -102,7 +116,7 @@ fn above_by_bytes(alloc: Global) -> Result<(), Fail> {
         alloc,
         5000,
         &[
-            ("a payment", PAYMENT, GRANTED, 4000, 4000),
+            ("a smaller payment", PAYMENT, GRANTED, 4000, 4000),
             ("a replacement above it", LEAVES_2000, REVERSED, 4000, 4000),
         ],
     )
@@ -114,7 +128,7 @@ fn none_by_bytes(alloc: Global) -> Result<(), Fail> {
         alloc,
         5000,
         &[
-            ("a payment", PAYMENT, GRANTED, 4000, 4000),
+            ("a payment for nothing", PAYMENT, GRANTED, 4000, 4000),
             (
                 "a replacement of nothing",
                 LEAVES_NOTHING,

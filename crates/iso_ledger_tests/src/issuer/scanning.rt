@@ -3,14 +3,14 @@ ghost use Rattle.std.specs.Prelude.{◌≤◌};
 
 use super::*;
 
-/// A code, a place in the journal, and what is shown.
-pub type Told = (u8, usize, Option<i64>);
+/// What the plain program answers: a code, a place in the journal, and what is shown.
+pub type PlainReply = (u8, usize, Option<i64>);
 
-/// An order that was entered, and what was told.
+/// An order that was entered, and its answer.
 #[derive(Clone, Copy)]
 struct Kept {
     order: Order,
-    told: Told,
+    reply: PlainReply,
 }
 
 /// An account, and what is on it at first.
@@ -74,7 +74,7 @@ impl Scanning {
     }
 
     fn is_granted(&self, kept: Kept) -> bool {
-        kept.told.0 == 0 && self.left(kept.order.key()) != Some(0)
+        kept.reply.0 == 0 && self.left(kept.order.key()) != Some(0)
     }
 
     fn is_completed(&self, key: TxKey, pan: Pan) -> bool {
@@ -173,28 +173,28 @@ impl Scanning {
         None
     }
 
-    /// What is told of an order of a new key.
-    fn told(&self, order: Order) -> Told {
+    /// The answer to an order of a new key.
+    fn reply(&self, order: Order) -> PlainReply {
         let code = self.code(order);
         let shown = if code == 0 { self.shown(order) } else { None };
         (code, self.journal.len().saturating_add(1), shown)
     }
 
     /// Enters an order of a new key.
-    fn enter(&mut self, order: Order) -> Result<Told, Refused> {
+    fn enter(&mut self, order: Order) -> Result<PlainReply, Refused> {
         if self.journal.len() >= self.limit {
             return Err(Refused::Full);
         }
-        let told = self.told(order);
-        match self.journal.push(Kept { order, told }) {
-            Ok(()) => Ok(told),
+        let reply = self.reply(order);
+        match self.journal.push(Kept { order, reply }) {
+            Ok(()) => Ok(reply),
             Err(_) => Err(Refused::Memory),
         }
     }
 
-    pub fn handle(&mut self, order: Order) -> Result<Told, Refused> {
+    pub fn handle(&mut self, order: Order) -> Result<PlainReply, Refused> {
         match self.kept(order.key()) {
-            Some(kept) if kept.order == order => Ok(kept.told),
+            Some(kept) if kept.order == order => Ok(kept.reply),
             Some(_) => Ok((94, 0, None)),
             None => self.enter(order),
         }

@@ -4,7 +4,7 @@ use iso_order::{Verdict, order_of, respond};
 use iso_table::Table;
 use iso_wire::{Message, pack, unpack};
 
-const PAYMENT: &[u8] =
+pub const PAYMENT: &[u8] =
     b"0200722000010000800016411111111111111100000000000000100001020304050000070512345840";
 
 const PAYMENT_AGAIN: &[u8] =
@@ -13,7 +13,7 @@ const PAYMENT_AGAIN: &[u8] =
 const PAYMENT_OF_MORE: &[u8] =
     b"0200722000010000800016411111111111111100000000000000200001020304050000070512345840";
 
-const GRANTED: &[u8] =
+pub const GRANTED: &[u8] =
     b"021072200001060080001641111111111111110000000000000010000102030405000007051234500000100840";
 
 const UNDONE_BEFORE: &[u8] =
@@ -28,13 +28,13 @@ const REVERSAL: &[u8] =
 const REVERSAL_AGAIN: &[u8] =
     b"04218220000100000000000000400000000001020305000000080512345020000000701020304050000001234500000000000";
 
-const REVERSED: &[u8] =
+pub const REVERSED: &[u8] =
     b"0430822000010200000000000040000000000102030500000008051234500020000000701020304050000001234500000000000";
 
-const NEXT_REVERSAL: &[u8] =
+pub const NEXT_REVERSAL: &[u8] =
     b"04208220000100000000000000400000000001020305000000090512345020000000701020304050000001234500000000000";
 
-const NEXT_REVERSED: &[u8] =
+pub const NEXT_REVERSED: &[u8] =
     b"0430822000010200000000000040000000000102030500000009051234500020000000701020304050000001234500000000000";
 
 const INQUIRY: &[u8] = b"0200622000010000800016411111111111111131000001020306000000090512345840";
@@ -142,11 +142,10 @@ fn exchange_all(
     day: &[Exchange],
 ) -> Result<(), Fail> {
     for (name, request, response, ledger, available) in day {
-        check(
-            is_answered_by(alloc, table, issuer, *request, *response)?,
-            *name,
-        )?;
-        check(is_on_account(issuer, *ledger, *available)?, *name)?;
+        let is_answered = is_answered_by(alloc, table, issuer, *request, *response)?;
+        check_of(is_answered, *name, "the response")?;
+        let is_left = is_on_account(issuer, *ledger, *available)?;
+        check_of(is_left, *name, "the account")?;
     }
     Ok(())
 }
