@@ -1,8 +1,10 @@
+//! What an acquirer does by itself, and what it and an issuer agree on whatever is lost, late or repeated between them.
 ghost use Rattle.std.specs.Prelude.{IfOk};
 ghost use Rattle.iso_acquirer.specs.World.{IsFairEvent};
 
+use crate::accounts::{ACCOUNT, pan};
 use iso_acquirer::{AcqFault, Acquirer, Event, Given, State, StepFault, World};
-use iso_fakes::check;
+use iso_fakes::{check, check_of};
 use iso_issuer::{Accounts, Issuer, Refused};
 use iso_order::{Act, Money, Order, Pan, TxKey};
 use std::alloc::Global;
@@ -32,14 +34,8 @@ const ID: u64 = 12_345;
 
 const SENT: u64 = 102_030_405;
 
-/// The numbers of the accounts.
-const ACCOUNT: &[u8] = b"4111111111111111";
-
+/// The number of the other account.
 const OTHER: &[u8] = b"01";
-
-fn pan(text: &[u8]) -> Result<Pan, Fail> {
-    Ok(Pan::from_digits(text).ok_or("1 to 19 digits")?)
-}
 
 fn account() -> Result<Pan, Fail> {
     pan(ACCOUNT)
@@ -146,7 +142,7 @@ fn available_in(world: &World) -> Result<Option<i64>, Fail> {
 
 /// An event, as tables have it: a debit of an amount, a timeout of a transaction, what is delivered from a place of a list, or
 /// an order of another acquirer.
-#[derive(Clone, Copy, Debug)]
+#[derive(Clone, Copy)]
 enum Happens {
     Begin(u64),
     Timeout(u32),
@@ -198,25 +194,23 @@ fn is_available(world: &World, amount: i64) -> Result<bool, Fail> {
     Ok(available_in(world)? == Some(amount))
 }
 
-/// An event, what comes of it, the state that the acquirer then holds of a transaction, and what is then on the account.
-type PlayedEvent = (Happens, Result<(), StepFault>, Option<State>, i64);
-
-/// Ends the test with an event of a table, unless it is so.
-fn check_played(is_so: bool, happens: Happens) -> Result<(), Fail> {
-    if is_so {
-        Ok(())
-    } else {
-        Err(Fail::new(format_args!("{happens:?}")))
-    }
-}
+/// A name, an event, what comes of it, the state that the acquirer then holds of a transaction, and what is then on the
+/// account.
+type PlayedEvent = (
+    &'static str,
+    Happens,
+    Result<(), StepFault>,
+    Option<State>,
+    i64,
+);
 
 /// Plays an event.
 fn play_one(world: &mut World, stan: u32, row: &PlayedEvent) -> Result<(), Fail> {
-    let (happens, told, state, left) = row;
-    check_played(comes_to(world, *happens, *told)?, *happens)?;
-    check_played(is_in_state(world, stan, *state), *happens)?;
-    check_played(is_on_ledger(world, *left)?, *happens)?;
-    check_played(is_available(world, *left)?, *happens)
+    let (name, happens, told, state, left) = row;
+    check_of(comes_to(world, *happens, *told)?, *name, "the event")?;
+    check_of(is_in_state(world, stan, *state), *name, "the state")?;
+    check_of(is_on_ledger(world, *left)?, *name, "the ledger")?;
+    check_of(is_available(world, *left)?, *name, "what is available")
 }
 
 /// Plays events.

@@ -9,21 +9,21 @@ pub fn debit_amount_of(order: &Order) -> Option<i64> {
     }
 }
 
-/// Ends the test with a key, unless it is so.
-fn check_key(is_so: bool, key: TxKey) -> Result<(), Fail> {
+/// Ends the test with a key and what was compared, unless it is so.
+fn check_key(is_so: bool, key: TxKey, what: &str) -> Result<(), Fail> {
     if is_so {
         Ok(())
     } else {
-        Err(Fail::new(format_args!("{key:?}")))
+        Err(Fail::new(format_args!("{key:?}: {what}")))
     }
 }
 
-/// Ends the test with a key and a state, unless it is so.
-fn check_state(is_so: bool, key: TxKey, state: State) -> Result<(), Fail> {
+/// Ends the test with a key, a state and what was compared, unless it is so.
+fn check_state(is_so: bool, key: TxKey, state: State, what: &str) -> Result<(), Fail> {
     if is_so {
         Ok(())
     } else {
-        Err(Fail::new(format_args!("{key:?} {state:?}")))
+        Err(Fail::new(format_args!("{key:?} {state:?}: {what}")))
     }
 }
 
@@ -133,28 +133,29 @@ fn is_kept(before: &[Option<State>], stan: u32, state: State) -> bool {
 }
 
 /// Compares a transaction's state with what was sent and given, and with its state before.
-fn agree_on(world: &World, order: &Order, before: &[Option<State>]) -> Result<(), Fail> {
+fn check_agreement_on(world: &World, order: &Order, before: &[Option<State>]) -> Result<(), Fail> {
     let key = order.key();
-    check_key(is_answered_alike(world, key), key)?;
-    check_key(is_reversed_alike(world, key), key)?;
+    check_key(is_answered_alike(world, key), key, "one answer")?;
+    check_key(is_reversed_alike(world, key), key, "one reversal")?;
     let state = state_in(world, key.stan);
-    check_key(state.is_some() == debit_amount_of(order).is_some(), key)?;
+    let is_known = state.is_some() == debit_amount_of(order).is_some();
+    check_key(is_known, key, "a transaction")?;
     match state {
         Some(state) => {
-            check_state(is_told(world, key, state), key, state)?;
-            check_state(is_kept(before, key.stan, state), key, state)
+            check_state(is_told(world, key, state), key, state, "as sent and given")?;
+            check_state(is_kept(before, key.stan, state), key, state, "as before")
         }
         None => Ok(()),
     }
 }
 
 /// Compares each transaction's state with what was sent and given, and with its state before.
-pub fn agree(world: &World, before: &[Option<State>]) -> Result<(), Fail> {
+pub fn check_agreement(world: &World, before: &[Option<State>]) -> Result<(), Fail> {
     let mut last = 0;
     for order in sent_by(world) {
         if order.key().stan > last {
             last = order.key().stan;
-            agree_on(world, order, before)?;
+            check_agreement_on(world, order, before)?;
         }
     }
     Ok(())

@@ -1,36 +1,36 @@
 //! Draws events for generated schedules.
 use super::*;
+use crate::generated::Generator;
 
-/// Draws numbers, always the same ones.
+/// Draws events.
 #[derive(Drop)]
-pub struct Draws(pub u64);
+pub struct Draws {
+    pub generator: Generator,
+}
 
 impl Draws {
-    pub fn next(&mut self) -> u64 {
-        self.0 = self
-            .0
-            .wrapping_mul(6_364_136_223_846_793_005)
-            .wrapping_add(1_442_695_040_888_963_407);
-        self.0 >> 33
+    pub fn new(state: u64) -> Draws {
+        let generator = Generator::new(state);
+        Draws { generator }
     }
 
     /// One of few keys of another acquirer, and seldom of this one.
     fn key(&mut self, base: u16) -> TxKey {
-        let acquirer = match self.next() % 12 {
+        let acquirer = match self.generator.next() % 12 {
             0 => ID,
             _ => 777,
         };
-        key(base, (self.next() % 5) as u32, acquirer)
+        key(base, (self.generator.next() % 5) as u32, acquirer)
     }
 
     /// An order of others: a payment, a hold, its completion or a reversal, whole or in part, on an account.
     fn other(&mut self, pan: Pan) -> Option<Order> {
         let money = Money {
             pan,
-            amount: self.next() % 900 + 1,
+            amount: self.generator.next() % 900 + 1,
             currency: *b"840",
         };
-        match self.next() % 6 {
+        match self.generator.next() % 6 {
             0 => Order::new(self.key(200), Act::Debit(money)),
             1 => Order::new(self.key(100), Act::Debit(money)),
             2 => Order::new(self.key(200), Act::Credit(money)),
@@ -43,7 +43,7 @@ impl Draws {
                 Order::new(self.key(420), Act::Undo { original, left: 0 })
             }
             _ => {
-                let (original, left) = (self.key(100), self.next() % 500);
+                let (original, left) = (self.key(100), self.generator.next() % 500);
                 Order::new(self.key(420), Act::Undo { original, left })
             }
         }
@@ -51,7 +51,7 @@ impl Draws {
 
     /// A place in a list of that length, and seldom behind it. The last ones come more often.
     fn place(&mut self, len: usize) -> usize {
-        let drawn = self.next() as usize;
+        let drawn = self.generator.next() as usize;
         match drawn % 4 {
             0 => drawn / 4 % len.saturating_add(1),
             1 => drawn / 4 % len.max(1),
@@ -61,9 +61,9 @@ impl Draws {
 
     /// An event; an order of others is on that account.
     pub fn event(&mut self, world: &World, pan: Pan) -> Result<Event, Fail> {
-        match self.next() % 16 {
-            0..=2 => begin(self.next() % 1800 + 1),
-            3..=5 => Ok(Event::Timeout((self.next() % 8) as u32)),
+        match self.generator.next() % 16 {
+            0..=2 => begin(self.generator.next() % 1800 + 1),
+            3..=5 => Ok(Event::Timeout((self.generator.next() % 8) as u32)),
             6..=9 => Ok(Event::Deliver(self.place(sent_by(world).len()))),
             10..=13 => Ok(Event::Answer(self.place(given_in(world).len()))),
             _ => match self.other(pan) {

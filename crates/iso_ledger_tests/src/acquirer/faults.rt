@@ -1,3 +1,4 @@
+//! The numbers of the faults of an acquirer and of an event.
 use super::*;
 
 const ACQUIRER_FAULTS: &[(AcqFault, u8)] = &[

@@ -1,18 +1,19 @@
 //! Generated schedules: what both ends agree on, by plain look-ups after each event.
-use super::agreement::{agree, debit_amount_of, is_closed, taken_total};
+use super::agreement::{check_agreement, debit_amount_of, is_closed, taken_total};
 use super::draws::Draws;
 use super::*;
+use crate::generated::check_codes;
 use std::collections::BTreeSet;
 
 /// How many orders the issuer takes.
 const LIMIT: u32 = 30;
 
-/// Ends the test with an event, unless it is so.
-fn check_event(is_so: bool, event: &Event) -> Result<(), Fail> {
+/// Ends the test with an event and what was compared, unless it is so.
+fn check_event(is_so: bool, event: &Event, what: &str) -> Result<(), Fail> {
     if is_so {
         Ok(())
     } else {
-        Err(Fail::new(format_args!("{event:?}")))
+        Err(Fail::new(format_args!("{event:?}: {what}")))
     }
 }
 
@@ -86,19 +87,19 @@ fn is_expected(
     }
 }
 
-/// Makes an event, compares what came of it, and tells whether it was refused.
-fn is_refused(world: &mut World, event: &Event) -> Result<bool, Fail> {
+/// Makes an event, compares what came of it with what was expected, and gives whether it was refused.
+fn check_outcome(world: &mut World, event: &Event) -> Result<bool, Fail> {
     let expected = expected_result(world, event);
     let told = outcome(world, *event)?;
-    check_event(is_expected(world, told, expected), event)?;
+    check_event(is_expected(world, told, expected), event, "what came of it")?;
     Ok(told.is_err())
 }
 
-/// Makes an event, and compares the sizes with those before, where it was refused.
-fn make_event(world: &mut World, event: &Event) -> Result<bool, Fail> {
+/// Makes an event, compares the sizes with those before, where it was refused, and gives whether it was.
+fn check_sizes(world: &mut World, event: &Event) -> Result<bool, Fail> {
     let before = sizes(world)?;
-    let refused = is_refused(world, event)?;
-    check_event(!refused || sizes(world)? == before, event)?;
+    let refused = check_outcome(world, event)?;
+    check_event(!refused || sizes(world)? == before, event, "the sizes")?;
     Ok(refused)
 }
 
@@ -108,23 +109,23 @@ fn are_states(alloc: Global, world: &World, want: &[Option<State>]) -> Result<bo
     Ok(states.as_slice() == want)
 }
 
-/// Makes an event, and compares what came of it with the states before.
-fn make_after(
+/// Makes an event, and compares the states with those before.
+fn check_states(
     alloc: Global,
     world: &mut World,
     event: &Event,
     before: &[Option<State>],
 ) -> Result<(), Fail> {
-    if make_event(world, event)? {
-        check_event(are_states(alloc, world, before)?, event)?;
+    if check_sizes(world, event)? {
+        check_event(are_states(alloc, world, before)?, event, "the states")?;
     }
-    agree(world, before)
+    check_agreement(world, before)
 }
 
 /// Makes an event, and compares what came of it.
 fn make(alloc: Global, world: &mut World, event: &Event) -> Result<(), Fail> {
     let before = states(alloc, world)?;
-    make_after(alloc, world, event, before.as_slice())
+    check_states(alloc, world, event, before.as_slice())
 }
 
 /// Asks again until the transaction is closed, each time with the answer at once.
@@ -170,14 +171,14 @@ fn approved_total(world: &World) -> i64 {
 }
 
 /// Compares what is on the account, and what is available of it.
-fn compare_account(world: &World, left: i64) -> Result<(), Fail> {
+fn check_account(world: &World, left: i64) -> Result<(), Fail> {
     check(is_on_ledger(world, left)?, "what is on the account")?;
     check(is_available(world, left)?, "what is available")
 }
 
 /// Compares what is on the account with what was sent and given, where no other's orders are on it.
-fn balances(world: &World) -> Result<(), Fail> {
-    compare_account(world, 5000_i64.saturating_sub(taken_total(world)))
+fn check_taken(world: &World) -> Result<(), Fail> {
+    check_account(world, 5000_i64.saturating_sub(taken_total(world)))
 }
 
 /// Closes all transactions.
@@ -222,7 +223,7 @@ fn has_ledger(world: &World, ledger: Option<i64>) -> Result<bool, Fail> {
 /// All comes once more, and changes nothing.
 fn repeat(world: &mut World, closed: &[Option<State>]) -> Result<(), Fail> {
     let ledger = repeat_all(world)?;
-    agree(world, closed)?;
+    check_agreement(world, closed)?;
     if are_all_closed(closed) {
         check(
             has_ledger(world, ledger)?,
@@ -233,10 +234,10 @@ fn repeat(world: &mut World, closed: &[Option<State>]) -> Result<(), Fail> {
 }
 
 /// Compares the books of both ends, where all transactions are closed and no other's orders are on the account.
-fn compare_books(world: &World, closed: &[Option<State>], alone: bool) -> Result<(), Fail> {
-    agree(world, closed)?;
+fn check_books(world: &World, closed: &[Option<State>], alone: bool) -> Result<(), Fail> {
+    check_agreement(world, closed)?;
     if are_all_closed(closed) && alone {
-        compare_account(world, 5000_i64.saturating_sub(approved_total(world)))?;
+        check_account(world, 5000_i64.saturating_sub(approved_total(world)))?;
     }
     Ok(())
 }
@@ -245,7 +246,7 @@ fn compare_books(world: &World, closed: &[Option<State>], alone: bool) -> Result
 fn settle(alloc: Global, world: &mut World, alone: bool) -> Result<(), Fail> {
     close_all(world)?;
     let closed = states(alloc, world)?;
-    compare_books(world, closed.as_slice(), alone)?;
+    check_books(world, closed.as_slice(), alone)?;
     repeat(world, closed.as_slice())
 }
 
@@ -266,7 +267,7 @@ fn play_drawn(
     for _ in 0..30 {
         play_next(alloc, world, draws, alone)?;
         if alone {
-            balances(world)?;
+            check_taken(world)?;
         }
     }
     Ok(())
@@ -287,7 +288,7 @@ fn schedule_in(
     draws: &mut Draws,
     codes: &mut BTreeSet<u8>,
 ) -> Result<(), Fail> {
-    let alone = draws.next() % 2 == 0;
+    let alone = draws.generator.next() % 2 == 0;
     play_drawn(alloc, world, draws, alone)?;
     settle(alloc, world, alone)?;
     collect(world, codes)
@@ -301,19 +302,9 @@ fn schedule(alloc: Global, draws: &mut Draws, codes: &mut BTreeSet<u8>) -> Resul
 
 /// Plays schedules.
 fn schedules(alloc: Global, codes: &mut BTreeSet<u8>) -> Result<(), Fail> {
-    let mut draws = Draws(1);
+    let mut draws = Draws::new(1);
     for _ in 0..2000 {
         schedule(alloc, &mut draws, codes)?;
-    }
-    Ok(())
-}
-
-/// Compares that these codes were given.
-fn check_codes(codes: &BTreeSet<u8>, wanted: &[u8]) -> Result<(), Fail> {
-    for code in wanted {
-        if !codes.contains(code) {
-            return Err(Fail::new(format_args!("{code}")));
-        }
     }
     Ok(())
 }

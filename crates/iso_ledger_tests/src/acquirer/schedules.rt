@@ -1,4 +1,5 @@
 //! Orders and answers that are lost, late, repeated and out of order.
+use super::Happens::{Answer, Begin, Deliver, Other, Timeout};
 use super::*;
 
 const ASKED: Option<State> = Some(State::Waiting(1));
@@ -39,30 +40,56 @@ fn has_entered(world: &World, count: u32) -> bool {
 }
 
 const EARLY_REVERSAL: &[PlayedEvent] = &[
-    (Happens::Begin(1000), Ok(()), ASKED, 5000),
-    (Happens::Timeout(1), Ok(()), AGAIN, 5000),
-    (Happens::Timeout(1), Ok(()), REVERSING, 5000),
-    (Happens::Deliver(2), Ok(()), REVERSING, 5000),
-    (Happens::Answer(0), Ok(()), REVERSED, 5000),
-    (Happens::Deliver(0), Ok(()), REVERSED, 5000),
-    (Happens::Answer(1), Ok(()), REVERSED, 5000),
+    ("a debit", Begin(1000), Ok(()), ASKED, 5000),
+    ("no answer in time", Timeout(1), Ok(()), AGAIN, 5000),
+    (
+        "no answer to the repeat",
+        Timeout(1),
+        Ok(()),
+        REVERSING,
+        5000,
+    ),
+    (
+        "the reversal comes first",
+        Deliver(2),
+        Ok(()),
+        REVERSING,
+        5000,
+    ),
+    ("the reversal's answer", Answer(0), Ok(()), REVERSED, 5000),
+    ("the debit comes late", Deliver(0), Ok(()), REVERSED, 5000),
+    ("the debit's answer", Answer(1), Ok(()), REVERSED, 5000),
 ];
 
 const REFUSED_EVENTS: &[PlayedEvent] = &[
     (
-        Happens::Timeout(1),
+        "a timeout once reversed",
+        Timeout(1),
         Err(StepFault::Acquirer(AcqFault::Closed)),
         REVERSED,
         5000,
     ),
     (
-        Happens::Timeout(5),
+        "a timeout of none",
+        Timeout(5),
         Err(StepFault::Acquirer(AcqFault::NoSuch)),
         REVERSED,
         5000,
     ),
-    (Happens::Deliver(9), Err(StepFault::NoSuch), REVERSED, 5000),
-    (Happens::Answer(2), Err(StepFault::NoSuch), REVERSED, 5000),
+    (
+        "no such order",
+        Deliver(9),
+        Err(StepFault::NoSuch),
+        REVERSED,
+        5000,
+    ),
+    (
+        "no such answer",
+        Answer(2),
+        Err(StepFault::NoSuch),
+        REVERSED,
+        5000,
+    ),
 ];
 
 /// Plays an early reversal, and then what is refused.
@@ -79,13 +106,19 @@ fn reversed_before_it_came(rt: HostRuntime) -> Result<(), Fail> {
 }
 
 const LATE_APPROVAL: &[PlayedEvent] = &[
-    (Happens::Begin(1000), Ok(()), ASKED, 5000),
-    (Happens::Deliver(0), Ok(()), ASKED, 4000),
-    (Happens::Timeout(1), Ok(()), AGAIN, 4000),
-    (Happens::Timeout(1), Ok(()), REVERSING, 4000),
-    (Happens::Answer(0), Ok(()), REVERSING, 4000),
-    (Happens::Deliver(2), Ok(()), REVERSING, 5000),
-    (Happens::Answer(1), Ok(()), REVERSED, 5000),
+    ("a debit", Begin(1000), Ok(()), ASKED, 5000),
+    ("the debit comes", Deliver(0), Ok(()), ASKED, 4000),
+    ("no answer in time", Timeout(1), Ok(()), AGAIN, 4000),
+    (
+        "no answer to the repeat",
+        Timeout(1),
+        Ok(()),
+        REVERSING,
+        4000,
+    ),
+    ("a late approval", Answer(0), Ok(()), REVERSING, 4000),
+    ("the reversal comes", Deliver(2), Ok(()), REVERSING, 5000),
+    ("the reversal's answer", Answer(1), Ok(()), REVERSED, 5000),
 ];
 
 /// Plays a late approval.
@@ -101,16 +134,28 @@ fn late_approval_while_reversing(rt: HostRuntime) -> Result<(), Fail> {
 }
 
 const APPROVAL_OF_A_REPEAT: &[PlayedEvent] = &[
-    (Happens::Begin(1000), Ok(()), ASKED, 5000),
-    (Happens::Deliver(0), Ok(()), ASKED, 4000),
-    (Happens::Deliver(0), Ok(()), ASKED, 4000),
-    (Happens::Answer(1), Ok(()), APPROVED, 4000),
+    ("a debit", Begin(1000), Ok(()), ASKED, 5000),
+    ("the debit comes", Deliver(0), Ok(()), ASKED, 4000),
+    ("the debit comes again", Deliver(0), Ok(()), ASKED, 4000),
+    (
+        "the answer to the repeat",
+        Answer(1),
+        Ok(()),
+        APPROVED,
+        4000,
+    ),
 ];
 
 const ANOTHER_THAT_IS_DECLINED: &[PlayedEvent] = &[
-    (Happens::Begin(9000), Ok(()), ASKED, 4000),
-    (Happens::Deliver(1), Ok(()), ASKED, 4000),
-    (Happens::Answer(2), Ok(()), Some(State::Declined(51)), 4000),
+    ("a debit over the rest", Begin(9000), Ok(()), ASKED, 4000),
+    ("it comes", Deliver(1), Ok(()), ASKED, 4000),
+    (
+        "its answer",
+        Answer(2),
+        Ok(()),
+        Some(State::Declined(51)),
+        4000,
+    ),
 ];
 
 /// Plays the approval of a repeat, and then a debit that is declined.
@@ -127,11 +172,12 @@ fn approved_by_the_answer_to_the_repeat(rt: HostRuntime) -> Result<(), Fail> {
 }
 
 const FULL_JOURNAL: &[PlayedEvent] = &[
-    (Happens::Begin(1000), Ok(()), ASKED, 5000),
-    (Happens::Begin(1000), Ok(()), ASKED, 5000),
-    (Happens::Deliver(0), Ok(()), ASKED, 4000),
+    ("a debit", Begin(1000), Ok(()), ASKED, 5000),
+    ("another debit", Begin(1000), Ok(()), ASKED, 5000),
+    ("the first one comes", Deliver(0), Ok(()), ASKED, 4000),
     (
-        Happens::Deliver(1),
+        "the other one comes",
+        Deliver(1),
         Err(StepFault::Issuer(Refused::Full)),
         ASKED,
         4000,
@@ -152,13 +198,20 @@ fn full(rt: HostRuntime) -> Result<(), Fail> {
 }
 
 const ORDERS_AMONG_OTHERS: &[PlayedEvent] = &[
-    (Happens::Other(12_345), Err(StepFault::OwnKey), None, 5000),
-    (Happens::Other(777), Ok(()), None, 4300),
-    (Happens::Begin(1000), Ok(()), ASKED, 4300),
-    (Happens::Deliver(0), Ok(()), ASKED, 3300),
-    (Happens::Other(777), Ok(()), ASKED, 3300),
     (
-        Happens::Other(778),
+        "an order in its name",
+        Other(12_345),
+        Err(StepFault::OwnKey),
+        None,
+        5000,
+    ),
+    ("an order of another", Other(777), Ok(()), None, 4300),
+    ("a debit", Begin(1000), Ok(()), ASKED, 4300),
+    ("the debit comes", Deliver(0), Ok(()), ASKED, 3300),
+    ("the other's order again", Other(777), Ok(()), ASKED, 3300),
+    (
+        "an order of a third one",
+        Other(778),
         Err(StepFault::Issuer(Refused::Full)),
         ASKED,
         3300,

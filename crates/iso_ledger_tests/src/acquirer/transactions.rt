@@ -77,7 +77,7 @@ fn tell(acquirer: &mut Acquirer, key: TxKey, code: u8) {
 }
 
 /// Compares what an acquirer with one transaction makes of two timeouts.
-fn repeats_and_reverses(acquirer: &mut Acquirer) -> Result<(), Fail> {
+fn check_repeat_and_reversal(acquirer: &mut Acquirer) -> Result<(), Fail> {
     check(holds(acquirer, 1, Some(State::Waiting(1))), "asked once")?;
     check(asks_again(acquirer)?, "the repeat")?;
     check(holds(acquirer, 1, Some(State::Waiting(2))), "asked twice")?;
@@ -86,7 +86,7 @@ fn repeats_and_reverses(acquirer: &mut Acquirer) -> Result<(), Fail> {
 }
 
 /// Compares what it makes of two more.
-fn reverses_again(acquirer: &mut Acquirer) -> Result<(), Fail> {
+fn check_reversal_again(acquirer: &mut Acquirer) -> Result<(), Fail> {
     check(reverses(acquirer)?, "the reversal's repeat")?;
     check(reverses(acquirer)?, "the reversal's next repeat")?;
     check(
@@ -98,8 +98,8 @@ fn reverses_again(acquirer: &mut Acquirer) -> Result<(), Fail> {
 #[test]
 fn begins_asks_again_and_reverses(rt: HostRuntime) -> Result<(), Fail> {
     let mut acquirer = acquirer_with_one(rt.alloc())?;
-    repeats_and_reverses(&mut acquirer)?;
-    reverses_again(&mut acquirer)
+    check_repeat_and_reversal(&mut acquirer)?;
+    check_reversal_again(&mut acquirer)
 }
 
 /// An acquirer that reverses its first transaction.
@@ -120,7 +120,7 @@ fn check_number(is_so: bool, stan: u32) -> Result<(), Fail> {
 }
 
 /// Compares that an acquirer knows no transaction of these trace numbers.
-fn knows_none(acquirer: &mut Acquirer, stans: &[u32]) -> Result<(), Fail> {
+fn check_none_known(acquirer: &mut Acquirer, stans: &[u32]) -> Result<(), Fail> {
     for stan in stans {
         check_number(holds(acquirer, *stan, None), *stan)?;
         check_number(refuses(acquirer, *stan, AcqFault::NoSuch), *stan)?;
@@ -134,7 +134,7 @@ fn begins_under(acquirer: &mut Acquirer, key: TxKey) -> Result<bool, Fail> {
 }
 
 /// Compares that the next debit has the third trace number.
-fn begins_third(acquirer: &mut Acquirer) -> Result<(), Fail> {
+fn check_third(acquirer: &mut Acquirer) -> Result<(), Fail> {
     check(begins_under(acquirer, key(200, 3, ID))?, "the next key")?;
     check(holds(acquirer, 3, Some(State::Waiting(1))), "the next one")
 }
@@ -142,8 +142,8 @@ fn begins_third(acquirer: &mut Acquirer) -> Result<(), Fail> {
 #[test]
 fn knows_transactions_by_their_own_numbers(rt: HostRuntime) -> Result<(), Fail> {
     let mut acquirer = reversing(rt.alloc())?;
-    knows_none(&mut acquirer, &[0, 2, 3, 4_294_967_295])?;
-    begins_third(&mut acquirer)
+    check_none_known(&mut acquirer, &[0, 2, 3, 4_294_967_295])?;
+    check_third(&mut acquirer)
 }
 
 /// The key and the code of an answer, and what an acquirer with one transaction then holds of it.
@@ -224,7 +224,12 @@ fn answers_while_reversing(rt: HostRuntime) -> Result<(), Fail> {
 }
 
 /// Compares what is held of a transaction, which an answer closed, once others come.
-fn stays(acquirer: &mut Acquirer, code: u8, state: State, others: &[u8]) -> Result<(), Fail> {
+fn check_later_answers(
+    acquirer: &mut Acquirer,
+    code: u8,
+    state: State,
+    others: &[u8],
+) -> Result<(), Fail> {
     for later in others {
         if !leaves(acquirer, key(200, 1, ID), *later, state) {
             return Err(Fail::new(format_args!("{code} {later}")));
@@ -243,17 +248,17 @@ fn check_no_timeout(acquirer: &mut Acquirer, code: u8) -> Result<(), Fail> {
 }
 
 /// Closes a transaction by an answer, and compares what is held of it once others come, and a timeout.
-fn stays_closed(alloc: Global, code: u8, state: State) -> Result<(), Fail> {
+fn check_closed(alloc: Global, code: u8, state: State) -> Result<(), Fail> {
     let mut acquirer = acquirer_with_one(alloc)?;
     tell(&mut acquirer, key(200, 1, ID), code);
-    stays(&mut acquirer, code, state, &[0, 21, 51, 94, 96])?;
+    check_later_answers(&mut acquirer, code, state, &[0, 21, 51, 94, 96])?;
     check_no_timeout(&mut acquirer, code)
 }
 
 #[test]
 fn closed_for_good(rt: HostRuntime) -> Result<(), Fail> {
-    stays_closed(rt.alloc(), 0, State::Approved)?;
-    stays_closed(rt.alloc(), 51, State::Declined(51))
+    check_closed(rt.alloc(), 0, State::Approved)?;
+    check_closed(rt.alloc(), 51, State::Declined(51))
 }
 
 /// Begins as many debits as there are trace numbers, and gives the first one's order.
@@ -274,7 +279,7 @@ fn wants_trace_numbers(acquirer: &mut Acquirer) -> Result<bool, Fail> {
 }
 
 /// Compares what an acquirer with no more trace numbers makes of two timeouts.
-fn repeats_alone(acquirer: &mut Acquirer, first: Order) -> Result<(), Fail> {
+fn check_repeat_alone(acquirer: &mut Acquirer, first: Order) -> Result<(), Fail> {
     check(asks_again_by(acquirer, first), "the repeat")?;
     check(refuses(acquirer, 1, AcqFault::NoMoreTrace), "the reversal")?;
     check(holds(acquirer, 1, Some(State::Waiting(2))), "asked twice")
@@ -290,14 +295,14 @@ fn check_all_begun(acquirer: &mut Acquirer) -> Result<(), Fail> {
 }
 
 /// Begins all, and compares what an acquirer makes of more.
-fn uses_all(acquirer: &mut Acquirer) -> Result<(), Fail> {
+fn check_all_used(acquirer: &mut Acquirer) -> Result<(), Fail> {
     let first = begin_all(acquirer)?;
     check_all_begun(acquirer)?;
-    repeats_alone(acquirer, first)
+    check_repeat_alone(acquirer, first)
 }
 
 #[test]
 fn all_trace_numbers_used(rt: HostRuntime) -> Result<(), Fail> {
     let mut acquirer = new_acquirer(rt.alloc());
-    uses_all(&mut acquirer)
+    check_all_used(&mut acquirer)
 }
