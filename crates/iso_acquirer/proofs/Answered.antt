@@ -17,14 +17,14 @@ use Rattle.iso_acquirer.specs.declared.slot.Role.TheVariants.{Transaction, Rever
 use Rattle.iso_acquirer.specs.declared.slot.Stage.{Stage}
 use Rattle.iso_acquirer.specs.declared.slot.Stage.TheVariants.{Asked, Undoing, Granted, Denied, Undone}
 use Rattle.iso_acquirer.specs.Acquirer.{slot_at, undo_of, stage_after, stage_after_undo, slots_after_answer, slots_after_answer_in, slots_after_answer_at}
-use Rattle.iso_acquirer.specs.Agreed.{answer_at, code_at, IsHeld, IsReversal, IsRole, IsAgreed}
+use Rattle.iso_acquirer.specs.Agreed.{answer_at, code_at, IsStageOf, IsReversal, IsRole, IsAgreed}
 use Rattle.iso_acquirer.proofs.Keys.{same_key_is, same_key_self, same_number, some_is}
 use Rattle.iso_acquirer.proofs.Numbered.{found}
 use Rattle.iso_acquirer.proofs.Clauses.{own_order, all_wholly, transaction_at}
 use Rattle.iso_acquirer.proofs.Changed.{agreed-changed}
 
 -- an answer to a transaction's own order
-held-after : (entries : List Entry) (k : TxKey) (a : Outcome) (stage : Stage) → answer_at entries k ≡ Some a → IsHeld entries k stage → IsHeld entries k (stage_after a.code stage)
+held-after : (entries : List Entry) (k : TxKey) (a : Outcome) (stage : Stage) → answer_at entries k ≡ Some a → IsStageOf entries k stage → IsStageOf entries k (stage_after a.code stage)
 held-after entries k a (Asked n) kept h = go (a.code == 0) refl ((a.code == 94) || (a.code == 96))
   where
     code : code_at entries k ≡ Some a.code
@@ -33,7 +33,7 @@ held-after entries k a (Asked n) kept h = go (a.code == 0) refl ((a.code == 94) 
     not_zero : (c : ℕ) → (c == 0) ≡ false → c ≢ 0
     not_zero c e = λ z. grind (arith, common_steps, e, z)
 
-    go : (b : Bool) → (a.code == 0) ≡ b → (t : Bool) → IsHeld entries k (cond b Granted (cond t (Asked n) (Denied a.code)))
+    go : (b : Bool) → (a.code == 0) ≡ b → (t : Bool) → IsStageOf entries k (cond b Granted (cond t (Asked n) (Denied a.code)))
     go true e t = code ∙ ap Some (same_number a.code 0 e)
     go false e true = tt
     go false e false = (code, not_zero a.code e)
@@ -43,11 +43,11 @@ held-after entries k a (Denied c) kept h = h
 held-after entries k a (Undone u) kept h = h
 
 -- an answer to its reversal
-held-undone : (entries : List Entry) (k : TxKey) (code : ℕ) (stage : Stage) → is_reversed entries k ≡ true → IsHeld entries k stage → IsHeld entries k (stage_after_undo code stage)
+held-undone : (entries : List Entry) (k : TxKey) (code : ℕ) (stage : Stage) → is_reversed entries k ≡ true → IsStageOf entries k stage → IsStageOf entries k (stage_after_undo code stage)
 held-undone entries k code (Asked n) r h = h
 held-undone entries k code (Undoing u) r h = go (code == 0)
   where
-    go : (b : Bool) → IsHeld entries k (cond b (Undone u) (Undoing u))
+    go : (b : Bool) → IsStageOf entries k (cond b (Undone u) (Undoing u))
     go true = r
     go false = h
 held-undone entries k code Granted r h = h

@@ -11,7 +11,7 @@ use Rattle.iso_acquirer.specs.declared.slot.Role.TheVariants.{Transaction, Rever
 use Rattle.iso_acquirer.specs.declared.slot.Stage.{Stage}
 use Rattle.iso_acquirer.specs.Acquirer.{slot_at, order_at, undo_of, on_stage, slot_at_stage, slots_at_stage}
 use Rattle.iso_acquirer.specs.Room.{AreNumbered}
-use Rattle.iso_acquirer.specs.Agreed.{IsHeld, IsReversal, IsRole, IsSlot, IsKnown, IsAgreed}
+use Rattle.iso_acquirer.specs.Agreed.{IsStageOf, IsReversal, IsRole, IsSlot, IsKnown, IsAgreed}
 use Rattle.iso_acquirer.proofs.Keys.{same_number, some_is}
 use Rattle.iso_acquirer.proofs.Lists.{all-weaker}
 use Rattle.iso_acquirer.proofs.Numbered.{found, numbered-changed}
@@ -99,7 +99,7 @@ reversal-changed step stan slots n o numbered keeps u = by_test (u.original.orde
 -- a change of stage that holds for the transaction of that trace number
 module _ (id : ℕ) (slots : List Slot) (sent : List Instruction) (given : List Given) (entries : List Entry) (step : Stage → Stage) (stan : ℕ)
     (w : IsAgreed id slots sent given entries) (keeps : KeepsUndo slots step stan)
-    (holds : (s : Slot) (stage : Stage) → slot_at slots stan ≡ Some s → s.role ≡ Transaction stage → IsHeld entries s.order.key stage → IsHeld entries s.order.key (step stage))
+    (holds : (s : Slot) (stage : Stage) → slot_at slots stan ≡ Some s → s.role ≡ Transaction stage → IsStageOf entries s.order.key stage → IsStageOf entries s.order.key (step stage))
     (undone : (s : Slot) (stage : Stage) (u : Instruction) → slot_at slots stan ≡ Some s → s.role ≡ Transaction stage → undo_of (step stage) ≡ Some u → order_at slots u.key.stan ≡ Some u) where
   stepped-role : (s : Slot) → slot_at slots stan ≡ Some s → (role : Role) → s.role ≡ role → IsRole entries slots s.order role → IsRole entries (slots_at_stage step stan slots) s.order (on_stage step role)
   stepped-role s here (Transaction stage) is h = record {

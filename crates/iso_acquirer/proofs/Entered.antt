@@ -7,9 +7,9 @@ use Rattle.iso_order.specs.Outcome.{Outcome}
 use Rattle.iso_order.specs.Order.{Instruction, is_valid}
 use Rattle.iso_issuer.specs.declared.journal.Entry.{Entry}
 use Rattle.iso_issuer.specs.Journal.{entry_at, is_entered, HasDistinctKeys}
-use Rattle.iso_issuer.specs.Decision.{new_entry, reply}
+use Rattle.iso_issuer.specs.Decision.{new_entry, answer_for}
 use Rattle.iso_issuer.specs.Books.{Books, journal, books_with}
-use Rattle.iso_issuer.specs.Laws.{JournalsGrow, KnownChangesNothing, NewComesLast, RepliesAreKept, ReversedStays}
+use Rattle.iso_issuer.specs.Laws.{JournalsGrow, KnownChangesNothing, NewComesLast, AnswersAreEntered, ReversedStays}
 use Rattle.iso_acquirer.specs.declared.event.Given.{Given}
 use Rattle.iso_acquirer.specs.declared.slot.Slot.{Slot}
 use Rattle.iso_acquirer.specs.declared.slot.Role.{Role}
@@ -17,7 +17,7 @@ use Rattle.iso_acquirer.specs.declared.slot.Role.TheVariants.{Transaction, Rever
 use Rattle.iso_acquirer.specs.declared.slot.Stage.{Stage}
 use Rattle.iso_acquirer.specs.declared.slot.Stage.TheVariants.{Asked, Undoing, Granted, Denied, Undone}
 use Rattle.iso_acquirer.specs.Acquirer.{order_at}
-use Rattle.iso_acquirer.specs.Agreed.{answer_at, code_at, IsHeld, IsRole, IsKnown, IsAgreed}
+use Rattle.iso_acquirer.specs.Agreed.{answer_at, code_at, IsStageOf, IsRole, IsKnown, IsAgreed}
 use Rattle.iso_acquirer.proofs.Lists.{all-push, all-weaker, find-more}
 use Rattle.iso_acquirer.proofs.Clauses.{own_order, slot_of_order}
 
@@ -37,7 +37,7 @@ code-more es fs k c h = go (answer_at es k) refl h
     go None e g = cc
     go (Some a) e g = ap (option_map (λ a. a.code)) (answer-more es fs k a e) ∙ g
 
-held-more : ReversedStays → (es fs : List Entry) (k : TxKey) (stage : Stage) → IsHeld es k stage → IsHeld (es ++ fs) k stage
+held-more : ReversedStays → (es fs : List Entry) (k : TxKey) (stage : Stage) → IsStageOf es k stage → IsStageOf (es ++ fs) k stage
 held-more stay es fs k (Asked n) h = tt
 held-more stay es fs k (Undoing u) h = tt
 held-more stay es fs k Granted h = code-more es fs k 0 h
@@ -85,9 +85,9 @@ module _ (stay : ReversedStays) (grow : JournalsGrow) (known_stays : KnownChange
       go false e = subst (IsAgreed id slots sent given) (sym (on-new e))
           (agreed-more stay id slots sent given (journal b) (new_entry b.accounts (journal b) o) w (record { valid = valid; own = own }))
 
-  -- the reply to one of the acquirer's orders is the answer that is kept of it
-  reply-kept : RepliesAreKept → order_at slots o.key.stan ≡ Some o → answer_at (journal (books_with b o)) o.key ≡ Some (reply b.accounts (journal b) o)
-  reply-kept kept made = ap (option_map (λ e. e.answer)) (kept b o distinct own-entry)
+  -- the answer for one of the acquirer's orders is the answer that is kept of it
+  answer-kept : AnswersAreEntered → order_at slots o.key.stan ≡ Some o → answer_at (journal (books_with b o)) o.key ≡ Some (answer_for b.accounts (journal b) o)
+  answer-kept kept made = ap (option_map (λ e. e.answer)) (kept b o distinct own-entry)
     where
       own-entry : (e : Entry) → entry_at (journal b) o.key ≡ Some e → e.order ≡ o
       own-entry e at =
@@ -96,8 +96,8 @@ module _ (stay : ReversedStays) (grow : JournalsGrow) (known_stays : KnownChange
           sym same ∙ slot.2
 
   -- one of the acquirer's orders is delivered, and its answer given
-  pub agreed-delivered : RepliesAreKept → is_valid o ≡ true → order_at slots o.key.stan ≡ Some o →
-      IsAgreed id slots sent (given ++ record { key = o.key; answer = reply b.accounts (journal b) o } ∷ []) (journal (books_with b o))
+  pub agreed-delivered : AnswersAreEntered → is_valid o ≡ true → order_at slots o.key.stan ≡ Some o →
+      IsAgreed id slots sent (given ++ record { key = o.key; answer = answer_for b.accounts (journal b) o } ∷ []) (journal (books_with b o))
   agreed-delivered kept valid made =
       let after = agreed-entering valid (λ _. made) in
       record {
@@ -105,5 +105,5 @@ module _ (stay : ReversedStays) (grow : JournalsGrow) (known_stays : KnownChange
         slots_hold = after.slots_hold;
         entries_known = after.entries_known;
         sent_known = after.sent_known;
-        given_kept = all-push (λ (g : Given). answer_at (journal (books_with b o)) g.key ≡ Some g.answer) given (record { key = o.key; answer = reply b.accounts (journal b) o }) after.given_kept (reply-kept kept made);
+        given_kept = all-push (λ (g : Given). answer_at (journal (books_with b o)) g.key ≡ Some g.answer) given (record { key = o.key; answer = answer_for b.accounts (journal b) o }) after.given_kept (answer-kept kept made);
       }

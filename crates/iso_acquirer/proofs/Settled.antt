@@ -10,10 +10,10 @@ use Rattle.iso_order.specs.declared.key.TxKey.{TxKey}
 use Rattle.iso_order.specs.Key.{class_digit}
 use Rattle.iso_order.specs.Order.{Instruction, same_pan}
 use Rattle.iso_issuer.specs.declared.account.Account.{Account}
-use Rattle.iso_issuer.specs.declared.effect.Side.TheVariants.{Given, Taken, Held}
+use Rattle.iso_issuer.specs.declared.effect.Side.TheVariants.{Credited, Debited, Held}
 use Rattle.iso_issuer.specs.declared.journal.Entry.{Entry}
 use Rattle.iso_issuer.specs.Effect.{effect_of, effect_by, effect_amount}
-use Rattle.iso_issuer.specs.Journal.{entry_at, stands, weight, is_entered, HasDistinctKeys}
+use Rattle.iso_issuer.specs.Journal.{entry_at, is_standing, weight, is_entered, HasDistinctKeys}
 use Rattle.iso_issuer.specs.Balance.{share, total, ledger}
 use Rattle.iso_issuer.specs.Decision.{journal_of}
 use Rattle.iso_issuer.specs.Books.{journal}
@@ -43,19 +43,19 @@ zero_cond true n h = h
 zero_cond false n h = refl
 
 never_now : (accounts : List Account) (orders : List Instruction) (k : TxKey) (e : Entry) → NeverStands accounts orders k → HasDistinctKeys orders →
-    entry_at (journal_of accounts orders) k ≡ Some e → stands (journal_of accounts orders) e ≡ false
+    entry_at (journal_of accounts orders) k ≡ Some e → is_standing (journal_of accounts orders) e ≡ false
 never_now accounts orders k e never distinct here =
-    subst (λ os. HasDistinctKeys os → entry_at (journal_of accounts os) k ≡ Some e → stands (journal_of accounts os) e ≡ false) (append-nil orders) (λ d h. never [] e d h) distinct here
+    subst (λ os. HasDistinctKeys os → entry_at (journal_of accounts os) k ≡ Some e → is_standing (journal_of accounts os) e ≡ false) (append-nil orders) (λ d h. never [] e d h) distinct here
 
 -- a debit of class 2 takes its amount
-debit_taken : (o : Instruction) (m : Money) → o.act ≡ Debit m → class_digit o.key ≡ 2 → effect_of o ≡ Some (record { pan = m.pan; side = Taken; amount = m.amount; ends = None })
+debit_taken : (o : Instruction) (m : Money) → o.act ≡ Debit m → class_digit o.key ≡ 2 → effect_of o ≡ Some (record { pan = m.pan; side = Debited; amount = m.amount; ends = None })
 debit_taken o m act two =
-    ap (effect_by o.key) act ∙ ap (λ c. Some (record { pan = m.pan; side = cond (c == 1) Held Taken; amount = m.amount; ends = None })) two
+    ap (effect_by o.key) act ∙ ap (λ c. Some (record { pan = m.pan; side = cond (c == 1) Held Debited; amount = m.amount; ends = None })) two
 
 -- what an entry counts for
 record Counts (w : World) (pan : AccountNumber) (e : Entry) : Type 0 where
-  taken : share Taken pan (effect_of e.order) (weight (journal w.issuer) e) ≡ at_slot w.acquirer.slots (approved_in pan) e.order.key.stan
-  given : share Given pan (effect_of e.order) (weight (journal w.issuer) e) ≡ 0
+  taken : share Debited pan (effect_of e.order) (weight (journal w.issuer) e) ≡ at_slot w.acquirer.slots (approved_in pan) e.order.key.stan
+  given : share Credited pan (effect_of e.order) (weight (journal w.issuer) e) ≡ 0
   held : share Held pan (effect_of e.order) (weight (journal w.issuer) e) ≡ 0
 
 plain : (z : ℤ) (n : ℕ) → z +ℤ pos 0 -ℤ pos n ≡ z -ℤ pos n
@@ -89,8 +89,8 @@ module _ (of_orders : EntriesAreOfOrders) (entered_has : EnteredHasEntry) (weigh
       let two : class_digit e.order.key ≡ 2 = class_two e.order.key (ap (λ (o : Instruction). o.key.base) (sym same) ∙ base) in
       let effect = debit_taken e.order m act_is two in
       record {
-        taken = ap (λ f. share Taken pan f (weight (journal w.issuer) e)) effect ∙ ap (λ n. cond (same_pan m.pan pan) n 0) heavy ∙ amount ∙ ap (slot_sum (approved_in pan)) (sym here);
-        given = ap (λ f. share Given pan f (weight (journal w.issuer) e)) effect;
+        taken = ap (λ f. share Debited pan f (weight (journal w.issuer) e)) effect ∙ ap (λ n. cond (same_pan m.pan pan) n 0) heavy ∙ amount ∙ ap (slot_sum (approved_in pan)) (sym here);
+        given = ap (λ f. share Credited pan f (weight (journal w.issuer) e)) effect;
         held = ap (λ f. share Held pan f (weight (journal w.issuer) e)) effect;
       }
 
@@ -130,8 +130,8 @@ module _ (of_orders : EntriesAreOfOrders) (entered_has : EnteredHasEntry) (weigh
   of_role e s at here same (Reversal k) role t =
       let none : effect_of e.order ≡ None = ap (effect_by e.order.key) (ap (λ (o : Instruction). o.act) (sym same) ∙ t.names) in
       record {
-        taken = ap (λ f. share Taken pan f (weight (journal w.issuer) e)) none ∙ sym (ap (slot_sum (approved_in pan)) here ∙ ap (λ r. cond (is_state_approved (state_in r)) (debit_amount pan s.order.act) 0) role);
-        given = ap (λ f. share Given pan f (weight (journal w.issuer) e)) none;
+        taken = ap (λ f. share Debited pan f (weight (journal w.issuer) e)) none ∙ sym (ap (slot_sum (approved_in pan)) here ∙ ap (λ r. cond (is_state_approved (state_in r)) (debit_amount pan s.order.act) 0) role);
+        given = ap (λ f. share Credited pan f (weight (journal w.issuer) e)) none;
         held = ap (λ f. share Held pan f (weight (journal w.issuer) e)) none;
       }
 
@@ -153,18 +153,18 @@ module _ (of_orders : EntriesAreOfOrders) (entered_has : EnteredHasEntry) (weigh
   entered_amount s (Transaction (Undone u)) role t = zero_cond _ 0 refl
   entered_amount s (Reversal k) role t = zero_cond _ 0 refl
 
-  taken_is : total Taken pan (journal w.issuer) ≡ approved_total pan w.acquirer.slots
+  taken_is : total Debited pan (journal w.issuer) ≡ approved_total pan w.acquirer.slots
   taken_is =
-      sum-all (λ (e : Entry). share Taken pan (effect_of e.order) (weight (journal w.issuer) e)) (λ (e : Entry). at_slot w.acquirer.slots (approved_in pan) e.order.key.stan) (journal w.issuer)
-      (all-weaker (Counts w pan) (λ (e : Entry). share Taken pan (effect_of e.order) (weight (journal w.issuer) e) ≡ at_slot w.acquirer.slots (approved_in pan) e.order.key.stan) (journal w.issuer) (λ e c. c.taken) each_counts)
+      sum-all (λ (e : Entry). share Debited pan (effect_of e.order) (weight (journal w.issuer) e)) (λ (e : Entry). at_slot w.acquirer.slots (approved_in pan) e.order.key.stan) (journal w.issuer)
+      (all-weaker (Counts w pan) (λ (e : Entry). share Debited pan (effect_of e.order) (weight (journal w.issuer) e) ≡ at_slot w.acquirer.slots (approved_in pan) e.order.key.stan) (journal w.issuer) (λ e c. c.taken) each_counts)
       ∙ to-slots w.acquirer.slots (approved_in pan) sound.agreed.numbered (journal w.issuer) distinct_entries owned
       ∙ sum-all (λ (s : Slot). cond (is_entered (map (λ e. e.order) (journal w.issuer)) s.order.key) (approved_in pan s) 0) (approved_in pan) w.acquirer.slots
       (all-slots (λ (s : Slot). cond (is_entered (map (λ e. e.order) (journal w.issuer)) s.order.key) (approved_in pan s) 0 ≡ approved_in pan s) w.acquirer.slots 1 sound.agreed.numbered
       (λ n s here. entered_amount s s.role refl (sound.agreed.slots_hold n s here).role))
 
-  given_is : total Given pan (journal w.issuer) ≡ 0
-  given_is = sum-none (λ (e : Entry). share Given pan (effect_of e.order) (weight (journal w.issuer) e)) (journal w.issuer)
-      (all-weaker (Counts w pan) (λ (e : Entry). share Given pan (effect_of e.order) (weight (journal w.issuer) e) ≡ 0) (journal w.issuer) (λ e c. c.given) each_counts)
+  given_is : total Credited pan (journal w.issuer) ≡ 0
+  given_is = sum-none (λ (e : Entry). share Credited pan (effect_of e.order) (weight (journal w.issuer) e)) (journal w.issuer)
+      (all-weaker (Counts w pan) (λ (e : Entry). share Credited pan (effect_of e.order) (weight (journal w.issuer) e) ≡ 0) (journal w.issuer) (λ e c. c.given) each_counts)
 
   held_is : total Held pan (journal w.issuer) ≡ 0
   held_is = sum-none (λ (e : Entry). share Held pan (effect_of e.order) (weight (journal w.issuer) e)) (journal w.issuer)
@@ -182,6 +182,6 @@ books-agree of_orders entered_has weighs falls nothing none_is_none no_more neve
   where
     on_ledger : ledger (journal w.issuer) a ≡ a.opening -ℤ pos (approved_total a.pan w.acquirer.slots)
     on_ledger =
-        ap (λ n. a.opening +ℤ pos n -ℤ pos (total Taken a.pan (journal w.issuer))) (given_is of_orders entered_has weighs falls nothing none_is_none no_more never w sound settled a.pan)
+        ap (λ n. a.opening +ℤ pos n -ℤ pos (total Debited a.pan (journal w.issuer))) (given_is of_orders entered_has weighs falls nothing none_is_none no_more never w sound settled a.pan)
         ∙ ap (λ n. a.opening +ℤ pos 0 -ℤ pos n) (taken_is of_orders entered_has weighs falls nothing none_is_none no_more never w sound settled a.pan)
         ∙ plain a.opening (approved_total a.pan w.acquirer.slots)

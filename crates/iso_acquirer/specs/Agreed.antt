@@ -28,19 +28,19 @@ abbrev pub code_at : List Entry → TxKey → Option ℕ
 code_at entries key = option_map (λ a. a.code) (answer_at entries key)
 
 -- a transaction's stage, against the issuer's entries
-abbrev pub IsHeld : List Entry → TxKey → Stage → Type 0
-IsHeld entries key (Asked n) = Unit {0}
-IsHeld entries key (Undoing u) = Unit {0}
-IsHeld entries key Granted = code_at entries key ≡ Some 0
-IsHeld entries key (Denied c) = (code_at entries key ≡ Some c) × (c ≢ 0)
-IsHeld entries key (Undone u) = is_reversed entries key ≡ true
+abbrev pub IsStageOf : List Entry → TxKey → Stage → Type 0
+IsStageOf entries key (Asked n) = Unit {0}
+IsStageOf entries key (Undoing u) = Unit {0}
+IsStageOf entries key Granted = code_at entries key ≡ Some 0
+IsStageOf entries key (Denied c) = (code_at entries key ≡ Some c) × (c ≢ 0)
+IsStageOf entries key (Undone u) = is_reversed entries key ≡ true
 
 -- a transaction's order is a debit of class 2, and its reversal, where it has one, is made
 pub record IsTransaction (entries : List Entry) (slots : List Slot) (o : Instruction) (stage : Stage) : Type 0 where
   pub base : o.key.base ≡ 200
   pub money : Money
   pub debit : o.act ≡ Debit money
-  pub held : IsHeld entries o.key stage
+  pub held : IsStageOf entries o.key stage
   pub undone : (u : Instruction) → undo_of stage ≡ Some u → order_at slots u.key.stan ≡ Some u
 
 -- a reversal is that of a transaction, and leaves nothing of it

@@ -7,7 +7,7 @@ use Rattle.iso_order.specs.Pan.{AccountNumber}
 use Rattle.iso_order.specs.Order.{Instruction, same_pan}
 use Rattle.iso_issuer.specs.declared.account.Account.{Account}
 use Rattle.iso_issuer.specs.declared.journal.Entry.{Entry}
-use Rattle.iso_issuer.specs.Journal.{entry_at, stands}
+use Rattle.iso_issuer.specs.Journal.{entry_at, is_standing}
 use Rattle.iso_issuer.specs.Balance.{ledger, available}
 use Rattle.iso_issuer.specs.Books.{journal}
 use Rattle.iso_issuer.specs.Laws.{NeverStands}
@@ -24,7 +24,7 @@ pub record StandsIn (entries : List Entry) (o : Instruction) : Type 0 where
   pub entry : Entry
   pub found : entry_at entries o.key ≡ Some entry
   pub same : entry.order ≡ o
-  pub counts : stands entries entry ≡ true
+  pub counts : is_standing entries entry ≡ true
 
 -- what the acquirer holds as approved is entered and stands;
 -- what it holds as declined or reversed doesn't stand in any journal that goes on from here

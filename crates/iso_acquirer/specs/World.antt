@@ -1,8 +1,8 @@
 -- Both ends, and what may happen to them.
 use Rattle.std.specs.Prelude.{◌≡◌, ◌≢◌, ◌<◌, ℕ, List, [], ◌∷◌, ◌++◌, ◌+◌, length, Option, Some, None, slice_get, Ok, Err}
 use Rattle.iso_order.specs.Order.{Instruction}
-use Rattle.iso_issuer.specs.Decision.{reply}
-use Rattle.iso_issuer.specs.Books.{Books, journal, books_with, IsFullFor, IsReply}
+use Rattle.iso_issuer.specs.Decision.{answer_for}
+use Rattle.iso_issuer.specs.Books.{Books, journal, books_with, IsFullFor, IsAnswerFor}
 use Rattle.iso_acquirer.specs.declared.event.Event.{Event}
 use Rattle.iso_acquirer.specs.declared.event.Event.TheVariants.{Begin, Timeout, Deliver, Answer, Other}
 use Rattle.iso_acquirer.specs.declared.event.Given.{Given}
@@ -35,7 +35,7 @@ abbrev pub with_delivery : World → Instruction → World
 with_delivery w o = record {
   acquirer = w.acquirer;
   sent = w.sent;
-  given = w.given ++ record { key = o.key; answer = reply w.issuer.accounts (journal w.issuer) o } ∷ [];
+  given = w.given ++ record { key = o.key; answer = answer_for w.issuer.accounts (journal w.issuer) o } ∷ [];
   issuer = books_with w.issuer o;
 }
 
@@ -112,7 +112,7 @@ IsNotAsked old stan (fault.Issuer e) = ⊥
 -- no order was sent at that place, or the issuer refuses it, or memory ran out
 abbrev pub IsNotDelivered : World → ℕ → StepFault → Type 0
 IsNotDelivered old place fault.NoSuch = slice_get old.sent place ≡ None
-IsNotDelivered old place (fault.Issuer e) = (o : Instruction) × (slice_get old.sent place ≡ Some o) × IsReply old.issuer o (Err e)
+IsNotDelivered old place (fault.Issuer e) = (o : Instruction) × (slice_get old.sent place ≡ Some o) × IsAnswerFor old.issuer o (Err e)
 IsNotDelivered old place fault.Memory = (o : Instruction) × (slice_get old.sent place ≡ Some o)
 IsNotDelivered old place fault.OwnKey = ⊥
 IsNotDelivered old place (fault.Acquirer e) = ⊥
@@ -128,7 +128,7 @@ IsNotTold old place (fault.Issuer e) = ⊥
 -- the order has this acquirer's number, or the issuer refuses it
 abbrev pub IsNotOther : World → Instruction → StepFault → Type 0
 IsNotOther old o fault.OwnKey = o.key.acquirer ≡ old.acquirer.id
-IsNotOther old o (fault.Issuer e) = (o.key.acquirer ≢ old.acquirer.id) × IsReply old.issuer o (Err e)
+IsNotOther old o (fault.Issuer e) = (o.key.acquirer ≢ old.acquirer.id) × IsAnswerFor old.issuer o (Err e)
 IsNotOther old o fault.Memory = ⊥
 IsNotOther old o fault.NoSuch = ⊥
 IsNotOther old o (fault.Acquirer e) = ⊥

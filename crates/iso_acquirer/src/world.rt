@@ -12,7 +12,7 @@ use crate::event::{Event, Given};
 use crate::fault::StepFault;
 use iso_issuer::Issuer;
 use iso_issuer::laws::{
-    granted_stands, journals_grow, keys_stay_distinct, replies_are_kept, reversals_stay,
+    granted_stands, journals_grow, keys_stay_distinct, answers_are_entered, reversals_stay,
     reversed_never_stands, stands_no_more,
 };
 use iso_order::{Order, Pan};
@@ -142,7 +142,7 @@ impl World {
         self.given.reserve(1)?;
         journals_grow();
         keys_stay_distinct();
-        replies_are_kept();
+        answers_are_entered();
         reversals_stay();
         match self.issuer.handle(order) {
             Ok(answer) => {

@@ -12,7 +12,7 @@ use Rattle.iso_order.specs.Outcome.{Outcome}
 use Rattle.iso_order.specs.Response.{response}
 use Rattle.iso_order.specs.Verdict.{verdict}
 use Rattle.iso_issuer.specs.Books.{Books, journal}
-use Rattle.iso_issuer.specs.Decision.{reply}
+use Rattle.iso_issuer.specs.Decision.{answer_for}
 use Rattle.iso_host.specs.Asking.{message_in}
 use Rattle.iso_host.specs.Entering.{books_after_bodies, is_full}
 
@@ -22,7 +22,7 @@ use Rattle.iso_host.specs.Entering.{books_after_bodies, is_full}
 abbrev pub outcome_for : Books → Instruction → Outcome
 outcome_for books o =
     if is_full books o.key then record { code = 96; seq = 0; shown = None }
-    else reply books.accounts (journal books) o
+    else answer_for books.accounts (journal books) o
 
 -- the answer to a verdict, where it is answered
 abbrev pub outcome_of : Books → Verdict → Option Outcome

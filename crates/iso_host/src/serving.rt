@@ -129,7 +129,7 @@ pub fn serve<R: Inlet, W: Outlet>(
 ) -> Result<Report, ServeFault>
     requires { IsHostReady table.now }
     // What was read, written and entered, by how it ends.
-    ensures outcome { Leaves table.now header (R.remaining reader.old) (R.remaining reader.new)
+    ensures leaves { Leaves table.now header (R.remaining reader.old) (R.remaining reader.new)
         (W.contents writer.old) (W.contents writer.new) issuer.old issuer.new result }
     // Each answer is flushed.
     ensures flushed { Flushes (W.counts writer.old) (W.counts writer.new) result }

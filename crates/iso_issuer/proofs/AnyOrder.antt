@@ -15,7 +15,7 @@ use Rattle.iso_order.specs.Order.{Instruction, same_currency}
 use Rattle.iso_issuer.specs.declared.account.Account.{Account}
 use Rattle.iso_issuer.specs.declared.effect.Effect.{Effect}
 use Rattle.iso_issuer.specs.declared.effect.Side.{Side}
-use Rattle.iso_issuer.specs.declared.effect.Side.TheVariants.{Given, Taken, Held}
+use Rattle.iso_issuer.specs.declared.effect.Side.TheVariants.{Credited, Debited, Held}
 use Rattle.iso_issuer.specs.declared.journal.Entry.{Entry}
 use Rattle.iso_issuer.specs.Account.{account_of}
 use Rattle.iso_issuer.specs.Effect.{effect_of, effect_amount, is_key, is_end_of, same_side, side_of, is_drawn}
@@ -288,8 +288,8 @@ module _ (accounts : List Account) (xs ys : List Instruction) (are : AreReordere
 pub ledgers-agree : (accounts : List Account) (xs ys : List Instruction) (a : Account) → AreReordered accounts xs ys →
     ledger (journal_of accounts ys) a ≡ ledger (journal_of accounts xs) a
 ledgers-agree accounts xs ys a are =
-    ap (λ n. a.opening +ℤ pos n -ℤ pos (total Taken a.pan (journal_of accounts ys))) (total-same accounts xs ys are Given a.pan)
-    ∙ ap (λ n. a.opening +ℤ pos (total Given a.pan (journal_of accounts xs)) -ℤ pos n) (total-same accounts xs ys are Taken a.pan)
+    ap (λ n. a.opening +ℤ pos n -ℤ pos (total Debited a.pan (journal_of accounts ys))) (total-same accounts xs ys are Credited a.pan)
+    ∙ ap (λ n. a.opening +ℤ pos (total Credited a.pan (journal_of accounts xs)) -ℤ pos n) (total-same accounts xs ys are Debited a.pan)
 
 pub available-agree : (accounts : List Account) (xs ys : List Instruction) (a : Account) → AreReordered accounts xs ys →
     available (journal_of accounts ys) a ≡ available (journal_of accounts xs) a

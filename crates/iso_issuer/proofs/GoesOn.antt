@@ -11,7 +11,7 @@ use Rattle.iso_order.specs.Outcome.{Outcome}
 use Rattle.iso_issuer.specs.declared.account.Account.{Account}
 use Rattle.iso_issuer.specs.declared.journal.Entry.{Entry}
 use Rattle.iso_issuer.specs.Journal.{firsts, is_entered, entry_at, HasDistinctKeys}
-use Rattle.iso_issuer.specs.Decision.{entries_after, new_entry, journal_of, repeat_answer, reply, reply_by}
+use Rattle.iso_issuer.specs.Decision.{entries_after, new_entry, journal_of, repeat_answer, answer_for, answer_by}
 use Rattle.iso_issuer.specs.Books.{Books, journal, books_with, IsFullFor}
 use Rattle.iso_issuer.specs.Laws.{books_after}
 use Rattle.iso_issuer.proofs.Keys.{same_key_is, same_key_self}
@@ -88,16 +88,16 @@ kept-begin limit xs ys distinct few =
 
 -- ---- the answer to a repeat
 
--- the reply to an order whose key has an entry, in a journal that goes on
-reply-stays : (accounts : List Account) (orders more : List Instruction) (o : Instruction) (e : Entry) → entry_at (journal_of accounts orders) o.key ≡ Some e
-    → reply accounts (journal_of accounts (orders ++ more)) o ≡ repeat_answer e o
-reply-stays accounts orders more o e found = ap (reply_by accounts (journal_of accounts (orders ++ more)) o) (answers-kept accounts orders more o.key e found)
+-- the answer for an order whose key has an entry, in a journal that goes on
+answer-stays : (accounts : List Account) (orders more : List Instruction) (o : Instruction) (e : Entry) → entry_at (journal_of accounts orders) o.key ≡ Some e
+    → answer_for accounts (journal_of accounts (orders ++ more)) o ≡ repeat_answer e o
+answer-stays accounts orders more o e found = ap (answer_by accounts (journal_of accounts (orders ++ more)) o) (answers-kept accounts orders more o.key e found)
 
-reply-after : (b : Books) (o : Instruction) (since : List Instruction) (e : Entry) → HasDistinctKeys b.orders → length b.orders ≤ b.limit
-    → entry_at (journal b) o.key ≡ Some e → reply b.accounts (journal (books_after b since)) o ≡ repeat_answer e o
-reply-after b o since e distinct few found =
+answer-after : (b : Books) (o : Instruction) (since : List Instruction) (e : Entry) → HasDistinctKeys b.orders → length b.orders ≤ b.limit
+    → entry_at (journal b) o.key ≡ Some e → answer_for b.accounts (journal (books_after b since)) o ≡ repeat_answer e o
+answer-after b o since e distinct few found =
     let kept = kept-begin b.limit b.orders since distinct few in
-    ap (λ (l : List Instruction). reply b.accounts (journal_of b.accounts l) o) kept.1 ∙ reply-stays b.accounts b.orders kept.0 o e found
+    ap (λ (l : List Instruction). answer_for b.accounts (journal_of b.accounts l) o) kept.1 ∙ answer-stays b.accounts b.orders kept.0 o e found
 
 -- the entry of an order that was just entered
 found-new : (accounts : List Account) (orders : List Instruction) (o : Instruction) → entry_at (journal_of accounts orders) o.key ≡ None
@@ -121,29 +121,29 @@ again e o same self =
 
 pub repeats-answered : SameSelf → (b : Books) (o : Instruction) (between : List Instruction) →
     HasDistinctKeys b.orders → length b.orders ≤ b.limit → (IsFullFor b o.key → ⊥) →
-    reply b.accounts (journal (books_after b (o ∷ between))) o ≡ reply b.accounts (journal b) o
+    answer_for b.accounts (journal (books_after b (o ∷ between))) o ≡ answer_for b.accounts (journal b) o
 repeats-answered self b o between distinct few room = by_entry (entry_at (journal b) o.key) refl
   where
-    by_entry : (entry : Option Entry) → entry_at (journal b) o.key ≡ entry → reply b.accounts (journal (books_after b (o ∷ between))) o ≡ reply b.accounts (journal b) o
-    by_entry (Some e) found = reply-after b o (o ∷ between) e distinct few found ∙ sym (ap (reply_by b.accounts (journal b) o) found)
+    by_entry : (entry : Option Entry) → entry_at (journal b) o.key ≡ entry → answer_for b.accounts (journal (books_after b (o ∷ between))) o ≡ answer_for b.accounts (journal b) o
+    by_entry (Some e) found = answer-after b o (o ∷ between) e distinct few found ∙ sym (ap (answer_by b.accounts (journal b) o) found)
     by_entry None none =
         let new = unknown b.accounts b.orders o.key none in
         let below : length b.orders < b.limit = omega (arith, λ (e : length b.orders ≡ b.limit). room (record { at_limit = e; new = new })) in
         let with = record b { orders = b.orders ++ o ∷ [] } in
         let after : books_after b (o ∷ between) ≡ books_after with between =
         ap (λ (l : List Instruction). record b { orders = take b.limit (firsts l) }) (sym (append_assoc b.orders (o ∷ []) between)) in
-        ap (λ (x : Books). reply b.accounts (journal x) o) after
-        ∙ reply-after with o between (new_entry b.accounts (journal b) o) (distinct-push b.orders o distinct new) (omega (arith, length-append b.orders (o ∷ [])))
+        ap (λ (x : Books). answer_for b.accounts (journal x) o) after
+        ∙ answer-after with o between (new_entry b.accounts (journal b) o) (distinct-push b.orders o distinct new) (omega (arith, length-append b.orders (o ∷ [])))
         (found-new b.accounts b.orders o none)
         ∙ again (new_entry b.accounts (journal b) o) o refl self
-        ∙ sym (ap (reply_by b.accounts (journal b) o) none)
+        ∙ sym (ap (answer_by b.accounts (journal b) o) none)
 
 pub entries-answer : SameSelf → (b : Books) (o : Instruction) (answer : Outcome) (since : List Instruction) →
     HasDistinctKeys b.orders → length b.orders ≤ b.limit → entry_at (journal b) o.key ≡ Some (record { order = o; answer = answer }) →
-    reply b.accounts (journal (books_after b since)) o ≡ answer
+    answer_for b.accounts (journal (books_after b since)) o ≡ answer
 entries-answer self b o answer since distinct few found =
     let e : Entry = record { order = o; answer = answer } in
-    reply-after b o since e distinct few found ∙ again e o refl self
+    answer-after b o since e distinct few found ∙ again e o refl self
 
 -- ---- one order more
 
@@ -190,15 +190,15 @@ found-stays j more key e h = find-more (λ (x : Entry). same_key x.order.key key
 pub new-found : (j : List Entry) (e : Entry) → entry_at j e.order.key ≡ None → entry_at (j ++ e ∷ []) e.order.key ≡ Some e
 new-found j e none = find-last (λ (x : Entry). same_key x.order.key e.order.key) j e none (same_key_self e.order.key)
 
--- the reply to an order that is new, or that was entered as it is
-pub replies-kept : SameSelf → (b : Books) (o : Instruction) → HasDistinctKeys b.orders → ((e : Entry) → entry_at (journal b) o.key ≡ Some e → e.order ≡ o) →
-    entry_at (journal (books_with b o)) o.key ≡ Some (record { order = o; answer = reply b.accounts (journal b) o })
-replies-kept self b o distinct as_it_is = by_entry (entry_at (journal b) o.key) refl
+-- the answer for an order that is new, or that was entered as it is
+pub answers-entered : SameSelf → (b : Books) (o : Instruction) → HasDistinctKeys b.orders → ((e : Entry) → entry_at (journal b) o.key ≡ Some e → e.order ≡ o) →
+    entry_at (journal (books_with b o)) o.key ≡ Some (record { order = o; answer = answer_for b.accounts (journal b) o })
+answers-entered self b o distinct as_it_is = by_entry (entry_at (journal b) o.key) refl
   where
     at : List Instruction → Option Entry
     at orders = entry_at (journal_of b.accounts orders) o.key
 
-    by_entry : (entry : Option Entry) → entry_at (journal b) o.key ≡ entry → at (firsts (b.orders ++ o ∷ [])) ≡ Some (record { order = o; answer = reply_by b.accounts (journal b) o entry })
+    by_entry : (entry : Option Entry) → entry_at (journal b) o.key ≡ entry → at (firsts (b.orders ++ o ∷ [])) ≡ Some (record { order = o; answer = answer_by b.accounts (journal b) o entry })
     by_entry None none =
         ap at (new b.orders o distinct (unknown b.accounts b.orders o.key none)) ∙ found-new b.accounts b.orders o none
     by_entry (Some e) found =

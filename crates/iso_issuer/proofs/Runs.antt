@@ -7,14 +7,14 @@ use Rattle.iso_order.specs.Order.{Instruction}
 use Rattle.iso_issuer.specs.declared.fault.Refused.{Refused}
 use Rattle.iso_issuer.specs.declared.fault.Refused.TheVariants.{Full, Memory}
 use Rattle.iso_issuer.specs.Journal.{firsts, is_entered}
-use Rattle.iso_issuer.specs.Decision.{reply}
-use Rattle.iso_issuer.specs.Books.{Books, IsFullFor, IsRoomFor, IsReply, IsRun, books_left_by, books_with, journal, answered_of}
+use Rattle.iso_issuer.specs.Decision.{answer_for}
+use Rattle.iso_issuer.specs.Books.{Books, IsFullFor, IsRoomFor, IsAnswerFor, IsRun, books_left_by, books_with, journal, answered_of}
 use Rattle.iso_issuer.proofs.Firsts.{firsts-known, firsts-new, firsts-skip}
 
 -- a run goes on by one order
 pub run-push : (b mid : Books) (os : List Instruction) (rs : List (Result Outcome Refused)) (o : Instruction) (r : Result Outcome Refused) →
-    IsRun b os rs mid → IsReply mid o r → IsRun b (os ++ o ∷ []) (rs ++ r ∷ []) (books_left_by mid o r)
-run-push b mid [] [] o r run fits = (subst (λ x. IsReply x o r) run fits, ap (λ x. books_left_by x o r) run)
+    IsRun b os rs mid → IsAnswerFor mid o r → IsRun b (os ++ o ∷ []) (rs ++ r ∷ []) (books_left_by mid o r)
+run-push b mid [] [] o r run fits = (subst (λ x. IsAnswerFor x o r) run fits, ap (λ x. books_left_by x o r) run)
 run-push b mid (p ∷ ps) (q ∷ qs) o r run fits = (run.0, run-push (books_left_by b p q) mid ps qs o r run.1 fits)
 run-push b mid [] (q ∷ qs) o r run fits = elim run [ ]
 run-push b mid (p ∷ ps) [] o r run fits = elim run [ ]
@@ -22,8 +22,8 @@ run-push b mid (p ∷ ps) [] o r run fits = elim run [ ]
 -- what the clauses of `handle` say, as one fact
 pub handled : (old new : Books) (o : Instruction) (r : Result Outcome Refused) →
     ((r ≡ Err Full) ↔ IsFullFor old o.key) → (r ≡ Err Memory → IsRoomFor old o.key) →
-    IfOk r (λ a. a ≡ reply old.accounts (journal old) o) → OnOk r (new ≡ books_with old o) → OnErr r (new ≡ old) →
-    IsReply old o r × (new ≡ books_left_by old o r)
+    IfOk r (λ a. a ≡ answer_for old.accounts (journal old) o) → OnOk r (new ≡ books_with old o) → OnErr r (new ≡ old) →
+    IsAnswerFor old o r × (new ≡ books_left_by old o r)
 handled old new o (Ok a) full memory answer entered refused = ((answer, λ h. apart a (full.1 h)), entered)
   where
     apart : (a : Outcome) → ◌≡◌ {A = Result Outcome Refused} (Ok a) (Err Full) → ⊥

@@ -13,7 +13,7 @@ use Rattle.iso_issuer.specs.declared.account.Account.{Account}
 use Rattle.iso_issuer.specs.declared.journal.Entry.{Entry}
 use Rattle.iso_issuer.specs.Account.{account_of}
 use Rattle.iso_issuer.specs.Balance.{available}
-use Rattle.iso_issuer.specs.Decision.{is_wide, account_code, code_of, new_answer, new_entry, entries_after, journal_of, repeat_answer, reply_by, reply, is_shown_for}
+use Rattle.iso_issuer.specs.Decision.{is_wide, account_code, code_of, new_answer, new_entry, entries_after, journal_of, repeat_answer, answer_by, answer_for, is_shown_for}
 use Rattle.iso_issuer.specs.Journal.{is_reversed, entry_at}
 
 -- ---- a new answer
@@ -94,14 +94,14 @@ repeated_by e o true same here =
     rw same (shown_along e.order.act o.act e.answer.shown (inquiry_same e.order.act o.act (second (same_key e.order.key o.key) (same_act e.order.act o.act) same)) here)
 repeated_by e o false other here = rw other refl
 
-reply_by_shown : (accounts : List Account) (journal es : List Entry) (o : Instruction) → AreShown es → is_shown_for o.act (reply_by accounts journal o (entry_at es o.key)).shown ≡ true
-reply_by_shown accounts journal [] o shown = new_shown accounts journal o
-reply_by_shown accounts journal (e ∷ es) o shown = by_test (same_key e.order.key o.key) (reply_by_shown accounts journal es o shown.1)
+answer_by_shown : (accounts : List Account) (journal es : List Entry) (o : Instruction) → AreShown es → is_shown_for o.act (answer_by accounts journal o (entry_at es o.key)).shown ≡ true
+answer_by_shown accounts journal [] o shown = new_shown accounts journal o
+answer_by_shown accounts journal (e ∷ es) o shown = by_test (same_key e.order.key o.key) (answer_by_shown accounts journal es o shown.1)
   where
-    by_test : (t : Bool) → is_shown_for o.act (reply_by accounts journal o (entry_at es o.key)).shown ≡ true
-        → is_shown_for o.act (reply_by accounts journal o (cond t (Some e) (entry_at es o.key))).shown ≡ true
+    by_test : (t : Bool) → is_shown_for o.act (answer_by accounts journal o (entry_at es o.key)).shown ≡ true
+        → is_shown_for o.act (answer_by accounts journal o (cond t (Some e) (entry_at es o.key))).shown ≡ true
     by_test true rest = repeated_by e o (same_order e.order o) refl shown.0
     by_test false rest = rest
 
-pub reply-shown : (accounts : List Account) (orders : List Instruction) (o : Instruction) → is_shown_for o.act (reply accounts (journal_of accounts orders) o).shown ≡ true
-reply-shown accounts orders o = reply_by_shown accounts (journal_of accounts orders) (journal_of accounts orders) o (shown_entered accounts [] orders tt)
+pub answer-shown : (accounts : List Account) (orders : List Instruction) (o : Instruction) → is_shown_for o.act (answer_for accounts (journal_of accounts orders) o).shown ≡ true
+answer-shown accounts orders o = answer_by_shown accounts (journal_of accounts orders) (journal_of accounts orders) o (shown_entered accounts [] orders tt)

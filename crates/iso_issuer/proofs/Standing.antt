@@ -8,10 +8,10 @@ use Rattle.iso_order.specs.declared.act.Act.TheVariants.{Debit, Credit, Inquiry,
 use Rattle.iso_order.specs.Key.{class_digit, same_key}
 use Rattle.iso_order.specs.Order.{Instruction}
 use Rattle.iso_issuer.specs.declared.account.Account.{Account}
-use Rattle.iso_issuer.specs.declared.effect.Side.TheVariants.{Taken, Held}
+use Rattle.iso_issuer.specs.declared.effect.Side.TheVariants.{Debited, Held}
 use Rattle.iso_issuer.specs.declared.journal.Entry.{Entry}
 use Rattle.iso_issuer.specs.Effect.{effect_of, effect_by, effect_amount, is_key, same_side}
-use Rattle.iso_issuer.specs.Journal.{entry_at, undone_key, left_by, left_at, reversal_of, is_nothing, is_reversed, smaller_of, is_counted, is_completed, is_ended, stands, weight}
+use Rattle.iso_issuer.specs.Journal.{entry_at, undone_key, left_by, left_at, reversal_of, is_nothing, is_reversed, smaller_of, is_counted, is_completed, is_ended, is_standing, weight}
 use Rattle.iso_issuer.specs.Decision.{journal_of}
 use Rattle.iso_issuer.specs.Laws.{NoneReverses, AllReverseWholly, NeverStands}
 use Rattle.iso_issuer.proofs.GoesOn.{find-more, journal-begins, answers-kept, key-found}
@@ -20,14 +20,14 @@ use Rattle.iso_issuer.proofs.GoesOn.{find-more, journal-begins, answers-kept, ke
 
 -- an entry of class 2 is no hold
 no-hold : (j : List Entry) (key : TxKey) (act : Act) → class_digit key ≡ 2 → is_ended j key (effect_by key act) ≡ false
-no-hold j key (Debit m) two = ap (λ c. same_side (cond (c == 1) Held Taken) Held && is_completed j key m.pan) two
+no-hold j key (Debit m) two = ap (λ c. same_side (cond (c == 1) Held Debited) Held && is_completed j key m.pan) two
 no-hold j key (Credit m) two = refl
 no-hold j key (Inquiry m) two = refl
 no-hold j key (Undo original left) two = refl
 no-hold j key (Complete m hold) two = refl
 
 -- so it stands where it counts
-stands-counted : (j : List Entry) (e : Entry) → class_digit e.order.key ≡ 2 → stands j e ≡ is_counted j e
+stands-counted : (j : List Entry) (e : Entry) → class_digit e.order.key ≡ 2 → is_standing j e ≡ is_counted j e
 stands-counted j e two = ap (λ b. is_counted j e && not b) (no-hold j e.order.key e.order.act two) ∙ and_on (is_counted j e)
   where
     and_on : (b : Bool) → b && true ≡ b
@@ -35,7 +35,7 @@ stands-counted j e two = ap (λ b. is_counted j e && not b) (no-hold j e.order.k
     and_on false = refl
 
 pub granted-stands : (j : List Entry) (e : Entry) → class_digit e.order.key ≡ 2 → is_some (effect_of e.order) ≡ true → e.answer.code ≡ 0 → left_at j e.order.key ≡ None →
-    stands j e ≡ true
+    is_standing j e ≡ true
 granted-stands j e two moves granted none =
     stands-counted j e two
     ∙ ap (λ b. b && (e.answer.code == 0) && not (is_nothing (left_at j e.order.key))) moves
@@ -49,25 +49,25 @@ granted-weighs j e two moves granted none =
     ∙ ap (smaller_of (effect_amount (effect_of e.order))) none
 
 -- what doesn't count doesn't stand
-fallen : (j : List Entry) (e : Entry) → is_counted j e ≡ false → stands j e ≡ false
+fallen : (j : List Entry) (e : Entry) → is_counted j e ≡ false → is_standing j e ≡ false
 fallen j e off = ap (λ b. b && not (is_ended j e.order.key (effect_of e.order))) off
 
 and_off : (a b : Bool) → b ≡ false → a && b ≡ false
 and_off true b h = h
 and_off false b h = refl
 
-pub declined-falls : (j : List Entry) (e : Entry) → e.answer.code ≢ 0 → stands j e ≡ false
+pub declined-falls : (j : List Entry) (e : Entry) → e.answer.code ≢ 0 → is_standing j e ≡ false
 declined-falls j e declined =
     fallen j e (ap (λ b. b && not (is_reversed j e.order.key)) (and_off (is_some (effect_of e.order)) (e.answer.code == 0) (not_zero e.answer.code declined)))
   where
     not_zero : (c : ℕ) → c ≢ 0 → (c == 0) ≡ false
     not_zero c h = grind (arith, common_steps)
 
-pub reversed-falls : (j : List Entry) (e : Entry) → is_reversed j e.order.key ≡ true → stands j e ≡ false
+pub reversed-falls : (j : List Entry) (e : Entry) → is_reversed j e.order.key ≡ true → is_standing j e ≡ false
 reversed-falls j e reversed =
     fallen j e (and_off (is_some (effect_of e.order) && (e.answer.code == 0)) (not (is_reversed j e.order.key)) (ap not reversed))
 
-pub fallen-weighs : (j : List Entry) (e : Entry) → stands j e ≡ false → weight j e ≡ 0
+pub fallen-weighs : (j : List Entry) (e : Entry) → is_standing j e ≡ false → weight j e ≡ 0
 fallen-weighs j e off = ap (λ b. cond b (smaller_of (effect_amount (effect_of e.order)) (left_at j e.order.key)) 0) off
 
 -- ---- which keys are reversed
@@ -132,13 +132,13 @@ falls-on true true true s h stays = ap not (stays refl)
 falls-on true true false s h stays = cc
 
 pub falls-for-good : (accounts : List Account) (orders : List Instruction) (key : TxKey) (e : Entry) →
-    class_digit key ≡ 2 → entry_at (journal_of accounts orders) key ≡ Some e → stands (journal_of accounts orders) e ≡ false → NeverStands accounts orders key
+    class_digit key ≡ 2 → entry_at (journal_of accounts orders) key ≡ Some e → is_standing (journal_of accounts orders) e ≡ false → NeverStands accounts orders key
 falls-for-good accounts orders key e two here off more f distinct found =
     let j = journal_of accounts orders in
     let later = journal_of accounts (orders ++ more) in
     let own : class_digit e.order.key ≡ 2 = ap class_digit (key-found j key e here) ∙ two in
     let same : e ≡ f = same_of (sym (answers-kept accounts orders more key e here) ∙ found) in
-    subst (λ (x : Entry). stands later x ≡ false) same
+    subst (λ (x : Entry). is_standing later x ≡ false) same
     (fallen later e
     (falls-on (is_some (effect_of e.order)) (e.answer.code == 0) (is_reversed j e.order.key) (is_reversed later e.order.key)
     (sym (stands-counted j e own) ∙ off) (reversed-kept accounts orders more e.order.key)))

@@ -10,7 +10,7 @@ use Rattle.iso_issuer.specs.declared.journal.Entry.{Entry}
 use Rattle.iso_issuer.specs.Account.{account_of}
 use Rattle.iso_issuer.specs.declared.effect.Effect.{Effect}
 use Rattle.iso_issuer.specs.declared.effect.Side.{Side}
-use Rattle.iso_issuer.specs.declared.effect.Side.TheVariants.{Given, Taken, Held}
+use Rattle.iso_issuer.specs.declared.effect.Side.TheVariants.{Credited, Debited, Held}
 use Rattle.iso_issuer.specs.Effect.{effect_of, same_side}
 use Rattle.iso_issuer.specs.Journal.{weight, HasDistinctKeys}
 use Rattle.iso_issuer.specs.Found.{weight_at, effect_at, reversed_by, released_by}
@@ -90,12 +90,12 @@ pub grown-ledger : (f : Effect) (pan : AccountNumber) (before after : ℕ) →
 grown-ledger f pan before after = by_test f.side (same_pan f.pan pan)
   where
     by_test : (s : Side) (t : Bool) → cond t (ledger_grown s (pos after -ℤ pos before)) (pos 0)
-        ≡ pos (cond (same_side s Given && t) after 0) -ℤ pos (cond (same_side s Taken && t) after 0)
-        -ℤ (pos (cond (same_side s Given && t) before 0) -ℤ pos (cond (same_side s Taken && t) before 0))
-    by_test Given true = omega (arith, ints)
-    by_test Given false = omega (arith, ints)
-    by_test Taken true = omega (arith, ints)
-    by_test Taken false = omega (arith, ints)
+        ≡ pos (cond (same_side s Credited && t) after 0) -ℤ pos (cond (same_side s Debited && t) after 0)
+        -ℤ (pos (cond (same_side s Credited && t) before 0) -ℤ pos (cond (same_side s Debited && t) before 0))
+    by_test Credited true = omega (arith, ints)
+    by_test Credited false = omega (arith, ints)
+    by_test Debited true = omega (arith, ints)
+    by_test Debited false = omega (arith, ints)
     by_test Held true = omega (arith, ints)
     by_test Held false = omega (arith, ints)
 
@@ -104,12 +104,12 @@ pub grown-available : (f : Effect) (pan : AccountNumber) (before after : ℕ) �
 grown-available f pan before after = by_test f.side (same_pan f.pan pan)
   where
     by_test : (s : Side) (t : Bool) → cond t (available_grown s (pos after -ℤ pos before)) (pos 0)
-        ≡ pos (cond (same_side s Given && t) after 0) -ℤ pos (cond (same_side s Taken && t) after 0) -ℤ pos (cond (same_side s Held && t) after 0)
-        -ℤ (pos (cond (same_side s Given && t) before 0) -ℤ pos (cond (same_side s Taken && t) before 0) -ℤ pos (cond (same_side s Held && t) before 0))
-    by_test Given true = omega (arith, ints)
-    by_test Given false = omega (arith, ints)
-    by_test Taken true = omega (arith, ints)
-    by_test Taken false = omega (arith, ints)
+        ≡ pos (cond (same_side s Credited && t) after 0) -ℤ pos (cond (same_side s Debited && t) after 0) -ℤ pos (cond (same_side s Held && t) after 0)
+        -ℤ (pos (cond (same_side s Credited && t) before 0) -ℤ pos (cond (same_side s Debited && t) before 0) -ℤ pos (cond (same_side s Held && t) before 0))
+    by_test Credited true = omega (arith, ints)
+    by_test Credited false = omega (arith, ints)
+    by_test Debited true = omega (arith, ints)
+    by_test Debited false = omega (arith, ints)
     by_test Held true = omega (arith, ints)
     by_test Held false = omega (arith, ints)
 

@@ -8,7 +8,7 @@ use Rattle.iso_order.specs.Order.{Instruction}
 use Rattle.iso_issuer.specs.declared.account.Account.{Account}
 use Rattle.iso_issuer.specs.declared.effect.Effect.{Effect}
 use Rattle.iso_issuer.specs.declared.effect.Side.{Side}
-use Rattle.iso_issuer.specs.declared.effect.Side.TheVariants.{Given, Taken, Held}
+use Rattle.iso_issuer.specs.declared.effect.Side.TheVariants.{Credited, Debited, Held}
 use Rattle.iso_issuer.specs.declared.journal.Entry.{Entry}
 use Rattle.iso_issuer.specs.Effect.{effect_of, effect_amount, is_on, is_key, same_side}
 use Rattle.iso_issuer.specs.Journal.{left_at, smaller_of, undone_key, is_counted_with, is_ended, weight, HasDistinctKeys}
@@ -81,8 +81,8 @@ pub ledger-entered : (es : List Entry) (e : Entry) (a : Account) → HasDistinct
     -ℤ ledger_share a.pan (effect_at (released_by es e.order)) (weight_at es (released_by es e.order)))
 ledger-entered es e a distinct apart =
     regroup a.opening _ _ _ _ _ _ _ _ _ _ _ _ _ _ _ _
-    (total-entered Given a.pan es e distinct apart) (total-entered Taken a.pan es e distinct apart)
-    (nothing Given a.pan (effect_of e.order)) (nothing Taken a.pan (effect_of e.order))
+    (total-entered Credited a.pan es e distinct apart) (total-entered Debited a.pan es e distinct apart)
+    (nothing Credited a.pan (effect_of e.order)) (nothing Debited a.pan (effect_of e.order))
   where
     regroup : (z : ℤ) (c' d' c d ce de c0 d0 cb db ca da cx dx cy dy : ℕ) → c' + cb + cx ≡ c + ce + ca + cy → d' + db + dx ≡ d + de + da + dy → c0 ≡ 0 → d0 ≡ 0 →
         z +ℤ pos c' -ℤ pos d' ≡ z +ℤ pos c -ℤ pos d +ℤ (pos ce -ℤ pos de -ℤ (pos c0 -ℤ pos d0)) +ℤ (pos ca -ℤ pos da -ℤ (pos cb -ℤ pos db)) +ℤ (pos cy -ℤ pos dy -ℤ (pos cx -ℤ pos dx))

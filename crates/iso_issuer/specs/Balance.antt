@@ -4,7 +4,7 @@ use Rattle.iso_order.specs.Pan.{AccountNumber}
 use Rattle.iso_issuer.specs.declared.account.Account.{Account}
 use Rattle.iso_issuer.specs.declared.effect.Effect.{Effect}
 use Rattle.iso_issuer.specs.declared.effect.Side.{Side}
-use Rattle.iso_issuer.specs.declared.effect.Side.TheVariants.{Given, Taken, Held}
+use Rattle.iso_issuer.specs.declared.effect.Side.TheVariants.{Credited, Debited, Held}
 use Rattle.iso_issuer.specs.declared.journal.Entry.{Entry}
 use Rattle.iso_issuer.specs.Effect.{effect_of, is_on}
 use Rattle.iso_issuer.specs.Journal.{weight}
@@ -17,9 +17,9 @@ share side pan f n = if is_on side pan f then n else 0
 abbrev pub total : Side → AccountNumber → List Entry → ℕ
 total side pan journal = sum_by (λ e. share side pan (effect_of e.order) (weight journal e)) journal
 
--- the opening amount, plus what is given and less what is taken
+-- the opening amount, plus what is credited and less what is debited
 abbrev pub ledger : List Entry → Account → ℤ
-ledger journal a = a.opening +ℤ pos (total Given a.pan journal) -ℤ pos (total Taken a.pan journal)
+ledger journal a = a.opening +ℤ pos (total Credited a.pan journal) -ℤ pos (total Debited a.pan journal)
 
 -- the ledger, less what is held
 abbrev pub available : List Entry → Account → ℤ

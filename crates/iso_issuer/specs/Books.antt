@@ -8,7 +8,7 @@ use Rattle.iso_issuer.specs.declared.journal.Entry.{Entry}
 use Rattle.iso_issuer.specs.declared.fault.Refused.{Refused}
 use Rattle.iso_issuer.specs.declared.fault.Refused.TheVariants.{Full, Memory}
 use Rattle.iso_issuer.specs.Journal.{firsts, is_entered}
-use Rattle.iso_issuer.specs.Decision.{journal_of, reply}
+use Rattle.iso_issuer.specs.Decision.{journal_of, answer_for}
 
 -- its accounts, its limit, and the orders that were entered, in order
 pub record Books : Type 0 where
@@ -35,10 +35,10 @@ abbrev pub books_with : Books → Instruction → Books
 books_with b o = record { accounts = b.accounts; limit = b.limit; orders = firsts (b.orders ++ o ∷ []) }
 
 -- what an order may be answered
-abbrev pub IsReply : Books → Instruction → Result Outcome Refused → Type 0
-IsReply b o (Ok answer) = (answer ≡ reply b.accounts (journal b) o) × (IsFullFor b o.key → ⊥)
-IsReply b o (Err Full) = IsFullFor b o.key
-IsReply b o (Err Memory) = IsRoomFor b o.key
+abbrev pub IsAnswerFor : Books → Instruction → Result Outcome Refused → Type 0
+IsAnswerFor b o (Ok answer) = (answer ≡ answer_for b.accounts (journal b) o) × (IsFullFor b o.key → ⊥)
+IsAnswerFor b o (Err Full) = IsFullFor b o.key
+IsAnswerFor b o (Err Memory) = IsRoomFor b o.key
 
 -- what an order and its answer leave: a refusal changes nothing
 abbrev pub books_left_by : Books → Instruction → Result Outcome Refused → Books
@@ -48,7 +48,7 @@ books_left_by b o (Err refused) = b
 -- each order of the list has the answer that it may have after those before it
 abbrev pub IsRun : Books → List Instruction → List (Result Outcome Refused) → Books → Type 0
 IsRun b [] [] new = new ≡ b
-IsRun b (o ∷ os) (r ∷ rs) new = IsReply b o r × IsRun (books_left_by b o r) os rs new
+IsRun b (o ∷ os) (r ∷ rs) new = IsAnswerFor b o r × IsRun (books_left_by b o r) os rs new
 IsRun b [] (r ∷ rs) new = ⊥
 IsRun b (o ∷ os) [] new = ⊥
 

@@ -75,19 +75,19 @@ entries_after accounts before (o ∷ os) = entries_after accounts (before ++ new
 abbrev pub journal_of : List Account → List Instruction → List Entry
 journal_of accounts orders = entries_after accounts [] orders
 
--- ---- the reply to any order
+-- ---- the answer for any order
 
 -- the first answer again, or 94 to another order of that key
 abbrev pub repeat_answer : Entry → Instruction → Outcome
 repeat_answer e o = if same_order e.order o then e.answer else record { code = 94; seq = 0; shown = None }
 
-abbrev pub reply_by : List Account → List Entry → Instruction → Option Entry → Outcome
-reply_by accounts journal o None = new_answer accounts journal o
-reply_by accounts journal o (Some e) = repeat_answer e o
+abbrev pub answer_by : List Account → List Entry → Instruction → Option Entry → Outcome
+answer_by accounts journal o None = new_answer accounts journal o
+answer_by accounts journal o (Some e) = repeat_answer e o
 
 -- that of the entry of its key, where there is one, else a new answer
-abbrev pub reply : List Account → List Entry → Instruction → Outcome
-reply accounts journal o = reply_by accounts journal o (entry_at journal o.key)
+abbrev pub answer_for : List Account → List Entry → Instruction → Outcome
+answer_for accounts journal o = answer_by accounts journal o (entry_at journal o.key)
 
 -- ---- what an answer shows
 

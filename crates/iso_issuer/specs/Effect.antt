@@ -8,18 +8,18 @@ use Rattle.iso_order.specs.Key.{class_digit, same_key}
 use Rattle.iso_order.specs.Order.{Instruction, same_pan}
 use Rattle.iso_issuer.specs.declared.effect.Effect.{Effect}
 use Rattle.iso_issuer.specs.declared.effect.Side.{Side}
-use Rattle.iso_issuer.specs.declared.effect.Side.TheVariants.{Given, Taken, Held}
+use Rattle.iso_issuer.specs.declared.effect.Side.TheVariants.{Credited, Debited, Held}
 
 -- a debit of class 1 holds, one of class 2 takes
 abbrev pub side_of : TxKey → Side
-side_of key = if class_digit key == 1 then Held else Taken
+side_of key = if class_digit key == 1 then Held else Debited
 
 abbrev pub effect_by : TxKey → Act → Option Effect
 effect_by key (Debit m) = Some (record { pan = m.pan; side = side_of key; amount = m.amount; ends = None })
-effect_by key (Credit m) = Some (record { pan = m.pan; side = Given; amount = m.amount; ends = None })
+effect_by key (Credit m) = Some (record { pan = m.pan; side = Credited; amount = m.amount; ends = None })
 effect_by key (Inquiry m) = None
 effect_by key (Undo original left) = None
-effect_by key (Complete m hold) = Some (record { pan = m.pan; side = Taken; amount = m.amount; ends = Some hold })
+effect_by key (Complete m hold) = Some (record { pan = m.pan; side = Debited; amount = m.amount; ends = Some hold })
 
 -- the account, the way and the amount of a debit, a credit or a completion, which also ends a hold; no other order has an effect of its own
 abbrev pub effect_of : Instruction → Option Effect
@@ -32,13 +32,13 @@ effect_amount (Some f) = f.amount
 
 -- it is drawn from what is available
 abbrev pub is_drawn : Side → Bool
-is_drawn Given = false
-is_drawn Taken = true
+is_drawn Credited = false
+is_drawn Debited = true
 is_drawn Held = true
 
 abbrev pub same_side : Side → Side → Bool
-same_side Given Given = true
-same_side Taken Taken = true
+same_side Credited Credited = true
+same_side Debited Debited = true
 same_side Held Held = true
 same_side _ _ = false
 

@@ -11,7 +11,7 @@ use Rattle.iso_issuer.specs.declared.found.Touched.{Touched}
 use Rattle.iso_issuer.specs.declared.found.Found.{Found}
 use Rattle.iso_order.specs.declared.act.Money.{Money}
 use Rattle.iso_issuer.specs.declared.balances.Balance.{Balance}
-use Rattle.iso_issuer.specs.declared.balances.AccountRow.{AccountRow}
+use Rattle.iso_issuer.specs.declared.balances.PlacedBalance.{PlacedBalance}
 use Rattle.iso_issuer.specs.Balances.{accounts_of, balance_at}
 use Rattle.iso_issuer.specs.Index.{account_place}
 use Rattle.iso_issuer.specs.declared.effect.Effect.{Effect}
@@ -92,6 +92,6 @@ pub record WasFoundFor (journal : List Entry) (o : Instruction) (found : Found) 
   pub released : (t : Touched) → found.released ≡ Some t → t.left ≡ left_at journal t.entry.order.key
 
 -- the balance of the account that an order is about, and its place
-pub record IsRowFor (balances : List Balance) (o : Instruction) (row : Option AccountRow) : Type 0 where
-  pub place : (m : Money) → Some m ≡ money_of o.act → option_map (λ r. r.place) row ≡ account_place (accounts_of balances) m.pan
-  pub balance : (m : Money) → Some m ≡ money_of o.act → option_map (λ r. r.balance) row ≡ balance_at balances m.pan
+pub record IsBalanceFor (balances : List Balance) (o : Instruction) (placed : Option PlacedBalance) : Type 0 where
+  pub place : (m : Money) → Some m ≡ money_of o.act → option_map (λ p. p.place) placed ≡ account_place (accounts_of balances) m.pan
+  pub balance : (m : Money) → Some m ≡ money_of o.act → option_map (λ p. p.balance) placed ≡ balance_at balances m.pan

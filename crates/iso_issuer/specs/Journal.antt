@@ -89,9 +89,9 @@ is_ended journal key None = false
 is_ended journal key (Some f) = same_side f.side Held && is_completed journal key f.pan
 
 -- an entry that counts, and that isn't a hold that is ended (our own rule)
-abbrev pub stands : List Entry → Entry → Bool
-stands journal e = is_counted journal e && not (is_ended journal e.order.key (effect_of e.order))
+abbrev pub is_standing : List Entry → Entry → Bool
+is_standing journal e = is_counted journal e && not (is_ended journal e.order.key (effect_of e.order))
 
 -- what is left of the amount of an entry that stands, else 0
 abbrev pub weight : List Entry → Entry → ℕ
-weight journal e = if stands journal e then smaller_of (effect_amount (effect_of e.order)) (left_at journal e.order.key) else 0
+weight journal e = if is_standing journal e then smaller_of (effect_amount (effect_of e.order)) (left_at journal e.order.key) else 0

@@ -10,8 +10,8 @@ use Rattle.iso_issuer.specs.declared.account.Account.{Account}
 use Rattle.iso_issuer.specs.declared.journal.Entry.{Entry}
 use Rattle.iso_issuer.specs.Balance.{ledger, available}
 use Rattle.iso_issuer.specs.Effect.{effect_of, effect_amount, is_key}
-use Rattle.iso_issuer.specs.Journal.{firsts, is_entered, entry_at, undone_key, left_by, left_at, is_reversed, stands, weight, HasDistinctKeys}
-use Rattle.iso_issuer.specs.Decision.{new_entry, journal_of, reply}
+use Rattle.iso_issuer.specs.Journal.{firsts, is_entered, entry_at, undone_key, left_by, left_at, is_reversed, is_standing, weight, HasDistinctKeys}
+use Rattle.iso_issuer.specs.Decision.{new_entry, journal_of, answer_for}
 use Rattle.iso_issuer.specs.Books.{Books, journal, books_with, IsFullFor}
 
 -- ---- the first order of each key, up to a limit
@@ -49,14 +49,14 @@ abbrev pub RepeatsAreAnswered : Type 0
 RepeatsAreAnswered =
     (b : Books) (o : Instruction) (between : List Instruction) →
     HasDistinctKeys b.orders → length b.orders ≤ b.limit → (IsFullFor b o.key → ⊥) →
-    reply b.accounts (journal (books_after b (o ∷ between))) o ≡ reply b.accounts (journal b) o
+    answer_for b.accounts (journal (books_after b (o ∷ between))) o ≡ answer_for b.accounts (journal b) o
 
 -- an order that is entered with an answer gets it, whatever came since
 abbrev pub EntriesAnswer : Type 0
 EntriesAnswer =
     (b : Books) (o : Instruction) (answer : Outcome) (since : List Instruction) →
     HasDistinctKeys b.orders → length b.orders ≤ b.limit → entry_at (journal b) o.key ≡ Some (record { order = o; answer = answer }) →
-    reply b.accounts (journal (books_after b since)) o ≡ answer
+    answer_for b.accounts (journal (books_after b since)) o ≡ answer
 
 -- ---- one order more
 
@@ -101,11 +101,11 @@ NewComesLast =
 abbrev pub KeysStayDistinct : Type 0
 KeysStayDistinct = (b : Books) (o : Instruction) → HasDistinctKeys b.orders → HasDistinctKeys (books_with b o).orders
 
--- the key of an order that is new, or that was entered as it is, has an entry with the reply to the order
-abbrev pub RepliesAreKept : Type 0
-RepliesAreKept =
+-- the key of an order that is new, or that was entered as it is, has an entry with the answer for the order
+abbrev pub AnswersAreEntered : Type 0
+AnswersAreEntered =
     (b : Books) (o : Instruction) → HasDistinctKeys b.orders → ((e : Entry) → entry_at (journal b) o.key ≡ Some e → e.order ≡ o) →
-    entry_at (journal (books_with b o)) o.key ≡ Some (record { order = o; answer = reply b.accounts (journal b) o })
+    entry_at (journal (books_with b o)) o.key ≡ Some (record { order = o; answer = answer_for b.accounts (journal b) o })
 
 -- ---- which entries stand
 
@@ -114,7 +114,7 @@ abbrev pub GrantedStands : Type 0
 GrantedStands =
     (journal : List Entry) (e : Entry) →
     class_digit e.order.key ≡ 2 → is_some (effect_of e.order) ≡ true → e.answer.code ≡ 0 → left_at journal e.order.key ≡ None →
-    stands journal e ≡ true
+    is_standing journal e ≡ true
 
 -- and counts for its whole amount
 abbrev pub GrantedWeighsAll : Type 0
@@ -125,15 +125,15 @@ GrantedWeighsAll =
 
 -- an entry that wasn't granted doesn't stand
 abbrev pub DeclinedFalls : Type 0
-DeclinedFalls = (journal : List Entry) (e : Entry) → e.answer.code ≢ 0 → stands journal e ≡ false
+DeclinedFalls = (journal : List Entry) (e : Entry) → e.answer.code ≢ 0 → is_standing journal e ≡ false
 
 -- nor does one whose key is wholly reversed
 abbrev pub ReversedFalls : Type 0
-ReversedFalls = (journal : List Entry) (e : Entry) → is_reversed journal e.order.key ≡ true → stands journal e ≡ false
+ReversedFalls = (journal : List Entry) (e : Entry) → is_reversed journal e.order.key ≡ true → is_standing journal e ≡ false
 
 -- what doesn't stand counts for nothing
 abbrev pub FallenWeighsNothing : Type 0
-FallenWeighsNothing = (journal : List Entry) (e : Entry) → stands journal e ≡ false → weight journal e ≡ 0
+FallenWeighsNothing = (journal : List Entry) (e : Entry) → is_standing journal e ≡ false → weight journal e ≡ 0
 
 -- ---- which keys are reversed
 
@@ -173,13 +173,13 @@ WhollyIsReversed =
 abbrev pub NeverStands : List Account → List Instruction → TxKey → Type 0
 NeverStands accounts orders key =
     (more : List Instruction) (e : Entry) → HasDistinctKeys (orders ++ more) →
-    entry_at (journal_of accounts (orders ++ more)) key ≡ Some e → stands (journal_of accounts (orders ++ more)) e ≡ false
+    entry_at (journal_of accounts (orders ++ more)) key ≡ Some e → is_standing (journal_of accounts (orders ++ more)) e ≡ false
 
 -- an entry of class 2 that doesn't stand; a hold of class 1 can stand again, when what completed it is reversed
 abbrev pub StandsNoMore : Type 0
 StandsNoMore =
     (accounts : List Account) (orders : List Instruction) (key : TxKey) (e : Entry) →
-    class_digit key ≡ 2 → entry_at (journal_of accounts orders) key ≡ Some e → stands (journal_of accounts orders) e ≡ false →
+    class_digit key ≡ 2 → entry_at (journal_of accounts orders) key ≡ Some e → is_standing (journal_of accounts orders) e ≡ false →
     NeverStands accounts orders key
 
 -- a key whose first reversal leaves nothing, of any class

@@ -7,12 +7,12 @@ use Rattle.iso_issuer.specs.declared.balances.Balance.{Balance}
 use Rattle.iso_issuer.specs.declared.change.Change.{Change}
 use Rattle.iso_issuer.specs.declared.effect.Effect.{Effect}
 use Rattle.iso_issuer.specs.declared.effect.Side.{Side}
-use Rattle.iso_issuer.specs.declared.effect.Side.TheVariants.{Given, Taken, Held}
+use Rattle.iso_issuer.specs.declared.effect.Side.TheVariants.{Credited, Debited, Held}
 use Rattle.iso_issuer.specs.Balance.{share}
 
 -- what a weight counts in the ledger of this number
 abbrev pub ledger_share : AccountNumber → Option Effect → ℕ → ℤ
-ledger_share pan f n = pos (share Given pan f n) -ℤ pos (share Taken pan f n)
+ledger_share pan f n = pos (share Credited pan f n) -ℤ pos (share Debited pan f n)
 
 -- what it counts in what is available
 abbrev pub available_share : AccountNumber → Option Effect → ℕ → ℤ
@@ -30,14 +30,14 @@ on_available (Some c) pan = if same_pan c.pan pan then c.available else pos 0
 
 -- what a weight that grows by an amount adds to the ledger
 abbrev pub ledger_grown : Side → ℤ → ℤ
-ledger_grown Given z = z
-ledger_grown Taken z = pos 0 -ℤ z
+ledger_grown Credited z = z
+ledger_grown Debited z = pos 0 -ℤ z
 ledger_grown Held z = pos 0
 
 -- what it adds to what is available
 abbrev pub available_grown : Side → ℤ → ℤ
-available_grown Given z = z
-available_grown Taken z = pos 0 -ℤ z
+available_grown Credited z = z
+available_grown Debited z = pos 0 -ℤ z
 available_grown Held z = pos 0 -ℤ z
 
 -- a balance after the weight of an entry went from one to another

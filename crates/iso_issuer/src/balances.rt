@@ -23,7 +23,7 @@ pub struct Balance {
 
 /// A balance, and its place among the balances.
 #[derive(Clone, Copy, Debug)]
-pub struct AccountRow {
+pub struct PlacedBalance {
     pub place: usize,
     pub balance: Balance,
 }
@@ -106,12 +106,12 @@ impl Balances {
     }
 
     /// The balance of a number and its place, where it has an account.
-    pub fn find(&self, pan: Pan) -> Option<AccountRow>
+    pub fn find(&self, pan: Pan) -> Option<PlacedBalance>
         ensures place { option_map (λ r. r.place) result ≡ account_place (accounts_of self.now) pan }
         ensures balance { option_map (λ r. r.balance) result ≡ balance_at self.now pan }
     {
         let place = *self.places.get(&pan)?;
-        Some(AccountRow {
+        Some(PlacedBalance {
             place,
             balance: self.rows[place],
         })

@@ -4,7 +4,7 @@ ghost use Rattle.std.specs.Prelude.{◌≡◌, ◌<◌, ◌≤◌, List, Option,
 ghost use Rattle.iso_issuer.specs.declared.account.Account.{Account};
 ghost use Rattle.iso_issuer.specs.declared.balances.Balance.{Balance};
 ghost use Rattle.iso_issuer.specs.declared.journal.Entry.{Entry};
-ghost use Rattle.iso_issuer.specs.Found.{IsRowFor};
+ghost use Rattle.iso_issuer.specs.Found.{IsBalanceFor};
 ghost use Rattle.iso_issuer.specs.Balances.{accounts_of};
 ghost use Rattle.iso_issuer.specs.Effect.{effect_of};
 ghost use Rattle.iso_issuer.specs.Journal.{left_at, undone_key};
@@ -12,7 +12,7 @@ ghost use Rattle.iso_issuer.specs.Index.{AreSums, balance_on};
 ghost use Rattle.iso_issuer.specs.Decision.{is_wide, amount_code, account_code, code_of, shown_by, new_answer, repeat_answer};
 ghost use Rattle.iso_order.specs.Order.{money_of};
 
-use crate::balances::{AccountRow, Balance, Balances};
+use crate::balances::{PlacedBalance, Balance, Balances};
 use crate::effect::effect_of;
 use crate::journal::{Entry, Journal, is_nothing, smaller_of};
 use iso_order::{Act, Answer, Money, Order};
@@ -63,8 +63,8 @@ fn account_code(order: Order, money: Money, balance: Option<Balance>, left: Opti
 }
 
 /// What is on the account that an order is about, and the place of that account.
-pub fn row_for(balances: &Balances, order: Order) -> Option<AccountRow>
-    ensures { IsRowFor balances.now order result }
+pub fn balance_for(balances: &Balances, order: Order) -> Option<PlacedBalance>
+    ensures { IsBalanceFor balances.now order result }
 {
     match order.act().money() {
         Some(money) => balances.find(money.pan),
@@ -72,29 +72,29 @@ pub fn row_for(balances: &Balances, order: Order) -> Option<AccountRow>
     }
 }
 
-/// The balance of a row.
-fn balance_in(row: &Option<AccountRow>) -> Option<Balance>
-    ensures { result ≡ option_map (λ r. r.balance) row.now }
+/// The balance alone.
+fn balance_in(placed: &Option<PlacedBalance>) -> Option<Balance>
+    ensures { result ≡ option_map (λ p. p.balance) placed.now }
 {
-    match row {
-        Some(row) => Some(row.balance),
+    match placed {
+        Some(placed) => Some(placed.balance),
         None => None,
     }
 }
 
-/// The place of a row.
-pub fn place_in(row: &Option<AccountRow>) -> Option<usize>
-    ensures { result ≡ option_map (λ r. r.place) row.now }
+/// The place alone.
+pub fn place_in(placed: &Option<PlacedBalance>) -> Option<usize>
+    ensures { result ≡ option_map (λ p. p.place) placed.now }
 {
-    match row {
-        Some(row) => Some(row.place),
+    match placed {
+        Some(placed) => Some(placed.place),
         None => None,
     }
 }
 
 /// The code of a new order, of whose key the first reversal leaves so much.
-fn code_of(row: &Option<AccountRow>, order: Order, left: Option<u64>) -> u8
-    ensures value { (entries : List Entry) → (balances : List Balance) → AreSums entries balances → IsRowFor balances order row.now
+fn code_of(placed: &Option<PlacedBalance>, order: Order, left: Option<u64>) -> u8
+    ensures value { (entries : List Entry) → (balances : List Balance) → AreSums entries balances → IsBalanceFor balances order placed.now
         → (undone_key order.act ≡ None → left ≡ left_at entries order.key) → result ≡ code_of (accounts_of balances) entries order }
     ensures small { result ≤ 99 }
 {
@@ -104,19 +104,19 @@ fn code_of(row: &Option<AccountRow>, order: Order, left: Option<u64>) -> u8
             if is_nothing(left) {
                 21
             } else {
-                account_code(order, money, balance_in(row), left)
+                account_code(order, money, balance_in(placed), left)
             }
         }
     }
 }
 
 /// What an order of code 0 shows.
-fn shown_by(row: &Option<AccountRow>, order: Order) -> Option<i64>
-    ensures { (entries : List Entry) → (balances : List Balance) → AreSums entries balances → IsRowFor balances order row.now
+fn shown_by(placed: &Option<PlacedBalance>, order: Order) -> Option<i64>
+    ensures { (entries : List Entry) → (balances : List Balance) → AreSums entries balances → IsBalanceFor balances order placed.now
         → result ≡ shown_by (accounts_of balances) entries order.act }
 {
     match order.act() {
-        Act::Inquiry(_) => Some(balance_in(row)?.available),
+        Act::Inquiry(_) => Some(balance_in(placed)?.available),
         Act::Debit(_) | Act::Credit(_) | Act::Undo { .. } | Act::Complete { .. } => None,
     }
 }
@@ -124,21 +124,21 @@ fn shown_by(row: &Option<AccountRow>, order: Order) -> Option<i64>
 /// The answer to a new order, of whose key the first reversal leaves so much.
 pub fn new_answer(
     journal: &Journal,
-    row: &Option<AccountRow>,
+    placed: &Option<PlacedBalance>,
     order: Order,
     left: Option<u64>,
 ) -> Answer
     requires few { length journal.now < 999999 }
     requires left { undone_key order.act ≡ None → left ≡ left_at journal.now order.key }
-    ensures { (balances : List Balance) → AreSums journal.now balances → IsRowFor balances order row.now
+    ensures { (balances : List Balance) → AreSums journal.now balances → IsBalanceFor balances order placed.now
         → result ≡ new_answer (accounts_of balances) journal.now order }
 {
-    let code = code_of(row, order, left);
+    let code = code_of(placed, order, left);
     Answer {
         code,
         seq: journal.len() as u32 + 1,
         shown: if code == 0 {
-            shown_by(row, order)
+            shown_by(placed, order)
         } else {
             None
         },

@@ -13,10 +13,10 @@ use iso_order::{Act, Order, Pan, TxKey};
 /// Which way an amount counts.
 #[derive(Clone, Copy, Debug, PartialEq, Eq)]
 pub enum Side {
-    /// It is given to the account.
-    Given,
-    /// It is taken from the account.
-    Taken,
+    /// It is added to the ledger.
+    Credited,
+    /// It is taken from the ledger.
+    Debited,
     /// It is held: taken only from what is available.
     Held,
 }
@@ -62,7 +62,7 @@ fn side_of(key: TxKey) -> Side
     if key.class() == 1 {
         Side::Held
     } else {
-        Side::Taken
+        Side::Debited
     }
 }
 
@@ -72,8 +72,8 @@ impl Side {
         ensures { result ≡ is_drawn self }
     {
         match self {
-            Side::Given => false,
-            Side::Taken | Side::Held => true,
+            Side::Credited => false,
+            Side::Debited | Side::Held => true,
         }
     }
 }
@@ -116,13 +116,13 @@ pub fn effect_of(order: Order) -> Option<Effect>
         }),
         Act::Credit(money) => Some(Effect {
             pan: money.pan,
-            side: Side::Given,
+            side: Side::Credited,
             amount: money.amount,
             ends: None,
         }),
         Act::Complete { money, hold } => Some(Effect {
             pan: money.pan,
-            side: Side::Taken,
+            side: Side::Debited,
             amount: money.amount,
             ends: Some(hold),
         }),

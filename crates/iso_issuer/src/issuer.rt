@@ -6,16 +6,16 @@ ghost use Rattle.iso_issuer.specs.declared.fault.Refused.TheVariants.{Memory};
 ghost use Rattle.iso_issuer.specs.Account.{account_of};
 ghost use Rattle.iso_issuer.specs.Journal.{firsts, is_entered, HasDistinctKeys};
 ghost use Rattle.iso_issuer.specs.Balance.{ledger, available};
-ghost use Rattle.iso_issuer.specs.Decision.{new_answer, reply};
+ghost use Rattle.iso_issuer.specs.Decision.{new_answer, answer_for};
 ghost use Rattle.iso_issuer.specs.Books.{journal, IsFullFor, IsRoomFor, IsRun, answered_of};
 ghost use Rattle.iso_issuer.specs.Decision.{is_shown_for};
 
 use crate::accounts::Accounts;
 use crate::balances::Balances;
-use crate::decision::{new_answer, place_in, repeat_answer, row_for};
+use crate::decision::{new_answer, place_in, repeat_answer, balance_for};
 use crate::fault::Refused;
 use crate::journal::{Entry, Journal};
-use crate::posting::settle;
+use crate::posting::post_all;
 use iso_order::{Answer, NoMemory, Order, Pan};
 use std::alloc::Global;
 use std::marker::Model;
@@ -71,15 +71,15 @@ impl Issuer {
         ensures unchanged { OnErr result (self.new ≡ self.old) }
     {
         let found = self.journal.find(order);
-        let row = row_for(&self.balances, order);
-        let answer = new_answer(&self.journal, &row, order, found.left);
+        let placed = balance_for(&self.balances, order);
+        let answer = new_answer(&self.journal, &placed, order, found.left);
         self.journal.enter(order, answer, &found)?;
         let entry = Entry { order, answer };
-        settle(
+        post_all(
             &self.journal,
             &mut self.balances,
             entry,
-            place_in(&row),
+            place_in(&placed),
             &found,
         );
         Ok(answer)
@@ -92,7 +92,7 @@ impl Issuer {
         // A key that is known takes no memory.
         ensures repeat { IsTrue (is_entered self.old.orders order.key) → IsOk result }
 
-        ensures answer { IfOk result (λ answer. answer ≡ reply self.old.accounts (journal self.old) order) }
+        ensures answer { IfOk result (λ answer. answer ≡ answer_for self.old.accounts (journal self.old) order) }
         ensures entered { OnOk result (self.new ≡ record self.old { orders = firsts (self.old.orders ++ order ∷ []) }) }
 
         // An inquiry alone shows a balance, of at most twelve digits.

@@ -211,7 +211,7 @@ impl Journal {
         match effect {
             Some(effect) => match effect.side {
                 Side::Held => self.is_completed(key, effect.pan),
-                Side::Given | Side::Taken => false,
+                Side::Credited | Side::Debited => false,
             },
             None => false,
         }

@@ -2,7 +2,7 @@
 
 ghost use Rattle.iso_issuer.specs.Laws.{FirstsGoOn, FirstsStay, JournalsGoOn, AnswersAreKept, RepeatsAreAnswered, EntriesAnswer};
 ghost use Rattle.iso_issuer.specs.Laws.{EntriesAreOfOrders, EnteredHasEntry, JournalsGrow, FoundHasKey, FoundStays, NewIsFound};
-ghost use Rattle.iso_issuer.specs.Laws.{KnownChangesNothing, NewComesLast, KeysStayDistinct, RepliesAreKept};
+ghost use Rattle.iso_issuer.specs.Laws.{KnownChangesNothing, NewComesLast, KeysStayDistinct, AnswersAreEntered};
 ghost use Rattle.iso_issuer.specs.Laws.{GrantedStands, GrantedWeighsAll, DeclinedFalls, ReversedFalls, FallenWeighsNothing};
 ghost use Rattle.iso_issuer.specs.Laws.{ReversalsStay, ReversedStays, NoneIsNone, NoneStaysNone, WhollyIsReversed};
 ghost use Rattle.iso_issuer.specs.Laws.{StandsNoMore, ReversedNeverStands, LateNeverStands, LedgersAgree, AvailableAgree};
@@ -57,9 +57,9 @@ pub fn keys_stay_distinct()
     ensures distinct { KeysStayDistinct }
 {}
 
-/// The reply to an order is kept as the answer of its entry, unless another order was entered under its key.
-pub fn replies_are_kept()
-    ensures { RepliesAreKept }
+/// The answer for an order is kept as the answer of its entry, unless another order was entered under its key.
+pub fn answers_are_entered()
+    ensures { AnswersAreEntered }
 {
     comparisons();
 }

@@ -30,12 +30,12 @@ fn change_by(effect: Effect, grown: i64) -> Change
     ensures available { result.available ≡ available_grown effect.side grown }
 {
     match effect.side {
-        Side::Given => Change {
+        Side::Credited => Change {
             pan: effect.pan,
             ledger: grown,
             available: grown,
         },
-        Side::Taken => Change {
+        Side::Debited => Change {
             pan: effect.pan,
             ledger: -grown,
             available: -grown,
@@ -120,7 +120,7 @@ fn amount_left(order: Order) -> Option<u64>
 
 /// Brings the balances up to date with an entry that was added, whose account has this place, with the
 /// entry that it reverses, and with the hold that it ends or gives back, as both were found before.
-pub fn settle(
+pub fn post_all(
     journal: &Journal,
     balances: &mut Balances,
     entry: Entry,

@@ -7,7 +7,7 @@ use Rattle.std.proofs.lemmas.List.{append-nil}
 use Rattle.std.proofs.Math.Seq.{take-suc}
 use Rattle.iso_wire.specs.Contents.{Contents}
 use Rattle.iso_wire.specs.Elements.{IsBelow, value_in}
-use Rattle.iso_order.specs.Listing.{entry, elements_from}
+use Rattle.iso_order.specs.Listing.{element_where, elements_from}
 use Rattle.iso_order.specs.Adding.{elements_with_value, are_ascending}
 use Rattle.iso_order.specs.Outcome.{Outcome}
 use Rattle.iso_order.specs.Response.{element, response, response_mti}
@@ -35,9 +35,9 @@ are_ascending-each test low [] i h lt = absurd (omega arith)
 are_ascending-each test low (n ∷ ns) zero h lt = (are_ascending-parts test low n ns h).1
 are_ascending-each test low (n ∷ ns) (suc i) h lt = are_ascending-each test (n + 1) ns i (are_ascending-parts test low n ns h).2 (omega arith)
 
-IsBelow-entry : (k n : ℕ) (v : Option (List ℕ)) (es : Values) → n < k → IsBelow k es → IsBelow k (entry n v ++ es)
-IsBelow-entry k n (Some v) es lt below = (lt, below)
-IsBelow-entry k n None es lt below = below
+IsBelow-where : (k n : ℕ) (v : Option (List ℕ)) (es : Values) → n < k → IsBelow k es → IsBelow k (element_where n v ++ es)
+IsBelow-where k n (Some v) es lt below = (lt, below)
+IsBelow-where k n None es lt below = below
 
 -- the elements of the numbers in front are below the next number
 pub IsBelow-front : (test : ℕ → Bool) (value : ℕ → Option (List ℕ)) (low : ℕ) (ns : List ℕ) (i : ℕ) → are_ascending test low ns ≡ true → i < length ns → IsBelow (get_or ns i 0) (elements_with_value value (take i ns))
@@ -46,42 +46,42 @@ IsBelow-front test value low (n ∷ ns) zero h lt = tt
 IsBelow-front test value low (n ∷ ns) (suc i) h lt =
     let parts = are_ascending-parts test low n ns h in
     let next = are_ascending-least test (n + 1) ns i parts.2 (omega arith) in
-    IsBelow-entry (get_or ns i 0) n (value n) (elements_with_value value (take i ns)) (omega (arith, next)) (IsBelow-front test value (n + 1) ns i parts.2 (omega arith))
+    IsBelow-where (get_or ns i 0) n (value n) (elements_with_value value (take i ns)) (omega (arith, next)) (IsBelow-front test value (n + 1) ns i parts.2 (omega arith))
 
-elements_with_value-push : (value : ℕ → Option (List ℕ)) (ns : List ℕ) (n : ℕ) → elements_with_value value (ns ++ n ∷ []) ≡ elements_with_value value ns ++ entry n (value n)
-elements_with_value-push value [] n = append-nil (entry n (value n))
+elements_with_value-push : (value : ℕ → Option (List ℕ)) (ns : List ℕ) (n : ℕ) → elements_with_value value (ns ++ n ∷ []) ≡ elements_with_value value ns ++ element_where n (value n)
+elements_with_value-push value [] n = append-nil (element_where n (value n))
 elements_with_value-push value (k ∷ ns) n =
-    ap (λ (es : Values). entry k (value k) ++ es) (elements_with_value-push value ns n)
-    ∙ sym (append_assoc (entry k (value k)) (elements_with_value value ns) (entry n (value n)))
+    ap (λ (es : Values). element_where k (value k) ++ es) (elements_with_value-push value ns n)
+    ∙ sym (append_assoc (element_where k (value k)) (elements_with_value value ns) (element_where n (value n)))
 
 -- one number more
-pub elements_with_value-more : (value : ℕ → Option (List ℕ)) (ns : List ℕ) (i : ℕ) → i < length ns → elements_with_value value (take (i + 1) ns) ≡ elements_with_value value (take i ns) ++ entry (get_or ns i 0) (value (get_or ns i 0))
+pub elements_with_value-more : (value : ℕ → Option (List ℕ)) (ns : List ℕ) (i : ℕ) → i < length ns → elements_with_value value (take (i + 1) ns) ≡ elements_with_value value (take i ns) ++ element_where (get_or ns i 0) (value (get_or ns i 0))
 elements_with_value-more value ns i lt =
     rw add-one (ap (elements_with_value value) (take-suc ns i 0 lt) ∙ elements_with_value-push value (take i ns) (get_or ns i 0))
 
 -- ---- the response
 
-value_in-entry : (n k : ℕ) (v : Option (List ℕ)) (es : Values) → (n == k) ≡ false → value_in (entry n v ++ es) k ≡ value_in es k
-value_in-entry n k (Some v) es other = rw other refl
-value_in-entry n k None es other = refl
+value_in-where : (n k : ℕ) (v : Option (List ℕ)) (es : Values) → (n == k) ≡ false → value_in (element_where n v ++ es) k ≡ value_in es k
+value_in-where n k (Some v) es other = rw other refl
+value_in-where n k None es other = refl
 
 value_in-above : (value : ℕ → Option (List ℕ)) (n count k : ℕ) → k < n → value_in (elements_from value n count) k ≡ None
 value_in-above value n zero k lt = refl
 value_in-above value n (suc count) k lt =
-    value_in-entry n k (value n) (elements_from value (n + 1) count) (grind (arith, nat_tests)) ∙ value_in-above value (n + 1) count k (omega arith)
+    value_in-where n k (value n) (elements_from value (n + 1) count) (grind (arith, nat_tests)) ∙ value_in-above value (n + 1) count k (omega arith)
 
-value_in-first : (n : ℕ) (v : Option (List ℕ)) (es : Values) → value_in es n ≡ None → value_in (entry n v ++ es) n ≡ v
+value_in-first : (n : ℕ) (v : Option (List ℕ)) (es : Values) → value_in es n ≡ None → value_in (element_where n v ++ es) n ≡ v
 value_in-first n (Some v) es none = let same : (n == n) ≡ true = grind (arith, nat_tests) in rw same refl
 value_in-first n None es none = none
 
 from_by : (value : ℕ → Option (List ℕ)) (n count k : ℕ) (t : Bool) → (n == k) ≡ t → n ≤ k → k < n + suc count → (n + 1 ≤ k → value_in (elements_from value (n + 1) count) k ≡ value k) → value_in (elements_from value n (suc count)) k ≡ value k
 from_by value n count k true is low high rest =
     let same : n ≡ k = eqb-true n k is in
-    subst (λ (j : ℕ). value_in (entry n (value n) ++ elements_from value (n + 1) count) j ≡ value j) same
+    subst (λ (j : ℕ). value_in (element_where n (value n) ++ elements_from value (n + 1) count) j ≡ value j) same
     (value_in-first n (value n) (elements_from value (n + 1) count) (value_in-above value (n + 1) count n (omega arith)))
 from_by value n count k false is low high rest =
     let next : n + 1 ≤ k = grind (arith, nat_tests) in
-    value_in-entry n k (value n) (elements_from value (n + 1) count) is ∙ rest next
+    value_in-where n k (value n) (elements_from value (n + 1) count) is ∙ rest next
 
 pub value_in-from : (value : ℕ → Option (List ℕ)) (n count k : ℕ) → n ≤ k → k < n + count → value_in (elements_from value n count) k ≡ value k
 value_in-from value n zero k low high = absurd (omega arith)

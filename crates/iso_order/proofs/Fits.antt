@@ -18,8 +18,8 @@ use Rattle.iso_wire.specs.Refusal.{refused_field, refused_by, refused, message_r
 use Rattle.iso_wire.specs.Spelling.{PartAs, Parts}
 use Rattle.iso_order.specs.Fields.{text}
 use Rattle.iso_parts.specs.Mti.{is_answered}
-use Rattle.iso_order.specs.Fitting.{IsServed, ResponsesFit}
-use Rattle.iso_order.specs.Listing.{entry}
+use Rattle.iso_order.specs.Fitting.{IsAskedUnder, ResponsesFit}
+use Rattle.iso_order.specs.Listing.{element_where}
 use Rattle.iso_order.specs.Adding.{elements_with_value}
 use Rattle.iso_order.specs.Order.{is_letter_or_digit}
 use Rattle.iso_order.specs.Outcome.{Outcome}
@@ -121,7 +121,7 @@ element_by false false false true x y z v P a b c d = d
 element_by false false false false x y z v P a b c d = tt
 
 -- an element of a response isn't refused
-pub element_taken : PartLaws → (t : Layout) (m : Contents) (a : Outcome) → IsServed t m a → (n : ℕ) → IfSome (element m a n) (IsTaken t.rows n)
+pub element_taken : PartLaws → (t : Layout) (m : Contents) (a : Outcome) → IsAskedUnder t m a → (n : ℕ) → IfSome (element m a n) (IsTaken t.rows n)
 element_taken laws t m a s n =
     let at = λ (k : ℕ) (v : Option (List ℕ)) (here : IfSome v (IsTaken t.rows k)) (is : (n == k) ≡ true). subst (λ (j : ℕ). IfSome v (IsTaken t.rows j)) (sym (eqb-true n k is)) here in
     element_by (n == 38) (n == 39) (n == 54) (is_echoed n) (approval m a) (Some (decimal 2 a.code)) (balance m a) (value_in m.elements n) (IsTaken t.rows n)
@@ -132,13 +132,13 @@ element_taken laws t m a s n =
 
 -- ---- the response
 
-refused-entry : (rows : List (Option FieldSpec)) (n : ℕ) (v : Option (List ℕ)) (es : Values) → IfSome v (IsTaken rows n) → refused rows es ≡ None → refused rows (entry n v ++ es) ≡ None
-refused-entry rows n (Some v) es here rest = rw here rest
-refused-entry rows n None es here rest = rest
+refused-where : (rows : List (Option FieldSpec)) (n : ℕ) (v : Option (List ℕ)) (es : Values) → IfSome v (IsTaken rows n) → refused rows es ≡ None → refused rows (element_where n v ++ es) ≡ None
+refused-where rows n (Some v) es here rest = rw here rest
+refused-where rows n None es here rest = rest
 
 pub refused-at : (rows : List (Option FieldSpec)) (value : ℕ → Option (List ℕ)) (ns : List ℕ) → ((n : ℕ) → IfSome (value n) (IsTaken rows n)) → refused rows (elements_with_value value ns) ≡ None
 refused-at rows value [] each = refl
-refused-at rows value (n ∷ ns) each = refused-entry rows n (value n) (elements_with_value value ns) (each n) (refused-at rows value ns each)
+refused-at rows value (n ∷ ns) each = refused-where rows n (value n) (elements_with_value value ns) (each n) (refused-at rows value ns each)
 
 pub responses_fit_lem : PartLaws → ResponsesFit
 responses_fit_lem laws t m a s answered =

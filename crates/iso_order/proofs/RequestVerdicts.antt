@@ -15,7 +15,7 @@ use Rattle.iso_order.specs.declared.key.TxKey.{TxKey}
 use Rattle.iso_order.specs.declared.verdict.Verdict.{Verdict}
 use Rattle.iso_order.specs.declared.verdict.Verdict.TheVariants.{Order}
 use Rattle.iso_order.specs.Pan.{AccountNumber, is_pan}
-use Rattle.iso_order.specs.Fields.{class, function, base_of, text, part, original_mti, is_original, is_own, original_of, is_completion, is_hold, hold_of, is_replacement, left_of}
+use Rattle.iso_order.specs.Fields.{class, function, base_of, text, number_from, original_mti, is_original, is_own, original_of, is_completion, is_hold, hold_of, is_replacement, left_of}
 use Rattle.iso_parts.specs.Mti.{is_answered}
 use Rattle.iso_order.specs.Key.{class_digit, function_digit, is_valid_key}
 use Rattle.iso_order.specs.Order.{is_currency, is_account, has_amount, is_payment, is_hold_for, is_valid_act, money_of}
@@ -98,7 +98,7 @@ module _ (key : TxKey) (act : Act) (valid : is_valid_key key ≡ true) where
   pan-parts : (p : AccountNumber) → is_pan p ≡ true → (1 ≤ p.len) × (p.len ≤ 19) × (p.digits < 10 ^ p.len)
   pan-parts p h = (grind (arith, nat_tests), grind (arith, nat_tests), grind (arith, nat_tests))
 
-  paying : (money : Money) (code digits : ℕ) → money_of act ≡ Some money → processing_code act ≡ Some digits → part 0 2 (decimal 6 digits) ≡ code → is_account money ≡ true → is_payment key ≡ true
+  paying : (money : Money) (code digits : ℕ) → money_of act ≡ Some money → processing_code act ≡ Some digits → number_from 0 2 (decimal 6 digits) ≡ code → is_account money ≡ true → is_payment key ≡ true
       → ((lines : List (Bool × Verdict)) (last : Verdict) → first_of (completion_lines m ++ lines) last ≡ first_of lines last) → Paying m key money code
   paying money code digits has_money has_code kind-is account payment completing =
       let account-text : text m 2 ≡ account_number money = text-is 2 (omega arith) (omega arith) ∙ ap (λ (o : Option Money). unwrap_or (option_map account_number o) []) has_money in
@@ -114,7 +114,7 @@ module _ (key : TxKey) (act : Act) (valid : is_valid_key key ≡ true) where
         payment = ap (λ (n : ℕ). n == 1 || n == 2) class-is ∙ payment;
         account = ap (are_digits 1 19) account-text ∙ digits-by 1 19 (account_number money) (omega (arith, pan.0)) (omega (arith, pan.1)) (list_all-decimal money.pan.len money.pan.digits);
         coded = ap (are_digits 6 6) code-text ∙ are_digits-decimal 6 digits;
-        of_kind = ap (part 0 2) code-text ∙ kind-is;
+        of_kind = ap (number_from 0 2) code-text ∙ kind-is;
         currency = ap is_currency currency-text ∙ both.1;
         told = rw (number-is, length-is, currency-text) refl;
         completing = completing;
@@ -157,18 +157,18 @@ module _ (key : TxKey) (act : Act) (valid : is_valid_key key ≡ true) where
         ap (are_digits 42 42) data-text ∙ digits-by 42 42 (original_data k) (omega arith) (omega arith) (original-digits k)
 
     named-mti : original_mti m ≡ k.base
-    named-mti = ap (part 0 4) data-text ∙ number-decimal 4 k.base named-facts.small
+    named-mti = ap (number_from 0 4) data-text ∙ number-decimal 4 k.base named-facts.small
 
     named-key : original_of m ≡ k
     named-key =
-        let stan-is : part 4 6 (text m 90) ≡ k.stan = ap (part 4 6) data-text ∙ number-decimal 6 k.stan named-facts.stan in
-        let sent-is : part 10 10 (text m 90) ≡ k.sent = ap (part 10 10) data-text ∙ number-decimal 10 k.sent named-facts.sent in
+        let stan-is : number_from 4 6 (text m 90) ≡ k.stan = ap (number_from 4 6) data-text ∙ number-decimal 6 k.stan named-facts.stan in
+        let sent-is : number_from 10 10 (text m 90) ≡ k.sent = ap (number_from 10 10) data-text ∙ number-decimal 10 k.sent named-facts.sent in
         let same : number (text m 32) ≡ k.acquirer = acquirer-is ∙ sym own in
         rw (stan-is, sent-is, same) (ap (λ (n : ℕ). record k { base = n }) (ap base_of named-mti ∙ named-facts.first))
 
     named-own : is_own m ≡ true
     named-own =
-        let told : part 20 11 (text m 90) ≡ key.acquirer = ap (part 20 11) data-text ∙ number-decimal 11 k.acquirer named-facts.acquirer ∙ own in
+        let told : number_from 20 11 (text m 90) ≡ key.acquirer = ap (number_from 20 11) data-text ∙ number-decimal 11 k.acquirer named-facts.acquirer ∙ own in
         let itself : (key.acquirer == key.acquirer) ≡ true = eq-eqb key.acquirer key.acquirer refl in
         rw (told, acquirer-is, itself) (or_true (key.acquirer == 0))
       where

@@ -25,7 +25,7 @@ use Rattle.iso_wire.specs.Refusal.{refused_field, refused_by}
 use Rattle.iso_wire.specs.Spelling.{plain_by, plain_of}
 use Rattle.iso_order.specs.Fields.{text}
 use Rattle.iso_order.specs.Fitting.{ResponsesAreShort}
-use Rattle.iso_order.specs.Listing.{entry}
+use Rattle.iso_order.specs.Listing.{element_where}
 use Rattle.iso_order.specs.Adding.{elements_with_value}
 use Rattle.iso_order.specs.Outcome.{Outcome}
 use Rattle.iso_order.specs.Response.{element, response, is_showable}
@@ -98,7 +98,7 @@ value_short laws h (Some s) v narrow row taken amount =
 -- ---- the elements
 
 entry_short : PartLaws → (rows : List (Option FieldSpec)) (h : HostRow) (o : Option (List ℕ)) (es : Values) (most : ℕ) → is_narrow h ≡ true → IsHostRow h (row_at rows h.number) → IfSome o (IsTaken rows h.number) → ((h.number == 54) ≡ true → IfSome o (λ v. length v ≡ 20))
-    → length (flat_map (plain_of rows) es) ≤ most → length (flat_map (plain_of rows) (entry h.number o ++ es)) ≤ 202 + most
+    → length (flat_map (plain_of rows) es) ≤ most → length (flat_map (plain_of rows) (element_where h.number o ++ es)) ≤ 202 + most
 entry_short laws rows h (Some v) es most narrow row taken amount rest =
     let here = value_short laws h (row_at rows h.number) v narrow row taken amount in
     omega (arith, length-append (plain_of rows (h.number, v)) (flat_map (plain_of rows) es))

@@ -12,7 +12,7 @@ use Rattle.iso_wire.specs.Spelling.{AreBytes}
 use Rattle.iso_order.specs.Fields.{text}
 use Rattle.iso_parts.specs.Mti.{is_answered}
 use Rattle.iso_order.specs.Fitting.{ResponsesAreWellFormed}
-use Rattle.iso_order.specs.Listing.{entry}
+use Rattle.iso_order.specs.Listing.{element_where}
 use Rattle.iso_order.specs.Adding.{elements_with_value, are_ascending, is_responded}
 use Rattle.iso_order.specs.Outcome.{Outcome}
 use Rattle.iso_order.specs.Response.{response_mti, is_echoed, is_approved, approval, sign, additional, balance, element}
@@ -70,13 +70,13 @@ bytes-element m a n bytes =
     (λ is. bytes-balance (text m 49) a.shown (bytes-text (value_in m.elements 49) (bytes-value m.elements 49 bytes)))
     (bytes-value m.elements n bytes)
 
-bytes-entry : (n : ℕ) (v : Option (List ℕ)) (es : Values) → IfSome v AreBytes → AreOfBytes es → AreOfBytes (entry n v ++ es)
-bytes-entry n (Some v) es here rest = (here, rest)
-bytes-entry n None es here rest = rest
+bytes-where : (n : ℕ) (v : Option (List ℕ)) (es : Values) → IfSome v AreBytes → AreOfBytes es → AreOfBytes (element_where n v ++ es)
+bytes-where n (Some v) es here rest = (here, rest)
+bytes-where n None es here rest = rest
 
 pub bytes-at : (value : ℕ → Option (List ℕ)) (ns : List ℕ) → ((n : ℕ) → IfSome (value n) AreBytes) → AreOfBytes (elements_with_value value ns)
 bytes-at value [] each = tt
-bytes-at value (n ∷ ns) each = bytes-entry n (value n) (elements_with_value value ns) (each n) (bytes-at value ns each)
+bytes-at value (n ∷ ns) each = bytes-where n (value n) (elements_with_value value ns) (each n) (bytes-at value ns each)
 
 -- ---- their order
 
@@ -88,15 +88,15 @@ ascending-from : (low high : ℕ) (es : Values) → low ≤ high → IsAscending
 ascending-from low high [] le rest = tt
 ascending-from low high (e ∷ es) le rest = (omega arith, rest.1, rest.2, rest.3)
 
-ascending-entry : (low n : ℕ) (v : Option (List ℕ)) (es : Values) → low ≤ n → is_element n ≡ true → IsAscending (n + 1) es → IsAscending low (entry n v ++ es)
-ascending-entry low n (Some v) es le number rest = let range = in-range n number in (le, range.0, range.1, rest)
-ascending-entry low n None es le number rest = ascending-from low (n + 1) es (omega arith) rest
+ascending-where : (low n : ℕ) (v : Option (List ℕ)) (es : Values) → low ≤ n → is_number n ≡ true → IsAscending (n + 1) es → IsAscending low (element_where n v ++ es)
+ascending-where low n (Some v) es le number rest = let range = in-range n number in (le, range.0, range.1, rest)
+ascending-where low n None es le number rest = ascending-from low (n + 1) es (omega arith) rest
 
 pub ascending-at : (test : ℕ → Bool) (value : ℕ → Option (List ℕ)) → ((n : ℕ) → test n ≡ true → is_element n ≡ true) → (low : ℕ) (ns : List ℕ) → are_ascending test low ns ≡ true → IsAscending low (elements_with_value value ns)
 ascending-at test value number low [] h = tt
 ascending-at test value number low (n ∷ ns) h =
     let parts = are_ascending-parts test low n ns h in
-    ascending-entry low n (value n) (elements_with_value value ns) parts.0 (number n parts.1) (ascending-at test value number (n + 1) ns parts.2)
+    ascending-where low n (value n) (elements_with_value value ns) parts.0 (number n parts.1) (ascending-at test value number (n + 1) ns parts.2)
 
 -- a number that an element of a response can have
 responded-number : (n : ℕ) → is_responded n ≡ true → is_element n ≡ true

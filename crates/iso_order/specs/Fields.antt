@@ -32,8 +32,8 @@ abbrev pub text : Contents → ℕ → List ℕ
 text m n = unwrap_or (value_in m.elements n) []
 
 -- the number of some of the digits of a value
-abbrev pub part : ℕ → ℕ → List ℕ → ℕ
-part from count v = number (take count (drop from v))
+abbrev pub number_from : ℕ → ℕ → List ℕ → ℕ
+number_from from count v = number (take count (drop from v))
 
 -- the time, the trace number and the acquirer are there (elements 7, 11, 32)
 abbrev pub has_key : Contents → Bool
@@ -51,16 +51,16 @@ message_money m amount = record { pan = record { digits = number (text m 2); len
 
 -- the message type, the trace number, the time and the acquirer
 abbrev pub original_mti : Contents → ℕ
-original_mti m = part 0 4 (text m 90)
+original_mti m = number_from 0 4 (text m 90)
 
 abbrev pub original_stan : Contents → ℕ
-original_stan m = part 4 6 (text m 90)
+original_stan m = number_from 4 6 (text m 90)
 
 abbrev pub original_sent : Contents → ℕ
-original_sent m = part 10 10 (text m 90)
+original_sent m = number_from 10 10 (text m 90)
 
 abbrev pub original_acquirer : Contents → ℕ
-original_acquirer m = part 20 11 (text m 90)
+original_acquirer m = number_from 20 11 (text m 90)
 
 -- a request or an advice of class 1 or 2, or a repeat of one
 abbrev pub is_original : ℕ → Bool
@@ -102,7 +102,7 @@ left_of m = if has m.elements 95 then number (take 12 (text m 95)) else 0
 
 -- its first two digits
 abbrev pub kind : Contents → ℕ
-kind m = part 0 2 (text m 3)
+kind m = number_from 0 2 (text m 3)
 
 abbrev pub is_debit : ℕ → Bool
 is_debit k = k == 0 || k == 1

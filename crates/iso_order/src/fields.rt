@@ -4,7 +4,7 @@ ghost use Rattle.std.specs.Prelude.{◌≡◌, ◌≤◌, ◌<◌, ◌+◌, ◌^
 ghost use Rattle.std.specs.List.{list_all};
 ghost use Rattle.iso_parts.specs.Class.{is_digit};
 ghost use Rattle.iso_wire.specs.Elements.{has};
-ghost use Rattle.iso_order.specs.Fields.{version, class, function, origin, text, part, base_of, has_key, key_of};
+ghost use Rattle.iso_order.specs.Fields.{version, class, function, origin, text, number_from, base_of, has_key, key_of};
 ghost use Rattle.iso_parts.specs.Mti.{is_answered, mti_number};
 ghost use Rattle.iso_order.specs.Key.{class_digit, function_digit, is_valid_key};
 
@@ -33,11 +33,11 @@ pub(crate) fn text(message: &Message, n: u8) -> &[u8]
 }
 
 /// The number of some of the digits of a text.
-pub(crate) fn part(text: &[u8], from: usize, count: usize) -> u64
+pub(crate) fn number_from(text: &[u8], from: usize, count: usize) -> u64
     requires digits { list_all is_digit text.now ≡ true }
     requires within { from + count ≤ length text.now }
     requires few { count ≤ 19 }
-    ensures value { result ≡ part from count text.now }
+    ensures value { result ≡ number_from from count text.now }
     ensures below { result < 10 ^ count }
 {
     number(&text[from..from + count])

@@ -4,7 +4,7 @@ ghost use Rattle.std.specs.Prelude.{◌≡◌, ℕ, ◌≤◌, ◌++◌, ◌∷�
 ghost use Rattle.iso_parts.specs.Numbers.{is_element};
 ghost use Rattle.iso_wire.specs.Decimal.{decimal};
 ghost use Rattle.iso_wire.specs.Elements.{value_in, IsBelow};
-ghost use Rattle.iso_order.specs.Listing.{entry};
+ghost use Rattle.iso_order.specs.Listing.{element_where};
 ghost use Rattle.iso_order.specs.Adding.{elements_with_value, are_ascending};
 ghost use Rattle.iso_order.specs.Requests.{processing_code, moved_amount, named_by, partial_left, acquirer_code, account_number};
 ghost use Rattle.iso_order.specs.Order.{money_of};
@@ -93,7 +93,7 @@ fn add_some(n: u8, v: Option<u64>, digits: usize, request: &mut Message) -> Resu
     requires behind { IsBelow n request.old.elements }
     requires few { digits ≤ 19 }
     ensures { OnOk result (request.new ≡ record request.old {
-      elements = request.old.elements ++ entry n (option_map (decimal digits) v);
+      elements = request.old.elements ++ element_where n (option_map (decimal digits) v);
     }) }
 {
     match v {
@@ -106,7 +106,7 @@ fn add_some(n: u8, v: Option<u64>, digits: usize, request: &mut Message) -> Resu
 fn add_account(act: &Act, request: &mut Message) -> Result<(), AllocError>
     requires { IsBelow 2 request.old.elements }
     ensures { OnOk result (request.new ≡ record request.old {
-      elements = request.old.elements ++ entry 2 (option_map account_number (money_of act.now));
+      elements = request.old.elements ++ element_where 2 (option_map account_number (money_of act.now));
     }) }
 {
     match act.money() {
@@ -131,7 +131,7 @@ fn add_acquirer(key: &TxKey, request: &mut Message) -> Result<(), AllocError>
 fn add_currency(act: &Act, request: &mut Message) -> Result<(), AllocError>
     requires { IsBelow 49 request.old.elements }
     ensures { OnOk result (request.new ≡ record request.old {
-      elements = request.old.elements ++ entry 49 (option_map (λ m. m.currency) (money_of act.now));
+      elements = request.old.elements ++ element_where 49 (option_map (λ m. m.currency) (money_of act.now));
     }) }
 {
     match act.money() {
@@ -156,7 +156,7 @@ fn original_data(key: &TxKey) -> [u8; 42]
 fn add_original(act: &Act, request: &mut Message) -> Result<(), AllocError>
     requires { IsBelow 90 request.old.elements }
     ensures { OnOk result (request.new ≡ record request.old {
-      elements = request.old.elements ++ entry 90 (option_map original_data (named_by act.now));
+      elements = request.old.elements ++ element_where 90 (option_map original_data (named_by act.now));
     }) }
 {
     match named_by(act) {
@@ -178,7 +178,7 @@ fn replacement_amounts(left: u64) -> [u8; 42]
 fn add_replacement(act: &Act, request: &mut Message) -> Result<(), AllocError>
     requires { IsBelow 95 request.old.elements }
     ensures { OnOk result (request.new ≡ record request.old {
-      elements = request.old.elements ++ entry 95 (option_map replacement_amounts (partial_left act.now));
+      elements = request.old.elements ++ element_where 95 (option_map replacement_amounts (partial_left act.now));
     }) }
 {
     match partial_left(act) {
@@ -192,7 +192,7 @@ fn add(key: &TxKey, act: &Act, n: u8, request: &mut Message) -> Result<(), Alloc
     requires behind { IsBelow n request.old.elements }
     requires acquirer { key.now.acquirer ≤ 99999999999 }
     ensures { OnOk result (request.new ≡ record request.old {
-      elements = request.old.elements ++ entry n (request_value key.now act.now n);
+      elements = request.old.elements ++ element_where n (request_value key.now act.now n);
     }) }
 {
     match n {

@@ -7,7 +7,7 @@ ghost use Rattle.iso_wire.specs.Decimal.{decimal};
 ghost use Rattle.iso_wire.specs.Elements.{value_in, IsBelow};
 ghost use Rattle.iso_order.specs.Fields.{class, function, text};
 ghost use Rattle.iso_parts.specs.Mti.{is_answered};
-ghost use Rattle.iso_order.specs.Listing.{entry};
+ghost use Rattle.iso_order.specs.Listing.{element_where};
 ghost use Rattle.iso_order.specs.Adding.{elements_with_value, are_ascending};
 ghost use Rattle.iso_order.specs.Response.{response, response_mti, is_approved, sign, approval, additional, balance, element, is_showable};
 ghost use Rattle.iso_order.specs.Adding.{is_responded};
@@ -83,7 +83,7 @@ fn add_approval(
 ) -> Result<(), AllocError>
     requires { IsBelow 38 response.old.elements }
     ensures { OnOk result (response.new ≡ record response.old {
-      elements = response.old.elements ++ entry 38 (approval message.now answer.now);
+      elements = response.old.elements ++ element_where 38 (approval message.now answer.now);
     }) }
 {
     if !is_approved(message, answer) {
@@ -111,7 +111,7 @@ fn add_balance(message: &Message, answer: &Answer, response: &mut Message) -> Re
     requires behind { IsBelow 54 response.old.elements }
     requires shown { is_showable message.now answer.now.shown ≡ true }
     ensures { OnOk result (response.new ≡ record response.old {
-      elements = response.old.elements ++ entry 54 (balance message.now answer.now);
+      elements = response.old.elements ++ element_where 54 (balance message.now answer.now);
     }) }
 {
     match answer.shown {
@@ -125,7 +125,7 @@ fn echo(message: &Message, n: u8, response: &mut Message) -> Result<(), AllocErr
     requires number { is_element n ≡ true }
     requires behind { IsBelow n response.old.elements }
     ensures { OnOk result (response.new ≡ record response.old {
-      elements = response.old.elements ++ entry n (value_in message.now.elements n);
+      elements = response.old.elements ++ element_where n (value_in message.now.elements n);
     }) }
 {
     match message.get(n) {
@@ -140,7 +140,7 @@ fn add(message: &Message, answer: &Answer, n: u8, response: &mut Message) -> Res
     requires behind { IsBelow n response.old.elements }
     requires shown { is_showable message.now answer.now.shown ≡ true }
     ensures ok { OnOk result (response.new ≡ record response.old {
-      elements = response.old.elements ++ entry n (element message.now answer.now n);
+      elements = response.old.elements ++ element_where n (element message.now answer.now n);
     }) }
 {
     match n {

@@ -5,7 +5,7 @@ ghost use Rattle.std.specs.Prelude.{is_some, List, Bool, true, false, Some, None
 ghost use Rattle.iso_wire.specs.Elements.{has};
 ghost use Rattle.iso_order.specs.Fields.{version, class, function, origin, key_of, is_original, kind, is_debit, is_credit};
 ghost use Rattle.iso_parts.specs.Mti.{is_answered};
-ghost use Rattle.iso_order.specs.Fields.{is_inquiry, message_money, part, is_replacement, left_of, is_completion, hold_of};
+ghost use Rattle.iso_order.specs.Fields.{is_inquiry, message_money, number_from, is_replacement, left_of, is_completion, hold_of};
 ghost use Rattle.iso_order.specs.Key.{class_digit, function_digit, is_valid_key};
 ghost use Rattle.iso_order.specs.Order.{is_valid, is_hold_for, is_account, is_currency, is_payment};
 ghost use Rattle.iso_wire.specs.Decimal.{are_digits};
@@ -14,7 +14,7 @@ ghost use Rattle.iso_order.specs.Verdict.{account_lines, act_lines, amount_lines
 ghost use Rattle.iso_order.specs.Verdict.{IfAnswered};
 
 use crate::act::{Act, Money, currency_of};
-use crate::fields::{has, key_of, part, text, type_of};
+use crate::fields::{has, key_of, number_from, text, type_of};
 use crate::key::TxKey;
 use crate::order::Order;
 use crate::original::{hold_of, is_original, original_of};
@@ -104,10 +104,10 @@ fn reversal_verdict(message: &Message, key: &TxKey) -> Verdict
 
 /// The first two digits of the processing code, where it has six.
 fn kind_of(code: &[u8]) -> Option<u64>
-    ensures value { result ≡ (if are_digits 6 6 code.now then Some (part 0 2 code.now) else None) }
+    ensures value { result ≡ (if are_digits 6 6 code.now then Some (number_from 0 2 code.now) else None) }
 {
     if are_digits(code, 6, 6) {
-        Some(part(code, 0, 2))
+        Some(number_from(code, 0, 2))
     } else {
         None
     }

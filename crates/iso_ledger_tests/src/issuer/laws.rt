@@ -240,7 +240,7 @@ fn repeat(alloc: Global) -> Result<(), Fail> {
 fn a_repeat_gets_the_first_answer(rt: HostRuntime) -> Result<(), Fail> {
     answers_are_kept();
     repeats_are_answered();
-    replies_are_kept();
+    answers_are_entered();
     repeat(rt.alloc())
 }
 

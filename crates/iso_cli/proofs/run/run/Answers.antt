@@ -17,6 +17,6 @@ returns-in-Ok g c =
     let held = g.O.Outlet.contents c.args.output.now in
     let written = g.O.Outlet.contents c.serve.new.writer in
     let whole : Leaves table c.args.header unread left held written (fresh_books accounts) c.serve.new.issuer (Ok c.in-Ok.report) =
-    subst (λ (b : Books). Leaves table c.args.header unread left held written b c.serve.new.issuer (Ok c.in-Ok.report)) c.new-issuer.ensures c.in-Ok.ensures.outcome in
+    subst (λ (b : Books). Leaves table c.args.header unread left held written b c.serve.new.issuer (Ok c.in-Ok.report)) c.new-issuer.ensures c.in-Ok.ensures.leaves in
     runs_over (g.S.Source.file c.args.source.now) c.args.table.now c.args.accounts.now table accounts c.args.header unread left held written
     c.serve.new.issuer whole.0 whole.1 c.in_ok-table.ensures.named c.in_ok-table.ensures.ready c.in_ok-accounts.ensures whole.2 whole.4.0 whole.4.1

@@ -21,19 +21,19 @@ frames-init g c = record {
   flushed = inr refl;
 }
 
-pub returns-in-Err-clause-outcome : goal.returns-in-Err-clause-outcome
-returns-in-Err-clause-outcome g c =
+pub returns-in-Err-clause-leaves : goal.returns-in-Err-clause-leaves
+returns-in-Err-clause-leaves g c =
     let laws = c.splits_once.ensures in
     stop_inside _ _ _ _ _ c.firsts_go_on.ensures _ _ _ _ c.frames.invariant.going.served laws.bad laws.stays _ _ c.in-Err.fault c.in-Err.ensures.bytes
 
-pub returns-in-Ok-End-clause-outcome : goal.returns-in-Ok-End-clause-outcome
-returns-in-Ok-End-clause-outcome g c =
+pub returns-in-Ok-End-clause-leaves : goal.returns-in-Ok-End-clause-leaves
+returns-in-Ok-End-clause-leaves g c =
     let going = c.frames.invariant.going in
     let end = rw c.in-Ok-End.field-0-is at c.in-Ok-End.ensures.bytes in
     ends_whole _ _ _ _ _ c.firsts_go_on.ensures _ _ _ _ going.served _ _ _ end.0 end.1 end.2 going.reports
 
-pub returns-in-Err-answered-clause-outcome : goal.returns-in-Err-answered-clause-outcome
-returns-in-Err-answered-clause-outcome g c =
+pub returns-in-Err-answered-clause-leaves : goal.returns-in-Err-answered-clause-leaves
+returns-in-Err-answered-clause-leaves g c =
     let so = c.frames.invariant in
     let table = ap (λ (f : Feeding). f.table) so.held in
     let frame = rw (c.in-Ok-Body.field-0-is, table) at c.in-Ok-Body.ensures.bytes in

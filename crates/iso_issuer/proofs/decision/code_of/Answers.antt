@@ -11,12 +11,12 @@ use Rattle.iso_issuer.proofs.Summed.{balance-of}
 use Rattle.iso_issuer.proofs.decision.code_of.Goals as goal
 
 pub returns-else-is_nothing-clause-value : goal.returns-else-is_nothing-clause-value
-returns-else-is_nothing-clause-value c = λ entries balances sums row own.
+returns-else-is_nothing-clause-value c = λ entries balances sums placed own.
     let accounts = accounts_of balances in
     let money = c.in-Some.money in
     let about : Some money ≡ money_of c.args.order.act = c.in-Some.ensures ∙ ap money_of c.act.ensures.value in
     let left : c.args.left ≡ left_at entries c.args.order.key = own (money-kept c.args.order.act money about) in
-    let found : c.balance_in.result ≡ option_map (balance_on entries) (account_of accounts money.pan) = c.balance_in.ensures ∙ row.balance money about ∙ balance-of entries balances money.pan sums in
+    let found : c.balance_in.result ≡ option_map (balance_on entries) (account_of accounts money.pan) = c.balance_in.ensures ∙ placed.balance money about ∙ balance-of entries balances money.pan sums in
     let code : c.account_code.result ≡ account_code entries c.args.order money (account_of accounts money.pan) = c.account_code.ensures.value entries (account_of accounts money.pan) found left in
     let fresh : is_reversed entries c.args.order.key ≡ false = ap is_nothing (sym left) ∙ sym c.is_nothing.ensures ∙ c.if-is_nothing.false in
     code

@@ -1,6 +1,6 @@
 use Rattle.std.proofs.Common.{ℕ, List, ◌++◌, get_or, sym, ap, ◌∙◌}
 use Rattle.iso_wire.specs.Contents.{Contents}
-use Rattle.iso_order.specs.Listing.{entry}
+use Rattle.iso_order.specs.Listing.{element_where}
 use Rattle.iso_order.specs.Response.{element}
 use Rattle.iso_order.specs.Adding.{is_responded}
 use Rattle.iso_order.proofs.Ascending.{are_ascending-each, IsBelow-front, elements_with_value-more}
@@ -18,5 +18,5 @@ loop-n-preserved c =
     let value = element c.args.message.now c.args.answer.now in
     let n = get_or c.args.numbers.now c.loop-n.n-index 0 in
     c.in_ok-add.ensures.ok
-    ∙ ap (λ (made : Contents). record made { elements = made.elements ++ entry n (value n) }) c.loop-n.invariant
+    ∙ ap (λ (made : Contents). record made { elements = made.elements ++ element_where n (value n) }) c.loop-n.invariant
     ∙ ap (λ (es : List (ℕ × List ℕ)). record c.args.response.now { elements = es }) (sym (elements_with_value-more value c.args.numbers.now c.loop-n.n-index c.loop-n-test.true))

@@ -15,6 +15,6 @@ invariant_of-self-in-Ok c =
     rw (items, c.in-Ok.ensures.entered, c.in-Ok.ensures.answer, c.key.ensures.value) (record {
       agreed = agreed-delivered c.reversals_stay.ensures.reversed c.journals_grow.ensures.grown c.keys_stay_distinct.ensures.known c.keys_stay_distinct.ensures.new
           c.self.inside.acquirer.id c.self.inside.acquirer.slots c.self.inside.sent.items c.self.inside.given.items c.self.inside.issuer c.in-Some.order
-          c.self.invariant.agreed c.self.invariant.distinct c.replies_are_kept.ensures c.key.ensures.valid known;
+          c.self.invariant.agreed c.self.invariant.distinct c.answers_are_entered.ensures c.key.ensures.valid known;
       distinct = c.keys_stay_distinct.ensures.distinct c.self.inside.issuer c.in-Some.order c.self.invariant.distinct;
     })

@@ -1,7 +1,7 @@
 use Rattle.std.proofs.Common.{length, refl, ap, subst}
 use Rattle.iso_table.specs.Layout.{Layout, AreGood}
 use Rattle.iso_wire.specs.Framing.{frame_of}
-use Rattle.iso_order.specs.Fitting.{IsServed}
+use Rattle.iso_order.specs.Fitting.{IsAskedUnder}
 use Rattle.iso_order.specs.Response.{response}
 use Rattle.iso_host.specs.Desk.{Laid}
 use Rattle.iso_host.proofs.FrameLemmas.{short_fits}
@@ -13,7 +13,7 @@ returns c =
     let h = c.args.self.now.header in
     let m = c.args.message.now in
     let a = c.args.answer.now in
-    let served : IsServed t m a = record { ready = c.requires.ready; bytes = c.requires.read.0; read = c.requires.read.1; shown = c.requires.shown } in
+    let served : IsAskedUnder t m a = record { ready = c.requires.ready; bytes = c.requires.read.0; read = c.requires.read.1; shown = c.requires.shown } in
     let well = c.responses_are_well_formed.ensures m a c.well_formed-2.ensures c.requires.asks in
     let good : AreGood t.rows = subst (λ (l : Layout). AreGood l.rows) (ap (λ (d : Laid). d.table) c.self.view_is) c.version-version.ensures.good in
     let plain = c.spelled_once.ensures.some t (response m a) good well (c.responses_fit.ensures t m a served c.requires.asks) in

@@ -4,7 +4,7 @@ use Rattle.std.specs.List.{position_from}
 use Rattle.iso_order.specs.Order.{same_pan}
 use Rattle.iso_issuer.specs.declared.account.Account.{Account}
 use Rattle.iso_issuer.specs.declared.balances.Balance.{Balance}
-use Rattle.iso_issuer.specs.declared.balances.AccountRow.{AccountRow}
+use Rattle.iso_issuer.specs.declared.balances.PlacedBalance.{PlacedBalance}
 use Rattle.iso_issuer.specs.Balances.{balance_at}
 use Rattle.iso_issuer.proofs.Places.{place-below, place-map, found-at, found-none}
 use Rattle.iso_issuer.proofs.balances.Balances.find.Goals as goal
@@ -16,7 +16,7 @@ returns-in_err-place-clause-balance c =
     let at : position_from here 0 rows ≡ None =
     sym (place-map (λ (a : Account). same_pan a.pan c.args.pan) (λ (b : Balance). b.account) 0 rows) ∙ sym (c.self.invariant.0 c.args.pan) ∙ sym c.in_err-place.ensures.value in
     let none : balance_at rows c.args.pan ≡ None = found-none here 0 rows at in
-    ap (option_map (λ (r : AccountRow). r.balance)) c.from_residual.ensures ∙ sym (rw (← c.self.view_is) none)
+    ap (option_map (λ (r : PlacedBalance). r.balance)) c.from_residual.ensures ∙ sym (rw (← c.self.view_is) none)
 
 pub index-requires : goal.index-requires
 index-requires c =

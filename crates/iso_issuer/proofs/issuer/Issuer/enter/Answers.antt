@@ -23,13 +23,13 @@ enter-requires-clause-new c =
     let told = rw (← c.self.view_is) at c.requires.new in
     is_none-of (entry_at es c.args.order.key) (sym (entered-found es c.args.order.key) ∙ told)
 
-pub settle-requires-clause-place : goal.settle-requires-clause-place
-settle-requires-clause-place c = λ f told.
+pub post_all-requires-clause-place : goal.post_all-requires-clause-place
+post_all-requires-clause-place c = λ f told.
     let e = effect-money c.args.order.key c.args.order.act f told in
-    c.place_in.ensures ∙ c.row_for-row.ensures.place e.0 e.1 ∙ ap (account_place (accounts_of c.self.inside.balances)) e.2
+    c.place_in.ensures ∙ c.balance_for-placed.ensures.place e.0 e.1 ∙ ap (account_place (accounts_of c.self.inside.balances)) e.2
 
-pub settle-requires-clause-found : goal.settle-requires-clause-found
-settle-requires-clause-found c =
+pub post_all-requires-clause-found : goal.post_all-requires-clause-found
+post_all-requires-clause-found c =
     let es = c.self.inside.journal in
     let entry : Entry = record { order = c.args.order; answer = c.new_answer-answer.result } in
     rw (c.in_ok-enter.ensures.ok) (found-entered es entry c.find-found.result c.find-found.ensures.found c.find-found.ensures.apart)
@@ -40,18 +40,18 @@ invariant_of-self-2 c =
     let balances = c.self.inside.balances in
     let o = c.args.order in
     let entry : Entry = record { order = o; answer = c.new_answer-answer.result } in
-    let answer : c.new_answer-answer.result ≡ new_answer (accounts_of balances) es o = c.new_answer-answer.ensures balances c.self.invariant.1.sums c.row_for-row.ensures in
+    let answer : c.new_answer-answer.result ≡ new_answer (accounts_of balances) es o = c.new_answer-answer.ensures balances c.self.invariant.1.sums c.balance_for-placed.ensures in
     let told = rw (← c.self.view_is) at c.requires.new in
     let new : entry_at es o.key ≡ None = is_none-of (entry_at es o.key) (sym (entered-found es o.key) ∙ told) in
     let room = rw (← c.self.view_is) at c.requires.below in
     let below : length es < c.self.inside.limit = omega (arith, room, length-map es (λ (e : Entry). e.order)) in
     let kept = c.self.invariant.0 in
     let after : c.enter.new.self ≡ es ++ entry ∷ [] = c.in_ok-enter.ensures.ok in
-    let is : c.settle.new.balances ≡ map (settled es entry) balances =
-    (rw (after, c.find-found.ensures.found.reversed, c.find-found.ensures.found.released, entry-touched es (reversed_by es o), entry-touched es (released_by es o), weight-touched es (reversed_by es o), weight-touched es (released_by es o)) at c.settle.ensures.moved) ∙ settled-thrice es entry balances in
-    let near : All (IsNear (3 * length (es ++ entry ∷ []))) c.settle.new.balances =
-    near-more (3 * length es + 3) (3 * length (es ++ entry ∷ [])) c.settle.new.balances (omega (arith, length-append es (entry ∷ []))) (c.settle.ensures.near (3 * length es) c.self.invariant.1.near) in
-    let same : accounts_of c.settle.new.balances ≡ accounts_of balances = ap accounts_of is ∙ accounts-settled es entry balances in
+    let is : c.post_all.new.balances ≡ map (settled es entry) balances =
+    (rw (after, c.find-found.ensures.found.reversed, c.find-found.ensures.found.released, entry-touched es (reversed_by es o), entry-touched es (released_by es o), weight-touched es (reversed_by es o), weight-touched es (released_by es o)) at c.post_all.ensures.moved) ∙ settled-thrice es entry balances in
+    let near : All (IsNear (3 * length (es ++ entry ∷ []))) c.post_all.new.balances =
+    near-more (3 * length es + 3) (3 * length (es ++ entry ∷ [])) c.post_all.new.balances (omega (arith, length-append es (entry ∷ []))) (c.post_all.ensures.near (3 * length es) c.self.invariant.1.near) in
+    let same : accounts_of c.post_all.new.balances ≡ accounts_of balances = ap accounts_of is ∙ accounts-settled es entry balances in
     rw (after, same) (
       rw answer (kept-push (accounts_of balances) c.self.inside.limit es o kept below new),
       record { sums = rw is (sums-settled es entry balances kept.distinct c.find-found.ensures.apart c.self.invariant.1.sums); near = near },
@@ -67,8 +67,8 @@ returns-clause-entered c =
     let after : c.enter.new.self ≡ es ++ entry ∷ [] = c.in_ok-enter.ensures.ok in
     let orders : map (λ (e : Entry). e.order) c.enter.new.self ≡ map (λ (e : Entry). e.order) es ++ c.args.order ∷ [] =
     ap (map (λ (e : Entry). e.order)) after ∙ map-append (λ (e : Entry). e.order) es (entry ∷ []) in
-    let is : c.settle.new.balances ≡ map (settled es entry) balances =
-    (rw (after, c.find-found.ensures.found.reversed, c.find-found.ensures.found.released, entry-touched es (reversed_by es o), entry-touched es (released_by es o), weight-touched es (reversed_by es o), weight-touched es (released_by es o)) at c.settle.ensures.moved) ∙ settled-thrice es entry balances in
-    let same : accounts_of c.settle.new.balances ≡ accounts_of balances = ap accounts_of is ∙ accounts-settled es entry balances in
+    let is : c.post_all.new.balances ≡ map (settled es entry) balances =
+    (rw (after, c.find-found.ensures.found.reversed, c.find-found.ensures.found.released, entry-touched es (reversed_by es o), entry-touched es (released_by es o), weight-touched es (reversed_by es o), weight-touched es (released_by es o)) at c.post_all.ensures.moved) ∙ settled-thrice es entry balances in
+    let same : accounts_of c.post_all.new.balances ≡ accounts_of balances = ap accounts_of is ∙ accounts-settled es entry balances in
     rw (← c.self.view_is)
     (ap (λ accounts. books accounts (map (λ (e : Entry). e.order) c.enter.new.self)) same ∙ ap (books (accounts_of balances)) orders)

@@ -4,12 +4,12 @@ use Rattle.std.proofs.lemmas.Grind.{common_steps}
 use Rattle.std.proofs.lemmas.List.{length-map}
 use Rattle.iso_order.specs.Outcome.{Outcome}
 use Rattle.iso_issuer.specs.declared.journal.Entry.{Entry}
-use Rattle.iso_issuer.specs.Decision.{reply, reply_by, journal_of, is_shown_for}
+use Rattle.iso_issuer.specs.Decision.{answer_for, answer_by, journal_of, is_shown_for}
 use Rattle.iso_issuer.specs.Journal.{firsts, entry_at}
 use Rattle.iso_issuer.specs.Balances.{accounts_of}
 use Rattle.iso_issuer.proofs.Firsts.{firsts-known, firsts-new, firsts-distinct}
 use Rattle.iso_issuer.proofs.Kept.{kept-known, kept-new, kept-full, granted}
-use Rattle.iso_issuer.proofs.Shown.{reply-shown}
+use Rattle.iso_issuer.proofs.Shown.{answer-shown}
 use Rattle.iso_issuer.proofs.Entries.{entered-found, never}
 use Rattle.iso_issuer.proofs.issuer.Issuer.handle.Goals as goal
 
@@ -68,9 +68,9 @@ returns-in-Some-clause-shown c =
     let accounts = accounts_of c.self.inside.balances in
     let orders = map (λ (e : Entry). e.order) es in
     let found : entry_at es c.args.order.key ≡ Some c.in-Some.entry = cc in
-    let answer : c.repeat_answer.result ≡ reply accounts (journal_of accounts orders) c.args.order =
-    c.repeat_answer.ensures ∙ sym (ap (reply_by accounts es c.args.order) found) ∙ ap (λ (j : List Entry). reply accounts j c.args.order) c.self.invariant.0.decided in
-    ap (λ (a : Outcome). is_shown_for c.args.order.act a.shown) answer ∙ reply-shown accounts orders c.args.order
+    let answer : c.repeat_answer.result ≡ answer_for accounts (journal_of accounts orders) c.args.order =
+    c.repeat_answer.ensures ∙ sym (ap (answer_by accounts es c.args.order) found) ∙ ap (λ (j : List Entry). answer_for accounts j c.args.order) c.self.invariant.0.decided in
+    ap (λ (a : Outcome). is_shown_for c.args.order.act a.shown) answer ∙ answer-shown accounts orders c.args.order
 
 pub returns-in-Some-clause-kept : goal.returns-in-Some-clause-kept
 returns-in-Some-clause-kept c = λ other.

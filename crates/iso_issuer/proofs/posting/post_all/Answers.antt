@@ -1,6 +1,6 @@
 use Rattle.std.proofs.Common.{◌+◌, arith}
 use Rattle.iso_issuer.proofs.Room.{near-more}
-use Rattle.iso_issuer.proofs.posting.settle.Goals as goal
+use Rattle.iso_issuer.proofs.posting.post_all.Goals as goal
 
 pub post_touched-requires-clause-near : goal.post_touched-requires-clause-near
 post_touched-requires-clause-near c = near-more 2999998 2999999 _ (omega arith) (c.post_at.ensures.near 2999997 c.requires.near)

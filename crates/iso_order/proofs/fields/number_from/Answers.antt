@@ -1,7 +1,7 @@
 use Rattle.std.proofs.Common.{◌+◌, ◌-◌, drop}
 use Rattle.iso_parts.specs.Class.{is_digit}
 use Rattle.iso_order.proofs.Digits.{list_all-take, list_all-drop}
-use Rattle.iso_order.proofs.fields.part.Goals as goal
+use Rattle.iso_order.proofs.fields.number_from.Goals as goal
 
 pub number-requires-clause-digits : goal.number-requires-clause-digits
 number-requires-clause-digits c =
