@@ -2,7 +2,7 @@
 
 ghost use Rattle.std.specs.Prelude.{◌≡◌, ◌≢◌, ◌≤◌, ◌<◌, ◌↔◌, []};
 ghost use Rattle.std.specs.Prelude.{length, true, Ok, Err, Some, IfSome, List, slice_get, IfOk, OnOk, OnErr, IfErr};
-ghost use Rattle.iso_order.specs.Key.{is_valid_key, same_key};
+ghost use Rattle.iso_order.specs.Key.{is_valid_key};
 ghost use Rattle.iso_order.specs.declared.act.Act.TheVariants.{Debit};
 ghost use Rattle.iso_acquirer.specs.declared.fault.AcqFault.TheVariants.{NoMoreTrace, Memory};
 ghost use Rattle.iso_acquirer.specs.declared.slot.Role.TheVariants.{Transaction};
@@ -102,12 +102,6 @@ fn reversals_of(role: &Role) -> usize
         Role::Transaction(stage) => reversals_at(stage),
         Role::Reversal(_) => 0,
     }
-}
-
-fn same_key(a: TxKey, b: TxKey) -> bool
-    ensures { result ≡ same_key a b }
-{
-    a.base == b.base && a.stan == b.stan && a.sent == b.sent && a.acquirer == b.acquirer
 }
 
 /// The stage after an answer to the transaction's own order.
@@ -338,7 +332,7 @@ impl Acquirer {
         let Some(slot) = slot_at(&self.slots, key.stan) else {
             return;
         };
-        if same_key(slot.order.key(), key) {
+        if slot.order.key().is_same(&key) {
             self.answer_slot(&slot, code);
         }
     }

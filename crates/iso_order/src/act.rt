@@ -120,27 +120,9 @@ impl Act {
         ensures { result ≡ same_act self.now other.now }
     {
         match self {
-            Act::Debit(a) => {
-                if let Act::Debit(b) = other {
-                    a.is_same(b)
-                } else {
-                    false
-                }
-            }
-            Act::Credit(a) => {
-                if let Act::Credit(b) = other {
-                    a.is_same(b)
-                } else {
-                    false
-                }
-            }
-            Act::Inquiry(a) => {
-                if let Act::Inquiry(b) = other {
-                    a.is_same(b)
-                } else {
-                    false
-                }
-            }
+            Act::Debit(a) => matches!(other, Act::Debit(b) if a.is_same(b)),
+            Act::Credit(a) => matches!(other, Act::Credit(b) if a.is_same(b)),
+            Act::Inquiry(a) => matches!(other, Act::Inquiry(b) if a.is_same(b)),
             Act::Undo {
                 original: a,
                 left: l,

@@ -31,8 +31,8 @@ impl TxKey {
         self.base / 10 % 10
     }
 
-    /// Whether two keys are one.
-    pub(crate) fn is_same(&self, other: &TxKey) -> bool
+    /// Whether two keys are one: the same message type, trace number, time and acquirer. Takes no memory.
+    pub fn is_same(&self, other: &TxKey) -> bool
         ensures { result ≡ same_key self.now other.now }
     {
         self.base == other.base
