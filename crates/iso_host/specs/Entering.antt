@@ -1,9 +1,8 @@
 -- The journal while bodies are handled: the first order of each key, up to the limit.
-use Rattle.std.specs.Prelude.{◌≡◌, ℕ, Bool, not, ◌&&◌, nat_le, List, [], ◌++◌, length}
+-- Public: `serve` and `laws::one_journal` promise it.
+use Rattle.std.specs.Prelude.{◌≡◌, ℕ, List, [], ◌++◌}
 use Rattle.iso_table.specs.Layout.{Layout}
-use Rattle.iso_order.specs.declared.key.TxKey.{TxKey}
 use Rattle.iso_issuer.specs.Books.{Books}
-use Rattle.iso_issuer.specs.Journal.{is_entered}
 use Rattle.iso_issuer.specs.Laws.{books_after}
 use Rattle.iso_host.specs.Asking.{orders_of}
 
@@ -19,7 +18,3 @@ StaysWithout books = (t : Layout) → books_after_bodies t books [] ≡ books
 abbrev pub BodiesGoOn : Type 0
 BodiesGoOn =
     (t : Layout) (books : Books) (earlier later : List (List ℕ)) → books_after_bodies t (books_after_bodies t books earlier) later ≡ books_after_bodies t books (earlier ++ later)
-
--- the journal is at its limit, and the key is new
-abbrev pub is_full : Books → TxKey → Bool
-is_full books key = not (is_entered books.orders key) && nat_le books.limit (length books.orders)

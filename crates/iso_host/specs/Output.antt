@@ -11,10 +11,10 @@ use Rattle.iso_order.specs.Order.{Instruction}
 use Rattle.iso_order.specs.Outcome.{Outcome}
 use Rattle.iso_order.specs.Response.{response}
 use Rattle.iso_order.specs.Verdict.{verdict}
-use Rattle.iso_issuer.specs.Books.{Books, journal}
+use Rattle.iso_issuer.specs.Books.{Books, journal, is_full}
 use Rattle.iso_issuer.specs.Decision.{answer_for}
 use Rattle.iso_host.specs.Asking.{message_in}
-use Rattle.iso_host.specs.Entering.{books_after_bodies, is_full}
+use Rattle.iso_host.specs.Entering.{books_after_bodies}
 
 -- ---- the response to a body
 

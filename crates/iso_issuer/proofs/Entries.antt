@@ -1,6 +1,7 @@
 -- The entries of a journal, and one more.
-use Rattle.std.proofs.Common.{◌≡◌, ℕ, Bool, true, false, refl, arith, ap, sym, ◌∙◌, List, [], ◌∷◌, ◌++◌, length, ◌<◌, append_assoc, cond, length-append}
-use Rattle.std.specs.Prelude.{IsTrue, ◌||◌, map, Some, None, is_some}
+use Rattle.std.proofs.Common.{◌≡◌, ℕ, Bool, true, false, refl, arith, ap, sym, ◌∙◌, List, [], ◌∷◌, ◌++◌, length, ◌<◌, ◌≤◌, append_assoc, cond, length-append}
+use Rattle.std.specs.Prelude.{IsTrue, ◌||◌, ◌&&◌, not, nat_le, map, Some, None, is_some}
+use Rattle.std.proofs.lemmas.Bool.Decides.{nat_tests}
 use Rattle.std.proofs.lemmas.List.{map-append, append-nil}
 use Rattle.iso_order.specs.declared.key.TxKey.{TxKey}
 use Rattle.iso_order.specs.Key.{same_key}
@@ -9,6 +10,7 @@ use Rattle.iso_issuer.specs.declared.account.Account.{Account}
 use Rattle.iso_issuer.specs.declared.journal.Entry.{Entry}
 use Rattle.iso_issuer.specs.Journal.{is_entered, entry_at}
 use Rattle.iso_issuer.specs.Decision.{entries_after, new_entry}
+use Rattle.iso_issuer.specs.Books.{Books, is_full}
 use Rattle.iso_issuer.specs.Index.{IsKept}
 use Rattle.iso_issuer.proofs.Firsts.{distinct-push}
 
@@ -51,6 +53,20 @@ kept-push accounts limit es o kept below new =
           ∙ sym (entered-push accounts [] (map (λ e. e.order) es) o));
       distinct = rw orders (distinct-push (map (λ e. e.order) es) o kept.distinct is_new);
     }
+
+-- the books are full for a new key where they are at their limit, and for no other key
+pub full-new : (b : Books) (k : TxKey) → is_entered b.orders k ≡ false → b.limit ≤ length b.orders → is_full b k ≡ true
+full-new b k new at_limit = ap (λ t. not t && nat_le b.limit (length b.orders)) new ∙ at_most b.limit (length b.orders) at_limit
+  where
+    at_most : (n m : ℕ) → n ≤ m → nat_le n m ≡ true
+    at_most n m h = grind (arith, nat_tests)
+
+pub full-known : (b : Books) (k : TxKey) → is_entered b.orders k ≡ true → is_full b k ≡ true → ⊥
+full-known b k known full = apart (is_full b k) (ap (λ t. not t && nat_le b.limit (length b.orders)) known) full
+  where
+    apart : (t : Bool) → t ≡ false → t ≡ true → ⊥
+    apart true e h = cc
+    apart false e h = cc
 
 -- a test that is false is not true
 pub never : (b : Bool) → b ≡ false → IsTrue b → ⊥

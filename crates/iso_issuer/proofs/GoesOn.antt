@@ -17,7 +17,7 @@ use Rattle.iso_issuer.specs.Laws.{books_after}
 use Rattle.iso_issuer.proofs.Keys.{same_key_is, same_key_self}
 use Rattle.iso_issuer.proofs.Firsts.{is_other, firsts-new, firsts-known, firsts-distinct, distinct-push}
 use Rattle.iso_issuer.proofs.Touched.{found-key}
-use Rattle.iso_issuer.proofs.Entries.{entered-push, orders-entered, entered-found}
+use Rattle.iso_issuer.proofs.Entries.{entered-push, orders-entered, entered-found, full-new}
 
 -- ---- the entries that there are
 
@@ -128,7 +128,7 @@ repeats-answered self b o between distinct few room = by_entry (entry_at (journa
     by_entry (Some e) found = answer-after b o (o ∷ between) e distinct few found ∙ sym (ap (answer_by b.accounts (journal b) o) found)
     by_entry None none =
         let new = unknown b.accounts b.orders o.key none in
-        let below : length b.orders < b.limit = omega (arith, λ (e : length b.orders ≡ b.limit). room (record { at_limit = e; new = new })) in
+        let below : length b.orders < b.limit = omega (arith, λ (e : length b.orders ≡ b.limit). room (full-new b o.key new (omega (arith, e)))) in
         let with = record b { orders = b.orders ++ o ∷ [] } in
         let after : books_after b (o ∷ between) ≡ books_after with between =
         ap (λ (l : List Instruction). record b { orders = take b.limit (firsts l) }) (sym (append_assoc b.orders (o ∷ []) between)) in

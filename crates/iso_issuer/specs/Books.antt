@@ -1,5 +1,5 @@
 -- An issuer as contracts see it, and what handling orders does to it.
-use Rattle.std.specs.Prelude.{◌≡◌, ◌<◌, ℕ, false, List, [], ◌∷◌, ◌++◌, length, Result, Ok, Err}
+use Rattle.std.specs.Prelude.{◌≡◌, ◌<◌, ℕ, Bool, true, false, not, ◌&&◌, nat_le, List, [], ◌∷◌, ◌++◌, length, Result, Ok, Err}
 use Rattle.iso_order.specs.declared.key.TxKey.{TxKey}
 use Rattle.iso_order.specs.Outcome.{Outcome}
 use Rattle.iso_order.specs.Order.{Instruction}
@@ -21,9 +21,11 @@ abbrev pub journal : Books → List Entry
 journal b = journal_of b.accounts b.orders
 
 -- the journal is at its limit, and the key is new
-pub record IsFullFor (b : Books) (key : TxKey) : Type 0 where
-  pub at_limit : length b.orders ≡ b.limit
-  pub new : is_entered b.orders key ≡ false
+abbrev pub is_full : Books → TxKey → Bool
+is_full b key = not (is_entered b.orders key) && nat_le b.limit (length b.orders)
+
+abbrev pub IsFullFor : Books → TxKey → Type 0
+IsFullFor b key = is_full b key ≡ true
 
 -- there is room, and the key is new
 pub record IsRoomFor (b : Books) (key : TxKey) : Type 0 where

@@ -1,20 +1,25 @@
-use Rattle.std.proofs.Common.{◌≡◌, ap, sym, ◌∙◌, arith, ◌++◌, [], ◌∷◌}
+use Rattle.std.proofs.Common.{◌≡◌, refl, ap, sym, ◌∙◌, arith, ◌++◌, [], ◌∷◌}
 use Rattle.std.specs.Prelude.{is_some, Some, None, map, List}
-use Rattle.std.proofs.lemmas.Grind.{common_steps}
 use Rattle.std.proofs.lemmas.List.{length-map}
 use Rattle.iso_order.specs.Outcome.{Outcome}
 use Rattle.iso_issuer.specs.declared.journal.Entry.{Entry}
+use Rattle.iso_issuer.specs.Books.{Books}
 use Rattle.iso_issuer.specs.Decision.{answer_for, answer_by, journal_of, is_shown_for}
 use Rattle.iso_issuer.specs.Journal.{firsts, entry_at}
 use Rattle.iso_issuer.specs.Balances.{accounts_of}
 use Rattle.iso_issuer.proofs.Firsts.{firsts-known, firsts-new, firsts-distinct}
 use Rattle.iso_issuer.proofs.Kept.{kept-known, kept-new, kept-full, granted}
 use Rattle.iso_issuer.proofs.Shown.{answer-shown}
-use Rattle.iso_issuer.proofs.Entries.{entered-found, never}
+use Rattle.iso_issuer.proofs.Entries.{entered-found, never, full-new, full-known}
 use Rattle.iso_issuer.proofs.issuer.Issuer.handle.Goals as goal
 
 pub returns-then-len-self-clause-full : goal.returns-then-len-self-clause-full
-returns-then-len-self-clause-full c = rw (← c.self.view_is) (grind (arith, common_steps, entered-found))
+returns-then-len-self-clause-full c =
+    let found : entry_at c.self.inside.journal c.args.order.key ≡ None = cc in
+    let books : Books = record { accounts = accounts_of c.self.inside.balances; limit = c.self.inside.limit; orders = map (λ (e : Entry). e.order) c.self.inside.journal } in
+    let full = full-new books c.args.order.key (entered-found c.self.inside.journal c.args.order.key ∙ ap is_some found)
+    (omega (arith, length-map c.self.inside.journal (λ (e : Entry). e.order), c.if-len-self.true, c.len.ensures)) in
+    rw (← c.self.view_is) ((λ e. full), (λ h. refl))
 
 pub returns-then-len-self-clause-repeat : goal.returns-then-len-self-clause-repeat
 returns-then-len-self-clause-repeat c =
@@ -27,7 +32,11 @@ enter-requires-clause-new c =
     rw (← c.self.view_is) (entered-found c.self.inside.journal c.args.order.key ∙ ap is_some found)
 
 pub returns-in-Some-clause-full : goal.returns-in-Some-clause-full
-returns-in-Some-clause-full c = rw (← c.self.view_is) (grind (arith, common_steps, entered-found))
+returns-in-Some-clause-full c =
+    let found : entry_at c.self.inside.journal c.args.order.key ≡ Some c.in-Some.entry = cc in
+    let books : Books = record { accounts = accounts_of c.self.inside.balances; limit = c.self.inside.limit; orders = map (λ (e : Entry). e.order) c.self.inside.journal } in
+    let known = full-known books c.args.order.key (entered-found c.self.inside.journal c.args.order.key ∙ ap is_some found) in
+    rw (← c.self.view_is) ((λ e. cc), (λ h. absurd (known h)))
 
 pub returns-in-Some-clause-entered : goal.returns-in-Some-clause-entered
 returns-in-Some-clause-entered c =
