@@ -1,5 +1,6 @@
 -- What the echo writes.
-use Rattle.std.specs.Prelude.{◌≡◌, ◌⊎◌, ℕ, ◌≤◌, List, [], ◌∷◌, ◌++◌, length, take, Option, None, IfSome, codes}
+-- Public: `act` promises it.
+use Rattle.std.specs.Prelude.{◌≡◌, ◌⊎◌, ℕ, ◌≤◌, List, [], ◌∷◌, ◌++◌, length, take, Option, IfSome, codes}
 use Rattle.std.specs.Io.KnownBytes.{Appends}
 use Rattle.iso_parts.specs.declared.digits.Digits.TheVariants.{Ascii}
 use Rattle.iso_table.specs.Layout.{Layout}
@@ -8,12 +9,13 @@ use Rattle.iso_wire.specs.Contents.{Contents}
 use Rattle.iso_wire.specs.Spelling.{Spelling, PlainSpelling}
 use Rattle.iso_order.specs.declared.verdict.Verdict.{Verdict}
 use Rattle.iso_order.specs.declared.verdict.Verdict.TheVariants.{Order, Reply, Silent}
+use Rattle.iso_order.specs.Outcome.{code_alone}
 use Rattle.iso_order.specs.Verdict.{verdict}
 use Rattle.iso_order.specs.Response.{response}
 
 -- the answer to a verdict: the plain spelling of the response where the message itself decides, else `none`
 abbrev pub AnswersBy : Layout → Contents → Verdict → List ℕ → Type 0
-AnswersBy t m (Reply code) b = PlainSpelling t (response m (record { code = code; seq = 0; shown = None })) b
+AnswersBy t m (Reply code) b = PlainSpelling t (response m (code_alone code)) b
 AnswersBy t m (Order o) b = b ≡ codes "none"
 AnswersBy t m Silent b = b ≡ codes "none"
 

@@ -8,7 +8,7 @@ use Rattle.iso_wire.specs.Spelling.{PlainSpelling}
 use Rattle.iso_order.specs.declared.verdict.Verdict.{Verdict}
 use Rattle.iso_order.specs.declared.verdict.Verdict.TheVariants.{Order, Reply, Silent}
 use Rattle.iso_order.specs.Order.{Instruction}
-use Rattle.iso_order.specs.Outcome.{Outcome}
+use Rattle.iso_order.specs.Outcome.{Outcome, code_alone}
 use Rattle.iso_order.specs.Response.{response}
 use Rattle.iso_order.specs.Verdict.{verdict}
 use Rattle.iso_issuer.specs.Books.{Books, journal, is_full}
@@ -21,13 +21,13 @@ use Rattle.iso_host.specs.Entering.{books_after_bodies}
 -- the issuer's answer to an order, 96 where its journal is full
 abbrev pub outcome_for : Books → Instruction → Outcome
 outcome_for books o =
-    if is_full books o.key then record { code = 96; seq = 0; shown = None }
+    if is_full books o.key then code_alone 96
     else answer_for books.accounts (journal books) o
 
 -- the answer to a verdict, where it is answered
 abbrev pub outcome_of : Books → Verdict → Option Outcome
 outcome_of books (Order o) = Some (outcome_for books o)
-outcome_of books (Reply code) = Some (record { code = code; seq = 0; shown = None })
+outcome_of books (Reply code) = Some (code_alone code)
 outcome_of books Silent = None
 
 abbrev pub response_with : Contents → Option Outcome → Option Contents

@@ -7,7 +7,7 @@ use Rattle.std.proofs.lemmas.List.Elements.{filter-append}
 use Rattle.iso_order.specs.declared.key.TxKey.{TxKey}
 use Rattle.iso_order.specs.Key.{same_key}
 use Rattle.iso_order.specs.Order.{Instruction, same_order}
-use Rattle.iso_order.specs.Outcome.{Outcome}
+use Rattle.iso_order.specs.Outcome.{Outcome, code_alone}
 use Rattle.iso_issuer.specs.declared.account.Account.{Account}
 use Rattle.iso_issuer.specs.declared.journal.Entry.{Entry}
 use Rattle.iso_issuer.specs.Journal.{firsts, is_entered, entry_at, HasDistinctKeys}
@@ -117,7 +117,7 @@ SameSelf = (o : Instruction) → same_order o o ≡ true
 again : (e : Entry) (o : Instruction) → e.order ≡ o → SameSelf → repeat_answer e o ≡ e.answer
 again e o same self =
     let told : same_order e.order o ≡ true = ap (λ (x : Instruction). same_order x o) same ∙ self o in
-    ap (λ (b : Bool). cond b e.answer (record { code = 94; seq = 0; shown = None })) told
+    ap (λ (b : Bool). cond b e.answer (code_alone 94)) told
 
 pub repeats-answered : SameSelf → (b : Books) (o : Instruction) (between : List Instruction) →
     HasDistinctKeys b.orders → length b.orders ≤ b.limit → (IsFullFor b o.key → ⊥) →

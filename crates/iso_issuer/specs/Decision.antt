@@ -4,7 +4,7 @@ use Rattle.iso_order.specs.declared.key.TxKey.{TxKey}
 use Rattle.iso_order.specs.declared.act.Act.{Act}
 use Rattle.iso_order.specs.declared.act.Act.TheVariants.{Debit, Credit, Inquiry, Undo, Complete}
 use Rattle.iso_order.specs.declared.act.Money.{Money}
-use Rattle.iso_order.specs.Outcome.{Outcome}
+use Rattle.iso_order.specs.Outcome.{Outcome, code_alone}
 use Rattle.iso_order.specs.Response.{is_inquiry_order}
 use Rattle.iso_order.specs.Key.{function_digit}
 use Rattle.iso_order.specs.Order.{Instruction, same_order, same_currency, money_of}
@@ -79,7 +79,7 @@ journal_of accounts orders = entries_after accounts [] orders
 
 -- the first answer again, or 94 to another order of that key
 abbrev pub repeat_answer : Entry → Instruction → Outcome
-repeat_answer e o = if same_order e.order o then e.answer else record { code = 94; seq = 0; shown = None }
+repeat_answer e o = if same_order e.order o then e.answer else code_alone 94
 
 abbrev pub answer_by : List Account → List Entry → Instruction → Option Entry → Outcome
 answer_by accounts journal o None = new_answer accounts journal o

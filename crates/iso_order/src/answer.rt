@@ -27,12 +27,13 @@ impl Model for Answer {
 }
 
 impl Answer {
-    ghost use Rattle.std.specs.Prelude.{◌≡◌, ◌≤◌, None};
+    ghost use Rattle.std.specs.Prelude.{◌≡◌, ◌≤◌};
+    ghost use Rattle.iso_order.specs.Outcome.{code_alone};
 
     /// A response code alone: the order has no place in the journal, and no balance is shown.
     pub fn only(code: u8) -> Answer
         requires { code ≤ 99 }
-        ensures { result ≡ record { code = code; seq = 0; shown = None } }
+        ensures { result ≡ code_alone code }
     {
         Answer {
             code,
