@@ -9,7 +9,7 @@ use Rattle.iso_wire.specs.OneSpelling.{PlainOnce}
 use Rattle.iso_issuer.specs.Books.{Books}
 use Rattle.iso_host.specs.Entering.{books_after_bodies}
 use Rattle.iso_host.specs.Asking.{message_in}
-use Rattle.iso_host.specs.Output.{response_to, IsFramed, IsAnswer, IsOutputFrom, IsOutput, OutputOnce}
+use Rattle.iso_host.specs.Output.{response_to, IsFramed, IsAnswer, IsAnswerTo, IsOutputFrom, IsOutput, OutputOnce}
 use Rattle.iso_host.specs.Serving.{front, IsPrefix}
 
 -- ---- the stream
@@ -81,7 +81,7 @@ framed_once t h None a b once one other = one ∙ sym other
 framed_once t h (Some r) a b once one other = one.3 ∙ ap (frame_of h) (once t r one.0 other.0 one.1 other.1) ∙ sym other.3
 
 answer_once : (t : Layout) (h : Header) (books : Books) (body a b : List ℕ) → PlainOnce → IsAnswer t h books body a → IsAnswer t h books body b → a ≡ b
-unfolding IsAnswer
+unfolding IsAnswerTo
 answer_once t h books body a b once one other = framed_once t h (response_to books (message_in t body)) a b once one other
 
 output_from_once : (t : Layout) (h : Header) (books : Books) (earlier bodies : List (List ℕ)) (a b : List ℕ) → PlainOnce → IsOutputFrom t h books earlier bodies a → IsOutputFrom t h books earlier bodies b → a ≡ b

@@ -18,7 +18,7 @@ use Rattle.iso_host.proofs.Running.{Going, Running}
 use Rattle.iso_host.specs.Asking.{message_in, asked_of, count_asked, has_answer, is_silent, is_unreadable}
 use Rattle.iso_host.specs.Counts.{Counts}
 use Rattle.iso_host.specs.Entering.{books_after_bodies}
-use Rattle.iso_host.specs.Handling.{books_after_body, IsAnswerTo}
+use Rattle.iso_host.specs.Handling.{books_after_body}
 use Rattle.iso_host.specs.Output.{IsAnswer, IsOutput}
 use Rattle.iso_host.specs.Reading.{EndsInside}
 use Rattle.iso_host.specs.Serving.{Served, Leaves, Cut, Reports}
@@ -29,11 +29,6 @@ use Rattle.iso_host.specs.Writing.{WritesSome}
 use Rattle.iso_host.specs.declared.fault.Report.{Report}
 use Rattle.iso_host.specs.declared.fault.ServeFault.{ServeFault}
 use Rattle.iso_host.specs.declared.fault.ServeFault.TheVariants.{Read, Write, BadHeader, CutFrame, Memory, TooManyTurns}
-
--- the answer to the message that a body is
-answer_to_body : (t : Layout) (h : Header) (books : Books) (body bytes : List ℕ) → IsAnswerTo t h books (message_in t body) bytes → IsAnswer t h books body bytes
-unfolding IsAnswer IsAnswerTo
-answer_to_body t h books body bytes is = is
 
 -- what was taken and what waits in the window was read
 taken_behind : (a r : Option (List ℕ)) (taken window : List ℕ) → Consumes a (prepend_known window r) taken → Consumes a r (taken ++ window)
@@ -100,7 +95,7 @@ module _ (t : Layout) (h : Header) (unread held : Option (List ℕ)) (old : Book
       fit = AllFit_more h bodies body served.fit fits;
       books = entered_more new body whole.entered;
       bytes = served.bytes ++ whole.bytes;
-      output = output_more t h old bodies body served.bytes whole.bytes served.output (answer_more body whole.bytes (answer_to_body t h mid body whole.bytes whole.answer));
+      output = output_more t h old bodies body served.bytes whole.bytes served.output (answer_more body whole.bytes whole.answer);
       answers = Appends-trans held written after _ _ served.answers whole.appends;
     }
 
@@ -157,7 +152,7 @@ module _ (t : Layout) (h : Header) (unread held : Option (List ℕ)) (old : Book
         subst (λ (b : Books). Cut t h unread left held after old b) (sym kept.0)
         (subst (λ o. Cut t h unread left held o old mid) (sym kept.1) (stopped_here left window (frame_of h body) taken))
     stopped_answering left after window new body taken fits (inr some) =
-        stopped_after left after window new body taken fits some.0 some.1.0 (answer_to_body t h mid body some.1.0 some.1.1) some.1.2
+        stopped_after left after window new body taken fits some.0 some.1.0 some.1.1 some.1.2
 
     pub stop_at : (T : Type 0) (left after : Option (List ℕ)) (window : List ℕ) (new : Books) (c0 c1 : Counts) (before turns : ℕ) (body : List ℕ) (fault : ServeFault)
         → Consumes pending (prepend_known window left) (frame_of h body) → length body ≤ largest h → AnswersPart t h mid new (message_in t body) written after

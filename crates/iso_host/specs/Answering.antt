@@ -8,7 +8,8 @@ use Rattle.iso_wire.specs.declared.header.Header.{Header}
 use Rattle.iso_wire.specs.Contents.{Contents}
 use Rattle.iso_issuer.specs.Books.{Books}
 use Rattle.iso_host.specs.Counts.{Counts}
-use Rattle.iso_host.specs.Handling.{entered_by, IsAnswerTo}
+use Rattle.iso_host.specs.Handling.{entered_by}
+use Rattle.iso_host.specs.Output.{IsAnswerTo}
 use Rattle.iso_host.specs.Turns.{Spends}
 use Rattle.iso_host.specs.Writing.{WritesSome}
 use Rattle.iso_host.specs.declared.fault.ServeFault.{ServeFault}

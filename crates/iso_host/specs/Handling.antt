@@ -10,8 +10,8 @@ use Rattle.iso_issuer.specs.Books.{Books}
 use Rattle.iso_issuer.specs.Laws.{books_after}
 use Rattle.iso_host.specs.declared.handling.Handled.{Handled}
 use Rattle.iso_host.specs.declared.handling.Handled.TheVariants.{Unreadable, Silent, Answered}
-use Rattle.iso_host.specs.Asking.{asked_of, orders_in, is_unreadable, is_silent, has_answer}
-use Rattle.iso_host.specs.Output.{IsFramed, response_to}
+use Rattle.iso_host.specs.Asking.{message_in, orders_in, is_unreadable, is_silent, has_answer}
+use Rattle.iso_host.specs.Output.{IsAnswerTo}
 
 -- the books once the message that a body is, or none, is handled
 abbrev pub entered_by : Books → Option Contents → Books
@@ -19,11 +19,7 @@ entered_by books message = books_after books (orders_in (option_map verdict mess
 
 -- the books once this body is handled
 abbrev pub books_after_body : Layout → Books → List ℕ → Books
-books_after_body t books body = books_after books (orders_in (asked_of t body))
-
--- what is written at these books for the message that a body is
-unfoldable pub IsAnswerTo : Layout → Header → Books → Option Contents → List ℕ → Type 0
-IsAnswerTo t h books message bytes = IsFramed t h (response_to books message) bytes
+books_after_body t books body = entered_by books (message_in t body)
 
 -- a body that asks this is handled so
 abbrev pub IsOfKind : Option Verdict → Handled → Type 0
@@ -31,11 +27,16 @@ IsOfKind asked Unreadable = IsTrue (is_unreadable asked)
 IsOfKind asked Silent = IsTrue (is_silent asked)
 IsOfKind asked Answered = IsTrue (has_answer asked)
 
--- the kind of the body whose message this is, and what is written for it: these bytes, where it is answered
+-- what is written for a body that is handled so: these bytes, where it is answered
+abbrev pub written_for : Handled → List ℕ → List ℕ
+written_for Unreadable bytes = []
+written_for Silent bytes = []
+written_for Answered bytes = bytes
+
+-- the kind of the body whose message this is, and what is written for it
 abbrev pub Handles : Layout → Header → Books → Option Contents → List ℕ → Handled → Type 0
-Handles t h books message bytes Unreadable = IsTrue (is_unreadable (option_map verdict message)) × IsAnswerTo t h books message []
-Handles t h books message bytes Silent = IsTrue (is_silent (option_map verdict message)) × IsAnswerTo t h books message []
-Handles t h books message bytes Answered = IsTrue (has_answer (option_map verdict message)) × IsAnswerTo t h books message bytes
+Handles t h books message bytes handled =
+    IsOfKind (option_map verdict message) handled × IsAnswerTo t h books message (written_for handled bytes)
 
 -- the books are as they were, or the message's order was entered, and the message has an answer
 abbrev pub EntersOrKeeps : Layout → Header → Books → Books → Option Contents → Type 0

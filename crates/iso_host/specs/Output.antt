@@ -45,9 +45,13 @@ abbrev pub IsFramed : Layout → Header → Option Contents → List ℕ → Typ
 IsFramed t h None bytes = bytes ≡ []
 IsFramed t h (Some r) bytes = (plain : List ℕ) × PlainSpelling t r plain × (length plain ≤ largest h) × (bytes ≡ frame_of h plain)
 
+-- what is written at these books for the message that a body is
+unfoldable pub IsAnswerTo : Layout → Header → Books → Option Contents → List ℕ → Type 0
+IsAnswerTo t h books message bytes = IsFramed t h (response_to books message) bytes
+
 -- what is written for a body at these books
-unfoldable pub IsAnswer : Layout → Header → Books → List ℕ → List ℕ → Type 0
-IsAnswer t h books body bytes = IsFramed t h (response_to books (message_in t body)) bytes
+abbrev pub IsAnswer : Layout → Header → Books → List ℕ → List ℕ → Type 0
+IsAnswer t h books body bytes = IsAnswerTo t h books (message_in t body) bytes
 
 -- ---- of a stream
 

@@ -76,7 +76,7 @@ fn answer_to(issuer: &mut Issuer, message: &Message) -> Result<Option<Answer>, N
 
 /// Handles what a body is: the order of its message is entered, and then the frame of the response is laid on the desk.
 /// After an `Err` the order may be entered: then the message has an answer, though it wasn't made.
-#[tactic(auto, unfolding(crate::specs::Handling::IsAnswerTo))]
+#[tactic(auto, unfolding(crate::specs::Output::IsAnswerTo))]
 pub fn handle_message(
     issuer: &mut Issuer,
     message: &Option<Message>,
