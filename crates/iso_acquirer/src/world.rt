@@ -12,7 +12,7 @@ use crate::event::{Event, Given};
 use crate::fault::StepFault;
 use iso_issuer::Issuer;
 use iso_issuer::laws::{
-    granted_stands, journals_grow, keys_stay_distinct, answers_are_entered, reversals_stay,
+    answers_are_entered, granted_stands, journals_grow, keys_stay_distinct, reversals_stay,
     reversed_never_stands, stands_no_more,
 };
 use iso_order::{Order, Pan};
@@ -110,6 +110,7 @@ impl World {
     {
         // the proof learns here what holds of every world
         let _ = &self.sent;
+        // the laws of which entries stand, now and ever after, for the prover
         granted_stands();
         reversals_stay();
         stands_no_more();
@@ -123,6 +124,7 @@ impl World {
     {
         // the proof learns here what holds of every world
         let _ = &self.sent;
+        // the laws of which entries there are, and which of them stand, now and ever after, for the prover
         journals_grow();
         granted_stands();
         reversals_stay();
@@ -140,6 +142,7 @@ impl World {
             return Err(StepFault::NoSuch);
         };
         self.given.reserve(1)?;
+        // the laws of a journal with one order more, for the prover: what was agreed goes on to hold
         journals_grow();
         keys_stay_distinct();
         answers_are_entered();
@@ -165,6 +168,7 @@ impl World {
         let Some(given) = given_at(&self.given, place) else {
             return Err(StepFault::NoSuch);
         };
+        // the law that a reversed key stays reversed, for the prover
         reversals_stay();
         hand_answer(&mut self.acquirer, &given);
         Ok(())
@@ -179,6 +183,7 @@ impl World {
         if order.key().acquirer == self.acquirer.id() {
             return Err(StepFault::OwnKey);
         }
+        // the laws of a journal with one order more, for the prover: what was agreed goes on to hold
         journals_grow();
         keys_stay_distinct();
         reversals_stay();

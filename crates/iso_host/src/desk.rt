@@ -97,6 +97,7 @@ impl<'t> Desk<'t> {
         ensures framed { OnOk result (IsFramed self.old.table self.old.header (Some (response message.now answer.now)) self.new.frame) }
         ensures kept { IsSameDesk self.old self.new }
     {
+        // the laws that the table refuses no response, and that each header can count it, for the prover
         responses_fit();
         responses_are_short();
         respond_into(message, answer, &mut self.response)?;
@@ -111,6 +112,7 @@ impl<'t> Desk<'t> {
         requires shown { is_showable message.now answer.now.shown ≡ true }
         ensures { (bytes : List ℕ) × IsFramed self.now.table self.now.header (Some (response message.now answer.now)) bytes }
     {
+        // the laws that each response is well formed, fits the table and is short, and has one spelling, for the prover
         responses_fit();
         responses_are_short();
         responses_are_well_formed();

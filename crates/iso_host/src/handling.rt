@@ -46,10 +46,11 @@ fn answer_order(issuer: &mut Issuer, order: Order) -> Result<Answer, NoMemory>
     }
 }
 
-/// Where no order comes, the books stay as they are.
+/// Where no order comes, the books stay as they are. Does nothing: it tells that to the prover.
 pub fn enters_nothing(issuer: &Issuer)
     ensures { books_after issuer.now [] ≡ issuer.now }
 {
+    // the law that first orders are kept as they are, for the prover
     firsts_stay();
     // any call on the issuer tells the proof what holds of every issuer
     let _entries = issuer.len();
@@ -63,6 +64,7 @@ fn answer_to(issuer: &mut Issuer, message: &Message) -> Result<Option<Answer>, N
     ensures entered { OnOk result (issuer.new ≡ books_after issuer.old (orders_in (Some (verdict message.now)))) }
     ensures unchanged { OnErr result (issuer.new ≡ issuer.old) }
 {
+    // the law that without an order the books stay as they are, for the prover
     enters_nothing(issuer);
     match order_of(message) {
         Verdict::Silent => Ok(None),
@@ -89,6 +91,7 @@ pub fn handle_message(
     ensures memory { OnErr result (EntersOrKeeps desk.old.table desk.old.header issuer.old issuer.new message.now) }
     ensures kept { IsSameDesk desk.old desk.new }
 {
+    // the law that without an order the books stay as they are, for the prover
     enters_nothing(issuer);
     let Some(message) = message else {
         return Ok(Handled::Unreadable);
@@ -96,6 +99,7 @@ pub fn handle_message(
     let Some(answer) = answer_to(issuer, message)? else {
         return Ok(Handled::Silent);
     };
+    // the law that each response has a frame, for the prover: it has one where none is made, too
     desk.has_frame(message, &answer);
     desk.lay_response(message, &answer)?;
     Ok(Handled::Answered)

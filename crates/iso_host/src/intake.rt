@@ -49,7 +49,7 @@ fn whole_message(
     }
 }
 
-/// The items of a slice of bytes are bytes.
+/// The items of a slice of bytes are bytes. Does nothing: it tells that to the prover.
 fn are_bytes(bytes: &[u8])
     ensures { AreBytes bytes.now }
 {}
@@ -68,6 +68,7 @@ fn feed_piece(
     ensures told { IfOk result (TellsBody unpacker.old.table (unpacker.old.taken ++ piece.now) is_last unpacker.new) }
     ensures unchanged { OnErr result (unpacker.new ≡ unpacker.old) }
 {
+    // the law that what is read is spelled, and that the piece is of bytes, for the prover
     reads_spellings();
     are_bytes(piece);
     match unpacker.feed(alloc, piece) {

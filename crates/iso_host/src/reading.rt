@@ -199,6 +199,7 @@ pub fn read_frame<R: Inlet>(
     ensures spent { SpendsOnFrame (R.counts reader.old) (R.counts reader.new) left.old left.new window.old window.new result }
     ensures held { OnOk result (intake.new ≡ unpacker_holding intake.old.table []) }
 {
+    // the law that bytes have one split into frames, for the prover
     splits_once();
     let size = match read_header(header, window, reader, left) {
         Err(fault) => return Err(fault),

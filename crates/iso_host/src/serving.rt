@@ -140,6 +140,8 @@ pub fn serve<R: Inlet, W: Outlet>(
     ensures cause { Cause (R.counts reader.old) (R.counts reader.new)
         (W.counts writer.old) (W.counts writer.new) turns result }
 {
+    // the laws of a journal that goes on, that bytes have one split into frames, and that without an order the books stay
+    // as they are, for the prover
     firsts_go_on();
     splits_once();
     enters_nothing(issuer);

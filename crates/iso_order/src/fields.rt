@@ -12,7 +12,7 @@ use crate::key::TxKey;
 use iso_parts::Mti;
 use iso_wire::{Message, number, number_in};
 
-/// The digits of a message's type.
+/// The digits of a message's type. A function of its own, for the prover, which knows of a message the number alone.
 pub(crate) fn type_of(message: &Message) -> Mti
     ensures version { result.version ≡ version message.now }
     ensures class { result.class ≡ class message.now }

@@ -68,6 +68,7 @@ impl Order {
         self.act
     }
 
+    /// As `is_same`. A function of its own, for the prover, which proves `is_same` by this contract.
     fn is_same_order(&self, other: &Order) -> bool
         ensures { result ≡ same_order self.now other.now }
     {

@@ -237,6 +237,7 @@ pub fn request(alloc: Global, order: &Order) -> Result<Message, NoMemory>
     // Both built-in tables can write it.
     ensures fits { IfOk result FitsEdition87 }
 {
+    // the laws that a request asks for its order, and that both built-in tables can write it, for the prover
     requests_ask();
     requests_fit();
     let key = order.key();

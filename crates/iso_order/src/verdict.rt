@@ -304,7 +304,8 @@ fn key_verdict(message: &Message, digit: u8) -> Verdict
     }
 }
 
-/// The verdict of the first line of the table that holds.
+/// The verdict of the first line of the table that holds. A function of its own, for the prover: it alone looks into the
+/// definition of the table.
 #[tactic(auto, unfolding(crate::specs::Verdict::verdict))]
 fn verdict_of(message: &Message) -> Verdict
     ensures verdict { result ≡ verdict message.now }
