@@ -2,10 +2,9 @@
 use Rattle.std.specs.Option.{option_or}
 use Rattle.std.specs.Prelude.{◌≡◌, ℕ, ℤ, pos, negsuc, int_lt, ◌||◌, List, [], ◌∷◌, ◌++◌, length, map, Bool, Option, None, Some, option_map, option_and_then, Result, Ok, Err, if◌then◌else◌, codes}
 use Rattle.std.specs.List.{list_any}
-use Rattle.std.specs.Str.{IsUtf8}
 use Rattle.serde_json.specs.Data.{Data, Items, no_items, item}
 use Rattle.serde_json.specs.Find.{get, as_array, as_number, as_i64}
-use Rattle.serde_json.specs.Read.{read}
+use Rattle.iso_table.specs.Document.{StandsFor}
 use Rattle.iso_table.specs.Members.{has_size, text_at}
 use Rattle.iso_order.specs.Pan.{AccountNumber, pan_of}
 use Rattle.iso_order.specs.Order.{same_pan, currency_of}
@@ -83,8 +82,8 @@ as_listed a = record { pan = a.pan; currency = a.currency; opening = a.opening }
 
 -- the text is JSON of these accounts, in their order
 abbrev pub ListsAccounts : List ℕ → List Account → Type 0
-ListsAccounts text accounts = (d : Data) × IsUtf8 text × (read text ≡ Some d) × (accounts_in d ≡ Ok (map as_listed accounts))
+ListsAccounts text accounts = (d : Data) × StandsFor text d × (accounts_in d ≡ Ok (map as_listed accounts))
 
 -- the text is JSON, and this is the first thing wrong with it
 abbrev pub HasFault : List ℕ → AccountsFault → Type 0
-HasFault text e = (d : Data) × IsUtf8 text × (read text ≡ Some d) × (accounts_in d ≡ Err e)
+HasFault text e = (d : Data) × StandsFor text d × (accounts_in d ≡ Err e)
