@@ -1,4 +1,4 @@
--- The index that the issuer answers from: places, marks and sums, and how they stand for the journal.
+-- The index that the issuer answers from: places, what reversals leave, completions and sums, and how they stand for the journal.
 -- Inner: bodies and proofs cite it, and no public clause does.
 use Rattle.std.specs.Prelude.{◌≡◌, ◌≤◌, ℕ, ℤ, ◌+◌, ◌*◌, Bool, ◌&&◌, ◌==◌, if◌then◌else◌, List, [], ◌∷◌, length, sum_by, Option, None, Some, All, map}
 use Rattle.std.specs.List.{position_from}

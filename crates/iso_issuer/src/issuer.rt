@@ -140,15 +140,15 @@ impl Issuer {
         Ok(answers)
     }
 
-    /// What is on an account, where there is such an account. Takes no memory.
+    /// What is on an account, in minor units, where there is such an account. Takes no memory.
     pub fn ledger(&self, pan: Pan) -> Option<i64>
         ensures { result ≡ option_map (ledger (journal self.now)) (account_of self.now.accounts pan) }
     {
         Some(self.balances.get(pan)?.ledger)
     }
 
-    /// What may still be taken from an account, where there is such an account: what is on it, less
-    /// what is held. Takes no memory.
+    /// What may still be taken from an account, in minor units, where there is such an account: what is
+    /// on it, less what is held. Takes no memory.
     pub fn available(&self, pan: Pan) -> Option<i64>
         ensures { result ≡ option_map (available (journal self.now)) (account_of self.now.accounts pan) }
     {

@@ -1,3 +1,4 @@
+-- What compares alike is one: keys, account numbers, money, acts and orders.
 use Rattle.std.proofs.Common.{◌≡◌, ℕ, Bool, true, false, refl, arith, ap, sym, ◌∙◌, subst, List, [], ◌∷◌}
 use Rattle.std.specs.Prelude.{IsTrue, ◌↔◌, ◌&&◌, ◌==◌}
 use Rattle.std.specs.Str.{bytes_eq}

@@ -9,7 +9,7 @@ pub struct Answer {
     pub code: u8,
     /// The place of the order in the journal, 0 where it has none: at most 999,999.
     pub seq: u32,
-    /// The balance that an inquiry shows.
+    /// The balance that an inquiry shows, in minor units.
     pub shown: Option<i64>,
 }
 
