@@ -183,8 +183,7 @@ module _ (key : TxKey) (act : Act) (valid : is_valid_key key ≡ true) where
 
     named-hold : (class_digit k == 1) ≡ true → is_hold (original_mti m) ≡ true
     named-hold one =
-        ap is_hold named-mti
-        ∙ and_from _ _ (and_from _ _ (and_from _ _ (eq-eqb (k.base / 1000) 0 named-facts.version) one) named-facts.asking) (le-leb (k.base % 10) 5 named-facts.origin)
+        and_from _ _ (named-original (ap (λ b. b || (class_digit k == 2)) one)) (ap (λ n. n / 100 % 10 == 1) named-mti ∙ one)
 
     is_naming : class_digit key ≡ 2 → function_digit key ≡ 2 → is_completion m ≡ true
     is_naming two advice =

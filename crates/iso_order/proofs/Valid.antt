@@ -78,10 +78,9 @@ both_true p q h k = rw h k
 
 hold_parts : (mti : ℕ) → is_hold mti ≡ true → (mti / 1000 ≡ 0) × ((mti / 100 % 10 == 1) ≡ true) × (is_answered (mti / 10 % 10) ≡ true) × (mti % 10 ≤ 5)
 hold_parts mti h =
-    let origin = and_parts (mti / 1000 == 0 && mti / 100 % 10 == 1 && is_answered (mti / 10 % 10)) (nat_le (mti % 10) 5) h in
-    let function = and_parts (mti / 1000 == 0 && mti / 100 % 10 == 1) (is_answered (mti / 10 % 10)) origin.0 in
-    let class = and_parts (mti / 1000 == 0) (mti / 100 % 10 == 1) function.0 in
-    (eqb-true (mti / 1000) 0 class.0, class.1, function.1, leb-true (mti % 10) 5 origin.1)
+    let hold = and_parts (is_original mti) (mti / 100 % 10 == 1) h in
+    let parts = original_parts mti hold.0 in
+    (parts.0, hold.1, parts.2, parts.3)
 
 -- a key that a message names under its own acquirer
 module _ (key named : TxKey) (mti : ℕ) (valid : is_valid_key key ≡ true) (base : named.base ≡ base_of mti) (acquirer : named.acquirer ≡ key.acquirer) (stan : named.stan ≤ 999999) (sent : named.sent ≤ 9999999999) where

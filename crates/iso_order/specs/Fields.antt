@@ -82,7 +82,7 @@ is_completion m = class m == 2 && function m == 2 && has m.elements 90
 
 -- a request or an advice of class 1, or a repeat of one
 abbrev pub is_hold : ℕ → Bool
-is_hold mti = mti / 1000 == 0 && mti / 100 % 10 == 1 && is_answered (mti / 10 % 10) && nat_le (mti % 10) 5
+is_hold mti = is_original mti && mti / 100 % 10 == 1
 
 -- the key of that hold, where one is named
 abbrev pub hold_of : Contents → Option TxKey

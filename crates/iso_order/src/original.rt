@@ -65,7 +65,7 @@ pub(crate) fn is_original(mti: u16) -> bool
 fn is_hold(mti: u16) -> bool
     ensures { result ≡ is_hold mti }
 {
-    mti / 1000 == 0 && mti / 100 % 10 == 1 && matches!(mti / 10 % 10, 0 | 2) && mti % 10 <= 5
+    is_original(mti) && mti / 100 % 10 == 1
 }
 
 /// Whether it is an advice of class 2 that names another transaction.
