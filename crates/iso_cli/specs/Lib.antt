@@ -2,7 +2,6 @@ pub mod CommandLine
 pub mod Connections
 pub mod Convert
 pub mod Echo
-pub mod FaultNumbers
 pub mod Listening
 pub mod NoJob
 pub mod OneConnection

@@ -1,7 +1,6 @@
 //! Where the command reads its files.
 ghost use Rattle.std.specs.Prelude.{◌≡◌, List, ℕ, IfOk, IfSome, None};
 ghost use Rattle.std.specs.declared.option.Option.{Option};
-ghost use Rattle.iso_cli.specs.FaultNumbers.{source_fault_number};
 ghost use Rattle.iso_cli.specs.Source.{read_of};
 
 use std::alloc::Global;
@@ -15,18 +14,6 @@ pub enum SourceFault {
     File,
     /// There is no memory for its bytes.
     Memory,
-}
-
-impl SourceFault {
-    /// The fault's number, as logs and monitors show it: 1 `File`, 2 `Memory`.
-    pub fn number(&self) -> u8
-        ensures { result ≡ source_fault_number self.now }
-    {
-        match self {
-            SourceFault::File => 1,
-            SourceFault::Memory => 2,
-        }
-    }
 }
 
 /// The most bytes that the command takes of one input or file.
