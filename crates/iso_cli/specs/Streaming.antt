@@ -1,5 +1,5 @@
 -- What reading a whole input leaves.
--- Inner: bodies and proofs cite it, and no public clause does.
+-- Public: `read_all` promises it.
 use Rattle.std.specs.Prelude.{◌≡◌, ℕ, ◌+◌, ◌<◌, ◌≤◌, Result, Ok, Err, vec_len, Vec}
 use Rattle.iso_host.specs.Counts.{Counts}
 use Rattle.iso_cli.specs.declared.streaming.InputFault.{InputFault}
