@@ -1,5 +1,5 @@
 mod CommandLemmas
 mod SourceLemmas
-mod InputLemmas
+mod StreamingLemmas
 mod RunLemmas
 mod ConnectionLemmas

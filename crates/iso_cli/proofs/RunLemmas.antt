@@ -14,7 +14,7 @@ use Rattle.iso_issuer.specs.Document.{ListsAccounts}
 use Rattle.iso_host.specs.Serving.{Served}
 use Rattle.iso_cli.specs.Run.{Runs, RunsOver, fresh_books}
 use Rattle.iso_cli.specs.Tables.{IsNamed}
-use Rattle.iso_cli.proofs.InputLemmas.{consumed_all, known_all}
+use Rattle.iso_cli.proofs.StreamingLemmas.{consumed_all, known_all}
 
 -- frames to the end of the input are the input, and what was written for them is the output
 pub runs_over : (file : List ℕ → Option (List ℕ)) (table accounts : List ℕ) (t : Layout) (listed : List Account) (h : Header)

@@ -3,7 +3,7 @@ use Rattle.std.specs.Io.KnownBytes.{Appends}
 use Rattle.iso_table.specs.Layout.{Layout}
 use Rattle.iso_cli.specs.Tables.{IsNamed}
 use Rattle.iso_wire.specs.Spelling.{Converts}
-use Rattle.iso_cli.proofs.InputLemmas.{known_all, where_ok}
+use Rattle.iso_cli.proofs.StreamingLemmas.{known_all, where_ok}
 use Rattle.iso_cli.proofs.convert.convert.Goals as goal
 
 pub returns : goal.returns

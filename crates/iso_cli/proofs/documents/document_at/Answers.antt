@@ -1,5 +1,5 @@
 use Rattle.std.proofs.Common.{◌≡◌, refl, arith}
-use Rattle.iso_cli.proofs.InputLemmas.{known_file}
+use Rattle.iso_cli.proofs.StreamingLemmas.{known_file}
 use Rattle.iso_cli.proofs.documents.document_at.Goals as goal
 
 pub returns : goal.returns

@@ -4,7 +4,7 @@ use Rattle.iso_parts.specs.declared.digits.Digits.TheVariants.{Ascii}
 use Rattle.iso_table.specs.Layout.{Layout}
 use Rattle.iso_table.specs.Edition87.{IsEdition87}
 use Rattle.iso_cli.specs.Echo.{Echoes}
-use Rattle.iso_cli.proofs.InputLemmas.{known_all, where_ok}
+use Rattle.iso_cli.proofs.StreamingLemmas.{known_all, where_ok}
 use Rattle.iso_cli.proofs.echo.echo.Goals as goal
 
 pub returns : goal.returns

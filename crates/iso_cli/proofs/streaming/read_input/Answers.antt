@@ -1,4 +1,4 @@
-use Rattle.iso_cli.proofs.InputLemmas.{consumed_all}
+use Rattle.iso_cli.proofs.StreamingLemmas.{consumed_all}
 use Rattle.iso_cli.proofs.streaming.read_input.Goals as goal
 
 pub returns-in-Ok : goal.returns-in-Ok

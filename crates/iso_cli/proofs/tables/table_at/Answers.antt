@@ -1,6 +1,6 @@
 use Rattle.std.proofs.Common.{List, ℕ, subst}
 use Rattle.iso_table.specs.Document.{IsTableOf}
-use Rattle.iso_cli.proofs.InputLemmas.{known_all}
+use Rattle.iso_cli.proofs.StreamingLemmas.{known_all}
 use Rattle.iso_cli.proofs.tables.table_at.Goals as goal
 
 pub returns : goal.returns

@@ -1,0 +1,27 @@
+-- Bytes that are known, and were read whole.
+use Rattle.std.proofs.Common.{◌≡◌, ℕ, ◌≤◌, List, ◌++◌, length, Option, Some, None, IfSome, OnOk, Result, Ok, Err, sym, ap, subst, ◌∙◌}
+use Rattle.std.proofs.lemmas.List.{append-nil}
+use Rattle.std.specs.Io.KnownBytes.{Consumes, IsAtEnd}
+use Rattle.iso_cli.specs.Source.{read_of}
+use Rattle.iso_cli.proofs.SourceLemmas.{read_of-short}
+
+-- what was consumed to the end is all that there was
+pub consumed_all : (old new : Option (List ℕ)) (bytes : List ℕ) → Consumes old new bytes → IsAtEnd new → IfSome old (λ all. all ≡ bytes)
+consumed_all None new bytes c end = tt
+consumed_all (Some all) None bytes c end = absurd c
+consumed_all (Some all) (Some rest) bytes c end = c ∙ ap (λ (l : List ℕ). bytes ++ l) end ∙ append-nil bytes
+
+-- what holds of the bytes that were read holds of the known ones
+pub known_all : (known : Option (List ℕ)) (bytes : List ℕ) (P : List ℕ → Type 0) → IfSome known (λ all. all ≡ bytes) → P bytes → IfSome known P
+known_all None bytes P same p = tt
+known_all (Some all) bytes P same p = subst P (sym same) p
+
+-- the same of a file that isn't too long
+pub known_file : (known : Option (List ℕ)) (bytes : List ℕ) (P : List ℕ → Type 0) → IfSome known (λ held. bytes ≡ read_of held) → length bytes ≤ 1048576 → P bytes → IfSome known P
+known_file None bytes P same short p = tt
+known_file (Some held) bytes P same short p = subst P (same ∙ read_of-short held (subst (λ (l : List ℕ). length l ≤ 1048576) same short)) p
+
+-- what follows where a step went well
+pub where_ok : {E : Type 0} (r : Result Unit E) (P Q : Type 0) → (P → Q) → OnOk r P → OnOk r Q
+where_ok (Ok u) P Q f p = f p
+where_ok (Err e) P Q f p = tt
