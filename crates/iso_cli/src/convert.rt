@@ -14,7 +14,12 @@ use iso_wire::{pack, unpack};
 use std::alloc::Global;
 
 /// The plain bytes, under the second table, of the message that the bytes spell under the first.
-fn conversion(alloc: Global, from: &Table, to: &Table, bytes: &[u8]) -> Result<Vec<u8>, Stop>
+fn converted_bytes(
+    alloc: Global,
+    from: &Table,
+    to: &Table,
+    bytes: &[u8],
+) -> Result<Vec<u8>, Stop>
     ensures { IfOk result (λ packed. Converts from.now to.now bytes.now packed.items) }
 {
     let (message, used) = unpack(alloc, from, bytes)?;
@@ -38,6 +43,6 @@ pub fn convert<S: Source, I: Inlet, O: Outlet>(
     let from = table_named(alloc, source, from)?;
     let to = table_named(alloc, source, to)?;
     let bytes = read_input(alloc, input)?;
-    let packed = conversion(alloc, &from, &to, &bytes)?;
+    let packed = converted_bytes(alloc, &from, &to, &bytes)?;
     write_output(output, &packed)
 }

@@ -4,12 +4,12 @@ ghost use Rattle.std.specs.Prelude.{IfOk};
 ghost use Rattle.iso_cli.specs.Echo.{AreLines};
 
 use iso_table::Table;
-use iso_wire::{Message, describe_clear};
+use iso_wire::{Message, describe, describe_clear};
 use std::alloc::{AllocError, Global};
 
 /// The lines of a message that took `used` of `total` bytes. Unless `clear`, what a bystander shouldn't read is
 /// hidden by stars.
-pub fn describe(
+pub fn shown_lines(
     alloc: Global,
     table: &Table,
     message: &Message,
@@ -22,7 +22,7 @@ pub fn describe(
     let mut out = if clear {
         describe_clear(alloc, table, message)?
     } else {
-        iso_wire::describe(alloc, table, message)?
+        describe(alloc, table, message)?
     };
     let line = format!(in alloc; "USED={used}/{total}")?;
     out.extend_from_slice(line.as_bytes())?;

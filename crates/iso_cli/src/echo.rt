@@ -3,7 +3,7 @@
 ghost use Rattle.std.specs.Prelude.{◌≡◌, ◌++◌, IfOk, OnOk};
 ghost use Rattle.iso_cli.specs.Echo.{Answers, Echoes, EchoesOver, answer_line};
 
-use crate::describe::describe;
+use crate::describe::shown_lines;
 use crate::stop::Stop;
 use crate::streaming::{read_input, write_output};
 use iso_host::{Inlet, Outlet};
@@ -37,7 +37,7 @@ fn echo_text(alloc: Global, table: &Table, bytes: &[u8]) -> Result<Vec<u8>, Stop
     ensures { IfOk result (λ text. Echoes table.now bytes.now text.items) }
 {
     let (message, used) = unpack(alloc, table, bytes)?;
-    let mut text = describe(alloc, table, &message, used, bytes.len(), false)?;
+    let mut text = shown_lines(alloc, table, &message, used, bytes.len(), false)?;
     let answer = answer_bytes(alloc, table, &message)?;
     push_answer(&answer, &mut text)?;
     Ok(text)

@@ -1,6 +1,6 @@
 //! The lines of a message.
 
-use crate::describe::describe;
+use crate::describe::shown_lines;
 use crate::source::Source;
 use crate::stop::Stop;
 use crate::streaming::{read_input, write_output};
@@ -21,6 +21,6 @@ pub fn show<S: Source, I: Inlet, O: Outlet>(
     let table = table_named(alloc, source, table)?;
     let bytes = read_input(alloc, input)?;
     let (message, used) = unpack(alloc, &table, &bytes)?;
-    let lines = describe(alloc, &table, &message, used, bytes.len(), clear)?;
+    let lines = shown_lines(alloc, &table, &message, used, bytes.len(), clear)?;
     write_output(output, &lines)
 }

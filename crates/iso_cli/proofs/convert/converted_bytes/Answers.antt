@@ -1,7 +1,7 @@
 use Rattle.std.proofs.Common.{List, ℕ, subst}
 use Rattle.std.proofs.lemmas.List.{take_all}
 use Rattle.iso_wire.specs.Spelling.{Spelling}
-use Rattle.iso_cli.proofs.convert.conversion.Goals as goal
+use Rattle.iso_cli.proofs.convert.converted_bytes.Goals as goal
 
 pub returns : goal.returns
 returns c =
