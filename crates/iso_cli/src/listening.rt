@@ -4,9 +4,10 @@
 ghost use Rattle.std.specs.Prelude.{IfOk, IfSome, map};
 ghost use Rattle.iso_cli.specs.Listening.{AsksServe, IsWholeNumber, Listens};
 
-use crate::words::{WordsFault, bare_command, header_of_word, is_name, iso_alone, name_argument};
+use crate::words::{
+    WordsFault, bare_command, header_of_word, is_name, iso_alone, judge_by, name_argument,
+};
 use clap::Command;
-use clap::error::ErrorKind;
 use iso_wire::Header;
 use std::alloc::{AllocError, Global};
 
@@ -34,19 +35,17 @@ fn serve_command<'a>(alloc: Global) -> Result<Command<'a>, AllocError> {
         .arg(name_argument(alloc, "count"))
 }
 
+/// The command with this subcommand alone.
+fn command<'a>(alloc: Global) -> Result<Command<'a>, AllocError> {
+    iso_alone(alloc).subcommand(serve_command(alloc)?)
+}
+
 /// Whether `clap` lets the words pass.
 fn judge<'a>(alloc: Global, words: &'a [&'a str]) -> Result<(), WordsFault> {
-    let Ok(command) = serve_command(alloc) else {
+    let Ok(command) = command(alloc) else {
         return Err(WordsFault::Memory);
     };
-    let Ok(command) = iso_alone(alloc).subcommand(command) else {
-        return Err(WordsFault::Memory);
-    };
-    match command.try_get_matches_from(words) {
-        Ok(_found) => Ok(()),
-        Err(error) if error.kind() == ErrorKind::OutOfMemory => Err(WordsFault::Memory),
-        Err(_error) => Err(WordsFault::Refused),
-    }
+    judge_by(command, words)
 }
 
 /// The number that a word is, if it is 1 to `most`: decimal digits, with a plus in front or none.

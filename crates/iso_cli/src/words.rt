@@ -2,7 +2,7 @@
 //!
 //! `clap` judges the words, and what it lets pass is matched word by word, so that contracts can speak of the words.
 ghost use Rattle.std.specs.Prelude.{◌≡◌, IfOk, IfSome, IfNone, IfErr, IsErrOf, map, true};
-ghost use Rattle.clap.specs.Words.{takes};
+ghost use Rattle.clap.specs.Words.{app_of, takes};
 ghost use Rattle.iso_cli.specs.Words.{Asks, AsksNothing, header_name, is_name};
 ghost use Rattle.iso_cli.specs.NoJob.{AsksNoCodec, AsksNoRun};
 ghost use Rattle.iso_cli.specs.CommandLine.{FollowsRule, IsCommand, bare_app, check_app, clear_rule, codec_app, convert_app, iso_alone};
@@ -57,6 +57,7 @@ pub enum WordsFault {
     Memory,
 }
 
+/// The argument of this name, which has to be given.
 pub fn name_argument<'a>(alloc: Global, id: &'a str) -> Arg<'a>
     ensures { FollowsRule (name_rule id.now) result }
 {
@@ -140,18 +141,27 @@ fn command<'a>(alloc: Global) -> Result<Command<'a>, AllocError>
     codec_command(alloc)?.subcommand(run_command(alloc)?)
 }
 
-/// Whether `clap` lets the words pass.
-fn judge<'a>(alloc: Global, words: &'a [&'a str]) -> Result<(), WordsFault>
-    ensures passes { IfErr result (λ fault. takes iso_app (map (λ w. w.now) words.now) ≡ true → fault ≡ WordsFault.Memory) }
+/// Whether `clap` lets the words of this command pass.
+pub fn judge_by<'a>(command: Command<'a>, words: &'a [&'a str]) -> Result<(), WordsFault>
+    ensures passes { IfErr result (λ fault. takes (app_of command) (map (λ w. w.now) words.now) ≡ true
+        → fault ≡ WordsFault.Memory) }
 {
-    let Ok(command) = command(alloc) else {
-        return Err(WordsFault::Memory);
-    };
     match command.try_get_matches_from(words) {
         Ok(_found) => Ok(()),
         Err(error) if error.kind() == ErrorKind::OutOfMemory => Err(WordsFault::Memory),
         Err(_error) => Err(WordsFault::Refused),
     }
+}
+
+/// Whether `clap` lets the words pass.
+fn judge<'a>(alloc: Global, words: &'a [&'a str]) -> Result<(), WordsFault>
+    ensures passes { IfErr result (λ fault. takes iso_app (map (λ w. w.now) words.now) ≡ true
+        → fault ≡ WordsFault.Memory) }
+{
+    let Ok(command) = command(alloc) else {
+        return Err(WordsFault::Memory);
+    };
+    judge_by(command, words)
 }
 
 /// Whether a word is taken for a name, and not for an option: it doesn't start with a dash.
