@@ -51,6 +51,7 @@ fn serve_next(
     requires { IsHostReady table.now }
     ensures { IsConnection table.now issuer.old issuer.new result }
 {
+    // the proof learns here that no bodies leave the books as they are: none came where `accept` fails
     one_journal(issuer);
     match listener.accept() {
         Ok((peer, _)) => serve_peer(alloc, peer, table, header, issuer),
@@ -96,6 +97,7 @@ pub fn serve_connections<O: Outlet, F: Outlet>(
     ensures served { Serves table.now issuer.old issuer.new count (O.contents output.old) (O.contents output.new)
         (F.contents faults.old) (F.contents faults.new) result }
 {
+    // the proof learns here that bodies behind those of another connection are handled as all of them on one stream
     one_journal(issuer);
     for _ in 0..count {
         let ended = serve_next(alloc, listener, table, header, issuer);

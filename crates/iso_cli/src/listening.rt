@@ -86,10 +86,7 @@ fn listening_of<'a>(words: &'a [&'a str]) -> Option<Listening<'a>>
 {
     match words {
         ["serve", table, accounts, header, port, count] => {
-            match listening_by(table, accounts, header, port, count) {
-                Some(listening) => Some(listening),
-                None => None,
-            }
+            listening_by(table, accounts, header, port, count)
         }
         _ => None,
     }

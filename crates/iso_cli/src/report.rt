@@ -18,12 +18,9 @@ fn report_line(alloc: Global, report: Report) -> Result<String, AllocError>
         silent,
         unreadable,
     } = report;
-    match format!(in alloc;
+    format!(in alloc;
         "frames={frames} answered={answered} silent={silent} unreadable={unreadable}\n"
-    ) {
-        Ok(line) => Ok(line),
-        Err(fault) => Err(fault),
-    }
+    )
 }
 
 /// Writes the line, and gives the status: 0, or 3 where there is no memory for it or the fault stream fails.
