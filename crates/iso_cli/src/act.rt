@@ -25,7 +25,8 @@ fn perform<S: Source, I: Inlet, O: Outlet>(
     input: &mut I,
     output: &mut O,
 ) -> Result<Option<Report>, Stop>
-    ensures echo { words.now ≡ [] → OnOk result (EchoesOver (I.remaining input.old) (O.contents output.old) (O.contents output.new)) }
+    ensures echo { words.now ≡ []
+        → OnOk result (EchoesOver (I.remaining input.old) (O.contents output.old) (O.contents output.new)) }
     ensures convert { OnOk result (ConvertsAsked (map (λ w. w.now) words.now) (S.file source.now)
         (I.remaining input.old) (O.contents output.old) (O.contents output.new)) }
     ensures run { OnOk result (RunsAsked (map (λ w. w.now) words.now) (S.file source.now)
@@ -56,7 +57,8 @@ pub fn act<S: Source, I: Inlet, O: Outlet, F: Outlet>(
     faults: &mut F,
 ) -> u8
     // Without words: the last line is the response that the message decides, or `none`.
-    ensures echo { words.now ≡ [] → result ≡ 0 → EchoesOver (I.remaining input.old) (O.contents output.old) (O.contents output.new) }
+    ensures echo { words.now ≡ [] → result ≡ 0
+        → EchoesOver (I.remaining input.old) (O.contents output.old) (O.contents output.new) }
     // `convert`: the plain spelling under the second table of what the input spells under the first.
     ensures convert { result ≡ 0 → ConvertsAsked (map (λ w. w.now) words.now) (S.file source.now)
         (I.remaining input.old) (O.contents output.old) (O.contents output.new) }

@@ -67,7 +67,8 @@ fn tell_end<O: Outlet, F: Outlet>(
     output: &mut O,
     faults: &mut F,
 ) -> u8
-    ensures told { TellsEnd (O.contents output.old) (O.contents output.new) (F.contents faults.old) (F.contents faults.new) ended result }
+    ensures told { TellsEnd (O.contents output.old) (O.contents output.new)
+        (F.contents faults.old) (F.contents faults.new) ended result }
 {
     match ended {
         Ok(report) => write_report(alloc, report, output, faults),

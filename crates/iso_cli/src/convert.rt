@@ -38,7 +38,8 @@ pub fn convert<S: Source, I: Inlet, O: Outlet>(
     input: &mut I,
     output: &mut O,
 ) -> Result<(), Stop>
-    ensures { OnOk result (ConvertsOver (S.file source.now) from.now to.now (I.remaining input.old) (O.contents output.old) (O.contents output.new)) }
+    ensures { OnOk result (ConvertsOver (S.file source.now) from.now to.now
+        (I.remaining input.old) (O.contents output.old) (O.contents output.new)) }
 {
     let from = table_named(alloc, source, from)?;
     let to = table_named(alloc, source, to)?;

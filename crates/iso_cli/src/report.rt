@@ -41,7 +41,8 @@ pub fn write_report<O: Outlet, F: Outlet>(
     output: &mut O,
     faults: &mut F,
 ) -> u8
-    ensures { TellsEnd (O.contents output.old) (O.contents output.new) (F.contents faults.old) (F.contents faults.new) (Ok report) result }
+    ensures { TellsEnd (O.contents output.old) (O.contents output.new)
+        (F.contents faults.old) (F.contents faults.new) (Ok report) result }
 {
     let Ok(line) = report_line(alloc, report) else {
         return tell(alloc, faults, Stop::Memory);

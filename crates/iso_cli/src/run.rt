@@ -50,7 +50,8 @@ pub fn run<S: Source, I: Inlet, O: Outlet>(
     input: &mut I,
     output: &mut O,
 ) -> Result<Report, Stop>
-    ensures { OnOk result (RunsOver (S.file source.now) table.now accounts.now header (I.remaining input.old) (O.contents output.old) (O.contents output.new)) }
+    ensures { OnOk result (RunsOver (S.file source.now) table.now accounts.now header
+        (I.remaining input.old) (O.contents output.old) (O.contents output.new)) }
 {
     let table = host_table(alloc, source, table)?;
     let accounts = accounts_at(alloc, source, accounts)?;

@@ -192,7 +192,8 @@ impl From<PackFault> for Stop {
 /// status is 3.
 pub fn tell_line<F: Outlet>(faults: &mut F, line: &str, status: u8) -> u8
     requires { status ≤ 3 }
-    ensures told { TellsLine (F.contents faults.old) (F.contents faults.new) (F.counts faults.old) (F.counts faults.new) line.now status result }
+    ensures told { TellsLine (F.contents faults.old) (F.contents faults.new)
+        (F.counts faults.old) (F.counts faults.new) line.now status result }
     ensures range { (status ≤ result) × (result ≤ 3) }
 {
     match write_all(faults, line.as_bytes()) {
@@ -205,7 +206,8 @@ pub fn tell_line<F: Outlet>(faults: &mut F, line: &str, status: u8) -> u8
 /// status is 3.
 pub fn tell_as<F: Outlet>(alloc: Global, faults: &mut F, stop: Stop, status: u8) -> u8
     requires { status ≤ 3 }
-    ensures told { TellsAs (F.contents faults.old) (F.contents faults.new) (F.counts faults.old) (F.counts faults.new) stop status result }
+    ensures told { TellsAs (F.contents faults.old) (F.contents faults.new)
+        (F.counts faults.old) (F.counts faults.new) stop status result }
     ensures range { (status ≤ result) × (result ≤ 3) }
 {
     if let Some(line) = stop.line() {
@@ -220,7 +222,8 @@ pub fn tell_as<F: Outlet>(alloc: Global, faults: &mut F, stop: Stop, status: u8)
 /// Writes the fault line, and gives the stop's own status. Where the fault stream itself fails nothing more is written,
 /// and the status is 3.
 pub fn tell<F: Outlet>(alloc: Global, faults: &mut F, stop: Stop) -> u8
-    ensures told { Tells (F.contents faults.old) (F.contents faults.new) (F.counts faults.old) (F.counts faults.new) stop result }
+    ensures told { Tells (F.contents faults.old) (F.contents faults.new)
+        (F.counts faults.old) (F.counts faults.new) stop result }
     ensures range { (1 ≤ result) × (result ≤ 3) }
 {
     tell_as(alloc, faults, stop, stop.status())
