@@ -139,6 +139,7 @@ fn runs(alloc: Global) -> Ended {
     }
 }
 
+/// These calls by name, and how each ended.
 pub fn rows(alloc: Global) -> [(&'static str, Ended); 4] {
     [
         ("Accounts::from_json", reads_json(alloc)),

@@ -136,6 +136,7 @@ fn appends_a_bitmap(alloc: Global) -> Ended {
     Ended::of(was_refused, is_right)
 }
 
+/// These calls by name, and how each ended.
 pub fn rows(alloc: Global) -> [(&'static str, Ended); 10] {
     let digits = b"378282246310005";
     let account = b"\x15\x03\x78\x28\x22\x46\x31\x00\x05";

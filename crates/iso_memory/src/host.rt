@@ -83,6 +83,7 @@ fn serves(alloc: Global) -> Ended {
     }
 }
 
+/// These calls by name, and how each ended.
 pub fn rows(alloc: Global) -> [(&'static str, Ended); 1] {
     [("serve", serves(alloc))]
 }

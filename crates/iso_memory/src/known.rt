@@ -8,10 +8,11 @@ use iso_parts::Mti;
 use iso_wire::Message;
 use std::alloc::Global;
 
-/// A purchase of 10.00, and the response that grants it first.
+/// A purchase of 10.00.
 pub const PURCHASE: &[u8] =
     b"0200722000010000800016411111111111111100000000000000100001020304050000070512345840";
 
+/// The response that grants it as the first order of the journal.
 pub const GRANTED: &[u8] =
     b"021072200001060080001641111111111111110000000000000010000102030405000007051234500000100840";
 
@@ -19,9 +20,10 @@ pub const GRANTED: &[u8] =
 pub const ACCOUNTS: &[u8] =
     b"{\"accounts\":[{\"currency\":\"840\",\"opening\":5000,\"pan\":\"4111111111111111\"}]}";
 
-/// The date and time of all orders, and the number of their acquirer.
+/// The date and time of all orders.
 pub const SENT: u64 = 102_030_405;
 
+/// The number of the acquirer of all orders.
 pub const ACQUIRER: u64 = 12_345;
 
 /// A message of that type with the elements.
@@ -66,6 +68,7 @@ pub fn issuer(alloc: Global) -> Option<Issuer>
     }
 }
 
+/// The number of the account of the purchase.
 pub fn account() -> Option<Pan> {
     Pan::from_digits(b"4111111111111111")
 }
@@ -76,6 +79,7 @@ pub fn balances(issuer: &Issuer) -> Option<(i64, i64)> {
     Some((issuer.ledger(pan)?, issuer.available(pan)?))
 }
 
+/// The key of an order of that type, under that trace number.
 pub const fn key(base: u16, stan: u32) -> TxKey {
     TxKey {
         base,
@@ -85,6 +89,7 @@ pub const fn key(base: u16, stan: u32) -> TxKey {
     }
 }
 
+/// An amount on the account.
 pub fn money(amount: u64) -> Option<Money> {
     Some(Money {
         pan: account()?,

@@ -2,7 +2,7 @@
 //! `Unready` where one was refused before it, or `Wrong`.
 //!
 //! A call answers what it is known to answer. Where a growth was refused it answers its want of memory, all that it was lent
-//! is as before, and the same call, made again, gives that answer. The calls that take no memory are made too.
+//! is as before, and the same call, made again, gives that answer. Some of the calls that take no memory are made too.
 //!
 //! The word behind the program's name is a number of allocations to make and drop first. A run in which the system refuses
 //! one allocation, always at the same count, so refuses it to each growth in turn, as that number goes down

@@ -304,6 +304,7 @@ fn opens_a_frame(alloc: Global) -> Ended {
     Ended::of(was_refused, is_right)
 }
 
+/// These calls by name, and how each ended.
 pub fn rows(alloc: Global) -> [(&'static str, Ended); 17] {
     let long = [b'7'; 300];
     [

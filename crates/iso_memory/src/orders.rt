@@ -63,6 +63,7 @@ fn requests(alloc: Global) -> Ended {
     Ended::of(was_refused, is_right)
 }
 
+/// These calls by name, and how each ended.
 pub fn rows(alloc: Global) -> [(&'static str, Ended); 3] {
     [
         ("respond", responds(alloc)),

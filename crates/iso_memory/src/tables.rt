@@ -102,6 +102,7 @@ fn bcd(alloc: Global) -> Ended {
     Ended::of(was_refused, is_edition(&told, Coding::Bcd))
 }
 
+/// These calls by name, and how each ended.
 pub fn rows(alloc: Global) -> [(&'static str, Ended); 5] {
     [
         ("Table::check", checks(alloc)),

@@ -1,4 +1,4 @@
-//! The calls that take no memory, some of them since what they write over has the room: none of them is ever refused.
+//! Calls that take no memory, some of them since what they write over has the room: none of them is ever refused.
 
 use crate::ended::Ended;
 use crate::known::{
@@ -192,6 +192,7 @@ fn acquirers(alloc: Global) -> Ended {
     Ended::of(false, again && reverses && stays && (sent, given) == (0, 0))
 }
 
+/// These calls by name, and how each ended.
 pub fn rows(alloc: Global) -> [(&'static str, Ended); 9] {
     [
         ("without memory: bitmaps", Ended::of(false, bitmaps())),

@@ -126,6 +126,7 @@ fn runs(alloc: Global) -> Ended {
     )
 }
 
+/// These calls by name, and how each ended.
 pub fn rows(alloc: Global) -> [(&'static str, Ended); 3] {
     [
         ("Acquirer::begin", begins(alloc)),
