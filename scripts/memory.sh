@@ -116,8 +116,7 @@ runs_of() {
 # the command with a main that makes the allocations first, in a copy of the repository
 burning_command() {
     mkdir -p "$folder/top/crates"
-    cp "$top/crates.txt" "$folder/top"
-    [ ! -f "$top/HANDLES" ] || cp "$top/HANDLES" "$folder/top"
+    cp "$top/crates.txt" "$top/HANDLES" "$folder/top"
     for crate in "$top"/crates/*; do
         mkdir "$folder/top/crates/${crate##*/}"
         for part in src specs; do
@@ -125,20 +124,14 @@ burning_command() {
         done
     done
     cp "$top/scripts/memory/burning.txt" "$folder/top/crates/iso_cli/src/burning.rt"
-    main=$folder/top/crates/iso_cli/src/main.rt
-    serving=''
-    if [ -f "$top/crates/iso_cli/src/prepare.rt" ]; then
-        cp "$top/scripts/memory/serving.txt" "$folder/top/crates/iso_cli/src/serving.rt"
-        serving='s/let status/if serving::is_asked(\&rt) {\
+    cp "$top/scripts/memory/serving.txt" "$folder/top/crates/iso_cli/src/serving.rt"
+    sed -z -i 's/rt\.alloc(),\([[:space:]]*\)&rt,/rt.alloc(),\1\&burning::Behind { given: \&rt },/
+        s/let disk/burning::burn(rt.alloc(), \&rt);\n    let disk/
+        s/let status/if serving::is_asked(\&rt) {\
             return ExitCode::from(serving::serve_peers(\&rt, \&disk, \&mut output, \&mut faults));\
         }\
         let status/
-        s/mod act;/mod act;\nmod serving;/'
-    fi
-    sed -z -i 's/rt\.alloc(),\([[:space:]]*\)&rt,/rt.alloc(),\1\&burning::Behind { given: \&rt },/
-        s/let disk/burning::burn(rt.alloc(), \&rt);\n    let disk/
-        s/mod act;/mod act;\nmod burning;/
-        '"$serving" "$main"
+        s/mod act;/mod act;\nmod burning;\nmod serving;/' "$folder/top/crates/iso_cli/src/main.rt"
 }
 
 commands() {
@@ -148,11 +141,9 @@ commands() {
     runs_of 80 convert "$examples/echo.txt" "$examples/expected/convert" convert ascii87 bcd87
     runs_of 80 check /dev/null "$examples/expected/check" check terminals.json
     runs_of 160 day "$examples/day.txt" "$examples/expected/day" run ascii87 accounts.json ascii4
-    if [ -f crates/iso_cli/src/prepare.rt ]; then
-        line='frames=1 answered=1 silent=0 unreadable=0'
-        printf '%s\n%s\n' "$line" "$line" > "$folder/peers"
-        runs_of 120 peers /dev/null "$folder/peers" serve ascii87 accounts.json ascii4 8583 2
-    fi
+    line='frames=1 answered=1 silent=0 unreadable=0'
+    printf '%s\n%s\n' "$line" "$line" > "$folder/peers"
+    runs_of 120 peers /dev/null "$folder/peers" serve ascii87 accounts.json ascii4 8583 2
     burning_command
     try "$folder/top/crates/iso_cli" --data "accounts.json=$examples/accounts.json" \
         --data "terminals.json=$top/tables/terminals.json"
