@@ -3,7 +3,7 @@
 ghost use Rattle.std.specs.Prelude.{◌≤◌};
 
 use crate::connections::serve_connections;
-use crate::prepare::{Serving, prepare};
+use crate::prepare::{PortHost, prepare};
 use crate::source::Source;
 use crate::stop::{Stop, tell};
 use iso_host::Outlet;
@@ -20,14 +20,14 @@ pub fn serve_port<
 >(alloc: Global, net: &N, words: &[&str], source: &S, output: &mut O, faults: &mut F) -> u8
     ensures status { result ≤ 3 }
 {
-    let Serving {
+    let PortHost {
         table,
         header,
         mut issuer,
         port,
         count,
     } = match prepare(alloc, words, source, faults) {
-        Ok(serving) => serving,
+        Ok(host) => host,
         Err(status) => return status,
     };
     match TcpListener::bind(net, (Ipv4Addr::LOCALHOST, port)) {

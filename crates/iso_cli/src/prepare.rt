@@ -13,9 +13,9 @@ use iso_table::Table;
 use iso_wire::Header;
 use std::alloc::Global;
 
-/// What a host on a port serves with.
+/// A host on a port, before the port is bound.
 #[derive(Drop)]
-pub struct Serving {
+pub struct PortHost {
     /// The table that messages are read and written under. A host can serve under it.
     pub table: Table,
     /// How a frame counts its body.
@@ -28,14 +28,14 @@ pub struct Serving {
     pub count: u32,
 }
 
-/// Reads what the words name, the table before the accounts.
-fn serving_of<S: Source>(alloc: Global, words: &[&str], source: &S) -> Result<Serving, Stop>
+/// The host that the words name. The table is read before the accounts.
+fn host_named<S: Source>(alloc: Global, words: &[&str], source: &S) -> Result<PortHost, Stop>
     ensures { IfOk result (Prepares (map (λ w. w.now) words.now) (S.file source.now)) }
 {
     let asked = parse_serve(alloc, words)?;
     let table = host_table(alloc, source, asked.table)?;
     let accounts = accounts_at(alloc, source, asked.accounts)?;
-    Ok(Serving {
+    Ok(PortHost {
         table,
         header: asked.header,
         issuer: Issuer::new(accounts, MOST_ENTRIES),
@@ -52,15 +52,15 @@ pub fn prepare<S: Source, F: Outlet>(
     words: &[&str],
     source: &S,
     faults: &mut F,
-) -> Result<Serving, u8>
+) -> Result<PortHost, u8>
     // What the words spell: the table and the accounts that they name, with an empty journal, the port and the count.
     ensures prepared { IfOk result (Prepares (map (λ w. w.now) words.now) (S.file source.now)) }
     ensures status { IfErr result (λ status. (1 ≤ status) × (status ≤ 3)) }
     // Then nothing is told.
     ensures quiet { OnOk result (F.contents faults.new ≡ F.contents faults.old) }
 {
-    match serving_of(alloc, words, source) {
-        Ok(serving) => Ok(serving),
+    match host_named(alloc, words, source) {
+        Ok(host) => Ok(host),
         Err(stop) => Err(tell(alloc, faults, stop)),
     }
 }

@@ -2,7 +2,7 @@
 
 use super::*;
 use crate::connections::serve_connections;
-use crate::prepare::{Serving, prepare};
+use crate::prepare::{PortHost, prepare};
 use iso_fakes::FewTaken;
 use iso_order::Pan;
 use iso_wire::Header;
@@ -16,7 +16,7 @@ mod port;
 mod prepare;
 
 /// A host over the accounts, which still has no port of its own.
-fn serving(alloc: Global, header: &str) -> Result<Serving, Fail> {
+fn serving(alloc: Global, header: &str) -> Result<PortHost, Fail> {
     let mut told = Vec::new(alloc);
     let words = ["serve", "ascii87", "accounts.json", header, "8583", "3"];
     match prepare(alloc, &words, &DOCUMENTS, &mut Std::new(&mut told)) {
@@ -76,7 +76,7 @@ struct ConnectionsEnd {
 fn status_of<O: Write, F: Write>(
     alloc: Global,
     listener: &TcpListener,
-    serving: &mut Serving,
+    serving: &mut PortHost,
     count: u32,
     output: &mut O,
     faults: &mut F,
@@ -95,14 +95,14 @@ fn status_of<O: Write, F: Write>(
 }
 
 /// How many orders a host has entered.
-fn entries(serving: &Serving) -> u32 {
+fn entries(serving: &PortHost) -> u32 {
     serving.issuer.len()
 }
 
 fn serve(
     alloc: Global,
     listener: &TcpListener,
-    serving: &mut Serving,
+    serving: &mut PortHost,
     count: u32,
 ) -> Result<ConnectionsEnd, Fail> {
     let mut output = Vec::new(alloc);

@@ -5,13 +5,13 @@ use super::*;
 const ONE_ANSWERED: &[u8] = b"frames=1 answered=1 silent=0 unreadable=0\n";
 
 /// Serves two connections where no peer waits, and compares what is told.
-fn accept_none(alloc: Global, listener: &TcpListener, serving: &mut Serving) -> Result<(), Fail> {
+fn accept_none(alloc: Global, listener: &TcpListener, serving: &mut PortHost) -> Result<(), Fail> {
     let ended = serve(alloc, listener, serving, 2)?;
     check_told(&ended, &[], b"failed: Read\nfailed: Read\n", "no peer")
 }
 
 /// Serves two connections where one peer waits, and compares what is told.
-fn accept_one(alloc: Global, listener: &TcpListener, serving: &mut Serving) -> Result<(), Fail> {
+fn accept_one(alloc: Global, listener: &TcpListener, serving: &mut PortHost) -> Result<(), Fail> {
     let ended = serve(alloc, listener, serving, 2)?;
     check_told(&ended, &[ONE_ANSWERED], b"failed: Read\n", "one peer")
 }
@@ -20,7 +20,7 @@ fn accept_one(alloc: Global, listener: &TcpListener, serving: &mut Serving) -> R
 fn accept_or_fail(
     rt: &HostRuntime,
     listener: &TcpListener,
-    serving: &mut Serving,
+    serving: &mut PortHost,
 ) -> Result<(), Fail> {
     accept_none(rt.alloc(), listener, serving)?;
     let mut only = peer(rt, listener, &[b"0082", PURCHASE])?;

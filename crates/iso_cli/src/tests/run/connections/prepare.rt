@@ -16,7 +16,7 @@ struct Held {
 }
 
 /// The ledger of the account.
-fn ledger(serving: &Serving) -> Option<i64> {
+fn ledger(serving: &PortHost) -> Option<i64> {
     let pan = Pan::from_digits(b"4111111111111111")?;
     serving.issuer.ledger(pan)
 }
