@@ -14,7 +14,7 @@ use Rattle.iso_table.specs.Layout.{Layout, row_at}
 use Rattle.iso_wire.specs.Contents.{Contents}
 use Rattle.iso_wire.specs.Decimal.{decimal}
 use Rattle.iso_wire.specs.Elements.{value_in}
-use Rattle.iso_wire.specs.Refusal.{refused_field, refused_by, refused, message_refusal}
+use Rattle.iso_wire.specs.Refusal.{refused_field, refused_by, first_refusal, message_refusal}
 use Rattle.iso_wire.specs.Spelling.{PartAs, Parts}
 use Rattle.iso_order.specs.Fields.{text}
 use Rattle.iso_parts.specs.Mti.{is_answered}
@@ -132,11 +132,11 @@ element_taken laws t m a s n =
 
 -- ---- the response
 
-refused-where : (rows : List (Option FieldSpec)) (n : ℕ) (v : Option (List ℕ)) (es : Values) → IfSome v (IsTaken rows n) → refused rows es ≡ None → refused rows (element_where n v ++ es) ≡ None
+refused-where : (rows : List (Option FieldSpec)) (n : ℕ) (v : Option (List ℕ)) (es : Values) → IfSome v (IsTaken rows n) → first_refusal rows es ≡ None → first_refusal rows (element_where n v ++ es) ≡ None
 refused-where rows n (Some v) es here rest = rw here rest
 refused-where rows n None es here rest = rest
 
-pub refused-at : (rows : List (Option FieldSpec)) (value : ℕ → Option (List ℕ)) (ns : List ℕ) → ((n : ℕ) → IfSome (value n) (IsTaken rows n)) → refused rows (elements_with_value value ns) ≡ None
+pub refused-at : (rows : List (Option FieldSpec)) (value : ℕ → Option (List ℕ)) (ns : List ℕ) → ((n : ℕ) → IfSome (value n) (IsTaken rows n)) → first_refusal rows (elements_with_value value ns) ≡ None
 refused-at rows value [] each = refl
 refused-at rows value (n ∷ ns) each = refused-where rows n (value n) (elements_with_value value ns) (each n) (refused-at rows value ns each)
 

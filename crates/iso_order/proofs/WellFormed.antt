@@ -88,7 +88,7 @@ ascending-from : (low high : ℕ) (es : Values) → low ≤ high → IsAscending
 ascending-from low high [] le rest = tt
 ascending-from low high (e ∷ es) le rest = (omega arith, rest.1, rest.2, rest.3)
 
-ascending-where : (low n : ℕ) (v : Option (List ℕ)) (es : Values) → low ≤ n → is_number n ≡ true → IsAscending (n + 1) es → IsAscending low (element_where n v ++ es)
+ascending-where : (low n : ℕ) (v : Option (List ℕ)) (es : Values) → low ≤ n → is_element n ≡ true → IsAscending (n + 1) es → IsAscending low (element_where n v ++ es)
 ascending-where low n (Some v) es le number rest = let range = in-range n number in (le, range.0, range.1, rest)
 ascending-where low n None es le number rest = ascending-from low (n + 1) es (omega arith) rest
 
