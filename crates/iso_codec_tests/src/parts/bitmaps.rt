@@ -31,10 +31,10 @@ const WORDS: &[(&'static str, [u64; 2], &'static [u8])] = &[
 /// The set of two words.
 fn set_of_words(words: [u64; 2]) -> Bitmap {
     let [primary, secondary] = words;
-    if secondary < FIRST_BIT {
-        Bitmap::from_words(primary, secondary)
-    } else {
+    if tells_another(secondary) {
         Bitmap::new()
+    } else {
+        Bitmap::from_words(primary, secondary)
     }
 }
 
@@ -350,4 +350,40 @@ fn one_bitmap_is_a_word() -> Result<(), Fail> {
         check(is_word(*coding, bytes, *word), *name)?;
     }
     check(has(&[7], 7) && !has(&[7], 58), "the seventh bit")
+}
+
+/// A bitmap's word, and whether it tells of one more bitmap.
+const FIRST_BITS: &[(&'static str, u64, bool)] = &[
+    ("no bit", 0, false),
+    ("all bits but the first", 0x7FFF_FFFF_FFFF_FFFF, false),
+    ("the first bit alone", 0x8000_0000_0000_0000, true),
+    ("all bits", 0xFFFF_FFFF_FFFF_FFFF, true),
+];
+
+#[test]
+fn the_first_bit_tells_of_another_bitmap() -> Result<(), Fail> {
+    for (name, word, want) in FIRST_BITS {
+        check(tells_another(*word) == *want, *name)?;
+    }
+    Ok(())
+}
+
+/// A number, and whether an element may have it.
+const NUMBERS: &[(&'static str, u16, bool)] = &[
+    ("none", 0, false),
+    ("the first bit", 1, false),
+    ("the account number", 2, true),
+    ("the last of the primary bitmap", 64, true),
+    ("the bit of a third bitmap", 65, false),
+    ("the first of the secondary bitmap", 66, true),
+    ("the last", 128, true),
+    ("one more", 129, false),
+];
+
+#[test]
+fn elements_have_their_numbers() -> Result<(), Fail> {
+    for (name, number, want) in NUMBERS {
+        check(is_element(*number) == *want, *name)?;
+    }
+    Ok(())
 }

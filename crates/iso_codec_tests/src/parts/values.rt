@@ -287,3 +287,27 @@ fn a_number_has_four_digits() -> Result<(), Fail> {
     }
     Ok(())
 }
+
+/// Four digits under a coding, and the number that they are, where they are digits.
+const DIGITS_IN_BYTES: &[(&'static str, Digits, &'static [u8], Option<u16>)] = &[
+    ("ASCII digits", Digits::Ascii, b"0055", Some(55)),
+    ("a letter", Digits::Ascii, b"00A5", None),
+    ("three ASCII digits", Digits::Ascii, b"055", None),
+    ("BCD digits", Digits::Bcd, b"\x12\x34", Some(1234)),
+    ("a nibble that is no digit", Digits::Bcd, b"\x12\x3A", None),
+    ("one BCD byte", Digits::Bcd, b"\x12", None),
+];
+
+#[test]
+fn four_digits_are_read_under_a_coding() -> Result<(), Fail> {
+    for (name, digits, bytes, want) in DIGITS_IN_BYTES {
+        check(four_digits_in(*digits, *bytes) == *want, *name)?;
+    }
+    Ok(())
+}
+
+#[test]
+fn bcd_bytes_have_characters() -> Result<(), Fail> {
+    check(bcd_characters(0x12, 0x34) == *b"1234", "digits")?;
+    check(bcd_characters(0x9A, 0xF0) == *b"9:?0", "nibbles above nine")
+}
