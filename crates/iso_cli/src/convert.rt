@@ -14,12 +14,7 @@ use iso_wire::{pack, unpack};
 use std::alloc::Global;
 
 /// The plain bytes, under the second table, of the message that the bytes spell under the first.
-fn converted_bytes(
-    alloc: Global,
-    from: &Table,
-    to: &Table,
-    bytes: &[u8],
-) -> Result<Vec<u8>, Stop>
+fn converted_bytes(alloc: Global, from: &Table, to: &Table, bytes: &[u8]) -> Result<Vec<u8>, Stop>
     ensures { IfOk result (λ packed. Converts from.now to.now bytes.now packed.items) }
 {
     let (message, used) = unpack(alloc, from, bytes)?;

@@ -143,7 +143,7 @@ fn command<'a>(alloc: Global) -> Result<Command<'a>, AllocError>
 
 /// Whether `clap` lets the words of this command pass.
 pub fn judge_by<'a>(command: Command<'a>, words: &'a [&'a str]) -> Result<(), WordsFault>
-    ensures passes { IfErr result (λ fault. takes (app_of command) (map (λ w. w.now) words.now) ≡ true
+    ensures passes { IfErr result (λ fault. takes (app_of command.entry) (map (λ w. w.now) words.now) ≡ true
         → fault ≡ WordsFault.Memory) }
 {
     match command.try_get_matches_from(words) {
