@@ -1,8 +1,10 @@
-//! What tests share: a reader and a writer that move a few bytes at a time and fail at a call, streams that are interrupted, and
-//! the checks that end a test. No crate uses it but in its tests.
+//! What tests share: a reader and a writer that move a few bytes at a time and fail at a call, streams that are interrupted,
+//! and the checks that end a test. No crate uses it but in its tests.
 #![tactic(auto)]
 
 mod checks;
+#[cfg(test)]
+mod tests;
 
 pub use checks::{check, check_of};
 use std::alloc::{AllocError, Global};
@@ -42,6 +44,7 @@ pub struct FewTaken {
 }
 
 impl FewTaken {
+    /// A writer that took no bytes yet, and was never flushed.
     pub fn new(alloc: Global, piece: usize, calls: u32, fails_to_flush: bool) -> FewTaken {
         FewTaken {
             taken: Vec::new(alloc),
@@ -114,7 +117,7 @@ impl<S: Write> Write for Interrupted<S> {
     }
 }
 
-/// So many bytes.
+/// So many bytes, each of them a 7.
 pub fn sevens(alloc: Global, count: usize) -> Result<Vec<u8>, AllocError> {
     vec![in alloc; 7u8; count]
 }
