@@ -1,4 +1,5 @@
 //! Streams in memory, whole and failing.
+mod day;
 mod ends;
 mod example;
 mod failures;
@@ -12,7 +13,7 @@ use crate::fault::ServeFault;
 use crate::standard::Std;
 use crate::streams::{Failed, Inlet, Outlet};
 use crate::writing::write_all;
-use iso_fakes::{FewBytes, FewTaken, check, check_of};
+use iso_fakes::{FewBytes, FewTaken, check};
 use std::alloc::Global;
 use std::test::Fail;
 

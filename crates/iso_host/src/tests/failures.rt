@@ -1,258 +1,16 @@
-//! A day of frames, and each of its reads, writes and flushes that fails in turn. The day is a purchase, its repeat, three
-//! bytes that are no message, a second purchase, and the reversal of the first.
+//! The day with each of its reads, writes and flushes failing in turn, and a purchase whose answer is cut.
 
-use super::ends::{Reader, Writer};
-use super::frames::{
-    GRANTED, PURCHASE, REPEAT, REVERSAL, REVERSED, SECOND, SECOND_GRANTED, entries, issuer, join,
-    ledger, serving_end_between,
+use super::day::{
+    Day, Run, WHOLE, end_of_frames, is_answered_again, serve_day, stands_as_read, stands_as_written,
 };
+use super::ends::Writer;
+use super::frames::{GRANTED, PURCHASE, has_entered, issuer, join};
 use crate::fault::{Report, ServeFault};
 use iso_fakes::check;
 use iso_issuer::Issuer;
 use iso_table::Table;
-use iso_wire::Header;
 use std::alloc::Global;
 use std::test::Fail;
-
-/// What stands once some frames of the day are handled.
-#[derive(Clone, Copy, Debug)]
-struct Mark {
-    /// The bytes of these frames.
-    read: usize,
-    /// The bytes of their answers.
-    written: usize,
-    ledger: i64,
-    entries: u32,
-}
-
-/// The marks of the day: before the first frame, and behind each.
-const MARKS: &[Mark] = &[
-    Mark {
-        read: 0,
-        written: 0,
-        ledger: 5000,
-        entries: 0,
-    },
-    Mark {
-        read: 86,
-        written: 94,
-        ledger: 4000,
-        entries: 1,
-    },
-    Mark {
-        read: 172,
-        written: 188,
-        ledger: 4000,
-        entries: 1,
-    },
-    Mark {
-        read: 179,
-        written: 188,
-        ledger: 4000,
-        entries: 1,
-    },
-    Mark {
-        read: 265,
-        written: 282,
-        ledger: 3000,
-        entries: 2,
-    },
-    Mark {
-        read: 370,
-        written: 389,
-        ledger: 4000,
-        entries: 3,
-    },
-];
-
-/// The report of the whole day.
-const WHOLE: Report = Report {
-    frames: 5,
-    answered: 4,
-    silent: 0,
-    unreadable: 1,
-};
-
-/// The day: its frames, their answers, and the table that they are written in.
-#[derive(Drop)]
-struct Day {
-    table: Table,
-    frames: Vec<u8>,
-    answers: Vec<u8>,
-}
-
-impl Day {
-    fn new(alloc: Global) -> Result<Day, Fail> {
-        Ok(Day {
-            table: Table::ascii87(alloc)?,
-            frames: frames(alloc)?,
-            answers: answers(alloc)?,
-        })
-    }
-}
-
-/// The frames of the day.
-fn frames(alloc: Global) -> Result<Vec<u8>, Fail> {
-    join(
-        alloc,
-        &[
-            b"0082", PURCHASE, b"0082", REPEAT, b"0003abc", b"0082", SECOND, b"0101", REVERSAL,
-        ],
-    )
-}
-
-/// The frames of the answers.
-fn answers(alloc: Global) -> Result<Vec<u8>, Fail> {
-    join(
-        alloc,
-        &[
-            b"0090",
-            GRANTED,
-            b"0090",
-            GRANTED,
-            b"0090",
-            SECOND_GRANTED,
-            b"0103",
-            REVERSED,
-        ],
-    )
-}
-
-/// Whether the issuer stands as at the mark.
-fn stands_at(issuer: &Issuer, mark: &Mark) -> Result<bool, Fail> {
-    has(issuer, mark.ledger, mark.entries)
-}
-
-/// The last mark that so many bytes come up to.
-fn last_mark(read: usize) -> Mark {
-    let mut last = Mark {
-        read: 0,
-        written: 0,
-        ledger: 5000,
-        entries: 0,
-    };
-    for mark in MARKS {
-        if mark.read <= read {
-            last = *mark;
-        }
-    }
-    last
-}
-
-/// Whether the issuer stands as at some mark, and so many bytes lie between the answers up to the mark before it and those
-/// up to it.
-fn lies_at_a_mark(issuer: &Issuer, written: usize) -> Result<bool, Fail> {
-    let mut before = 0;
-    for mark in MARKS {
-        if stands_at(issuer, mark)? && before <= written && written <= mark.written {
-            return Ok(true);
-        }
-        before = mark.written;
-    }
-    Ok(false)
-}
-
-/// What serves the day: an issuer, a reader of its frames, and a writer.
-#[derive(Drop)]
-struct Host<'a> {
-    issuer: Issuer,
-    reader: Reader<'a>,
-    writer: Writer,
-}
-
-impl<'a> Host<'a> {
-    /// One whose read and whose write or flush of these numbers fail.
-    fn new(
-        alloc: Global,
-        day: &'a Day,
-        piece: usize,
-        failing: (u32, u32),
-    ) -> Result<Host<'a>, Fail> {
-        let writer = Writer::new(alloc, piece, failing.1)?;
-        Ok(Host {
-            issuer: issuer(alloc)?,
-            reader: Reader::new(&day.frames, piece, failing.0),
-            writer,
-        })
-    }
-
-    /// How serving the day ends.
-    fn serve(
-        &mut self,
-        alloc: Global,
-        day: &Day,
-        turns: u64,
-    ) -> Result<Result<Report, ServeFault>, Fail> {
-        serving_end_between(
-            alloc,
-            &day.table,
-            Header::Ascii4,
-            &mut self.issuer,
-            &mut self.reader,
-            &mut self.writer,
-            turns,
-        )
-    }
-}
-
-/// The day served once, and how it ended.
-#[derive(Drop)]
-struct Run<'a> {
-    host: Host<'a>,
-    ended: Result<Report, ServeFault>,
-}
-
-/// Serves the day. The read and the write or flush of these numbers fail.
-fn serve_day<'a>(
-    alloc: Global,
-    day: &'a Day,
-    piece: usize,
-    failing: (u32, u32),
-    turns: u64,
-) -> Result<Run<'a>, Fail> {
-    let mut host = Host::new(alloc, day, piece, failing)?;
-    let ended = host.serve(alloc, day, turns)?;
-    Ok(Run { host, ended })
-}
-
-/// Whether all whole frames that were read are handled and answered, and no more.
-fn stands_as_read(run: &Run<'_>, day: &Day) -> Result<bool, Fail> {
-    let mark = last_mark(day.frames.len().saturating_sub(run.host.reader.bytes.len()));
-    let written = run.host.writer.taken.as_slice();
-    Ok(day.answers.get(..mark.written) == Some(written) && stands_at(&run.host.issuer, &mark)?)
-}
-
-/// Whether some frames are handled, and all of them but the last are answered, and no more.
-fn stands_as_written(run: &Run<'_>, day: &Day) -> Result<bool, Fail> {
-    let written = run.host.writer.taken.as_slice();
-    Ok(day.answers.starts_with(written) && lies_at_a_mark(&run.host.issuer, written.len())?)
-}
-
-/// How the day ends where it is sent once more to the same issuer.
-fn serve_again(
-    alloc: Global,
-    issuer: &mut Issuer,
-    day: &Day,
-    writer: &mut Writer,
-) -> Result<Result<Report, ServeFault>, Fail> {
-    let mut reader = Reader::new(&day.frames, 4096, 0);
-    serving_end_between(
-        alloc,
-        &day.table,
-        Header::Ascii4,
-        issuer,
-        &mut reader,
-        writer,
-        1000,
-    )
-}
-
-/// Whether the whole day gets its answers where it is sent once more to the same issuer.
-fn is_answered_again(alloc: Global, issuer: &mut Issuer, day: &Day) -> Result<bool, Fail> {
-    let mut writer = Writer::new(alloc, 4096, 0)?;
-    let ended = serve_again(alloc, issuer, day, &mut writer)?;
-    Ok(ended == Ok(WHOLE) && writer.taken.as_slice() == day.answers.as_slice())
-}
 
 /// Whether the day ended with this fault, and gets its answers where it is sent once more.
 fn ended_with(
@@ -427,16 +185,7 @@ fn purchase_end(
     writer: &mut Writer,
 ) -> Result<Result<Report, ServeFault>, Fail> {
     let table = Table::ascii87(alloc)?;
-    let mut reader = Reader::new(frame, 4096, 0);
-    serving_end_between(
-        alloc,
-        &table,
-        Header::Ascii4,
-        issuer,
-        &mut reader,
-        writer,
-        1000,
-    )
+    end_of_frames(alloc, &table, issuer, frame, writer)
 }
 
 /// Its fault, where it has one.
@@ -462,11 +211,6 @@ fn serve_purchase(
     Ok((fault, writer.taken))
 }
 
-/// Whether the issuer has this ledger, and so many entries.
-fn has(issuer: &Issuer, balance: i64, orders: u32) -> Result<bool, Fail> {
-    Ok(ledger(issuer)? == Some(balance) && entries(issuer) == orders)
-}
-
 /// The purchase is granted, and its answer is cut.
 fn check_cut(alloc: Global, issuer: &mut Issuer) -> Result<(), Fail> {
     let (cut, front) = serve_purchase(alloc, issuer, 10, 2)?;
@@ -484,7 +228,7 @@ fn check_whole_again(alloc: Global, issuer: &mut Issuer) -> Result<(), Fail> {
 
 /// The issuer has the one purchase.
 fn check_one(issuer: &Issuer, name: &str) -> Result<(), Fail> {
-    check(has(issuer, 4000, 1)?, name)
+    check(has_entered(issuer, 4000, 1)?, name)
 }
 
 /// The answer is cut, and comes again whole.

@@ -112,13 +112,12 @@ impl<'a> Session<'a> {
     }
 }
 
-/// What comes of it: how serving ends, what is written in how many writes, how often it is flushed, and the account's
+/// What comes of it: how serving ends, what is written, how many writes are left, how often it is flushed, and the account's
 /// ledger and the number of entries then.
 #[derive(Drop)]
 pub struct SessionEnd {
     pub ended: Result<Report, ServeFault>,
     pub written: Vec<u8>,
-    /// The writes that were left.
     pub left: u32,
     pub flushes: u32,
     pub ledger: Option<i64>,
@@ -190,14 +189,20 @@ pub fn serving_end_between<R: Inlet, W: Outlet>(
     Ok(serve(alloc, table, header, issuer, reader, writer, turns))
 }
 
-pub fn ledger(issuer: &Issuer) -> Result<Option<i64>, Fail> {
+/// The account's ledger.
+fn ledger(issuer: &Issuer) -> Result<Option<i64>, Fail> {
     let pan = Pan::from_digits(b"4111111111111111").ok_or("1 to 19 digits")?;
     Ok(issuer.ledger(pan))
 }
 
 /// How many orders were entered.
-pub fn entries(issuer: &Issuer) -> u32 {
+fn entries(issuer: &Issuer) -> u32 {
     issuer.len()
+}
+
+/// Whether the account has this ledger, and so many orders were entered.
+pub fn has_entered(issuer: &Issuer, balance: i64, orders: u32) -> Result<bool, Fail> {
+    Ok(ledger(issuer)? == Some(balance) && entries(issuer) == orders)
 }
 
 /// How serving ends, by a reader and a writer that move a few bytes a call.
@@ -216,7 +221,11 @@ fn end_of(
 }
 
 /// Serves once by that issuer.
-fn serve_by(alloc: Global, issuer: &mut Issuer, session: Session<'_>) -> Result<SessionEnd, Fail> {
+fn serve_session(
+    alloc: Global,
+    issuer: &mut Issuer,
+    session: Session<'_>,
+) -> Result<SessionEnd, Fail> {
     let mut writer = FewTaken::new(alloc, session.taken, session.writes, session.fails_to_flush);
     let ended = end_of(alloc, issuer, session, &mut writer)?;
     let ledger = ledger(issuer)?;
@@ -230,10 +239,11 @@ fn serve_by(alloc: Global, issuer: &mut Issuer, session: Session<'_>) -> Result<
     })
 }
 
-/// Serves once. The tests call this alone, so that their proofs don't look through what a host and an issuer promise.
+/// Serves once. It has no contract, so that the proof of a test that calls it doesn't look through what a host and an issuer
+/// promise.
 pub fn serve_once(alloc: Global, session: Session<'_>) -> Result<SessionEnd, Fail> {
     let mut issuer = issuer_for(alloc, session.is_small)?;
-    serve_by(alloc, &mut issuer, session)
+    serve_session(alloc, &mut issuer, session)
 }
 
 /// Serves the bytes of these pieces once, and else as in that session.

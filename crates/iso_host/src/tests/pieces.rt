@@ -2,7 +2,8 @@
 
 use super::check_at;
 use super::frames::{
-    ECHO, ECHOED, GRANTED, PURCHASE, REPEAT, Session, SessionEnd, serve_once, serve_pieces,
+    ECHO, ECHOED, GRANTED, PURCHASE, REPEAT, REVERSAL, REVERSED, Session, SessionEnd, serve_once,
+    serve_pieces,
 };
 use crate::fault::{Report, ServeFault};
 use iso_fakes::check;
@@ -148,26 +149,10 @@ fn a_purchase_behind_an_unreadable_body(rt: HostRuntime) -> Result<(), Fail> {
 }
 
 /// A purchase, its repeat and a reversal, each in its frame.
-const THREE_ORDERS: &[&[u8]] = &[
-    b"0082",
-    PURCHASE,
-    b"0082",
-    REPEAT,
-    b"0101",
-    b"0420822000010000000000000040000000000102030500000008",
-    b"0512345020000000701020304050000001234500000000000",
-];
+const THREE_ORDERS: &[&[u8]] = &[b"0082", PURCHASE, b"0082", REPEAT, b"0101", REVERSAL];
 
 /// The answers to them.
-const THREE_ANSWERS: &[&[u8]] = &[
-    b"0090",
-    GRANTED,
-    b"0090",
-    GRANTED,
-    b"0103",
-    b"0430822000010200000000000040000000000102030500000008",
-    b"051234500020000000701020304050000001234500000000000",
-];
+const THREE_ANSWERS: &[&[u8]] = &[b"0090", GRANTED, b"0090", GRANTED, b"0103", REVERSED];
 
 #[test]
 fn a_purchase_a_repeat_and_a_reversal(rt: HostRuntime) -> Result<(), Fail> {

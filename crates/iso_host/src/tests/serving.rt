@@ -2,7 +2,8 @@
 
 use super::check_at;
 use super::frames::{
-    ECHO, ECHOED, GRANTED, PURCHASE, REPEAT, Session, SessionEnd, serve_once, serve_pieces,
+    ECHO, ECHOED, GRANTED, PURCHASE, REPEAT, SECOND, SECOND_GRANTED, Session, SessionEnd,
+    serve_once, serve_pieces,
 };
 use crate::fault::{Report, ServeFault};
 use iso_fakes::{check, check_of};
@@ -26,7 +27,7 @@ const FIVE: Report = Report {
 };
 
 /// Serves the five frames, where a read and a write move so many bytes.
-fn serve_by(alloc: Global, piece: usize) -> Result<SessionEnd, Fail> {
+fn serve_five(alloc: Global, piece: usize) -> Result<SessionEnd, Fail> {
     let session = Session {
         piece,
         taken: piece,
@@ -36,8 +37,8 @@ fn serve_by(alloc: Global, piece: usize) -> Result<SessionEnd, Fail> {
 }
 
 /// Compares what comes of the five frames, where a read and a write move so many bytes.
-fn serves_by(alloc: Global, piece: usize) -> Result<(), Fail> {
-    let outcome = serve_by(alloc, piece)?;
+fn check_five(alloc: Global, piece: usize) -> Result<(), Fail> {
+    let outcome = serve_five(alloc, piece)?;
     let is_written = outcome.is_of(alloc, Ok(FIVE), ANSWERS)?;
     check_at(is_written, piece, "the end and what is written")?;
     check_at(outcome.flushes == 3, piece, "the flushes")?;
@@ -47,7 +48,7 @@ fn serves_by(alloc: Global, piece: usize) -> Result<(), Fail> {
 #[test]
 fn serves_in_pieces_of_any_size(rt: HostRuntime) -> Result<(), Fail> {
     for piece in &[1usize, 7, 86, 5000] {
-        serves_by(rt.alloc(), *piece)?;
+        check_five(rt.alloc(), *piece)?;
     }
     Ok(())
 }
@@ -240,16 +241,9 @@ fn nothing_to_serve(rt: HostRuntime) -> Result<(), Fail> {
     check(outcome.ended == Ok(report), "the end")
 }
 
-/// Two other purchases.
-const SECOND: &[u8] =
-    b"0200722000010000800016411111111111111100000000000000100001020304050000100512345840";
-
+/// A third purchase, and the answer to it where the journal takes two orders.
 const THIRD: &[u8] =
     b"0200722000010000800016411111111111111100000000000000100001020304050000110512345840";
-
-/// The answers to them, where the journal takes two orders.
-const SECOND_GRANTED: &[u8] =
-    b"021072200001060080001641111111111111110000000000000010000102030405000010051234500000200840";
 
 const THIRD_REFUSED: &[u8] =
     b"021072200001020080001641111111111111110000000000000010000102030405000011051234596840";
