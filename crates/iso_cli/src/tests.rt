@@ -1,5 +1,5 @@
 //! What the command answers, case by case.
-use iso_fakes::{check, check_of};
+use iso_fakes::check_of;
 use std::test::Fail;
 
 mod act;
@@ -9,6 +9,18 @@ mod source;
 mod stop;
 mod streaming;
 mod words;
+
+/// A good table under which no host can serve.
+const TERMINALS: &[u8] =
+    b"{\"bitmap\":\"hex\",\"mti\":\"ascii\",\"profile\":1,\"rows\":[{\"class\":\"ANS\",\"coding\":\"ascii\",\
+      \"length\":\"fixed\",\"max\":8,\"number\":41,\"pad\":\"right:20\"}],\"version\":0}";
+
+/// An echo test.
+const ECHO: &[u8] = b"0800822000000000000004000000000000000102030405000001301";
+
+/// A purchase of 10.00.
+const PURCHASE: &[u8] =
+    b"0200722000010000800016411111111111111100000000000000100001020304050000070512345840";
 
 /// Ends the test with the name of a case, unless the status and the fault line are as wanted.
 fn check_stop(

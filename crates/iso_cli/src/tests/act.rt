@@ -3,7 +3,7 @@ ghost use Rattle.std.specs.Prelude.{None};
 
 use crate::act::act;
 use crate::source::{Source, SourceFault};
-use crate::tests::{End, check_end};
+use crate::tests::{ECHO, End, PURCHASE, TERMINALS, check_end};
 use iso_host::Std;
 use std::alloc::Global;
 use std::test::Fail;
@@ -33,15 +33,6 @@ impl Source for OneFile {
         }
     }
 }
-
-const TERMINALS: &[u8] =
-    b"{\"bitmap\":\"hex\",\"mti\":\"ascii\",\"profile\":1,\"rows\":[{\"class\":\"ANS\",\"coding\":\"ascii\",\
-      \"length\":\"fixed\",\"max\":8,\"number\":41,\"pad\":\"right:20\"}],\"version\":0}";
-
-const ECHO_TEST: &[u8] = b"0800822000000000000004000000000000000102030405000001301";
-
-const PAYMENT: &[u8] =
-    b"0200722000010000800016411111111111111100000000000000100001020304050000070512345840";
 
 /// Words and an input, and what they give.
 #[derive(Drop)]

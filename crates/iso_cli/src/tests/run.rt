@@ -3,7 +3,7 @@ ghost use Rattle.std.specs.Prelude.{None};
 
 use crate::act::act;
 use crate::source::{Source, SourceFault};
-use crate::tests::{End, check_end, check_stop, is_joined};
+use crate::tests::{ECHO, End, PURCHASE, TERMINALS, check_end, check_stop, is_joined};
 use iso_fakes::{check, check_of};
 use iso_host::Std;
 use std::alloc::Global;
@@ -41,21 +41,16 @@ impl Source for Documents {
     }
 }
 
-/// A good table under which no host can serve, and one account with 50.00 in it.
+/// A table under which no host can serve, and one account with 50.00 in it.
 const DOCUMENTS: Documents = Documents {
-    table: b"{\"bitmap\":\"hex\",\"mti\":\"ascii\",\"profile\":1,\"rows\":[{\"class\":\"ANS\",\"coding\":\"ascii\",\
-      \"length\":\"fixed\",\"max\":8,\"number\":41,\"pad\":\"right:20\"}],\"version\":0}",
+    table: TERMINALS,
     accounts: b"{\"accounts\":[{\"currency\":\"840\",\"opening\":5000,\"pan\":\"4111111111111111\"}]}",
 };
 
-const ECHO: &[u8] = b"0800822000000000000004000000000000000102030405000001301";
-
+/// The response to the echo test.
 const ECHOED: &[u8] = b"081082200000020000000400000000000000010203040500000100301";
 
-/// A purchase of 10.00, the same sent again, and the same with 20.00.
-const PURCHASE: &[u8] =
-    b"0200722000010000800016411111111111111100000000000000100001020304050000070512345840";
-
+/// The purchase sent again, and the same with 20.00.
 const REPEAT: &[u8] =
     b"0201722000010000800016411111111111111100000000000000100001020304050000070512345840";
 

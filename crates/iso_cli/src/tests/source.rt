@@ -1,3 +1,5 @@
+//! Files, and what is no file.
+
 use crate::source::{Disk, Source, SourceFault};
 use iso_fakes::{check, sevens};
 use std::fs;

@@ -1,3 +1,5 @@
+//! What each stop is told by, and the stop of each fault.
+
 use crate::source::SourceFault;
 use crate::stop::{Stop, tell};
 use crate::streaming::InputFault;
@@ -212,7 +214,7 @@ const FAULTS: &[(&str, Fault, Stop)] = &[
 ];
 
 #[test]
-fn each_fault_has_its_stop(_rt: HostRuntime) -> Result<(), Fail> {
+fn each_fault_has_its_stop() -> Result<(), Fail> {
     for (name, fault, stop) in FAULTS {
         check(stop_of(fault) == *stop, *name)?;
     }

@@ -1,3 +1,5 @@
+//! An input, read to its end.
+
 use crate::streaming::{InputFault, read_all};
 use iso_fakes::{FewBytes, check, sevens};
 use iso_host::Std;

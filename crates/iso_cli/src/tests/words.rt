@@ -1,3 +1,5 @@
+//! What words ask, and words that ask nothing.
+
 use crate::stop::{Stop, tell};
 use crate::words::{Job, parse};
 use iso_fakes::check;

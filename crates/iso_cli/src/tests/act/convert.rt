@@ -1,26 +1,26 @@
 //! Messages under another table.
 
-use super::{Case, ECHO_TEST, TERMINALS, run_cases};
+use super::{Case, ECHO, TERMINALS, run_cases};
 use std::test::Fail;
 
-const ECHO_TEST_BCD: &[u8] =
+const ECHO_BCD: &[u8] =
     b"\x08\x00\x82\x20\0\0\0\0\0\0\x04\0\0\0\0\0\0\0\x01\x02\x03\x04\x05\0\0\x01\x03\x01";
 
 const CONVERTED: &[Case] = &[
     Case {
         name: "to BCD",
         words: &["convert", "ascii87", "bcd87"],
-        input: ECHO_TEST,
+        input: ECHO,
         status: 0,
-        output: ECHO_TEST_BCD,
+        output: ECHO_BCD,
         faults: b"",
     },
     Case {
         name: "to ASCII",
         words: &["convert", "bcd87", "ascii87"],
-        input: ECHO_TEST_BCD,
+        input: ECHO_BCD,
         status: 0,
-        output: ECHO_TEST,
+        output: ECHO,
         faults: b"",
     },
     Case {
@@ -50,7 +50,7 @@ const CONVERTED: &[Case] = &[
     Case {
         name: "a table without the row",
         words: &["convert", "ascii87", "table.json"],
-        input: ECHO_TEST,
+        input: ECHO,
         status: 1,
         output: b"",
         faults: b"refused: pack NoRow element 7\n",

@@ -1,13 +1,13 @@
 //! Messages and their answers.
 
-use super::{Case, ECHO_TEST, PAYMENT, TERMINALS, run_cases};
+use super::{Case, ECHO, PURCHASE, TERMINALS, run_cases};
 use std::test::Fail;
 
 const ANSWERED: &[Case] = &[
     Case {
         name: "the echo test",
         words: &[],
-        input: ECHO_TEST,
+        input: ECHO,
         status: 0,
         output: b"MTI=0800 1987 NetworkManagement Request Acquirer\nDE007=0102030405\nDE011=000001\nDE070=301\nUS\
               ED=55/55\nANSWER=081082200000020000000400000000000000010203040500000100301\n",
@@ -70,7 +70,7 @@ const ANSWERED: &[Case] = &[
     Case {
         name: "an order",
         words: &[],
-        input: PAYMENT,
+        input: PURCHASE,
         status: 0,
         output: b"MTI=0200 1987 Financial Request Acquirer\nDE002=411111******1111\nDE003=000000\nDE004=000000001\
               000\nDE007=0102030405\nDE011=000007\nDE032=12345\nDE049=840\nUSED=82/82\nANSWER=none\n",

@@ -1,22 +1,22 @@
 //! Messages for human eyes.
 
-use super::{Case, PAYMENT, TERMINALS, run_cases};
+use super::{Case, PURCHASE, TERMINALS, run_cases};
 use std::test::Fail;
 
 const SHOWN: &[Case] = &[
     Case {
-        name: "a payment",
+        name: "a purchase",
         words: &["show", "ascii87"],
-        input: PAYMENT,
+        input: PURCHASE,
         status: 0,
         output: b"MTI=0200 1987 Financial Request Acquirer\nDE002=411111******1111\nDE003=000000\nDE004=000000001\
               000\nDE007=0102030405\nDE011=000007\nDE032=12345\nDE049=840\nUSED=82/82\n",
         faults: b"",
     },
     Case {
-        name: "a payment in clear",
+        name: "a purchase in clear",
         words: &["show", "ascii87", "--clear"],
-        input: PAYMENT,
+        input: PURCHASE,
         status: 0,
         output: b"MTI=0200 1987 Financial Request Acquirer\nDE002=4111111111111111\nDE003=000000\nDE004=000000001\
               000\nDE007=0102030405\nDE011=000007\nDE032=12345\nDE049=840\nUSED=82/82\n",

@@ -1,6 +1,6 @@
 //! Streams that fail, and one that is too long.
 
-use super::{ECHO_TEST, OneFile, TERMINALS, act_on};
+use super::{ECHO, OneFile, TERMINALS, act_on};
 use crate::act::act;
 use crate::tests::{check_end, check_stop};
 use iso_fakes::{FewBytes, FewTaken, sevens};
@@ -46,7 +46,7 @@ const FAILING: &[Failing] = &[
 fn act_failing(alloc: Global, failing: &Failing) -> (u8, FewTaken) {
     let (_, reads, writes, flushes, tells, _, _) = failing;
     let input = FewBytes {
-        bytes: ECHO_TEST,
+        bytes: ECHO,
         piece: 20,
         calls: *reads,
     };

@@ -15,6 +15,9 @@ mod peers;
 mod port;
 mod prepare;
 
+/// The report of a connection of one frame that is answered.
+const ONE_ANSWERED: &[u8] = b"frames=1 answered=1 silent=0 unreadable=0\n";
+
 /// A host over the accounts, which still has no port of its own.
 fn serving(alloc: Global, header: &str) -> Result<PortHost, Fail> {
     let mut told = Vec::new(alloc);

@@ -2,8 +2,6 @@
 
 use super::*;
 
-const ONE_ANSWERED: &[u8] = b"frames=1 answered=1 silent=0 unreadable=0\n";
-
 /// Serves two connections where no peer waits, and compares what is told.
 fn accept_none(alloc: Global, listener: &TcpListener, serving: &mut PortHost) -> Result<(), Fail> {
     let ended = serve(alloc, listener, serving, 2)?;
@@ -57,7 +55,7 @@ struct Failing {
     flush_fails: bool,
     tells: u32,
     status: u8,
-    reports: usize,
+    reports: &'static [&'static [u8]],
     faults: &'static [u8],
     entered: u32,
 }
@@ -114,7 +112,7 @@ const FAILING: &[Failing] = &[
         flush_fails: false,
         tells: 9,
         status: 0,
-        reports: 2,
+        reports: &[ONE_ANSWERED, ONE_ANSWERED],
         faults: b"refused: BadHeader\n",
         entered: 2,
     },
@@ -124,7 +122,7 @@ const FAILING: &[Failing] = &[
         flush_fails: false,
         tells: 9,
         status: 3,
-        reports: 0,
+        reports: &[],
         faults: b"failed: Write\n",
         entered: 1,
     },
@@ -134,7 +132,7 @@ const FAILING: &[Failing] = &[
         flush_fails: false,
         tells: 9,
         status: 3,
-        reports: 1,
+        reports: &[ONE_ANSWERED],
         faults: b"refused: BadHeader\nfailed: Write\n",
         entered: 2,
     },
@@ -144,7 +142,7 @@ const FAILING: &[Failing] = &[
         flush_fails: true,
         tells: 9,
         status: 3,
-        reports: 1,
+        reports: &[ONE_ANSWERED],
         faults: b"failed: Write\n",
         entered: 1,
     },
@@ -154,28 +152,16 @@ const FAILING: &[Failing] = &[
         flush_fails: false,
         tells: 0,
         status: 3,
-        reports: 1,
+        reports: &[ONE_ANSWERED],
         faults: b"",
         entered: 1,
     },
 ];
 
-/// Whether the bytes are the lines of so many connections, one frame answered in each.
-fn is_reports(bytes: &[u8], count: usize) -> bool {
-    let mut rest = bytes;
-    for _ in 0..count {
-        match rest.strip_prefix(ONE_ANSWERED) {
-            Some(behind) => rest = behind,
-            None => return false,
-        }
-    }
-    rest.is_empty()
-}
-
 /// Compares what came of such streams.
 fn check_failing(failed: &FailingEnd, case: &Failing) -> Result<(), Fail> {
     let (status, entered) = failed.ended;
-    let is_written = is_reports(&failed.output, case.reports);
+    let is_written = is_joined(&failed.output, case.reports);
     check_of(entered == case.entered, case.name, "the orders")?;
     check_of(is_written, case.name, "the output")?;
     check_stop(status, &failed.faults, case.status, case.faults, case.name)

@@ -2,8 +2,7 @@
 
 use super::*;
 
-const ONE_ANSWERED: &[u8] = b"frames=1 answered=1 silent=0 unreadable=0\n";
-
+/// The report of a connection of one frame that has no message.
 const ONE_UNREADABLE: &[u8] = b"frames=1 answered=0 silent=0 unreadable=1\n";
 
 /// What is told of three peers, and what each is answered.
