@@ -12,7 +12,7 @@ ghost use Rattle.iso_issuer.specs.Index.{AreSums, balance_on};
 ghost use Rattle.iso_issuer.specs.Decision.{is_wide, amount_code, account_code, code_of, shown_by, new_answer, repeat_answer};
 ghost use Rattle.iso_order.specs.Order.{money_of};
 
-use crate::balances::{PlacedBalance, Balance, Balances};
+use crate::balances::{Balance, Balances, PlacedBalance};
 use crate::effect::effect_of;
 use crate::journal::{Entry, Journal, is_nothing, smaller_of};
 use iso_order::{Act, Answer, Money, Order};

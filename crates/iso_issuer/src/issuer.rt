@@ -12,7 +12,7 @@ ghost use Rattle.iso_issuer.specs.Decision.{is_shown_for};
 
 use crate::accounts::Accounts;
 use crate::balances::Balances;
-use crate::decision::{new_answer, place_in, repeat_answer, balance_for};
+use crate::decision::{balance_for, new_answer, place_in, repeat_answer};
 use crate::fault::Refused;
 use crate::journal::{Entry, Journal};
 use crate::posting::post_all;
