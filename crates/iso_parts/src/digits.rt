@@ -28,6 +28,7 @@ impl Digits {
 }
 
 /// The number of four ASCII digits, `None` for any other characters. Takes no memory.
+#[inline(always)]
 pub fn four_digits(a: u8, b: u8, c: u8, d: u8) -> Option<u16>
     ensures { result ≡ four_digits a b c d }
 {

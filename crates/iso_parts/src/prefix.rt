@@ -3,7 +3,7 @@
 ghost use Rattle.std.specs.Prelude.{◌≡◌, ◌≤◌, ◌∷◌, [], ◌++◌, length, OnOk, OnErr};
 ghost use Rattle.iso_parts.specs.Spec.{limit, longest_value};
 ghost use Rattle.iso_parts.specs.Part.{prefix};
-ghost use Rattle.iso_parts.specs.Digits.{four_digits_of};
+ghost use Rattle.iso_parts.specs.Digits.{four_digits_of, bcd_characters};
 ghost use Rattle.iso_parts.specs.Reading.{number_of, count_of, prefix_size};
 
 use crate::digits::{Digits, bcd_characters, four_ascii_digits, four_bcd_digits, four_digits};
@@ -30,13 +30,22 @@ pub enum Length {
 }
 
 /// The number of the four characters of a length.
-fn number_of(text: [u8; 4]) -> Result<u16, FieldFault>
-    ensures { result ≡ number_of text }
+fn number_of(k: u8, h: u8, t: u8, o: u8) -> Result<u16, FieldFault>
+    ensures { result ≡ number_of (k ∷ h ∷ t ∷ o ∷ []) }
 {
-    match four_digits(text[0], text[1], text[2], text[3]) {
+    match four_digits(k, h, t, o) {
         Some(number) => Ok(number),
         None => Err(FieldFault::BadLengthDigits),
     }
+}
+
+/// The number of the four digits of a length in two BCD bytes.
+#[inline(always)]
+fn bcd_number_of(x: u8, y: u8) -> Result<u16, FieldFault>
+    ensures { result ≡ number_of (bcd_characters x y) }
+{
+    let text = bcd_characters(x, y);
+    number_of(text[0], text[1], text[2], text[3])
 }
 
 impl Length {
@@ -76,17 +85,17 @@ impl Length {
     {
         match (self, prefix) {
             (Length::Fixed, _) => Ok(max),
-            (Length::LL(Digits::Ascii), [t, o]) => number_of([b'0', b'0', *t, *o]),
-            (Length::LL(Digits::Bcd), [x]) => number_of(bcd_characters(0, *x)),
-            (Length::LLL(Digits::Ascii), [h, t, o]) => number_of([b'0', *h, *t, *o]),
+            (Length::LL(Digits::Ascii), [t, o]) => number_of(b'0', b'0', *t, *o),
+            (Length::LL(Digits::Bcd), [x]) => bcd_number_of(0, *x),
+            (Length::LLL(Digits::Ascii), [h, t, o]) => number_of(b'0', *h, *t, *o),
             (Length::LLL(Digits::Bcd), [x, y]) => {
                 if *x / 16 != 0 {
                     return Err(FieldFault::BadLengthDigits);
                 }
-                number_of(bcd_characters(*x, *y))
+                bcd_number_of(*x, *y)
             }
-            (Length::LLLL(Digits::Ascii), [k, h, t, o]) => number_of([*k, *h, *t, *o]),
-            (Length::LLLL(Digits::Bcd), [x, y]) => number_of(bcd_characters(*x, *y)),
+            (Length::LLLL(Digits::Ascii), [k, h, t, o]) => number_of(*k, *h, *t, *o),
+            (Length::LLLL(Digits::Bcd), [x, y]) => bcd_number_of(*x, *y),
             _ => unreachable!(),
         }
     }
