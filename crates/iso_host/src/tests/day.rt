@@ -226,6 +226,7 @@ pub fn stands_as_written(run: &Run<'_>, day: &Day) -> Result<bool, Fail> {
     let written = run.host.writer.taken.as_slice();
     Ok(day.answers.starts_with(written) && lies_at_a_mark(&run.host.issuer, written.len())?)
 }
+
 /// How these frames end where no read fails and there are turns enough.
 pub fn end_of_frames(
     alloc: Global,
