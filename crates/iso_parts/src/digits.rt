@@ -48,12 +48,7 @@ pub fn four_digits(a: u8, b: u8, c: u8, d: u8) -> Option<u16>
 pub fn bcd_characters(x: u8, y: u8) -> [u8; 4]
     ensures { result ≡ bcd_characters x y }
 {
-    [
-        b'0' + x / 16,
-        b'0' + x % 16,
-        b'0' + y / 16,
-        b'0' + y % 16,
-    ]
+    [b'0' + x / 16, b'0' + x % 16, b'0' + y / 16, b'0' + y % 16]
 }
 
 /// The number of the four digits that the bytes are, `None` for any other bytes. Takes no memory.
