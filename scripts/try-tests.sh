@@ -7,7 +7,7 @@ folder=$(mktemp -d)
 trap 'rm -rf "$folder"' EXIT
 trap 'exit 1' HUP INT TERM
 
-rt try --test > "$folder/told" 2> "$folder/faults"
+rt try --test --seconds 300 > "$folder/told" 2> "$folder/faults"
 
 # FIELD: the count of that name in the line 'test result: ok. 10 passed; 0 failed; ..'
 count() {

@@ -1,5 +1,4 @@
 -- What the echo writes.
--- Public: `act` promises it.
 use Rattle.std.specs.Prelude.{◌≡◌, ◌⊎◌, ℕ, ◌≤◌, List, [], ◌∷◌, ◌++◌, length, take, Option, IfSome, codes}
 use Rattle.std.specs.Io.KnownBytes.{Appends}
 use Rattle.iso_parts.specs.declared.digits.Digits.TheVariants.{Ascii}

@@ -1,5 +1,4 @@
 -- What reading a whole input leaves.
--- Public: `read_all` promises it.
 use Rattle.std.specs.Prelude.{◌≡◌, ℕ, ◌+◌, ◌<◌, ◌≤◌, Result, Ok, Err, vec_len, Vec}
 use Rattle.iso_host.specs.Counts.{Counts}
 use Rattle.iso_cli.specs.declared.streaming.InputFault.{InputFault}

@@ -1,5 +1,4 @@
 -- What telling a stop leaves.
--- Public: `tell`, `tell_as` and `tell_line` promise it.
 use Rattle.std.specs.Prelude.{◌≡◌, ◌⊎◌, ℕ, ◌+◌, List, IfSome}
 use Rattle.std.specs.declared.option.Option.{Option}
 use Rattle.std.specs.Io.KnownBytes.{Appends}

@@ -1,5 +1,4 @@
 -- The journal while bodies are handled: the first order of each key, up to the limit.
--- Public: `serve` and `laws::one_journal` promise it.
 use Rattle.std.specs.Prelude.{◌≡◌, ℕ, List, [], ◌++◌}
 use Rattle.iso_table.specs.Layout.{Layout}
 use Rattle.iso_issuer.specs.Books.{Books}

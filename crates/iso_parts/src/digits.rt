@@ -4,6 +4,8 @@ ghost use Rattle.std.specs.Prelude.{◌≡◌, ◌≤◌};
 ghost use Rattle.iso_parts.specs.Spec.{longest_value};
 ghost use Rattle.iso_parts.specs.Digits.{four_digits, four_digits_of, four_digits_in, bcd_characters};
 
+use crate::prefix::number_of;
+
 /// How decimal digits are written.
 #[derive(Clone, Copy, Debug, PartialEq, Eq)]
 pub enum Digits {
@@ -28,19 +30,10 @@ impl Digits {
 }
 
 /// The number of four ASCII digits, `None` for any other characters. Takes no memory.
-#[inline(always)]
 pub fn four_digits(a: u8, b: u8, c: u8, d: u8) -> Option<u16>
     ensures { result ≡ four_digits a b c d }
 {
-    match (a, b, c, d) {
-        (b'0'..=b'9', b'0'..=b'9', b'0'..=b'9', b'0'..=b'9') => Some(
-            1000 * (a - b'0') as u16
-                + 100 * (b - b'0') as u16
-                + 10 * (c - b'0') as u16
-                + (d - b'0') as u16,
-        ),
-        _ => None,
-    }
+    number_of(a, b, c, d).ok()
 }
 
 /// The characters of the digits in two BCD bytes; a nibble above 9 gives a character that is no digit. Takes no memory.

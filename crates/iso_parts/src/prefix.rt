@@ -6,7 +6,7 @@ ghost use Rattle.iso_parts.specs.Part.{prefix};
 ghost use Rattle.iso_parts.specs.Digits.{four_digits_of, bcd_characters};
 ghost use Rattle.iso_parts.specs.Reading.{number_of, count_of, prefix_size};
 
-use crate::digits::{Digits, bcd_characters, four_ascii_digits, four_bcd_digits, four_digits};
+use crate::digits::{Digits, bcd_characters, four_ascii_digits, four_bcd_digits};
 use crate::fault::FieldFault;
 use std::alloc::AllocError;
 
@@ -30,12 +30,17 @@ pub enum Length {
 }
 
 /// The number of the four characters of a length.
-fn number_of(k: u8, h: u8, t: u8, o: u8) -> Result<u16, FieldFault>
+pub(crate) fn number_of(k: u8, h: u8, t: u8, o: u8) -> Result<u16, FieldFault>
     ensures { result ≡ number_of (k ∷ h ∷ t ∷ o ∷ []) }
 {
-    match four_digits(k, h, t, o) {
-        Some(number) => Ok(number),
-        None => Err(FieldFault::BadLengthDigits),
+    match (k, h, t, o) {
+        (b'0'..=b'9', b'0'..=b'9', b'0'..=b'9', b'0'..=b'9') => Ok(
+            1000 * (k - b'0') as u16
+                + 100 * (h - b'0') as u16
+                + 10 * (t - b'0') as u16
+                + (o - b'0') as u16,
+        ),
+        _ => Err(FieldFault::BadLengthDigits),
     }
 }
 
