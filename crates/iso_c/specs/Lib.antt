@@ -11,4 +11,3 @@ pub mod Packing
 pub mod Names
 pub mod Describing
 pub mod Viewing
-pub mod Later

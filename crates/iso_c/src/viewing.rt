@@ -1,10 +1,6 @@
 //! The body of an element, left where it lies.
 
-ghost use Rattle.std.specs.Prelude.{◌≡◌, ◌+◌, ◌≤◌, ℕ, length, IfOk, IfErr};
-ghost use Rattle.iso_wire.specs.Viewing.{front_of};
-ghost use Rattle.iso_table.specs.Layout.{row_at};
-ghost use Rattle.iso_wire.specs.Elements.{IsAscending};
-ghost use Rattle.iso_c.specs.Later.{from_number, sizes_of};
+ghost use Rattle.std.specs.Prelude.{◌≡◌, IfOk, IfErr};
 ghost use Rattle.iso_c.specs.Viewing.{IsBodyAt, IsViewFault, IsBodyAtHeld, IsViewFaultHeld, ViewsBody};
 
 use crate::answers::{length_of, refuse};
@@ -12,49 +8,21 @@ use crate::fault::{EMPTY_SLOT, NO_ELEMENT, RumpadolFault};
 use crate::parts::RumpadolPart;
 use crate::slot::RumpadolSlot;
 use iso_table::Table;
-use iso_wire::{View, view};
-
-/// How many bytes an element's length takes.
-fn front_size(table: &Table, n: u8) -> usize
-    ensures { result ≡ front_of (row_at table.now.rows n) }
-{
-    match table.row(n) {
-        Some(row) => row.length.prefix_size(),
-        None => 0,
-    }
-}
-
-/// How many bytes the later elements take, with their lengths: no more than `most`.
-fn size_behind(table: &Table, view: &View<'_>, n: u8, most: usize) -> usize
-    requires number { n ≤ 128 }
-    requires ascending { IsAscending 2 view.now.wires }
-    requires fits { sizes_of table.now.rows (from_number (n + 1) view.now.wires) ≤ most }
-    ensures { result ≡ sizes_of table.now.rows (from_number (n + 1) view.now.wires) }
-{
-    let mut size = 0;
-    for k in n + 1..129 {
-        if let Some(wire) = view.wire(k) {
-            size += front_size(table, k) + wire.len();
-        }
-    }
-    size
-}
+use iso_wire::view;
 
 /// Where the body of an element lies in the bytes.
 fn body_at(table: &Table, bytes: &[u8], n: u8) -> Result<RumpadolPart, RumpadolFault>
-    requires { n ≤ 128 }
     ensures ok { IfOk result (IsBodyAt table.now bytes.now n) }
     ensures fault { IfErr result (IsViewFault table.now bytes.now n) }
 {
     let viewed = view(table, bytes)?;
-    let Some(wire) = viewed.wire(n) else {
+    let Some(place) = viewed.place(n) else {
         return Err(RumpadolFault::at_element(NO_ELEMENT, u32::from(n)));
     };
-    let behind = size_behind(table, &viewed, n, viewed.used());
     Ok(RumpadolPart {
         element: u32::from(n),
-        start: viewed.used() - behind - wire.len(),
-        length: wire.len(),
+        start: place.start,
+        length: place.end - place.start,
     })
 }
 

@@ -108,13 +108,13 @@ module _ (laws : PartLaws) where
 
 -- ---- the whole message
 
-abbrev as_view : ℕ → Values × ℕ → Result Viewed UnpackFault
-as_view mti read = Ok (record { mti = mti; used = read.1; wires = read.0 })
+abbrev as_view : List ℕ → ℕ → Values × ℕ → Result Viewed UnpackFault
+as_view b mti read = Ok (record { mti = mti; used = read.1; wires = read.0; bytes = b })
 
 abbrev as_message : ℕ → Values × ℕ → Result (Contents × ℕ) UnpackFault
 as_message mti read = whole (record { mti = mti; elements = read.0 }) read.1
 
-by_elements : (t : Layout) (b : List ℕ) (mti at : ℕ) (x w : Result (Values × ℕ) UnpackFault) → Agrees t.rows at (drop at b) x w → Views t b (w >>= as_view mti) (x >>= as_message mti)
+by_elements : (t : Layout) (b : List ℕ) (mti at : ℕ) (x w : Result (Values × ℕ) UnpackFault) → Agrees t.rows at (drop at b) x w → Views t b (w >>= as_view b mti) (x >>= as_message mti)
 by_elements t b mti at (Err e) (Err f) same = ap Err (sym same)
 by_elements t b mti at (Err e) (Ok w) never = absurd never
 by_elements t b mti at (Ok x) (Err f) never = absurd never
@@ -127,7 +127,7 @@ abbrev message_behind : Layout → List ℕ → ℕ → ℕ × ℕ × ℕ → Re
 message_behind t b mti w = elements_at t.rows (numbers_in w.0 w.1) (mti_size t.mti + w.2) (drop (mti_size t.mti + w.2) b) >>= as_message mti
 
 abbrev view_behind : Layout → List ℕ → ℕ → ℕ × ℕ × ℕ → Result Viewed UnpackFault
-view_behind t b mti w = wires_at t.rows (numbers_in w.0 w.1) (mti_size t.mti + w.2) (drop (mti_size t.mti + w.2) b) >>= as_view mti
+view_behind t b mti w = wires_at t.rows (numbers_in w.0 w.1) (mti_size t.mti + w.2) (drop (mti_size t.mti + w.2) b) >>= as_view b mti
 
 module _ (laws : PartLaws) where
   by_words : (t : Layout) (b : List ℕ) (mti : ℕ) (r : Result (ℕ × ℕ × ℕ) UnpackFault) → AreGood t.rows → AreBytes b → Views t b (r >>= view_behind t b mti) (r >>= message_behind t b mti)

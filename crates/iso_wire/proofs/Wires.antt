@@ -117,6 +117,11 @@ wires_append : (b : List ℕ) (bodies : Bodies) (done : List ℕ) (n : ℕ) → 
 wires_append b bodies [] n = refl
 wires_append b bodies (k ∷ done) n = ap (λ (l : Values). wire_of b bodies k ∷ l) (wires_append b bodies done n)
 
+-- what lies within some bytes lies within more
+within_more : (small large : ℕ) (bodies : Bodies) (ns : List ℕ) → small ≤ large → AreWithin small bodies ns → AreWithin large bodies ns
+within_more small large bodies [] le h = tt
+within_more small large bodies (n ∷ ns) le h = (omega (arith, h.0, le), within_more small large bodies ns le h.1)
+
 within_append : (all : ℕ) (bodies : Bodies) (done : List ℕ) (n : ℕ) → AreWithin all bodies done → IsBodyWithin all bodies n → AreWithin all bodies (done ++ n ∷ [])
 within_append all bodies [] n h le = (le, tt)
 within_append all bodies (k ∷ done) n h le = (h.0, within_append all bodies done n h.1 le)
@@ -131,7 +136,7 @@ pub record BodiesFound (rows : List (Option FieldSpec)) (b : List ℕ) (bodies :
   pub below : AreBelow next done
   pub above : Ascends next ns
   pub read : with_front (wires_in b bodies done) (wires_at rows ns at (drop at b)) ≡ total
-  pub within : AreWithin (length b) bodies done
+  pub within : AreWithin at bodies done
 
 pub found_first : (rows : List (Option FieldSpec)) (b : List ℕ) (bodies : Bodies) (old : List ℕ) (at : ℕ) (total : Result (Values × ℕ) UnpackFault) → Ascends 2 old → wires_at rows old at (drop at b) ≡ total → BodiesFound rows b bodies old old at total
 found_first rows b bodies old at total asc is = record {
@@ -149,9 +154,9 @@ found_first rows b bodies old at total asc is = record {
     nothing (Err e) = refl
 
 pub found_next : (rows : List (Option FieldSpec)) (b : List ℕ) (bodies : Bodies) (old ns rest v : List ℕ) (n at body used start size : ℕ) (total : Result (Values × ℕ) UnpackFault) → BodiesFound rows b bodies old ns at total
-    → ns ≡ n ∷ rest → length bodies.starts ≡ 129 → length bodies.sizes ≡ 129 → body ≡ front_of (row_at rows n) → value_at rows n at (drop at b) ≡ Ok (v, used) → start ≡ at + body → size ≡ used - body → body ≤ used → at + used ≤ length b
+    → ns ≡ n ∷ rest → length bodies.starts ≡ 129 → length bodies.sizes ≡ 129 → body ≡ front_of (row_at rows n) → value_at rows n at (drop at b) ≡ Ok (v, used) → start ≡ at + body → size ≡ used - body → body ≤ used
     → BodiesFound rows b (with_body bodies n start size) old rest (at + used) total
-found_next rows b bodies old ns rest v n at body used start size total h is starts sizes front read begins many inner last =
+found_next rows b bodies old ns rest v n at body used start size total h is starts sizes front read begins many inner =
     let above : Ascends h.next (n ∷ rest) = subst (Ascends h.next) is h.above in
     let below : AreBelow n h.done = below_more h.next n h.done above.0 h.below in
     let new : Bodies = with_body bodies n start size in
@@ -171,13 +176,13 @@ found_next rows b bodies old ns rest v n at body used start size total h is star
       read = ap (λ (l : Values). with_front l (wires_at rows rest (at + used) (drop (at + used) b))) wires
           ∙ ap (λ (l : List ℕ). with_front (wires_in b bodies h.done ++ (n, wire_at (row_at rows n) (drop at b) used) ∷ []) (wires_at rows rest (at + used) l)) (sym (drop-drop used at b))
           ∙ goes_on rows (wires_in b bodies h.done) ns rest n at (drop at b) (v, used) total is read h.read;
-      within = within_append (length b) new h.done n (within_stay (length b) bodies h.done n start size below h.within) (omega (arith, new_start, new_size, begins, many, inner, last));
+      within = within_append (at + used) new h.done n (within_more at (at + used) new h.done (omega arith) (within_stay at bodies h.done n start size below h.within)) (omega (arith, new_start, new_size, begins, many, inner));
     }
 
-pub found_all : (rows : List (Option FieldSpec)) (b : List ℕ) (bodies : Bodies) (old ns : List ℕ) (at : ℕ) (total : Result (Values × ℕ) UnpackFault) → BodiesFound rows b bodies old ns at total → ns ≡ [] → (total ≡ Ok (wires_in b bodies old, at)) × AreWithin (length b) bodies old
+pub found_all : (rows : List (Option FieldSpec)) (b : List ℕ) (bodies : Bodies) (old ns : List ℕ) (at : ℕ) (total : Result (Values × ℕ) UnpackFault) → BodiesFound rows b bodies old ns at total → ns ≡ [] → (total ≡ Ok (wires_in b bodies old, at)) × AreWithin at bodies old
 found_all rows b bodies old ns at total h none =
     let all : h.done ≡ old = sym (append-nil h.done) ∙ ap (λ (l : List ℕ). h.done ++ l) (sym none) ∙ h.numbers in
-    (wires_end rows (wires_in b bodies h.done) ns at (drop at b) total none h.read ∙ ap (λ (l : List ℕ). Ok (wires_in b bodies l, at)) all, subst (AreWithin (length b) bodies) all h.within)
+    (wires_end rows (wires_in b bodies h.done) ns at (drop at b) total none h.read ∙ ap (λ (l : List ℕ). Ok (wires_in b bodies l, at)) all, subst (AreWithin at bodies) all h.within)
 
 -- ---- the body of one element
 

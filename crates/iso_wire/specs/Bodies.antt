@@ -1,6 +1,6 @@
 -- Where the bodies of a message lie in its bytes, and reading them.
 -- Inner: bodies and proofs cite it, and no public clause does.
-use Rattle.std.specs.Prelude.{◌≡◌, ℕ, ◌+◌, ◌-◌, ◌*◌, ◌≤◌, List, [], ◌∷◌, take, drop, map, Option, Some, None, Result, Ok, Err}
+use Rattle.std.specs.Prelude.{◌≡◌, ℕ, ◌+◌, ◌-◌, ◌*◌, ◌≤◌, List, [], ◌∷◌, take, drop, map, Option, Result, Ok, Err}
 use Rattle.std.specs.List.{slice_index_or}
 use Rattle.iso_parts.specs.declared.spec.FieldSpec.{FieldSpec}
 use Rattle.iso_parts.specs.Spec.{longest_value}
@@ -33,7 +33,7 @@ wires_in b bodies ns = map (wire_of b bodies) ns
 
 -- the message of an outline, with its bodies in the bytes
 abbrev pub viewed_of : Outline → List ℕ → Bodies → Viewed
-viewed_of outline b bodies = record { mti = mti_number outline.mti; used = outline.used; wires = wires_in b bodies (members outline.numbers) }
+viewed_of outline b bodies = record { mti = mti_number outline.mti; used = outline.used; wires = wires_in b bodies (members outline.numbers); bytes = b }
 
 -- the body with a number lies within so many bytes
 abbrev pub IsBodyWithin : ℕ → Bodies → ℕ → Type 0
@@ -68,7 +68,7 @@ view_at t b = do
   mti ← type_at t b
   words ← words_at t (mti_size t.mti) (drop (mti_size t.mti) b)
   read ← wires_at t.rows (numbers_in words.0 words.1) (mti_size t.mti + words.2) (drop (mti_size t.mti + words.2) b)
-  Ok (record { mti = mti; used = read.1; wires = read.0 })
+  Ok (record { mti = mti; used = read.1; wires = read.0; bytes = b })
 
 -- a part was judged as reading does, without its value: where its body begins, and how many bytes it takes
 abbrev pub JudgesWire : Option FieldSpec → Result (ℕ × ℕ) UnpackFault → Result (List ℕ × ℕ) UnpackFault → Type 0

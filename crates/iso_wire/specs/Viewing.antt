@@ -1,19 +1,25 @@
 -- A message that is left where it lies: its type, its length, and the bodies of its elements.
-use Rattle.std.specs.Prelude.{◌≡◌, ℕ, ◌≤◌, List, [], ◌∷◌, ◌++◌, length, take, drop, Option, Some, None, Result, Ok, Err}
+use Rattle.std.specs.Prelude.{◌≡◌, ℕ, ◌-◌, ◌≤◌, List, [], ◌∷◌, ◌++◌, length, take, drop, Option, Some, None, Result, Ok, Err}
 use Rattle.iso_parts.specs.Reading.{prefix_size}
 use Rattle.iso_parts.specs.declared.spec.FieldSpec.{FieldSpec}
 use Rattle.iso_parts.specs.Part.{Body, prefix}
 use Rattle.iso_wire.specs.declared.fault.UnpackFault.{UnpackFault}
 use Rattle.iso_wire.specs.Contents.{Contents}
+use Rattle.iso_wire.specs.Elements.{value_in}
 use Rattle.iso_wire.specs.Reading.{whole}
 use Rattle.iso_wire.specs.Spelling.{Spelling}
 use Rattle.iso_table.specs.Layout.{Layout, row_at}
 
--- the type, how many bytes the message takes, and the body of each element, as it lies there
+-- the type, how many bytes the message takes, the body of each element, as it lies there, and the bytes that it all lies in
 pub record Viewed : Type 0 where
   pub mti : ℕ
   pub used : ℕ
   pub wires : List (ℕ × List ℕ)
+  pub bytes : List ℕ
+
+-- the body of an element lies in the message, from one offset up to the other
+abbrev pub LiesAt : Viewed → ℕ → ℕ → ℕ → Type 0
+LiesAt v n start end = (start ≤ end) × (end ≤ v.used) × (value_in v.wires n ≡ Some (take (end - start) (drop start v.bytes)))
 
 -- how many bytes of a part stand before its body
 abbrev pub front_of : Option FieldSpec → ℕ

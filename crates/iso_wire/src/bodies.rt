@@ -1,12 +1,13 @@
 //! A message that lies in the caller's bytes, and where the bodies of its elements lie.
 
-ghost use Rattle.std.specs.Prelude.{◌≡◌, ◌+◌, ◌*◌, ◌≤◌, drop, length, IfOk, MatchOption, None, Some};
+ghost use Rattle.std.specs.Prelude.{◌≡◌, ℕ, ◌+◌, ◌*◌, ◌≤◌, List, drop, length, IfOk, MatchOption, None, Some};
 ghost use Rattle.iso_parts.specs.Mti.{mti_number};
 ghost use Rattle.iso_table.specs.Layout.{row_at, AreGood};
 ghost use Rattle.iso_wire.specs.Elements.{value_in};
 ghost use Rattle.iso_wire.specs.Reading.{value_at};
 ghost use Rattle.iso_parts.specs.Numbers.{members};
-ghost use Rattle.iso_wire.specs.Bodies.{longest_part, wires_in, AreWithin, wires_at, view_at, JudgesWire, FindsBodies, Outlines};
+ghost use Rattle.iso_wire.specs.Bodies.{longest_part, AreWithin, viewed_of, wires_at, view_at, JudgesWire, FindsBodies, Outlines};
+ghost use Rattle.iso_wire.specs.Viewing.{LiesAt};
 
 use crate::fault::{UnpackCause, UnpackFault};
 use crate::front::{type_of, words_of};
@@ -15,6 +16,7 @@ use iso_parts::{Bitmap, Judged, Mti, PLACES, judge_field};
 use iso_table::Table;
 use std::fmt;
 use std::marker::Model;
+use std::ops::Range;
 
 /// Where the bodies of elements lie in the bytes, by their numbers: where each begins, and how many bytes it is.
 #[derive(Clone, Copy, Debug)]
@@ -82,7 +84,7 @@ fn find_bodies(
     requires early { start ≤ 36 }
     requires within { start ≤ length bytes.now }
     ensures exact { FindsBodies bytes.now bodies.new (members numbers) result (wires_at table.now.rows (members numbers) start (drop start bytes.now)) }
-    ensures within { IfOk result (λ end. AreWithin (length bytes.now) bodies.new (members numbers)) }
+    ensures within { IfOk result (λ end. (end ≤ length bytes.now) × AreWithin end bodies.new (members numbers)) }
 {
     let mut rest = numbers;
     let mut at = start;
@@ -107,7 +109,7 @@ pub(crate) fn outline_of(
     bodies: &mut Bodies,
 ) -> Result<Outline, UnpackFault>
     ensures exact { Outlines bytes.now bodies.new result (view_at table.now bytes.now) }
-    ensures within { IfOk result (λ o. AreWithin (length bytes.now) bodies.new (members o.numbers)) }
+    ensures within { IfOk result (λ o. (o.used ≤ length bytes.now) × AreWithin o.used bodies.new (members o.numbers)) }
     ensures good { AreGood table.now.rows }
 {
     let mti = type_of(table, bytes)?;
@@ -119,16 +121,16 @@ pub(crate) fn outline_of(
     Ok(Outline { mti, numbers, used })
 }
 
-/// The body of an element, if its number is there.
-fn body_of<'a>(numbers: Bitmap, bodies: &Bodies, bytes: &'a [u8], n: u8) -> Option<&'a [u8]>
-    requires within { AreWithin (length bytes.now) bodies.now (members numbers) }
-    ensures { MatchOption result (value_in (wires_in bytes.now bodies.now (members numbers)) n ≡ None)
-        (λ v. value_in (wires_in bytes.now bodies.now (members numbers)) n ≡ Some v.now) }
+/// Where the body of an element lies, if its number is there.
+fn place_of(outline: &Outline, bodies: &Bodies, n: u8) -> Option<Range<usize>>
+    requires within { AreWithin outline.now.used bodies.now (members outline.now.numbers) }
+    ensures { MatchOption result ((b : List ℕ) → value_in (viewed_of outline.now b bodies.now).wires n ≡ None)
+        (λ r. (b : List ℕ) → LiesAt (viewed_of outline.now b bodies.now) n r.start r.end) }
 {
-    if numbers.has(n) {
+    if outline.numbers.has(n) {
         let start = bodies.starts[n as usize] as usize;
         let size = bodies.sizes[n as usize] as usize;
-        Some(&bytes[start..start + size])
+        Some(start..start + size)
     } else {
         None
     }
@@ -152,7 +154,7 @@ impl<'a> Model for View<'a> {
 
     ghost view = { λ v. viewed_of v.outline v.bytes.now v.bodies };
 
-    ghost invariant = { λ v. AreWithin (length v.bytes.now) v.bodies (members v.outline.numbers) };
+    ghost invariant = { λ v. (v.outline.used ≤ length v.bytes.now) × AreWithin v.outline.used v.bodies (members v.outline.numbers) };
 }
 
 /// Shows the type and how many bytes the message takes, and none of them.
@@ -180,12 +182,21 @@ impl<'a> View<'a> {
         self.outline.used
     }
 
+    /// Where the body of an element lies in the bytes, behind its length and with its padding, if the message has it.
+    /// Takes no memory.
+    pub fn place(&self, n: u8) -> Option<Range<usize>>
+        ensures { MatchOption result (value_in self.now.wires n ≡ None) (λ r. LiesAt self.now n r.start r.end) }
+    {
+        place_of(&self.outline, &self.bodies, n)
+    }
+
     /// The body of an element as it lies there, behind its length and with its padding, if the message has it. Takes
     /// no memory.
     pub fn wire(&self, n: u8) -> Option<&'a [u8]>
         ensures { MatchOption result (value_in self.now.wires n ≡ None)
             (λ v. value_in self.now.wires n ≡ Some v.now) }
     {
-        body_of(self.outline.numbers, &self.bodies, self.bytes, n)
+        let place = place_of(&self.outline, &self.bodies, n)?;
+        Some(&self.bytes[place])
     }
 }

@@ -1,6 +1,6 @@
 //! Reading a message without copying it.
 
-ghost use Rattle.std.specs.Prelude.{◌≢◌, ◌++◌, ℕ, List, IfOk, IfErr};
+ghost use Rattle.std.specs.Prelude.{◌≡◌, ◌≢◌, ◌++◌, ℕ, List, IfOk, IfErr};
 ghost use Rattle.iso_wire.specs.declared.fault.UnpackCause.{UnpackCause};
 ghost use Rattle.iso_wire.specs.declared.fault.UnpackCause.TheVariants.{Short, Memory};
 ghost use Rattle.iso_wire.specs.Reading.{halt, message_at};
@@ -18,6 +18,8 @@ use iso_table::Table;
 pub fn view<'a>(table: &Table, bytes: &'a [u8]) -> Result<View<'a>, UnpackFault>
     // What is viewed is spelled by the first bytes, and its bodies are those of that spelling.
     ensures found { IfOk result (λ v. IsViewed table.now v bytes.now) }
+    // The bodies lie in the bytes that are given.
+    ensures bytes { IfOk result (λ v. v.bytes ≡ bytes.now) }
     // What the first bytes spell is viewed.
     ensures only { ViewsSpelled table.now bytes.now result }
     // The bodies are those of the message that reading gives. Which fault it is, and where;

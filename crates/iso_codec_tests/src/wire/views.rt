@@ -1,6 +1,7 @@
 //! Messages that are left where they lie.
 
 use super::*;
+use std::ops::Range;
 
 /// A message, and the bodies of its elements as they lie there.
 #[derive(Drop)]
@@ -146,6 +147,31 @@ fn check_bodies(table: &Table) -> Result<(), Fail> {
 fn a_body_is_a_slice_of_the_callers_bytes(rt: HostRuntime) -> Result<(), Fail> {
     let table = ascii87(rt.alloc())?;
     check_bodies(&table)
+}
+
+fn has_place(seen: &View, n: u8, place: Option<Range<usize>>) -> bool {
+    seen.place(n) == place
+}
+
+/// Whether the view says that the body lies there.
+fn places(table: &Table, bytes: &[u8], n: u8, place: Option<Range<usize>>) -> Result<bool, Fail> {
+    let seen = view(table, bytes)?;
+    Ok(has_place(&seen, n, place))
+}
+
+/// That the view says where elements of the payment lie, the last one at its end, and that one isn't there.
+fn check_places(table: &Table) -> Result<(), Fail> {
+    check(places(table, PAYMENT, 2, Some(22..38))?, "element 2")?;
+    check(places(table, PAYMENT, 32, Some(74..79))?, "element 32")?;
+    check(places(table, PAYMENT, 49, Some(79..82))?, "element 49")?;
+    check(places(table, PAYMENT, 5, None)?, "element 5")?;
+    check(places(table, PAYMENT, 255, None)?, "element 255")
+}
+
+#[test]
+fn a_view_says_where_a_body_lies(rt: HostRuntime) -> Result<(), Fail> {
+    let table = ascii87(rt.alloc())?;
+    check_places(&table)
 }
 
 fn shows_view(alloc: Global, seen: &View, want: &str) -> Result<bool, Fail> {
