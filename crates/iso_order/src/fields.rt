@@ -6,6 +6,7 @@ ghost use Rattle.iso_parts.specs.Class.{is_digit};
 ghost use Rattle.iso_wire.specs.Elements.{has};
 ghost use Rattle.iso_order.specs.Fields.{version, class, function, origin, text, number_from, base_of, has_key, key_of};
 ghost use Rattle.iso_parts.specs.Mti.{is_answered, mti_number};
+ghost use Rattle.iso_wire.specs.Decimal.{number};
 ghost use Rattle.iso_order.specs.Key.{class_digit, function_digit, is_valid_key};
 
 use crate::key::TxKey;
@@ -48,6 +49,15 @@ pub(crate) fn has(message: &Message, n: u8) -> bool
     ensures { result ≡ has message.now.elements n }
 {
     message.get(n).is_some()
+}
+
+/// The type that four digits write.
+pub(crate) fn type_in(digits: &[u8]) -> Mti
+    requires digits { list_all is_digit digits.now ≡ true }
+    requires four { length digits.now ≡ 4 }
+    ensures { mti_number result ≡ number digits.now }
+{
+    Mti::from_text(digits).unwrap()
 }
 
 /// The type that a number of four digits writes.

@@ -10,7 +10,7 @@ ghost use Rattle.iso_order.specs.Verdict.{first_of, completion_lines};
 ghost use Rattle.iso_order.specs.declared.verdict.Verdict.{Verdict};
 ghost use Rattle.iso_order.specs.declared.verdict.Verdict.TheVariants.{Reply};
 
-use crate::fields::{base_of, has, mti_of, number_from, text};
+use crate::fields::{base_of, has, number_from, text, type_in};
 use crate::key::TxKey;
 use iso_wire::{Message, are_digits};
 
@@ -36,16 +36,16 @@ pub(crate) fn original_of(message: &Message, key: &TxKey) -> Option<Original>
     if !are_digits(data, 42, 42) {
         return None;
     }
-    let mti = number_from(data, 0, 4) as u16;
+    let mti = type_in(&data[..4]);
     let acquirer = number_from(data, 20, 11);
     let named = TxKey {
-        base: base_of(mti_of(mti)),
+        base: base_of(mti),
         stan: number_from(data, 4, 6) as u32,
         sent: number_from(data, 10, 10),
         acquirer: key.acquirer,
     };
     Some(Original {
-        mti,
+        mti: mti.number(),
         key: named,
         is_own: acquirer == 0 || acquirer == key.acquirer,
     })
