@@ -4,7 +4,7 @@ use Rattle.iso_order.specs.declared.key.TxKey.{TxKey}
 use Rattle.iso_order.specs.declared.act.Act.TheVariants.{Debit, Undo}
 use Rattle.iso_order.specs.Pan.{AccountNumber}
 use Rattle.iso_order.specs.Key.{same_key}
-use Rattle.iso_order.specs.Order.{Instruction, is_currency}
+use Rattle.iso_order.specs.Order.{most_amount, Instruction, is_currency}
 use Rattle.iso_acquirer.specs.declared.fault.AcqFault.{AcqFault}
 use Rattle.iso_acquirer.specs.declared.fault.AcqFault.TheVariants.{NoMoreTrace, NoSuch, Closed}
 use Rattle.iso_acquirer.specs.declared.slot.Slot.{Slot}
@@ -91,7 +91,7 @@ slots_with slots o = slots ++ transaction_of o ∷ []
 -- what the caller gives: 1 to twelve nines (element 4), three letters or digits (element 49), ten digits (element 7)
 pub record IsFair (amount : ℕ) (currency : List ℕ) (sent : ℕ) : Type 0 where
   pub least : 1 ≤ amount
-  pub most : amount ≤ 999999999999
+  pub most : amount ≤ most_amount
   pub currency_fits : is_currency currency ≡ true
   pub sent_fits : sent ≤ 9999999999
 

@@ -1,5 +1,5 @@
 -- How an order is answered. Which case gets which code is our own rule.
-use Rattle.std.specs.Prelude.{ℕ, Bool, List, [], ◌∷◌, ◌++◌, ◌==◌, ◌&&◌, ◌||◌, ◌+◌, length, Option, Some, None, option_map, if◌then◌else◌, ℤ, pos, negsuc, int_lt, true, nat_le, unsigned_abs}
+use Rattle.std.specs.Prelude.{ℕ, Bool, List, [], ◌∷◌, ◌++◌, ◌==◌, ◌&&◌, ◌||◌, ◌+◌, length, Option, Some, None, option_map, if◌then◌else◌, ℤ, pos, int_lt, true, nat_le, nat_lt, unsigned_abs}
 use Rattle.iso_order.specs.declared.key.TxKey.{TxKey}
 use Rattle.iso_order.specs.declared.act.Act.{Act}
 use Rattle.iso_order.specs.declared.act.Act.TheVariants.{Debit, Credit, Inquiry, Undo, Complete}
@@ -7,7 +7,7 @@ use Rattle.iso_order.specs.declared.act.Money.{Money}
 use Rattle.iso_order.specs.Outcome.{Outcome, code_alone}
 use Rattle.iso_order.specs.Response.{is_inquiry_order}
 use Rattle.iso_order.specs.Key.{function_digit}
-use Rattle.iso_order.specs.Order.{Instruction, same_order, same_currency, money_of}
+use Rattle.iso_order.specs.Order.{most_amount, Instruction, same_order, same_currency, money_of}
 use Rattle.iso_issuer.specs.declared.account.Account.{Account}
 use Rattle.iso_issuer.specs.declared.journal.Entry.{Entry}
 use Rattle.iso_issuer.specs.declared.effect.Effect.{Effect}
@@ -20,7 +20,7 @@ use Rattle.iso_issuer.specs.Balance.{available}
 
 -- more than twelve digits
 abbrev pub is_wide : ℤ → Bool
-is_wide z = int_lt (pos 999999999999) z || int_lt z (negsuc 999999999998)
+is_wide z = nat_lt most_amount (unsigned_abs z)
 
 -- on its account: an inquiry has 96 where it can't be shown, a debit that is a request 51 where what is left of it is over the available amount
 abbrev pub amount_code : List Entry → TxKey → Option Effect → Account → ℕ
@@ -94,4 +94,4 @@ answer_for accounts journal o = answer_by accounts journal o (entry_at journal o
 -- a balance of at most twelve digits is shown for an inquiry, and none for another act
 abbrev pub is_shown_for : Act → Option ℤ → Bool
 is_shown_for act None = true
-is_shown_for act (Some z) = nat_le (unsigned_abs z) 999999999999 && is_inquiry_order act
+is_shown_for act (Some z) = nat_le (unsigned_abs z) most_amount && is_inquiry_order act

@@ -15,13 +15,13 @@ ghost use Rattle.iso_order.specs.Order.{money_of};
 use crate::balances::{Balance, Balances, PlacedBalance};
 use crate::effect::effect_of;
 use crate::journal::{Entry, Journal, is_nothing, smaller_of};
-use iso_order::{Act, Answer, Money, Order};
+use iso_order::{Act, Answer, MOST_AMOUNT, Money, Order};
 
 /// Whether an amount has more than twelve digits.
 fn is_wide(amount: i64) -> bool
     ensures { result ≡ is_wide amount }
 {
-    amount > 999_999_999_999 || amount < -999_999_999_999
+    amount.unsigned_abs() > MOST_AMOUNT
 }
 
 /// The code on an account that is there and has the currency.

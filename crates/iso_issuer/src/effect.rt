@@ -1,6 +1,7 @@
 //! What an order does to its account.
 
 ghost use Rattle.std.specs.Prelude.{◌≡◌, ◌≤◌, true, None, IfSome};
+ghost use Rattle.iso_order.specs.Order.{most_amount};
 ghost use Rattle.iso_order.specs.declared.key.TxKey.{TxKey};
 ghost use Rattle.iso_order.specs.Key.{class_digit};
 ghost use Rattle.iso_issuer.specs.Journal.{undone_key};
@@ -102,7 +103,7 @@ pub fn effect_amount(effect: Option<Effect>) -> u64
 /// What an order does to its account, where it does anything.
 pub fn effect_of(order: Order) -> Option<Effect>
     ensures value { result ≡ effect_of order }
-    ensures small { IfSome result (λ f. f.amount ≤ 999999999999) }
+    ensures small { IfSome result (λ f. f.amount ≤ most_amount) }
     ensures own { IfSome result (λ f. undone_key order.act ≡ None) }
     // What ends a hold is of class 2, and a hold of class 1.
     ensures ends { (q : TxKey) → is_key (ended_by result) q ≡ true → (class_digit q ≡ 1) × (class_digit order.key ≡ 2) }

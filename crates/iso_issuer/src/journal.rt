@@ -1,5 +1,6 @@
 //! The journal: the orders that were entered, each with the answer that it was given.
 
+ghost use Rattle.iso_order.specs.Order.{most_amount};
 ghost use Rattle.iso_issuer.specs.Effect.{is_key, effect_of};
 ghost use Rattle.iso_issuer.specs.Found.{touched_at, is_of_earlier, weight_in, IsFoundFor};
 ghost use Rattle.iso_issuer.specs.declared.journal.Entry.{Entry};
@@ -222,7 +223,7 @@ impl Journal {
     pub fn weight(&self, entry: &Entry, left: Option<u64>) -> u64
         requires { is_some (effect_of entry.now.order) ≡ true → left ≡ left_at self.now entry.now.order.key }
         ensures value { result ≡ weight self.now entry.now }
-        ensures small { result ≤ 999999999999 }
+        ensures small { result ≤ most_amount }
     {
         let effect = effect_of(entry.order);
         if is_counted_with(left, entry) && !self.is_ended(entry.order.key(), &effect) {
@@ -235,7 +236,7 @@ impl Journal {
     /// An entry with what the first reversal of it leaves, and its weight.
     fn touched_at(&self, entry: Option<Entry>) -> Option<Touched>
         ensures value { result ≡ touched_at self.now entry }
-        ensures small { weight_in result ≤ 999999999999 }
+        ensures small { weight_in result ≤ most_amount }
     {
         match entry {
             Some(entry) => {
@@ -301,8 +302,8 @@ impl Journal {
     /// What an order finds.
     pub fn find(&self, order: Order) -> Found
         ensures found { IsFoundFor self.now order result }
-        ensures reversed { weight_in result.reversed ≤ 999999999999 }
-        ensures released { weight_in result.released ≤ 999999999999 }
+        ensures reversed { weight_in result.reversed ≤ most_amount }
+        ensures released { weight_in result.released ≤ most_amount }
         ensures apart { (q : TxKey) → is_key (ended_key self.now order) q ≡ true → is_key (undone_key order.act) q ≡ false }
     {
         if !is_of_earlier(order) {

@@ -2,6 +2,7 @@
 
 ghost use Rattle.std.specs.Prelude.{◌≡◌, ◌≤◌, ◌+◌, ℕ, ◌-ℤ◌, All, map, Some, option_map};
 ghost use Rattle.std.specs.Option.{option_or};
+ghost use Rattle.iso_order.specs.Order.{most_amount};
 ghost use Rattle.iso_order.specs.Pan.{AccountNumber};
 ghost use Rattle.iso_issuer.specs.Effect.{effect_of};
 ghost use Rattle.iso_issuer.specs.declared.found.Touched.{Touched};
@@ -50,8 +51,8 @@ fn change_by(effect: Effect, grown: i64) -> Change
 
 /// What it does to the account of an entry that its weight goes from one amount to another.
 fn change_of(entry: Entry, before: u64, after: u64) -> Option<Change>
-    requires before { before ≤ 999999999999 }
-    requires after { after ≤ 999999999999 }
+    requires before { before ≤ most_amount }
+    requires after { after ≤ most_amount }
     ensures pan { option_map (λ c. c.pan) result ≡ option_map (λ f. f.pan) (effect_of entry.order) }
     ensures ledger { (pan : AccountNumber) → on_ledger result pan
         ≡ ledger_share pan (effect_of entry.order) after -ℤ ledger_share pan (effect_of entry.order) before }
@@ -65,8 +66,8 @@ fn change_of(entry: Entry, before: u64, after: u64) -> Option<Change>
 /// Posts what the weight of an entry changed, where the place of its account is known.
 fn post_at(balances: &mut Balances, entry: Entry, before: u64, after: u64, place: Option<usize>)
     requires near { All (IsNear 2999999) balances.old }
-    requires before { before ≤ 999999999999 }
-    requires after { after ≤ 999999999999 }
+    requires before { before ≤ most_amount }
+    requires after { after ≤ most_amount }
     requires place { (f : Effect) → effect_of entry.order ≡ Some f → place ≡ account_place (accounts_of balances.old) f.pan }
     ensures moved { balances.new ≡ map (balance_by_weights (effect_of entry.order) before after) balances.old }
     ensures near { (n : ℕ) → All (IsNear n) balances.old → All (IsNear (n + 1)) balances.new }
@@ -95,7 +96,7 @@ fn post_touched(
     left_now: Option<u64>,
 )
     requires near { All (IsNear 2999999) balances.old }
-    requires before { weight_in touched.now ≤ 999999999999 }
+    requires before { weight_in touched.now ≤ most_amount }
     requires left { (t : Touched) → touched.now ≡ Some t → option_or t.left left_now ≡ left_at journal.now t.entry.order.key }
     ensures moved { balances.new ≡ map (balance_by_weights (effect_at (entry_in touched.now)) (weight_in touched.now)
         (weight_at journal.now (entry_in touched.now))) balances.old }
@@ -130,8 +131,8 @@ pub fn post_all(
     requires place { (f : Effect) → effect_of entry.order ≡ Some f → place ≡ account_place (accounts_of balances.old) f.pan }
     requires near { All (IsNear 2999997) balances.old }
     requires found { WasFoundFor journal.now entry.order found.now }
-    requires reversed { weight_in found.now.reversed ≤ 999999999999 }
-    requires released { weight_in found.now.released ≤ 999999999999 }
+    requires reversed { weight_in found.now.reversed ≤ most_amount }
+    requires released { weight_in found.now.released ≤ most_amount }
     ensures moved { balances.new
         ≡ map (balance_by_weights (effect_at (entry_in found.now.released)) (weight_in found.now.released)
         (weight_at journal.now (entry_in found.now.released)))

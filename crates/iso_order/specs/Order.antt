@@ -32,9 +32,13 @@ currency_of text = if is_currency text then Some text else None
 abbrev pub is_account : Money → Bool
 is_account m = is_pan m.pan && is_currency m.currency
 
--- an amount from 1 to twelve nines (element 4)
+-- the largest amount: twelve nines, in minor units (element 4, amount, transaction)
+abbrev pub most_amount : ℕ
+most_amount = 999999999999
+
+-- an amount that is moved, from 1 on
 abbrev pub has_amount : Money → Bool
-has_amount m = is_account m && nat_le 1 m.amount && nat_le m.amount 999999999999
+has_amount m = is_account m && nat_le 1 m.amount && nat_le m.amount most_amount
 
 -- class 1 or 2
 abbrev pub is_payment : TxKey → Bool
@@ -51,7 +55,7 @@ is_valid_act key (Credit m) = class_digit key == 2 && has_amount m
 is_valid_act key (Inquiry m) = is_payment key && function_digit key == 0 && m.amount == 0 && is_account m
 is_valid_act key (Undo original left) =
     class_digit key == 4 && is_valid_key original && is_payment original && original.acquirer == key.acquirer
-    && nat_le left 999999999999
+    && nat_le left most_amount
 is_valid_act key (Complete m hold) =
     class_digit key == 2 && function_digit key == 2 && has_amount m && is_hold_for key hold
 

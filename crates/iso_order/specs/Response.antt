@@ -9,6 +9,7 @@ use Rattle.iso_order.specs.declared.verdict.Verdict.{Verdict}
 use Rattle.iso_order.specs.declared.verdict.Verdict.TheVariants.{Order, Reply, Silent}
 use Rattle.iso_order.specs.Fields.{class, text, base_of}
 use Rattle.iso_order.specs.Listing.{elements_from}
+use Rattle.iso_order.specs.Order.{most_amount}
 use Rattle.iso_order.specs.Outcome.{Outcome}
 use Rattle.iso_order.specs.Verdict.{verdict}
 
@@ -77,4 +78,4 @@ is_balance_inquiry Silent = false
 -- an amount of at most twelve digits, shown in answer to an inquiry alone
 abbrev pub is_showable : Contents → Option ℤ → Bool
 is_showable m None = true
-is_showable m (Some z) = nat_le (unsigned_abs z) 999999999999 && is_balance_inquiry (verdict m)
+is_showable m (Some z) = nat_le (unsigned_abs z) most_amount && is_balance_inquiry (verdict m)

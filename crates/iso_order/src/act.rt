@@ -8,6 +8,9 @@ ghost use Rattle.iso_order.specs.Order.{is_valid_act, same_money, same_act, mone
 use crate::key::TxKey;
 use crate::pan::Pan;
 
+/// The largest amount: twelve nines, in minor units (element 4, amount, transaction).
+pub const MOST_AMOUNT: u64 = 999_999_999_999;
+
 /// An amount of a currency, on an account.
 #[derive(Clone, Copy, Debug, PartialEq, Eq)]
 pub struct Money {
@@ -94,11 +97,11 @@ impl Money {
         self.pan == other.pan && self.amount == other.amount && self.currency == other.currency
     }
 
-    /// Whether it is an amount that can be moved: 1 to 999,999,999,999.
+    /// Whether it is an amount that can be moved: 1 to `MOST_AMOUNT`.
     fn has_amount(&self) -> bool
         ensures { result ≡ has_amount self.now }
     {
-        self.is_account() && 1 <= self.amount && self.amount <= 999_999_999_999
+        self.is_account() && 1 <= self.amount && self.amount <= MOST_AMOUNT
     }
 }
 
@@ -165,7 +168,7 @@ impl Act {
                     && original.is_valid()
                     && matches!(original.class(), 1 | 2)
                     && original.acquirer == key.acquirer
-                    && *left <= 999_999_999_999
+                    && *left <= MOST_AMOUNT
             }
             Act::Complete { money, hold } => {
                 key.class() == 2

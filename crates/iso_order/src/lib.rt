@@ -14,7 +14,7 @@ mod response;
 mod told;
 mod verdict;
 
-pub use act::{Act, Money, currency_of};
+pub use act::{Act, MOST_AMOUNT, Money, currency_of};
 pub use answer::Answer;
 pub use iso_table::NoMemory;
 pub use key::TxKey;

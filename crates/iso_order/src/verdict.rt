@@ -7,7 +7,7 @@ ghost use Rattle.iso_order.specs.Fields.{version, class, function, origin, key_o
 ghost use Rattle.iso_parts.specs.Mti.{is_answered};
 ghost use Rattle.iso_order.specs.Fields.{is_inquiry, message_money, number_from, is_replacement, left_of, is_completion, hold_of};
 ghost use Rattle.iso_order.specs.Key.{class_digit, function_digit, is_valid_key};
-ghost use Rattle.iso_order.specs.Order.{is_valid, is_hold_for, is_account, is_currency, is_payment};
+ghost use Rattle.iso_order.specs.Order.{most_amount, is_valid, is_hold_for, is_account, is_currency, is_payment};
 ghost use Rattle.iso_wire.specs.Decimal.{are_digits};
 ghost use Rattle.iso_order.specs.Verdict.{first_of, network_lines, key_lines, original_lines, reversal_lines, completion_lines};
 ghost use Rattle.iso_order.specs.Verdict.{account_lines, act_lines, amount_lines, debited_by, credit_verdict, verdict, IfReply, IfOrder};
@@ -47,7 +47,7 @@ fn network_verdict(message: &Message) -> Verdict
 /// What a reversal leaves: nothing, or the first of the replacement amounts.
 fn left_of(message: &Message) -> Option<u64>
     ensures value { result ≡ (if is_replacement message.now then Some (left_of message.now) else None) }
-    ensures small { IfSome result (λ left. left ≤ 999999999999) }
+    ensures small { IfSome result (λ left. left ≤ most_amount) }
 {
     if !has(message, 95) {
         return Some(0);
@@ -62,7 +62,7 @@ fn left_of(message: &Message) -> Option<u64>
 /// Class 4: a reversal of the transaction that element 90 names, which leaves so much.
 fn original_verdict(message: &Message, key: &TxKey, left: u64) -> Verdict
     requires left { left ≡ left_of message.now }
-    requires small { left ≤ 999999999999 }
+    requires small { left ≤ most_amount }
     requires class { class message.now ≡ 4 }
     requires key { key.now ≡ key_of message.now }
     requires valid { is_valid_key key.now ≡ true }

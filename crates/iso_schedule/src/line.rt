@@ -5,10 +5,7 @@ ghost use Rattle.iso_acquirer.specs.World.{IsFairEvent};
 ghost use Rattle.iso_schedule.specs.Line.{IsFairLine};
 
 use iso_acquirer::Event;
-use iso_order::Pan;
-
-/// The largest amount, in minor units.
-const MOST: u64 = 999_999_999_999;
+use iso_order::{MOST_AMOUNT, Pan};
 
 /// When each purchase is sent: month, day, hour, minute, second.
 const SENT: u64 = 102_030_405;
@@ -30,7 +27,7 @@ fn event_of(pan: Pan, word: &str, number: u64) -> Option<Event>
 {
     match word {
         "begin" => {
-            if number == 0 || number > MOST {
+            if number == 0 || number > MOST_AMOUNT {
                 return None;
             }
             Some(Event::Begin {
