@@ -1,5 +1,6 @@
 -- A message as lines for human eyes: its type with the words for its digits, and each element.
-use Rattle.std.specs.Prelude.{ℕ, ◌+◌, ◌-◌, ◌/◌, ◌%◌, ◌==◌, nat_lt, Bool, if◌then◌else◌, List, [], ◌∷◌, ◌++◌, length, take, drop, replicate, Option, Some, None, codes}
+use Rattle.std.specs.Prelude.{ℕ, ◌+◌, ◌-◌, ◌/◌, ◌%◌, ◌==◌, Bool, if◌then◌else◌, List, [], ◌∷◌, ◌++◌, length, take, drop, replicate, Option, Some, None, codes}
+use Rattle.hex.specs.Hex.{encode_upper}
 use Rattle.iso_parts.specs.Digits.{four_digits_of}
 use Rattle.iso_parts.specs.declared.digits.Digits.TheVariants.{Ascii}
 use Rattle.iso_parts.specs.declared.class.CharClass.{CharClass}
@@ -61,18 +62,10 @@ type_line n =
 
 -- ---- an element
 
--- a hexadecimal digit in upper case
-abbrev pub hex_digit : ℕ → ℕ
-hex_digit d = if nat_lt d 10 then 48 + d else 55 + d
-
-abbrev pub hex_of : List ℕ → List ℕ
-hex_of [] = []
-hex_of (b ∷ bs) = hex_digit (b / 16) ∷ hex_digit (b % 16) ∷ hex_of bs
-
--- bytes of class B as hexadecimal digits, any others as they are
-abbrev pub plain_text : CharClass → List ℕ → List ℕ
-plain_text classes.B b = hex_of b
-plain_text class b = b
+-- bytes in clear: of class B as hexadecimal digits, any others as they are
+abbrev pub clear_text : CharClass → List ℕ → List ℕ
+clear_text classes.B b = encode_upper b
+clear_text class b = b
 
 -- the class of a row; B where there is none
 abbrev pub class_by : Option FieldSpec → CharClass
@@ -84,11 +77,11 @@ abbrev pub value_text : CharClass → ℕ → List ℕ → List ℕ
 value_text class n v =
     let front : ℕ = shown_front n (length v) in
     let end : ℕ = shown_end n (length v) in
-    plain_text class (take front v) ++ (replicate (length v - front - end) 42 ++ plain_text class (drop (length v - end) v))
+    clear_text class (take front v) ++ (replicate (length v - front - end) 42 ++ clear_text class (drop (length v - end) v))
 
 -- the whole value, or what a bystander may read of it
 abbrev pub shown_text : Bool → CharClass → ℕ → List ℕ → List ℕ
-shown_text is_clear class n v = if is_clear then plain_text class v else value_text class n v
+shown_text is_clear class n v = if is_clear then clear_text class v else value_text class n v
 
 abbrev pub element_line : Bool → List (Option FieldSpec) → ℕ → List ℕ → List ℕ
 element_line is_clear rows n v = codes "DE" ++ (decimal 3 n ++ (61 ∷ shown_text is_clear (class_by (row_at rows n)) n v ++ 10 ∷ []))

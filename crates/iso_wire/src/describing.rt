@@ -1,8 +1,9 @@
 //! A message as lines for human eyes.
 
-ghost use Rattle.std.specs.Prelude.{◌≡◌, ◌<◌, ◌++◌, IfOk, OnOk, replicate, true, false};
+ghost use Rattle.std.specs.Prelude.{◌≡◌, ◌<◌, ◌++◌, slice_index, IfOk, OnOk, replicate, true, false};
+ghost use Rattle.hex.specs.Hex.{encode_upper, upper_digits};
 ghost use Rattle.iso_table.specs.Layout.{row_at};
-ghost use Rattle.iso_wire.specs.Describing.{hex_digit, hex_of, plain_text, value_text, shown_text, class_by};
+ghost use Rattle.iso_wire.specs.Describing.{clear_text, value_text, shown_text, class_by};
 ghost use Rattle.iso_wire.specs.Describing.{element_line, element_lines, description};
 
 use crate::decimal::write_decimal;
@@ -16,14 +17,15 @@ use std::alloc::{AllocError, Global};
 /// A hexadecimal digit in upper case.
 fn hex_digit(d: u8) -> u8
     requires { d < 16 }
-    ensures { result ≡ hex_digit d }
+    ensures { result ≡ slice_index upper_digits d }
 {
-    if d < 10 { b'0' + d } else { b'7' + d }
+    b"0123456789ABCDEF"[d as usize]
 }
 
 /// Appends two hexadecimal digits for each byte.
+#[tactic(auto, unfolding(hex::specs::Hex::encode_with))]
 fn push_hex(bytes: &[u8], out: &mut Vec<u8>) -> Result<(), AllocError>
-    ensures { OnOk result (out.new.items ≡ out.old.items ++ hex_of bytes.now) }
+    ensures { OnOk result (out.new.items ≡ out.old.items ++ encode_upper bytes.now) }
 {
     for b in bytes {
         out.extend_from_slice(&[hex_digit(*b / 16), hex_digit(*b % 16)])?;
@@ -33,7 +35,7 @@ fn push_hex(bytes: &[u8], out: &mut Vec<u8>) -> Result<(), AllocError>
 
 /// Appends bytes as a row of the class shows them.
 fn push_text(class: CharClass, bytes: &[u8], out: &mut Vec<u8>) -> Result<(), AllocError>
-    ensures { OnOk result (out.new.items ≡ out.old.items ++ plain_text class bytes.now) }
+    ensures { OnOk result (out.new.items ≡ out.old.items ++ clear_text class bytes.now) }
 {
     match class {
         CharClass::B => push_hex(bytes, out),
