@@ -33,12 +33,6 @@ low_nibble b at odd h = low b (at / 2) at (omega arith) (omega arith)
 
 -- ---- pads at the front
 
-pub start_step : (p : ℕ) (w : List ℕ) (at : ℕ) → at < length w → get_or w at 0 ≡ p → without_front p (drop at w) ≡ without_front p (drop (at + 1) w)
-start_step p w at h same = ap (without_front p) (drop_more w at 0 h) ∙ ap (λ (t : Bool). cond t (without_front p (drop (at + 1) w)) (get_or w at 0 ∷ drop (at + 1) w)) (eq-eqb (get_or w at 0) p same)
-
-pub start_stop : (p : ℕ) (w : List ℕ) (at : ℕ) → at < length w → get_or w at 0 ≢ p → without_front p (drop at w) ≡ drop at w
-start_stop p w at h other = ap (without_front p) (drop_more w at 0 h) ∙ ap (λ (t : Bool). cond t (without_front p (drop (at + 1) w)) (get_or w at 0 ∷ drop (at + 1) w)) (ne_eqb (get_or w at 0) p other) ∙ sym (drop_more w at 0 h)
-
 pub start_none : (p : ℕ) (w : List ℕ) (at : ℕ) → length w ≤ at → without_front p (drop at w) ≡ drop at w
 start_none p [] zero h = refl
 start_none p [] (suc at) h = refl
@@ -77,11 +71,6 @@ end_stop p w from to some within other =
     ∙ ap (λ (t : Bool). cond t (without_front p before) (get_or w (to - 1) 0 ∷ before)) (ne_eqb (get_or w (to - 1) 0) p other)
     ∙ sym (last_first w from to some within) in
     ap reverse kept ∙ reverse-reverse (take (to - from) (drop from w))
-
-pub end_none : (p : ℕ) (w : List ℕ) (from to : ℕ) → to ≤ from → reverse (without_front p (reverse (take (to - from) (drop from w)))) ≡ take (to - from) (drop from w)
-end_none p w from to none =
-    let no : to - from ≡ 0 = omega arith in
-    ap (λ (k : ℕ). reverse (without_front p (reverse (take k (drop from w))))) no ∙ sym (ap (λ (k : ℕ). take k (drop from w)) no)
 
 -- ---- digits from one place to another
 

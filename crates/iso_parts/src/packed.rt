@@ -46,7 +46,6 @@ fn character_at(body: &[u8], at: usize) -> u8
 }
 
 /// Where the value starts behind its pads.
-#[tactic(auto, using(crate::proofs::Nibbles::start_step, crate::proofs::Nibbles::start_stop, crate::proofs::Nibbles::start_none, crate::proofs::Texts::length_characters))]
 fn value_start(pad: u8, from: usize, body: &[u8]) -> usize
     requires { from ≤ 2 * length body.now }
     ensures rest { drop result (characters body.now) ≡ without_front pad (drop from (characters body.now)) }
@@ -63,7 +62,6 @@ fn value_start(pad: u8, from: usize, body: &[u8]) -> usize
 }
 
 /// Where the value ends before its pads.
-#[tactic(auto, using(crate::proofs::Nibbles::end_step, crate::proofs::Nibbles::end_stop, crate::proofs::Nibbles::end_none, crate::proofs::Nibbles::whole_rest, crate::proofs::Texts::length_characters))]
 fn value_end(pad: u8, from: usize, body: &[u8]) -> usize
     requires { from ≤ 2 * length body.now }
     ensures front { take (result - from) (drop from (characters body.now)) ≡ reverse (without_front pad (reverse (drop from (characters body.now)))) }
