@@ -118,12 +118,12 @@ IsNotDelivered old place fault.OwnKey = ⊥
 IsNotDelivered old place (fault.Acquirer e) = ⊥
 
 -- no answer was given at that place
-abbrev pub IsNotTold : World → ℕ → StepFault → Type 0
-IsNotTold old place fault.NoSuch = slice_get old.given place ≡ None
-IsNotTold old place fault.Memory = ⊥
-IsNotTold old place fault.OwnKey = ⊥
-IsNotTold old place (fault.Acquirer e) = ⊥
-IsNotTold old place (fault.Issuer e) = ⊥
+abbrev pub IsAnswerNotGiven : World → ℕ → StepFault → Type 0
+IsAnswerNotGiven old place fault.NoSuch = slice_get old.given place ≡ None
+IsAnswerNotGiven old place fault.Memory = ⊥
+IsAnswerNotGiven old place fault.OwnKey = ⊥
+IsAnswerNotGiven old place (fault.Acquirer e) = ⊥
+IsAnswerNotGiven old place (fault.Issuer e) = ⊥
 
 -- the order has this acquirer's number, or the issuer refuses it
 abbrev pub IsNotOther : World → Instruction → StepFault → Type 0
@@ -137,7 +137,7 @@ abbrev pub IsNotMade : World → Event → StepFault → Type 0
 IsNotMade old (Begin pan amount currency sent) e = IsNotBegun old e
 IsNotMade old (Timeout stan) e = IsNotAsked old stan e
 IsNotMade old (Deliver place) e = IsNotDelivered old place e
-IsNotMade old (Answer place) e = IsNotTold old place e
+IsNotMade old (Answer place) e = IsAnswerNotGiven old place e
 IsNotMade old (Other o) e = IsNotOther old o e
 
 -- ---- runs

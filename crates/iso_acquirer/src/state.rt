@@ -5,12 +5,12 @@
 pub enum State {
     /// Its order was sent so many times, once or twice, and no answer decided it.
     Waiting(u8),
-    /// Its reversal was sent, and not answered.
+    /// Its reversal was sent, and no answer granted it.
     Reversing,
     /// It was granted.
     Approved,
     /// It was refused with that code (element 39).
     Declined(u8),
-    /// Its reversal was answered.
+    /// Its reversal was granted.
     Reversed,
 }

@@ -3,7 +3,7 @@
 ghost use Rattle.std.specs.Prelude.{◌≡◌, Option, All, length, ◌<◌, [], OnOk, OnErr, IfErr, slice_get};
 ghost use Rattle.iso_acquirer.specs.declared.fault.StepFault;
 ghost use Rattle.iso_acquirer.specs.Acquirer.{debit_of, IsFair, slots_after_answer};
-ghost use Rattle.iso_acquirer.specs.World.{World as Both, IsDelivered, IsNotDelivered, IsAnswerGiven, IsNotTold, IsOther, IsNotOther, IsBegun};
+ghost use Rattle.iso_acquirer.specs.World.{World as Both, IsDelivered, IsNotDelivered, IsAnswerGiven, IsAnswerNotGiven, IsOther, IsNotOther, IsBegun};
 ghost use Rattle.iso_acquirer.specs.World.{IsNotBegun, IsAsked, IsNotAsked, IsFairEvent, IsMade, IsNotMade, IsStep, IsRan, refusal_count};
 ghost use Rattle.iso_acquirer.specs.Agreement.{BothAgree, StaysClosed, BooksAgree};
 
@@ -162,7 +162,7 @@ impl World {
     /// Hands the given answer at a place to the acquirer.
     fn answer(&mut self, place: usize) -> Result<(), StepFault>
         ensures ok { OnOk result (IsAnswerGiven self.old place self.new) }
-        ensures fault { IfErr result (IsNotTold self.old place) }
+        ensures fault { IfErr result (IsAnswerNotGiven self.old place) }
         ensures unchanged { OnErr result (self.new ≡ self.old) }
     {
         let Some(given) = given_at(&self.given, place) else {

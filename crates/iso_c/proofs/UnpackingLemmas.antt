@@ -19,16 +19,16 @@ pub within : (t : Option Layout) (b : List ℕ) (found : SpreadMessage) → IsSp
 within (Some t) b found is = is.begins.0
 within None b found is = absurd is
 
-unpacked : (t : Layout) (b : List ℕ) (found : SpreadMessage) (used : ℕ) (new : RumpadolMessage) (parts : List RumpadolPart) (values : List ℕ)
-    → IsSpread t b found → GivesSpread found used new parts values → Unpacked t b used new parts values
-unpacked t b found used new parts values is gives =
+unpacked : (t : Layout) (b : List ℕ) (found : SpreadMessage) (used : ℕ) (new : RumpadolMessage) (parts_old parts : List RumpadolPart) (values_old values : List ℕ)
+    → IsSpread t b found → GivesSpread found used new parts_old parts values_old values → Unpacked t b used new parts_old parts values_old values
+unpacked t b found used new parts_old parts values_old values is gives =
     let es : Values = is.m.elements in
     let k : ℕ = length found.parts.items in
     let n : ℕ = length found.values.items in
     let parts_are : take k parts ≡ parts_from 0 es = gives.parts_are ∙ is.parts in
     let values_are : take n values ≡ values_of es = gives.values_are ∙ is.values in
     let split : values ≡ values_of es ++ drop n values = sym (take-append-drop n values) ∙ ap (λ (l : List ℕ). l ++ drop n values) values_are in
-    subst (λ (m : RumpadolMessage). Unpacked t b used m parts values) (sym gives.message) (record {
+    subst (λ (m : RumpadolMessage). Unpacked t b used m parts_old parts values_old values) (sym gives.message) (record {
       m = is.m;
       begins = subst (λ (u : ℕ). BeginsWith t is.m u b) (sym gives.used_is) is.begins;
       mti = is.mti;
@@ -36,13 +36,15 @@ unpacked t b found used new parts values is gives =
       room = gives.room;
       parts_are = parts_are;
       values_are = values_are;
+      parts_behind = gives.parts_behind;
+      values_behind = gives.values_behind;
       lies = ap (elements_in values) parts_are ∙ ap (λ (l : List ℕ). elements_in l (parts_from 0 es)) split ∙ told [] es (drop n values);
     })
 
 pub given : (t : Option Layout) (b : List ℕ) (found : SpreadMessage) (z : ℤ) (old new : RumpadolMessage) (parts_old parts : List RumpadolPart) (values_old values : List ℕ) (f : RumpadolFault)
     → IsSpreadHeld t b found → GivesMessage found z old new parts_old parts values_old values f → IsUnpackReply t b z old new parts_old parts values_old values f
 given None b found z old new parts_old parts values_old values f is gives = absurd is
-given (Some t) b found (pos used) old new parts_old parts values_old values f is gives = unpacked t b found used new parts values is gives
+given (Some t) b found (pos used) old new parts_old parts values_old values f is gives = unpacked t b found used new parts_old parts values_old values is gives
 given (Some t) b found (negsuc k) old new parts_old parts values_old values f is gives =
     let places : ℕ = length parts_old in
     let room : ℕ = length values_old in

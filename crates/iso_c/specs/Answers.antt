@@ -24,6 +24,11 @@ abbrev pub RepliesTo : Result (List ℕ) RumpadolFault → ℤ → List ℕ → 
 RepliesTo (Ok b) n old new fault = Replies (λ w. w ≡ b) (λ f. ⊥) n old new fault
 RepliesTo (Err e) n old new fault = Replies (λ w. ⊥) (λ f. f ≡ e) n old new fault
 
+-- the fault is as it was, unless the answer is -1
+abbrev pub KeepsFault : ℤ → RumpadolFault → RumpadolFault → Type 0
+KeepsFault (pos n) old new = new ≡ old
+KeepsFault (negsuc k) old new = Unit {0}
+
 -- done, or -1
 abbrev pub Done : ℤ → Type 0 → Type 0 → Type 0
 Done (pos n) P Q = (n ≡ 0) × P

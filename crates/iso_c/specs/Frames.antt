@@ -26,7 +26,7 @@ IsFrameFault None body f = f ≡ no_such_header
 -- a frame of so many bytes begins the input, and its body is told; 0 where neither a frame nor a bad header does; else -1
 abbrev pub UnframedBy : Header → List ℕ → ℤ → RumpadolPart → RumpadolPart → RumpadolFault → Type 0
 UnframedBy h b (pos zero) old new f = NeedsMore h b × (new ≡ old)
-UnframedBy h b (pos (suc k)) old new f = Begins h b (bytes_in b new) (suc k) × (new.start + new.length ≡ suc k)
+UnframedBy h b (pos (suc k)) old new f = Begins h b (bytes_in b new) (suc k) × (new.start + new.length ≡ suc k) × (new.element ≡ 0)
 UnframedBy h b (negsuc k) old new f = (k ≡ 0) × (f ≡ frame_fault BadDigits) × (is_bad_header h b ≡ true) × (new ≡ old)
 
 abbrev pub Unframed : Option Header → List ℕ → ℤ → RumpadolPart → RumpadolPart → RumpadolFault → Type 0

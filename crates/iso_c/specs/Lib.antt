@@ -2,7 +2,7 @@ pub mod Answers
 pub mod FaultNumbers
 pub mod Slot
 pub mod Convert
-pub mod Views
+pub mod Results
 pub mod Frames
 pub mod Parts
 pub mod Unpacking

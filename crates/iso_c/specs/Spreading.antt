@@ -1,6 +1,6 @@
 -- A message that was read, with its values end to end, before it is given to the caller.
 -- Inner: bodies and proofs cite it, and no public clause does.
-use Rattle.std.specs.Prelude.{◌≡◌, ℕ, ℤ, pos, negsuc, ◌≤◌, List, length, take, Option, Some, None}
+use Rattle.std.specs.Prelude.{◌≡◌, ℕ, ℤ, pos, negsuc, ◌≤◌, List, length, take, drop, Option, Some, None}
 use Rattle.iso_table.specs.Layout.{Layout}
 use Rattle.iso_wire.specs.Contents.{Contents}
 use Rattle.iso_wire.specs.Reading.{message_at, whole}
@@ -25,16 +25,18 @@ abbrev pub IsSpreadHeld : Option Layout → List ℕ → SpreadMessage → Type 
 IsSpreadHeld (Some t) b found = IsSpread t b found
 IsSpreadHeld None b found = ⊥
 
--- what was found is given where there is room
-pub record GivesSpread (found : SpreadMessage) (used : ℕ) (told : RumpadolMessage) (parts : List RumpadolPart) (values : List ℕ) : Type 0 where
+-- what was found is given where there is room, and what lies behind it stays
+pub record GivesSpread (found : SpreadMessage) (used : ℕ) (told : RumpadolMessage) (parts_old parts : List RumpadolPart) (values_old values : List ℕ) : Type 0 where
   pub used_is : used ≡ found.used
   pub message : told ≡ record { mti = found.mti; parts = length found.parts.items; values = length found.values.items }
   pub few : length found.parts.items ≤ length parts
   pub room : length found.values.items ≤ length values
   pub parts_are : take (length found.parts.items) parts ≡ found.parts.items
   pub values_are : take (length found.values.items) values ≡ found.values.items
+  pub parts_behind : drop (length found.parts.items) parts ≡ drop (length found.parts.items) parts_old
+  pub values_behind : drop (length found.values.items) values ≡ drop (length found.values.items) values_old
 
 abbrev pub GivesMessage : SpreadMessage → ℤ → RumpadolMessage → RumpadolMessage → List RumpadolPart → List RumpadolPart → List ℕ → List ℕ → RumpadolFault → Type 0
-GivesMessage found (pos used) old new parts_old parts values_old values f = GivesSpread found used new parts values
+GivesMessage found (pos used) old new parts_old parts values_old values f = GivesSpread found used new parts_old parts values_old values
 GivesMessage found (negsuc k) old new parts_old parts values_old values f =
     (k ≡ 0) × RoomsKept old new parts_old parts values_old values × (room_fault (length found.parts.items) (length found.values.items) (length parts_old) (length values_old) ≡ Some f)

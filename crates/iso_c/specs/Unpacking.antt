@@ -1,5 +1,5 @@
 -- A message that is read into the caller's room.
-use Rattle.std.specs.Prelude.{◌≡◌, ◌≢◌, ℕ, ℤ, pos, negsuc, ◌≤◌, nat_lt, if◌then◌else◌, List, length, take, Option, Some, None, Result, Ok, Err}
+use Rattle.std.specs.Prelude.{◌≡◌, ◌≢◌, ℕ, ℤ, pos, negsuc, ◌≤◌, nat_lt, if◌then◌else◌, List, length, take, drop, Option, Some, None, Result, Ok, Err}
 use Rattle.iso_table.specs.Layout.{Layout}
 use Rattle.iso_wire.specs.declared.fault.UnpackFault.{UnpackFault}
 use Rattle.iso_wire.specs.Contents.{Contents}
@@ -25,8 +25,8 @@ IsReadFaultHeld None b f = f ≡ empty_slot
 
 -- ---- what is given
 
--- the rooms begin with the parts and the values of the message, whose first bytes are so many
-pub record Unpacked (t : Layout) (b : List ℕ) (used : ℕ) (told : RumpadolMessage) (parts : List RumpadolPart) (values : List ℕ) : Type 0 where
+-- the rooms begin with the parts and the values of the message, which is so many bytes, and what lies behind these stays
+pub record Unpacked (t : Layout) (b : List ℕ) (used : ℕ) (told : RumpadolMessage) (parts_old parts : List RumpadolPart) (values_old values : List ℕ) : Type 0 where
   pub m : Contents
   pub begins : BeginsWith t m used b
   pub mti : told.mti ≡ m.mti
@@ -34,6 +34,8 @@ pub record Unpacked (t : Layout) (b : List ℕ) (used : ℕ) (told : RumpadolMes
   pub room : told.values ≤ length values
   pub parts_are : take told.parts parts ≡ parts_from 0 m.elements
   pub values_are : take told.values values ≡ values_of m.elements
+  pub parts_behind : drop told.parts parts ≡ drop told.parts parts_old
+  pub values_behind : drop told.values values ≡ drop told.values values_old
   -- each part tells where its element's value lies
   pub lies : elements_in values (take told.parts parts) ≡ m.elements
 
@@ -56,12 +58,12 @@ abbrev pub IsGivenFault : Option Layout → List ℕ → ℕ → ℕ → Rumpado
 IsGivenFault (Some t) b places room f = f ≢ no_memory → given_fault (message_at t b) places room ≡ Some f
 IsGivenFault None b places room f = f ≡ empty_slot
 
-abbrev pub UnpackedHeld : Option Layout → List ℕ → ℕ → RumpadolMessage → List RumpadolPart → List ℕ → Type 0
-UnpackedHeld (Some t) b used told parts values = Unpacked t b used told parts values
-UnpackedHeld None b used told parts values = ⊥
+abbrev pub UnpackedHeld : Option Layout → List ℕ → ℕ → RumpadolMessage → List RumpadolPart → List RumpadolPart → List ℕ → List ℕ → Type 0
+UnpackedHeld (Some t) b used told parts_old parts values_old values = Unpacked t b used told parts_old parts values_old values
+UnpackedHeld None b used told parts_old parts values_old values = ⊥
 
 -- how many bytes the message takes, or -1 and the first fault
 abbrev pub IsUnpackReply : Option Layout → List ℕ → ℤ → RumpadolMessage → RumpadolMessage → List RumpadolPart → List RumpadolPart → List ℕ → List ℕ → RumpadolFault → Type 0
-IsUnpackReply t b (pos used) old new parts_old parts values_old values f = UnpackedHeld t b used new parts values
+IsUnpackReply t b (pos used) old new parts_old parts values_old values f = UnpackedHeld t b used new parts_old parts values_old values
 IsUnpackReply t b (negsuc k) old new parts_old parts values_old values f =
     (k ≡ 0) × RoomsKept old new parts_old parts values_old values × IsGivenFault t b (length parts_old) (length values_old) f

@@ -1,8 +1,8 @@
 //! Answers into the caller's room.
 
 ghost use Rattle.std.specs.Prelude.{◌≡◌, ◌≤◌, pos, negsuc, length};
-ghost use Rattle.iso_c.specs.Answers.{RepliesTo};
-ghost use Rattle.iso_c.specs.Views.{bytes_of};
+ghost use Rattle.iso_c.specs.Answers.{RepliesTo, KeepsFault};
+ghost use Rattle.iso_c.specs.Results.{bytes_of};
 
 use crate::fault::{RumpadolFault, SHORT_ROOM};
 
@@ -30,7 +30,8 @@ pub(crate) fn length_of(front: usize, bytes: &[u8]) -> i64
 
 /// Copies the bytes to the front of the room, and answers how many they are; -1 where the room is short.
 pub(crate) fn answer_bytes(bytes: &[u8], room: &mut [u8], fault: &mut RumpadolFault) -> i64
-    ensures { RepliesTo (Ok bytes.now) result room.old room.new fault.new }
+    ensures reply { RepliesTo (Ok bytes.now) result room.old room.new fault.new }
+    ensures kept { KeepsFault result fault.old fault.new }
 {
     if room.len() < bytes.len() {
         return refuse(RumpadolFault::at_offset(SHORT_ROOM, bytes.len()), fault);
@@ -46,7 +47,8 @@ pub(crate) fn answer(
     room: &mut [u8],
     fault: &mut RumpadolFault,
 ) -> i64
-    ensures { RepliesTo (bytes_of made) result room.old room.new fault.new }
+    ensures reply { RepliesTo (bytes_of made) result room.old room.new fault.new }
+    ensures kept { KeepsFault result fault.old fault.new }
 {
     match made {
         Ok(bytes) => answer_bytes(&bytes, room, fault),

@@ -2,7 +2,7 @@
 
 ghost use Rattle.std.specs.Prelude.{◌≡◌, IfOk, IfErr};
 ghost use Rattle.iso_wire.specs.Spelling.{Converts};
-ghost use Rattle.iso_c.specs.Answers.{Replies};
+ghost use Rattle.iso_c.specs.Answers.{Replies, KeepsFault};
 ghost use Rattle.iso_c.specs.Convert.{IsConvertFault, ConvertsHeld, IsConvertFaultHeld};
 
 use crate::answers::answer;
@@ -59,6 +59,7 @@ pub extern "C" fn rumpadol_convert(
     ensures reply { Replies (ConvertsHeld from.old.value to.old.value bytes.now)
         (IsConvertFaultHeld from.old.value to.old.value bytes.now) result out.old out.new fault.new }
     ensures from { from.new.value ≡ from.old.value }
+    ensures kept { KeepsFault result fault.old fault.new }
     ensures to { to.new.value ≡ to.old.value }
 {
     let first = from.replace(None);

@@ -1,38 +1,16 @@
 //! A message as lines for human eyes.
 
-ghost use Rattle.std.specs.Prelude.{◌≡◌, ◌++◌, ℕ, List, OnOk, IfOk, IfErr};
-ghost use Rattle.iso_c.specs.Answers.{Replies};
-ghost use Rattle.iso_c.specs.Describing.{IsDecimal, IsUsedLine, Describes, DescribesHeld};
+ghost use Rattle.std.specs.Prelude.{◌≡◌, IfOk, IfErr};
+ghost use Rattle.iso_c.specs.Answers.{Replies, KeepsFault};
+ghost use Rattle.iso_c.specs.Describing.{Describes, DescribesHeld};
 ghost use Rattle.iso_c.specs.Unpacking.{IsReadFault, IsReadFaultHeld};
 
 use crate::answers::answer;
 use crate::fault::{EMPTY_SLOT, RumpadolFault};
 use crate::slot::RumpadolSlot;
 use iso_table::Table;
-use iso_wire::{describe, digits_of, unpack, write_decimal};
-use std::alloc::{AllocError, Global};
-
-/// Appends a number in decimal.
-fn push_number(v: usize, out: &mut Vec<u8>) -> Result<(), AllocError>
-    ensures { OnOk result ((text : List ℕ) × IsDecimal v text × (out.new.items ≡ out.old.items ++ text)) }
-{
-    let mut room = [0; 20];
-    let text = &mut room[..digits_of(v as u64) as usize];
-    write_decimal(text, v as u64);
-    out.extend_from_slice(text)
-}
-
-/// Appends the line of how many bytes a message took.
-fn push_used(used: usize, total: usize, out: &mut Vec<u8>) -> Result<(), AllocError>
-    ensures { OnOk result ((line : List ℕ) × IsUsedLine used total line × (out.new.items ≡ out.old.items ++ line)) }
-{
-    out.extend_from_slice(b"USED=")?;
-    push_number(used, out)?;
-    out.extend_from_slice(b"/")?;
-    push_number(total, out)?;
-    out.extend_from_slice(b"\n")?;
-    Ok(())
-}
+use iso_wire::{append_used, describe, unpack};
+use std::alloc::Global;
 
 /// The lines of the message that the bytes begin with.
 pub(crate) fn describe_bytes(
@@ -45,7 +23,7 @@ pub(crate) fn describe_bytes(
 {
     let (message, used) = unpack(alloc, table, bytes)?;
     let mut out = describe(alloc, table, &message)?;
-    push_used(used, bytes.len(), &mut out)?;
+    append_used(used, bytes.len(), &mut out)?;
     Ok(out)
 }
 
@@ -76,6 +54,7 @@ pub extern "C" fn rumpadol_describe(
 ) -> i64
     ensures reply { Replies (DescribesHeld slot.old.value bytes.now)
         (IsReadFaultHeld slot.old.value bytes.now) result out.old out.new fault.new }
+    ensures kept { KeepsFault result fault.old fault.new }
     ensures slot { slot.new.value ≡ slot.old.value }
 {
     let table = slot.replace(None);

@@ -1,7 +1,7 @@
 //! Frames: a header that counts the body, and the body.
 
 ghost use Rattle.std.specs.Prelude.{◌≡◌, IfOk, IfErr};
-ghost use Rattle.iso_c.specs.Answers.{Replies};
+ghost use Rattle.iso_c.specs.Answers.{Replies, KeepsFault};
 ghost use Rattle.iso_c.specs.Frames.{header_named, FramesBy, IsFrameFault, Unframed};
 
 use crate::answers::{answer, length_of, refuse};
@@ -42,8 +42,9 @@ pub extern "C" fn rumpadol_frame(
     out: &mut [u8],
     fault: &mut RumpadolFault,
 ) -> i64
-    ensures { Replies (FramesBy (header_named header) body.now)
+    ensures reply { Replies (FramesBy (header_named header) body.now)
         (IsFrameFault (header_named header) body.now) result out.old out.new fault.new }
+    ensures kept { KeepsFault result fault.old fault.new }
 {
     answer(frame_body(alloc, header, body), out, fault)
 }
@@ -57,7 +58,8 @@ pub extern "C" fn rumpadol_unframe(
     body: &mut RumpadolPart,
     fault: &mut RumpadolFault,
 ) -> i64
-    ensures { Unframed (header_named header) input.now result body.old body.new fault.new }
+    ensures reply { Unframed (header_named header) input.now result body.old body.new fault.new }
+    ensures kept { KeepsFault result fault.old fault.new }
 {
     let Some(header) = header_named(header) else {
         return refuse(RumpadolFault::only(NO_SUCH_HEADER), fault);

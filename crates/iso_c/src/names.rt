@@ -1,7 +1,7 @@
 //! The names of faults.
 
 ghost use Rattle.std.specs.Prelude.{◌≡◌, codes};
-ghost use Rattle.iso_c.specs.Answers.{RepliesTo};
+ghost use Rattle.iso_c.specs.Answers.{RepliesTo, KeepsFault};
 ghost use Rattle.iso_c.specs.Names.{own_name, unpack_name, field_name, pack_name, table_name, frame_name, name_of};
 
 use crate::answers::answer_bytes;
@@ -123,7 +123,8 @@ fn name_of(number: u32) -> &'static [u8]
 /// and a fault.
 #[unsafe(no_mangle)]
 pub extern "C" fn rumpadol_fault_name(number: u32, out: &mut [u8], fault: &mut RumpadolFault) -> i64
-    ensures { RepliesTo (Ok (name_of number)) result out.old out.new fault.new }
+    ensures reply { RepliesTo (Ok (name_of number)) result out.old out.new fault.new }
+    ensures kept { KeepsFault result fault.old fault.new }
 {
     answer_bytes(name_of(number), out, fault)
 }

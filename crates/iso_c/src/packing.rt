@@ -3,7 +3,7 @@
 ghost use Rattle.std.specs.Prelude.{◌≡◌, ◌≢◌, nat_le, true, false, [], length, Some, None, Ok, Err, OnOk, IfOk, IfErr, IfSome, IfNone};
 ghost use Rattle.iso_parts.specs.Mti.{mti_number};
 ghost use Rattle.iso_wire.specs.Elements.{put};
-ghost use Rattle.iso_c.specs.Answers.{Replies};
+ghost use Rattle.iso_c.specs.Answers.{Replies, KeepsFault};
 ghost use Rattle.iso_c.specs.FaultNumbers.{no_memory};
 ghost use Rattle.iso_c.specs.Parts.{bytes_in, elements_or_fault, is_part_within, part_refusal};
 ghost use Rattle.iso_c.specs.Packing.{message_of, Packs, IsPackingFault, PacksHeld, IsPackingFaultHeld};
@@ -138,6 +138,7 @@ pub extern "C" fn rumpadol_pack(
 ) -> i64
     ensures reply { Replies (PacksHeld slot.old.value (message_of mti parts.now values.now))
         (IsPackingFaultHeld slot.old.value (message_of mti parts.now values.now)) result out.old out.new fault.new }
+    ensures kept { KeepsFault result fault.old fault.new }
     ensures slot { slot.new.value ≡ slot.old.value }
 {
     let table = slot.replace(None);

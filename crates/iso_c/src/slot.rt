@@ -3,7 +3,7 @@
 ghost use Rattle.std.specs.Prelude.{◌≡◌, ◌≤◌, Option, Some, None, IsSomeAnd, IfOk, IfErr};
 ghost use Rattle.iso_table.specs.Layout.{Layout, IsAccepted};
 ghost use Rattle.iso_table.specs.Document.{IsTableOf};
-ghost use Rattle.iso_c.specs.Answers.{Done};
+ghost use Rattle.iso_c.specs.Answers.{Done, KeepsFault};
 ghost use Rattle.iso_c.specs.FaultNumbers.{no_memory};
 ghost use Rattle.iso_c.specs.Slot.{slot, slot_lies_at, slot_bytes, IsBuiltIn, IsBuiltInFault, IsTableFault};
 ghost use Rattle.std.specs.Ptr.{room_at};
@@ -57,7 +57,7 @@ pub extern "C" fn rumpadol_slot_size() -> usize
     TAKEN
 }
 
-/// Makes an empty slot of the memory at the address, which has room for `rumpadol_slot_size` bytes, aligned to 8.
+/// Makes an empty slot of the memory at the address, which has room for `RUMPADOL_SLOT_BYTES` bytes, aligned to 8.
 #[unsafe(no_mangle)]
 pub unsafe extern "C" fn rumpadol_slot_init(at: *mut u8)
     requires* { sem 𝓛 (room_at slot at) }
@@ -95,8 +95,9 @@ pub extern "C" fn rumpadol_slot_built_in(
     slot: &mut RumpadolSlot,
     fault: &mut RumpadolFault,
 ) -> i64
-    ensures { Done result (IsSomeAnd slot.new.value (IsBuiltIn name))
+    ensures reply { Done result (IsSomeAnd slot.new.value (IsBuiltIn name))
         ((slot.new.value ≡ None) × IsBuiltInFault name fault.new) }
+    ensures kept { KeepsFault result fault.old fault.new }
 {
     match built_in(alloc, name) {
         Ok(table) => {
@@ -121,6 +122,7 @@ pub extern "C" fn rumpadol_slot_from_json(
 ) -> i64
     ensures reply { Done result (IsSomeAnd slot.new.value (IsTableOf json.now))
         ((slot.new.value ≡ None) × IsTableFault json.now fault.new) }
+    ensures kept { KeepsFault result fault.old fault.new }
     // A text that stands for a table gives it, unless memory runs out.
     ensures only { (t : Layout) → IsAccepted t → IsTableOf json.now t
         → Done result (slot.new.value ≡ Some t) (fault.new ≡ no_memory) }

@@ -1,6 +1,7 @@
 //! A message from bytes into the caller's room.
 
 ghost use Rattle.std.specs.Prelude.{◌≡◌, ◌≤◌, [], ◌∷◌, ◌++◌, length, OnOk, IfOk, IfErr};
+ghost use Rattle.iso_c.specs.Answers.{KeepsFault};
 ghost use Rattle.iso_c.specs.Parts.{part_of, parts_from, values_of};
 ghost use Rattle.iso_c.specs.Spreading.{IsSpread, IsSpreadHeld, GivesMessage};
 ghost use Rattle.iso_c.specs.Unpacking.{IsReadFault, IsReadFaultHeld, IsUnpackReply};
@@ -103,7 +104,8 @@ fn give_message(
     fault: &mut RumpadolFault,
 ) -> i64
     requires { found.now.used ≤ length bytes.now }
-    ensures { GivesMessage found.now result message.old message.new parts.old parts.new values.old values.new fault.new }
+    ensures reply { GivesMessage found.now result message.old message.new parts.old parts.new values.old values.new fault.new }
+    ensures kept { KeepsFault result fault.old fault.new }
 {
     if parts.len() < found.parts.len() {
         return refuse(
@@ -142,6 +144,7 @@ pub extern "C" fn rumpadol_unpack(
     fault: &mut RumpadolFault,
 ) -> i64
     ensures reply { IsUnpackReply slot.old.value bytes.now result message.old message.new parts.old parts.new values.old values.new fault.new }
+    ensures kept { KeepsFault result fault.old fault.new }
     ensures slot { slot.new.value ≡ slot.old.value }
 {
     let table = slot.replace(None);

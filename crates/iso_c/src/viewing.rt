@@ -1,6 +1,7 @@
 //! The body of an element, left where it lies.
 
 ghost use Rattle.std.specs.Prelude.{◌≡◌, IfOk, IfErr};
+ghost use Rattle.iso_c.specs.Answers.{KeepsFault};
 ghost use Rattle.iso_c.specs.Viewing.{IsBodyAt, IsViewFault, IsBodyAtHeld, IsViewFaultHeld, ViewsBody};
 
 use crate::answers::{length_of, refuse};
@@ -68,6 +69,7 @@ pub extern "C" fn rumpadol_view(
     fault: &mut RumpadolFault,
 ) -> i64
     ensures reply { ViewsBody slot.old.value bytes.now element result body.old body.new fault.new }
+    ensures kept { KeepsFault result fault.old fault.new }
     ensures slot { slot.new.value ≡ slot.old.value }
 {
     let table = slot.replace(None);

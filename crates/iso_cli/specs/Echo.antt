@@ -1,10 +1,11 @@
 -- What the echo writes.
-use Rattle.std.specs.Prelude.{◌≡◌, ◌⊎◌, ℕ, ◌≤◌, List, [], ◌∷◌, ◌++◌, length, take, Option, IfSome, codes}
+use Rattle.std.specs.Prelude.{◌≡◌, ℕ, ◌≤◌, false, List, [], ◌∷◌, ◌++◌, length, take, Option, IfSome, codes}
 use Rattle.std.specs.Io.KnownBytes.{Appends}
 use Rattle.iso_parts.specs.declared.digits.Digits.TheVariants.{Ascii}
 use Rattle.iso_table.specs.Layout.{Layout}
 use Rattle.iso_table.specs.Edition87.{IsEdition87}
 use Rattle.iso_wire.specs.Contents.{Contents}
+use Rattle.iso_wire.specs.Describing.{AreLinesOf}
 use Rattle.iso_wire.specs.Spelling.{Spelling, PlainSpelling}
 use Rattle.iso_order.specs.declared.verdict.Verdict.{Verdict}
 use Rattle.iso_order.specs.declared.verdict.Verdict.TheVariants.{Order, Reply, Silent}
@@ -25,14 +26,11 @@ Answers t m b = AnswersBy t m (verdict m) b
 abbrev pub answer_line : List ℕ → List ℕ
 answer_line b = codes "ANSWER=" ++ b ++ 10 ∷ []
 
--- text that is empty or ends with a newline
-abbrev pub AreLines : List ℕ → Type 0
-AreLines text = (text ≡ []) ⊎ ((front : List ℕ) × (text ≡ front ++ 10 ∷ []))
-
--- the bytes begin with a message, and what is written of it are lines of which the last one is its answer
+-- the bytes begin with a message, and what is written of it is its lines, with what a bystander shouldn't read hidden, and
+-- then its answer
 abbrev pub Echoes : Layout → List ℕ → List ℕ → Type 0
 Echoes t all b =
-    (m : Contents) × (n : ℕ) × (lines : List ℕ) × (answer : List ℕ) × (n ≤ length all) × Spelling t m (take n all) × AreLines lines × Answers t m answer × (b ≡ lines ++ answer_line answer)
+    (m : Contents) × (n : ℕ) × (lines : List ℕ) × (answer : List ℕ) × (n ≤ length all) × Spelling t m (take n all) × AreLinesOf false t m n (length all) lines × Answers t m answer × (b ≡ lines ++ answer_line answer)
 
 -- what was appended is that, under the table of the 1987 edition in ASCII
 abbrev pub EchoesOver : Option (List ℕ) → Option (List ℕ) → Option (List ℕ) → Type 0

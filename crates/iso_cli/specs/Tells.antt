@@ -4,7 +4,10 @@ use Rattle.std.specs.declared.option.Option.{Option}
 use Rattle.std.specs.Io.KnownBytes.{Appends}
 use Rattle.iso_host.specs.Counts.{Counts}
 use Rattle.iso_host.specs.Writing.{WritesSome}
+use Rattle.iso_host.specs.declared.fault.Report.{Report}
+use Rattle.iso_cli.specs.Connections.{report_text}
 use Rattle.iso_cli.specs.declared.stop.Stop.{Stop}
+use Rattle.iso_cli.specs.declared.stop.Stop.TheVariants.{Memory}
 use Rattle.iso_cli.specs.Stop.{status_of, stop_line}
 
 -- the whole line was written, no call failed, and the status is the stop's own
@@ -30,3 +33,16 @@ TellsAs held written old new stop status given = IfSome (stop_line stop) (λ lin
 -- the same with the stop's own status
 abbrev pub Tells : Option (List ℕ) → Option (List ℕ) → Counts → Counts → Stop → ℕ → Type 0
 Tells held written old new stop given = TellsAs held written old new stop (status_of stop) given
+
+-- the line of one stop, and the status that fits it
+abbrev pub TellsStop : Option (List ℕ) → Option (List ℕ) → Counts → Counts → ℕ → Type 0
+TellsStop held written old new given = (stop : Stop) × Tells held written old new stop given
+
+-- the line of a report, with status 0; or there is no memory for it
+abbrev pub TellsReport : Option (List ℕ) → Option (List ℕ) → Counts → Counts → Report → ℕ → Type 0
+TellsReport held written old new report given = TellsLine held written old new (report_text report) 0 given ⊎ Tells held written old new Memory given
+
+-- nothing, with status 0; or a report; or a stop
+abbrev pub TellsEnding : Option (List ℕ) → Option (List ℕ) → Counts → Counts → ℕ → Type 0
+TellsEnding held written old new given =
+    ((given ≡ 0) × (written ≡ held) × (new ≡ old)) ⊎ (((report : Report) × TellsReport held written old new report given) ⊎ TellsStop held written old new given)

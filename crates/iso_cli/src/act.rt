@@ -4,6 +4,7 @@ ghost use Rattle.std.specs.Prelude.{◌≡◌, ◌≤◌, [], map, OnOk};
 ghost use Rattle.iso_cli.specs.Echo.{EchoesOver};
 ghost use Rattle.iso_cli.specs.Convert.{ConvertsAsked};
 ghost use Rattle.iso_cli.specs.Run.{RunsAsked};
+ghost use Rattle.iso_cli.specs.Tells.{TellsEnding};
 
 use crate::check::check;
 use crate::convert::convert;
@@ -56,7 +57,8 @@ pub fn act<S: Source, I: Inlet, O: Outlet, F: Outlet>(
     output: &mut O,
     faults: &mut F,
 ) -> u8
-    // Without words: the last line is the response that the message decides, or `none`.
+    // Without words: the lines of the message, in which what a bystander shouldn't read is hidden, and then the response that
+    // the message decides, or `none`.
     ensures echo { words.now ≡ [] → result ≡ 0
         → EchoesOver (I.remaining input.old) (O.contents output.old) (O.contents output.new) }
     // `convert`: the plain spelling under the second table of what the input spells under the first.
@@ -66,6 +68,8 @@ pub fn act<S: Source, I: Inlet, O: Outlet, F: Outlet>(
     ensures run { result ≡ 0 → RunsAsked (map (λ w. w.now) words.now) (S.file source.now)
         (I.remaining input.old) (O.contents output.old) (O.contents output.new) }
     ensures status { result ≤ 3 }
+    // The fault stream has nothing more, the report of `run`, or the line of a stop, and the status is that of what was told.
+    ensures told { TellsEnding (F.contents faults.old) (F.contents faults.new) (F.counts faults.old) (F.counts faults.new) result }
 {
     match perform(alloc, words, source, input, output) {
         Ok(None) => 0,

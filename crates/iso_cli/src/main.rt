@@ -9,13 +9,13 @@
 #![tactic(auto)]
 
 mod act;
+mod arguments;
 mod check;
 mod connections;
 mod convert;
 mod describe;
 mod documents;
 mod echo;
-mod given;
 mod listening;
 mod port;
 mod prepare;
@@ -31,7 +31,7 @@ mod tables;
 mod tests;
 mod words;
 
-use given::act_as_given;
+use arguments::act_as_given;
 use iso_host::Std;
 use source::Disk;
 use std::process::ExitCode;

@@ -2,6 +2,7 @@
 
 ghost use Rattle.std.specs.Prelude.{◌≡◌, ◌≤◌, IfErr, IfOk, OnOk, map};
 ghost use Rattle.iso_cli.specs.Prepare.{Prepares};
+ghost use Rattle.iso_cli.specs.Tells.{TellsStop};
 
 use crate::listening::parse_serve;
 use crate::run::{MOST_ENTRIES, accounts_at, host_table};
@@ -56,7 +57,9 @@ pub fn prepare<S: Source, F: Outlet>(
     // What the words spell: the table and the accounts that they name, with an empty journal, the port and the count.
     ensures prepared { IfOk result (Prepares (map (λ w. w.now) words.now) (S.file source.now)) }
     ensures status { IfErr result (λ status. (1 ≤ status) × (status ≤ 3)) }
-    // Then nothing is told.
+    // The line of a stop is told, and its status given;
+    ensures told { IfErr result (TellsStop (F.contents faults.old) (F.contents faults.new) (F.counts faults.old) (F.counts faults.new)) }
+    // else nothing is told.
     ensures quiet { OnOk result (F.contents faults.new ≡ F.contents faults.old) }
 {
     match host_named(alloc, words, source) {

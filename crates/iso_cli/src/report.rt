@@ -3,6 +3,7 @@
 ghost use Rattle.std.specs.Prelude.{◌≡◌, ◌⊎◌, IfOk, Ok, string_bytes};
 ghost use Rattle.iso_cli.specs.Connections.{report_text};
 ghost use Rattle.iso_cli.specs.OneConnection.{TellsEnd};
+ghost use Rattle.iso_cli.specs.Tells.{TellsReport};
 
 use crate::stop::{Stop, tell, tell_line};
 use iso_host::{Failed, Outlet, Report, write_all};
@@ -25,7 +26,8 @@ fn report_line(alloc: Global, report: Report) -> Result<String, AllocError>
 
 /// Writes the line, and gives the status: 0, or 3 where there is no memory for it or the fault stream fails.
 pub fn tell_report<F: Outlet>(alloc: Global, faults: &mut F, report: Report) -> u8
-    ensures { (result ≡ 0) ⊎ (result ≡ 3) }
+    ensures status { (result ≡ 0) ⊎ (result ≡ 3) }
+    ensures told { TellsReport (F.contents faults.old) (F.contents faults.new) (F.counts faults.old) (F.counts faults.new) report result }
 {
     match report_line(alloc, report) {
         Ok(line) => tell_line(faults, &line, 0),

@@ -3,7 +3,7 @@ use iso_fakes::check_of;
 use std::test::Fail;
 
 mod act;
-mod given;
+mod arguments;
 mod run;
 mod source;
 mod stop;

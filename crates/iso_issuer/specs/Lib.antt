@@ -1,5 +1,5 @@
 pub mod Change
-pub mod Range
+pub mod Opening
 pub mod Account
 pub mod Effect
 pub mod Journal

@@ -1,6 +1,6 @@
 //! One account.
 
-ghost use Rattle.iso_issuer.specs.Range.{IsInRange};
+ghost use Rattle.iso_issuer.specs.Opening.{IsInRange};
 
 use iso_order::Pan;
 

@@ -6,7 +6,8 @@ use iso_parts::Mti;
 use iso_table::Table;
 use iso_wire::{
     Fed, FrameFault, Header, Message, PackFault, SetFault, UnpackCause, UnpackFault, Unpacker,
-    append_frame, append_message, describe, describe_clear, frame, open_frame, pack, unpack,
+    append_frame, append_message, append_used, describe, describe_clear, frame, open_frame, pack,
+    unpack,
 };
 use std::alloc::{AllocError, Global};
 
@@ -112,6 +113,21 @@ fn lines_of(
         return describe_clear(alloc, table, message);
     }
     describe(alloc, table, message)
+}
+
+/// The line of the bytes that a message took. Where memory is refused, nothing of it is left.
+fn appends_a_used_line(alloc: Global) -> Ended {
+    let mut out = Vec::new(alloc);
+    let mut told = append_used(74, 120, &mut out);
+    let was_refused = told.is_err();
+    if was_refused {
+        if !out.is_empty() {
+            return Ended::Wrong;
+        }
+        told = append_used(74, 120, &mut out);
+    }
+    let is_right = told.is_ok() && out.as_slice() == b"USED=74/120\n".as_slice();
+    Ended::of(was_refused, is_right)
 }
 
 fn copies(alloc: Global) -> Ended {
@@ -305,7 +321,7 @@ fn opens_a_frame(alloc: Global) -> Ended {
 }
 
 /// These calls by name, and how each ended.
-pub fn rows(alloc: Global) -> [(&'static str, Ended); 17] {
+pub fn rows(alloc: Global) -> [(&'static str, Ended); 18] {
     let long = [b'7'; 300];
     [
         ("Message::set", sets(alloc, 2, &long)),
@@ -317,6 +333,7 @@ pub fn rows(alloc: Global) -> [(&'static str, Ended); 17] {
         ("Message::clone", copies(alloc)),
         ("describe", describes(alloc, false)),
         ("describe_clear", describes(alloc, true)),
+        ("append_used", appends_a_used_line(alloc)),
         ("pack", packs(alloc)),
         ("append_message", appends_a_message(alloc)),
         ("unpack", unpacks(alloc)),

@@ -3,7 +3,7 @@
 ghost use Rattle.std.specs.Prelude.{◌≡◌, true, Some};
 ghost use Rattle.iso_order.specs.Pan.{masked_digits, masked_number, pan_of};
 
-use iso_wire::{number_in, write_decimal};
+use iso_wire::{masked, number_in, write_decimal};
 use std::marker::Model;
 use std::{fmt, str};
 
@@ -58,16 +58,13 @@ impl Pan {
     }
 }
 
-/// Hides digits of an account number: of 13 or more all but the first six and the last four, of fewer all.
+/// Hides digits of an account number, as the lines of a message do.
 fn hide(digits: &mut [u8])
     ensures { digits.new ≡ masked_digits digits.old }
 {
-    let len = digits.len();
-    if len < 13 {
-        digits.fill(b'*');
-    } else {
-        digits[6..len - 4].fill(b'*');
-    }
+    let shown = masked(2, digits);
+    let (start, hidden) = (shown.front.len(), shown.hidden);
+    digits[start..start + hidden].fill(b'*');
 }
 
 /// Shows no account number in clear: of 13 or more digits the first six and the last four, and `*` for each other

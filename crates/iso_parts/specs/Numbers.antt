@@ -26,7 +26,7 @@ members_below s n = numbers (in_words s.primary s.secondary) (n - 2) 2
 
 -- the first of the numbers, if there is one, and the others
 abbrev pub TakesFirst : List ℕ → List ℕ → Option ℕ → Type 0
-TakesFirst old new None = old ≡ []
+TakesFirst old new None = (old ≡ []) × (new ≡ [])
 TakesFirst old new (Some n) = old ≡ n ∷ new
 
 -- the first of the numbers that isn't in the set

@@ -1,8 +1,8 @@
 //! How characters are written.
 
-ghost use Rattle.std.specs.Prelude.{◌≡◌, ◌++◌, ◌≤◌, ◌*◌, length, OnOk, OnErr};
+ghost use Rattle.std.specs.Prelude.{◌≡◌, ◌++◌, ◌≤◌, ◌<◌, ◌*◌, length, slice_index, OnOk, OnErr};
 ghost use Rattle.std.specs.List.{list_all};
-ghost use Rattle.hex.specs.Hex.{is_hex_digit};
+ghost use Rattle.hex.specs.Hex.{is_hex_digit, upper_digits};
 ghost use Rattle.iso_parts.specs.Spec.{is_coded, is_pad_byte};
 ghost use Rattle.iso_parts.specs.Buffers.{Keeps};
 ghost use Rattle.iso_parts.specs.Part.{characters, pairs, plain, with_filler};
@@ -66,8 +66,14 @@ pub(crate) fn are_hex_digits(bytes: &[u8]) -> bool
     all
 }
 
-/// The sixteen digits, in upper case.
-const DIGITS: &[u8; 16] = b"0123456789ABCDEF";
+/// A hexadecimal digit, in upper case.
+#[inline(always)]
+pub fn hex_digit(d: u8) -> u8
+    requires { d < 16 }
+    ensures { result ≡ slice_index upper_digits d }
+{
+    b"0123456789ABCDEF"[d as usize]
+}
 
 /// Writes two digits for each byte, in upper case.
 fn write_hex(bytes: &[u8], room: &mut [u8])
@@ -75,8 +81,8 @@ fn write_hex(bytes: &[u8], room: &mut [u8])
     ensures { room.new ≡ plain Coding.HexText bytes.now }
 {
     for (i, byte) in bytes.iter().enumerate() {
-        room[2 * i] = DIGITS[(*byte / 16) as usize];
-        room[2 * i + 1] = DIGITS[(*byte % 16) as usize];
+        room[2 * i] = hex_digit(*byte / 16);
+        room[2 * i + 1] = hex_digit(*byte % 16);
     }
 }
 

@@ -26,7 +26,7 @@ pub use class::CharClass;
 pub use digits::{
     Digits, bcd_characters, four_ascii_digits, four_bcd_digits, four_digits, four_digits_in,
 };
-pub use encoding::Coding;
+pub use encoding::{Coding, hex_digit};
 pub use fault::FieldFault;
 pub use field::{Step, decode_field, decode_value, encode_field};
 pub use judging::{Judged, judge_body, judge_field, judge_length};

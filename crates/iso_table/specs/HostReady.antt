@@ -64,7 +64,8 @@ is_shape (AnyUpTo n) s = nat_le s.max n
 abbrev pub host_row : ℕ → Bool → Shape → HostRow
 host_row number needed shape = record { number = number; needed = needed; shape = shape }
 
--- the elements that a request or a response has, whether a row is needed, and its shape
+-- the elements of requests and responses whose rows are judged, whether a row is needed, and its shape; 95 isn't among them:
+-- without its row no partial reversal is read
 abbrev pub host_rows : List HostRow
 host_rows =
     host_row 2 true (DigitsUpTo 19) ∷

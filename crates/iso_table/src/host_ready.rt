@@ -45,7 +45,7 @@ macro_rules! host_row {
     };
 }
 
-/// The elements of requests and responses.
+/// The elements of requests and responses whose rows are judged.
 const HOST_ROWS: [HostRow; 18] = [
     host_row!(2, true, DigitsUpTo(19)),
     host_row!(3, true, Digits(6)),

@@ -1,7 +1,7 @@
 -- A view is of the message that reading gives, and its bodies are those of the spelling at the front.
 use Rattle.std.proofs.Common.{◌≡◌, ◌≢◌, ℕ, ◌+◌, ◌-◌, ◌≤◌, List, [], ◌∷◌, ◌++◌, length, take, drop, Option, Some, Result, Ok, Err, refl, sym, ap, subst, ◌∙◌, append_assoc, arith, inl, inr}
 use Rattle.std.proofs.lemmas.Bool.{cases_lt}
-use Rattle.std.proofs.lemmas.List.{drop-take, drop_at, length-drop, length-append, length-take}
+use Rattle.std.proofs.lemmas.List.{drop-take, drop_at, length-drop, length-append, length-take, length-take-le}
 use Rattle.std.proofs.Math.Seq.{take-add}
 use Rattle.iso_parts.specs.Digits.{four_digits_of}
 use Rattle.iso_parts.specs.declared.spec.FieldSpec.{FieldSpec}
@@ -22,7 +22,7 @@ use Rattle.iso_wire.specs.Reading.{◌>>=◌, type_at, words_at, value_at, eleme
 use Rattle.iso_wire.specs.ReadingLaws.{ReadsSpellings, ReadingStays}
 use Rattle.iso_wire.specs.Spelling.{AreBytes, BeginsWithNone, PartAs, Parts}
 use Rattle.iso_wire.specs.Bodies.{wire_at, wires_at, view_at}
-use Rattle.iso_wire.specs.Viewing.{Viewed, Wired, Views, ViewsSpelled, IsViewed}
+use Rattle.iso_wire.specs.Viewing.{Viewed, Wired, Views, ViewsSpelled, IsViewed, starts_of}
 use Rattle.iso_wire.proofs.Bytes.{bytes_drop}
 use Rattle.iso_wire.proofs.NeverMemory.{NeverMemory, message}
 use Rattle.iso_wire.proofs.ElementLaws.{value_taken}
@@ -108,26 +108,26 @@ module _ (laws : PartLaws) where
 
 -- ---- the whole message
 
-abbrev as_view : List ℕ → ℕ → Values × ℕ → Result Viewed UnpackFault
-as_view b mti read = Ok (record { mti = mti; used = read.1; wires = read.0; bytes = b })
+abbrev as_view : Layout → List ℕ → ℕ → ℕ → Values × ℕ → Result Viewed UnpackFault
+as_view t b mti at read = Ok (record { mti = mti; used = read.1; wires = read.0; starts = starts_of t.rows at read.0; bytes = b })
 
 abbrev as_message : ℕ → Values × ℕ → Result (Contents × ℕ) UnpackFault
 as_message mti read = whole (record { mti = mti; elements = read.0 }) read.1
 
-by_elements : (t : Layout) (b : List ℕ) (mti at : ℕ) (x w : Result (Values × ℕ) UnpackFault) → Agrees t.rows at (drop at b) x w → Views t b (w >>= as_view b mti) (x >>= as_message mti)
+by_elements : (t : Layout) (b : List ℕ) (mti at : ℕ) (x w : Result (Values × ℕ) UnpackFault) → Agrees t.rows at (drop at b) x w → Views t b (w >>= as_view t b mti at) (x >>= as_message mti)
 by_elements t b mti at (Err e) (Err f) same = ap Err (sym same)
 by_elements t b mti at (Err e) (Ok w) never = absurd never
 by_elements t b mti at (Ok x) (Err f) never = absurd never
 by_elements t b mti at (Ok x) (Ok w) same =
     let used : ℕ = same.0 in
     let place : drop at (take w.1 b) ≡ take used (drop at b) = ap (λ (k : ℕ). drop at (take k b)) same.2 ∙ drop-take at used b in
-    (x.0, at, ap (λ (k : ℕ). whole (record { mti = mti; elements = x.0 }) k) (same.1 ∙ sym same.2), subst (Wired t.rows x.0 w.0) (sym place) same.4)
+    (x.0, at, ap (λ (k : ℕ). whole (record { mti = mti; elements = x.0 }) k) (same.1 ∙ sym same.2), subst (Wired t.rows x.0 w.0) (sym place) same.4, omega (arith, same.2), refl)
 
 abbrev message_behind : Layout → List ℕ → ℕ → ℕ × ℕ × ℕ → Result (Contents × ℕ) UnpackFault
 message_behind t b mti w = elements_at t.rows (numbers_in w.0 w.1) (mti_size t.mti + w.2) (drop (mti_size t.mti + w.2) b) >>= as_message mti
 
 abbrev view_behind : Layout → List ℕ → ℕ → ℕ × ℕ × ℕ → Result Viewed UnpackFault
-view_behind t b mti w = wires_at t.rows (numbers_in w.0 w.1) (mti_size t.mti + w.2) (drop (mti_size t.mti + w.2) b) >>= as_view b mti
+view_behind t b mti w = wires_at t.rows (numbers_in w.0 w.1) (mti_size t.mti + w.2) (drop (mti_size t.mti + w.2) b) >>= as_view t b mti (mti_size t.mti + w.2)
 
 module _ (laws : PartLaws) where
   by_words : (t : Layout) (b : List ℕ) (mti : ℕ) (r : Result (ℕ × ℕ × ℕ) UnpackFault) → AreGood t.rows → AreBytes b → Views t b (r >>= view_behind t b mti) (r >>= message_behind t b mti)
@@ -213,6 +213,13 @@ same_end w q p front split same =
 
 -- ---- what a view has found
 
+-- the parts are the last bytes, so their offset is told by how many bytes they are
+parts_begin : (rows : List (Option FieldSpec)) (ss : List (ℕ × ℕ)) (ws : Values) (b p : List ℕ) (used front : ℕ) → used ≤ length b → front ≤ used → drop front (take used b) ≡ p → ss ≡ starts_of rows front ws → ss ≡ starts_of rows (used - length p) ws
+parts_begin rows ss ws b p used front room inner is begin =
+    let size : length (take used b) ≡ used = length-take-le used b room in
+    let place : front ≡ used - length p = omega (arith, size, inner, length-drop front (take used b), ap length is) in
+    begin ∙ ap (λ (k : ℕ). starts_of rows k ws) place
+
 pub is_viewed : PartLaws → ReadsSpellings → (t : Layout) (b : List ℕ) (r : Result Viewed UnpackFault) → AreGood t.rows → AreBytes b → Views t b r (message_at t b) → IfOk r (λ v. IsViewed t v b)
 is_viewed laws reads t b (Ok v) good fits h =
     let es : Values = h.0 in
@@ -223,7 +230,8 @@ is_viewed laws reads t b (Ok v) good fits h =
     let head : List ℕ = four_digits_of t.mti v.mti ++ s.maps in
     let split : w ≡ head ++ s.parts = s.bytes ∙ sym (append_assoc (four_digits_of t.mti v.mti) s.maps s.parts) in
     let size = same_parts laws t.rows es (drop h.1 w) s.parts (Wired-Parts t.rows es v.wires (drop h.1 w) h.3) s.elements in
-    (m, refl, begins.0, (s, subst (Wired t.rows es v.wires) (same_end w head s.parts h.1 split size) h.3))
+    let parts = same_end w head s.parts h.1 split size in
+    (m, refl, begins.0, (s, subst (Wired t.rows es v.wires) parts h.3, parts_begin t.rows v.starts v.wires b s.parts v.used h.1 begins.0 h.4 parts h.5))
 is_viewed laws reads t b (Err e) good fits h = tt
 
 module _ (reads : ReadsSpellings) where

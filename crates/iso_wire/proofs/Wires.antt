@@ -1,9 +1,9 @@
 -- Finding the bodies of elements one after the other, as a loop does, and looking one up.
-use Rattle.std.proofs.Common.{◌≡◌, ℕ, zero, suc, ◌+◌, ◌-◌, ◌*◌, ◌≤◌, ◌<◌, Bool, true, false, eqb, leb, List, [], ◌∷◌, ◌++◌, length, take, drop, set, Option, Some, None, Result, Ok, Err, refl, sym, ap, subst, ◌∙◌, append_assoc, arith, inl, inr}
-use Rattle.std.proofs.lemmas.Bool.{cases_eq, cond-true, cond-false, and_parts, leb-true}
+use Rattle.std.proofs.Common.{◌≡◌, ℕ, zero, suc, ◌+◌, ◌-◌, ◌*◌, ◌≤◌, ◌<◌, Bool, true, false, cond, eqb, leb, List, [], ◌∷◌, ◌++◌, length, take, drop, set, Option, Some, None, Result, Ok, Err, refl, sym, ap, subst, ◌∙◌, append_assoc, arith, inl, inr}
+use Rattle.std.proofs.lemmas.Bool.{cases_eq, cond-true, cond-false, and_parts, leb-true, eqb-true}
 use Rattle.std.proofs.lemmas.Bool.Decides.{nat_tests}
-use Rattle.std.proofs.lemmas.List.{drop-drop, append-nil, get_or-set_same, get_or-set_other}
-use Rattle.iso_wire.specs.Viewing.{front_of}
+use Rattle.std.proofs.lemmas.List.{drop-drop, length-drop, length-take-le, append-nil, get_or-set_same, get_or-set_other}
+use Rattle.iso_wire.specs.Viewing.{front_of, start_in, starts_of}
 use Rattle.iso_parts.specs.declared.spec.FieldSpec.{FieldSpec}
 use Rattle.iso_parts.specs.declared.encoding.Coding.{Coding}
 use Rattle.iso_parts.specs.declared.encoding.Coding.TheVariants as codings
@@ -21,7 +21,7 @@ use Rattle.iso_parts.specs.declared.bitmap.Bitmap.{Bitmap}
 use Rattle.iso_wire.specs.Elements.{value_in}
 use Rattle.iso_parts.specs.Numbers.{numbers}
 use Rattle.iso_wire.specs.Reading.{◌>>=◌, value_at}
-use Rattle.iso_wire.specs.Bodies.{longest_part, start_at, body_size_at, body_in, wire_of, wires_in, IsBodyWithin, AreWithin, wire_at, wires_at}
+use Rattle.iso_wire.specs.Bodies.{longest_part, start_at, body_size_at, body_in, wire_of, wires_in, start_of, starts_in, IsBodyWithin, AreWithin, BeginsThere, wire_at, wires_at}
 use Rattle.iso_parts.specs.Numbers.{members}
 use Rattle.iso_wire.proofs.Loop.{with_front}
 use Rattle.iso_wire.proofs.NumberLaws.{one_more, no_more, no_numbers}
@@ -117,6 +117,16 @@ wires_append : (b : List ℕ) (bodies : Bodies) (done : List ℕ) (n : ℕ) → 
 wires_append b bodies [] n = refl
 wires_append b bodies (k ∷ done) n = ap (λ (l : Values). wire_of b bodies k ∷ l) (wires_append b bodies done n)
 
+starts_stay : (bodies : Bodies) (done : List ℕ) (n start size : ℕ) → AreBelow n done → starts_in (with_body bodies n start size) done ≡ starts_in bodies done
+starts_stay bodies [] n start size below = refl
+starts_stay bodies (k ∷ done) n start size below =
+    ap (λ (i : ℕ). (k, i) ∷ starts_in (with_body bodies n start size) done) (start_stays bodies n k start size below.0)
+    ∙ ap (λ (l : List (ℕ × ℕ)). start_of bodies k ∷ l) (starts_stay bodies done n start size below.1)
+
+starts_append : (bodies : Bodies) (done : List ℕ) (n : ℕ) → starts_in bodies (done ++ n ∷ []) ≡ starts_in bodies done ++ start_of bodies n ∷ []
+starts_append bodies [] n = refl
+starts_append bodies (k ∷ done) n = ap (λ (l : List (ℕ × ℕ)). start_of bodies k ∷ l) (starts_append bodies done n)
+
 -- what lies within some bytes lies within more
 within_more : (small large : ℕ) (bodies : Bodies) (ns : List ℕ) → small ≤ large → AreWithin small bodies ns → AreWithin large bodies ns
 within_more small large bodies [] le h = tt
@@ -128,8 +138,25 @@ within_append all bodies (k ∷ done) n h le = (h.0, within_append all bodies do
 
 -- ---- the loop
 
+-- the bodies that were found begin where they lie, whichever follow
+abbrev pub BegunAt : List (Option FieldSpec) → ℕ → List ℕ → Bodies → List ℕ → ℕ → Type 0
+BegunAt rows first b bodies done at = (ws : Values) → starts_of rows first (wires_in b bodies done ++ ws) ≡ starts_in bodies done ++ starts_of rows at ws
+
+begun_next : (rows : List (Option FieldSpec)) (first : ℕ) (b : List ℕ) (bodies new : Bodies) (done : List ℕ) (n at start used : ℕ) (w : List ℕ) → BegunAt rows first b bodies done at
+    → wires_in b new (done ++ n ∷ []) ≡ wires_in b bodies done ++ (n, w) ∷ [] → starts_in new (done ++ n ∷ []) ≡ starts_in bodies done ++ (n, start) ∷ []
+    → start ≡ at + front_of (row_at rows n) → start + length w ≡ at + used → BegunAt rows first b new (done ++ n ∷ []) (at + used)
+begun_next rows first b bodies new done n at start used w begun wires starts begins ends = λ ws.
+    ap (λ (l : Values). starts_of rows first (l ++ ws)) wires ∙ ap (starts_of rows first) (append_assoc (wires_in b bodies done) ((n, w) ∷ []) ws) ∙ begun ((n, w) ∷ ws)
+    ∙ ap (λ (k : ℕ). starts_in bodies done ++ (n, k) ∷ starts_of rows (k + length w) ws) (sym begins)
+    ∙ ap (λ (k : ℕ). starts_in bodies done ++ (n, start) ∷ starts_of rows k ws) ends
+    ∙ sym (append_assoc (starts_in bodies done) ((n, start) ∷ []) (starts_of rows (at + used) ws))
+    ∙ ap (λ (l : List (ℕ × ℕ)). l ++ starts_of rows (at + used) ws) (sym starts)
+
+begun_all : (rows : List (Option FieldSpec)) (first : ℕ) (b : List ℕ) (bodies : Bodies) (done : List ℕ) (at : ℕ) → BegunAt rows first b bodies done at → BeginsThere rows first b bodies done
+begun_all rows first b bodies done at begun = sym (ap (starts_of rows first) (sym (append-nil (wires_in b bodies done))) ∙ begun [] ∙ append-nil (starts_in bodies done))
+
 -- the numbers that were done, and what holds of them and of those to come
-pub record BodiesFound (rows : List (Option FieldSpec)) (b : List ℕ) (bodies : Bodies) (old ns : List ℕ) (at : ℕ) (total : Result (Values × ℕ) UnpackFault) : Type 0 where
+pub record BodiesFound (rows : List (Option FieldSpec)) (first : ℕ) (b : List ℕ) (bodies : Bodies) (old ns : List ℕ) (at : ℕ) (total : Result (Values × ℕ) UnpackFault) : Type 0 where
   pub done : List ℕ
   pub next : ℕ
   pub numbers : done ++ ns ≡ old
@@ -137,8 +164,9 @@ pub record BodiesFound (rows : List (Option FieldSpec)) (b : List ℕ) (bodies :
   pub above : Ascends next ns
   pub read : with_front (wires_in b bodies done) (wires_at rows ns at (drop at b)) ≡ total
   pub within : AreWithin at bodies done
+  pub begun : BegunAt rows first b bodies done at
 
-pub found_first : (rows : List (Option FieldSpec)) (b : List ℕ) (bodies : Bodies) (old : List ℕ) (at : ℕ) (total : Result (Values × ℕ) UnpackFault) → Ascends 2 old → wires_at rows old at (drop at b) ≡ total → BodiesFound rows b bodies old old at total
+pub found_first : (rows : List (Option FieldSpec)) (b : List ℕ) (bodies : Bodies) (old : List ℕ) (at : ℕ) (total : Result (Values × ℕ) UnpackFault) → Ascends 2 old → wires_at rows old at (drop at b) ≡ total → BodiesFound rows at b bodies old old at total
 found_first rows b bodies old at total asc is = record {
   done = [];
   next = 2;
@@ -147,16 +175,17 @@ found_first rows b bodies old at total asc is = record {
   above = asc;
   read = nothing (wires_at rows old at (drop at b)) ∙ is;
   within = tt;
+  begun = λ ws. refl;
 }
   where
     nothing : (r : Result (Values × ℕ) UnpackFault) → with_front [] r ≡ r
     nothing (Ok x) = refl
     nothing (Err e) = refl
 
-pub found_next : (rows : List (Option FieldSpec)) (b : List ℕ) (bodies : Bodies) (old ns rest v : List ℕ) (n at body used start size : ℕ) (total : Result (Values × ℕ) UnpackFault) → BodiesFound rows b bodies old ns at total
-    → ns ≡ n ∷ rest → length bodies.starts ≡ 129 → length bodies.sizes ≡ 129 → body ≡ front_of (row_at rows n) → value_at rows n at (drop at b) ≡ Ok (v, used) → start ≡ at + body → size ≡ used - body → body ≤ used
-    → BodiesFound rows b (with_body bodies n start size) old rest (at + used) total
-found_next rows b bodies old ns rest v n at body used start size total h is starts sizes front read begins many inner =
+pub found_next : (rows : List (Option FieldSpec)) (first : ℕ) (b : List ℕ) (bodies : Bodies) (old ns rest v : List ℕ) (n at body used start size : ℕ) (total : Result (Values × ℕ) UnpackFault) → BodiesFound rows first b bodies old ns at total
+    → ns ≡ n ∷ rest → length bodies.starts ≡ 129 → length bodies.sizes ≡ 129 → body ≡ front_of (row_at rows n) → value_at rows n at (drop at b) ≡ Ok (v, used) → start ≡ at + body → size ≡ used - body → body ≤ used → at + used ≤ length b
+    → BodiesFound rows first b (with_body bodies n start size) old rest (at + used) total
+found_next rows first b bodies old ns rest v n at body used start size total h is starts sizes front read begins many inner room =
     let above : Ascends h.next (n ∷ rest) = subst (Ascends h.next) is h.above in
     let below : AreBelow n h.done = below_more h.next n h.done above.0 h.below in
     let new : Bodies = with_body bodies n start size in
@@ -167,6 +196,11 @@ found_next rows b bodies old ns rest v n at body used start size total h is star
     ∙ ap (λ (l : List ℕ). (n, take (used - body) l)) (sym (drop-drop body at b)) ∙ ap (λ (k : ℕ). (n, take (used - k) (drop k (drop at b)))) front in
     let wires : wires_in b new (h.done ++ n ∷ []) ≡ wires_in b bodies h.done ++ (n, wire_at (row_at rows n) (drop at b) used) ∷ [] =
     wires_append b new h.done n ∙ ap (λ (l : Values). l ++ wire_of b new n ∷ []) (wires_stay b bodies h.done n start size below) ∙ ap (λ (e : ℕ × List ℕ). wires_in b bodies h.done ++ e ∷ []) wire in
+    let w : List ℕ = wire_at (row_at rows n) (drop at b) used in
+    let found : starts_in new (h.done ++ n ∷ []) ≡ starts_in bodies h.done ++ (n, start) ∷ [] =
+    starts_append new h.done n ∙ ap (λ (l : List (ℕ × ℕ)). l ++ start_of new n ∷ []) (starts_stay bodies h.done n start size below) ∙ ap (λ (k : ℕ). starts_in bodies h.done ++ (n, k) ∷ []) new_start in
+    let long : length w ≡ used - front_of (row_at rows n) = length-take-le (used - front_of (row_at rows n)) (drop (front_of (row_at rows n)) (drop at b))
+    (omega (arith, length-drop (front_of (row_at rows n)) (drop at b), length-drop at b, room, front, inner)) in
     record {
       done = h.done ++ n ∷ [];
       next = n + 1;
@@ -177,12 +211,17 @@ found_next rows b bodies old ns rest v n at body used start size total h is star
           ∙ ap (λ (l : List ℕ). with_front (wires_in b bodies h.done ++ (n, wire_at (row_at rows n) (drop at b) used) ∷ []) (wires_at rows rest (at + used) l)) (sym (drop-drop used at b))
           ∙ goes_on rows (wires_in b bodies h.done) ns rest n at (drop at b) (v, used) total is read h.read;
       within = within_append (at + used) new h.done n (within_more at (at + used) new h.done (omega arith) (within_stay at bodies h.done n start size below h.within)) (omega (arith, new_start, new_size, begins, many, inner));
+      begun = begun_next rows first b bodies new h.done n at start used w h.begun wires found (begins ∙ ap (λ (k : ℕ). at + k) front) (omega (arith, long, begins, front, inner));
     }
 
-pub found_all : (rows : List (Option FieldSpec)) (b : List ℕ) (bodies : Bodies) (old ns : List ℕ) (at : ℕ) (total : Result (Values × ℕ) UnpackFault) → BodiesFound rows b bodies old ns at total → ns ≡ [] → (total ≡ Ok (wires_in b bodies old, at)) × AreWithin at bodies old
-found_all rows b bodies old ns at total h none =
-    let all : h.done ≡ old = sym (append-nil h.done) ∙ ap (λ (l : List ℕ). h.done ++ l) (sym none) ∙ h.numbers in
-    (wires_end rows (wires_in b bodies h.done) ns at (drop at b) total none h.read ∙ ap (λ (l : List ℕ). Ok (wires_in b bodies l, at)) all, subst (AreWithin at bodies) all h.within)
+pub found_all : (rows : List (Option FieldSpec)) (first : ℕ) (b : List ℕ) (bodies : Bodies) (old ns : List ℕ) (at : ℕ) (total : Result (Values × ℕ) UnpackFault) → BodiesFound rows first b bodies old ns at total → ns ≡ []
+    → (total ≡ Ok (wires_in b bodies old, at)) × AreWithin at bodies old × BeginsThere rows first b bodies old
+found_all rows first b bodies old ns at total h none =
+    let all : h.done ≡ old = sym (append-nil h.done) ∙ ap (λ (l : List ℕ). h.done ++ l) (sym none) ∙ h.numbers in (
+      wires_end rows (wires_in b bodies h.done) ns at (drop at b) total none h.read ∙ ap (λ (l : List ℕ). Ok (wires_in b bodies l, at)) all,
+      subst (AreWithin at bodies) all h.within,
+      subst (BeginsThere rows first b bodies) all (begun_all rows first b bodies h.done at h.begun),
+    )
 
 -- ---- the body of one element
 
@@ -254,6 +293,16 @@ set_few set k elements is = (elements k is).1
 
 pub set_absent : (set : Bitmap) (b : List ℕ) (bodies : Bodies) (k : ℕ) → contains set k ≡ false → value_in (wires_in b bodies (members set)) k ≡ None
 set_absent set b bodies k is = body_absent b bodies (in_words set.primary set.secondary) 127 2 k (λ low high there. let both : true ≡ false = sym there ∙ is in cc)
+
+start_by : (is : Bool) (b : List ℕ) (bodies : Bodies) (ns v : List ℕ) (n k : ℕ) → eqb n k ≡ is → cond is (Some (body_in b bodies n)) (value_in (wires_in b bodies ns) k) ≡ Some v
+    → (value_in (wires_in b bodies ns) k ≡ Some v → start_in (starts_in bodies ns) k ≡ Some (start_at bodies k)) → start_in (starts_in bodies (n ∷ ns)) k ≡ Some (start_at bodies k)
+start_by true b bodies ns v n k is there rest = rw is (ap (λ (m : ℕ). Some (start_at bodies m)) (eqb-true n k is))
+start_by false b bodies ns v n k is there rest = rw is (rest there)
+
+-- where a body is there, it begins at its place
+pub start_there : (b : List ℕ) (bodies : Bodies) (ns v : List ℕ) (k : ℕ) → value_in (wires_in b bodies ns) k ≡ Some v → start_in (starts_in bodies ns) k ≡ Some (start_at bodies k)
+start_there b bodies [] v k there = absurd cc
+start_there b bodies (n ∷ ns) v k there = start_by (eqb n k) b bodies ns v n k refl there (start_there b bodies ns v k)
 
 -- ---- there are at most 127 numbers
 

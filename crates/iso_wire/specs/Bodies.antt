@@ -11,7 +11,7 @@ use Rattle.iso_parts.specs.Numbers.{members, numbers_in}
 use Rattle.iso_parts.specs.Mti.{mti_number, mti_size}
 use Rattle.iso_wire.specs.Reading.{◌>>=◌, type_at, words_at, value_at}
 use Rattle.iso_table.specs.Layout.{Layout, row_at}
-use Rattle.iso_wire.specs.Viewing.{Viewed, front_of}
+use Rattle.iso_wire.specs.Viewing.{Viewed, front_of, starts_of}
 
 -- where the body with a number begins, and how many bytes it is
 abbrev pub start_at : Bodies → ℕ → ℕ
@@ -31,9 +31,18 @@ wire_of b bodies n = (n, body_in b bodies n)
 abbrev pub wires_in : List ℕ → Bodies → List ℕ → List (ℕ × List ℕ)
 wires_in b bodies ns = map (wire_of b bodies) ns
 
+-- where those bodies begin
+abbrev pub start_of : Bodies → ℕ → ℕ × ℕ
+start_of bodies n = (n, start_at bodies n)
+
+abbrev pub starts_in : Bodies → List ℕ → List (ℕ × ℕ)
+starts_in bodies ns = map (start_of bodies) ns
+
 -- the message of an outline, with its bodies in the bytes
 abbrev pub viewed_of : Outline → List ℕ → Bodies → Viewed
-viewed_of outline b bodies = record { mti = mti_number outline.mti; used = outline.used; wires = wires_in b bodies (members outline.numbers); bytes = b }
+viewed_of outline b bodies =
+    let ns = members outline.numbers in
+    record { mti = mti_number outline.mti; used = outline.used; wires = wires_in b bodies ns; starts = starts_in bodies ns; bytes = b }
 
 -- the body with a number lies within so many bytes
 abbrev pub IsBodyWithin : ℕ → Bodies → ℕ → Type 0
@@ -68,7 +77,7 @@ view_at t b = do
   mti ← type_at t b
   words ← words_at t (mti_size t.mti) (drop (mti_size t.mti) b)
   read ← wires_at t.rows (numbers_in words.0 words.1) (mti_size t.mti + words.2) (drop (mti_size t.mti + words.2) b)
-  Ok (record { mti = mti; used = read.1; wires = read.0; bytes = b })
+  Ok (record { mti = mti; used = read.1; wires = read.0; starts = starts_of t.rows (mti_size t.mti + words.2) read.0; bytes = b })
 
 -- a part was judged as reading does, without its value: where its body begins, and how many bytes it takes
 abbrev pub JudgesWire : Option FieldSpec → Result (ℕ × ℕ) UnpackFault → Result (List ℕ × ℕ) UnpackFault → Type 0
@@ -79,6 +88,10 @@ JudgesWire row (Err e) read = read ≡ Err e
 abbrev pub FindsBodies : List ℕ → Bodies → List ℕ → Result ℕ UnpackFault → Result (List (ℕ × List ℕ) × ℕ) UnpackFault → Type 0
 FindsBodies b bodies ns (Ok end) read = read ≡ Ok (wires_in b bodies ns, end)
 FindsBodies b bodies ns (Err e) read = read ≡ Err e
+
+-- the bodies of elements whose parts follow one another from an offset on begin where they were found
+abbrev pub BeginsThere : List (Option FieldSpec) → ℕ → List ℕ → Bodies → List ℕ → Type 0
+BeginsThere rows at b bodies ns = starts_in bodies ns ≡ starts_of rows at (wires_in b bodies ns)
 
 -- an outline is of the message that reading gives, and its bodies lie there
 abbrev pub Outlines : List ℕ → Bodies → Result Outline UnpackFault → Result Viewed UnpackFault → Type 0

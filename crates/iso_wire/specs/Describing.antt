@@ -1,5 +1,5 @@
--- A message as lines for human eyes: its type with the words for its digits, and each element.
-use Rattle.std.specs.Prelude.{ℕ, ◌+◌, ◌-◌, ◌/◌, ◌%◌, ◌==◌, Bool, if◌then◌else◌, List, [], ◌∷◌, ◌++◌, length, take, drop, replicate, Option, Some, None, codes}
+-- A message as lines for human eyes: its type with the words for its digits, each element, and how many bytes it took.
+use Rattle.std.specs.Prelude.{◌≡◌, ◌⊎◌, ℕ, ◌+◌, ◌-◌, ◌/◌, ◌%◌, ◌^◌, ◌<◌, ◌≤◌, ◌==◌, Bool, if◌then◌else◌, List, [], ◌∷◌, ◌++◌, length, take, drop, replicate, Option, Some, None, codes}
 use Rattle.hex.specs.Hex.{encode_upper}
 use Rattle.iso_parts.specs.Digits.{four_digits_of}
 use Rattle.iso_parts.specs.declared.digits.Digits.TheVariants.{Ascii}
@@ -95,3 +95,18 @@ element_lines is_clear rows (e ∷ es) = element_line is_clear rows e.0 e.1 ++ e
 -- the line of the type, and those of the elements
 abbrev pub description : Bool → Layout → Contents → List ℕ
 description is_clear t m = type_line m.mti ++ element_lines is_clear t.rows m.elements
+
+-- ---- the bytes it took
+
+-- the text is the number in decimal, with no zero before it
+abbrev pub IsDecimal : ℕ → List ℕ → Type 0
+IsDecimal v text = (d : ℕ) × (text ≡ decimal d v) × (1 ≤ d) × (v < 10 ^ d) × ((d ≡ 1) ⊎ (10 ^ (d - 1) ≤ v))
+
+-- how many bytes a message took, and of how many
+abbrev pub IsUsedLine : ℕ → ℕ → List ℕ → Type 0
+IsUsedLine used total line =
+    (first : List ℕ) × (second : List ℕ) × IsDecimal used first × IsDecimal total second × (line ≡ codes "USED=" ++ (first ++ (47 ∷ second ++ 10 ∷ [])))
+
+-- the description, and then that line
+abbrev pub AreLinesOf : Bool → Layout → Contents → ℕ → ℕ → List ℕ → Type 0
+AreLinesOf is_clear t m used total lines = (last : List ℕ) × IsUsedLine used total last × (lines ≡ description is_clear t m ++ last)

@@ -1,5 +1,5 @@
--- A message that is left where it lies: its type, its length, and the bodies of its elements.
-use Rattle.std.specs.Prelude.{◌≡◌, ℕ, ◌-◌, ◌≤◌, List, [], ◌∷◌, ◌++◌, length, take, drop, Option, Some, None, Result, Ok, Err}
+-- A message that is left where it lies: its type, its length, the bodies of its elements, and where each begins.
+use Rattle.std.specs.Prelude.{◌≡◌, ℕ, ◌+◌, ◌-◌, ◌≤◌, ◌==◌, if◌then◌else◌, List, [], ◌∷◌, ◌++◌, length, take, drop, Option, Some, None, Result, Ok, Err}
 use Rattle.iso_parts.specs.Reading.{prefix_size}
 use Rattle.iso_parts.specs.declared.spec.FieldSpec.{FieldSpec}
 use Rattle.iso_parts.specs.Part.{Body, prefix}
@@ -10,21 +10,40 @@ use Rattle.iso_wire.specs.Reading.{whole}
 use Rattle.iso_wire.specs.Spelling.{Spelling}
 use Rattle.iso_table.specs.Layout.{Layout, row_at}
 
--- the type, how many bytes the message takes, the body of each element, as it lies there, and the bytes that it all lies in
+-- the type, how many bytes the message takes, the body of each element, as it lies there, the offset where each of them
+-- begins, and the bytes that it all lies in
 pub record Viewed : Type 0 where
   pub mti : ℕ
   pub used : ℕ
   pub wires : List (ℕ × List ℕ)
+  pub starts : List (ℕ × ℕ)
   pub bytes : List ℕ
 
--- the body of an element lies in the message, from one offset up to the other
+-- ---- where a body lies
+
+-- where the body of an element begins, if it is there
+abbrev pub start_in : List (ℕ × ℕ) → ℕ → Option ℕ
+start_in [] n = None
+start_in (s ∷ ss) n = if s.0 == n then Some s.1 else start_in ss n
+
+-- the body of an element lies in the message, from the offset where it begins up to the other
 abbrev pub LiesAt : Viewed → ℕ → ℕ → ℕ → Type 0
-LiesAt v n start end = (start ≤ end) × (end ≤ v.used) × (value_in v.wires n ≡ Some (take (end - start) (drop start v.bytes)))
+LiesAt v n start end =
+    (start ≤ end) × (end ≤ v.used) × (value_in v.wires n ≡ Some (take (end - start) (drop start v.bytes))) × (start_in v.starts n ≡ Some start)
 
 -- how many bytes of a part stand before its body
 abbrev pub front_of : Option FieldSpec → ℕ
 front_of None = 0
 front_of (Some s) = prefix_size s.length
+
+-- where bodies begin, of elements whose parts follow one another from an offset on: each body behind its length
+abbrev pub starts_of : List (Option FieldSpec) → ℕ → List (ℕ × List ℕ) → List (ℕ × ℕ)
+starts_of rows at [] = []
+starts_of rows at (w ∷ ws) =
+    let start = at + front_of (row_at rows w.0) in
+    (w.0, start) ∷ starts_of rows (start + length w.1) ws
+
+-- ---- what is viewed
 
 -- the bytes are the parts of the elements, with these bodies
 abbrev pub Wired : List (Option FieldSpec) → List (ℕ × List ℕ) → List (ℕ × List ℕ) → List ℕ → Type 0
@@ -33,17 +52,21 @@ Wired rows (e ∷ es) (w ∷ ws) b =
     (s : FieldSpec) × (rest : List ℕ) × (row_at rows e.0 ≡ Some s) × (w.0 ≡ e.0) × Body s e.1 w.1 × (b ≡ prefix s.length (length e.1) ++ (w.1 ++ rest)) × Wired rows es ws rest
 Wired rows es ws b = ⊥
 
--- a view is of the message that reading gives, and its bodies are those of the spelling at the front; memory never runs out
+-- a view is of the message that reading gives, and its bodies are those of the spelling at the front, where they lie
+-- there; memory never runs out
 abbrev pub Views : Layout → List ℕ → Result Viewed UnpackFault → Result (Contents × ℕ) UnpackFault → Type 0
 Views t b (Ok v) read =
     (es : List (ℕ × List ℕ)) × (front : ℕ) × (read ≡ whole (record { mti = v.mti; elements = es }) v.used) × Wired t.rows es v.wires (drop front (take v.used b))
+    × (front ≤ v.used) × (v.starts ≡ starts_of t.rows front v.wires)
 Views t b (Err e) read = read ≡ Err e
 
 -- what the first bytes spell is viewed
 abbrev pub ViewsSpelled : Layout → List ℕ → Result Viewed UnpackFault → Type 0
 ViewsSpelled t b result = (m : Contents) (front rest : List ℕ) → Spelling t m front → b ≡ front ++ rest → Views t b result (whole m (length front))
 
--- the first bytes, so many of them, spell a message of the type, and the bodies are those of its elements in that spelling
+-- the first bytes, so many of them, spell a message of the type, the bodies are those of its elements in that spelling, and
+-- they begin where its parts lie, which are its last bytes
 abbrev pub IsViewed : Layout → Viewed → List ℕ → Type 0
 IsViewed t v b =
-    (m : Contents) × (m.mti ≡ v.mti) × (v.used ≤ length b) × ((spelling : Spelling t m (take v.used b)) × Wired t.rows m.elements v.wires spelling.parts)
+    (m : Contents) × (m.mti ≡ v.mti) × (v.used ≤ length b)
+    × ((spelling : Spelling t m (take v.used b)) × Wired t.rows m.elements v.wires spelling.parts × (v.starts ≡ starts_of t.rows (v.used - length spelling.parts) v.wires))

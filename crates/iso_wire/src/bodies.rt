@@ -1,12 +1,12 @@
 //! A message that lies in the caller's bytes, and where the bodies of its elements lie.
 
-ghost use Rattle.std.specs.Prelude.{◌≡◌, ℕ, ◌+◌, ◌*◌, ◌≤◌, List, drop, length, IfOk, MatchOption, None, Some};
+ghost use Rattle.std.specs.Prelude.{◌≡◌, ℕ, ◌+◌, ◌*◌, ◌≤◌, List, drop, length, IfOk, OnOk, MatchOption, None, Some};
 ghost use Rattle.iso_parts.specs.Mti.{mti_number};
 ghost use Rattle.iso_table.specs.Layout.{row_at, AreGood};
 ghost use Rattle.iso_wire.specs.Elements.{value_in};
 ghost use Rattle.iso_wire.specs.Reading.{value_at};
 ghost use Rattle.iso_parts.specs.Numbers.{members};
-ghost use Rattle.iso_wire.specs.Bodies.{longest_part, AreWithin, viewed_of, wires_at, view_at, JudgesWire, FindsBodies, Outlines};
+ghost use Rattle.iso_wire.specs.Bodies.{longest_part, AreWithin, BeginsThere, viewed_of, wires_at, view_at, JudgesWire, FindsBodies, Outlines};
 ghost use Rattle.iso_wire.specs.Viewing.{LiesAt};
 
 use crate::fault::{UnpackCause, UnpackFault};
@@ -85,6 +85,7 @@ fn find_bodies(
     requires within { start ≤ length bytes.now }
     ensures exact { FindsBodies bytes.now bodies.new (members numbers) result (wires_at table.now.rows (members numbers) start (drop start bytes.now)) }
     ensures within { IfOk result (λ end. (end ≤ length bytes.now) × AreWithin end bodies.new (members numbers)) }
+    ensures begin { OnOk result (BeginsThere table.now.rows start bytes.now bodies.new (members numbers)) }
 {
     let mut rest = numbers;
     let mut at = start;

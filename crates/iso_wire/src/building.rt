@@ -13,7 +13,8 @@ use crate::elements::Elements;
 use crate::fault::UnpackFault;
 use crate::front::{type_of, words_of};
 use crate::message::Message;
-use iso_parts::{Bitmap, LONGEST_VALUE, decode_judged};
+use crate::unpacking::values_room;
+use iso_parts::{Bitmap, decode_judged};
 use iso_table::Table;
 use std::alloc::Global;
 
@@ -58,10 +59,7 @@ fn elements_of(
     ensures numbered { IfOk result (λ x. IsNumbered x.0) }
 {
     let count = numbers.count();
-    let room = count
-        .saturating_mul(LONGEST_VALUE)
-        .min((bytes.len() - start).saturating_mul(2));
-    let mut elements = Elements::with_room(alloc, count, room)?;
+    let mut elements = Elements::with_room(alloc, count, values_room(count, bytes.len() - start))?;
     elements.numbers = numbers;
     let mut rest = numbers;
     let mut at = start;

@@ -1,26 +1,19 @@
 //! A message as lines for human eyes.
 
-ghost use Rattle.std.specs.Prelude.{◌≡◌, ◌<◌, ◌++◌, slice_index, IfOk, OnOk, replicate, true, false};
-ghost use Rattle.hex.specs.Hex.{encode_upper, upper_digits};
+ghost use Rattle.std.specs.Prelude.{◌≡◌, ◌++◌, ℕ, List, IfOk, OnOk, OnErr, replicate, true, false};
+ghost use Rattle.hex.specs.Hex.{encode_upper};
+ghost use Rattle.iso_parts.specs.Buffers.{Keeps};
 ghost use Rattle.iso_table.specs.Layout.{row_at};
 ghost use Rattle.iso_wire.specs.Describing.{clear_text, value_text, shown_text, class_by};
-ghost use Rattle.iso_wire.specs.Describing.{element_line, element_lines, description};
+ghost use Rattle.iso_wire.specs.Describing.{element_line, element_lines, description, IsDecimal, IsUsedLine};
 
-use crate::decimal::write_decimal;
+use crate::decimal::{digits_of, write_decimal};
 use crate::masking::masked;
 use crate::message::Message;
 use crate::words::push_type;
-use iso_parts::CharClass;
+use iso_parts::{CharClass, hex_digit};
 use iso_table::Table;
 use std::alloc::{AllocError, Global};
-
-/// A hexadecimal digit in upper case.
-fn hex_digit(d: u8) -> u8
-    requires { d < 16 }
-    ensures { result ≡ slice_index upper_digits d }
-{
-    b"0123456789ABCDEF"[d as usize]
-}
 
 /// Appends two hexadecimal digits for each byte.
 #[tactic(auto, unfolding(hex::specs::Hex::encode_with))]
@@ -164,4 +157,44 @@ pub fn describe_clear(
     ensures { IfOk result (λ lines. lines.items ≡ description true table.now message.now) }
 {
     lines_of(alloc, table, true, message)
+}
+
+/// Appends a number in decimal.
+fn push_number(v: usize, out: &mut Vec<u8>) -> Result<(), AllocError>
+    ensures ok { OnOk result ((text : List ℕ) × IsDecimal v text × (out.new.items ≡ out.old.items ++ text)) }
+    ensures unchanged { OnErr result (out.new.items ≡ out.old.items) }
+{
+    let mut room = [0; 20];
+    let text = &mut room[..digits_of(v as u64) as usize];
+    write_decimal(text, v as u64);
+    out.extend_from_slice(text)
+}
+
+/// Appends the line that tells how many bytes a message took, and of how many.
+fn push_used(used: usize, total: usize, out: &mut Vec<u8>) -> Result<(), AllocError>
+    ensures ok { OnOk result ((line : List ℕ) × IsUsedLine used total line × (out.new.items ≡ out.old.items ++ line)) }
+    ensures kept { OnErr result (Keeps out.old.items out.new.items) }
+{
+    out.extend_from_slice(b"USED=")?;
+    push_number(used, out)?;
+    out.extend_from_slice(b"/")?;
+    push_number(total, out)?;
+    out.extend_from_slice(b"\n")?;
+    Ok(())
+}
+
+/// Appends the line that tells how many bytes a message took, and of how many: `USED=116/120`. Without memory nothing is
+/// changed.
+pub fn append_used(used: usize, total: usize, out: &mut Vec<u8>) -> Result<(), AllocError>
+    ensures ok { OnOk result ((line : List ℕ) × IsUsedLine used total line × (out.new.items ≡ out.old.items ++ line)) }
+    ensures unchanged { OnErr result (out.new.items ≡ out.old.items) }
+{
+    let start = out.len();
+    match push_used(used, total, out) {
+        Ok(()) => Ok(()),
+        Err(refused) => {
+            out.truncate(start);
+            Err(refused)
+        }
+    }
 }

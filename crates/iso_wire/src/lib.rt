@@ -24,7 +24,7 @@ mod words;
 
 pub use bodies::View;
 pub use decimal::{are_digits, digits_of, number, number_in, write_decimal};
-pub use describing::{describe, describe_clear};
+pub use describing::{append_used, describe, describe_clear};
 pub use fault::{PackFault, SetFault, UnpackCause, UnpackFault};
 pub use framing::{
     FrameFault, Framed, append_frame, body_length, close_frame, frame, open_frame, unframe,

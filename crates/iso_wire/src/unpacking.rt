@@ -87,8 +87,17 @@ fn append_element(
     Ok(used)
 }
 
+/// The most bytes that the values of so many elements can have, whose parts lie in so many bytes: a part has at most two
+/// characters a byte.
+#[inline(always)]
+pub(crate) fn values_room(count: usize, bytes: usize) -> usize {
+    count
+        .saturating_mul(LONGEST_VALUE)
+        .min(bytes.saturating_mul(2))
+}
+
 /// Reads the elements with these numbers, whose parts begin at `start`, in place of the ones that were there, and gives
-/// the offset behind them. The room for them is taken once: a part has at most two characters a byte.
+/// the offset behind them. The room for them is taken once.
 fn read_elements(
     table: &Table,
     numbers: Bitmap,
@@ -103,10 +112,7 @@ fn read_elements(
     ensures numbered { OnOk result (IsNumbered elements.new) }
 {
     let count = numbers.count();
-    let room = count
-        .saturating_mul(LONGEST_VALUE)
-        .min((bytes.len() - start).saturating_mul(2));
-    elements.start_over(count, room)?;
+    elements.start_over(count, values_room(count, bytes.len() - start))?;
     elements.numbers = numbers;
     let mut rest = numbers;
     let mut at = start;

@@ -1,6 +1,7 @@
 //! Reading a message without copying it.
 
 ghost use Rattle.std.specs.Prelude.{◌≡◌, ◌≢◌, ◌++◌, ℕ, List, IfOk, IfErr};
+ghost use Rattle.iso_table.specs.Layout.{AreGood};
 ghost use Rattle.iso_wire.specs.declared.fault.UnpackCause.{UnpackCause};
 ghost use Rattle.iso_wire.specs.declared.fault.UnpackCause.TheVariants.{Short, Memory};
 ghost use Rattle.iso_wire.specs.Reading.{halt, message_at};
@@ -12,6 +13,24 @@ use crate::bodies::{Bodies, View, outline_of};
 use crate::fault::UnpackFault;
 use crate::laws::{reads_spellings, stops};
 use iso_table::Table;
+
+/// The view that `view` gives, or its fault.
+#[inline(always)]
+fn view_of<'a>(table: &Table, bytes: &'a [u8]) -> Result<View<'a>, UnpackFault>
+    ensures exact { Views table.now bytes.now result (message_at table.now bytes.now) }
+    ensures bytes { IfOk result (λ v. v.bytes ≡ bytes.now) }
+    ensures fits { AreBytes bytes.now }
+    ensures good { AreGood table.now.rows }
+{
+    iso_parts::laws::parts();
+    let mut bodies = Bodies::none();
+    let outline = outline_of(table, bytes, &mut bodies)?;
+    Ok(View {
+        outline,
+        bytes,
+        bodies,
+    })
+}
 
 /// Views the message that the bytes begin with, and leaves it where it lies; bytes behind it are left. It accepts what
 /// `unpack` accepts, and refuses the rest with the same fault. Takes no memory.
@@ -41,11 +60,5 @@ pub fn view<'a>(table: &Table, bytes: &'a [u8]) -> Result<View<'a>, UnpackFault>
     reads_spellings();
     stops();
     iso_parts::laws::parts();
-    let mut bodies = Bodies::none();
-    let outline = outline_of(table, bytes, &mut bodies)?;
-    Ok(View {
-        outline,
-        bytes,
-        bodies,
-    })
+    view_of(table, bytes)
 }

@@ -311,3 +311,9 @@ fn bcd_bytes_have_characters() -> Result<(), Fail> {
     check(bcd_characters(0x12, 0x34) == *b"1234", "digits")?;
     check(bcd_characters(0x9A, 0xF0) == *b"9:?0", "nibbles above nine")
 }
+
+#[test]
+fn hex_digits_are_in_upper_case() -> Result<(), Fail> {
+    check(hex_digit(0) == b'0' && hex_digit(9) == b'9', "digits")?;
+    check(hex_digit(10) == b'A' && hex_digit(15) == b'F', "letters")
+}

@@ -1,7 +1,7 @@
 //! What is printed of values.
 
 use super::*;
-use iso_wire::{Framed, describe, describe_clear, masked};
+use iso_wire::{Framed, append_used, describe, describe_clear, masked};
 
 /// A value of an element, and what is shown of it.
 const VALUES: &[(&str, u8, &[u8], &str)] = &[
@@ -186,6 +186,23 @@ fn check_described(
         name,
         "in full",
     )
+}
+
+fn used_line(alloc: Global, used: usize, total: usize) -> Result<Vec<u8>, Fail> {
+    let mut line = Vec::new(alloc);
+    append_used(used, total, &mut line)?;
+    Ok(line)
+}
+
+#[test]
+fn used_bytes_are_told(rt: HostRuntime) -> Result<(), Fail> {
+    let line = used_line(rt.alloc(), 74, 120)?;
+    check(
+        line.as_slice() == b"USED=74/120\n".as_slice(),
+        "some of them",
+    )?;
+    let line = used_line(rt.alloc(), 0, 0)?;
+    check(line.as_slice() == b"USED=0/0\n".as_slice(), "none")
 }
 
 #[test]

@@ -17,7 +17,7 @@ returns-in-Ok-clause-reply c =
     let is : IsSpreadHeld c.args.slot.now.value c.args.bytes.now c.in-Ok.found =
     subst (λ (t : Option Layout). IsSpreadHeld t c.args.bytes.now c.in-Ok.found) c.replace-table.ensures.0 c.in-Ok.ensures.ok in
     subst (reply c.args.slot.now.value) (sym same)
-    (given c.args.slot.now.value c.args.bytes.now c.in-Ok.found z c.args.message.now c.give_message.new.message c.args.parts.now c.give_message.new.parts c.args.values.now c.give_message.new.values c.give_message.new.fault is c.give_message.ensures)
+    (given c.args.slot.now.value c.args.bytes.now c.in-Ok.found z c.args.message.now c.give_message.new.message c.args.parts.now c.give_message.new.parts c.args.values.now c.give_message.new.values c.give_message.new.fault is c.give_message.ensures.reply)
 
 pub returns-in-Err-clause-reply : goal.returns-in-Err-clause-reply
 returns-in-Err-clause-reply c =

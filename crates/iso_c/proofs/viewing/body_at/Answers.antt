@@ -19,4 +19,5 @@ returns-clause-ok c =
     let is = c.in_ok-viewed.ensures.found in
     let lies = c.in-Some.ensures in
     let room : end - start ≤ length (drop start b) = omega (arith, lies.0, lies.1, is.2, length-drop start b) in
-    (view, is, c.from-2.ensures, omega (arith, lies.0, lies.1), lies.2 ∙ ap (λ (l : List ℕ). Some (take (end - start) (drop start l))) c.in_ok-viewed.ensures.bytes, length-take-le (end - start) (drop start b) room)
+    let body = lies.2 ∙ ap (λ (l : List ℕ). Some (take (end - start) (drop start l))) c.in_ok-viewed.ensures.bytes in
+    (view, is, c.from-2.ensures, omega (arith, lies.0, lies.1), body, length-take-le (end - start) (drop start b) room, lies.3)

@@ -1,21 +1,35 @@
-use Rattle.std.proofs.Common.{◌≡◌, ◌≤◌, ◌-◌, ◌+◌, ℕ, false, length, List, ◌++◌, take, drop, replicate, refl, ap, ◌∙◌, arith}
-use Rattle.std.specs.Prelude.{nat_lt}
+use Rattle.std.proofs.Common.{◌≡◌, ◌≤◌, ◌-◌, ◌+◌, ℕ, length, List, ◌++◌, take, drop, replicate, refl, ap, ◌∙◌, arith, inl, inr}
+use Rattle.std.proofs.lemmas.Bool.{cases_lt}
 use Rattle.std.proofs.lemmas.Bool.Decides.{nat_tests}
 use Rattle.std.proofs.lemmas.List.{drop-drop, length-take-le, length-drop}
+use Rattle.iso_wire.specs.Masking.{shown_front, shown_end}
 use Rattle.iso_order.specs.Pan.{masked_digits}
 use Rattle.iso_order.proofs.pan.hide.Goals as goal
 
--- asterisks in the place of all but the first six and the last four
-middle : (digits new : List ℕ) → 13 ≤ length digits → new ≡ replicate (length (take (length digits - 4 - 6) (drop 6 digits))) 42
-    → take 6 digits ++ (new ++ drop (length digits - 4 - 6) (drop 6 digits)) ≡ masked_digits digits
-middle digits new many filled =
-    let within : length digits - 4 - 6 ≤ length (drop 6 digits) = omega (arith, length-drop 6 digits) in
-    let size : length (take (length digits - 4 - 6) (drop 6 digits)) ≡ length digits - 10 = length-take-le (length digits - 4 - 6) (drop 6 digits) within ∙ omega arith in
-    let places : 6 + (length digits - 4 - 6) ≡ length digits - 4 = omega arith in
-    let rest : drop (length digits - 4 - 6) (drop 6 digits) ≡ drop (length digits - 4) digits = drop-drop (length digits - 4 - 6) 6 digits ∙ ap (λ (n : ℕ). drop n digits) places in
-    let long : nat_lt (length digits) 13 ≡ false = grind (arith, nat_tests) in
-    let stars : new ≡ replicate (length digits - 10) 42 = filled ∙ ap (λ (n : ℕ). replicate n 42) size in
-    rw (long, stars, rest) refl
+-- what is shown of an account number at both ends is no more than there is
+ends_fit : (n : ℕ) → shown_front 2 n + shown_end 2 n ≤ n
+ends_fit n =
+    elim (cases_lt n 13) [
+      | inl short ↦ grind (arith, nat_tests)
+      | inr long ↦ grind (arith, nat_tests)
+    ]
 
-pub returns-else-len-lt13 : goal.returns-else-len-lt13
-returns-else-len-lt13 c = middle c.args.digits.now c.fill-else-len-lt13.new.self c.if-len-lt13.false (c.fill-else-len-lt13.ensures.after (λ y is. is))
+-- asterisks in the place of all that isn't shown
+middle : (digits new : List ℕ) (start hidden : ℕ) → start ≡ shown_front 2 (length digits) → hidden ≡ length digits - shown_front 2 (length digits) - shown_end 2 (length digits)
+    → new ≡ replicate (length (take (start + hidden - start) (drop start digits))) 42 → take start digits ++ (new ++ drop (start + hidden - start) (drop start digits)) ≡ masked_digits digits
+middle digits new start hidden first many filled =
+    let n : ℕ = length digits in
+    let few = ends_fit n in
+    let count : start + hidden - start ≡ n - shown_front 2 n - shown_end 2 n = omega (arith, many) in
+    let within : start + hidden - start ≤ length (drop start digits) = omega (arith, count, first, length-drop start digits) in
+    let size : length (take (start + hidden - start) (drop start digits)) ≡ n - shown_front 2 n - shown_end 2 n = length-take-le (start + hidden - start) (drop start digits) within ∙ count in
+    let places : start + (start + hidden - start) ≡ n - shown_end 2 n = omega (arith, count, first, few) in
+    let rest : drop (start + hidden - start) (drop start digits) ≡ drop (n - shown_end 2 n) digits = drop-drop (start + hidden - start) start digits ∙ ap (λ (k : ℕ). drop k digits) places in
+    let stars : new ≡ replicate (n - shown_front 2 n - shown_end 2 n) 42 = filled ∙ ap (λ (k : ℕ). replicate k 42) size in
+    rw (stars, rest) (ap (λ (k : ℕ). take k digits ++ (replicate (n - shown_front 2 n - shown_end 2 n) 42 ++ drop (n - shown_end 2 n) digits)) first)
+
+pub returns : goal.returns
+returns c =
+    let few = ends_fit (length c.args.digits.now) in
+    let start : length c.masked.result.front.now ≡ shown_front 2 (length c.args.digits.now) = ap length c.masked.ensures.front ∙ length-take-le _ _ (omega (arith, few)) in
+    middle c.args.digits.now c.fill.new.self (length c.masked.result.front.now) c.masked.result.hidden start c.masked.ensures.hidden (c.fill.ensures.after (λ y is. is))

@@ -1,11 +1,11 @@
-use Rattle.std.proofs.Common.{arith, refl}
+use Rattle.std.proofs.Common.{arith}
 use Rattle.hex.specs.Hex.{upper_digits}
 use Rattle.hex.proofs.Pairs.{encode_step, encode_done}
 use Rattle.iso_parts.proofs.encoding.write_hex.Goals as goal
 
 pub loop-i-preserved : goal.loop-i-preserved
 loop-i-preserved c =
-    encode_step upper_digits c.args.bytes.now c.loop-i.room c.loop-i.i _ _ (omega arith) (omega arith) refl refl c.loop-i.invariant
+    encode_step upper_digits c.args.bytes.now c.loop-i.room c.loop-i.i _ _ (omega arith) (omega arith) c.hex_digit.ensures c.hex_digit-in-loop-i.ensures c.loop-i.invariant
 
 pub returns : goal.returns
 returns c =

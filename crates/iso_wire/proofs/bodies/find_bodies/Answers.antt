@@ -22,7 +22,7 @@ loop-n-preserved c =
     let fewer = ap length c.in-Some.ensures in
     let room : l.at + c.in_ok-body.used ≤ length b = omega (arith, c.in_ok-body.ensures.room.1, ap length l.invariant.left, length-drop l.at b, l.invariant.room) in
     record {
-      found = found_next c.args.table.now.rows b l.bodies (members c.args.numbers) (members l.rest) (members c.take_first.new.self) read.1.0 c.in-Some.n l.at c.in_ok-body.body c.in_ok-body.used _ _ _ l.invariant.found c.in-Some.ensures l.invariant.starts l.invariant.sizes read.0 read.1.1 refl refl c.in_ok-body.ensures.room.0;
+      found = found_next c.args.table.now.rows c.args.start b l.bodies (members c.args.numbers) (members l.rest) (members c.take_first.new.self) read.1.0 c.in-Some.n l.at c.in_ok-body.body c.in_ok-body.used _ _ _ l.invariant.found c.in-Some.ensures l.invariant.starts l.invariant.sizes read.0 read.1.1 refl refl c.in_ok-body.ensures.room.0 room;
       left = c.split_at-in-Some.ensures.back ∙ ap (drop c.in_ok-body.used) l.invariant.left ∙ drop-drop c.in_ok-body.used l.at b;
       room = room;
       few = omega (arith, fewer, l.invariant.few, c.in_ok-body.ensures.few);

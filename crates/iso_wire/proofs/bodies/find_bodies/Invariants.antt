@@ -6,7 +6,7 @@ use Rattle.iso_wire.proofs.bodies.find_bodies.Given as goal
 
 abbrev pub invariant-loop-n : goal.invariant-loop-n
 invariant-loop-n l = record {
-  found : BodiesFound l.table.rows l.bytes l.bodies (members l.fn.numbers) (members l.rest) l.at (wires_at l.table.rows (members l.fn.numbers) l.start (drop l.start l.bytes));
+  found : BodiesFound l.table.rows l.start l.bytes l.bodies (members l.fn.numbers) (members l.rest) l.at (wires_at l.table.rows (members l.fn.numbers) l.start (drop l.start l.bytes));
   left : l.left ≡ drop l.at l.bytes;
   room : l.at ≤ length l.bytes;
   few : l.at + longest_part * length (members l.rest) ≤ 36 + longest_part * 127;

@@ -1,6 +1,7 @@
 use Rattle.std.proofs.Common.{◌≡◌, ℕ, ◌+◌, ◌-◌, Some, take, drop, sym, ap, arith, ◌∙◌}
 use Rattle.iso_wire.specs.Bodies.{start_at, body_size_at}
-use Rattle.iso_wire.proofs.Wires.{set_body, set_within, set_absent}
+use Rattle.iso_parts.specs.Numbers.{members}
+use Rattle.iso_wire.proofs.Wires.{set_body, set_within, set_absent, start_there}
 use Rattle.iso_wire.proofs.bodies.place_of.Goals as goal
 
 pub returns-then-has : goal.returns-then-has
@@ -11,10 +12,11 @@ returns-then-has c =
     let size = body_size_at bodies c.args.n in
     let is = sym c.has.ensures.has ∙ c.if-has.true in
     let whole : size ≡ start + size - start = omega arith in
-    λ b. (
+    λ b. let body = set_body numbers b bodies c.args.n c.has.ensures.numbers is in (
       omega arith,
       set_within numbers c.args.outline.now.used bodies c.args.n c.has.ensures.numbers is c.requires.within,
-      set_body numbers b bodies c.args.n c.has.ensures.numbers is ∙ ap (λ (k : ℕ). Some (take k (drop start b))) whole,
+      body ∙ ap (λ (k : ℕ). Some (take k (drop start b))) whole,
+      start_there b bodies (members numbers) _ c.args.n body,
     )
 
 pub returns-else-has : goal.returns-else-has

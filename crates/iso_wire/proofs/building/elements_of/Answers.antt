@@ -33,7 +33,7 @@ returns-clause-numbered c =
     let rows = c.args.table.now.rows in
     let numbers = c.args.numbers in
     let es = views c.loop-n.elements in
-    let total = is_done rows es (members c.loop-n.rest) c.loop-n.at (drop c.loop-n.at c.args.bytes.now) _ c.in_default.ensures c.loop-n.invariant.read in
+    let total = is_done rows es (members c.loop-n.rest) c.loop-n.at (drop c.loop-n.at c.args.bytes.now) _ c.in_default.ensures.0 c.loop-n.invariant.read in
     let numbered = numbered_members numbers es c.requires.elements (numbers_read rows (members numbers) c.args.start (drop c.args.start c.args.bytes.now) es c.loop-n.at total) in
     λ k. ap (λ s. contains s k) c.loop-n.invariant.numbers ∙ numbered k
 
@@ -41,4 +41,4 @@ pub append_element-requires-clause-awaits : goal.append_element-requires-clause-
 append_element-requires-clause-awaits c = (members c.take_first.new.self, subst (λ l. Awaits c.loop-n.elements l) c.in-Some.ensures c.loop-n.invariant.awaits)
 
 pub returns-clause-whole : goal.returns-clause-whole
-returns-clause-whole c = awaits_none c.loop-n.elements (subst (λ l. Awaits c.loop-n.elements l) c.in_default.ensures c.loop-n.invariant.awaits)
+returns-clause-whole c = awaits_none c.loop-n.elements (subst (λ l. Awaits c.loop-n.elements l) c.in_default.ensures.0 c.loop-n.invariant.awaits)

@@ -20,4 +20,5 @@ returns-then-self-ne0-2 c =
 
 pub returns-else-self-ne0-2 : goal.returns-else-self-ne0-2
 returns-else-self-ne0-2 c =
-    ap (λ (w : ℕ). numbers_in w c.args.self.now.secondary) c.if-self-ne0.false ∙ ap (numbers_in 0) c.if-self-ne0-2.false ∙ none_left
+    let none = ap (λ (w : ℕ). numbers_in w c.args.self.now.secondary) c.if-self-ne0.false ∙ ap (numbers_in 0) c.if-self-ne0-2.false ∙ none_left in
+    (none, none)

@@ -1,6 +1,6 @@
 use Rattle.std.proofs.Common.{◌≡◌, ◌++◌, drop, map}
 use Rattle.std.specs.Prelude.{string_bytes}
-use Rattle.iso_cli.proofs.given.texts.Given as goal
+use Rattle.iso_cli.proofs.arguments.texts.Given as goal
 
 -- the texts so far, and then those of the rest
 abbrev pub invariant-loop-word : goal.invariant-loop-word

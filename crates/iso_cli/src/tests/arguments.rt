@@ -1,7 +1,7 @@
 //! The program's own arguments.
 ghost use Rattle.std.specs.Prelude.{None};
 
-use crate::given::act_as_given;
+use crate::arguments::act_as_given;
 use crate::source::{Source, SourceFault};
 use crate::tests::{End, check_end};
 use iso_host::Std;
