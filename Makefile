@@ -5,7 +5,6 @@
 # make replay  a host that is killed and started again on the frames that were kept; builds the command
 # make connections  an acquirer whose answers get lost, and peers that misbehave, at a host on a port; builds the command
 # make schedule  an acquirer whose answers get lost, and what both ends hold: SCHEDULE=examples/lost-answers.txt
-# make peers   bad peers of a host on a port, each before a good one; builds the command
 # make library  proves the library for C and what it stands on, and builds it: crates/iso_c/out/libiso_c.a
 # make check   proves what changed since the last check
 # make prove   the whole gate: every proof, must-fail edit, test and program, from nothing; a check a core, RT_JOBS=2 for fewer
@@ -41,7 +40,7 @@ ifeq ($(ROUNDS),$(ALL_ROUNDS))
 LOOPBACK_PAGE := docs/SPEED.md
 endif
 
-.PHONY: run test build library day replay connections peers schedule check prove memory bench loopback
+.PHONY: run test build library day replay connections schedule check prove memory bench loopback
 
 run:
 	@if $(MAKE) --silent --no-print-directory --question $(COMMAND); then \
@@ -66,9 +65,6 @@ replay: $(COMMAND)
 
 connections: $(COMMAND)
 	@cd examples && python3 client.py ../$(COMMAND)
-
-peers: $(COMMAND)
-	@scripts/bad-peers.py $(COMMAND)
 
 schedule:
 	@scripts/quick-run.sh iso_schedule $(SCHEDULE)

@@ -164,6 +164,11 @@ def never_reads(peer):
             peer.socket.sendall(requests)
     except socket.timeout:
         pass
+    resets(peer)
+
+
+def resets(peer):
+    """The close that follows cuts the connection."""
     peer.socket.setsockopt(socket.SOL_SOCKET, socket.SO_LINGER, struct.pack("ii", 1, 0))
 
 
@@ -189,6 +194,8 @@ DAY = [
     ("sends an answer, which gets none", sends_an_answer, [report(1, 0, 1, 0)]),
     ("never reads an answer, and resets the connection", never_reads, CUT),
     SERVED,
+    ("resets the connection at once", resets, ["failed: Read"]),
+    SERVED,
     sends("closes at once", b"", report(0, 0, 0, 0)),
     asks("asks for the first balance again: the first answer", (inquiry(b"000001"), balance(b"000001", b"000001", FIFTY))),
     asks("asks for the balance: 50.00 as before", (inquiry(b"000011"), balance(b"000011", b"000006", FIFTY))),
@@ -198,6 +205,7 @@ LONG = [
     ("sends two frames of 65,535 bytes, and an echo test, which is answered", sends_unreadable([b"0" * 65535, b"\xff" * 65535]),
      [report(3, 1, 0, 2)]),
     sends("announces 65,535 bytes, and sends ten", b"\xff\xff" + b"0" * 10, "refused: CutFrame"),
+    ("resets the connection at once", resets, ["failed: Read"]),
     asks("the next one is served: an echo test", (ECHO, ECHOED)),
     sends("sends 5,000 bytes by chance, the last frame too short", CHANCE + b"\xff\xff", "refused: CutFrame"),
     asks("the next one is served: an echo test", (ECHO, ECHOED)),

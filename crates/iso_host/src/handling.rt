@@ -1,7 +1,7 @@
 //! One body: its message, what that asks, and the frame of the response.
-ghost use Rattle.std.specs.Prelude.{◌≡◌, ℕ, List, [], ◌∷◌, true, IfOk, OnOk, OnErr, IfSome, Some};
+ghost use Rattle.std.specs.Prelude.{◌≡◌, [], ◌∷◌, true, IfOk, OnOk, OnErr, IfSome, Some};
 ghost use Rattle.iso_table.specs.HostReady.{IsHostReady};
-ghost use Rattle.iso_wire.specs.Spelling.{Spelling};
+ghost use Rattle.iso_host.specs.Intake.{IsSpelled};
 ghost use Rattle.iso_order.specs.Fields.{function};
 ghost use Rattle.iso_parts.specs.Mti.{is_answered};
 ghost use Rattle.iso_order.specs.Response.{is_showable};
@@ -85,7 +85,7 @@ pub fn handle_message(
     desk: &mut Desk<'_>,
 ) -> Result<Handled, NoMemory>
     requires ready { IsHostReady desk.old.table }
-    requires read { IfSome message.now (λ m. (bytes : List ℕ) × Spelling desk.old.table m bytes) }
+    requires read { IsSpelled desk.old.table message.now }
     ensures handled { IfOk result (Handles desk.old.table desk.old.header issuer.old message.now desk.new.frame) }
     ensures entered { OnOk result (issuer.new ≡ entered_by issuer.old message.now) }
     ensures memory { OnErr result (EntersOrKeeps desk.old.table desk.old.header issuer.old issuer.new message.now) }

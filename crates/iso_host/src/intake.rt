@@ -1,10 +1,10 @@
 //! The message that a body is, made of the whole body or of its pieces.
 
-ghost use Rattle.std.specs.Prelude.{◌≡◌, ◌++◌, ℕ, List, [], None, IfOk, IfSome, OnErr};
+ghost use Rattle.std.specs.Prelude.{◌≡◌, ◌++◌, [], None, IfOk, OnErr};
 ghost use Rattle.iso_table.specs.Layout.{AreGood};
-ghost use Rattle.iso_wire.specs.Spelling.{AreBytes, Spelling};
+ghost use Rattle.iso_wire.specs.Spelling.{AreBytes};
 ghost use Rattle.iso_host.specs.Asking.{message_in};
-ghost use Rattle.iso_host.specs.Intake.{TellsBody, unpacker_holding};
+ghost use Rattle.iso_host.specs.Intake.{IsSpelled, TellsBody, unpacker_holding};
 
 use iso_order::NoMemory;
 use iso_table::Table;
@@ -30,7 +30,7 @@ fn whole_message(
     body: &[u8],
 ) -> Result<Option<Message>, NoMemory>
     ensures whole { IfOk result (λ message. message ≡ message_in unpacker.old.table body.now) }
-    ensures read { IfOk result (λ message. IfSome message (λ m. (bytes : List ℕ) × Spelling unpacker.old.table m bytes)) }
+    ensures read { IfOk result (IsSpelled unpacker.old.table) }
     ensures kept { unpacker.new ≡ unpacker.old }
 {
     match unpacker.unpack(alloc, body) {
@@ -130,7 +130,7 @@ impl<'t> Intake<'t> {
     /// The message that the whole body is, if it is one.
     pub fn read(&mut self, body: &[u8]) -> Result<Option<Message>, NoMemory>
         ensures whole { IfOk result (λ message. message ≡ message_in self.old.table body.now) }
-        ensures read { IfOk result (λ message. IfSome message (λ m. (bytes : List ℕ) × Spelling self.old.table m bytes)) }
+        ensures read { IfOk result (IsSpelled self.old.table) }
         ensures kept { self.new ≡ self.old }
     {
         whole_message(self.alloc, &mut self.unpacker, body)

@@ -1,7 +1,7 @@
 //! The engine: frames from a reader, and the frames of their responses to a writer.
-ghost use Rattle.std.specs.Prelude.{◌≡◌, ℕ, List, IfOk, IfSome, OnOk, Option, option_map};
+ghost use Rattle.std.specs.Prelude.{◌≡◌, IfOk, OnOk, Option, option_map};
 ghost use Rattle.iso_table.specs.HostReady.{IsHostReady};
-ghost use Rattle.iso_wire.specs.Spelling.{Spelling};
+ghost use Rattle.iso_host.specs.Intake.{IsSpelled};
 ghost use Rattle.iso_order.specs.Verdict.{verdict};
 ghost use Rattle.iso_order.specs.declared.verdict.Verdict.{Verdict};
 ghost use Rattle.iso_host.specs.Desk.{IsSameDesk};
@@ -68,7 +68,7 @@ fn answer_message<W: Outlet>(
     left: &mut u64,
 ) -> Result<Handled, ServeFault>
     requires ready { IsHostReady desk.old.table }
-    requires read { IfSome message.now (λ m. (bytes : List ℕ) × Spelling desk.old.table m bytes) }
+    requires read { IsSpelled desk.old.table message.now }
     ensures answered { AnswersInto desk.old.table desk.old.header issuer.old issuer.new message.now (W.contents writer.old) (W.contents writer.new) result }
     ensures turns { TakesTurns (W.counts writer.old) (W.counts writer.new) left.old left.new }
     ensures spent { SpendsOnWrite (W.counts writer.old) (W.counts writer.new) left.old left.new result }

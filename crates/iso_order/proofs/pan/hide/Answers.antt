@@ -31,5 +31,5 @@ middle digits new start hidden first many filled =
 pub returns : goal.returns
 returns c =
     let few = ends_fit (length c.args.digits.now) in
-    let start : length c.masked.result.front.now ≡ shown_front 2 (length c.args.digits.now) = ap length c.masked.ensures.front ∙ length-take-le _ _ (omega (arith, few)) in
-    middle c.args.digits.now c.fill.new.self (length c.masked.result.front.now) c.masked.result.hidden start c.masked.ensures.hidden (c.fill.ensures.after (λ y is. is))
+    let start : length c.masked-shown.result.front.now ≡ shown_front 2 (length c.args.digits.now) = ap length c.masked-shown.ensures.front ∙ length-take-le _ _ (omega (arith, few)) in
+    middle c.args.digits.now c.fill.new.self (length c.masked-shown.result.front.now) c.masked-shown.result.hidden start c.masked-shown.ensures.hidden (c.fill.ensures.after (λ y is. is))
