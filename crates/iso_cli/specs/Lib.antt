@@ -7,6 +7,7 @@ pub mod NoJob
 pub mod OneConnection
 pub mod Prepare
 pub mod Run
+pub mod Show
 pub mod Source
 pub mod Stop
 pub mod Streaming
