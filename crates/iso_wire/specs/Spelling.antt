@@ -2,7 +2,6 @@
 -- the parts of its elements in ascending order.
 use Rattle.std.specs.Prelude.{◌≡◌, ℕ, ◌/◌, ◌<◌, Bool, List, [], ◌∷◌, ◌++◌, Option, Some, None, ◌≤◌, take, length, slice_index}
 use Rattle.std.specs.List.{flat_map}
-use Rattle.iso_parts.specs.declared.digits.Digits.{Digits}
 use Rattle.iso_parts.specs.declared.spec.FieldSpec.{FieldSpec}
 use Rattle.iso_parts.specs.Bitmap.{Bitmaps, PlainBitmaps}
 use Rattle.iso_parts.specs.Digits.{four_digits_of}
