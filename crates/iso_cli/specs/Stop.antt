@@ -1,5 +1,5 @@
 -- How each way to stop is told.
-use Rattle.std.specs.Prelude.{ℕ, List, [], ◌∷◌, ◌++◌, Option, Some, None, option_map, codes}
+use Rattle.std.specs.Prelude.{◌≡◌, ℕ, List, [], ◌∷◌, ◌++◌, take, Option, Some, None, MatchOption, option_map, codes}
 use Rattle.iso_host.specs.declared.fault.ServeFault.{ServeFault}
 use Rattle.iso_host.specs.declared.fault.ServeFault.TheVariants as serving
 use Rattle.iso_cli.specs.declared.stop.Stop.{Stop}
@@ -50,6 +50,14 @@ stop_text (Pack fault) = None
 -- the fault line: the text, and one newline
 abbrev pub stop_line : Stop → Option (List ℕ)
 stop_line stop = option_map (λ text. text ++ 10 ∷ []) (stop_text stop)
+
+-- it begins so
+abbrev pub IsRefusalLine : List ℕ → Type 0
+IsRefusalLine line = take 9 line ≡ codes "refused: "
+
+-- the fault line of a stop; of one that names a further fault, a line that says so
+abbrev pub IsLineOf : Stop → List ℕ → Type 0
+IsLineOf stop line = MatchOption (stop_line stop) (IsRefusalLine line) (λ known. line ≡ known)
 
 -- the stop that a fault of an input is
 abbrev pub stop_of_input : InputFault → Stop

@@ -1,5 +1,8 @@
 //! The fault lines that name what is wrong with a table, with accounts, an input or a message.
 
+ghost use Rattle.std.specs.Prelude.{◌≡◌, IfOk, None, string_bytes};
+ghost use Rattle.iso_cli.specs.Stop.{IsRefusalLine, stop_line};
+
 use crate::stop::Stop;
 use iso_issuer::AccountsFault;
 use iso_parts::FieldFault;
@@ -85,30 +88,38 @@ fn unpack_cause_name(cause: UnpackCause) -> &'static str {
 fn named_line(
     alloc: Global,
     what: &str,
-    (name, element): (&'static str, Option<u16>),
-) -> Result<String, AllocError> {
-    match element {
-        Some(n) => format!(in alloc; "refused: {what} {name} element {n}\n"),
-        None => format!(in alloc; "refused: {what} {name}\n"),
+    named: (&'static str, Option<u16>),
+) -> Result<String, AllocError>
+    ensures { IfOk result (λ line. IsRefusalLine (string_bytes line)) }
+{
+    match named {
+        (name, Some(n)) => format!(in alloc; "refused: {what} {name} element {n}\n"),
+        (name, None) => format!(in alloc; "refused: {what} {name}\n"),
     }
 }
 
 /// `refused: accounts NAME`, and the account where one is named.
-fn accounts_line(alloc: Global, fault: AccountsFault) -> Result<String, AllocError> {
+fn accounts_line(alloc: Global, fault: AccountsFault) -> Result<String, AllocError>
+    ensures { IfOk result (λ line. IsRefusalLine (string_bytes line)) }
+{
     match accounts_fault_name(fault) {
         (name, Some(i)) => format!(in alloc; "refused: accounts {name} {i}\n"),
         (name, None) => format!(in alloc; "refused: accounts {name}\n"),
     }
 }
 
-fn unpack_line(alloc: Global, fault: UnpackFault) -> Result<String, AllocError> {
+fn unpack_line(alloc: Global, fault: UnpackFault) -> Result<String, AllocError>
+    ensures { IfOk result (λ line. IsRefusalLine (string_bytes line)) }
+{
     let name = unpack_cause_name(fault.cause);
     let (element, at) = (fault.element, fault.at);
     format!(in alloc; "refused: unpack {name} element {element} at {at}\n")
 }
 
 /// The fault line of a stop that names a fault of a table, of accounts, of an input or of a message.
-pub fn refusal_line(alloc: Global, stop: Stop) -> Result<String, AllocError> {
+pub fn refusal_line(alloc: Global, stop: Stop) -> Result<String, AllocError>
+    ensures { stop_line stop ≡ None → IfOk result (λ line. IsRefusalLine (string_bytes line)) }
+{
     match stop {
         Stop::Table(fault) => named_line(alloc, "table", table_fault_name(fault)),
         Stop::Host(fault) => named_line(alloc, "host", host_fault_name(fault)),

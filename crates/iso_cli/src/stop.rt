@@ -1,7 +1,7 @@
 //! How the command stops where it doesn't end well: a line on the fault stream, and a status.
 ghost use Rattle.std.specs.Prelude.{◌≡◌, ◌<◌, ◌≤◌, option_map};
 ghost use Rattle.iso_cli.specs.Stop.{status_of, stop_line, stop_of_input, stop_of_serving, stop_of_source, stop_of_words};
-ghost use Rattle.iso_cli.specs.Tells.{Tells, TellsAs, TellsLine};
+ghost use Rattle.iso_cli.specs.Tells.{Tells, TellsAs, TellsLine, TellsLineOf, TellsStop};
 
 use crate::refusal::refusal_line;
 use crate::source::SourceFault;
@@ -208,6 +208,8 @@ pub fn tell_as<F: Outlet>(alloc: Global, faults: &mut F, stop: Stop, status: u8)
     requires { status ≤ 3 }
     ensures told { TellsAs (F.contents faults.old) (F.contents faults.new)
         (F.counts faults.old) (F.counts faults.new) stop status result }
+    ensures line { TellsLineOf (F.contents faults.old) (F.contents faults.new)
+        (F.counts faults.old) (F.counts faults.new) stop status result }
     ensures range { (status ≤ result) × (result ≤ 3) }
 {
     if let Some(line) = stop.line() {
@@ -224,6 +226,7 @@ pub fn tell_as<F: Outlet>(alloc: Global, faults: &mut F, stop: Stop, status: u8)
 pub fn tell<F: Outlet>(alloc: Global, faults: &mut F, stop: Stop) -> u8
     ensures told { Tells (F.contents faults.old) (F.contents faults.new)
         (F.counts faults.old) (F.counts faults.new) stop result }
+    ensures stop { TellsStop (F.contents faults.old) (F.contents faults.new) (F.counts faults.old) (F.counts faults.new) result }
     ensures range { (1 ≤ result) × (result ≤ 3) }
 {
     tell_as(alloc, faults, stop, stop.status())
