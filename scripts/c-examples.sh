@@ -1,8 +1,8 @@
 #!/bin/sh
 # Runs the examples of a folder over the library for C, and compares what they write with examples/expected: decode.c on hex dumps,
-# also under valgrind and as another compiler makes it, and convert.py; and c-refusals.c, which refuses memory to each call. What
-# needs a program that isn't installed is left out, and all of it where the library isn't built (make library). Prints each run
-# that failed, and a line of counts: c-examples.sh FOLDER
+# also under valgrind and as another compiler makes it, and convert.py; c-calls.c, which compares what each call gives; and
+# c-refusals.c, which refuses memory to each call. What needs a program that isn't installed is left out, and all of it where the
+# library isn't built (make library). Prints each run that failed, and a line of counts: c-examples.sh FOLDER
 set -u
 cd "$(dirname "$0")/.." || exit 1
 
@@ -63,6 +63,12 @@ if [ -f "$library" ] && make --silent --no-print-directory --question library; t
             decode "$compiler"
         fi
     done
+    if has cc && compile cc scripts/c-calls.c "$folder/calls"; then
+        run c-calls.c c-calls 0 /dev/null "$folder/calls"
+        if has valgrind; then
+            run "c-calls.c under valgrind" c-calls 0 /dev/null valgrind -q --leak-check=full --error-exitcode=9 "$folder/calls"
+        fi
+    fi
     if has cc && compile cc scripts/c-refusals.c "$folder/refusals" -Wl,--wrap=malloc,--wrap=realloc; then
         run c-refusals.c c-refusals 0 /dev/null "$folder/refusals" tables/ascii87.json
     fi

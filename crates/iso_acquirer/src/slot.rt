@@ -3,7 +3,7 @@
 use iso_order::Order;
 
 /// How far a transaction got.
-#[derive(Clone, Copy, Debug)]
+#[derive(Clone, Copy)]
 pub enum Stage {
     /// Its order was sent so many times, and no answer decided it.
     Asked(u8),
@@ -18,7 +18,7 @@ pub enum Stage {
 }
 
 /// What an order of an acquirer is.
-#[derive(Clone, Copy, Debug)]
+#[derive(Clone, Copy)]
 pub enum Role {
     /// A transaction's own order, and how far the transaction got.
     Transaction(Stage),
@@ -27,7 +27,7 @@ pub enum Role {
 }
 
 /// What an acquirer keeps under a trace number: an order that it made.
-#[derive(Clone, Copy, Debug)]
+#[derive(Clone, Copy)]
 pub struct Slot {
     pub order: Order,
     pub role: Role,

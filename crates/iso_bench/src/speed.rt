@@ -5,7 +5,7 @@ use std::rt::Clock;
 use std::time::{Duration, Instant};
 
 /// So many steps, and the time that they took.
-#[derive(Clone, Copy, Debug)]
+#[derive(Clone, Copy)]
 pub struct Speed {
     steps: u64,
     nanos: u64,

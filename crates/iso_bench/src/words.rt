@@ -3,7 +3,7 @@
 use std::alloc::{AllocError, Global};
 
 /// What is measured.
-#[derive(Debug, Drop)]
+#[derive(Drop)]
 pub enum Measurement {
     /// Messages, read and written so many times.
     Codec {

@@ -5,7 +5,7 @@ use Rattle.iso_wire.specs.declared.fault.UnpackFault.{UnpackFault}
 use Rattle.iso_wire.specs.Contents.{Contents}
 use Rattle.iso_wire.specs.Elements.{has, value_in}
 use Rattle.iso_wire.specs.Reading.{message_at}
-use Rattle.iso_wire.specs.Viewing.{Viewed, IsViewed, start_in}
+use Rattle.iso_wire.specs.Viewing.{Viewed, IsViewed}
 use Rattle.iso_c.specs.declared.fault.RumpadolFault.{RumpadolFault}
 use Rattle.iso_c.specs.declared.parts.RumpadolPart.{RumpadolPart}
 use Rattle.iso_c.specs.FaultNumbers.{empty_slot, no_element, unpack_fault}
@@ -15,7 +15,7 @@ use Rattle.iso_c.specs.Parts.{bytes_in}
 abbrev pub IsBodyAt : Layout → List ℕ → ℕ → RumpadolPart → Type 0
 IsBodyAt t b n p =
     (v : Viewed) × IsViewed t v b × (p.element ≡ n) × (p.start + p.length ≤ v.used) × (value_in v.wires n ≡ Some (bytes_in b p)) × (length (bytes_in b p) ≡ p.length)
-    × (start_in v.starts n ≡ Some p.start)
+    × (value_in v.starts n ≡ Some p.start)
 
 -- the bytes begin with no message, or with one that doesn't have the element
 abbrev pub body_fault : ℕ → Result (Contents × ℕ) UnpackFault → Option RumpadolFault

@@ -10,8 +10,6 @@ mod names;
 mod packing;
 mod parts;
 mod slot;
-#[cfg(test)]
-mod tests;
 mod unpacking;
 mod viewing;
 

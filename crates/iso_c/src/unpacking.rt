@@ -15,7 +15,7 @@ use iso_wire::{Message, unpack};
 use std::alloc::{AllocError, Global};
 
 /// A message that was read: its values end to end, and where each lies.
-#[derive(Debug, Drop)]
+#[derive(Drop)]
 pub struct SpreadMessage {
     pub(crate) mti: u16,
     pub(crate) used: usize,

@@ -16,7 +16,7 @@ use Rattle.iso_host.specs.declared.fault.Report.{Report}
 use Rattle.iso_host.specs.declared.fault.ServeFault.{ServeFault}
 use Rattle.iso_host.specs.declared.fault.ServeFault.TheVariants.{Read, Write, BadHeader, CutFrame, Memory, TooManyTurns}
 use Rattle.iso_cli.specs.Connections.{AllTold, Connection, CountsBodies, OneJournal, Serves, fault_line, output_line}
-use Rattle.iso_cli.specs.OneConnection.{EndTold, IsConnection, TellsEnd}
+use Rattle.iso_cli.specs.OneConnection.{EndTold, IsConnection, TellsConnectionEnd}
 
 -- ---- so far
 
@@ -67,13 +67,13 @@ so_far_more go_on t old mid new served held written later heard told then_told e
 }
 
 -- what was told of an end, where the next connection is served
-pub told_on : (held written heard told : Option (List ℕ)) (ended : Result Report ServeFault) (status : ℕ) → TellsEnd held written heard told ended status
+pub told_on : (held written heard told : Option (List ℕ)) (ended : Result Report ServeFault) (status : ℕ) → TellsConnectionEnd held written heard told ended status
     → status ≡ 0 → EndTold held written heard told ended
 told_on held written heard told ended status (inl end) none = end.1
 told_on held written heard told ended status (inr failed) none = absurd (omega (arith, failed, none))
 
 -- and where it isn't
-pub told_off : (held written heard told : Option (List ℕ)) (ended : Result Report ServeFault) (status : ℕ) → TellsEnd held written heard told ended status
+pub told_off : (held written heard told : Option (List ℕ)) (ended : Result Report ServeFault) (status : ℕ) → TellsConnectionEnd held written heard told ended status
     → (status ≡ 0 → ⊥) → status ≡ 3
 told_off held written heard told ended status (inl end) some = absurd (some end.0)
 told_off held written heard told ended status (inr failed) some = failed

@@ -23,5 +23,5 @@ pub record EndTold (held written heard told : Option (List ℕ)) (ended : Result
   pub memory : ended ≢ Err Memory
 
 -- the status is 0 where that is so, and else 3
-abbrev pub TellsEnd : Option (List ℕ) → Option (List ℕ) → Option (List ℕ) → Option (List ℕ) → Result Report ServeFault → ℕ → Type 0
-TellsEnd held written heard told ended status = ((status ≡ 0) × EndTold held written heard told ended) ⊎ (status ≡ 3)
+abbrev pub TellsConnectionEnd : Option (List ℕ) → Option (List ℕ) → Option (List ℕ) → Option (List ℕ) → Result Report ServeFault → ℕ → Type 0
+TellsConnectionEnd held written heard told ended status = ((status ≡ 0) × EndTold held written heard told ended) ⊎ (status ≡ 3)

@@ -2,7 +2,7 @@
 
 ghost use Rattle.iso_table.specs.HostReady.{IsHostReady};
 ghost use Rattle.iso_cli.specs.Connections.{Serves};
-ghost use Rattle.iso_cli.specs.OneConnection.{IsConnection, TellsEnd};
+ghost use Rattle.iso_cli.specs.OneConnection.{IsConnection, TellsConnectionEnd};
 
 use crate::report::write_report;
 use crate::run::MOST_TURNS;
@@ -67,7 +67,7 @@ fn tell_end<O: Outlet, F: Outlet>(
     output: &mut O,
     faults: &mut F,
 ) -> u8
-    ensures told { TellsEnd (O.contents output.old) (O.contents output.new)
+    ensures told { TellsConnectionEnd (O.contents output.old) (O.contents output.new)
         (F.contents faults.old) (F.contents faults.new) ended result }
 {
     match ended {

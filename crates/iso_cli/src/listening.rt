@@ -12,7 +12,7 @@ use iso_wire::Header;
 use std::alloc::{AllocError, Global};
 
 /// What the words of a host on a port ask.
-#[derive(Clone, Copy, Debug, PartialEq, Eq, Drop)]
+#[derive(Clone, Copy, PartialEq, Eq, Drop)]
 pub struct Listening<'a> {
     /// The table's path or name.
     pub table: &'a str,

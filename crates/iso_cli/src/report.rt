@@ -2,7 +2,7 @@
 
 ghost use Rattle.std.specs.Prelude.{◌≡◌, ◌⊎◌, IfOk, Ok, string_bytes};
 ghost use Rattle.iso_cli.specs.Connections.{report_text};
-ghost use Rattle.iso_cli.specs.OneConnection.{TellsEnd};
+ghost use Rattle.iso_cli.specs.OneConnection.{TellsConnectionEnd};
 ghost use Rattle.iso_cli.specs.Tells.{TellsReport};
 
 use crate::stop::{Stop, tell, tell_line};
@@ -43,7 +43,7 @@ pub fn write_report<O: Outlet, F: Outlet>(
     output: &mut O,
     faults: &mut F,
 ) -> u8
-    ensures { TellsEnd (O.contents output.old) (O.contents output.new)
+    ensures { TellsConnectionEnd (O.contents output.old) (O.contents output.new)
         (F.contents faults.old) (F.contents faults.new) (Ok report) result }
 {
     let Ok(line) = report_line(alloc, report) else {

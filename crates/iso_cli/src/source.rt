@@ -8,7 +8,7 @@ use std::io::{ErrorKind, Read};
 use std::rt::Files;
 
 /// Why a file isn't read.
-#[derive(Clone, Copy, Debug, PartialEq, Eq, Drop)]
+#[derive(Clone, Copy, PartialEq, Eq, Drop)]
 pub enum SourceFault {
     /// There is no such file, it isn't one that can be read, or reading it failed.
     File,

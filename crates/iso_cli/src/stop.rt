@@ -14,7 +14,7 @@ use iso_wire::{PackFault, UnpackCause, UnpackFault};
 use std::alloc::{AllocError, Global};
 
 /// Why the command stops.
-#[derive(Clone, Copy, Debug, PartialEq, Eq, Drop)]
+#[derive(Clone, Copy, PartialEq, Eq, Drop)]
 pub enum Stop {
     /// The words are no command line.
     Words,

@@ -9,7 +9,7 @@ use iso_host::{Failed, Inlet, Outlet, write_all};
 use std::alloc::Global;
 
 /// Why an input isn't read whole.
-#[derive(Clone, Copy, Debug, PartialEq, Eq, Drop)]
+#[derive(Clone, Copy, PartialEq, Eq, Drop)]
 pub enum InputFault {
     /// The reader failed.
     Read,

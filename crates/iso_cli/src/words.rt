@@ -14,7 +14,7 @@ use iso_wire::Header;
 use std::alloc::{AllocError, Global};
 
 /// What the words ask.
-#[derive(Clone, Copy, Debug, PartialEq, Eq, Drop)]
+#[derive(Clone, Copy, PartialEq, Eq, Drop)]
 pub enum Job<'a> {
     /// No words: one message in, its answer out.
     Echo,
@@ -49,7 +49,7 @@ pub enum Job<'a> {
 }
 
 /// Why the words ask nothing.
-#[derive(Clone, Copy, Debug, PartialEq, Eq, Drop)]
+#[derive(Clone, Copy, PartialEq, Eq, Drop)]
 pub enum WordsFault {
     /// They are no command line.
     Refused,

@@ -8,7 +8,7 @@ ghost use Rattle.iso_host.specs.Intake.{IsSpelled, TellsBody, unpacker_holding};
 
 use iso_order::NoMemory;
 use iso_table::Table;
-use iso_wire::laws::reads_spellings;
+use iso_wire::laws::{are_bytes, reads_spellings};
 use iso_wire::{Fed, Message, UnpackCause, Unpacker};
 use std::alloc::Global;
 use std::marker::Model;
@@ -48,11 +48,6 @@ fn whole_message(
         },
     }
 }
-
-/// The items of a slice of bytes are bytes. Does nothing: it tells that to the prover.
-fn are_bytes(bytes: &[u8])
-    ensures { AreBytes bytes.now }
-{}
 
 /// Feeds the next bytes of a body to the unpacker. Once they tell what the body is, the unpacker stands at the start of
 /// a message again.

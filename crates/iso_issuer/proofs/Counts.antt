@@ -1,6 +1,6 @@
 -- The counts of completions, after one of them changed.
 use Rattle.std.proofs.Common.{◌≡◌, ℕ, Bool, true, false, cond, refl, arith, ap, sym, ◌∙◌, ◌+◌, ◌-◌, ◌<◌, ◌≤◌, ◌++◌, ◌∷◌, [], List, length, not, map, ◌⊎◌, inl, inr}
-use Rattle.std.specs.Prelude.{◌&&◌, ◌==◌, Option, Some, None, IfSome, is_some, option_and_then, sum_by}
+use Rattle.std.specs.Prelude.{◌&&◌, ◌==◌, Option, Some, None, IfSome, is_some, unwrap_or, option_and_then, sum_by}
 use Rattle.std.specs.Option.{option_or}
 use Rattle.std.specs.Ordering.{is_eq, ordering_then}
 use Rattle.std.specs.declared.cmp.Ordering.{Ordering}
@@ -16,7 +16,7 @@ use Rattle.iso_order.specs.Key.{same_key}
 use Rattle.iso_order.specs.Order.{same_pan}
 use Rattle.iso_issuer.proofs.Keys.{same_key_is, same_pan_is}
 use Rattle.iso_issuer.specs.declared.effect.Hold.{Hold}
-use Rattle.iso_issuer.specs.Index.{key_cmp, pan_cmp, hold_cmp, bit, or_zero, hold_count, mark_at, completions, hold_on, hold_by, added_by, dropped_of, dropped_at, dropped_by, AreCounts}
+use Rattle.iso_issuer.specs.Index.{key_cmp, pan_cmp, hold_cmp, bit, hold_count, mark_at, completions, hold_on, hold_by, added_by, dropped_of, dropped_at, dropped_by, AreCounts}
 use Rattle.iso_order.specs.declared.act.Act.{Act}
 use Rattle.iso_order.specs.declared.act.Act.TheVariants.{Debit, Credit, Inquiry, Undo, Complete}
 use Rattle.iso_issuer.specs.declared.effect.Effect.{Effect}
@@ -46,10 +46,10 @@ count-set : (old new : BTreeMap Hold ℕ) (h : Hold) (n : ℕ) →
     (key : TxKey) (pan : AccountNumber) → hold_count new key pan ≡ cond (same_key h.key key && same_pan h.pan pan) n (hold_count old key pan)
 count-set old new h n updates key pan =
     let q : Hold = record { key = key; pan = pan } in
-    ap or_zero (updates q ∙ ap (λ b. cond b (Some n) (tree.get hold_cmp old q)) (hold_tied h q))
+    ap (λ o. unwrap_or o 0) (updates q ∙ ap (λ b. cond b (Some n) (tree.get hold_cmp old q)) (hold_tied h q))
     ∙ either (same_key h.key key && same_pan h.pan pan) (tree.get hold_cmp old q)
   where
-    either : (b : Bool) (o : Option ℕ) → or_zero (cond b (Some n) o) ≡ cond b n (or_zero o)
+    either : (b : Bool) (o : Option ℕ) → unwrap_or (cond b (Some n) o) 0 ≡ cond b n (unwrap_or o 0)
     either true o = refl
     either false o = refl
 

@@ -1,6 +1,6 @@
 -- The index that the issuer answers from: places, what reversals leave, completions and sums, and how they stand for the journal.
 -- Inner: bodies and proofs cite it, and no public clause does.
-use Rattle.std.specs.Prelude.{◌≡◌, ◌≤◌, ℕ, ℤ, ◌+◌, ◌*◌, Bool, ◌&&◌, ◌==◌, if◌then◌else◌, List, [], ◌∷◌, length, sum_by, Option, None, Some, All, map}
+use Rattle.std.specs.Prelude.{◌≡◌, ◌≤◌, ℕ, ℤ, ◌+◌, ◌*◌, Bool, ◌&&◌, ◌==◌, if◌then◌else◌, List, [], ◌∷◌, length, sum_by, Option, None, Some, unwrap_or, All, map}
 use Rattle.std.specs.List.{position_from}
 use Rattle.std.specs.Ordering.{nat_cmp, ordering_then}
 use Rattle.std.specs.declared.cmp.Ordering.{Ordering}
@@ -59,12 +59,8 @@ bit b = if b then 1 else 0
 abbrev pub completions : List Entry → TxKey → AccountNumber → ℕ
 completions entries key pan = sum_by (λ c. bit (is_counted entries c && is_end_of key pan (effect_of c.order))) entries
 
-abbrev pub or_zero : Option ℕ → ℕ
-or_zero None = 0
-or_zero (Some n) = n
-
 abbrev pub hold_count : BTreeMap Hold ℕ → TxKey → AccountNumber → ℕ
-hold_count counts key pan = or_zero (tree.get hold_cmp counts (record { key = key; pan = pan }))
+hold_count counts key pan = unwrap_or (tree.get hold_cmp counts (record { key = key; pan = pan })) 0
 
 -- the map has that number for each hold, or nothing for 0
 abbrev pub AreCounts : BTreeMap Hold ℕ → List Entry → Type 0

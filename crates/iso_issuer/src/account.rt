@@ -5,7 +5,7 @@ ghost use Rattle.iso_issuer.specs.Opening.{IsInRange};
 use iso_order::Pan;
 
 /// An account, and what is on it at first.
-#[derive(Clone, Copy, Debug)]
+#[derive(Clone, Copy)]
 pub struct Account {
     /// Its number.
     pub pan: Pan,

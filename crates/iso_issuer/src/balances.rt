@@ -12,7 +12,7 @@ use std::collections::BTreeMap;
 use std::marker::Model;
 
 /// An account, what is on it, and what may still be taken from it.
-#[derive(Clone, Copy, Debug)]
+#[derive(Clone, Copy)]
 pub struct Balance {
     pub account: Account,
     /// In minor units.
@@ -22,7 +22,7 @@ pub struct Balance {
 }
 
 /// A balance, and its place among the balances.
-#[derive(Clone, Copy, Debug)]
+#[derive(Clone, Copy)]
 pub struct PlacedBalance {
     pub place: usize,
     pub balance: Balance,

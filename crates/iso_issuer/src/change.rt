@@ -5,7 +5,7 @@ ghost use Rattle.iso_issuer.specs.Change.{IsAmount};
 use iso_order::Pan;
 
 /// What is added on an account.
-#[derive(Clone, Copy, Debug)]
+#[derive(Clone, Copy)]
 pub struct Change {
     pub pan: Pan,
     /// To the ledger.

@@ -17,7 +17,7 @@ use serde_json::{Category, Value};
 use std::alloc::Global;
 
 /// An account that a document lists.
-#[derive(Clone, Copy, Debug)]
+#[derive(Clone, Copy)]
 pub struct Listed {
     pub pan: Pan,
     pub currency: [u8; 3],

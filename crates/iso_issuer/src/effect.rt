@@ -12,7 +12,7 @@ ghost use Rattle.iso_issuer.specs.Found.{ended_by};
 use iso_order::{Act, Order, Pan, TxKey};
 
 /// Which way an amount counts.
-#[derive(Clone, Copy, Debug, PartialEq, Eq)]
+#[derive(Clone, Copy)]
 pub enum Side {
     /// It is added to the ledger.
     Credited,
@@ -23,7 +23,7 @@ pub enum Side {
 }
 
 /// What an order does to its account, as long as it stands.
-#[derive(Clone, Copy, Debug)]
+#[derive(Clone, Copy)]
 pub struct Effect {
     pub pan: Pan,
     pub side: Side,
@@ -34,7 +34,7 @@ pub struct Effect {
 }
 
 /// A hold, by its key and its account.
-#[derive(Clone, Copy, Debug, PartialEq, Eq, PartialOrd, Ord)]
+#[derive(Clone, Copy, PartialEq, Eq, PartialOrd, Ord)]
 pub struct Hold {
     pub key: TxKey,
     pub pan: Pan,

@@ -22,7 +22,7 @@ use std::collections::BTreeMap;
 use std::marker::Model;
 
 /// An order in the journal, and the answer that it was given.
-#[derive(Clone, Copy, Debug)]
+#[derive(Clone, Copy)]
 pub struct Entry {
     pub order: Order,
     pub answer: Answer,

@@ -15,7 +15,7 @@ use crate::key::TxKey;
 use iso_wire::{Message, are_digits};
 
 /// What element 90 tells of the transaction.
-#[derive(Clone, Copy, Debug)]
+#[derive(Clone, Copy)]
 pub(crate) struct Original {
     /// Its message type.
     pub mti: u16,

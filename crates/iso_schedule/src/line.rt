@@ -11,7 +11,7 @@ use iso_order::{MOST_AMOUNT, Pan};
 const SENT: u64 = 102_030_405;
 
 /// What a line is.
-#[derive(Clone, Copy, Debug)]
+#[derive(Clone, Copy)]
 pub enum ScheduleLine {
     /// A remark.
     Said,

@@ -2,6 +2,7 @@
 use Rattle.std.proofs.Common.{◌≡◌, ℕ, ◌+◌, ◌<◌, ◌≤◌, Bool, true, false, cond, IsTrue, nat_le, eqb, List, [], ◌∷◌, length, Option, Some, None, refl, sym, ap, subst, ◌∙◌, arith, inl, inr, find, option_map}
 use Rattle.std.specs.Prelude.{◌&&◌, ◌||◌, slice_set}
 use Rattle.std.specs.List.{list_all}
+use Rattle.std.specs.Option.{option_flatten}
 use Rattle.std.proofs.lemmas.Bool.{cases_eq, cases_lt}
 use Rattle.std.proofs.lemmas.Bool.Decides.{nat_tests}
 use Rattle.std.proofs.lemmas.Option.{slice_get_past}
@@ -18,7 +19,7 @@ use Rattle.iso_parts.specs.Spec.{IsGood, is_good_max, is_coded, is_padded, is_pa
 use Rattle.iso_table.specs.declared.edition87.LengthKind.{LengthKind}
 use Rattle.iso_table.specs.declared.edition87.LengthKind.TheVariants.{Fixed, LL, LLL}
 use Rattle.iso_table.specs.declared.edition87.EditionLine.{EditionLine}
-use Rattle.iso_table.specs.Layout.{Layout, IsAccepted, row_at, row_in}
+use Rattle.iso_table.specs.Layout.{Layout, IsAccepted, row_at}
 use Rattle.iso_table.specs.Edition87.{lines, has_number, length_of, coding_of, spec_of, row87}
 use Rattle.iso_table.proofs.RowLemmas.{row_at-set_same, row_at-set_other}
 
@@ -120,7 +121,7 @@ pub all_rows : (d : Digits) (places : List (Option FieldSpec)) → length places
 all_rows d places size rows n =
     elim (cases_lt n 129) [
       | inl low ↦ rows n low
-      | inr high ↦ ap row_in (slice_get_past places n (omega arith)) ∙ sym (past_by d n (row87 d n) (omega arith) refl)
+      | inr high ↦ ap option_flatten (slice_get_past places n (omega arith)) ∙ sym (past_by d n (row87 d n) (omega arith) refl)
     ]
 
 -- the rows of the edition stand at the numbers of elements

@@ -1,5 +1,6 @@
 -- A table as its users see it: the rows stand at their numbers.
-use Rattle.std.specs.Prelude.{◌≡◌, ℕ, ◌==◌, ◌||◌, Bool, is_some, IsTrue, List, length, slice_get, Option, Some, None}
+use Rattle.std.specs.Prelude.{◌≡◌, ℕ, ◌==◌, ◌||◌, Bool, is_some, IsTrue, List, length, slice_get, Option, Some}
+use Rattle.std.specs.Option.{option_flatten}
 use Rattle.iso_parts.specs.Numbers.{is_element}
 use Rattle.iso_parts.specs.declared.digits.Digits.{Digits}
 use Rattle.iso_parts.specs.declared.spec.FieldSpec.{FieldSpec}
@@ -13,14 +14,9 @@ pub record Layout : Type 0 where
   pub bitmap : BitmapCoding
   pub rows : List (Option FieldSpec)
 
--- the row at a place, if there is such a place and it has a row
-abbrev pub row_in : Option (Option FieldSpec) → Option FieldSpec
-row_in None = None
-row_in (Some r) = r
-
--- the row of element n
+-- the row of element n, if there is such a place and it has a row
 abbrev pub row_at : List (Option FieldSpec) → ℕ → Option FieldSpec
-row_at rows n = row_in (slice_get rows n)
+row_at rows n = option_flatten (slice_get rows n)
 
 -- the set has the numbers that have a row, and no other
 abbrev pub Knows : (ℕ → Bool) → List (Option FieldSpec) → Type 0

@@ -11,7 +11,7 @@ use iso_parts::Pad::{None as Unpadded, Right};
 use iso_parts::{BitmapCoding, CharClass, Coding, Digits, FieldSpec, Length, PLACES, Pad};
 
 /// Which length stands before a value, however its digits are written.
-#[derive(Clone, Copy, Debug, PartialEq, Eq)]
+#[derive(Clone, Copy)]
 pub enum LengthKind {
     /// None.
     Fixed,
@@ -22,7 +22,7 @@ pub enum LengthKind {
 }
 
 /// A line of the table below: the elements from a first to a last number, and what their rows say.
-#[derive(Clone, Copy, Debug, PartialEq, Eq)]
+#[derive(Clone, Copy)]
 pub struct EditionLine {
     first: u8,
     last: u8,

@@ -10,7 +10,7 @@ use crate::placing::row_at;
 use iso_parts::{CharClass, FieldSpec, Length, Pad};
 
 /// What a host needs of a row.
-#[derive(Clone, Copy, Debug, PartialEq, Eq)]
+#[derive(Clone, Copy)]
 pub enum Shape {
     /// So many digits.
     Digits(u16),
@@ -27,7 +27,7 @@ pub enum Shape {
 use Shape::{Amounts, AnyUpTo, Digits, DigitsUpTo, Text};
 
 /// An element of requests and responses, whether it needs a row, and the row's shape.
-#[derive(Clone, Copy, Debug, PartialEq, Eq)]
+#[derive(Clone, Copy)]
 pub struct HostRow {
     number: u8,
     needed: bool,

@@ -19,7 +19,7 @@ use serde_json::{Category, Value};
 use std::alloc::Global;
 
 /// The profiles of documents that are read.
-#[derive(Clone, Copy, Debug, PartialEq, Eq)]
+#[derive(Clone, Copy)]
 pub enum Profile {
     /// Lengths of two and three digits.
     One,
@@ -43,7 +43,7 @@ impl Profile {
     fn has_four_digits(self) -> bool
         ensures { result ≡ has_four_digits self }
     {
-        self == Profile::Two
+        matches!(self, Profile::Two)
     }
 }
 

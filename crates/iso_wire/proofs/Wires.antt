@@ -3,7 +3,7 @@ use Rattle.std.proofs.Common.{◌≡◌, ℕ, zero, suc, ◌+◌, ◌-◌, ◌*�
 use Rattle.std.proofs.lemmas.Bool.{cases_eq, cond-true, cond-false, and_parts, leb-true, eqb-true}
 use Rattle.std.proofs.lemmas.Bool.Decides.{nat_tests}
 use Rattle.std.proofs.lemmas.List.{drop-drop, length-drop, length-take-le, append-nil, get_or-set_same, get_or-set_other}
-use Rattle.iso_wire.specs.Viewing.{front_of, start_in, starts_of}
+use Rattle.iso_wire.specs.Viewing.{front_of, starts_of}
 use Rattle.iso_parts.specs.declared.spec.FieldSpec.{FieldSpec}
 use Rattle.iso_parts.specs.declared.encoding.Coding.{Coding}
 use Rattle.iso_parts.specs.declared.encoding.Coding.TheVariants as codings
@@ -295,12 +295,12 @@ pub set_absent : (set : Bitmap) (b : List ℕ) (bodies : Bodies) (k : ℕ) → c
 set_absent set b bodies k is = body_absent b bodies (in_words set.primary set.secondary) 127 2 k (λ low high there. let both : true ≡ false = sym there ∙ is in cc)
 
 start_by : (is : Bool) (b : List ℕ) (bodies : Bodies) (ns v : List ℕ) (n k : ℕ) → eqb n k ≡ is → cond is (Some (body_in b bodies n)) (value_in (wires_in b bodies ns) k) ≡ Some v
-    → (value_in (wires_in b bodies ns) k ≡ Some v → start_in (starts_in bodies ns) k ≡ Some (start_at bodies k)) → start_in (starts_in bodies (n ∷ ns)) k ≡ Some (start_at bodies k)
+    → (value_in (wires_in b bodies ns) k ≡ Some v → value_in (starts_in bodies ns) k ≡ Some (start_at bodies k)) → value_in (starts_in bodies (n ∷ ns)) k ≡ Some (start_at bodies k)
 start_by true b bodies ns v n k is there rest = rw is (ap (λ (m : ℕ). Some (start_at bodies m)) (eqb-true n k is))
 start_by false b bodies ns v n k is there rest = rw is (rest there)
 
 -- where a body is there, it begins at its place
-pub start_there : (b : List ℕ) (bodies : Bodies) (ns v : List ℕ) (k : ℕ) → value_in (wires_in b bodies ns) k ≡ Some v → start_in (starts_in bodies ns) k ≡ Some (start_at bodies k)
+pub start_there : (b : List ℕ) (bodies : Bodies) (ns v : List ℕ) (k : ℕ) → value_in (wires_in b bodies ns) k ≡ Some v → value_in (starts_in bodies ns) k ≡ Some (start_at bodies k)
 start_there b bodies [] v k there = absurd cc
 start_there b bodies (n ∷ ns) v k there = start_by (eqb n k) b bodies ns v n k refl there (start_there b bodies ns v k)
 

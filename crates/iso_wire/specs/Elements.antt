@@ -1,8 +1,8 @@
 -- Elements: numbers with values, in ascending order.
 use Rattle.std.specs.Prelude.{◌≢◌, ℕ, ◌+◌, ◌<◌, ◌≤◌, ◌==◌, nat_lt, Bool, is_some, if◌then◌else◌, List, [], ◌∷◌, Option, Some, None}
 
--- the value of an element, if it is there
-abbrev pub value_in : List (ℕ × List ℕ) → ℕ → Option (List ℕ)
+-- what stands at an element's number, if the element is there
+abbrev pub value_in : {A : Type 0} → List (ℕ × A) → ℕ → Option A
 value_in [] n = None
 value_in (e ∷ es) n = if e.0 == n then Some e.1 else value_in es n
 

@@ -1,5 +1,5 @@
 -- A message that is left where it lies: its type, its length, the bodies of its elements, and where each begins.
-use Rattle.std.specs.Prelude.{◌≡◌, ℕ, ◌+◌, ◌-◌, ◌≤◌, ◌==◌, if◌then◌else◌, List, [], ◌∷◌, ◌++◌, length, take, drop, Option, Some, None, Result, Ok, Err}
+use Rattle.std.specs.Prelude.{◌≡◌, ℕ, ◌+◌, ◌-◌, ◌≤◌, List, [], ◌∷◌, ◌++◌, length, take, drop, Option, Some, None, Result, Ok, Err}
 use Rattle.iso_parts.specs.Reading.{prefix_size}
 use Rattle.iso_parts.specs.declared.spec.FieldSpec.{FieldSpec}
 use Rattle.iso_parts.specs.Part.{Body, prefix}
@@ -21,15 +21,10 @@ pub record Viewed : Type 0 where
 
 -- ---- where a body lies
 
--- where the body of an element begins, if it is there
-abbrev pub start_in : List (ℕ × ℕ) → ℕ → Option ℕ
-start_in [] n = None
-start_in (s ∷ ss) n = if s.0 == n then Some s.1 else start_in ss n
-
 -- the body of an element lies in the message, from the offset where it begins up to the other
 abbrev pub LiesAt : Viewed → ℕ → ℕ → ℕ → Type 0
 LiesAt v n start end =
-    (start ≤ end) × (end ≤ v.used) × (value_in v.wires n ≡ Some (take (end - start) (drop start v.bytes))) × (start_in v.starts n ≡ Some start)
+    (start ≤ end) × (end ≤ v.used) × (value_in v.wires n ≡ Some (take (end - start) (drop start v.bytes))) × (value_in v.starts n ≡ Some start)
 
 -- how many bytes of a part stand before its body
 abbrev pub front_of : Option FieldSpec → ℕ

@@ -19,7 +19,7 @@ use std::marker::Model;
 use std::ops::Range;
 
 /// Where the bodies of elements lie in the bytes, by their numbers: where each begins, and how many bytes it is.
-#[derive(Clone, Copy, Debug)]
+#[derive(Clone, Copy)]
 pub(crate) struct Bodies {
     pub(crate) starts: [u32; PLACES],
     pub(crate) sizes: [u16; PLACES],
@@ -40,7 +40,7 @@ impl Bodies {
 }
 
 /// A message without its bodies: its type, the set of its elements' numbers, and how many bytes it takes.
-#[derive(Clone, Copy, Debug)]
+#[derive(Clone, Copy)]
 pub(crate) struct Outline {
     pub(crate) mti: Mti,
     pub(crate) numbers: Bitmap,

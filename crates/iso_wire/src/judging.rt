@@ -13,7 +13,7 @@ use iso_parts::{Bitmap, FieldSpec, judge_body, judge_length, tells_another};
 use iso_table::Table;
 
 /// The piece from which judging goes on, since it isn't whole yet.
-#[derive(Clone, Copy, Debug)]
+#[derive(Clone, Copy)]
 pub enum ResumePoint {
     /// The message type.
     Type,

@@ -5,9 +5,15 @@ ghost use Rattle.iso_wire.specs.Ends.{elements_of};
 ghost use Rattle.iso_wire.specs.Framing.{BadIsNoFrame, BadStays, CutNeedsMore, FirstOfSplit, SplitsBehind, SplitsOnce, SplitsSomehow};
 ghost use Rattle.iso_wire.specs.OneSpelling.{AreOfBytes, HasPlain, PlainOnce, WellFormed};
 ghost use Rattle.iso_wire.specs.ReadingLaws.{ReadingStays, ReadsSpellings};
+ghost use Rattle.iso_wire.specs.Spelling.{AreBytes};
 ghost use Rattle.iso_wire.specs.StopsLaws.{NeverBoth, SpellsOrStops, StopsAsRead, StopsOnce, StopsStay};
 
 use crate::message::Message;
+
+/// The items of a slice of bytes are bytes, past its end too.
+pub fn are_bytes(bytes: &[u8])
+    ensures { AreBytes bytes.now }
+{}
 
 /// The values in a buffer are of bytes.
 fn of_bytes(values: &[u8])

@@ -19,7 +19,7 @@ use crate::building::build_judged;
 use crate::elements::Elements;
 use crate::fault::{UnpackCause, UnpackFault};
 use crate::judging::{ResumePoint, judge_from};
-use crate::laws::{reads_spellings, stops};
+use crate::laws::{are_bytes, reads_spellings, stops};
 use crate::message::Message;
 use crate::unpacking::read_message;
 use iso_table::Table;
@@ -69,11 +69,6 @@ impl fmt::Debug for Unpacker<'_> {
             .finish()
     }
 }
-
-/// The items of a slice of bytes are bytes, past its end too.
-fn are_bytes(bytes: &[u8])
-    ensures { AreBytes bytes.now }
-{}
 
 /// Builds the message that was judged good, and says how many of its bytes stand behind the first `before`, which were
 /// taken earlier.

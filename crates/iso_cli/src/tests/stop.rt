@@ -11,40 +11,30 @@ use std::alloc::Global;
 use std::test::Fail;
 
 /// A stop, its status and its line.
-const STOPS: &[(Stop, u8, &[u8])] = &[
-    (Stop::Words, 2, b"command line refused\n"),
-    (Stop::File, 3, b"failed: File\n"),
-    (Stop::Read, 3, b"failed: Read\n"),
-    (Stop::Write, 3, b"failed: Write\n"),
-    (Stop::Memory, 3, b"failed: Memory\n"),
-    (Stop::TooManyTurns, 3, b"failed: TooManyTurns\n"),
-    (Stop::InputTooLong, 1, b"refused: InputTooLong\n"),
-    (Stop::TrailingBytes, 1, b"refused: TrailingBytes\n"),
-    (Stop::BadHeader, 1, b"refused: BadHeader\n"),
-    (Stop::CutFrame, 1, b"refused: CutFrame\n"),
+const STOPS: &[(Stop, u8, &str)] = &[
+    (Stop::Words, 2, "command line refused\n"),
+    (Stop::File, 3, "failed: File\n"),
+    (Stop::Read, 3, "failed: Read\n"),
+    (Stop::Write, 3, "failed: Write\n"),
+    (Stop::Memory, 3, "failed: Memory\n"),
+    (Stop::TooManyTurns, 3, "failed: TooManyTurns\n"),
+    (Stop::InputTooLong, 1, "refused: InputTooLong\n"),
+    (Stop::TrailingBytes, 1, "refused: TrailingBytes\n"),
+    (Stop::BadHeader, 1, "refused: BadHeader\n"),
+    (Stop::CutFrame, 1, "refused: CutFrame\n"),
 ];
 
 /// Whether the stop has the status, and is told by the line.
-fn is_told(alloc: Global, stop: Stop, status: u8, line: &[u8]) -> bool {
+fn is_told(alloc: Global, stop: Stop, status: u8, line: &str) -> bool {
     let mut lines = Vec::new(alloc);
     let given = tell(alloc, &mut Std::new(&mut lines), stop);
-    given == status && lines.as_slice() == line
-}
-
-/// Ends the test with the stop, unless it is so.
-fn check_told(is_so: bool, stop: Stop) -> Result<(), Fail> {
-    if is_so {
-        Ok(())
-    } else {
-        Err(Fail::new(format_args!("{stop:?}")))
-    }
+    given == status && lines.as_slice() == line.as_bytes()
 }
 
 #[test]
 fn tells_each_stop(rt: HostRuntime) -> Result<(), Fail> {
     for (stop, status, line) in STOPS {
-        let is_told = is_told(rt.alloc(), *stop, *status, *line);
-        check_told(is_told, *stop)?;
+        check(is_told(rt.alloc(), *stop, *status, *line), *line)?;
     }
     Ok(())
 }
