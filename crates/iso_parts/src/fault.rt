@@ -31,7 +31,7 @@ pub enum FieldFault {
     #[error("the body isn't of hexadecimal digits")]
     BadHex,
     /// Memory ran out.
-    #[error("there is no memory")]
+    #[error("memory ran out")]
     Memory,
 }
 

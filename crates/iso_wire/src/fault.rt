@@ -16,7 +16,7 @@ pub enum SetFault {
     #[error("no element has the number {0}")]
     BadNumber(u8),
     /// Memory ran out.
-    #[error("out of memory")]
+    #[error("memory ran out")]
     Memory,
 }
 
@@ -39,7 +39,7 @@ pub enum PackFault {
     #[error("element {0} has the pad byte at its end")]
     PadEnd(u8),
     /// Memory ran out.
-    #[error("there is no memory")]
+    #[error("memory ran out")]
     Memory,
 }
 
@@ -68,7 +68,7 @@ pub enum UnpackCause {
     #[error("{0}")]
     Field(FieldFault),
     /// Memory ran out.
-    #[error("there is no memory")]
+    #[error("memory ran out")]
     Memory,
 }
 

@@ -21,7 +21,7 @@ pub enum FrameFault {
     #[error("the header isn't of digits")]
     BadDigits,
     /// Memory ran out.
-    #[error("there is no memory")]
+    #[error("memory ran out")]
     Memory,
 }
 

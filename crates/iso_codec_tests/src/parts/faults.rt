@@ -19,7 +19,7 @@ const FIELD_FAULTS: &[(FieldFault, u8, &'static str)] = &[
         7,
         "the body isn't of hexadecimal digits",
     ),
-    (FieldFault::Memory, 8, "there is no memory"),
+    (FieldFault::Memory, 8, "memory ran out"),
 ];
 
 const ROW_FAULTS: &[(SpecFault, u8, &'static str)] = &[
