@@ -1,7 +1,11 @@
 //! Values for the eyes of a bystander.
 
-ghost use Rattle.iso_wire.specs.Masking.{Masks};
+ghost use Rattle.std.specs.Prelude.{replicate, Some};
+ghost use Rattle.std.specs.Fmt.{WritesOnOk};
+ghost use Rattle.std.specs.List.{flat_map};
+ghost use Rattle.iso_wire.specs.Masking.{Masks, masked_text, readable_byte};
 
+use iso_parts::hex_digit;
 use std::fmt;
 
 /// The bytes of a value that a bystander may read, and how many are hidden between them.
@@ -33,28 +37,54 @@ pub fn masked<'a>(n: u8, value: &'a [u8]) -> Shown<'a>
     }
 }
 
-/// Writes bytes as text; one that isn't a printable character as two hexadecimal digits.
-fn write_text<W: fmt::Write>(bytes: &[u8], f: &mut fmt::Formatter<W>) -> fmt::Result {
-    for b in bytes {
-        match *b {
-            b' '..=b'~' => write!(f, "{}", char::from(*b))?,
-            other => write!(f, "\\x{other:02X}")?,
+/// Writes a byte as a character where it is printable, else as two hexadecimal digits behind `\x`.
+fn write_byte<W: fmt::Write>(b: u8, f: &mut fmt::Formatter<W>) -> fmt::Result
+    ensures { WritesOnOk W.write_str_gives f.old result (readable_byte b) f.new }
+{
+    match b {
+        b' '..=b'~' => write!(f, "{}", char::from(b)),
+        _ => {
+            let high = char::from(hex_digit(b / 16));
+            let low = char::from(hex_digit(b % 16));
+            write!(f, "\\x{high}{low}")
         }
+    }
+}
+
+/// Writes bytes as text.
+fn write_text<W: fmt::Write>(bytes: &[u8], f: &mut fmt::Formatter<W>) -> fmt::Result
+    ensures { WritesOnOk W.write_str_gives f.old result (flat_map readable_byte bytes.now) f.new }
+{
+    for b in bytes {
+        write_byte(*b, f)?;
     }
     Ok(())
 }
 
+fn write_stars<W: fmt::Write>(count: usize, f: &mut fmt::Formatter<W>) -> fmt::Result
+    ensures { WritesOnOk W.write_str_gives f.old result (replicate count 42) f.new }
+{
+    for _i in 0..count {
+        write!(f, "*")?;
+    }
+    Ok(())
+}
+
+/// What is shown, with a star for each byte that is hidden.
 impl fmt::Display for Shown<'_> {
+    ghost output = { λ shown. Some (masked_text shown) };
+
     fn fmt<W: fmt::Write>(&self, f: &mut fmt::Formatter<W>) -> fmt::Result {
         write_text(self.front, f)?;
-        for _i in 0..self.hidden {
-            write!(f, "*")?;
-        }
+        write_stars(self.hidden, f)?;
         write_text(self.end, f)
     }
 }
 
+/// The same.
 impl fmt::Debug for Shown<'_> {
+    ghost debug_output = { λ shown. Some (masked_text shown) };
+
     fn fmt<W: fmt::Write>(&self, f: &mut fmt::Formatter<W>) -> fmt::Result {
         write!(f, "{self}")
     }
