@@ -17,3 +17,4 @@ pub mod MapLaws
 pub mod Pieces
 pub mod PieceLaws
 pub mod Building
+pub mod Debugging

@@ -7,6 +7,7 @@ ghost use Rattle.iso_parts.specs.declared.fault.FieldFault.TheVariants.{Memory};
 ghost use Rattle.iso_parts.specs.Spec.{is_length, refusal, IsGood, Fits};
 ghost use Rattle.iso_parts.specs.Part.{with_pads, with_padding, pairs, plain, plain_part, Part};
 ghost use Rattle.iso_parts.specs.Buffers.{Keeps};
+ghost use Rattle.iso_parts.specs.Debugging.{debug_step};
 ghost use Rattle.iso_parts.specs.Texts.{Decodes};
 ghost use Rattle.iso_parts.specs.Reading.{prefix_size, Reads, DecodesValue, IfGot, got, prefix_of, value_of, body_of, part_at};
 
@@ -29,14 +30,15 @@ pub enum Step {
 
 /// Shows how many bytes a value has, and none of them: it may be a card's number, its track or a PIN.
 impl fmt::Debug for Step {
+    ghost debug_output = { λ step. Some (debug_step step) };
+
     fn fmt<W: fmt::Write>(&self, f: &mut fmt::Formatter<W>) -> fmt::Result {
         match self {
-            Step::Got { value, used } => f
-                .debug_struct("Got")
-                .field("value_len", &value.len())
-                .field("used", used)
-                .finish(),
-            Step::More => f.write_str("More"),
+            Step::Got { value, used } => {
+                let count = value.len();
+                write!(f, "Got {{ value_len: {count}, used: {used} }}")
+            }
+            Step::More => write!(f, "More"),
         }
     }
 }

@@ -19,6 +19,7 @@ pub mod Viewing
 pub mod Bodies
 pub mod FaultNumbers
 pub mod Masking
+pub mod Debugging
 pub mod StopsLaws
 pub mod Equality
 pub mod Describing

@@ -8,7 +8,9 @@ ghost use Rattle.iso_wire.specs.Reading.{value_at};
 ghost use Rattle.iso_parts.specs.Numbers.{members};
 ghost use Rattle.iso_wire.specs.Bodies.{longest_part, AreWithin, BeginsThere, viewed_of, wires_at, view_at, JudgesWire, FindsBodies, Outlines};
 ghost use Rattle.iso_wire.specs.Viewing.{LiesAt};
+ghost use Rattle.iso_wire.specs.Debugging.{debug_view};
 
+use crate::debugging::write_type;
 use crate::fault::{UnpackCause, UnpackFault};
 use crate::front::{type_of, words_of};
 use crate::unpacking::fault_place;
@@ -160,11 +162,13 @@ impl<'a> Model for View<'a> {
 
 /// Shows the type and how many bytes the message takes, and none of them.
 impl fmt::Debug for View<'_> {
+    ghost debug_output = { λ v. Some (debug_view v) };
+
     fn fmt<W: fmt::Write>(&self, f: &mut fmt::Formatter<W>) -> fmt::Result {
-        f.debug_struct("View")
-            .field("mti", &self.outline.mti.number())
-            .field("used", &self.outline.used)
-            .finish()
+        let used = self.outline.used;
+        write!(f, "View {{ mti: ")?;
+        write_type(self.outline.mti, f)?;
+        write!(f, ", used: {used} }}")
     }
 }
 

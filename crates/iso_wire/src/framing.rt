@@ -1,8 +1,9 @@
 //! Frames: a header that counts the body, and the body.
 
 ghost use Rattle.std.specs.Prelude.{◌≡◌, ◌↔◌, ◌+◌, ◌<◌, ◌≤◌, [], ◌∷◌, ◌++◌, drop, replicate};
-ghost use Rattle.std.specs.Prelude.{ℕ, List, length, IfOk, OnOk, OnErr, IsErrOf, IsOkUnless, true};
+ghost use Rattle.std.specs.Prelude.{ℕ, List, length, IfOk, OnOk, OnErr, IsErrOf, IsOkUnless, true, Some};
 ghost use Rattle.iso_wire.specs.declared.framing.FrameFault.TheVariants as faults;
+ghost use Rattle.iso_wire.specs.Debugging.{debug_framed};
 ghost use Rattle.iso_wire.specs.Framing.{largest, header_size, frame_of, Frames, frame_at, Unframes, AnswersFront, TellsLength, IsGot, is_bad_header};
 
 use crate::header::Header;
@@ -58,6 +59,8 @@ pub enum Framed<'a> {
 }
 
 impl fmt::Debug for Framed<'_> {
+    ghost debug_output = { λ frame. Some (debug_framed frame) };
+
     fn fmt<W: fmt::Write>(&self, f: &mut fmt::Formatter<W>) -> fmt::Result {
         match self {
             Framed::Got { body, used } => {

@@ -4,6 +4,7 @@
 
 mod bodies;
 mod building;
+mod debugging;
 mod decimal;
 mod describing;
 mod elements;

@@ -7,17 +7,18 @@ ghost use Rattle.iso_parts.specs.Numbers.{is_element};
 ghost use Rattle.iso_parts.specs.Bitmap.{contains};
 ghost use Rattle.iso_parts.specs.Mti.{mti_number};
 ghost use Rattle.iso_wire.specs.Contents.{Contents};
+ghost use Rattle.iso_wire.specs.Debugging.{debug_message};
 ghost use Rattle.iso_wire.specs.Decimal.{decimal, number_at};
 ghost use Rattle.iso_wire.specs.Elements.{value_in, has, IsBelow, put, without};
 ghost use Rattle.iso_wire.specs.Ends.{IsSame};
 ghost use Rattle.iso_wire.specs.Equality.{same_contents, same_contents_equiv};
 ghost use Rattle.std.specs.Cmp.{partial_equiv_from_equiv};
 
+use crate::debugging::{write_elements, write_type};
 use crate::decimal::{number_in, write_decimal};
 use crate::elements::Elements;
 use crate::fault::SetFault;
 use crate::iteration::Iter;
-use crate::masking::masked;
 use iso_parts::{Bitmap, Mti, is_element};
 use std::alloc::{AllocError, Global};
 use std::fmt;
@@ -46,13 +47,12 @@ impl Model for Message {
 }
 
 impl fmt::Debug for Message {
+    ghost debug_output = { λ m. Some (debug_message m) };
+
     fn fmt<W: fmt::Write>(&self, f: &mut fmt::Formatter<W>) -> fmt::Result {
-        let number = self.mti().number();
-        write!(f, "Message {{ mti: {number:04}")?;
-        for (n, value) in self.iter() {
-            let shown = masked(n, value);
-            write!(f, ", {n}: {shown}")?;
-        }
+        write!(f, "Message {{ mti: ")?;
+        write_type(self.mti(), f)?;
+        write_elements(self.iter(), f)?;
         write!(f, " }}")
     }
 }

@@ -201,7 +201,7 @@ fn is_unpacker_shown(alloc: Global, table: &Table, front: &[u8], want: &str) -> 
 fn views_and_unpackers_show_no_bytes(rt: HostRuntime) -> Result<(), Fail> {
     let alloc = rt.alloc();
     let table = ascii87(alloc)?;
-    let want = "View { mti: 200, used: 82 }";
+    let want = "View { mti: 0200, used: 82 }";
     check(is_view_shown(alloc, &table, PAYMENT, want)?, "a view")?;
     let want = "Unpacker { held: 40, stopped: None }";
     let shown = is_unpacker_shown(alloc, &table, &PAYMENT[..40], want)?;
