@@ -45,7 +45,7 @@ tables() {
 }
 
 {
-    example README.md crates/iso_host/src/tests/example.rt
+    example README.md crates/iso_host_tests/src/host/example.rt
     example examples/pieces.md crates/iso_ledger_tests/src/order/pieces.rt
     tables
     jobs | xargs -P 2 -n 2 sh

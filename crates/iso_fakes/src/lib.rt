@@ -4,8 +4,6 @@
 
 mod checks;
 mod streams;
-#[cfg(test)]
-mod tests;
 
 pub use checks::{check, check_of};
 pub use streams::{FewBytes, FewTaken, Interrupted, sevens};

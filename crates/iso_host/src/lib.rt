@@ -20,8 +20,6 @@ mod reading;
 mod serving;
 mod standard;
 mod streams;
-#[cfg(test)]
-mod tests;
 mod window;
 mod writing;
 

@@ -6,7 +6,7 @@ use super::frames::{
     GRANTED, PURCHASE, REPEAT, REVERSAL, REVERSED, SECOND, SECOND_GRANTED, has_entered, issuer,
     join, serving_end_between,
 };
-use crate::fault::{Report, ServeFault};
+use iso_host::{Report, ServeFault};
 use iso_issuer::Issuer;
 use iso_table::Table;
 use iso_wire::Header;

@@ -1,8 +1,7 @@
 //! A reader and a writer that move a few bytes a call, and of whose calls one fails.
 ghost use Rattle.std.specs.Prelude.{Some};
 
-use crate::counting::{Call, Tally};
-use crate::streams::{Failed, Inlet, Outlet};
+use iso_host::{Call, Failed, Inlet, Outlet, Tally};
 use std::alloc::{AllocError, Global};
 
 /// Gives at most so many bytes a read, and at least one. One of its reads fails, counted from 1; with 0 none does.

@@ -1,30 +1,9 @@
 //! Streams in memory, whole and failing.
-mod day;
-mod ends;
-mod example;
-mod failures;
-mod frames;
-mod interruptions;
-mod pieces;
-mod serving;
-mod turns;
 
-use crate::fault::ServeFault;
-use crate::standard::Std;
-use crate::streams::{Failed, Inlet, Outlet};
-use crate::writing::write_all;
 use iso_fakes::{FewBytes, FewTaken, check};
+use iso_host::{Failed, Inlet, Outlet, Std, write_all};
 use std::alloc::Global;
 use std::test::Fail;
-
-/// Ends the test with the count of bytes that a call moves and what was compared, unless it is so.
-fn check_at(is_so: bool, piece: usize, what: &str) -> Result<(), Fail> {
-    if is_so {
-        Ok(())
-    } else {
-        Err(Fail::new(format_args!("{piece} bytes a call: {what}")))
-    }
-}
 
 /// Whether a read answers so.
 fn reads<R: Inlet>(reader: &mut R, buffer: &mut [u8], answer: Result<usize, Failed>) -> bool {
@@ -234,25 +213,4 @@ fn flushes_after_no_bytes(rt: HostRuntime) -> Result<(), Fail> {
     let mut writer = Std::new(&mut few);
     check(writes_whole(&mut writer, b"", Ok(())), "the answer")?;
     check(has_taken(&few, b"", 1), "what is taken")
-}
-
-const NUMBERS: &[(&str, ServeFault, u8)] = &[
-    ("a failed reader", ServeFault::Read, 1),
-    ("a failed writer", ServeFault::Write, 2),
-    ("a header that isn't of digits", ServeFault::BadHeader, 3),
-    ("a cut frame", ServeFault::CutFrame, 4),
-    ("no memory", ServeFault::Memory, 5),
-    ("too many turns", ServeFault::TooManyTurns, 6),
-];
-
-fn has_number(fault: ServeFault, number: u8) -> bool {
-    fault.number() == number
-}
-
-#[test]
-fn each_fault_has_its_number() -> Result<(), Fail> {
-    for (name, fault, number) in NUMBERS {
-        check(has_number(*fault, *number), *name)?;
-    }
-    Ok(())
 }

@@ -5,8 +5,8 @@ use super::frames::{
     ECHO, ECHOED, GRANTED, PURCHASE, REPEAT, SECOND, SECOND_GRANTED, Session, SessionEnd,
     serve_once, serve_pieces,
 };
-use crate::fault::{Report, ServeFault};
 use iso_fakes::{check, check_of};
+use iso_host::{Report, ServeFault};
 use std::alloc::Global;
 use std::test::Fail;
 

@@ -1,10 +1,8 @@
 //! Calls that the system interrupts.
 
 use super::frames::{ECHO, ECHOED, issuer, join, serving_end};
-use crate::fault::{Report, ServeFault};
-use crate::standard::Std;
-use crate::streams::{Failed, Inlet, Outlet};
 use iso_fakes::{FewBytes, FewTaken, Interrupted, check};
+use iso_host::{Failed, Inlet, Outlet, Report, ServeFault, Std};
 use iso_issuer::Issuer;
 use std::alloc::Global;
 use std::test::Fail;

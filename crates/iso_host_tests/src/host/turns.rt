@@ -1,8 +1,8 @@
 //! Each frame is answered before the next is read, and reads and writes are counted.
 
 use super::frames::{ECHO, ECHOED, Session, SessionEnd, serve_pieces};
-use crate::fault::{Report, ServeFault};
 use iso_fakes::check_of;
+use iso_host::{Report, ServeFault};
 use std::alloc::Global;
 use std::test::Fail;
 

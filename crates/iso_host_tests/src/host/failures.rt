@@ -5,8 +5,8 @@ use super::day::{
 };
 use super::ends::Writer;
 use super::frames::{GRANTED, PURCHASE, has_entered, issuer, join};
-use crate::fault::{Report, ServeFault};
 use iso_fakes::check;
+use iso_host::{Report, ServeFault};
 use iso_issuer::Issuer;
 use iso_table::Table;
 use std::alloc::Global;

@@ -5,8 +5,8 @@ use super::frames::{
     ECHO, ECHOED, GRANTED, PURCHASE, REPEAT, REVERSAL, REVERSED, Session, SessionEnd, serve_once,
     serve_pieces,
 };
-use crate::fault::{Report, ServeFault};
 use iso_fakes::check;
+use iso_host::{Report, ServeFault};
 use iso_wire::Header;
 use std::alloc::Global;
 use std::test::Fail;

@@ -1,6 +1,6 @@
-//! The checks themselves, by the report that ends a test.
+//! The checks that end a test, by its report.
 
-use crate::{check, check_of};
+use iso_fakes::{check, check_of};
 use std::alloc::Global;
 use std::cell::Cell;
 use std::fmt::Display;

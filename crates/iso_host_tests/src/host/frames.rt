@@ -1,10 +1,7 @@
 //! Frames whose bytes are known from outside, and the host that serves them.
 
-use crate::fault::{Report, ServeFault};
-use crate::serving::serve;
-use crate::standard::Std;
-use crate::streams::{Inlet, Outlet};
 use iso_fakes::{FewBytes, FewTaken};
+use iso_host::{Inlet, Outlet, Report, ServeFault, Std, serve};
 use iso_issuer::{Accounts, Issuer};
 use iso_order::Pan;
 use iso_table::Table;
