@@ -6,7 +6,7 @@ use Rattle.iso_acquirer.specs.declared.slot.Slot.{Slot}
 use Rattle.iso_acquirer.specs.declared.slot.Role.{Role}
 use Rattle.iso_acquirer.specs.declared.slot.Role.TheVariants.{Transaction, Reversal}
 use Rattle.iso_acquirer.specs.declared.slot.Stage.{Stage}
-use Rattle.iso_acquirer.specs.declared.slot.Stage.TheVariants.{Asked, Undoing, Granted, Denied, Undone}
+use Rattle.iso_acquirer.specs.declared.slot.Stage.TheVariants.{Waiting, Reversing, Approved, Declined, Reversed}
 use Rattle.iso_acquirer.specs.declared.state.State.{State}
 use Rattle.iso_acquirer.specs.Acquirer.{slot_at, state_by, state_in}
 use Rattle.iso_acquirer.specs.World.{World}
@@ -18,12 +18,12 @@ use Rattle.iso_acquirer.proofs.Clauses.{approved-stands, declined-never, reverse
 
 module _ (none_is_none : NoneIsNone) (stands : GrantedStands) (falls : DeclinedFalls) (no_more : StandsNoMore) (never : ReversedNeverStands) (w : World) (sound : IsSound w) where
   by_stage : (stan : ℕ) (s : Slot) → slot_at w.acquirer.slots stan ≡ Some s → (stage : Stage) → s.role ≡ Transaction stage → AgreesIn w s.order (state_by stage)
-  by_stage stan s here (Asked n) role = tt
-  by_stage stan s here (Undoing u) role = tt
-  by_stage stan s here Granted role =
+  by_stage stan s here (Waiting n) role = tt
+  by_stage stan s here (Reversing u) role = tt
+  by_stage stan s here Approved role =
       approved-stands w.acquirer.id w.acquirer.slots w.sent w.given _ sound.agreed none_is_none stands stan s here (found w.acquirer.slots 1 stan s sound.agreed.numbered here).0 role
-  by_stage stan s here (Denied c) role = declined-never w.acquirer.id w.acquirer.slots w.sent w.given w.issuer.accounts w.issuer.orders sound.agreed no_more falls stan s c here role
-  by_stage stan s here (Undone u) role = reversed-never w.acquirer.id w.acquirer.slots w.sent w.given w.issuer.accounts w.issuer.orders sound.agreed never stan s u here role
+  by_stage stan s here (Declined c) role = declined-never w.acquirer.id w.acquirer.slots w.sent w.given w.issuer.accounts w.issuer.orders sound.agreed no_more falls stan s c here role
+  by_stage stan s here (Reversed u) role = reversed-never w.acquirer.id w.acquirer.slots w.sent w.given w.issuer.accounts w.issuer.orders sound.agreed never stan s u here role
 
   by_role : (stan : ℕ) (s : Slot) → slot_at w.acquirer.slots stan ≡ Some s → (role : Role) → s.role ≡ role → (state : State) → state_in role ≡ Some state → AgreesIn w s.order state
   by_role stan s here (Transaction stage) role state is = subst (AgreesIn w s.order) (some_is (state_by stage) state is) (by_stage stan s here stage role)

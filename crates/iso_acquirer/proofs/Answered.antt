@@ -15,7 +15,7 @@ use Rattle.iso_acquirer.specs.declared.slot.Slot.{Slot}
 use Rattle.iso_acquirer.specs.declared.slot.Role.{Role}
 use Rattle.iso_acquirer.specs.declared.slot.Role.TheVariants.{Transaction, Reversal}
 use Rattle.iso_acquirer.specs.declared.slot.Stage.{Stage}
-use Rattle.iso_acquirer.specs.declared.slot.Stage.TheVariants.{Asked, Undoing, Granted, Denied, Undone}
+use Rattle.iso_acquirer.specs.declared.slot.Stage.TheVariants.{Waiting, Reversing, Approved, Declined, Reversed}
 use Rattle.iso_acquirer.specs.Acquirer.{slot_at, undo_of, stage_after, stage_after_undo, slots_after_answer, slots_after_answer_in, slots_after_answer_at}
 use Rattle.iso_acquirer.specs.Agreed.{answer_at, code_at, IsStageOf, IsReversal, IsRole, IsAgreed}
 use Rattle.iso_acquirer.proofs.Keys.{same_key_is, same_key_self, same_number, some_is}
@@ -25,7 +25,7 @@ use Rattle.iso_acquirer.proofs.Changed.{agreed-changed}
 
 -- an answer to a transaction's own order
 held-after : (entries : List Entry) (k : TxKey) (a : Outcome) (stage : Stage) → answer_at entries k ≡ Some a → IsStageOf entries k stage → IsStageOf entries k (stage_after a.code stage)
-held-after entries k a (Asked n) kept h = go (a.code == 0) refl ((a.code == 94) || (a.code == 96))
+held-after entries k a (Waiting n) kept h = go (a.code == 0) refl ((a.code == 94) || (a.code == 96))
   where
     code : code_at entries k ≡ Some a.code
     code = ap (option_map (λ (a : Outcome). a.code)) kept
@@ -33,50 +33,50 @@ held-after entries k a (Asked n) kept h = go (a.code == 0) refl ((a.code == 94) 
     not_zero : (c : ℕ) → (c == 0) ≡ false → c ≢ 0
     not_zero c e = λ z. grind (arith, common_steps, e, z)
 
-    go : (b : Bool) → (a.code == 0) ≡ b → (t : Bool) → IsStageOf entries k (cond b Granted (cond t (Asked n) (Denied a.code)))
+    go : (b : Bool) → (a.code == 0) ≡ b → (t : Bool) → IsStageOf entries k (cond b Approved (cond t (Waiting n) (Declined a.code)))
     go true e t = code ∙ ap Some (same_number a.code 0 e)
     go false e true = tt
     go false e false = (code, not_zero a.code e)
-held-after entries k a (Undoing u) kept h = h
-held-after entries k a Granted kept h = h
-held-after entries k a (Denied c) kept h = h
-held-after entries k a (Undone u) kept h = h
+held-after entries k a (Reversing u) kept h = h
+held-after entries k a Approved kept h = h
+held-after entries k a (Declined c) kept h = h
+held-after entries k a (Reversed u) kept h = h
 
 -- an answer to its reversal
 held-undone : (entries : List Entry) (k : TxKey) (code : ℕ) (stage : Stage) → is_reversed entries k ≡ true → IsStageOf entries k stage → IsStageOf entries k (stage_after_undo code stage)
-held-undone entries k code (Asked n) r h = h
-held-undone entries k code (Undoing u) r h = go (code == 0)
+held-undone entries k code (Waiting n) r h = h
+held-undone entries k code (Reversing u) r h = go (code == 0)
   where
-    go : (b : Bool) → IsStageOf entries k (cond b (Undone u) (Undoing u))
+    go : (b : Bool) → IsStageOf entries k (cond b (Reversed u) (Reversing u))
     go true = r
     go false = h
-held-undone entries k code Granted r h = h
-held-undone entries k code (Denied c) r h = h
-held-undone entries k code (Undone u) r h = h
+held-undone entries k code Approved r h = h
+held-undone entries k code (Declined c) r h = h
+held-undone entries k code (Reversed u) r h = h
 
 -- neither makes or drops a reversal
 after-undo : (code : ℕ) (stage : Stage) → undo_of (stage_after code stage) ≡ undo_of stage
-after-undo code (Asked n) = go (code == 0) ((code == 94) || (code == 96))
+after-undo code (Waiting n) = go (code == 0) ((code == 94) || (code == 96))
   where
-    go : (b t : Bool) → undo_of (cond b Granted (cond t (Asked n) (Denied code))) ≡ None
+    go : (b t : Bool) → undo_of (cond b Approved (cond t (Waiting n) (Declined code))) ≡ None
     go true t = refl
     go false true = refl
     go false false = refl
-after-undo code (Undoing u) = refl
-after-undo code Granted = refl
-after-undo code (Denied c) = refl
-after-undo code (Undone u) = refl
+after-undo code (Reversing u) = refl
+after-undo code Approved = refl
+after-undo code (Declined c) = refl
+after-undo code (Reversed u) = refl
 
 undone-undo : (code : ℕ) (stage : Stage) → undo_of (stage_after_undo code stage) ≡ undo_of stage
-undone-undo code (Asked n) = refl
-undone-undo code (Undoing u) = go (code == 0)
+undone-undo code (Waiting n) = refl
+undone-undo code (Reversing u) = go (code == 0)
   where
-    go : (b : Bool) → undo_of (cond b (Undone u) (Undoing u)) ≡ Some u
+    go : (b : Bool) → undo_of (cond b (Reversed u) (Reversing u)) ≡ Some u
     go true = refl
     go false = refl
-undone-undo code Granted = refl
-undone-undo code (Denied c) = refl
-undone-undo code (Undone u) = refl
+undone-undo code Approved = refl
+undone-undo code (Declined c) = refl
+undone-undo code (Reversed u) = refl
 
 entry_of_answer : (es : List Entry) (k : TxKey) (a : Outcome) → answer_at es k ≡ Some a → (e : Entry) × (entry_at es k ≡ Some e)
 entry_of_answer es k a h = go (entry_at es k) refl h

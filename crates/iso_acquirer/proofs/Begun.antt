@@ -12,7 +12,7 @@ use Rattle.iso_acquirer.specs.declared.event.Given.{Given}
 use Rattle.iso_acquirer.specs.declared.slot.Slot.{Slot}
 use Rattle.iso_acquirer.specs.declared.slot.Role.{Role}
 use Rattle.iso_acquirer.specs.declared.slot.Role.TheVariants.{Transaction, Reversal}
-use Rattle.iso_acquirer.specs.declared.slot.Stage.TheVariants.{Asked, Undoing}
+use Rattle.iso_acquirer.specs.declared.slot.Stage.TheVariants.{Waiting, Reversing}
 use Rattle.iso_acquirer.specs.Acquirer.{slot_at, order_at, undo_of, on_stage, slot_at_stage, slots_at_stage, transaction_of, reversal_for, slots_with, slots_with_reversal}
 use Rattle.iso_acquirer.specs.Room.{AreNumbered}
 use Rattle.iso_acquirer.specs.Agreed.{answer_at, IsRole, IsSlot, IsKnown, IsAgreed}
@@ -110,29 +110,29 @@ agreed-begun id slots sent given entries o m w next own base act =
 -- ---- a transaction that waits is reversed
 
 module _ (id : ℕ) (slots : List Slot) (sent : List Instruction) (given : List Given) (entries : List Entry) (stan n : ℕ) (s : Slot) (u : Instruction)
-    (w : IsAgreed id slots sent given entries) (here : slot_at slots stan ≡ Some s) (role : s.role ≡ Transaction (Asked n))
+    (w : IsAgreed id slots sent given entries) (here : slot_at slots stan ≡ Some s) (role : s.role ≡ Transaction (Waiting n))
     (next : u.key.stan ≡ length slots + 1) (own : u.key.acquirer ≡ id) (names : u.act ≡ Undo s.order.key 0) where
   abbrev marked : List Slot
-  marked = slots_at_stage (λ _. Undoing u) stan slots
+  marked = slots_at_stage (λ _. Reversing u) stan slots
 
-  keeps : KeepsUndo slots (λ _. Undoing u) stan
+  keeps : KeepsUndo slots (λ _. Reversing u) stan
   keeps x stage v there is undo =
-      let same : Asked n ≡ stage = same_stage (Asked n) stage (sym role ∙ ap (λ (y : Slot). y.role) (some_is s x (sym here ∙ there)) ∙ is) in
+      let same : Waiting n ≡ stage = same_stage (Waiting n) stage (sym role ∙ ap (λ (y : Slot). y.role) (some_is s x (sym here ∙ there)) ∙ is) in
       absurd (none_is_not v (ap undo_of same ∙ undo))
 
   length_marked : length marked ≡ length slots
-  length_marked = length-changed (λ _. Undoing u) stan slots
+  length_marked = length-changed (λ _. Reversing u) stan slots
 
   next_marked : u.key.stan ≡ length marked + 1
   next_marked = next ∙ ap (λ k. k + 1) (sym length_marked)
 
   numbered_marked : AreNumbered 1 marked
-  numbered_marked = numbered-changed (λ _. Undoing u) stan slots 1 w.numbered
+  numbered_marked = numbered-changed (λ _. Reversing u) stan slots 1 w.numbered
 
   pub order_reversing : order_at (slots_with_reversal slots stan u) u.key.stan ≡ Some u
   order_reversing = order-new marked (reversal_for stan u) numbered_marked next_marked
 
-  role_marked : (x : Slot) (r : Role) → IsRole entries slots x.order r → IsRole entries (slots_with_reversal slots stan u) x.order (on_stage (λ _. Undoing u) r)
+  role_marked : (x : Slot) (r : Role) → IsRole entries slots x.order r → IsRole entries (slots_with_reversal slots stan u) x.order (on_stage (λ _. Reversing u) r)
   role_marked x (Transaction stage) h = record {
     base = h.base;
     money = h.money;
@@ -140,7 +140,7 @@ module _ (id : ℕ) (slots : List Slot) (sent : List Instruction) (given : List 
     held = tt;
     undone = λ v is. subst (λ (z : Instruction). order_at (slots_with_reversal slots stan u) z.key.stan ≡ Some z) (some_is u v is) order_reversing;
   }
-  role_marked x (Reversal k) h = role-more entries marked (reversal_for stan u) x.order (Reversal k) (reversal-changed (λ _. Undoing u) stan slots k x.order w.numbered keeps h)
+  role_marked x (Reversal k) h = role-more entries marked (reversal_for stan u) x.order (Reversal k) (reversal-changed (λ _. Reversing u) stan slots k x.order w.numbered keeps h)
 
   role_other : (x : Slot) (r : Role) → IsRole entries slots x.order r → IsRole entries (slots_with_reversal slots stan u) x.order r
   role_other x (Transaction stage) h = record {
@@ -148,17 +148,17 @@ module _ (id : ℕ) (slots : List Slot) (sent : List Instruction) (given : List 
     money = h.money;
     debit = h.debit;
     held = h.held;
-    undone = λ v is. order-more marked (reversal_for stan u) v.key.stan v (order-changed (λ _. Undoing u) stan slots v.key.stan ∙ h.undone v is);
+    undone = λ v is. order-more marked (reversal_for stan u) v.key.stan v (order-changed (λ _. Reversing u) stan slots v.key.stan ∙ h.undone v is);
   }
-  role_other x (Reversal k) h = role-more entries marked (reversal_for stan u) x.order (Reversal k) (reversal-changed (λ _. Undoing u) stan slots k x.order w.numbered keeps h)
+  role_other x (Reversal k) h = role-more entries marked (reversal_for stan u) x.order (Reversal k) (reversal-changed (λ _. Reversing u) stan slots k x.order w.numbered keeps h)
 
   -- what was kept before the reversal
   before : (k : ℕ) (t : Slot) → slot_at marked k ≡ Some t → IsSlot id entries (slots_with_reversal slots stan u) t
   before k t there =
-      let back = changed-back (λ _. Undoing u) stan slots k t there in
+      let back = changed-back (λ _. Reversing u) stan slots k t there in
       subst (IsSlot id entries (slots_with_reversal slots stan u)) back.2 (by_test back.0 back.1 (back.0.order.key.stan == stan))
     where
-      by_test : (x : Slot) → slot_at slots k ≡ Some x → (b : Bool) → IsSlot id entries (slots_with_reversal slots stan u) (cond b (slot_at_stage (λ _. Undoing u) x) x)
+      by_test : (x : Slot) → slot_at slots k ≡ Some x → (b : Bool) → IsSlot id entries (slots_with_reversal slots stan u) (cond b (slot_at_stage (λ _. Reversing u) x) x)
       by_test x at true = let old = w.slots_hold k x at in record { own = old.own; role = role_marked x x.role old.role }
       by_test x at false = let old = w.slots_hold k x at in record { own = old.own; role = role_other x x.role old.role }
 
@@ -166,15 +166,15 @@ module _ (id : ℕ) (slots : List Slot) (sent : List Instruction) (given : List 
   agreed-reversing =
       agreed-sent id (slots_with_reversal slots stan u) sent given entries u
       (agreed-made id marked sent given entries (reversal_for stan u) numbered_marked before
-      (known-changed id (λ _. Undoing u) stan slots entries w.entries_known) (sent-changed (λ _. Undoing u) stan slots sent w.sent_known) w.given_kept next_marked
+      (known-changed id (λ _. Reversing u) stan slots entries w.entries_known) (sent-changed (λ _. Reversing u) stan slots sent w.sent_known) w.given_kept next_marked
       (record {
         own = own;
         role = record {
-          original = slot_at_stage (λ _. Undoing u) s;
-          stage = Undoing u;
-          found = slot-more marked (reversal_for stan u) stan (slot_at_stage (λ _. Undoing u) s)
-              (changed-found (λ _. Undoing u) stan slots stan s here ∙ ap (λ b. Some (cond b (slot_at_stage (λ _. Undoing u) s) s)) (number_self s.order.key.stan stan (found slots 1 stan s w.numbered here).0));
-          transaction = ap (on_stage (λ _. Undoing u)) role;
+          original = slot_at_stage (λ _. Reversing u) s;
+          stage = Reversing u;
+          found = slot-more marked (reversal_for stan u) stan (slot_at_stage (λ _. Reversing u) s)
+              (changed-found (λ _. Reversing u) stan slots stan s here ∙ ap (λ b. Some (cond b (slot_at_stage (λ _. Reversing u) s) s)) (number_self s.order.key.stan stan (found slots 1 stan s w.numbered here).0));
+          transaction = ap (on_stage (λ _. Reversing u)) role;
           kept = refl;
           names = names;
         };

@@ -19,7 +19,7 @@ use Rattle.iso_acquirer.specs.declared.slot.Slot.{Slot}
 use Rattle.iso_acquirer.specs.declared.slot.Role.{Role}
 use Rattle.iso_acquirer.specs.declared.slot.Role.TheVariants.{Transaction, Reversal}
 use Rattle.iso_acquirer.specs.declared.slot.Stage.{Stage}
-use Rattle.iso_acquirer.specs.declared.slot.Stage.TheVariants.{Granted, Denied, Undone}
+use Rattle.iso_acquirer.specs.declared.slot.Stage.TheVariants.{Approved, Declined, Reversed}
 use Rattle.iso_acquirer.specs.Acquirer.{slot_at, order_at, undo_of}
 use Rattle.iso_acquirer.specs.Agreed.{code_at, IsTransaction, IsRole, IsKnown, IsAgreed}
 use Rattle.iso_acquirer.specs.Agreement.{StandsIn}
@@ -130,23 +130,23 @@ module _ (id : ℕ) (slots : List Slot) (sent : List Instruction) (given : List 
       pub granted : entry.answer.code ≡ 0
       pub free : left_at entries entry.order.key ≡ None
 
-    pub approved_granted : (n : ℕ) (s : Slot) → slot_at slots n ≡ Some s → s.order.key.stan ≡ n → s.role ≡ Transaction Granted → IsGranted s
+    pub approved_granted : (n : ℕ) (s : Slot) → slot_at slots n ≡ Some s → s.order.key.stan ≡ n → s.role ≡ Transaction Approved → IsGranted s
     approved_granted n s here place role =
-        let kept = kept_entry entries s.order.key 0 (transaction_at n s Granted here role).held in
+        let kept = kept_entry entries s.order.key 0 (transaction_at n s Approved here role).held in
         let same : s.order ≡ kept.0.order = own_order n s kept.0 here place kept.1 in
         record {
           entry = kept.0;
           found_it = kept.1;
           same = sym same;
           granted = kept.2;
-          free = ap (λ (o : Instruction). left_at entries o.key) (sym same) ∙ none_is_none entries s.order.key (none_reverses n s Granted here place role refl);
+          free = ap (λ (o : Instruction). left_at entries o.key) (sym same) ∙ none_is_none entries s.order.key (none_reverses n s Approved here place role refl);
         }
 
     -- so it stands at the issuer
-    pub approved-stands : GrantedStands → (n : ℕ) (s : Slot) → slot_at slots n ≡ Some s → s.order.key.stan ≡ n → s.role ≡ Transaction Granted → StandsIn entries s.order
+    pub approved-stands : GrantedStands → (n : ℕ) (s : Slot) → slot_at slots n ≡ Some s → s.order.key.stan ≡ n → s.role ≡ Transaction Approved → StandsIn entries s.order
     approved-stands stands n s here place role =
         let g = approved_granted n s here place role in
-        let t = transaction_at n s Granted here role in
+        let t = transaction_at n s Approved here role in
         record {
           entry = g.entry;
           found = g.found_it;
@@ -158,13 +158,13 @@ module _ (id : ℕ) (slots : List Slot) (sent : List Instruction) (given : List 
 -- what the acquirer holds as declined or reversed never stands again
 module _ (id : ℕ) (slots : List Slot) (sent : List Instruction) (given : List Given) (accounts : List Account) (orders : List Instruction)
     (w : IsAgreed id slots sent given (journal_of accounts orders)) where
-  pub declined-never : StandsNoMore → DeclinedFalls → (n : ℕ) (s : Slot) (c : ℕ) → slot_at slots n ≡ Some s → s.role ≡ Transaction (Denied c) → NeverStands accounts orders s.order.key
+  pub declined-never : StandsNoMore → DeclinedFalls → (n : ℕ) (s : Slot) (c : ℕ) → slot_at slots n ≡ Some s → s.role ≡ Transaction (Declined c) → NeverStands accounts orders s.order.key
   declined-never no_more falls n s c here role =
-      let t = transaction_at id slots sent given (journal_of accounts orders) w n s (Denied c) here role in
+      let t = transaction_at id slots sent given (journal_of accounts orders) w n s (Declined c) here role in
       let kept = kept_entry (journal_of accounts orders) s.order.key c t.held.0 in
       no_more accounts orders s.order.key kept.0 (class_two s.order.key t.base) kept.1
       (falls (journal_of accounts orders) kept.0 (λ z. t.held.1 (sym kept.2 ∙ z)))
 
-  pub reversed-never : ReversedNeverStands → (n : ℕ) (s : Slot) (u : Instruction) → slot_at slots n ≡ Some s → s.role ≡ Transaction (Undone u) → NeverStands accounts orders s.order.key
+  pub reversed-never : ReversedNeverStands → (n : ℕ) (s : Slot) (u : Instruction) → slot_at slots n ≡ Some s → s.role ≡ Transaction (Reversed u) → NeverStands accounts orders s.order.key
   reversed-never never n s u here role =
-      never accounts orders s.order.key (transaction_at id slots sent given (journal_of accounts orders) w n s (Undone u) here role).held
+      never accounts orders s.order.key (transaction_at id slots sent given (journal_of accounts orders) w n s (Reversed u) here role).held

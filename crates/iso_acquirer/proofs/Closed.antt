@@ -13,7 +13,7 @@ use Rattle.iso_acquirer.specs.declared.slot.Slot.{Slot}
 use Rattle.iso_acquirer.specs.declared.slot.Role.{Role}
 use Rattle.iso_acquirer.specs.declared.slot.Role.TheVariants.{Transaction, Reversal}
 use Rattle.iso_acquirer.specs.declared.slot.Stage.{Stage}
-use Rattle.iso_acquirer.specs.declared.slot.Stage.TheVariants.{Asked, Undoing, Granted, Denied, Undone}
+use Rattle.iso_acquirer.specs.declared.slot.Stage.TheVariants.{Waiting, Reversing, Approved, Declined, Reversed}
 use Rattle.iso_acquirer.specs.declared.state.State.{State}
 use Rattle.iso_acquirer.specs.Acquirer.{slot_at, state_by, state_in, state_of, on_stage, slot_at_stage, slots_at_stage, reversal_for, stage_after, stage_after_undo, slots_after_answer, slots_after_answer_in, slots_after_answer_at, next_reversal, slots_with_reversal, timeout, timeout_at, timeout_in, timeout_by}
 use Rattle.iso_acquirer.specs.Room.{AreNumbered}
@@ -63,18 +63,18 @@ stays-changed step m slots numbered keeps stan state told closed = by_slot (slot
 
 -- an answer changes nothing that is closed
 after-stays : (code : ℕ) (stage : Stage) → is_closed (state_by stage) ≡ true → state_by (stage_after code stage) ≡ state_by stage
-after-stays code (Asked n) h = cc
-after-stays code (Undoing u) h = cc
-after-stays code Granted h = refl
-after-stays code (Denied c) h = refl
-after-stays code (Undone u) h = refl
+after-stays code (Waiting n) h = cc
+after-stays code (Reversing u) h = cc
+after-stays code Approved h = refl
+after-stays code (Declined c) h = refl
+after-stays code (Reversed u) h = refl
 
 undone-stays : (code : ℕ) (stage : Stage) → is_closed (state_by stage) ≡ true → state_by (stage_after_undo code stage) ≡ state_by stage
-undone-stays code (Asked n) h = cc
-undone-stays code (Undoing u) h = cc
-undone-stays code Granted h = refl
-undone-stays code (Denied c) h = refl
-undone-stays code (Undone u) h = refl
+undone-stays code (Waiting n) h = cc
+undone-stays code (Reversing u) h = cc
+undone-stays code Approved h = refl
+undone-stays code (Declined c) h = refl
+undone-stays code (Reversed u) h = refl
 
 stays-answered : (slots : List Slot) (key : TxKey) (code : ℕ) → AreNumbered 1 slots → StaysIn slots (slots_after_answer slots key code)
 stays-answered slots key code numbered = by_slot (slot_at slots key.stan)
@@ -93,32 +93,32 @@ stays-answered slots key code numbered = by_slot (slot_at slots key.stan)
 
 module _ (slots : List Slot) (numbered : AreNumbered 1 slots) where
   -- what is asked isn't closed
-  open-stays : (new : Stage) (s : Slot) (n : ℕ) → slot_at slots s.order.key.stan ≡ Some s → s.role ≡ Transaction (Asked n) → StaysIn slots (slots_at_stage (λ _. new) s.order.key.stan slots)
+  open-stays : (new : Stage) (s : Slot) (n : ℕ) → slot_at slots s.order.key.stan ≡ Some s → s.role ≡ Transaction (Waiting n) → StaysIn slots (slots_at_stage (λ _. new) s.order.key.stan slots)
   open-stays new s n here role =
       stays-changed (λ _. new) s.order.key.stan slots numbered
       (λ x stage there is closed.
-      let same : Asked n ≡ stage = same_stage (Asked n) stage (sym role ∙ ap (λ (y : Slot). y.role) (some_is s x (sym here ∙ there)) ∙ is) in
+      let same : Waiting n ≡ stage = same_stage (Waiting n) stage (sym role ∙ ap (λ (y : Slot). y.role) (some_is s x (sym here ∙ there)) ∙ is) in
       absurd (never_true (ap (λ g. is_closed (state_by g)) same ∙ closed)))
     where
       never_true : false ≡ true → ⊥
       never_true h = cc
 
   asked-stays : (s : Slot) (stage : Stage) → slot_at slots s.order.key.stan ≡ Some s → s.role ≡ Transaction stage → (r : Instruction × List Slot) → timeout_by slots s.order stage ≡ Ok r → StaysIn slots r.1
-  asked-stays s (Asked n) here role r e = by_tests (n == 1) (nat_lt (length slots) 999999) e
+  asked-stays s (Waiting n) here role r e = by_tests (n == 1) (nat_lt (length slots) 999999) e
     where
       by_tests : (b t : Bool) →
-          ◌≡◌ {A = Result (Instruction × List Slot) AcqFault} (cond b (Ok (s.order, slots_at_stage (λ _. Asked 2) s.order.key.stan slots))
+          ◌≡◌ {A = Result (Instruction × List Slot) AcqFault} (cond b (Ok (s.order, slots_at_stage (λ _. Waiting 2) s.order.key.stan slots))
           (cond t (Ok (next_reversal slots s.order, slots_with_reversal slots s.order.key.stan (next_reversal slots s.order))) (Err NoMoreTrace))) (Ok r) → StaysIn slots r.1
-      by_tests true t h = subst (λ (r : Instruction × List Slot). StaysIn slots r.1) (ok_is (s.order, slots_at_stage (λ _. Asked 2) s.order.key.stan slots) r h) (open-stays (Asked 2) s n here role)
+      by_tests true t h = subst (λ (r : Instruction × List Slot). StaysIn slots r.1) (ok_is (s.order, slots_at_stage (λ _. Waiting 2) s.order.key.stan slots) r h) (open-stays (Waiting 2) s n here role)
       by_tests false true h =
           subst (λ (r : Instruction × List Slot). StaysIn slots r.1) (ok_is (next_reversal slots s.order, slots_with_reversal slots s.order.key.stan (next_reversal slots s.order)) r h)
-          (λ stan state told closed. stays-pushed (slots_at_stage (λ _. Undoing (next_reversal slots s.order)) s.order.key.stan slots) (reversal_for s.order.key.stan (next_reversal slots s.order)) stan state
-          (open-stays (Undoing (next_reversal slots s.order)) s n here role stan state told closed) closed)
+          (λ stan state told closed. stays-pushed (slots_at_stage (λ _. Reversing (next_reversal slots s.order)) s.order.key.stan slots) (reversal_for s.order.key.stan (next_reversal slots s.order)) stan state
+          (open-stays (Reversing (next_reversal slots s.order)) s n here role stan state told closed) closed)
       by_tests false false h = absurd (err_not NoMoreTrace r h)
-  asked-stays s (Undoing u) here role r e = subst (λ (r : Instruction × List Slot). StaysIn slots r.1) (ok_is (u, slots) r e) (stays-same slots)
-  asked-stays s Granted here role r e = absurd (err_not Closed r e)
-  asked-stays s (Denied c) here role r e = absurd (err_not Closed r e)
-  asked-stays s (Undone u) here role r e = absurd (err_not Closed r e)
+  asked-stays s (Reversing u) here role r e = subst (λ (r : Instruction × List Slot). StaysIn slots r.1) (ok_is (u, slots) r e) (stays-same slots)
+  asked-stays s Approved here role r e = absurd (err_not Closed r e)
+  asked-stays s (Declined c) here role r e = absurd (err_not Closed r e)
+  asked-stays s (Reversed u) here role r e = absurd (err_not Closed r e)
 
   stays-asked : (stan : ℕ) (r : Instruction × List Slot) → timeout slots stan ≡ Ok r → StaysIn slots r.1
   stays-asked stan r e = by_slot (slot_at slots stan) refl e

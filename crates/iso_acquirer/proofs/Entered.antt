@@ -15,7 +15,7 @@ use Rattle.iso_acquirer.specs.declared.slot.Slot.{Slot}
 use Rattle.iso_acquirer.specs.declared.slot.Role.{Role}
 use Rattle.iso_acquirer.specs.declared.slot.Role.TheVariants.{Transaction, Reversal}
 use Rattle.iso_acquirer.specs.declared.slot.Stage.{Stage}
-use Rattle.iso_acquirer.specs.declared.slot.Stage.TheVariants.{Asked, Undoing, Granted, Denied, Undone}
+use Rattle.iso_acquirer.specs.declared.slot.Stage.TheVariants.{Waiting, Reversing, Approved, Declined, Reversed}
 use Rattle.iso_acquirer.specs.Acquirer.{order_at}
 use Rattle.iso_acquirer.specs.Agreed.{answer_at, code_at, IsStageOf, IsRole, IsKnown, IsAgreed}
 use Rattle.iso_acquirer.proofs.Lists.{all-push, all-weaker, find-more}
@@ -38,11 +38,11 @@ code-more es fs k c h = go (answer_at es k) refl h
     go (Some a) e g = ap (option_map (λ a. a.code)) (answer-more es fs k a e) ∙ g
 
 held-more : ReversedStays → (es fs : List Entry) (k : TxKey) (stage : Stage) → IsStageOf es k stage → IsStageOf (es ++ fs) k stage
-held-more stay es fs k (Asked n) h = tt
-held-more stay es fs k (Undoing u) h = tt
-held-more stay es fs k Granted h = code-more es fs k 0 h
-held-more stay es fs k (Denied c) h = (code-more es fs k c h.0, h.1)
-held-more stay es fs k (Undone u) h = stay es fs k h
+held-more stay es fs k (Waiting n) h = tt
+held-more stay es fs k (Reversing u) h = tt
+held-more stay es fs k Approved h = code-more es fs k 0 h
+held-more stay es fs k (Declined c) h = (code-more es fs k c h.0, h.1)
+held-more stay es fs k (Reversed u) h = stay es fs k h
 
 role-more : ReversedStays → (es fs : List Entry) (slots : List Slot) (o : Instruction) (role : Role) → IsRole es slots o role → IsRole (es ++ fs) slots o role
 role-more stay es fs slots o (Transaction stage) h = record {

@@ -8,7 +8,7 @@ use Rattle.iso_acquirer.specs.declared.slot.Slot.{Slot}
 use Rattle.iso_acquirer.specs.declared.slot.Role.{Role}
 use Rattle.iso_acquirer.specs.declared.slot.Role.TheVariants.{Transaction, Reversal}
 use Rattle.iso_acquirer.specs.declared.slot.Stage.{Stage}
-use Rattle.iso_acquirer.specs.declared.slot.Stage.TheVariants.{Asked, Undoing, Granted, Denied, Undone}
+use Rattle.iso_acquirer.specs.declared.slot.Stage.TheVariants.{Waiting, Reversing, Approved, Declined, Reversed}
 use Rattle.iso_acquirer.specs.Acquirer.{slot_at, on_stage, slots_at_stage, transaction_of, reversal_for, slots_with, slots_with_reversal, stage_after, stage_after_undo}
 use Rattle.iso_acquirer.specs.Room.{AreNumbered, reversals_at, reversals_of, reversals_left, IsRequest, IsRoomKept}
 use Rattle.iso_acquirer.proofs.Lists.{all-push}
@@ -67,9 +67,9 @@ kept-brought id slots w len cap len_after cap_after m before after s from stage 
 pub open-counted : (id : ℕ) (slots : List Slot) (w len cap m before : ℕ) (s : Slot) → IsRoomKept id slots w len cap → slot_at slots m ≡ Some s →
     before ≡ reversals_of s.role → before ≤ w
 open-counted id slots w len cap m before s kept there is =
-    omega (arith, kept.counted, is, open-sum slots m s (λ _. Granted) kept.numbered there, closed s.role)
+    omega (arith, kept.counted, is, open-sum slots m s (λ _. Approved) kept.numbered there, closed s.role)
   where
-    closed : (r : Role) → reversals_of (on_stage (λ _. Granted) r) ≡ 0
+    closed : (r : Role) → reversals_of (on_stage (λ _. Approved) r) ≡ 0
     closed (Transaction stage) = refl
     closed (Reversal k) = refl
 
@@ -78,43 +78,43 @@ pub kept-reversing : (id : ℕ) (slots : List Slot) (w len cap len_after cap_aft
     slot_at slots m ≡ Some s → reversals_of s.role ≡ 1 → u.key.stan ≡ length slots + 1 → length slots < 999999 →
     len_after ≡ len + 1 → cap_after ≡ cap → IsRoomKept id (slots_with_reversal slots m u) (w - 1) len_after cap_after
 kept-reversing id slots w len cap len_after cap_after m s u kept there one next few same_len same_cap =
-    let after = slots_at_stage (λ _. Undoing u) m slots in
-    let length_after : length after ≡ length slots = length-changed (λ _. Undoing u) m slots in
+    let after = slots_at_stage (λ _. Reversing u) m slots in
+    let length_after : length after ≡ length slots = length-changed (λ _. Reversing u) m slots in
     let enough : 1 ≤ w = open-counted id slots w len cap m 1 s kept there (sym one) in
     record {
       id_fits = kept.id_fits;
-      numbered = numbered-push after (reversal_for m u) 1 (numbered-changed (λ _. Undoing u) m slots 1 kept.numbered) (omega (arith, next, length_after));
+      numbered = numbered-push after (reversal_for m u) 1 (numbered-changed (λ _. Reversing u) m slots 1 kept.numbered) (omega (arith, next, length_after));
       few = omega (arith, length-append after (reversal_for m u ∷ []), length_after, few);
-      counted = omega (arith, kept.counted, open-sum slots m s (λ _. Undoing u) kept.numbered there, sum_by_push (λ (s : Slot). reversals_of s.role) after (reversal_for m u), one, none s.role, enough);
+      counted = omega (arith, kept.counted, open-sum slots m s (λ _. Reversing u) kept.numbered there, sum_by_push (λ (s : Slot). reversals_of s.role) after (reversal_for m u), one, none s.role, enough);
       room = omega (arith, kept.room, enough);
-      requests = all-push (λ (s : Slot). IsRequest s.role s.order) after (reversal_for m u) (requests-changed (λ _. Undoing u) m slots kept.requests) tt;
+      requests = all-push (λ (s : Slot). IsRequest s.role s.order) after (reversal_for m u) (requests-changed (λ _. Reversing u) m slots kept.requests) tt;
     }
   where
-    none : (r : Role) → reversals_of (on_stage (λ _. Undoing u) r) ≡ 0
+    none : (r : Role) → reversals_of (on_stage (λ _. Reversing u) r) ≡ 0
     none (Transaction stage) = refl
     none (Reversal k) = refl
 
 -- ---- an answer opens nothing
 
 pub after-fewer : (stage : Stage) (code : ℕ) → reversals_at (stage_after code stage) ≤ reversals_at stage
-after-fewer (Asked n) code = by_code (code == 0) ((code == 94) || (code == 96))
+after-fewer (Waiting n) code = by_code (code == 0) ((code == 94) || (code == 96))
   where
-    by_code : (b t : Bool) → reversals_at (cond b Granted (cond t (Asked n) (Denied code))) ≤ 1
+    by_code : (b t : Bool) → reversals_at (cond b Approved (cond t (Waiting n) (Declined code))) ≤ 1
     by_code true t = omega arith
     by_code false true = omega arith
     by_code false false = omega arith
-after-fewer (Undoing u) code = omega arith
-after-fewer Granted code = omega arith
-after-fewer (Denied c) code = omega arith
-after-fewer (Undone u) code = omega arith
+after-fewer (Reversing u) code = omega arith
+after-fewer Approved code = omega arith
+after-fewer (Declined c) code = omega arith
+after-fewer (Reversed u) code = omega arith
 
 pub undone-fewer : (stage : Stage) (code : ℕ) → reversals_at (stage_after_undo code stage) ≤ reversals_at stage
-undone-fewer (Asked n) code = omega arith
-undone-fewer (Undoing u) code = by_code (code == 0)
+undone-fewer (Waiting n) code = omega arith
+undone-fewer (Reversing u) code = by_code (code == 0)
   where
-    by_code : (b : Bool) → reversals_at (cond b (Undone u) (Undoing u)) ≤ 0
+    by_code : (b : Bool) → reversals_at (cond b (Reversed u) (Reversing u)) ≤ 0
     by_code true = omega arith
     by_code false = omega arith
-undone-fewer Granted code = omega arith
-undone-fewer (Denied c) code = omega arith
-undone-fewer (Undone u) code = omega arith
+undone-fewer Approved code = omega arith
+undone-fewer (Declined c) code = omega arith
+undone-fewer (Reversed u) code = omega arith

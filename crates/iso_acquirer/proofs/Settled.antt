@@ -22,7 +22,7 @@ use Rattle.iso_acquirer.specs.declared.slot.Slot.{Slot}
 use Rattle.iso_acquirer.specs.declared.slot.Role.{Role}
 use Rattle.iso_acquirer.specs.declared.slot.Role.TheVariants.{Transaction, Reversal}
 use Rattle.iso_acquirer.specs.declared.slot.Stage.{Stage}
-use Rattle.iso_acquirer.specs.declared.slot.Stage.TheVariants.{Asked, Undoing, Granted, Denied, Undone}
+use Rattle.iso_acquirer.specs.declared.slot.Stage.TheVariants.{Waiting, Reversing, Approved, Declined, Reversed}
 use Rattle.iso_acquirer.specs.Acquirer.{slot_at, state_by, state_in}
 use Rattle.iso_acquirer.specs.World.{World}
 use Rattle.iso_acquirer.specs.Agreed.{IsTransaction, IsRole, IsKnown, IsSound}
@@ -104,9 +104,9 @@ module _ (of_orders : EntriesAreOfOrders) (entered_has : EnteredHasEntry) (weigh
 
   of_stage : (e : Entry) (s : Slot) → entry_at (journal w.issuer) e.order.key ≡ Some e → slot_at w.acquirer.slots e.order.key.stan ≡ Some s → s.order ≡ e.order →
       (stage : Stage) → s.role ≡ Transaction stage → is_closed (state_by stage) ≡ true → IsTransaction (journal w.issuer) w.acquirer.slots s.order stage → Counts w pan e
-  of_stage e s at here same (Asked n) role closed t = cc
-  of_stage e s at here same (Undoing u) role closed t = cc
-  of_stage e s at here same Granted role closed t =
+  of_stage e s at here same (Waiting n) role closed t = cc
+  of_stage e s at here same (Reversing u) role closed t = cc
+  of_stage e s at here same Approved role closed t =
       let place = found w.acquirer.slots 1 e.order.key.stan s sound.agreed.numbered here in
       let g = approved_granted w.acquirer.id w.acquirer.slots w.sent w.given (journal w.issuer) sound.agreed none_is_none e.order.key.stan s here place.0 role in
       let entry : g.entry ≡ e = some_is g.entry e (sym g.found_it ∙ ap (λ (o : Instruction). entry_at (journal w.issuer) o.key) same ∙ at) in
@@ -115,10 +115,10 @@ module _ (of_orders : EntriesAreOfOrders) (entered_has : EnteredHasEntry) (weigh
       of_debit e s t.money t.money.amount here same t.debit t.base
       (ap (weight (journal w.issuer)) (sym entry) ∙ weighs (journal w.issuer) g.entry two (debit_effect g.entry.order t.money act_is) g.granted g.free ∙ ap effect_amount (debit_taken g.entry.order t.money act_is two))
       (sym (ap (λ r. cond (is_state_approved (state_in r)) (debit_amount pan s.order.act) 0) role ∙ ap (debit_amount pan) t.debit))
-  of_stage e s at here same (Denied c) role closed t =
+  of_stage e s at here same (Declined c) role closed t =
       of_fallen e s t.money here same t.debit t.base at
       (declined-never w.acquirer.id w.acquirer.slots w.sent w.given w.issuer.accounts w.issuer.orders sound.agreed no_more falls e.order.key.stan s c here role) (ap (λ r. is_state_approved (state_in r)) role)
-  of_stage e s at here same (Undone u) role closed t =
+  of_stage e s at here same (Reversed u) role closed t =
       of_fallen e s t.money here same t.debit t.base at
       (reversed-never w.acquirer.id w.acquirer.slots w.sent w.given w.issuer.accounts w.issuer.orders sound.agreed never e.order.key.stan s u here role) (ap (λ r. is_state_approved (state_in r)) role)
 
@@ -144,13 +144,13 @@ module _ (of_orders : EntriesAreOfOrders) (entered_has : EnteredHasEntry) (weigh
   -- what is approved is entered
   entered_amount : (s : Slot) → (role : Role) → s.role ≡ role → IsRole (journal w.issuer) w.acquirer.slots s.order role →
       cond (is_entered (map (λ e. e.order) (journal w.issuer)) s.order.key) (cond (is_state_approved (state_in role)) (debit_amount pan s.order.act) 0) 0 ≡ cond (is_state_approved (state_in role)) (debit_amount pan s.order.act) 0
-  entered_amount s (Transaction Granted) role t =
+  entered_amount s (Transaction Approved) role t =
       let kept = kept_entry (journal w.issuer) s.order.key 0 t.held in
       ap (λ b. cond b (debit_amount pan s.order.act) 0) (ap (λ os. is_entered os s.order.key) orders_are ∙ entered_has w.issuer.accounts w.issuer.orders s.order.key ∙ ap is_some kept.1)
-  entered_amount s (Transaction (Asked n)) role t = zero_cond _ 0 refl
-  entered_amount s (Transaction (Undoing u)) role t = zero_cond _ 0 refl
-  entered_amount s (Transaction (Denied c)) role t = zero_cond _ 0 refl
-  entered_amount s (Transaction (Undone u)) role t = zero_cond _ 0 refl
+  entered_amount s (Transaction (Waiting n)) role t = zero_cond _ 0 refl
+  entered_amount s (Transaction (Reversing u)) role t = zero_cond _ 0 refl
+  entered_amount s (Transaction (Declined c)) role t = zero_cond _ 0 refl
+  entered_amount s (Transaction (Reversed u)) role t = zero_cond _ 0 refl
   entered_amount s (Reversal k) role t = zero_cond _ 0 refl
 
   taken_is : total Debited pan (journal w.issuer) ≡ approved_total pan w.acquirer.slots

@@ -10,7 +10,7 @@ use Rattle.iso_acquirer.specs.declared.slot.Slot.{Slot}
 use Rattle.iso_acquirer.specs.declared.slot.Role.{Role}
 use Rattle.iso_acquirer.specs.declared.slot.Role.TheVariants.{Transaction, Reversal}
 use Rattle.iso_acquirer.specs.declared.slot.Stage.{Stage}
-use Rattle.iso_acquirer.specs.declared.slot.Stage.TheVariants.{Asked, Undoing, Granted, Denied, Undone}
+use Rattle.iso_acquirer.specs.declared.slot.Stage.TheVariants.{Waiting, Reversing, Approved, Declined, Reversed}
 use Rattle.iso_acquirer.specs.Acquirer.{slot_at, undo_of, slots_at_stage, timeout, timeout_at, timeout_in, timeout_by, next_reversal, slots_with_reversal}
 use Rattle.iso_acquirer.specs.Agreed.{IsAgreed}
 use Rattle.iso_acquirer.proofs.Keys.{some_is, none_is_not}
@@ -30,30 +30,30 @@ module _ (id : ℕ) (slots : List Slot) (sent : List Instruction) (given : List 
   abbrev IsSent : Instruction × List Slot → Type 0
   IsSent r = IsAgreed id r.1 (sent ++ r.0 ∷ []) given entries
 
-  again : (s : Slot) (n : ℕ) → slot_at slots s.order.key.stan ≡ Some s → s.role ≡ Transaction (Asked n) → IsSent (s.order, slots_at_stage (λ _. Asked 2) s.order.key.stan slots)
+  again : (s : Slot) (n : ℕ) → slot_at slots s.order.key.stan ≡ Some s → s.role ≡ Transaction (Waiting n) → IsSent (s.order, slots_at_stage (λ _. Waiting 2) s.order.key.stan slots)
   again s n here role =
-      agreed-sent id (slots_at_stage (λ _. Asked 2) s.order.key.stan slots) sent given entries s.order
-      (agreed-changed id slots sent given entries (λ _. Asked 2) s.order.key.stan w
-      (λ x stage v there is undo. absurd (none_is_not v (ap undo_of (same_stage (Asked n) stage (sym role ∙ ap (λ (y : Slot). y.role) (some_is s x (sym here ∙ there)) ∙ is)) ∙ undo)))
+      agreed-sent id (slots_at_stage (λ _. Waiting 2) s.order.key.stan slots) sent given entries s.order
+      (agreed-changed id slots sent given entries (λ _. Waiting 2) s.order.key.stan w
+      (λ x stage v there is undo. absurd (none_is_not v (ap undo_of (same_stage (Waiting n) stage (sym role ∙ ap (λ (y : Slot). y.role) (some_is s x (sym here ∙ there)) ∙ is)) ∙ undo)))
       (λ x stage there is h. tt) (λ x stage v there is undo. absurd (none_is_not v undo)))
-      (order-changed (λ _. Asked 2) s.order.key.stan slots s.order.key.stan ∙ ap (option_map (λ (x : Slot). x.order)) here)
+      (order-changed (λ _. Waiting 2) s.order.key.stan slots s.order.key.stan ∙ ap (option_map (λ (x : Slot). x.order)) here)
 
   asked-by : (s : Slot) (stage : Stage) → slot_at slots s.order.key.stan ≡ Some s → s.role ≡ Transaction stage → (r : Instruction × List Slot) → timeout_by slots s.order stage ≡ Ok r → IsSent r
-  asked-by s (Asked n) here role r e = by_tests (n == 1) (nat_lt (length slots) 999999) e
+  asked-by s (Waiting n) here role r e = by_tests (n == 1) (nat_lt (length slots) 999999) e
     where
       by_tests : (b t : Bool) →
-          ◌≡◌ {A = Result (Instruction × List Slot) AcqFault} (cond b (Ok (s.order, slots_at_stage (λ _. Asked 2) s.order.key.stan slots))
+          ◌≡◌ {A = Result (Instruction × List Slot) AcqFault} (cond b (Ok (s.order, slots_at_stage (λ _. Waiting 2) s.order.key.stan slots))
           (cond t (Ok (next_reversal slots s.order, slots_with_reversal slots s.order.key.stan (next_reversal slots s.order))) (Err NoMoreTrace))) (Ok r) → IsSent r
-      by_tests true t h = subst IsSent (ok_is (s.order, slots_at_stage (λ _. Asked 2) s.order.key.stan slots) r h) (again s n here role)
+      by_tests true t h = subst IsSent (ok_is (s.order, slots_at_stage (λ _. Waiting 2) s.order.key.stan slots) r h) (again s n here role)
       by_tests false true h =
           subst IsSent (ok_is (next_reversal slots s.order, slots_with_reversal slots s.order.key.stan (next_reversal slots s.order)) r h)
           (agreed-reversing id slots sent given entries s.order.key.stan n s (next_reversal slots s.order) w here role refl (w.slots_hold s.order.key.stan s here).own refl)
       by_tests false false h = absurd (err_not NoMoreTrace r h)
-  asked-by s (Undoing u) here role r e =
-      subst IsSent (ok_is (u, slots) r e) (agreed-sent id slots sent given entries u w ((transaction_at id slots sent given entries w s.order.key.stan s (Undoing u) here role).undone u refl))
-  asked-by s Granted here role r e = absurd (err_not Closed r e)
-  asked-by s (Denied c) here role r e = absurd (err_not Closed r e)
-  asked-by s (Undone u) here role r e = absurd (err_not Closed r e)
+  asked-by s (Reversing u) here role r e =
+      subst IsSent (ok_is (u, slots) r e) (agreed-sent id slots sent given entries u w ((transaction_at id slots sent given entries w s.order.key.stan s (Reversing u) here role).undone u refl))
+  asked-by s Approved here role r e = absurd (err_not Closed r e)
+  asked-by s (Declined c) here role r e = absurd (err_not Closed r e)
+  asked-by s (Reversed u) here role r e = absurd (err_not Closed r e)
 
   asked-in : (stan : ℕ) (s : Slot) (role : Role) → slot_at slots stan ≡ Some s → s.role ≡ role → (r : Instruction × List Slot) → timeout_in slots s.order role ≡ Ok r → IsSent r
   asked-in stan s (Transaction stage) here role r e = asked-by s stage (ap (slot_at slots) (found slots 1 stan s w.numbered here).0 ∙ here) role r e

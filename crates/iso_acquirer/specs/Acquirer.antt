@@ -11,7 +11,7 @@ use Rattle.iso_acquirer.specs.declared.slot.Slot.{Slot}
 use Rattle.iso_acquirer.specs.declared.slot.Role.{Role}
 use Rattle.iso_acquirer.specs.declared.slot.Role.TheVariants.{Transaction, Reversal}
 use Rattle.iso_acquirer.specs.declared.slot.Stage.{Stage}
-use Rattle.iso_acquirer.specs.declared.slot.Stage.TheVariants.{Asked, Undoing, Granted, Denied, Undone}
+use Rattle.iso_acquirer.specs.declared.slot.Stage.TheVariants as stage
 use Rattle.iso_acquirer.specs.declared.state.State.{State}
 use Rattle.iso_acquirer.specs.declared.state.State.TheVariants.{Waiting, Reversing, Approved, Declined, Reversed}
 
@@ -30,11 +30,11 @@ order_at slots stan = option_map (λ s. s.order) (slot_at slots stan)
 -- ---- states
 
 abbrev pub state_by : Stage → State
-state_by (Asked n) = Waiting n
-state_by (Undoing u) = Reversing
-state_by Granted = Approved
-state_by (Denied c) = Declined c
-state_by (Undone u) = Reversed
+state_by (stage.Waiting n) = Waiting n
+state_by (stage.Reversing u) = Reversing
+state_by stage.Approved = Approved
+state_by (stage.Declined c) = Declined c
+state_by (stage.Reversed u) = Reversed
 
 -- a reversal is no transaction
 abbrev pub state_in : Role → Option State
@@ -47,11 +47,11 @@ state_of slots stan = option_and_then (λ s. state_in s.role) (slot_at slots sta
 
 -- the reversal of a transaction, where there is one
 abbrev pub undo_of : Stage → Option Instruction
-undo_of (Asked n) = None
-undo_of (Undoing u) = Some u
-undo_of Granted = None
-undo_of (Denied c) = None
-undo_of (Undone u) = Some u
+undo_of (stage.Waiting n) = None
+undo_of (stage.Reversing u) = Some u
+undo_of stage.Approved = None
+undo_of (stage.Declined c) = None
+undo_of (stage.Reversed u) = Some u
 
 -- ---- changes
 
@@ -69,7 +69,7 @@ slots_at_stage step stan slots = map (λ s. if s.order.key.stan == stan then slo
 
 -- an order that is made and sent for the first time
 abbrev pub transaction_of : Instruction → Slot
-transaction_of o = record { order = o; role = Transaction (Asked 1) }
+transaction_of o = record { order = o; role = Transaction (stage.Waiting 1) }
 
 -- the reversal of the transaction of that trace number
 abbrev pub reversal_for : ℕ → Instruction → Slot
@@ -106,18 +106,18 @@ next_reversal slots o = record {
 
 -- the transaction is reversed, by an order that is made
 abbrev pub slots_with_reversal : List Slot → ℕ → Instruction → List Slot
-slots_with_reversal slots stan undo = slots_at_stage (λ _. Undoing undo) stan slots ++ reversal_for stan undo ∷ []
+slots_with_reversal slots stan undo = slots_at_stage (λ _. stage.Reversing undo) stan slots ++ reversal_for stan undo ∷ []
 
 -- the order that is sent, and what is kept: the order again, after the second time its reversal, and then that again
 abbrev pub timeout_by : List Slot → Instruction → Stage → Result (Instruction × List Slot) AcqFault
-timeout_by slots o (Asked n) =
-    if n == 1 then Ok (o, slots_at_stage (λ _. Asked 2) o.key.stan slots)
+timeout_by slots o (stage.Waiting n) =
+    if n == 1 then Ok (o, slots_at_stage (λ _. stage.Waiting 2) o.key.stan slots)
     else if nat_lt (length slots) 999999 then Ok (next_reversal slots o, slots_with_reversal slots o.key.stan (next_reversal slots o))
     else Err NoMoreTrace
-timeout_by slots o (Undoing u) = Ok (u, slots)
-timeout_by slots o Granted = Err Closed
-timeout_by slots o (Denied c) = Err Closed
-timeout_by slots o (Undone u) = Err Closed
+timeout_by slots o (stage.Reversing u) = Ok (u, slots)
+timeout_by slots o stage.Approved = Err Closed
+timeout_by slots o (stage.Declined c) = Err Closed
+timeout_by slots o (stage.Reversed u) = Err Closed
 
 abbrev pub timeout_in : List Slot → Instruction → Role → Result (Instruction × List Slot) AcqFault
 timeout_in slots o (Transaction stage) = timeout_by slots o stage
@@ -134,19 +134,19 @@ timeout slots stan = timeout_at slots (slot_at slots stan)
 
 -- the stage after an answer to the transaction's own order: 0 grants it, 94 and 96 leave it open (element 39)
 abbrev pub stage_after : ℕ → Stage → Stage
-stage_after code (Asked n) = if code == 0 then Granted else (if (code == 94) || (code == 96) then Asked n else Denied code)
-stage_after code (Undoing u) = Undoing u
-stage_after code Granted = Granted
-stage_after code (Denied c) = Denied c
-stage_after code (Undone u) = Undone u
+stage_after code (stage.Waiting n) = if code == 0 then stage.Approved else (if (code == 94) || (code == 96) then stage.Waiting n else stage.Declined code)
+stage_after code (stage.Reversing u) = stage.Reversing u
+stage_after code stage.Approved = stage.Approved
+stage_after code (stage.Declined c) = stage.Declined c
+stage_after code (stage.Reversed u) = stage.Reversed u
 
 -- the stage after an answer to its reversal
 abbrev pub stage_after_undo : ℕ → Stage → Stage
-stage_after_undo code (Asked n) = Asked n
-stage_after_undo code (Undoing u) = if code == 0 then Undone u else Undoing u
-stage_after_undo code Granted = Granted
-stage_after_undo code (Denied c) = Denied c
-stage_after_undo code (Undone u) = Undone u
+stage_after_undo code (stage.Waiting n) = stage.Waiting n
+stage_after_undo code (stage.Reversing u) = if code == 0 then stage.Reversed u else stage.Reversing u
+stage_after_undo code stage.Approved = stage.Approved
+stage_after_undo code (stage.Declined c) = stage.Declined c
+stage_after_undo code (stage.Reversed u) = stage.Reversed u
 
 -- an answer comes: to a transaction's order, or to the reversal of a transaction
 abbrev pub slots_after_answer_in : List Slot → ℕ → ℕ → Role → List Slot

@@ -15,7 +15,7 @@ use Rattle.iso_acquirer.specs.declared.slot.Slot.{Slot}
 use Rattle.iso_acquirer.specs.declared.slot.Role.{Role}
 use Rattle.iso_acquirer.specs.declared.slot.Role.TheVariants.{Transaction, Reversal}
 use Rattle.iso_acquirer.specs.declared.slot.Stage.{Stage}
-use Rattle.iso_acquirer.specs.declared.slot.Stage.TheVariants.{Asked, Undoing, Granted, Denied, Undone}
+use Rattle.iso_acquirer.specs.declared.slot.Stage.TheVariants.{Waiting, Reversing, Approved, Declined, Reversed}
 use Rattle.iso_acquirer.specs.Acquirer.{slot_at, order_at, undo_of}
 use Rattle.iso_acquirer.specs.Room.{AreNumbered}
 use Rattle.iso_acquirer.specs.World.{World}
@@ -29,11 +29,11 @@ code_at entries key = option_map (λ a. a.code) (answer_at entries key)
 
 -- a transaction's stage, against the issuer's entries
 abbrev pub IsStageOf : List Entry → TxKey → Stage → Type 0
-IsStageOf entries key (Asked n) = Unit {0}
-IsStageOf entries key (Undoing u) = Unit {0}
-IsStageOf entries key Granted = code_at entries key ≡ Some 0
-IsStageOf entries key (Denied c) = (code_at entries key ≡ Some c) × (c ≢ 0)
-IsStageOf entries key (Undone u) = is_reversed entries key ≡ true
+IsStageOf entries key (Waiting n) = Unit {0}
+IsStageOf entries key (Reversing u) = Unit {0}
+IsStageOf entries key Approved = code_at entries key ≡ Some 0
+IsStageOf entries key (Declined c) = (code_at entries key ≡ Some c) × (c ≢ 0)
+IsStageOf entries key (Reversed u) = is_reversed entries key ≡ true
 
 -- a transaction's order is a debit of class 2, and its reversal, where it has one, is made
 pub record IsTransaction (entries : List Entry) (slots : List Slot) (o : Instruction) (stage : Stage) : Type 0 where

@@ -7,7 +7,7 @@ use Rattle.iso_acquirer.specs.declared.slot.Slot.{Slot}
 use Rattle.iso_acquirer.specs.declared.slot.Role.{Role}
 use Rattle.iso_acquirer.specs.declared.slot.Role.TheVariants.{Transaction, Reversal}
 use Rattle.iso_acquirer.specs.declared.slot.Stage.{Stage}
-use Rattle.iso_acquirer.specs.declared.slot.Stage.TheVariants.{Asked, Undoing, Granted, Denied, Undone}
+use Rattle.iso_acquirer.specs.declared.slot.Stage.TheVariants.{Waiting, Reversing, Approved, Declined, Reversed}
 
 -- the orders have the trace numbers from n on
 abbrev pub AreNumbered : ℕ → List Slot → Type 0
@@ -16,11 +16,11 @@ AreNumbered n (s ∷ ss) = (s.order.key.stan ≡ n) × AreNumbered (n + 1) ss
 
 -- how many reversals of a transaction may still be made: one or none
 abbrev pub reversals_at : Stage → ℕ
-reversals_at (Asked n) = 1
-reversals_at (Undoing u) = 0
-reversals_at Granted = 0
-reversals_at (Denied c) = 0
-reversals_at (Undone u) = 0
+reversals_at (Waiting n) = 1
+reversals_at (Reversing u) = 0
+reversals_at Approved = 0
+reversals_at (Declined c) = 0
+reversals_at (Reversed u) = 0
 
 -- a reversal isn't reversed
 abbrev pub reversals_of : Role → ℕ

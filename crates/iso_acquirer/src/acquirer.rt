@@ -76,11 +76,11 @@ fn state_by(stage: Stage) -> State
     ensures { result ≡ state_by stage }
 {
     match stage {
-        Stage::Asked(count) => State::Waiting(count),
-        Stage::Undoing(_) => State::Reversing,
-        Stage::Granted => State::Approved,
-        Stage::Denied(code) => State::Declined(code),
-        Stage::Undone(_) => State::Reversed,
+        Stage::Waiting(count) => State::Waiting(count),
+        Stage::Reversing(_) => State::Reversing,
+        Stage::Approved => State::Approved,
+        Stage::Declined(code) => State::Declined(code),
+        Stage::Reversed(_) => State::Reversed,
     }
 }
 
@@ -89,8 +89,8 @@ fn reversals_at(stage: &Stage) -> usize
     ensures { result ≡ reversals_at stage.now }
 {
     match stage {
-        Stage::Asked(_) => 1,
-        Stage::Undoing(_) | Stage::Granted | Stage::Denied(_) | Stage::Undone(_) => 0,
+        Stage::Waiting(_) => 1,
+        Stage::Reversing(_) | Stage::Approved | Stage::Declined(_) | Stage::Reversed(_) => 0,
     }
 }
 
@@ -109,12 +109,12 @@ fn stage_after(stage: Stage, code: u8) -> Stage
     ensures { result ≡ stage_after code stage }
 {
     match stage {
-        Stage::Asked(count) => match code {
-            0 => Stage::Granted,
-            94 | 96 => Stage::Asked(count),
-            _ => Stage::Denied(code),
+        Stage::Waiting(count) => match code {
+            0 => Stage::Approved,
+            94 | 96 => Stage::Waiting(count),
+            _ => Stage::Declined(code),
         },
-        Stage::Undoing(_) | Stage::Granted | Stage::Denied(_) | Stage::Undone(_) => stage,
+        Stage::Reversing(_) | Stage::Approved | Stage::Declined(_) | Stage::Reversed(_) => stage,
     }
 }
 
@@ -123,14 +123,14 @@ fn stage_after_undo(stage: Stage, code: u8) -> Stage
     ensures { result ≡ stage_after_undo code stage }
 {
     match stage {
-        Stage::Undoing(undo) => {
+        Stage::Reversing(undo) => {
             if code == 0 {
-                Stage::Undone(undo)
+                Stage::Reversed(undo)
             } else {
                 stage
             }
         }
-        Stage::Asked(_) | Stage::Granted | Stage::Denied(_) | Stage::Undone(_) => stage,
+        Stage::Waiting(_) | Stage::Approved | Stage::Declined(_) | Stage::Reversed(_) => stage,
     }
 }
 
@@ -236,7 +236,7 @@ impl Acquirer {
         let order = debit(key, money);
         self.slots.push_reserved(Slot {
             order,
-            role: Role::Transaction(Stage::Asked(1)),
+            role: Role::Transaction(Stage::Waiting(1)),
         });
         self.reversals_left += 1;
         Ok(order)
@@ -272,7 +272,7 @@ impl Acquirer {
             return Err(AcqFault::NoMoreTrace);
         }
         let undo = next_reversal(used, slot.order);
-        put_stage(&mut self.slots, slot, Stage::Undoing(undo));
+        put_stage(&mut self.slots, slot, Stage::Reversing(undo));
         self.slots.push_reserved(Slot {
             order: undo,
             role: Role::Reversal(slot.order.key().stan),
@@ -310,16 +310,16 @@ impl Acquirer {
         ensures unchanged { OnErr result (self.new ≡ self.old) }
     {
         match stage {
-            Stage::Asked(count) => {
+            Stage::Waiting(count) => {
                 if count == 1 {
-                    self.bring(slot, Stage::Asked(2));
+                    self.bring(slot, Stage::Waiting(2));
                     Ok(slot.order)
                 } else {
                     self.reverse(slot)
                 }
             }
-            Stage::Undoing(undo) => Ok(undo),
-            Stage::Granted | Stage::Denied(_) | Stage::Undone(_) => Err(AcqFault::Closed),
+            Stage::Reversing(undo) => Ok(undo),
+            Stage::Approved | Stage::Declined(_) | Stage::Reversed(_) => Err(AcqFault::Closed),
         }
     }
 

@@ -6,15 +6,15 @@ use iso_order::Order;
 #[derive(Clone, Copy)]
 pub enum Stage {
     /// Its order was sent so many times, and no answer decided it.
-    Asked(u8),
-    /// This reversal of it was sent, and not answered.
-    Undoing(Order),
+    Waiting(u8),
+    /// This reversal of it was sent, and no answer granted it.
+    Reversing(Order),
     /// It was granted.
-    Granted,
+    Approved,
     /// It was refused with that code.
-    Denied(u8),
-    /// This reversal of it was answered.
-    Undone(Order),
+    Declined(u8),
+    /// This reversal of it was granted.
+    Reversed(Order),
 }
 
 /// What an order of an acquirer is.
