@@ -1,5 +1,5 @@
 -- The numbers of faults, and faults as C sees them.
-use Rattle.std.specs.Prelude.{ℕ, ◌+◌}
+use Rattle.std.specs.Prelude.{ℕ, ◌+◌, unwrap_or}
 use Rattle.iso_parts.specs.declared.fault.FieldFault.{FieldFault}
 use Rattle.iso_parts.specs.declared.fault.FieldFault.TheVariants as fields
 use Rattle.iso_parts.specs.FaultNumbers.{field_fault_number}
@@ -12,9 +12,11 @@ use Rattle.iso_wire.specs.declared.fault.SetFault.{SetFault}
 use Rattle.iso_wire.specs.declared.fault.SetFault.TheVariants as set
 use Rattle.iso_wire.specs.declared.framing.FrameFault.{FrameFault}
 use Rattle.iso_wire.specs.declared.framing.FrameFault.TheVariants as frame
+use Rattle.iso_wire.specs.FaultNames.{pack_fault_element}
 use Rattle.iso_wire.specs.FaultNumbers.{unpack_cause_number, pack_fault_number, set_fault_number, frame_fault_number}
 use Rattle.iso_table.specs.declared.fault.TableFault.{TableFault}
 use Rattle.iso_table.specs.declared.fault.TableFault.TheVariants as tables
+use Rattle.iso_table.specs.FaultNames.{table_fault_element}
 use Rattle.iso_table.specs.FaultNumbers.{table_fault_number}
 use Rattle.iso_c.specs.declared.fault.RumpadolFault.{RumpadolFault}
 
@@ -80,34 +82,14 @@ unpack_code e = 100 + unpack_cause_number e
 abbrev pub unpack_fault : UnpackFault → RumpadolFault
 unpack_fault f = record { number = unpack_code f.cause; element = f.element; offset = f.at }
 
--- the element that it tells of, or 0
-abbrev pub pack_element : PackFault → ℕ
-pack_element pack.WrongVersion = 0
-pack_element (pack.NoRow n) = n
-pack_element (pack.WrongLength n) = n
-pack_element (pack.NotInClass n) = n
-pack_element (pack.PadEnd n) = n
-pack_element pack.Memory = 0
-
+-- the element is 0 where none is named
 abbrev pub pack_fault : PackFault → RumpadolFault
 pack_fault pack.Memory = no_memory
-pack_fault e = at_element (300 + pack_fault_number e) (pack_element e)
-
-abbrev pub table_element : TableFault → ℕ
-table_element tables.NotJson = 0
-table_element tables.Shape = 0
-table_element tables.BadVersion = 0
-table_element (tables.BadNumber n) = n
-table_element (tables.Twice n) = n
-table_element (tables.BadMax n) = n
-table_element (tables.CodingClass n) = n
-table_element (tables.PadNotAllowed n) = n
-table_element tables.Profile = 0
-table_element tables.Memory = 0
+pack_fault e = at_element (300 + pack_fault_number e) (unwrap_or (pack_fault_element e) 0)
 
 abbrev pub table_fault : TableFault → RumpadolFault
 table_fault tables.Memory = no_memory
-table_fault e = at_element (400 + table_fault_number e) (table_element e)
+table_fault e = at_element (400 + table_fault_number e) (unwrap_or (table_fault_element e) 0)
 
 abbrev pub frame_fault : FrameFault → RumpadolFault
 frame_fault frame.Memory = no_memory

@@ -167,15 +167,11 @@ impl From<PackFault> for RumpadolFault {
     ghost from_gives = { λ f e. e ≡ pack_fault f };
 
     fn from(fault: PackFault) -> RumpadolFault {
-        let number = 300 + u32::from(fault.number());
-        match fault {
-            PackFault::Memory => RumpadolFault::only(MEMORY),
-            PackFault::WrongVersion => RumpadolFault::only(number),
-            PackFault::NoRow(n)
-            | PackFault::WrongLength(n)
-            | PackFault::NotInClass(n)
-            | PackFault::PadEnd(n) => RumpadolFault::at_element(number, u32::from(n)),
+        if fault == PackFault::Memory {
+            return RumpadolFault::only(MEMORY);
         }
+        let element = fault.element().unwrap_or(0);
+        RumpadolFault::at_element(300 + u32::from(fault.number()), u32::from(element))
     }
 }
 
@@ -183,19 +179,11 @@ impl From<TableFault> for RumpadolFault {
     ghost from_gives = { λ f e. e ≡ table_fault f };
 
     fn from(fault: TableFault) -> RumpadolFault {
-        let number = 400 + u32::from(fault.number());
-        match fault {
-            TableFault::Memory => RumpadolFault::only(MEMORY),
-            TableFault::NotJson
-            | TableFault::Shape
-            | TableFault::BadVersion
-            | TableFault::Profile => RumpadolFault::only(number),
-            TableFault::BadNumber(n)
-            | TableFault::Twice(n)
-            | TableFault::BadMax(n)
-            | TableFault::CodingClass(n)
-            | TableFault::PadNotAllowed(n) => RumpadolFault::at_element(number, u32::from(n)),
+        if fault == TableFault::Memory {
+            return RumpadolFault::only(MEMORY);
         }
+        let element = fault.element().unwrap_or(0);
+        RumpadolFault::at_element(400 + u32::from(fault.number()), u32::from(element))
     }
 }
 

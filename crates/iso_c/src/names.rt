@@ -9,103 +9,106 @@ use crate::fault::{
     BAD_PART, BAD_TYPE, EMPTY_SLOT, MEMORY, NO_ELEMENT, NO_SUCH_HEADER, NO_SUCH_TABLE,
     RumpadolFault, SHORT_PARTS, SHORT_ROOM, TRAILING_BYTES,
 };
+use iso_parts::FieldFault;
+use iso_table::TableFault;
+use iso_wire::{FrameFault, PackFault, SetFault, UnpackCause};
 
 /// The name of a fault of this library.
-fn own_name(number: u32) -> &'static [u8]
+fn own_name(number: u32) -> &'static str
     ensures { result.now ≡ own_name number }
 {
     match number {
-        MEMORY => b"Memory",
-        EMPTY_SLOT => b"EmptySlot",
-        NO_SUCH_TABLE => b"NoSuchTable",
-        SHORT_ROOM => b"ShortRoom",
-        TRAILING_BYTES => b"TrailingBytes",
-        NO_ELEMENT => b"NoElement",
-        BAD_PART => b"BadPart",
-        BAD_TYPE => b"BadType",
-        NO_SUCH_HEADER => b"NoSuchHeader",
-        SHORT_PARTS => b"ShortParts",
-        _ => b"",
+        MEMORY => "Memory",
+        EMPTY_SLOT => "EmptySlot",
+        NO_SUCH_TABLE => "NoSuchTable",
+        SHORT_ROOM => "ShortRoom",
+        TRAILING_BYTES => "TrailingBytes",
+        NO_ELEMENT => "NoElement",
+        BAD_PART => "BadPart",
+        BAD_TYPE => "BadType",
+        NO_SUCH_HEADER => "NoSuchHeader",
+        SHORT_PARTS => "ShortParts",
+        _ => "",
     }
 }
 
 /// The name of what is wrong with a message's bytes.
-fn unpack_name(number: u32) -> &'static [u8]
+fn unpack_name(number: u32) -> &'static str
     ensures { result.now ≡ unpack_name number }
 {
     match number {
-        101 => b"Short",
-        102 => b"BadMti",
-        103 => b"WrongVersion",
-        104 => b"BadHex",
-        105 => b"ThirdBitmap",
-        106 => b"UnknownElement",
-        _ => b"",
+        101 => UnpackCause::Short.name(),
+        102 => UnpackCause::BadMti.name(),
+        103 => UnpackCause::WrongVersion.name(),
+        104 => UnpackCause::BadHex.name(),
+        105 => UnpackCause::ThirdBitmap.name(),
+        106 => UnpackCause::UnknownElement(0).name(),
+        _ => "",
     }
 }
 
 /// The name of a field's fault.
-fn field_name(number: u32) -> &'static [u8]
+fn field_name(number: u32) -> &'static str
     ensures { result.now ≡ field_name number }
 {
     match number {
-        201 => b"WrongLength",
-        202 => b"NotInClass",
-        203 => b"PadEnd",
-        204 => b"BadLengthDigits",
-        205 => b"LengthOver",
-        206 => b"BadFiller",
-        207 => b"BadHex",
-        _ => b"",
+        201 => FieldFault::WrongLength.name(),
+        202 => FieldFault::NotInClass.name(),
+        203 => FieldFault::PadEnd.name(),
+        204 => FieldFault::BadLengthDigits.name(),
+        205 => FieldFault::LengthOver.name(),
+        206 => FieldFault::BadFiller.name(),
+        207 => FieldFault::BadHex.name(),
+        _ => "",
     }
 }
 
 /// The name of why a message has no spelling, or why a value isn't taken.
-fn pack_name(number: u32) -> &'static [u8]
+fn pack_name(number: u32) -> &'static str
     ensures { result.now ≡ pack_name number }
 {
     match number {
-        301 => b"WrongVersion",
-        302 => b"NoRow",
-        303 => b"WrongLength",
-        304 => b"NotInClass",
-        305 => b"PadEnd",
-        601 => b"BadNumber",
-        _ => b"",
+        301 => PackFault::WrongVersion.name(),
+        302 => PackFault::NoRow(0).name(),
+        303 => PackFault::WrongLength(0).name(),
+        304 => PackFault::NotInClass(0).name(),
+        305 => PackFault::PadEnd(0).name(),
+        601 => SetFault::BadNumber(0).name(),
+        _ => "",
     }
 }
 
 /// The name of why a text is no table.
-fn table_name(number: u32) -> &'static [u8]
+fn table_name(number: u32) -> &'static str
     ensures { result.now ≡ table_name number }
 {
     match number {
-        401 => b"NotJson",
-        402 => b"Shape",
-        403 => b"BadVersion",
-        404 => b"BadNumber",
-        405 => b"Twice",
-        406 => b"BadMax",
-        407 => b"CodingClass",
-        408 => b"PadNotAllowed",
-        409 => b"Profile",
-        _ => b"",
+        401 => TableFault::NotJson.name(),
+        402 => TableFault::Shape.name(),
+        403 => TableFault::BadVersion.name(),
+        404 => TableFault::BadNumber(0).name(),
+        405 => TableFault::Twice(0).name(),
+        406 => TableFault::BadMax(0).name(),
+        407 => TableFault::CodingClass(0).name(),
+        408 => TableFault::PadNotAllowed(0).name(),
+        409 => TableFault::Profile.name(),
+        _ => "",
     }
 }
 
 /// The name of a frame's fault.
-fn frame_name(number: u32) -> &'static [u8]
+fn frame_name(number: u32) -> &'static str
     ensures { result.now ≡ frame_name number }
 {
     match number {
-        501 => b"TooLong",
-        502 => b"BadDigits",
-        _ => b"",
+        501 => FrameFault::TooLong.name(),
+        502 => FrameFault::BadDigits.name(),
+        _ => "",
     }
 }
 
 /// The name of a fault; no bytes where no fault has the number.
-fn name_of(number: u32) -> &'static [u8]
+fn name_of(number: u32) -> &'static str
     ensures { result.now ≡ name_of number }
 {
     match number {
@@ -126,5 +129,5 @@ pub extern "C" fn rumpadol_fault_name(number: u32, out: &mut [u8], fault: &mut R
     ensures reply { RepliesTo (Ok (name_of number)) result out.old out.new fault.new }
     ensures kept { KeepsFault result fault.old fault.new }
 {
-    answer_bytes(name_of(number), out, fault)
+    answer_bytes(name_of(number).as_bytes(), out, fault)
 }

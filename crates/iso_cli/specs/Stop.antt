@@ -1,5 +1,11 @@
 -- How each way to stop is told.
-use Rattle.std.specs.Prelude.{◌≡◌, ℕ, List, [], ◌∷◌, ◌++◌, take, Option, Some, None, MatchOption, option_map, codes}
+use Rattle.std.specs.Prelude.{ℕ, List, [], ◌∷◌, ◌++◌, Option, Some, None, option_map, unwrap_or, codes}
+use Rattle.std.specs.Fmt.{decimal}
+use Rattle.iso_table.specs.FaultNames.{table_fault_name, table_fault_element, host_table_fault_name, host_table_fault_element}
+use Rattle.iso_wire.specs.FaultNames.{unpack_cause_name, pack_fault_name, pack_fault_element}
+use Rattle.iso_wire.specs.declared.fault.UnpackFault.{UnpackFault}
+use Rattle.iso_issuer.specs.FaultNames.{accounts_fault_name, accounts_fault_account}
+use Rattle.iso_issuer.specs.declared.fault.AccountsFault.{AccountsFault}
 use Rattle.iso_host.specs.declared.fault.ServeFault.{ServeFault}
 use Rattle.iso_host.specs.declared.fault.ServeFault.TheVariants as serving
 use Rattle.iso_cli.specs.declared.stop.Stop.{Stop}
@@ -51,13 +57,40 @@ stop_text (Pack fault) = None
 abbrev pub stop_line : Stop → Option (List ℕ)
 stop_line stop = option_map (λ text. text ++ 10 ∷ []) (stop_text stop)
 
--- it begins so
-abbrev pub IsRefusalLine : List ℕ → Type 0
-IsRefusalLine line = take 9 line ≡ codes "refused: "
+-- the end of a line, with the element that is named
+abbrev pub element_end : Option ℕ → List ℕ
+element_end None = codes "\n"
+element_end (Some n) = codes " element " ++ (decimal n ++ codes "\n")
 
--- the fault line of a stop; of one that names a further fault, a line that says so
-abbrev pub IsLineOf : Stop → List ℕ → Type 0
-IsLineOf stop line = MatchOption (stop_line stop) (IsRefusalLine line) (λ known. line ≡ known)
+-- the line of a fault that names an element, or none
+abbrev pub named_line : List ℕ → List ℕ → Option ℕ → List ℕ
+named_line what name element = codes "refused: " ++ (what ++ (codes " " ++ (name ++ element_end element)))
+
+-- the end of a line, with the account that is named, counted from 0
+abbrev pub account_end : Option ℕ → List ℕ
+account_end None = codes "\n"
+account_end (Some i) = codes " " ++ (decimal i ++ codes "\n")
+
+abbrev pub accounts_line : AccountsFault → List ℕ
+accounts_line fault = codes "refused: accounts " ++ (accounts_fault_name fault ++ account_end (accounts_fault_account fault))
+
+-- the line of where bytes stop being a message: why, at which element, and at which offset
+abbrev pub unpack_line : UnpackFault → List ℕ
+unpack_line fault =
+    codes "refused: unpack " ++ (unpack_cause_name fault.cause ++ (codes " element " ++ (decimal fault.element ++ (codes " at " ++ (decimal fault.at ++ codes "\n")))))
+
+-- the line of a stop that names a fault of a table, of accounts, of an input or of a message
+abbrev pub refusal_line : Stop → List ℕ
+refusal_line (Table fault) = named_line (codes "table") (table_fault_name fault) (table_fault_element fault)
+refusal_line (Host fault) = named_line (codes "host") (host_table_fault_name fault) (host_table_fault_element fault)
+refusal_line (Pack fault) = named_line (codes "pack") (pack_fault_name fault) (pack_fault_element fault)
+refusal_line (Accounts fault) = accounts_line fault
+refusal_line (Unpack fault) = unpack_line fault
+refusal_line stop = []
+
+-- the fault line of a stop
+abbrev pub line_of : Stop → List ℕ
+line_of stop = unwrap_or (stop_line stop) (refusal_line stop)
 
 -- the stop that a fault of an input is
 abbrev pub stop_of_input : InputFault → Stop

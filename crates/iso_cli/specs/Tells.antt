@@ -8,7 +8,7 @@ use Rattle.iso_host.specs.declared.fault.Report.{Report}
 use Rattle.iso_cli.specs.Connections.{report_text}
 use Rattle.iso_cli.specs.declared.stop.Stop.{Stop}
 use Rattle.iso_cli.specs.declared.stop.Stop.TheVariants.{Memory}
-use Rattle.iso_cli.specs.Stop.{status_of, stop_line, IsLineOf}
+use Rattle.iso_cli.specs.Stop.{status_of, stop_line, line_of}
 
 -- the whole line was written, no call failed, and the status is the stop's own
 pub record LineTold (held written : Option (List ℕ)) (old new : Counts) (line : List ℕ) (status given : ℕ) : Type 0 where
@@ -34,12 +34,12 @@ TellsAs held written old new stop status given = IfSome (stop_line stop) (λ lin
 abbrev pub Tells : Option (List ℕ) → Option (List ℕ) → Counts → Counts → Stop → ℕ → Type 0
 Tells held written old new stop given = TellsAs held written old new stop (status_of stop) given
 
--- a line of the stop, with this status; or that there is no memory for it, with 3
+-- the line of the stop, with this status; or that there is no memory for it, with 3
 abbrev pub TellsLineOf : Option (List ℕ) → Option (List ℕ) → Counts → Counts → Stop → ℕ → ℕ → Type 0
 TellsLineOf held written old new stop status given =
-    ((line : List ℕ) × IsLineOf stop line × TellsLine held written old new line status given) ⊎ Tells held written old new Memory given
+    TellsLine held written old new (line_of stop) status given ⊎ Tells held written old new Memory given
 
--- a line of one stop, and the status that fits it
+-- the line of one stop, and the status that fits it
 abbrev pub TellsStop : Option (List ℕ) → Option (List ℕ) → Counts → Counts → ℕ → Type 0
 TellsStop held written old new given = (stop : Stop) × TellsLineOf held written old new stop (status_of stop) given
 

@@ -12,4 +12,5 @@ pub mod Index
 pub mod Found
 pub mod Document
 pub mod Laws
+pub mod FaultNames
 pub mod FaultNumbers

@@ -3,6 +3,7 @@
 ghost use Rattle.std.specs.Prelude.{◌≡◌};
 ghost use Rattle.iso_issuer.specs.declared.fault.AccountsFault.TheVariants as accounts;
 ghost use Rattle.iso_issuer.specs.declared.fault.Refused.TheVariants as refused;
+ghost use Rattle.iso_issuer.specs.FaultNames.{accounts_fault_name, accounts_fault_account};
 ghost use Rattle.iso_issuer.specs.FaultNumbers.{accounts_fault_number, refused_number};
 
 use std::alloc::{AllocError, AllocFailed};
@@ -51,6 +52,29 @@ impl AccountsFault {
             AccountsFault::Twice(_) => 3,
             AccountsFault::OutOfRange(_) => 4,
             AccountsFault::Memory => 5,
+        }
+    }
+
+    /// The fault's name, as fault lines tell it.
+    pub fn name(&self) -> &'static str
+        ensures { result.now ≡ accounts_fault_name self.now }
+    {
+        match self {
+            AccountsFault::NotJson => "NotJson",
+            AccountsFault::Shape => "Shape",
+            AccountsFault::Twice(_) => "Twice",
+            AccountsFault::OutOfRange(_) => "OutOfRange",
+            AccountsFault::Memory => "Memory",
+        }
+    }
+
+    /// The account that the fault names, counted from 0, if it names one.
+    pub fn account(&self) -> Option<usize>
+        ensures { result ≡ accounts_fault_account self.now }
+    {
+        match self {
+            AccountsFault::Twice(i) | AccountsFault::OutOfRange(i) => Some(*i),
+            AccountsFault::NotJson | AccountsFault::Shape | AccountsFault::Memory => None,
         }
     }
 }

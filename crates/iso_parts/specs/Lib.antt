@@ -5,6 +5,7 @@ pub mod Bitmap
 pub mod Bits
 pub mod Numbers
 pub mod BitmapReading
+pub mod FaultNames
 pub mod FaultNumbers
 pub mod Digits
 pub mod Part

@@ -36,6 +36,7 @@ pub enum FieldFault {
 }
 
 impl FieldFault {
+    ghost use Rattle.iso_parts.specs.FaultNames.{field_fault_name};
     ghost use Rattle.iso_parts.specs.FaultNumbers.{field_fault_number};
 
     /// The fault's number, as logs and monitors show it: from 1 to 8, in the order of the variants.
@@ -51,6 +52,22 @@ impl FieldFault {
             FieldFault::BadFiller => 6,
             FieldFault::BadHex => 7,
             FieldFault::Memory => 8,
+        }
+    }
+
+    /// The fault's name, as fault lines tell it.
+    pub fn name(&self) -> &'static str
+        ensures { result.now ≡ field_fault_name self.now }
+    {
+        match self {
+            FieldFault::WrongLength => "WrongLength",
+            FieldFault::NotInClass => "NotInClass",
+            FieldFault::PadEnd => "PadEnd",
+            FieldFault::BadLengthDigits => "BadLengthDigits",
+            FieldFault::LengthOver => "LengthOver",
+            FieldFault::BadFiller => "BadFiller",
+            FieldFault::BadHex => "BadHex",
+            FieldFault::Memory => "Memory",
         }
     }
 }

@@ -5,4 +5,5 @@ pub mod Edition87
 pub mod Members
 pub mod Document
 pub mod HostReady
+pub mod FaultNames
 pub mod FaultNumbers

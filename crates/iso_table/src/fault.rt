@@ -3,6 +3,7 @@
 ghost use Rattle.std.specs.Prelude.{◌≡◌};
 ghost use Rattle.iso_table.specs.declared.fault.TableFault.TheVariants.{Memory};
 ghost use Rattle.iso_table.specs.Accepted.{as_table_fault};
+ghost use Rattle.iso_table.specs.FaultNames.{table_fault_name, table_fault_element, host_table_fault_name, host_table_fault_element};
 ghost use Rattle.iso_table.specs.FaultNumbers.{table_fault_number, host_table_fault_number};
 
 use iso_parts::SpecFault;
@@ -110,6 +111,42 @@ impl TableFault {
         }
     }
 
+    /// The fault's name, as fault lines tell it.
+    pub fn name(&self) -> &'static str
+        ensures { result.now ≡ table_fault_name self.now }
+    {
+        match self {
+            TableFault::NotJson => "NotJson",
+            TableFault::Shape => "Shape",
+            TableFault::BadVersion => "BadVersion",
+            TableFault::BadNumber(_) => "BadNumber",
+            TableFault::Twice(_) => "Twice",
+            TableFault::BadMax(_) => "BadMax",
+            TableFault::CodingClass(_) => "CodingClass",
+            TableFault::PadNotAllowed(_) => "PadNotAllowed",
+            TableFault::Profile => "Profile",
+            TableFault::Memory => "Memory",
+        }
+    }
+
+    /// The element that the fault names, if it names one.
+    pub fn element(&self) -> Option<u16>
+        ensures { result ≡ table_fault_element self.now }
+    {
+        match self {
+            TableFault::BadNumber(n)
+            | TableFault::Twice(n)
+            | TableFault::BadMax(n)
+            | TableFault::CodingClass(n)
+            | TableFault::PadNotAllowed(n) => Some(*n),
+            TableFault::NotJson
+            | TableFault::Shape
+            | TableFault::BadVersion
+            | TableFault::Profile
+            | TableFault::Memory => None,
+        }
+    }
+
     /// The fault of the row with this number.
     pub(crate) fn of_row(number: u16, fault: SpecFault) -> TableFault
         ensures { result ≡ as_table_fault number fault }
@@ -131,6 +168,27 @@ impl HostTableFault {
             HostTableFault::NotVersion0 => 1,
             HostTableFault::NoRow(_) => 2,
             HostTableFault::RowShape(_) => 3,
+        }
+    }
+
+    /// The fault's name, as fault lines tell it.
+    pub fn name(&self) -> &'static str
+        ensures { result.now ≡ host_table_fault_name self.now }
+    {
+        match self {
+            HostTableFault::NotVersion0 => "NotVersion0",
+            HostTableFault::NoRow(_) => "NoRow",
+            HostTableFault::RowShape(_) => "RowShape",
+        }
+    }
+
+    /// The element that the fault names, if it names one.
+    pub fn element(&self) -> Option<u8>
+        ensures { result ≡ host_table_fault_element self.now }
+    {
+        match self {
+            HostTableFault::NoRow(n) | HostTableFault::RowShape(n) => Some(*n),
+            HostTableFault::NotVersion0 => None,
         }
     }
 }

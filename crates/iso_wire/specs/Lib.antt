@@ -17,6 +17,7 @@ pub mod Unpacker
 pub mod Taking
 pub mod Viewing
 pub mod Bodies
+pub mod FaultNames
 pub mod FaultNumbers
 pub mod Masking
 pub mod Debugging

@@ -86,6 +86,7 @@ pub struct UnpackFault {
 }
 
 impl SetFault {
+    ghost use Rattle.iso_wire.specs.FaultNames.{set_fault_name};
     ghost use Rattle.iso_wire.specs.FaultNumbers.{set_fault_number};
 
     /// The fault's number, as logs and monitors show it: from 1 to 2, in the order of the variants.
@@ -97,9 +98,20 @@ impl SetFault {
             SetFault::Memory => 2,
         }
     }
+
+    /// The fault's name, as fault lines tell it.
+    pub fn name(&self) -> &'static str
+        ensures { result.now ≡ set_fault_name self.now }
+    {
+        match self {
+            SetFault::BadNumber(_) => "BadNumber",
+            SetFault::Memory => "Memory",
+        }
+    }
 }
 
 impl PackFault {
+    ghost use Rattle.iso_wire.specs.FaultNames.{pack_fault_name, pack_fault_element};
     ghost use Rattle.iso_wire.specs.FaultNumbers.{pack_fault_number};
 
     /// The fault's number, as logs and monitors show it: from 1 to 6, in the order of the variants.
@@ -115,9 +127,37 @@ impl PackFault {
             PackFault::Memory => 6,
         }
     }
+
+    /// The fault's name, as fault lines tell it.
+    pub fn name(&self) -> &'static str
+        ensures { result.now ≡ pack_fault_name self.now }
+    {
+        match self {
+            PackFault::WrongVersion => "WrongVersion",
+            PackFault::NoRow(_) => "NoRow",
+            PackFault::WrongLength(_) => "WrongLength",
+            PackFault::NotInClass(_) => "NotInClass",
+            PackFault::PadEnd(_) => "PadEnd",
+            PackFault::Memory => "Memory",
+        }
+    }
+
+    /// The element that the fault names, if it names one.
+    pub fn element(&self) -> Option<u8>
+        ensures { result ≡ pack_fault_element self.now }
+    {
+        match self {
+            PackFault::NoRow(n)
+            | PackFault::WrongLength(n)
+            | PackFault::NotInClass(n)
+            | PackFault::PadEnd(n) => Some(*n),
+            PackFault::WrongVersion | PackFault::Memory => None,
+        }
+    }
 }
 
 impl UnpackCause {
+    ghost use Rattle.iso_wire.specs.FaultNames.{unpack_cause_name};
     ghost use Rattle.iso_wire.specs.FaultNumbers.{unpack_cause_number};
 
     /// The fault's number, as logs and monitors show it: from 1 to 8, in the order of the variants.
@@ -133,6 +173,22 @@ impl UnpackCause {
             UnpackCause::UnknownElement(_) => 6,
             UnpackCause::Field(_) => 7,
             UnpackCause::Memory => 8,
+        }
+    }
+
+    /// The fault's name, as fault lines tell it: of a field's fault that fault's own name.
+    pub fn name(&self) -> &'static str
+        ensures { result.now ≡ unpack_cause_name self.now }
+    {
+        match self {
+            UnpackCause::Short => "Short",
+            UnpackCause::BadMti => "BadMti",
+            UnpackCause::WrongVersion => "WrongVersion",
+            UnpackCause::BadHex => "BadHex",
+            UnpackCause::ThirdBitmap => "ThirdBitmap",
+            UnpackCause::UnknownElement(_) => "UnknownElement",
+            UnpackCause::Field(fault) => fault.name(),
+            UnpackCause::Memory => "Memory",
         }
     }
 }

@@ -27,6 +27,7 @@ pub enum FrameFault {
 }
 
 impl FrameFault {
+    ghost use Rattle.iso_wire.specs.FaultNames.{frame_fault_name};
     ghost use Rattle.iso_wire.specs.FaultNumbers.{frame_fault_number};
 
     /// The fault's number, as logs and monitors show it: from 1 to 3, in the order of the variants.
@@ -37,6 +38,17 @@ impl FrameFault {
             FrameFault::TooLong => 1,
             FrameFault::BadDigits => 2,
             FrameFault::Memory => 3,
+        }
+    }
+
+    /// The fault's name, as fault lines tell it.
+    pub fn name(&self) -> &'static str
+        ensures { result.now ≡ frame_fault_name self.now }
+    {
+        match self {
+            FrameFault::TooLong => "TooLong",
+            FrameFault::BadDigits => "BadDigits",
+            FrameFault::Memory => "Memory",
         }
     }
 }
