@@ -2,6 +2,7 @@
 
 ghost use Rattle.std.specs.Prelude.{◌≡◌, ◌≤◌, [], map, OnOk};
 ghost use Rattle.iso_cli.specs.Echo.{EchoesOver};
+ghost use Rattle.iso_cli.specs.Check.{ChecksAsked};
 ghost use Rattle.iso_cli.specs.Convert.{ConvertsAsked};
 ghost use Rattle.iso_cli.specs.Run.{RunsAsked};
 ghost use Rattle.iso_cli.specs.Show.{ShowsAsked};
@@ -29,6 +30,8 @@ fn perform<S: Source, I: Inlet, O: Outlet>(
 ) -> Result<Option<Report>, Stop>
     ensures echo { words.now ≡ []
         → OnOk result (EchoesOver (I.remaining input.old) (O.contents output.old) (O.contents output.new)) }
+    ensures check { OnOk result (ChecksAsked (map (λ w. w.now) words.now) (S.file source.now)
+        (O.contents output.old) (O.contents output.new)) }
     ensures show { OnOk result (ShowsAsked (map (λ w. w.now) words.now) (S.file source.now)
         (I.remaining input.old) (O.contents output.old) (O.contents output.new)) }
     ensures convert { OnOk result (ConvertsAsked (map (λ w. w.now) words.now) (S.file source.now)
@@ -64,6 +67,9 @@ pub fn act<S: Source, I: Inlet, O: Outlet, F: Outlet>(
     // the message decides, or `none`.
     ensures echo { words.now ≡ [] → result ≡ 0
         → EchoesOver (I.remaining input.old) (O.contents output.old) (O.contents output.new) }
+    // `check`: the line of the table that is named: its version, how many rows it has, and how many bytes a message may take.
+    ensures check { result ≡ 0 → ChecksAsked (map (λ w. w.now) words.now) (S.file source.now)
+        (O.contents output.old) (O.contents output.new) }
     // `show`: the lines of the message that the input begins with; what a bystander shouldn't read is hidden without `--clear`.
     ensures show { result ≡ 0 → ShowsAsked (map (λ w. w.now) words.now) (S.file source.now)
         (I.remaining input.old) (O.contents output.old) (O.contents output.new) }

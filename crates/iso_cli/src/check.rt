@@ -1,11 +1,23 @@
 //! What a table is.
 
+ghost use Rattle.std.specs.Prelude.{◌≡◌, IfOk, OnOk, string_bytes};
+ghost use Rattle.iso_cli.specs.Check.{ChecksOver, table_line};
+
 use crate::source::Source;
 use crate::stop::Stop;
 use crate::streaming::write_output;
 use crate::tables::table_named;
 use iso_host::Outlet;
-use std::alloc::Global;
+use iso_table::Table;
+use std::alloc::{AllocError, Global};
+
+/// The line of a table.
+fn line_of(alloc: Global, table: &Table) -> Result<String, AllocError>
+    ensures { IfOk result (λ line. string_bytes line ≡ table_line table.now) }
+{
+    let (version, rows, max) = (table.version(), table.rows(), table.max_bytes());
+    format!(in alloc; "OK version={version} rows={rows} max={max}\n")
+}
 
 /// Writes the version of a good table, how many rows it has, and how many bytes a message may take.
 pub fn check<S: Source, O: Outlet>(
@@ -13,9 +25,10 @@ pub fn check<S: Source, O: Outlet>(
     table: &str,
     source: &S,
     output: &mut O,
-) -> Result<(), Stop> {
+) -> Result<(), Stop>
+    ensures { OnOk result (ChecksOver (S.file source.now) table.now (O.contents output.old) (O.contents output.new)) }
+{
     let table = table_named(alloc, source, table)?;
-    let (version, rows, max) = (table.version(), table.rows(), table.max_bytes());
-    let line = format!(in alloc; "OK version={version} rows={rows} max={max}\n")?;
+    let line = line_of(alloc, &table)?;
     write_output(output, line.as_bytes())
 }
