@@ -6,6 +6,7 @@ ghost use Rattle.iso_table.specs.Document.{IsTableOf};
 ghost use Rattle.iso_c.specs.Answers.{Done, KeepsFault};
 ghost use Rattle.iso_c.specs.FaultNumbers.{no_memory};
 ghost use Rattle.iso_c.specs.Slot.{slot, slot_lies_at, slot_bytes, IsBuiltIn, IsBuiltInFault, IsTableFault};
+ghost use Rattle.std.specs.Mem.{type_size};
 ghost use Rattle.std.specs.Ptr.{room_at};
 ghost use types.Logic.{sem};
 
@@ -52,7 +53,8 @@ fn none() -> Option<Table>
 /// How many bytes of a slot's memory are used. They are aligned to 8.
 #[unsafe(no_mangle)]
 pub extern "C" fn rumpadol_slot_size() -> usize
-    ensures { result ≤ slot_bytes }
+    ensures exact { result ≡ type_size slot }
+    ensures room { result ≤ slot_bytes }
 {
     TAKEN
 }
