@@ -22,10 +22,7 @@ macro_rules! key {
     };
 }
 
-mod agreement;
-mod draws;
 mod faults;
-mod generated;
 mod schedules;
 mod transactions;
 
@@ -33,9 +30,6 @@ mod transactions;
 const ID: u64 = 12_345;
 
 const SENT: u64 = 102_030_405;
-
-/// The number of the other account.
-const OTHER: &[u8] = b"01";
 
 fn account() -> Result<Pan, Fail> {
     pan(ACCOUNT)

@@ -13,12 +13,9 @@ mod asking;
 mod days;
 mod documents;
 mod faults;
-mod generated;
 mod holds;
 mod laws;
-mod reordered;
 mod replacements;
-mod scanning;
 mod wire;
 
 const fn key(base: u16, stan: u32) -> TxKey {
