@@ -1,9 +1,9 @@
 //! What an issuer answers to orders, and what is on its accounts then.
 use crate::accounts::{ACCOUNT, money, pan};
-use Expected::{Declined, Granted, Shows};
+use Expected::{Declined, Full, Granted, Shows};
 use asking::Ask::*;
 use asking::*;
-use iso_fakes::{check, check_of};
+use iso_fakes::check;
 use iso_issuer::{Accounts, AccountsFault, Issuer, Refused};
 use iso_order::{Act, Answer, Money, Order, Pan, TxKey};
 use std::alloc::Global;
@@ -27,51 +27,82 @@ const fn key(base: u16, stan: u32) -> TxKey {
     }
 }
 
-/// The answer that a table expects: its place in the journal, and a code other than 0 or what is shown.
+/// What a table expects: an answer's place in the journal, and a code other than 0 or what is shown; or a full journal.
 #[derive(Clone, Copy)]
 enum Expected {
     Granted(u32),
     Declined(u8, u32),
     Shows(u32, i64),
+    Full,
 }
 
-fn reply(expected: Expected) -> Reply {
+fn reply(expected: Expected) -> Result<Reply, Refused> {
     match expected {
-        Granted(seq) => (0, seq, None),
-        Declined(code, seq) => (code, seq, None),
-        Shows(seq, amount) => (0, seq, Some(amount)),
+        Granted(seq) => Ok((0, seq, None)),
+        Declined(code, seq) => Ok((code, seq, None)),
+        Shows(seq, amount) => Ok((0, seq, Some(amount))),
+        Full => Err(Refused::Full),
+    }
+}
+
+/// The place in the journal, where one is told.
+fn place(expected: Expected) -> u32 {
+    match expected {
+        Granted(seq) | Declined(_, seq) | Shows(seq, _) => seq,
+        Full => 0,
     }
 }
 
 /// A name, what is asked, its answer, and the ledger and the available amount after it.
 type Step = (&'static str, Ask, Expected, (i64, i64));
 
-/// The answer to what is asked, and what is on the account then.
-fn step(issuer: &mut Issuer, asked: Ask) -> Result<(Reply, OnAccount), Fail> {
-    let told = reply_to(issuer, asked)??;
-    Ok((told, balances(issuer)?))
+/// A day of the account: how many orders the journal takes, what is on the account at first, and what is asked.
+#[derive(Clone, Copy)]
+struct Day {
+    name: &'static str,
+    limit: u32,
+    opening: i64,
+    steps: &'static [Step],
 }
 
-fn is_reply(told: Reply, expected: Expected) -> bool {
-    told == reply(expected)
+/// How many orders a journal can take at most.
+const MOST_ORDERS: u32 = 999_999;
+
+/// How many orders were entered, and the ledger and what is available.
+type Books = (u32, OnAccount);
+
+/// What is in the books of an issuer.
+fn books(issuer: &Issuer) -> Result<Books, Fail> {
+    Ok((entries(issuer), balances(issuer)?))
 }
 
-fn is_left(left: OnAccount, ledger: i64, available: i64) -> bool {
-    left == (Some(ledger), Some(available))
+/// Whether that is told of what is asked. Where memory runs out, the test ends.
+fn is_told(issuer: &mut Issuer, asked: Ask, expected: Expected) -> Result<bool, Fail> {
+    match reply_to(issuer, asked)? {
+        Err(Refused::Memory) => Err("memory ran out")?,
+        told => Ok(told == reply(expected)),
+    }
 }
 
-/// Hands what is asked, one after the other, to an issuer that never was asked before.
-fn play(alloc: Global, opening: i64, steps: &[Step]) -> Result<(), Fail> {
-    let mut issuer = issuer(alloc, opening, 999_999)?;
-    play_on(&mut issuer, steps)
+/// Ends the test with the name of a day, of a step and of what was compared, unless it is so.
+fn check_step(is_so: bool, day: &str, step: &str, what: &str) -> Result<(), Fail> {
+    if is_so {
+        Ok(())
+    } else {
+        Err(Fail::new(format_args!("{day}, {step}: {what}")))
+    }
 }
 
-/// Hands what is asked to an issuer, and compares each answer, and what is on the account then.
-fn play_on(issuer: &mut Issuer, steps: &[Step]) -> Result<(), Fail> {
+/// Hands what is asked to an issuer, and compares each answer, and what is in the books then: as many orders as the
+/// last place that was told.
+fn play_on(issuer: &mut Issuer, day: &str, steps: &[Step]) -> Result<(), Fail> {
+    let mut count = 0;
     for (name, asked, expected, (ledger, available)) in steps {
-        let (told, left) = step(issuer, *asked)?;
-        check_of(is_reply(told, *expected), *name, "the answer")?;
-        check_of(is_left(left, *ledger, *available), *name, "the account")?;
+        let is_told = is_told(issuer, *asked, *expected)?;
+        check_step(is_told, day, *name, "the answer")?;
+        count = count.max(place(*expected));
+        let is_left = books(issuer)? == (count, (Some(*ledger), Some(*available)));
+        check_step(is_left, day, *name, "the books")?;
     }
     Ok(())
 }
@@ -91,114 +122,58 @@ fn issuer(alloc: Global, opening: i64, limit: u32) -> Result<Issuer, Fail> {
     Ok(Issuer::new(account_of(alloc, opening)?, limit))
 }
 
-/// How many orders were entered, and the ledger and what is available.
-type Books = (u32, OnAccount);
-
-/// A name, what is asked, and its answer.
-type New = (&'static str, Ask, Reply);
-
-/// A name, what is asked, and its answer or refusal.
-type Other = (&'static str, Ask, Result<Reply, Refused>);
-
-/// Hands new orders to an issuer of this limit, then others, whose answers may be refusals, and compares what is
-/// told of each and what is in the books at the end.
-fn play_up_to(
-    alloc: Global,
-    limit: u32,
-    new: &[New],
-    others: &[Other],
-    books: Books,
-) -> Result<(), Fail> {
-    let mut issuer = issuer(alloc, 100, limit)?;
-    check_new(&mut issuer, new)?;
-    check_replies(&mut issuer, others)?;
-    check_books(&issuer, "the books at the end", books)
+/// Plays a day on an issuer that never was asked before.
+fn play_day(alloc: Global, day: &Day) -> Result<(), Fail> {
+    let mut issuer = issuer(alloc, day.opening, day.limit)?;
+    play_on(&mut issuer, day.name, day.steps)
 }
 
-/// Whether an order is taken, and gets that answer.
-fn is_answered(issuer: &mut Issuer, asked: Ask, told: Reply) -> Result<bool, Fail> {
-    Ok(reply_to(issuer, asked)?? == told)
-}
-
-/// Hands new orders to an issuer, and compares their answers.
-fn check_new(issuer: &mut Issuer, rows: &[New]) -> Result<(), Fail> {
-    for (name, asked, told) in rows {
-        check(is_answered(issuer, *asked, *told)?, *name)?;
+/// Plays days, each by itself.
+fn play(alloc: Global, days: &[Day]) -> Result<(), Fail> {
+    for day in days {
+        play_day(alloc, day)?;
     }
     Ok(())
 }
 
-fn has_books(issuer: &Issuer, books: Books) -> Result<bool, Fail> {
-    Ok((entries(issuer), balances(issuer)?) == books)
-}
-
-/// Compares how many orders were entered, and what is on the account.
-fn check_books(issuer: &Issuer, name: &str, books: Books) -> Result<(), Fail> {
-    check(has_books(issuer, books)?, name)
-}
-
-/// Whether an order gets that answer, or that refusal.
-fn is_told(issuer: &mut Issuer, asked: Ask, told: Result<Reply, Refused>) -> Result<bool, Fail> {
-    Ok(reply_to(issuer, asked)? == told)
-}
-
-/// Hands orders to an issuer, and compares their answers and refusals.
-fn check_replies(issuer: &mut Issuer, rows: &[Other]) -> Result<(), Fail> {
-    for (name, asked, told) in rows {
-        check(is_told(issuer, *asked, *told)?, *name)?;
-    }
-    Ok(())
-}
+const LIMITS: &[Day] = &[
+    Day {
+        name: "a limit of one",
+        limit: 1,
+        opening: 100,
+        steps: &[
+            ("a purchase", Debit(200, 1, 10), Granted(1), (90, 90)),
+            ("one above the limit", Debit(200, 2, 10), Full, (90, 90)),
+            (
+                "the purchase again",
+                Debit(200, 1, 10),
+                Granted(1),
+                (90, 90),
+            ),
+        ],
+    },
+    Day {
+        name: "a limit of two",
+        limit: 2,
+        opening: 100,
+        steps: &[
+            ("a purchase", Debit(200, 1, 10), Granted(1), (90, 90)),
+            ("another purchase", Debit(200, 2, 10), Granted(2), (80, 80)),
+            ("one above the limit", Debit(200, 3, 10), Full, (80, 80)),
+            ("the first again", Debit(200, 1, 10), Granted(1), (80, 80)),
+        ],
+    },
+    Day {
+        name: "the greatest limit",
+        limit: MOST_ORDERS,
+        opening: 100,
+        steps: &[("a purchase", Debit(200, 3, 10), Granted(1), (90, 90))],
+    },
+];
 
 #[test]
-fn limit_of_one(rt: HostRuntime) -> Result<(), Fail> {
-    play_up_to(
-        rt.alloc(),
-        1,
-        &[("a purchase", Debit(200, 1, 10), (0, 1, None))],
-        &[
-            ("one above the limit", Debit(200, 2, 10), Err(Refused::Full)),
-            ("the purchase again", Debit(200, 1, 10), Ok((0, 1, None))),
-        ],
-        (1, (Some(90), Some(90))),
-    )
-}
-
-#[test]
-fn limit_of_two(rt: HostRuntime) -> Result<(), Fail> {
-    play_up_to(
-        rt.alloc(),
-        2,
-        &[
-            ("a purchase", Debit(200, 1, 10), (0, 1, None)),
-            ("another purchase", Debit(200, 2, 10), (0, 2, None)),
-        ],
-        &[
-            ("one above the limit", Debit(200, 3, 10), Err(Refused::Full)),
-            ("the first again", Debit(200, 1, 10), Ok((0, 1, None))),
-        ],
-        (2, (Some(80), Some(80))),
-    )
-}
-
-#[test]
-fn greatest_limit(rt: HostRuntime) -> Result<(), Fail> {
-    play_up_to(
-        rt.alloc(),
-        999_999,
-        &[("a purchase", Debit(200, 3, 10), (0, 1, None))],
-        &[],
-        (1, (Some(90), Some(90))),
-    )
-}
-
-/// The answers to a list of orders.
-fn run_of(
-    alloc: Global,
-    issuer: &mut Issuer,
-    orders: &[Order],
-) -> Result<Vec<Result<Answer, Refused>>, Fail> {
-    Ok(issuer.run(alloc, orders)?)
+fn a_full_journal_takes_no_more(rt: HostRuntime) -> Result<(), Fail> {
+    play(rt.alloc(), LIMITS)
 }
 
 /// Whether these are the answers to a purchase, to its repeat and to another one, where the journal takes one order.
@@ -216,21 +191,25 @@ fn is_run(answers: &[Result<Answer, Refused>]) -> bool {
     answers == [first, Ok(answer), Err(Refused::Full)].as_slice()
 }
 
-/// Hands a purchase, its repeat and another one to an issuer as one list.
-fn run_three(alloc: Global, issuer: &mut Issuer) -> Result<(), Fail> {
+/// Hands a purchase, its repeat and another one to an issuer as one list, and tells whether the answers are those.
+fn runs_three(alloc: Global, issuer: &mut Issuer) -> Result<bool, Fail> {
     let purchase = order(Debit(200, 7, 1000))?;
     let other = order(Debit(200, 8, 1000))?;
-    let answers = run_of(alloc, issuer, &[purchase, purchase, other])?;
-    check(is_run(&answers), "the answers to the list")
+    let answers = issuer.run(alloc, &[purchase, purchase, other])?;
+    Ok(is_run(&answers))
+}
+
+/// Compares the answers to a list of orders, and what is in the books then.
+fn check_run(alloc: Global, issuer: &mut Issuer) -> Result<(), Fail> {
+    check(runs_three(alloc, issuer)?, "the answers to the list")?;
+    check(
+        books(issuer)? == (1, (Some(4000), Some(4000))),
+        "the books at the end",
+    )
 }
 
 #[test]
-fn runs(rt: HostRuntime) -> Result<(), Fail> {
+fn a_list_is_run(rt: HostRuntime) -> Result<(), Fail> {
     let mut issuer = issuer(rt.alloc(), 5000, 1)?;
-    run_three(rt.alloc(), &mut issuer)?;
-    check_books(
-        &issuer,
-        "the books at the end",
-        (1, (Some(4000), Some(4000))),
-    )
+    check_run(rt.alloc(), &mut issuer)
 }

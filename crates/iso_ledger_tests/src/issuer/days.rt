@@ -16,12 +16,19 @@ const HOLD: Ask = Debit(100, 1, 70);
 /// More than is available beside the hold.
 const ABOVE: Ask = Debit(200, 2, 40);
 
-#[test]
-fn repeats(rt: HostRuntime) -> Result<(), Fail> {
-    play(
-        rt.alloc(),
-        5000,
-        &[
+/// A purchase that is reversed before it comes.
+const UNDONE: Ask = Debit(200, 12, 1000);
+
+/// A purchase of more than is available beside the hold of that day.
+const DEAR: Ask = Debit(200, 21, 4500);
+
+/// Repeats, codes, reversals, and a day that has them all.
+const DAYS: &[Day] = &[
+    Day {
+        name: "repeats",
+        limit: MOST_ORDERS,
+        opening: 5000,
+        steps: &[
             ("a purchase", PURCHASE, Granted(1), (4000, 4000)),
             ("its repeat", PURCHASE, Granted(1), (4000, 4000)),
             ("another amount", CHANGED, Declined(94, 0), (4000, 4000)),
@@ -34,15 +41,12 @@ fn repeats(rt: HostRuntime) -> Result<(), Fail> {
             ),
             ("the inquiry again", INQUIRY, Shows(2, 4000), (3500, 3500)),
         ],
-    )
-}
-
-#[test]
-fn codes(rt: HostRuntime) -> Result<(), Fail> {
-    play(
-        rt.alloc(),
-        100,
-        &[
+    },
+    Day {
+        name: "codes",
+        limit: MOST_ORDERS,
+        opening: 100,
+        steps: &[
             ("a hold", HOLD, Granted(1), (100, 30)),
             (
                 "over the available",
@@ -73,108 +77,23 @@ fn codes(rt: HostRuntime) -> Result<(), Fail> {
             ),
             ("the hold again", HOLD, Granted(1), (120, 50)),
         ],
-    )
-}
-
-#[test]
-fn advice_over_a_hold(rt: HostRuntime) -> Result<(), Fail> {
-    play(
-        rt.alloc(),
-        100,
-        &[
+    },
+    Day {
+        name: "advice over a hold",
+        limit: MOST_ORDERS,
+        opening: 100,
+        steps: &[
             ("a hold", HOLD, Granted(1), (100, 30)),
             ("over the available", ABOVE, Declined(51, 2), (100, 30)),
             ("an advice", Debit(220, 3, 150), Granted(3), (-50, -120)),
             ("an inquiry", Inquiry(4), Shows(4, -120), (-50, -120)),
         ],
-    )
-}
-
-/// Inquires on an account of this opening amount.
-fn inquire(
-    alloc: Global,
-    name: &'static str,
-    opening: i64,
-    expected: Expected,
-) -> Result<(), Fail> {
-    play(
-        alloc,
-        opening,
-        &[(name, Inquiry(1), expected, (opening, opening))],
-    )
-}
-
-/// Names, opening amounts, and what an inquiry is told.
-const OPENINGS: &[(&'static str, i64, Expected)] = &[
-    (
-        "the most that is shown",
-        999_999_999_999,
-        Shows(1, 999_999_999_999),
-    ),
-    ("one more", 1_000_000_000_000, Declined(96, 1)),
-    ("below zero", -50, Shows(1, -50)),
-    (
-        "the least that is shown",
-        -999_999_999_999,
-        Shows(1, -999_999_999_999),
-    ),
-    ("one less", -1_000_000_000_000, Declined(96, 1)),
-];
-
-#[test]
-fn wide_balances(rt: HostRuntime) -> Result<(), Fail> {
-    for (name, opening, expected) in OPENINGS {
-        inquire(rt.alloc(), *name, *opening, *expected)?;
-    }
-    Ok(())
-}
-
-const MOST: i64 = 9_000_000_000_000_000;
-
-const AMOUNT: u64 = 999_999_999_999;
-
-/// An advice leads from the opening amount down to less, and a refund back to it, under these names.
-fn down_and_back(
-    alloc: Global,
-    down: &'static str,
-    back: &'static str,
-    opening: i64,
-    less: i64,
-) -> Result<(), Fail> {
-    play(
-        alloc,
-        opening,
-        &[
-            (down, Debit(220, 1, AMOUNT), Granted(1), (less, less)),
-            (back, Credit(2, AMOUNT), Granted(2), (opening, opening)),
-        ],
-    )
-}
-
-#[test]
-fn ends_of_the_range(rt: HostRuntime) -> Result<(), Fail> {
-    down_and_back(
-        rt.alloc(),
-        "an advice on the most",
-        "a refund up to the most",
-        MOST,
-        8_999_000_000_000_001,
-    )?;
-    down_and_back(
-        rt.alloc(),
-        "an advice on the least",
-        "a refund up to the least",
-        -MOST,
-        -9_000_999_999_999_999,
-    )
-}
-
-#[test]
-fn late_reversals(rt: HostRuntime) -> Result<(), Fail> {
-    play(
-        rt.alloc(),
-        5000,
-        &[
+    },
+    Day {
+        name: "late reversals",
+        limit: MOST_ORDERS,
+        opening: 5000,
+        steps: &[
             ("a purchase", PURCHASE, Granted(1), (4000, 4000)),
             ("its reversal", REVERSAL, Granted(2), (5000, 5000)),
             ("the purchase again", PURCHASE, Granted(1), (5000, 5000)),
@@ -186,15 +105,12 @@ fn late_reversals(rt: HostRuntime) -> Result<(), Fail> {
             ),
             ("the reversal again", REVERSAL, Granted(2), (5000, 5000)),
         ],
-    )
-}
-
-#[test]
-fn reversed_hold(rt: HostRuntime) -> Result<(), Fail> {
-    play(
-        rt.alloc(),
-        100,
-        &[
+    },
+    Day {
+        name: "reversed hold",
+        limit: MOST_ORDERS,
+        opening: 100,
+        steps: &[
             ("a hold", HOLD, Granted(1), (100, 30)),
             ("over the available", ABOVE, Declined(51, 2), (100, 30)),
             (
@@ -205,15 +121,12 @@ fn reversed_hold(rt: HostRuntime) -> Result<(), Fail> {
             ),
             ("an advice", Debit(220, 4, 150), Granted(4), (-50, -50)),
         ],
-    )
-}
-
-#[test]
-fn early_reversals(rt: HostRuntime) -> Result<(), Fail> {
-    play(
-        rt.alloc(),
-        5000,
-        &[
+    },
+    Day {
+        name: "early reversals",
+        limit: MOST_ORDERS,
+        opening: 5000,
+        steps: &[
             ("a reversal comes first", REVERSAL, Granted(1), (5000, 5000)),
             ("its purchase", PURCHASE, Declined(21, 2), (5000, 5000)),
             ("the reversal again", REVERSAL, Granted(1), (5000, 5000)),
@@ -224,53 +137,12 @@ fn early_reversals(rt: HostRuntime) -> Result<(), Fail> {
                 (5000, 5000),
             ),
         ],
-    )
-}
-
-/// Reverses a purchase before it comes, and tells how many orders are entered then, how the purchase is answered and
-/// what it leaves. Where memory runs out (`rt try --test --fail-alloc N`), the reversal leaves no entry and no mark.
-fn reversal_first(issuer: &mut Issuer) -> Result<(u32, Expected, i64), Fail> {
-    match reply_to(issuer, REVERSAL)? {
-        Err(Refused::Memory) => Ok((0, Granted(1), 4000)),
-        told => {
-            check(is_reply(told?, Granted(1)), "the reversal")?;
-            Ok((1, Declined(21, 2), 5000))
-        }
-    }
-}
-
-/// Compares how many orders are entered.
-fn check_entries(issuer: &Issuer, name: &str, count: u32) -> Result<(), Fail> {
-    check(entries(issuer) == count, name)
-}
-
-/// The reversal, its purchase and the reversal again.
-fn reversal_and_purchase(issuer: &mut Issuer) -> Result<(), Fail> {
-    let (count, answer, left) = reversal_first(issuer)?;
-    check_entries(issuer, "the entries before the purchase", count)?;
-    let again = Granted(if count == 1 { 1 } else { 2 });
-    play_on(
-        issuer,
-        &[
-            ("the purchase", PURCHASE, answer, (left, left)),
-            ("the reversal again", REVERSAL, again, (5000, 5000)),
-        ],
-    )?;
-    check_entries(issuer, "the entries at the end", 2)
-}
-
-#[test]
-fn reversals_without_memory(rt: HostRuntime) -> Result<(), Fail> {
-    let mut issuer = issuer(rt.alloc(), 5000, 999_999)?;
-    reversal_and_purchase(&mut issuer)
-}
-
-#[test]
-fn reversals_of_what_moved_nothing(rt: HostRuntime) -> Result<(), Fail> {
-    play(
-        rt.alloc(),
-        100,
-        &[
+    },
+    Day {
+        name: "reversals of what moved nothing",
+        limit: MOST_ORDERS,
+        opening: 100,
+        steps: &[
             ("a purchase", Debit(200, 1, 80), Granted(1), (20, 20)),
             (
                 "a declined one",
@@ -304,15 +176,12 @@ fn reversals_of_what_moved_nothing(rt: HostRuntime) -> Result<(), Fail> {
                 (100, 100),
             ),
         ],
-    )
-}
-
-#[test]
-fn reversals_of_other_keys(rt: HostRuntime) -> Result<(), Fail> {
-    play(
-        rt.alloc(),
-        100,
-        &[
+    },
+    Day {
+        name: "reversals of other keys",
+        limit: MOST_ORDERS,
+        opening: 100,
+        steps: &[
             ("a purchase", Debit(200, 1, 80), Granted(1), (20, 20)),
             (
                 "another time",
@@ -329,21 +198,12 @@ fn reversals_of_other_keys(rt: HostRuntime) -> Result<(), Fail> {
             ),
             ("its key", Undo(5, 200, 1, 0), Granted(5), (100, 100)),
         ],
-    )
-}
-
-/// A purchase that is reversed before it comes.
-const UNDONE: Ask = Debit(200, 12, 1000);
-
-/// A purchase of more than is available beside the hold of that day.
-const DEAR: Ask = Debit(200, 21, 4500);
-
-#[test]
-fn a_day_of_one_account(rt: HostRuntime) -> Result<(), Fail> {
-    play(
-        rt.alloc(),
-        5000,
-        &[
+    },
+    Day {
+        name: "a day of one account",
+        limit: MOST_ORDERS,
+        opening: 5000,
+        steps: &[
             ("a purchase", PURCHASE, Granted(1), (4000, 4000)),
             ("its repeat", PURCHASE, Granted(1), (4000, 4000)),
             ("another amount", CHANGED, Declined(94, 0), (4000, 4000)),
@@ -373,5 +233,143 @@ fn a_day_of_one_account(rt: HostRuntime) -> Result<(), Fail> {
                 (5000, 5000),
             ),
         ],
-    )
+    },
+];
+
+#[test]
+fn days_are_answered_step_by_step(rt: HostRuntime) -> Result<(), Fail> {
+    play(rt.alloc(), DAYS)
+}
+
+const MOST: i64 = 9_000_000_000_000_000;
+
+const AMOUNT: u64 = 999_999_999_999;
+
+/// Balances at the ends of what is shown, and of what an account opens with.
+const WIDE_BALANCES: &[Day] = &[
+    Day {
+        name: "the most that is shown",
+        limit: MOST_ORDERS,
+        opening: 999_999_999_999,
+        steps: &[(
+            "an inquiry",
+            Inquiry(1),
+            Shows(1, 999_999_999_999),
+            (999_999_999_999, 999_999_999_999),
+        )],
+    },
+    Day {
+        name: "one more",
+        limit: MOST_ORDERS,
+        opening: 1_000_000_000_000,
+        steps: &[(
+            "an inquiry",
+            Inquiry(1),
+            Declined(96, 1),
+            (1_000_000_000_000, 1_000_000_000_000),
+        )],
+    },
+    Day {
+        name: "below zero",
+        limit: MOST_ORDERS,
+        opening: -50,
+        steps: &[("an inquiry", Inquiry(1), Shows(1, -50), (-50, -50))],
+    },
+    Day {
+        name: "the least that is shown",
+        limit: MOST_ORDERS,
+        opening: -999_999_999_999,
+        steps: &[(
+            "an inquiry",
+            Inquiry(1),
+            Shows(1, -999_999_999_999),
+            (-999_999_999_999, -999_999_999_999),
+        )],
+    },
+    Day {
+        name: "one less",
+        limit: MOST_ORDERS,
+        opening: -1_000_000_000_000,
+        steps: &[(
+            "an inquiry",
+            Inquiry(1),
+            Declined(96, 1),
+            (-1_000_000_000_000, -1_000_000_000_000),
+        )],
+    },
+    Day {
+        name: "the most",
+        limit: MOST_ORDERS,
+        opening: MOST,
+        steps: &[
+            (
+                "an advice on the most",
+                Debit(220, 1, AMOUNT),
+                Granted(1),
+                (8_999_000_000_000_001, 8_999_000_000_000_001),
+            ),
+            (
+                "a refund up to the most",
+                Credit(2, AMOUNT),
+                Granted(2),
+                (MOST, MOST),
+            ),
+        ],
+    },
+    Day {
+        name: "the least",
+        limit: MOST_ORDERS,
+        opening: -MOST,
+        steps: &[
+            (
+                "an advice on the least",
+                Debit(220, 1, AMOUNT),
+                Granted(1),
+                (-9_000_999_999_999_999, -9_000_999_999_999_999),
+            ),
+            (
+                "a refund up to the least",
+                Credit(2, AMOUNT),
+                Granted(2),
+                (-MOST, -MOST),
+            ),
+        ],
+    },
+];
+
+#[test]
+fn wide_balances_are_kept(rt: HostRuntime) -> Result<(), Fail> {
+    play(rt.alloc(), WIDE_BALANCES)
+}
+
+const BEHIND_THE_REVERSAL: &[Step] = &[
+    ("the purchase", PURCHASE, Declined(21, 2), (5000, 5000)),
+    ("the reversal again", REVERSAL, Granted(1), (5000, 5000)),
+];
+
+const WITHOUT_THE_REVERSAL: &[Step] = &[
+    ("the purchase", PURCHASE, Granted(1), (4000, 4000)),
+    ("the reversal again", REVERSAL, Granted(2), (5000, 5000)),
+];
+
+/// Reverses a purchase before it comes, and tells what then comes of it. Where memory runs out (`rt try --test
+/// --fail-alloc N`), the reversal leaves no entry and no mark.
+fn reversal_first(issuer: &mut Issuer) -> Result<&'static [Step], Fail> {
+    match (reply_to(issuer, REVERSAL)?, entries(issuer)) {
+        (Ok((0, 1, None)), 1) => Ok(BEHIND_THE_REVERSAL),
+        (Err(Refused::Memory), 0) => Ok(WITHOUT_THE_REVERSAL),
+        _ => Err("the reversal")?,
+    }
+}
+
+/// The reversal, its purchase and the reversal again.
+fn reversal_and_purchase(issuer: &mut Issuer) -> Result<(), Fail> {
+    let steps = reversal_first(issuer)?;
+    play_on(issuer, "a reversal and its purchase", steps)
+}
+
+#[test]
+fn reversals_without_memory(rt: HostRuntime) -> Result<(), Fail> {
+    let mut issuer = issuer(rt.alloc(), 5000, MOST_ORDERS)?;
+    reversal_and_purchase(&mut issuer)
 }

@@ -1,5 +1,5 @@
 //! The life of a hold: completions, their reversals, and what comes late.
-use super::wire::exchanges;
+use super::wire::{Exchanges, exchange};
 use super::*;
 
 const HOLD: &[u8] =
@@ -47,16 +47,12 @@ const HOLD_REVERSAL: &[u8] =
 const HOLD_REVERSED: &[u8] =
     b"0430822000010200000000000040000000000102030900000022051234500010000001001020304050000001234500000000000";
 
-const TWO_ACCOUNTS: &[u8] =
-    b"{\"accounts\":[{\"currency\":\"840\",\"opening\":5000,\"pan\":\"4111111111111111\"},
-    {\"currency\":\"840\",\"opening\":5000,\"pan\":\"4000000000000002\"}]}";
-
-#[test]
-fn completions(rt: HostRuntime) -> Result<(), Fail> {
-    play(
-        rt.alloc(),
-        5000,
-        &[
+const DAYS: &[Day] = &[
+    Day {
+        name: "completions and their reversals",
+        limit: MOST_ORDERS,
+        opening: 5000,
+        steps: &[
             ("a hold", Debit(100, 10, 1000), Granted(1), (5000, 4000)),
             (
                 "its completion",
@@ -89,15 +85,12 @@ fn completions(rt: HostRuntime) -> Result<(), Fail> {
                 (5000, 4000),
             ),
         ],
-    )
-}
-
-#[test]
-fn late_holds(rt: HostRuntime) -> Result<(), Fail> {
-    play(
-        rt.alloc(),
-        5000,
-        &[
+    },
+    Day {
+        name: "late holds",
+        limit: MOST_ORDERS,
+        opening: 5000,
+        steps: &[
             (
                 "the completion",
                 Complete(11, 10, 700),
@@ -112,15 +105,12 @@ fn late_holds(rt: HostRuntime) -> Result<(), Fail> {
                 (4300, 4300),
             ),
         ],
-    )
-}
-
-#[test]
-fn partly_reversed_completions(rt: HostRuntime) -> Result<(), Fail> {
-    play(
-        rt.alloc(),
-        5000,
-        &[
+    },
+    Day {
+        name: "partly reversed completions",
+        limit: MOST_ORDERS,
+        opening: 5000,
+        steps: &[
             ("a hold", Debit(100, 10, 1000), Granted(1), (5000, 4000)),
             (
                 "a reversal of it that leaves 600",
@@ -147,14 +137,17 @@ fn partly_reversed_completions(rt: HostRuntime) -> Result<(), Fail> {
                 (4900, 4900),
             ),
         ],
-    )
+    },
+];
+
+#[test]
+fn holds_live_until_they_are_completed(rt: HostRuntime) -> Result<(), Fail> {
+    play(rt.alloc(), DAYS)
 }
 
-/// Whether that is the ledger of the account of these digits.
-fn has_ledger(issuer: &Issuer, digits: &[u8], expected: i64) -> Result<bool, Fail> {
-    let (ledger, _) = balances_of(issuer, digits)?;
-    Ok(ledger == Some(expected))
-}
+const TWO_ACCOUNTS: &[u8] =
+    b"{\"accounts\":[{\"currency\":\"840\",\"opening\":5000,\"pan\":\"4111111111111111\"},
+    {\"currency\":\"840\",\"opening\":5000,\"pan\":\"4000000000000002\"}]}";
 
 fn of_two_accounts(alloc: Global) -> Result<Issuer, Fail> {
     Ok(Issuer::new(Accounts::from_json(alloc, TWO_ACCOUNTS)?, 100))
@@ -171,20 +164,22 @@ const HOLD_AND_COMPLETION: &[Step] = &[
     ),
 ];
 
-#[test]
-fn completions_of_another_account(rt: HostRuntime) -> Result<(), Fail> {
-    let mut issuer = of_two_accounts(rt.alloc())?;
-    play_on(&mut issuer, HOLD_AND_COMPLETION)?;
-    check(
-        has_ledger(&issuer, b"4000000000000002", 4300)?,
-        "the ledger of the other account",
-    )
+/// Plays both, and compares the ledger of the other account.
+fn complete_another(issuer: &mut Issuer) -> Result<(), Fail> {
+    play_on(issuer, "two accounts", HOLD_AND_COMPLETION)?;
+    let (ledger, _) = balances_of(issuer, b"4000000000000002")?;
+    check(ledger == Some(4300), "the ledger of the other account")
 }
 
 #[test]
-fn a_hold_is_completed_twice_by_bytes(rt: HostRuntime) -> Result<(), Fail> {
-    exchanges(
-        rt.alloc(),
+fn completions_of_another_account(rt: HostRuntime) -> Result<(), Fail> {
+    let mut issuer = of_two_accounts(rt.alloc())?;
+    complete_another(&mut issuer)
+}
+
+const EXCHANGES: &[Exchanges] = &[
+    (
+        "a hold is completed twice",
         5000,
         &[
             ("a hold", HOLD, HELD, 5000, 4000),
@@ -206,13 +201,9 @@ fn a_hold_is_completed_twice_by_bytes(rt: HostRuntime) -> Result<(), Fail> {
                 4000,
             ),
         ],
-    )
-}
-
-#[test]
-fn a_completion_comes_before_its_hold(rt: HostRuntime) -> Result<(), Fail> {
-    exchanges(
-        rt.alloc(),
+    ),
+    (
+        "a completion comes before its hold",
         5000,
         &[
             ("the completion", COMPLETION, COMPLETED_FIRST, 4300, 4300),
@@ -225,5 +216,10 @@ fn a_completion_comes_before_its_hold(rt: HostRuntime) -> Result<(), Fail> {
                 4300,
             ),
         ],
-    )
+    ),
+];
+
+#[test]
+fn holds_by_bytes(rt: HostRuntime) -> Result<(), Fail> {
+    exchange(rt.alloc(), EXCHANGES)
 }

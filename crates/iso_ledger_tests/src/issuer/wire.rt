@@ -73,7 +73,10 @@ const LATE_BALANCE: &[u8] =
     b"0210622000010600840016411111111111111131000001020306000000110512345000005008400200002840D000000000050";
 
 /// A name, the bytes of a request, those of its response, and the ledger and what is available then.
-pub type Exchange = (&'static str, &'static [u8], &'static [u8], i64, i64);
+type Exchange = (&'static str, &'static [u8], &'static [u8], i64, i64);
+
+/// A name, what is on the account at first, and requests with their responses.
+pub type Exchanges = (&'static str, i64, &'static [Exchange]);
 
 /// The message that the bytes spell.
 fn message_in(alloc: Global, table: &Table, bytes: &[u8]) -> Result<Message, Fail> {
@@ -123,37 +126,42 @@ fn is_answered_by(
     Ok(bytes.as_slice() == response)
 }
 
-fn is_on_account(issuer: &Issuer, ledger: i64, available: i64) -> Result<bool, Fail> {
-    Ok(is_left(balances(issuer)?, ledger, available))
-}
-
-/// Hands each request to an issuer that never was asked before.
-pub fn exchanges(alloc: Global, opening: i64, day: &[Exchange]) -> Result<(), Fail> {
-    let table = Table::ascii87(alloc)?;
-    let mut issuer = issuer(alloc, opening, 999_999)?;
-    exchange_all(alloc, &table, &mut issuer, day)
-}
-
 /// Hands each request to an issuer, and compares its response and what is on the account.
-fn exchange_all(
+fn exchange_on(
     alloc: Global,
     table: &Table,
     issuer: &mut Issuer,
-    day: &[Exchange],
+    day: &str,
+    requests: &[Exchange],
 ) -> Result<(), Fail> {
-    for (name, request, response, ledger, available) in day {
+    for (name, request, response, ledger, available) in requests {
         let is_answered = is_answered_by(alloc, table, issuer, *request, *response)?;
-        check_of(is_answered, *name, "the response")?;
-        let is_left = is_on_account(issuer, *ledger, *available)?;
-        check_of(is_left, *name, "the account")?;
+        check_step(is_answered, day, *name, "the response")?;
+        let is_left = balances(issuer)? == (Some(*ledger), Some(*available));
+        check_step(is_left, day, *name, "the account")?;
     }
     Ok(())
 }
 
-#[test]
-fn a_payment_its_repeats_and_its_reversal(rt: HostRuntime) -> Result<(), Fail> {
-    exchanges(
-        rt.alloc(),
+/// Hands requests to an issuer that never was asked before.
+fn exchange_day(alloc: Global, table: &Table, day: &Exchanges) -> Result<(), Fail> {
+    let (name, opening, requests) = day;
+    let mut issuer = issuer(alloc, *opening, MOST_ORDERS)?;
+    exchange_on(alloc, table, &mut issuer, *name, *requests)
+}
+
+/// Hands over the requests of days, each by itself.
+pub fn exchange(alloc: Global, days: &[Exchanges]) -> Result<(), Fail> {
+    let table = Table::ascii87(alloc)?;
+    for day in days {
+        exchange_day(alloc, &table, day)?;
+    }
+    Ok(())
+}
+
+const EXCHANGES: &[Exchanges] = &[
+    (
+        "a payment its repeats and its reversal",
         5000,
         &[
             ("a payment", PAYMENT, GRANTED, 4000, 4000),
@@ -183,13 +191,9 @@ fn a_payment_its_repeats_and_its_reversal(rt: HostRuntime) -> Result<(), Fail> {
                 5000,
             ),
         ],
-    )
-}
-
-#[test]
-fn a_reversal_before_its_payment(rt: HostRuntime) -> Result<(), Fail> {
-    exchanges(
-        rt.alloc(),
+    ),
+    (
+        "a reversal before its payment",
         5000,
         &[
             ("the reversal", REVERSAL, REVERSED, 5000, 5000),
@@ -203,13 +207,9 @@ fn a_reversal_before_its_payment(rt: HostRuntime) -> Result<(), Fail> {
                 5000,
             ),
         ],
-    )
-}
-
-#[test]
-fn a_hold_and_an_advice(rt: HostRuntime) -> Result<(), Fail> {
-    exchanges(
-        rt.alloc(),
+    ),
+    (
+        "a hold and an advice",
         100,
         &[
             ("a hold", HOLD, HELD, 100, 30),
@@ -224,5 +224,10 @@ fn a_hold_and_an_advice(rt: HostRuntime) -> Result<(), Fail> {
             ("an advice", ADVICE, ADVISED, -50, -50),
             ("an inquiry", LATE_INQUIRY, LATE_BALANCE, -50, -50),
         ],
-    )
+    ),
+];
+
+#[test]
+fn orders_by_bytes(rt: HostRuntime) -> Result<(), Fail> {
+    exchange(rt.alloc(), EXCHANGES)
 }
