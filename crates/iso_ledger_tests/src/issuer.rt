@@ -1,5 +1,6 @@
 //! What an issuer answers to orders, and what is on its accounts then.
 use crate::accounts::{ACCOUNT, money, pan};
+use crate::checks::check_step;
 use Expected::{Declined, Full, Granted, Shows};
 use asking::Ask::*;
 use asking::*;
@@ -84,17 +85,8 @@ fn is_told(issuer: &mut Issuer, asked: Ask, expected: Expected) -> Result<bool, 
     }
 }
 
-/// Ends the test with the name of a day, of a step and of what was compared, unless it is so.
-fn check_step(is_so: bool, day: &str, step: &str, what: &str) -> Result<(), Fail> {
-    if is_so {
-        Ok(())
-    } else {
-        Err(Fail::new(format_args!("{day}, {step}: {what}")))
-    }
-}
-
 /// Hands what is asked to an issuer, and compares each answer, and what is in the books then: as many orders as the
-/// last place that was told.
+/// greatest place that was told.
 fn play_on(issuer: &mut Issuer, day: &str, steps: &[Step]) -> Result<(), Fail> {
     let mut count = 0;
     for (name, asked, expected, (ledger, available)) in steps {

@@ -29,7 +29,7 @@ mod responses;
 mod verdicts;
 
 use crate::accounts::{ACCOUNT, money, pan};
-use iso_fakes::check;
+use iso_fakes::{check, check_of};
 use iso_order::{Act, Order, Pan, TxKey, Verdict, order_of};
 use iso_parts::Mti;
 use iso_wire::Message;
@@ -88,11 +88,6 @@ const PAYMENT: &[(u8, &'static [u8])] = &[
     (32, b"12345"),
     (49, b"840"),
 ];
-
-/// A payment of that type, but for the change.
-fn payment(alloc: Global, mti: u16, change: Change) -> Result<Message, Fail> {
-    changed(alloc, mti, PAYMENT, change)
-}
 
 /// The key of the payment of that type.
 const fn key(base: u16) -> TxKey {
@@ -169,6 +164,35 @@ fn is_same(one: Verdict, other: Verdict) -> bool {
 fn asks(message: &Message, asked: Asked) -> Result<bool, Fail> {
     let expected = verdict(asked)?;
     Ok(is_same(verdict_on(message), expected))
+}
+
+/// Whether the message of that type with the elements, but for the change, asks that.
+fn is_asked(
+    alloc: Global,
+    mti: u16,
+    elements: &[(u8, &[u8])],
+    change: Change,
+    asked: Asked,
+) -> Result<bool, Fail> {
+    let made = changed(alloc, mti, elements, change)?;
+    asks(&made, asked)
+}
+
+/// A name, a type, how the message differs from the usual one of its kind, and what it asks.
+type Asking = (&'static str, u16, Change, Asked);
+
+/// Compares what messages of a kind ask, which have these elements but for their changes.
+fn check_asked(
+    alloc: Global,
+    kind: &str,
+    elements: &[(u8, &[u8])],
+    rows: &[Asking],
+) -> Result<(), Fail> {
+    for (name, mti, change, asked) in rows {
+        let is_asked = is_asked(alloc, *mti, elements, *change, *asked)?;
+        check_of(is_asked, kind, *name)?;
+    }
+    Ok(())
 }
 
 /// Texts, and the number and the count of digits of those that are account numbers.

@@ -1,308 +1,301 @@
 //! The acquirer alone.
 use super::*;
+use Heard::{Answer, Begin, BeginOther, Timeout};
+use Sends::{Debit, Nothing, Refusal, Reversal};
+
+/// What an acquirer hears: that a debit of 1000 begins, or one of 1 in another currency, that a transaction got no answer in
+/// time, or the key and the code of an answer.
+#[derive(Clone, Copy)]
+enum Heard {
+    Begin,
+    BeginOther,
+    Timeout(u32),
+    Answer(TxKey, u8),
+}
+
+/// What it sends then: the debit of a trace number, an amount and a currency, or the reversal under the second trace number of
+/// the first transaction.
+#[derive(Clone, Copy)]
+enum Sends {
+    Debit(u32, u64, [u8; 3]),
+    Reversal,
+    Nothing,
+    Refusal(AcqFault),
+}
+
+/// What an acquirer sends, where it isn't refused.
+type Sent = Result<Option<Order>, AcqFault>;
+
+/// The order that is sent, where one is.
+fn order(sends: Sends) -> Result<Option<Order>, Fail> {
+    Ok(match sends {
+        Debit(stan, amount, currency) => {
+            let money = money(ACCOUNT, amount, currency)?;
+            Order::new(key(200, stan, ID), Act::Debit(money))
+        }
+        Reversal => {
+            let original = key(200, 1, ID);
+            Order::new(key(420, 2, ID), Act::Undo { original, left: 0 })
+        }
+        Nothing | Refusal(_) => None,
+    })
+}
+
+fn sent(sends: Sends) -> Result<Sent, Fail> {
+    match sends {
+        Refusal(fault) => Ok(Err(fault)),
+        _ => Ok(Ok(order(sends)?)),
+    }
+}
 
 /// Begins a debit of 1000.
-fn begin_debit(acquirer: &mut Acquirer) -> Result<Result<Order, AcqFault>, Fail> {
+fn begin(acquirer: &mut Acquirer) -> Result<Result<Order, AcqFault>, Fail> {
     let account = account()?;
     Ok(acquirer.begin(account, 1000, *b"840", SENT))
 }
 
-/// The key of the debit of 1 that is begun in another currency.
-fn key_of_next(acquirer: &mut Acquirer) -> Result<TxKey, Fail> {
+/// Begins a debit of 1 in another currency.
+fn begin_other(acquirer: &mut Acquirer) -> Result<Result<Order, AcqFault>, Fail> {
     let account = account()?;
-    let order = acquirer.begin(account, 1, *b"978", SENT)?;
-    Ok(order.key())
+    Ok(acquirer.begin(account, 1, *b"978", SENT))
 }
 
-/// Whether that is the order of a debit of 1000, under the first trace number.
-fn is_first_debit(order: Order) -> Result<bool, Fail> {
-    let money = Money {
-        pan: account()?,
-        amount: 1000,
-        currency: *b"840",
+/// Tells an acquirer what it hears, and gives what it sends.
+fn hear(acquirer: &mut Acquirer, heard: Heard) -> Result<Sent, Fail> {
+    let sent = match heard {
+        Begin => begin(acquirer)?,
+        BeginOther => begin_other(acquirer)?,
+        Timeout(stan) => acquirer.timeout(stan),
+        Answer(key, code) => {
+            acquirer.answer(key, code);
+            return Ok(Ok(None));
+        }
     };
-    Ok(Some(order) == Order::new(key(200, 1, ID), Act::Debit(money)))
+    Ok(sent.map(Some))
 }
 
-/// An acquirer that never began anything.
-fn new_acquirer(alloc: Global) -> Acquirer {
-    Acquirer::new(alloc, ID)
-}
-
-/// An acquirer that began a debit of 1000.
-fn acquirer_with_one(alloc: Global) -> Result<Acquirer, Fail> {
-    let mut acquirer = new_acquirer(alloc);
-    let order = begin_debit(&mut acquirer)??;
-    check(is_first_debit(order)?, "the first debit")?;
-    Ok(acquirer)
-}
-
-/// The reversal of the first transaction, under the next trace number.
-fn reversal() -> Result<Order, Fail> {
-    let act = Act::Undo {
-        original: key(200, 1, ID),
-        left: 0,
-    };
-    Ok(Order::new(key(420, 2, ID), act).ok_or("what a message can carry")?)
-}
-
-/// What an acquirer sends once a transaction got no answer in time.
-fn sent_after(acquirer: &mut Acquirer, stan: u32) -> Result<Order, AcqFault> {
-    acquirer.timeout(stan)
-}
-
-/// Whether a timeout has the first transaction asked again under its key.
-fn asks_again(acquirer: &mut Acquirer) -> Result<bool, Fail> {
-    Ok(sent_after(acquirer, 1)?.key() == key(200, 1, ID))
-}
-
-/// Whether a timeout has the first transaction reversed.
-fn reverses(acquirer: &mut Acquirer) -> Result<bool, Fail> {
-    Ok(sent_after(acquirer, 1) == Ok(reversal()?))
-}
-
-/// Whether a timeout is refused so.
-fn refuses(acquirer: &mut Acquirer, stan: u32, fault: AcqFault) -> bool {
-    sent_after(acquirer, stan) == Err(fault)
+/// Whether an acquirer sends that. Where memory runs out, the test ends.
+fn is_sent(acquirer: &mut Acquirer, heard: Heard, sends: Sends) -> Result<bool, Fail> {
+    match hear(acquirer, heard)? {
+        Err(AcqFault::Memory) => Err("memory ran out")?,
+        told => Ok(told == sent(sends)?),
+    }
 }
 
 /// Whether an acquirer holds that of a transaction.
-fn holds(acquirer: &Acquirer, stan: u32, state: Option<State>) -> bool {
+fn holds(acquirer: &Acquirer, held: Held) -> bool {
+    let (stan, state) = held;
     acquirer.state(stan) == state
 }
 
-/// Tells an acquirer the code of an answer.
-fn tell(acquirer: &mut Acquirer, key: TxKey, code: u8) {
-    acquirer.answer(key, code);
-}
+/// A name, what an acquirer hears and sends, and what it then holds of a transaction.
+type Step = (&'static str, Heard, Sends, Held);
 
-/// Compares what an acquirer with one transaction makes of two timeouts.
-fn check_repeat_and_reversal(acquirer: &mut Acquirer) -> Result<(), Fail> {
-    check(holds(acquirer, 1, Some(State::Waiting(1))), "asked once")?;
-    check(asks_again(acquirer)?, "the repeat")?;
-    check(holds(acquirer, 1, Some(State::Waiting(2))), "asked twice")?;
-    check(reverses(acquirer)?, "the reversal")?;
-    check(holds(acquirer, 1, Some(State::Reversing)), "reversing")
-}
+const DEBIT: Sends = Debit(1, 1000, *b"840");
 
-/// Compares what it makes of two more.
-fn check_reversal_again(acquirer: &mut Acquirer) -> Result<(), Fail> {
-    check(reverses(acquirer)?, "the reversal's repeat")?;
-    check(reverses(acquirer)?, "the reversal's next repeat")?;
-    check(
-        holds(acquirer, 1, Some(State::Reversing)),
-        "still reversing",
-    )
-}
+/// The key of the debit, and of its reversal.
+const KEY: TxKey = key!(200, 1, ID);
 
-#[test]
-fn begins_asks_again_and_reverses(rt: HostRuntime) -> Result<(), Fail> {
-    let mut acquirer = acquirer_with_one(rt.alloc())?;
-    check_repeat_and_reversal(&mut acquirer)?;
-    check_reversal_again(&mut acquirer)
-}
+const REVERSAL_KEY: TxKey = key!(420, 2, ID);
 
-/// An acquirer that reverses its first transaction.
-fn reversing(alloc: Global) -> Result<Acquirer, Fail> {
-    let mut acquirer = acquirer_with_one(alloc)?;
-    sent_after(&mut acquirer, 1)?;
-    sent_after(&mut acquirer, 1)?;
-    Ok(acquirer)
-}
+const CLOSED: Sends = Refusal(AcqFault::Closed);
 
-/// Ends the test with a trace number, unless it is so.
-fn check_number(is_so: bool, stan: u32) -> Result<(), Fail> {
-    if is_so {
-        Ok(())
-    } else {
-        Err(Fail::new(format_args!("{stan}")))
-    }
-}
+const NO_SUCH: Sends = Refusal(AcqFault::NoSuch);
 
-/// Compares that an acquirer knows no transaction of these trace numbers.
-fn check_none_known(acquirer: &mut Acquirer, stans: &[u32]) -> Result<(), Fail> {
-    for stan in stans {
-        check_number(holds(acquirer, *stan, None), *stan)?;
-        check_number(refuses(acquirer, *stan, AcqFault::NoSuch), *stan)?;
-    }
-    Ok(())
-}
+const NO_MORE_TRACE: Sends = Refusal(AcqFault::NoMoreTrace);
 
-/// Whether the next debit has that key.
-fn begins_under(acquirer: &mut Acquirer, key: TxKey) -> Result<bool, Fail> {
-    Ok(key_of_next(acquirer)? == key)
-}
+const ASKED: Held = (1, Some(State::Waiting(1)));
 
-/// Compares that the next debit has the third trace number.
-fn check_third(acquirer: &mut Acquirer) -> Result<(), Fail> {
-    check(begins_under(acquirer, key(200, 3, ID))?, "the next key")?;
-    check(holds(acquirer, 3, Some(State::Waiting(1))), "the next one")
-}
+const AGAIN: Held = (1, Some(State::Waiting(2)));
 
-#[test]
-fn knows_transactions_by_their_own_numbers(rt: HostRuntime) -> Result<(), Fail> {
-    let mut acquirer = reversing(rt.alloc())?;
-    check_none_known(&mut acquirer, &[0, 2, 3, 4_294_967_295])?;
-    check_third(&mut acquirer)
-}
+const REVERSING: Held = (1, Some(State::Reversing));
 
-/// The key and the code of an answer, and what an acquirer with one transaction then holds of it.
-type Answered = (TxKey, u8, State);
+const APPROVED: Held = (1, Some(State::Approved));
 
-const ANSWERS_TO_WAITING: &[Answered] = &[
-    (key!(200, 1, ID), 0, State::Approved),
-    (key!(200, 1, ID), 51, State::Declined(51)),
-    (key!(200, 1, ID), 94, State::Waiting(1)),
-    (key!(200, 1, ID), 96, State::Waiting(1)),
-    (key!(200, 1, ID), 255, State::Declined(255)),
-    (key!(420, 1, ID), 0, State::Waiting(1)),
-    (key!(200, 2, ID), 0, State::Waiting(1)),
-    (key!(200, 0, ID), 0, State::Waiting(1)),
-    (key!(200, 1, 777), 0, State::Waiting(1)),
+const DECLINED: Held = (1, Some(State::Declined(51)));
+
+/// Names, how many debits of 1000 are begun before, and what is heard then.
+const LISTS: &[(&'static str, u32, &'static [Step])] = &[
     (
-        TxKey {
-            sent: 1,
-            ..key!(200, 1, ID)
-        },
+        "asks again, and reverses",
         0,
-        State::Waiting(1),
+        &[
+            ("a debit", Begin, DEBIT, ASKED),
+            ("the repeat", Timeout(1), DEBIT, AGAIN),
+            ("the reversal", Timeout(1), Reversal, REVERSING),
+            ("its repeat", Timeout(1), Reversal, REVERSING),
+            ("its next repeat", Timeout(1), Reversal, REVERSING),
+        ],
+    ),
+    (
+        "knows transactions by their own numbers",
+        1,
+        &[
+            ("the repeat", Timeout(1), DEBIT, AGAIN),
+            ("the reversal", Timeout(1), Reversal, REVERSING),
+            ("the number zero", Timeout(0), NO_SUCH, (0, None)),
+            ("the reversal's number", Timeout(2), NO_SUCH, (2, None)),
+            ("the next number", Timeout(3), NO_SUCH, (3, None)),
+            (
+                "the highest number",
+                Timeout(4_294_967_295),
+                NO_SUCH,
+                (4_294_967_295, None),
+            ),
+            (
+                "the next debit",
+                BeginOther,
+                Debit(3, 1, *b"978"),
+                (3, Some(State::Waiting(1))),
+            ),
+        ],
+    ),
+    (
+        "is approved for good",
+        1,
+        &[
+            ("the code of another order", Answer(KEY, 94), Nothing, ASKED),
+            ("no answer by the host", Answer(KEY, 96), Nothing, ASKED),
+            ("another type", Answer(key!(420, 1, ID), 0), Nothing, ASKED),
+            (
+                "another number",
+                Answer(key!(200, 2, ID), 0),
+                Nothing,
+                ASKED,
+            ),
+            (
+                "the number zero",
+                Answer(key!(200, 0, ID), 0),
+                Nothing,
+                ASKED,
+            ),
+            (
+                "another acquirer",
+                Answer(key!(200, 1, 777), 0),
+                Nothing,
+                ASKED,
+            ),
+            (
+                "another time",
+                Answer(TxKey { sent: 1, ..KEY }, 0),
+                Nothing,
+                ASKED,
+            ),
+            ("granted", Answer(KEY, 0), Nothing, APPROVED),
+            ("granted again", Answer(KEY, 0), Nothing, APPROVED),
+            ("a later 21", Answer(KEY, 21), Nothing, APPROVED),
+            ("a later 51", Answer(KEY, 51), Nothing, APPROVED),
+            ("a later 94", Answer(KEY, 94), Nothing, APPROVED),
+            ("a later 96", Answer(KEY, 96), Nothing, APPROVED),
+            ("a timeout", Timeout(1), CLOSED, APPROVED),
+        ],
+    ),
+    (
+        "is declined for good",
+        1,
+        &[
+            ("declined", Answer(KEY, 51), Nothing, DECLINED),
+            ("a later 0", Answer(KEY, 0), Nothing, DECLINED),
+            ("a later 21", Answer(KEY, 21), Nothing, DECLINED),
+            ("declined again", Answer(KEY, 51), Nothing, DECLINED),
+            ("a later 94", Answer(KEY, 94), Nothing, DECLINED),
+            ("a later 96", Answer(KEY, 96), Nothing, DECLINED),
+            ("a timeout", Timeout(1), CLOSED, DECLINED),
+        ],
+    ),
+    (
+        "is declined by the highest code",
+        1,
+        &[(
+            "declined",
+            Answer(KEY, 255),
+            Nothing,
+            (1, Some(State::Declined(255))),
+        )],
+    ),
+    (
+        "is reversed by the reversal's answer alone",
+        1,
+        &[
+            ("the repeat", Timeout(1), DEBIT, AGAIN),
+            ("the reversal", Timeout(1), Reversal, REVERSING),
+            (
+                "96 to the reversal",
+                Answer(REVERSAL_KEY, 96),
+                Nothing,
+                REVERSING,
+            ),
+            (
+                "21 to the reversal",
+                Answer(REVERSAL_KEY, 21),
+                Nothing,
+                REVERSING,
+            ),
+            ("0 to the debit", Answer(KEY, 0), Nothing, REVERSING),
+            ("51 to the debit", Answer(KEY, 51), Nothing, REVERSING),
+            (
+                "0 to another acquirer",
+                Answer(key!(420, 2, 777), 0),
+                Nothing,
+                REVERSING,
+            ),
+            (
+                "0 to the reversal",
+                Answer(REVERSAL_KEY, 0),
+                Nothing,
+                (1, Some(State::Reversed)),
+            ),
+        ],
+    ),
+    (
+        "has no more trace numbers",
+        999_999,
+        &[
+            (
+                "one more debit",
+                Begin,
+                NO_MORE_TRACE,
+                (999_999, Some(State::Waiting(1))),
+            ),
+            ("the repeat", Timeout(1), DEBIT, AGAIN),
+            ("the reversal", Timeout(1), NO_MORE_TRACE, AGAIN),
+        ],
     ),
 ];
 
-/// Whether an answer leaves a transaction so.
-fn leaves(acquirer: &mut Acquirer, key: TxKey, code: u8, state: State) -> bool {
-    tell(acquirer, key, code);
-    holds(acquirer, 1, Some(state))
-}
-
-/// Whether an answer leaves a waiting transaction so.
-fn leaves_waiting(alloc: Global, key: TxKey, code: u8, state: State) -> Result<bool, Fail> {
-    let mut acquirer = acquirer_with_one(alloc)?;
-    Ok(leaves(&mut acquirer, key, code, state))
-}
-
-/// Whether an answer leaves a transaction so while it is reversed.
-fn leaves_reversing(alloc: Global, key: TxKey, code: u8, state: State) -> Result<bool, Fail> {
-    let mut acquirer = reversing(alloc)?;
-    Ok(leaves(&mut acquirer, key, code, state))
-}
-
-/// Ends the test with the key and the code of an answer, unless it is so.
-fn check_answered(is_so: bool, key: TxKey, code: u8) -> Result<(), Fail> {
-    if is_so {
-        Ok(())
-    } else {
-        Err(Fail::new(format_args!("{key:?} {code}")))
-    }
-}
-
-#[test]
-fn answers_while_waiting(rt: HostRuntime) -> Result<(), Fail> {
-    for (key, code, state) in ANSWERS_TO_WAITING {
-        let left = leaves_waiting(rt.alloc(), *key, *code, *state)?;
-        check_answered(left, *key, *code)?;
+/// Begins debits of 1000.
+fn begin_all(acquirer: &mut Acquirer, count: u32) -> Result<(), Fail> {
+    for _ in 0..count {
+        begin(acquirer)??;
     }
     Ok(())
 }
 
-const ANSWERS_TO_REVERSING: &[Answered] = &[
-    (key!(420, 2, ID), 0, State::Reversed),
-    (key!(420, 2, ID), 96, State::Reversing),
-    (key!(420, 2, ID), 21, State::Reversing),
-    (key!(200, 1, ID), 0, State::Reversing),
-    (key!(200, 1, ID), 51, State::Reversing),
-    (key!(420, 2, 777), 0, State::Reversing),
-];
-
-#[test]
-fn answers_while_reversing(rt: HostRuntime) -> Result<(), Fail> {
-    for (key, code, state) in ANSWERS_TO_REVERSING {
-        let left = leaves_reversing(rt.alloc(), *key, *code, *state)?;
-        check_answered(left, *key, *code)?;
+/// Tells an acquirer what it hears, and compares what it sends and then holds.
+fn play_steps(acquirer: &mut Acquirer, name: &str, steps: &[Step]) -> Result<(), Fail> {
+    for (step, heard, sends, held) in steps {
+        check_step(
+            is_sent(acquirer, *heard, *sends)?,
+            name,
+            *step,
+            "what is sent",
+        )?;
+        check_step(holds(acquirer, *held), name, *step, "what is held")?;
     }
     Ok(())
 }
 
-/// Compares what is held of a transaction, which an answer closed, once others come.
-fn check_later_answers(
-    acquirer: &mut Acquirer,
-    code: u8,
-    state: State,
-    others: &[u8],
-) -> Result<(), Fail> {
-    for later in others {
-        if !leaves(acquirer, key(200, 1, ID), *later, state) {
-            return Err(Fail::new(format_args!("{code} {later}")));
-        }
+/// Begins debits, and plays what is heard then.
+fn play(acquirer: &mut Acquirer, name: &str, count: u32, steps: &[Step]) -> Result<(), Fail> {
+    begin_all(acquirer, count)?;
+    play_steps(acquirer, name, steps)
+}
+
+#[test]
+fn an_acquirer_asks_again_and_reverses(rt: HostRuntime) -> Result<(), Fail> {
+    for (name, count, steps) in LISTS {
+        let mut acquirer = Acquirer::new(rt.alloc(), ID);
+        play(&mut acquirer, *name, *count, *steps)?;
     }
     Ok(())
-}
-
-/// Compares that a transaction, which an answer closed, has no timeout.
-fn check_no_timeout(acquirer: &mut Acquirer, code: u8) -> Result<(), Fail> {
-    if refuses(acquirer, 1, AcqFault::Closed) {
-        Ok(())
-    } else {
-        Err(Fail::new(format_args!("{code}")))
-    }
-}
-
-/// Closes a transaction by an answer, and compares what is held of it once others come, and a timeout.
-fn check_closed(alloc: Global, code: u8, state: State) -> Result<(), Fail> {
-    let mut acquirer = acquirer_with_one(alloc)?;
-    tell(&mut acquirer, key(200, 1, ID), code);
-    check_later_answers(&mut acquirer, code, state, &[0, 21, 51, 94, 96])?;
-    check_no_timeout(&mut acquirer, code)
-}
-
-#[test]
-fn closed_for_good(rt: HostRuntime) -> Result<(), Fail> {
-    check_closed(rt.alloc(), 0, State::Approved)?;
-    check_closed(rt.alloc(), 51, State::Declined(51))
-}
-
-/// Begins as many debits as there are trace numbers, and gives the first one's order.
-fn begin_all(acquirer: &mut Acquirer) -> Result<Order, Fail> {
-    let first = begin_debit(acquirer)??;
-    for _ in 1..999_999 {
-        begin_debit(acquirer)??;
-    }
-    Ok(first)
-}
-
-fn asks_again_by(acquirer: &mut Acquirer, first: Order) -> bool {
-    sent_after(acquirer, 1) == Ok(first)
-}
-
-fn wants_trace_numbers(acquirer: &mut Acquirer) -> Result<bool, Fail> {
-    Ok(begin_debit(acquirer)? == Err(AcqFault::NoMoreTrace))
-}
-
-/// Compares what an acquirer with no more trace numbers makes of two timeouts.
-fn check_repeat_alone(acquirer: &mut Acquirer, first: Order) -> Result<(), Fail> {
-    check(asks_again_by(acquirer, first), "the repeat")?;
-    check(refuses(acquirer, 1, AcqFault::NoMoreTrace), "the reversal")?;
-    check(holds(acquirer, 1, Some(State::Waiting(2))), "asked twice")
-}
-
-/// Compares that an acquirer has no more trace numbers.
-fn check_all_begun(acquirer: &mut Acquirer) -> Result<(), Fail> {
-    check(wants_trace_numbers(acquirer)?, "one more debit")?;
-    check(
-        holds(acquirer, 999_999, Some(State::Waiting(1))),
-        "the last one",
-    )
-}
-
-/// Begins all, and compares what an acquirer makes of more.
-fn check_all_used(acquirer: &mut Acquirer) -> Result<(), Fail> {
-    let first = begin_all(acquirer)?;
-    check_all_begun(acquirer)?;
-    check_repeat_alone(acquirer, first)
-}
-
-#[test]
-fn all_trace_numbers_used(rt: HostRuntime) -> Result<(), Fail> {
-    let mut acquirer = new_acquirer(rt.alloc());
-    check_all_used(&mut acquirer)
 }

@@ -4,94 +4,105 @@ use super::{ACCOUNT, Does, act, key, money, order, pan};
 use iso_fakes::check;
 use iso_order::{TxKey, Verdict};
 use std::alloc::Global;
+use std::string::String;
 use std::test::Fail;
 
-const SHOWN_NUMBERS: &[(&'static str, &'static [u8], &'static str)] = &[
-    ("sixteen digits", ACCOUNT, "411111******1111"),
+/// What a log shows, as tables have it.
+#[derive(Clone, Copy)]
+enum Shown {
+    Number(&'static [u8]),
+    Money(&'static [u8], u64, [u8; 3]),
+    Act(Does),
+    /// The order under the key of the payment.
+    Order(Does),
+    /// That order as a verdict.
+    Verdict(Does),
+}
+
+const PAYMENT: Does = Does::Debit(ACCOUNT, 1000, *b"840");
+
+const TEXTS: &[(&'static str, Shown, &'static str)] = &[
+    ("sixteen digits", Shown::Number(ACCOUNT), "411111******1111"),
     (
         "nineteen digits",
-        b"6304219447607087665",
+        Shown::Number(b"6304219447607087665"),
         "630421*********7665",
     ),
-    ("thirteen digits", b"4222222222222", "422222***2222"),
-    ("zeros before", b"0000001234567890", "000000******7890"),
-    ("twelve digits", b"501800000009", "************"),
-    ("one digit", b"7", "*"),
-];
-
-fn shows_number(alloc: Global, digits: &[u8], want: &str) -> Result<bool, Fail> {
-    let pan = pan(digits)?;
-    let text = format!(in alloc; "{pan:?}")?;
-    Ok(text.as_str() == want)
-}
-
-#[test]
-fn account_numbers(rt: HostRuntime) -> Result<(), Fail> {
-    for (name, digits, want) in SHOWN_NUMBERS {
-        check(shows_number(rt.alloc(), *digits, *want)?, *name)?;
-    }
-    Ok(())
-}
-
-fn shows_order(alloc: Global, want: &str) -> Result<bool, Fail> {
-    let order = order(key(200), Does::Debit(ACCOUNT, 1000, *b"840"))?;
-    let text = format!(in alloc; "{order:?}")?;
-    Ok(text.as_str() == want)
-}
-
-fn shows_verdict(alloc: Global, want: &str) -> Result<bool, Fail> {
-    let verdict = Verdict::Order(order(key(200), Does::Debit(ACCOUNT, 1000, *b"840"))?);
-    let text = format!(in alloc; "{verdict:?}")?;
-    Ok(text.as_str() == want)
-}
-
-#[test]
-fn orders(rt: HostRuntime) -> Result<(), Fail> {
-    let order = "Order { key: TxKey { base: 200, stan: 7, sent: 102030405, acquirer: 12345 }, \
-         act: Debit(Money { pan: 411111******1111, amount: 1000, currency: [56, 52, 48] }) }";
-    check(shows_order(rt.alloc(), order)?, "an order")?;
-    let verdict =
+    (
+        "thirteen digits",
+        Shown::Number(b"4222222222222"),
+        "422222***2222",
+    ),
+    (
+        "zeros before",
+        Shown::Number(b"0000001234567890"),
+        "000000******7890",
+    ),
+    (
+        "twelve digits",
+        Shown::Number(b"501800000009"),
+        "************",
+    ),
+    ("one digit", Shown::Number(b"7"), "*"),
+    (
+        "an order",
+        Shown::Order(PAYMENT),
+        "Order { key: TxKey { base: 200, stan: 7, sent: 102030405, acquirer: 12345 }, \
+         act: Debit(Money { pan: 411111******1111, amount: 1000, currency: [56, 52, 48] }) }",
+    ),
+    (
+        "a verdict",
+        Shown::Verdict(PAYMENT),
         "Order(Order { key: TxKey { base: 200, stan: 7, sent: 102030405, acquirer: 12345 }, \
-         act: Debit(Money { pan: 411111******1111, amount: 1000, currency: [56, 52, 48] }) })";
-    check(shows_verdict(rt.alloc(), verdict)?, "a verdict")
-}
-
-fn shows_short_money(alloc: Global, want: &str) -> Result<bool, Fail> {
-    let short = money(b"501800000009", 0, *b"USD")?;
-    let text = format!(in alloc; "{short:?}")?;
-    Ok(text.as_str() == want)
-}
-
-const SHOWN_ACTS: &[(&'static str, Does, &'static str)] = &[
+         act: Debit(Money { pan: 411111******1111, amount: 1000, currency: [56, 52, 48] }) })",
+    ),
+    (
+        "money",
+        Shown::Money(b"501800000009", 0, *b"USD"),
+        "Money { pan: ************, amount: 0, currency: [85, 83, 68] }",
+    ),
     (
         "a credit",
-        Does::Credit(ACCOUNT, 5, *b"840"),
+        Shown::Act(Does::Credit(ACCOUNT, 5, *b"840")),
         "Credit(Money { pan: 411111******1111, amount: 5, currency: [56, 52, 48] })",
     ),
     (
         "an inquiry",
-        Does::Inquiry(ACCOUNT, 0, *b"840"),
+        Shown::Act(Does::Inquiry(ACCOUNT, 0, *b"840")),
         "Inquiry(Money { pan: 411111******1111, amount: 0, currency: [56, 52, 48] })",
     ),
     (
         "a reversal",
-        Does::Undo(key!(200), 400),
+        Shown::Act(Does::Undo(key!(200), 400)),
         "Undo { original: TxKey { base: 200, stan: 7, sent: 102030405, acquirer: 12345 }, left: 400 }",
     ),
 ];
 
-fn shows_act(alloc: Global, does: Does, want: &str) -> Result<bool, Fail> {
-    let act = act(does)?;
-    let text = format!(in alloc; "{act:?}")?;
+/// What a log writes of it.
+fn text_of(alloc: Global, shown: Shown) -> Result<String, Fail> {
+    Ok(match shown {
+        Shown::Number(digits) => format!(in alloc; "{:?}", pan(digits)?)?,
+        Shown::Money(digits, amount, currency) => {
+            format!(in alloc; "{:?}", money(digits, amount, currency)?)?
+        }
+        Shown::Act(does) => format!(in alloc; "{:?}", act(does)?)?,
+        Shown::Order(does) => format!(in alloc; "{:?}", order(key(200), does)?)?,
+        Shown::Verdict(does) => {
+            format!(in alloc; "{:?}", Verdict::Order(order(key(200), does)?))?
+        }
+    })
+}
+
+/// Whether a log writes that of it.
+fn shows(alloc: Global, shown: Shown, want: &str) -> Result<bool, Fail> {
+    let text = text_of(alloc, shown)?;
     Ok(text.as_str() == want)
 }
 
 #[test]
-fn acts(rt: HostRuntime) -> Result<(), Fail> {
-    let short = "Money { pan: ************, amount: 0, currency: [85, 83, 68] }";
-    check(shows_short_money(rt.alloc(), short)?, "money")?;
-    for (name, does, want) in SHOWN_ACTS {
-        check(shows_act(rt.alloc(), *does, *want)?, *name)?;
+fn account_numbers_are_masked(rt: HostRuntime) -> Result<(), Fail> {
+    for (name, shown, want) in TEXTS {
+        check(shows(rt.alloc(), *shown, *want)?, *name)?;
     }
     Ok(())
 }

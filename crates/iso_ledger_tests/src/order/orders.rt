@@ -1,8 +1,8 @@
 //! Keys, and which orders are one.
 
 use super::{ACCOUNT, Does, act, key, new_order, order};
-use iso_fakes::{check, check_of};
-use iso_order::TxKey;
+use iso_fakes::check;
+use iso_order::{Act, Order, TxKey};
 use std::test::Fail;
 
 /// The key of a payment with a time of eleven digits.
@@ -21,82 +21,20 @@ const ALL_KEYS: &[(&'static str, TxKey, u16, u16, bool)] = &[
     ("a time of eleven digits", LATE, 2, 0, false),
 ];
 
-fn class_of(key: TxKey) -> u16 {
-    key.class()
-}
-
-fn function_of(key: TxKey) -> u16 {
-    key.function()
-}
-
-fn is_valid(key: TxKey) -> bool {
-    key.is_valid()
+/// Whether a key has that class and that function, and an order can have it or can't.
+fn is_key(key: TxKey, class: u16, function: u16, valid: bool) -> bool {
+    (key.class(), key.function(), key.is_valid()) == (class, function, valid)
 }
 
 #[test]
 fn keys() -> Result<(), Fail> {
     for (name, key, class, function, valid) in ALL_KEYS {
-        check_of(class_of(*key) == *class, *name, "class")?;
-        check_of(function_of(*key) == *function, *name, "function")?;
-        check_of(is_valid(*key) == *valid, *name, "valid")?;
+        check(is_key(*key, *class, *function, *valid), *name)?;
     }
     Ok(())
 }
 
 const PURCHASE: Does = Does::Debit(ACCOUNT, 1000, *b"840");
-
-/// Orders, and whether each is the purchase.
-const LIKELY_ORDERS: &[(&'static str, u16, Does, bool)] = &[
-    ("itself", 200, PURCHASE, true),
-    ("under another key", 220, PURCHASE, false),
-    (
-        "of another amount",
-        200,
-        Does::Debit(ACCOUNT, 1001, *b"840"),
-        false,
-    ),
-    (
-        "of another account",
-        200,
-        Does::Debit(b"04111111111111111", 1000, *b"840"),
-        false,
-    ),
-    (
-        "in another currency",
-        200,
-        Does::Debit(ACCOUNT, 1000, *b"USD"),
-        false,
-    ),
-    ("a credit", 200, Does::Credit(ACCOUNT, 1000, *b"840"), false),
-];
-
-fn keeps_key(base: u16, does: Does) -> Result<bool, Fail> {
-    let key = key(base);
-    Ok(order(key, does)?.key() == key)
-}
-
-fn keeps_act(base: u16, does: Does) -> Result<bool, Fail> {
-    Ok(order(key(base), does)?.act() == act(does)?)
-}
-
-fn is_the_purchase(base: u16, does: Does) -> Result<bool, Fail> {
-    let bought = order(key(200), PURCHASE)?;
-    Ok(bought.is_same(&order(key(base), does)?))
-}
-
-#[test]
-fn same_orders() -> Result<(), Fail> {
-    for (name, base, does, want) in LIKELY_ORDERS {
-        check_of(keeps_key(*base, *does)?, *name, "key")?;
-        check_of(keeps_act(*base, *does)?, *name, "act")?;
-        check_of(
-            is_the_purchase(*base, *does)? == *want,
-            *name,
-            "the purchase",
-        )?;
-    }
-    Ok(())
-}
 
 /// The key of a payment for another acquirer.
 const OTHER: TxKey = TxKey {
@@ -104,72 +42,141 @@ const OTHER: TxKey = TxKey {
     ..key!(200)
 };
 
-const NO_ORDERS: &[(&'static str, u16, Does)] = &[
-    ("a debit of nothing", 200, Does::Debit(ACCOUNT, 0, *b"840")),
+/// A name, the type of a key, what an order of it would do, and whether that order is the purchase, where there is one.
+type Likely = (&'static str, u16, Does, Option<bool>);
+
+const ORDERS: &[Likely] = &[
+    ("itself", 200, PURCHASE, Some(true)),
+    ("under another key", 220, PURCHASE, Some(false)),
+    (
+        "of another amount",
+        200,
+        Does::Debit(ACCOUNT, 1001, *b"840"),
+        Some(false),
+    ),
+    (
+        "of another account",
+        200,
+        Does::Debit(b"04111111111111111", 1000, *b"840"),
+        Some(false),
+    ),
+    (
+        "in another currency",
+        200,
+        Does::Debit(ACCOUNT, 1000, *b"USD"),
+        Some(false),
+    ),
+    (
+        "a credit",
+        200,
+        Does::Credit(ACCOUNT, 1000, *b"840"),
+        Some(false),
+    ),
+    (
+        "a debit of nothing",
+        200,
+        Does::Debit(ACCOUNT, 0, *b"840"),
+        None,
+    ),
     (
         "an advice of an inquiry",
         220,
         Does::Inquiry(ACCOUNT, 0, *b"840"),
+        None,
     ),
     (
         "a currency with a blank",
         200,
         Does::Inquiry(ACCOUNT, 0, *b"US "),
+        None,
     ),
     (
         "an amount of thirteen digits",
         200,
         Does::Debit(ACCOUNT, 1_000_000_000_000, *b"840"),
+        None,
     ),
     (
         "a credit of class 1",
         100,
         Does::Credit(ACCOUNT, 1000, *b"840"),
+        None,
     ),
-    ("a reversal in a payment", 200, Does::Undo(key!(200), 0)),
-    ("a reversal for another acquirer", 420, Does::Undo(OTHER, 0)),
-    ("a reversal of a reversal", 420, Does::Undo(key!(400), 0)),
+    (
+        "a reversal in a payment",
+        200,
+        Does::Undo(key!(200), 0),
+        None,
+    ),
+    (
+        "a reversal for another acquirer",
+        420,
+        Does::Undo(OTHER, 0),
+        None,
+    ),
+    (
+        "a reversal of a reversal",
+        420,
+        Does::Undo(key!(400), 0),
+        None,
+    ),
     (
         "a reversal that leaves thirteen digits",
         420,
         Does::Undo(key!(200), 1_000_000_000_000),
+        None,
     ),
     (
         "a completion by a request",
         200,
         Does::Complete(ACCOUNT, 1000, *b"840", key!(100)),
+        None,
     ),
     (
         "a completion of a purchase",
         220,
         Does::Complete(ACCOUNT, 1000, *b"840", key!(200)),
+        None,
     ),
     (
         "a completion for another acquirer",
         220,
         Does::Complete(ACCOUNT, 1000, *b"840", TxKey { base: 100, ..OTHER }),
+        None,
     ),
     (
         "a completion of nothing",
         220,
         Does::Complete(ACCOUNT, 0, *b"840", key!(100)),
+        None,
     ),
     (
         "under the key of a repeat",
         201,
         Does::Inquiry(ACCOUNT, 0, *b"840"),
+        None,
     ),
 ];
 
-fn is_no_order(base: u16, does: Does) -> Result<bool, Fail> {
-    let act = act(does)?;
-    Ok(new_order(key(base), act) == None)
+/// Whether an order has that key and that act, and is the other one or isn't.
+fn is_order(order: &Order, key: TxKey, act: Act, other: &Order, is_same: bool) -> bool {
+    (order.key(), order.act(), order.is_same(other)) == (key, act, is_same)
+}
+
+/// Whether there is such an order, which is the purchase or isn't, or none.
+fn is_made(base: u16, does: Does, want: Option<bool>) -> Result<bool, Fail> {
+    let purchase = order(key(200), PURCHASE)?;
+    let (key, act) = (key(base), act(does)?);
+    Ok(match (new_order(key, act), want) {
+        (Some(order), Some(is_same)) => is_order(&order, key, act, &purchase, is_same),
+        (made, want) => made.is_none() && want.is_none(),
+    })
 }
 
 #[test]
-fn refused_orders() -> Result<(), Fail> {
-    for (name, base, does) in NO_ORDERS {
-        check(is_no_order(*base, *does)?, *name)?;
+fn orders() -> Result<(), Fail> {
+    for (name, base, does, want) in ORDERS {
+        check(is_made(*base, *does, *want)?, *name)?;
     }
     Ok(())
 }

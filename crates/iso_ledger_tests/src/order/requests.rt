@@ -19,7 +19,9 @@ const NOBODY: TxKey = TxKey {
     ..key!(200)
 };
 
-const PLAIN_PAYMENTS: &[Request] = &[
+const COMPLETION: Does = Does::Complete(ACCOUNT, 700, *b"840", HOLD_KEY);
+
+const REQUESTS: &[Request] = &[
     (
         "a purchase",
         key!(200),
@@ -62,6 +64,24 @@ const PLAIN_PAYMENTS: &[Request] = &[
         Does::Debit(b"01", 999_999_999_999, *b"USD"),
         b"02007220000100008000020100000099999999999901020304050000070512345USD",
     ),
+    (
+        "a reversal",
+        REVERSAL_KEY,
+        Does::Undo(key!(200), 0),
+        b"04208220000100000000000000400000000001020305000000080512345020000000701020304050000001234500000000000",
+    ),
+    (
+        "a reversal that leaves a part",
+        REVERSAL_KEY,
+        Does::Undo(key!(200), 400),
+        b"04208220000100000000000000420000000001020305000000080512345020000000701020304050000001234500000000000000000000400000000000000D00000000D00000000",
+    ),
+    (
+        "a completion",
+        COMPLETION_KEY,
+        COMPLETION,
+        b"0220F220000100008000000000400000000016411111111111111100000000000000070001020307000000110512345840010000001001020304050000001234500000000000",
+    ),
 ];
 
 fn message_for(alloc: Global, order: &Order) -> Result<Message, Fail> {
@@ -87,43 +107,15 @@ fn is_request(
 }
 
 /// Compares the message for each order with its bytes.
-fn check_requests(alloc: Global, requests: &[Request]) -> Result<(), Fail> {
-    let table = Table::ascii87(alloc)?;
-    for (name, key, does, want) in requests {
-        check(is_request(alloc, &table, *key, *does, *want)?, *name)?;
+fn check_requests(alloc: Global, table: &Table) -> Result<(), Fail> {
+    for (name, key, does, want) in REQUESTS {
+        check(is_request(alloc, table, *key, *does, *want)?, *name)?;
     }
     Ok(())
 }
 
 #[test]
-fn payments(rt: HostRuntime) -> Result<(), Fail> {
-    check_requests(rt.alloc(), PLAIN_PAYMENTS)
-}
-
-const COMPLETION: Does = Does::Complete(ACCOUNT, 700, *b"840", HOLD_KEY);
-
-const LATER_ORDERS: &[Request] = &[
-    (
-        "a reversal",
-        REVERSAL_KEY,
-        Does::Undo(key!(200), 0),
-        b"04208220000100000000000000400000000001020305000000080512345020000000701020304050000001234500000000000",
-    ),
-    (
-        "a reversal that leaves a part",
-        REVERSAL_KEY,
-        Does::Undo(key!(200), 400),
-        b"04208220000100000000000000420000000001020305000000080512345020000000701020304050000001234500000000000000000000400000000000000D00000000D00000000",
-    ),
-    (
-        "a completion",
-        COMPLETION_KEY,
-        COMPLETION,
-        b"0220F220000100008000000000400000000016411111111111111100000000000000070001020307000000110512345840010000001001020304050000001234500000000000",
-    ),
-];
-
-#[test]
-fn orders_that_name_another(rt: HostRuntime) -> Result<(), Fail> {
-    check_requests(rt.alloc(), LATER_ORDERS)
+fn orders_are_asked_for(rt: HostRuntime) -> Result<(), Fail> {
+    let table = Table::ascii87(rt.alloc())?;
+    check_requests(rt.alloc(), &table)
 }

@@ -1,37 +1,35 @@
 //! The responses that messages get.
 
-use super::{ACCOUNT, Change, message, payment};
-use iso_fakes::{check, check_of};
+use super::{ACCOUNT, message};
+use iso_fakes::check_of;
 use iso_order::{Act, Answer, Verdict, order_of, respond, respond_into};
 use iso_wire::Message;
 use std::alloc::Global;
 use std::test::Fail;
 
-/// The response to a message that is answered.
-fn response(alloc: Global, message: &Message, code: u8, seq: u32) -> Result<Message, Fail> {
-    if code > 99 || seq > 999_999 {
-        return Err("no answer".into());
-    }
-    let shown = None;
-    match order_of(message) {
-        Verdict::Silent => Err("silent".into()),
-        Verdict::Reply(_) | Verdict::Order(_) => {
-            Ok(respond(alloc, message, &Answer { code, seq, shown })?)
-        }
-    }
-}
-
 /// A message, what it is answered, and the response.
-#[derive(Drop)]
+#[derive(Clone, Copy)]
 struct Case {
     name: &'static str,
     mti: u16,
     asked: &'static [(u8, &'static [u8])],
     code: u8,
     seq: u32,
+    shown: Option<i64>,
     response: u16,
     answered: &'static [(u8, &'static [u8])],
 }
+
+/// The elements of a balance inquiry.
+const INQUIRY: &[(u8, &'static [u8])] = &[
+    (2, ACCOUNT),
+    (3, b"310000"),
+    (4, b"000000001000"),
+    (7, b"0102030405"),
+    (11, b"000007"),
+    (32, b"12345"),
+    (49, b"840"),
+];
 
 const CASES: &[Case] = &[
     Case {
@@ -48,6 +46,7 @@ const CASES: &[Case] = &[
         ],
         code: 0,
         seq: 1,
+        shown: None,
         response: 210,
         answered: &[
             (2, ACCOUNT),
@@ -77,6 +76,7 @@ const CASES: &[Case] = &[
         ],
         code: 51,
         seq: 2,
+        shown: None,
         response: 110,
         answered: &[
             (2, ACCOUNT),
@@ -101,6 +101,7 @@ const CASES: &[Case] = &[
         ],
         code: 0,
         seq: 2,
+        shown: None,
         response: 430,
         answered: &[
             (7, b"0102030500"),
@@ -116,48 +117,162 @@ const CASES: &[Case] = &[
         asked: &[(7, b"0102030405"), (70, b"001"), (128, b"code")],
         code: 0,
         seq: 0,
+        shown: None,
         response: 830,
         answered: &[(7, b"0102030405"), (39, b"00"), (70, b"001")],
     },
+    Case {
+        name: "a balance above zero",
+        mti: 200,
+        asked: INQUIRY,
+        code: 0,
+        seq: 2,
+        shown: Some(4000),
+        response: 210,
+        answered: &[
+            (2, ACCOUNT),
+            (3, b"310000"),
+            (4, b"000000001000"),
+            (7, b"0102030405"),
+            (11, b"000007"),
+            (32, b"12345"),
+            (38, b"000002"),
+            (39, b"00"),
+            (49, b"840"),
+            (54, b"0002840C000000004000"),
+        ],
+    },
+    Case {
+        name: "a balance below zero",
+        mti: 200,
+        asked: INQUIRY,
+        code: 0,
+        seq: 2,
+        shown: Some(-50),
+        response: 210,
+        answered: &[
+            (2, ACCOUNT),
+            (3, b"310000"),
+            (4, b"000000001000"),
+            (7, b"0102030405"),
+            (11, b"000007"),
+            (32, b"12345"),
+            (38, b"000002"),
+            (39, b"00"),
+            (49, b"840"),
+            (54, b"0002840D000000000050"),
+        ],
+    },
+    Case {
+        name: "a balance of zero",
+        mti: 200,
+        asked: INQUIRY,
+        code: 0,
+        seq: 2,
+        shown: Some(0),
+        response: 210,
+        answered: &[
+            (2, ACCOUNT),
+            (3, b"310000"),
+            (4, b"000000001000"),
+            (7, b"0102030405"),
+            (11, b"000007"),
+            (32, b"12345"),
+            (38, b"000002"),
+            (39, b"00"),
+            (49, b"840"),
+            (54, b"0002840C000000000000"),
+        ],
+    },
+    Case {
+        name: "a balance of twelve digits",
+        mti: 200,
+        asked: INQUIRY,
+        code: 0,
+        seq: 2,
+        shown: Some(-999_999_999_999),
+        response: 210,
+        answered: &[
+            (2, ACCOUNT),
+            (3, b"310000"),
+            (4, b"000000001000"),
+            (7, b"0102030405"),
+            (11, b"000007"),
+            (32, b"12345"),
+            (38, b"000002"),
+            (39, b"00"),
+            (49, b"840"),
+            (54, b"0002840D999999999999"),
+        ],
+    },
 ];
+
+/// What a message of a case is answered.
+fn answer(case: &Case) -> Result<Answer, Fail> {
+    if case.code > 99 || case.seq > 999_999 {
+        return Err("no answer".into());
+    }
+    Ok(Answer {
+        code: case.code,
+        seq: case.seq,
+        shown: case.shown,
+    })
+}
+
+/// Gives the response to a message that is answered, and makes another message that response.
+fn respond_twice(
+    alloc: Global,
+    asked: &Message,
+    answer: &Answer,
+    other: &mut Message,
+) -> Result<Message, Fail> {
+    let verdict = order_of(asked);
+    if let Verdict::Silent = verdict {
+        return Err("silent".into());
+    }
+    if let Some(shown) = answer.shown {
+        let Verdict::Order(order) = verdict else {
+            return Err("no order".into());
+        };
+        let Act::Inquiry(_) = order.act() else {
+            return Err("no inquiry".into());
+        };
+        if shown.unsigned_abs() > 999_999_999_999 {
+            return Err("too wide".into());
+        }
+    }
+    respond_into(asked, answer, other)?;
+    Ok(respond(alloc, asked, answer)?)
+}
+
+/// The response to the message of a case, which another message becomes too.
+fn responses(alloc: Global, case: &Case, other: &mut Message) -> Result<Message, Fail> {
+    let asked = message(alloc, case.mti, case.asked)?;
+    respond_twice(alloc, &asked, &answer(case)?, other)
+}
 
 fn is_equal(one: &Message, other: &Message) -> bool {
     one.equals(other)
 }
 
-/// Whether that is the response of a case.
-fn is_response(alloc: Global, case: &Case, made: &Message) -> Result<bool, Fail> {
+/// Compares the response to the message of a case, and what another message becomes.
+fn check_case(alloc: Global, case: &Case, other: &mut Message) -> Result<(), Fail> {
     let want = message(alloc, case.response, case.answered)?;
-    Ok(is_equal(made, &want))
+    let made = responses(alloc, case, other)?;
+    check_of(is_equal(&made, &want), case.name, "the response")?;
+    check_of(
+        is_equal(other, &want),
+        case.name,
+        "what another message becomes",
+    )
 }
 
-/// Whether the message of a case gets its response.
-fn is_answered(alloc: Global, case: &Case) -> Result<bool, Fail> {
-    let asked = message(alloc, case.mti, case.asked)?;
-    let made = response(alloc, &asked, case.code, case.seq)?;
-    is_response(alloc, case, &made)
-}
-
-#[test]
-fn responses(rt: HostRuntime) -> Result<(), Fail> {
+/// Compares the response of each case, and what one message becomes, one response after the other.
+fn check_cases(alloc: Global, other: &mut Message) -> Result<(), Fail> {
     for case in CASES {
-        check(is_answered(rt.alloc(), case)?, case.name)?;
+        check_case(alloc, case, other)?;
     }
     Ok(())
-}
-
-/// Makes a message the response to one that is answered.
-fn respond_over(message: &Message, code: u8, seq: u32, into: &mut Message) -> Result<(), Fail> {
-    if code > 99 || seq > 999_999 {
-        return Err("no answer".into());
-    }
-    let shown = None;
-    match order_of(message) {
-        Verdict::Silent => Err("silent".into()),
-        Verdict::Reply(_) | Verdict::Order(_) => {
-            Ok(respond_into(message, &Answer { code, seq, shown }, into)?)
-        }
-    }
 }
 
 /// The response to a declined inquiry, which no case has.
@@ -165,84 +280,8 @@ fn earlier(alloc: Global) -> Result<Message, Fail> {
     message(alloc, 210, &[(39, b"51"), (54, b"0002840C000000004000")])
 }
 
-/// Makes a message the response to the message of a case.
-fn answer_over(alloc: Global, case: &Case, made: &mut Message) -> Result<(), Fail> {
-    let asked = message(alloc, case.mti, case.asked)?;
-    respond_over(&asked, case.code, case.seq, made)
-}
-
-/// Whether a message becomes the response of a case.
-fn is_answered_over(alloc: Global, case: &Case, made: &mut Message) -> Result<bool, Fail> {
-    answer_over(alloc, case, made)?;
-    is_response(alloc, case, made)
-}
-
-/// Compares what a message becomes, one response after the other.
-fn check_responses_over(alloc: Global, made: &mut Message) -> Result<(), Fail> {
-    for case in CASES {
-        check(is_answered_over(alloc, case, made)?, case.name)?;
-    }
-    Ok(())
-}
-
 #[test]
-fn a_response_is_made_in_place_of_another(rt: HostRuntime) -> Result<(), Fail> {
-    let mut made = earlier(rt.alloc())?;
-    check_responses_over(rt.alloc(), &mut made)
-}
-
-/// The response to an inquiry that shows a balance.
-fn shown(alloc: Global, message: &Message, shown: i64) -> Result<Message, Fail> {
-    if shown.unsigned_abs() > 999_999_999_999 {
-        return Err("too wide".into());
-    }
-    let Verdict::Order(order) = order_of(message) else {
-        return Err("no order".into());
-    };
-    let Act::Inquiry(_) = order.act() else {
-        return Err("no inquiry".into());
-    };
-    let shown = Some(shown);
-    Ok(respond(
-        alloc,
-        message,
-        &Answer {
-            code: 0,
-            seq: 2,
-            shown,
-        },
-    )?)
-}
-
-/// The response to an inquiry on the account, of which so much is available.
-fn shown_balance(alloc: Global, balance: i64) -> Result<Message, Fail> {
-    let inquiry = payment(alloc, 200, Change::Set(3, b"310000"))?;
-    shown(alloc, &inquiry, balance)
-}
-
-fn has(message: &Message, n: u8, want: &[u8]) -> bool {
-    message.get(n) == Some(want)
-}
-
-const SHOWN_BALANCES: &[(&'static str, i64, &'static [u8])] = &[
-    ("above zero", 4000, b"0002840C000000004000"),
-    ("below zero", -50, b"0002840D000000000050"),
-    ("zero", 0, b"0002840C000000000000"),
-    ("twelve digits", -999_999_999_999, b"0002840D999999999999"),
-];
-
-/// Compares a response that shows a balance.
-fn check_shown(made: &Message, name: &str, text: &[u8]) -> Result<(), Fail> {
-    check_of(has(made, 54, text), name, "balance")?;
-    check_of(has(made, 39, b"00"), name, "code")?;
-    check_of(has(made, 38, b"000002"), name, "authorization")
-}
-
-#[test]
-fn balances(rt: HostRuntime) -> Result<(), Fail> {
-    for (name, balance, text) in SHOWN_BALANCES {
-        let made = shown_balance(rt.alloc(), *balance)?;
-        check_shown(&made, *name, *text)?;
-    }
-    Ok(())
+fn messages_are_answered(rt: HostRuntime) -> Result<(), Fail> {
+    let mut other = earlier(rt.alloc())?;
+    check_cases(rt.alloc(), &mut other)
 }
