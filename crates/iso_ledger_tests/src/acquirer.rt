@@ -1,6 +1,5 @@
 //! What an acquirer does by itself, and what it and an issuer agree on whatever is lost, late or repeated between them.
 use crate::accounts::{ACCOUNT, money, pan};
-use crate::checks::check_step;
 use iso_acquirer::{AcqFault, Acquirer, Event, State, StepFault, World};
 use iso_fakes::{check, check_of};
 use iso_issuer::{Accounts, Issuer, Refused};

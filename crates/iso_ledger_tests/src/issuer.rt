@@ -1,10 +1,9 @@
 //! What an issuer answers to orders, and what is on its accounts then.
 use crate::accounts::{ACCOUNT, money, pan};
-use crate::checks::check_step;
 use Expected::{Declined, Full, Granted, Shows};
 use asking::Ask::*;
 use asking::*;
-use iso_fakes::check;
+use iso_fakes::{check, check_of};
 use iso_issuer::{Accounts, AccountsFault, Issuer, Refused};
 use iso_order::{Act, Answer, Money, Order, Pan, TxKey};
 use std::alloc::Global;
@@ -72,9 +71,9 @@ const MOST_ORDERS: u32 = 999_999;
 /// How many orders were entered, and the ledger and what is available.
 type Books = (u32, OnAccount);
 
-/// What is in the books of an issuer.
-fn books(issuer: &Issuer) -> Result<Books, Fail> {
-    Ok((entries(issuer), balances(issuer)?))
+/// Whether that is in the books of an issuer.
+fn has_books(issuer: &Issuer, books: Books) -> Result<bool, Fail> {
+    Ok((entries(issuer), balances(issuer)?) == books)
 }
 
 /// Whether that is told of what is asked. Where memory runs out, the test ends.
@@ -85,16 +84,21 @@ fn is_told(issuer: &mut Issuer, asked: Ask, expected: Expected) -> Result<bool, 
     }
 }
 
-/// Hands what is asked to an issuer, and compares each answer, and what is in the books then: as many orders as the
-/// greatest place that was told.
+/// Whether a step gets its answer and leaves that on the account, and so many orders are entered then.
+fn is_step(issuer: &mut Issuer, step: &Step, count: u32) -> Result<bool, Fail> {
+    let (_, asked, expected, (ledger, available)) = step;
+    let books = (count, (Some(*ledger), Some(*available)));
+    Ok(is_told(issuer, *asked, *expected)? && has_books(issuer, books)?)
+}
+
+/// Hands what is asked to an issuer, and compares each answer and what is in the books then: as many orders as the greatest
+/// place that was told.
 fn play_on(issuer: &mut Issuer, day: &str, steps: &[Step]) -> Result<(), Fail> {
     let mut count = 0;
-    for (name, asked, expected, (ledger, available)) in steps {
-        let is_told = is_told(issuer, *asked, *expected)?;
-        check_step(is_told, day, *name, "the answer")?;
+    for step in steps {
+        let (name, _, expected, _) = step;
         count = count.max(place(*expected));
-        let is_left = books(issuer)? == (count, (Some(*ledger), Some(*available)));
-        check_step(is_left, day, *name, "the books")?;
+        check_of(is_step(issuer, step, count)?, day, *name)?;
     }
     Ok(())
 }
@@ -194,10 +198,8 @@ fn runs_three(alloc: Global, issuer: &mut Issuer) -> Result<bool, Fail> {
 /// Compares the answers to a list of orders, and what is in the books then.
 fn check_run(alloc: Global, issuer: &mut Issuer) -> Result<(), Fail> {
     check(runs_three(alloc, issuer)?, "the answers to the list")?;
-    check(
-        books(issuer)? == (1, (Some(4000), Some(4000))),
-        "the books at the end",
-    )
+    let books = (1, (Some(4000), Some(4000)));
+    check(has_books(issuer, books)?, "the books at the end")
 }
 
 #[test]

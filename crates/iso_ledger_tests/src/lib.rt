@@ -7,8 +7,6 @@ mod accounts;
 #[cfg(test)]
 mod acquirer;
 #[cfg(test)]
-mod checks;
-#[cfg(test)]
 mod issuer;
 #[cfg(test)]
 mod order;

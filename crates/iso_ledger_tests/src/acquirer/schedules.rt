@@ -289,11 +289,17 @@ const SCHEDULES: &[Schedule] = &[
     },
 ];
 
+/// Whether an event comes to what it should, and leaves that.
+fn is_step(world: &mut World, step: &Step) -> Result<bool, Fail> {
+    let (_, happens, told, held, left) = step;
+    Ok(comes_to(world, *happens, *told)? && leaves(world, *held, *left)?)
+}
+
 /// Plays events, and compares what comes of each.
-fn play_steps(world: &mut World, name: &str, steps: &[Step]) -> Result<(), Fail> {
-    for (step, happens, told, held, left) in steps {
-        check_step(comes_to(world, *happens, *told)?, name, *step, "the event")?;
-        check_step(leaves(world, *held, *left)?, name, *step, "what it leaves")?;
+fn play_steps(world: &mut World, schedule: &str, steps: &[Step]) -> Result<(), Fail> {
+    for step in steps {
+        let (name, _, _, _, _) = step;
+        check_of(is_step(world, step)?, schedule, *name)?;
     }
     Ok(())
 }
@@ -310,20 +316,16 @@ fn gave_codes(world: &World, codes: &[u8]) -> bool {
     given.next().is_none()
 }
 
+/// Whether that was sent, given and entered by the end of a schedule.
+fn is_ended(world: &World, schedule: &Schedule) -> bool {
+    (world.sent().len(), world.issuer().len()) == (schedule.sent, schedule.entered)
+        && gave_codes(world, schedule.codes)
+}
+
 /// Plays a schedule, and compares what was sent, given and entered by its end.
 fn play_in(world: &mut World, schedule: &Schedule) -> Result<(), Fail> {
     play_steps(world, schedule.name, schedule.steps)?;
-    check_of(
-        gave_codes(world, schedule.codes),
-        schedule.name,
-        "the codes",
-    )?;
-    let counts = (world.sent().len(), world.issuer().len());
-    check_of(
-        counts == (schedule.sent, schedule.entered),
-        schedule.name,
-        "the counts",
-    )
+    check_of(is_ended(world, schedule), schedule.name, "the end")
 }
 
 /// Plays a schedule in a world where nothing has happened.

@@ -85,7 +85,7 @@ fn act_of(asked: Ask) -> Result<Act, Fail> {
 }
 
 /// The order of a key, if a message can carry it.
-pub fn made_order(key: TxKey, act: Act) -> Option<Order> {
+fn made_order(key: TxKey, act: Act) -> Option<Order> {
     Order::new(key, act)
 }
 
@@ -112,12 +112,12 @@ pub fn entries(issuer: &Issuer) -> u32 {
 }
 
 /// The ledger of a number.
-pub fn ledger_of(issuer: &Issuer, pan: Pan) -> Option<i64> {
+fn ledger_of(issuer: &Issuer, pan: Pan) -> Option<i64> {
     issuer.ledger(pan)
 }
 
 /// What is available to a number.
-pub fn available_to(issuer: &Issuer, pan: Pan) -> Option<i64> {
+fn available_to(issuer: &Issuer, pan: Pan) -> Option<i64> {
     issuer.available(pan)
 }
 

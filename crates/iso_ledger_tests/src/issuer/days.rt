@@ -355,9 +355,10 @@ const WITHOUT_THE_REVERSAL: &[Step] = &[
 /// Reverses a purchase before it comes, and tells what then comes of it. Where memory runs out (`rt try --test
 /// --fail-alloc N`), the reversal leaves no entry and no mark.
 fn reversal_first(issuer: &mut Issuer) -> Result<&'static [Step], Fail> {
-    match (reply_to(issuer, REVERSAL)?, entries(issuer)) {
-        (Ok((0, 1, None)), 1) => Ok(BEHIND_THE_REVERSAL),
-        (Err(Refused::Memory), 0) => Ok(WITHOUT_THE_REVERSAL),
+    let told = reply_to(issuer, REVERSAL)?;
+    match entries(issuer) {
+        1 if told == reply(Granted(1)) => Ok(BEHIND_THE_REVERSAL),
+        0 if told == Err(Refused::Memory) => Ok(WITHOUT_THE_REVERSAL),
         _ => Err("the reversal")?,
     }
 }

@@ -126,6 +126,18 @@ fn is_answered_by(
     Ok(bytes.as_slice() == response)
 }
 
+/// Whether a request gets its response and leaves that on the account.
+fn is_exchange(
+    alloc: Global,
+    table: &Table,
+    issuer: &mut Issuer,
+    exchange: &Exchange,
+) -> Result<bool, Fail> {
+    let (_, request, response, ledger, available) = exchange;
+    let is_answered = is_answered_by(alloc, table, issuer, *request, *response)?;
+    Ok(is_answered && balances(issuer)? == (Some(*ledger), Some(*available)))
+}
+
 /// Hands each request to an issuer, and compares its response and what is on the account.
 fn exchange_on(
     alloc: Global,
@@ -134,11 +146,9 @@ fn exchange_on(
     day: &str,
     requests: &[Exchange],
 ) -> Result<(), Fail> {
-    for (name, request, response, ledger, available) in requests {
-        let is_answered = is_answered_by(alloc, table, issuer, *request, *response)?;
-        check_step(is_answered, day, *name, "the response")?;
-        let is_left = balances(issuer)? == (Some(*ledger), Some(*available));
-        check_step(is_left, day, *name, "the account")?;
+    for exchange in requests {
+        let (name, _, _, _, _) = exchange;
+        check_of(is_exchange(alloc, table, issuer, exchange)?, day, *name)?;
     }
     Ok(())
 }
