@@ -1,9 +1,11 @@
 //! What the command answers, case by case.
 use iso_fakes::check_of;
+use std::alloc::Global;
 use std::test::Fail;
 
 mod act;
 mod arguments;
+mod cases;
 mod run;
 mod source;
 mod stop;
@@ -22,18 +24,6 @@ const ECHO: &[u8] = b"0800822000000000000004000000000000000102030405000001301";
 const PURCHASE: &[u8] =
     b"0200722000010000800016411111111111111100000000000000100001020304050000070512345840";
 
-/// Ends the test with the name of a case, unless the status and the fault line are as wanted.
-fn check_stop(
-    status: u8,
-    faults: &[u8],
-    wanted_status: u8,
-    wanted_faults: &[u8],
-    name: &str,
-) -> Result<(), Fail> {
-    check_of(status == wanted_status, name, "the status")?;
-    check_of(faults == wanted_faults, name, "the fault line")
-}
-
 /// What comes of words over streams: the status, what is written, and what is told.
 #[derive(Drop)]
 struct End {
@@ -51,7 +41,8 @@ fn check_end(
     name: &str,
 ) -> Result<(), Fail> {
     check_of(is_joined(&ended.output, output), name, "the output")?;
-    check_stop(ended.status, &ended.faults, status, faults, name)
+    check_of(ended.status == status, name, "the status")?;
+    check_of(ended.faults.as_slice() == faults, name, "the fault line")
 }
 
 /// Whether the bytes are these pieces end to end.
@@ -64,4 +55,17 @@ fn is_joined(bytes: &[u8], pieces: &[&[u8]]) -> bool {
         }
     }
     rest.is_empty()
+}
+
+/// These pieces end to end, the last of them so many times.
+fn join(alloc: Global, pieces: &[&[u8]], times: usize) -> Result<Vec<u8>, Fail> {
+    let mut bytes = Vec::new(alloc);
+    for piece in pieces {
+        bytes.extend_from_slice(piece)?;
+    }
+    let last = pieces.last().copied().unwrap_or_default();
+    for _ in 1..times {
+        bytes.extend_from_slice(last)?;
+    }
+    Ok(bytes)
 }

@@ -1,8 +1,7 @@
 //! The program's own arguments.
-ghost use Rattle.std.specs.Prelude.{None};
 
 use crate::arguments::act_as_given;
-use crate::source::{Source, SourceFault};
+use crate::tests::cases::DOCUMENTS;
 use crate::tests::{End, check_end};
 use iso_host::Std;
 use std::alloc::Global;
@@ -33,18 +32,6 @@ impl Env for Arguments {
 
     fn var_at(&self, _i: usize, _buf: &mut [u8]) -> Result<usize, FillError> {
         Err(FillError::NotPresent)
-    }
-}
-
-/// No file at any path.
-#[derive(Drop)]
-struct NoFiles;
-
-impl Source for NoFiles {
-    ghost file = { λ s path. None };
-
-    fn read(&self, _alloc: Global, _path: &str) -> Result<Vec<u8>, SourceFault> {
-        Err(SourceFault::File)
     }
 }
 
@@ -129,7 +116,7 @@ fn act_given(rt: &HostRuntime, arguments: &'static [&'static [u8]]) -> End {
         rt.alloc(),
         &given,
         rt,
-        &NoFiles,
+        &DOCUMENTS,
         &mut input,
         &mut Std::new(&mut output),
         &mut Std::new(&mut faults),
@@ -141,15 +128,11 @@ fn act_given(rt: &HostRuntime, arguments: &'static [&'static [u8]]) -> End {
     }
 }
 
-fn run_case(rt: &HostRuntime, case: &Case) -> Result<(), Fail> {
-    let ended = act_given(rt, case.arguments);
-    check_end(&ended, case.status, &[case.output], case.faults, case.name)
-}
-
 #[test]
 fn the_words_are_those_behind_the_name(rt: HostRuntime) -> Result<(), Fail> {
     for case in CASES {
-        run_case(&rt, case)?;
+        let ended = act_given(&rt, case.arguments);
+        check_end(&ended, case.status, &[case.output], case.faults, case.name)?;
     }
     Ok(())
 }

@@ -1,13 +1,8 @@
 //! The host on a stream, from words and frames to frames, a status and a line.
-ghost use Rattle.std.specs.Prelude.{None};
 
-use crate::act::act;
-use crate::source::{Source, SourceFault};
-use crate::tests::{ECHO, End, PURCHASE, TERMINALS, check_end, check_stop, is_joined};
-use iso_fakes::{check, check_of};
-use iso_host::Std;
+use crate::tests::cases::{CASE, Case, DOCUMENTS, STREAMS, Streams, run_cases};
+use crate::tests::{ECHO, End, PURCHASE, check_end, is_joined, join};
 use std::alloc::Global;
-use std::io::Read;
 use std::test::Fail;
 
 mod connections;
@@ -18,34 +13,12 @@ mod orders;
 mod reads;
 mod words;
 
-/// Documents at the paths `table.json` and `accounts.json`.
-#[derive(Clone, Copy, Drop)]
-struct Documents {
-    table: &'static [u8],
-    accounts: &'static [u8],
-}
+/// The words of a host over the accounts, by its header.
+const RUN: &[&str] = &["run", "ascii87", "accounts.json", "ascii4"];
 
-impl Source for Documents {
-    ghost file = { λ s path. None };
+const RUN_BINARY2: &[&str] = &["run", "ascii87", "accounts.json", "binary2"];
 
-    fn read(&self, alloc: Global, path: &str) -> Result<Vec<u8>, SourceFault> {
-        let text = match path {
-            "table.json" => self.table,
-            "accounts.json" => self.accounts,
-            _ => return Err(SourceFault::File),
-        };
-        match Vec::from_slice(alloc, text) {
-            Ok(bytes) => Ok(bytes),
-            Err(_) => Err(SourceFault::Memory),
-        }
-    }
-}
-
-/// A table under which no host can serve, and one account with 50.00 in it.
-const DOCUMENTS: Documents = Documents {
-    table: TERMINALS,
-    accounts: b"{\"accounts\":[{\"currency\":\"840\",\"opening\":5000,\"pan\":\"4111111111111111\"}]}",
-};
+const RUN_BCD2: &[&str] = &["run", "ascii87", "accounts.json", "bcd2"];
 
 /// The response to the echo test.
 const ECHOED: &[u8] = b"081082200000020000000400000000000000010203040500000100301";
@@ -99,58 +72,12 @@ const SECOND: &[u8] =
 const SECOND_GRANTED: &[u8] =
     b"021072200001060080001641111111111111110000000000000010000102030405000010051234500000300840";
 
-/// Headers and bodies in, and what comes of them.
-#[derive(Drop)]
-struct Case {
-    name: &'static str,
-    header: &'static str,
-    input: &'static [&'static [u8]],
-    status: u8,
-    output: &'static [&'static [u8]],
-    faults: &'static [u8],
-}
-
-fn join(alloc: Global, pieces: &[&[u8]]) -> Result<Vec<u8>, Fail> {
-    let mut bytes = Vec::new(alloc);
-    for piece in pieces {
-        bytes.extend_from_slice(piece)?;
-    }
-    Ok(bytes)
-}
-
-/// What comes of these words over an input.
-fn act_over<R: Read + Drop>(alloc: Global, documents: &Documents, words: &[&str], input: R) -> End {
-    let mut output = Vec::new(alloc);
-    let mut faults = Vec::new(alloc);
-    let status = act(
-        alloc,
-        words,
-        documents,
-        &mut Std::new(input),
-        &mut Std::new(&mut output),
-        &mut Std::new(&mut faults),
-    );
-    End {
-        status,
-        output,
-        faults,
-    }
-}
-
-fn run_cases(alloc: Global, cases: &[Case]) -> Result<(), Fail> {
-    for case in cases {
-        run_case(alloc, &DOCUMENTS, case)?;
-    }
-    Ok(())
-}
-
-fn act_case(alloc: Global, documents: &Documents, case: &Case) -> Result<End, Fail> {
-    let bytes = join(alloc, case.input)?;
-    let words = ["run", "ascii87", "accounts.json", case.header];
-    Ok(act_over(alloc, documents, &words, bytes.as_slice()))
-}
-
-fn run_case(alloc: Global, documents: &Documents, case: &Case) -> Result<(), Fail> {
-    let ended = act_case(alloc, documents, case)?;
-    check_end(&ended, case.status, case.output, case.faults, case.name)
+#[test]
+fn a_host_on_a_stream_gives_what_its_cases_say(rt: HostRuntime) -> Result<(), Fail> {
+    run_cases(rt.alloc(), orders::ORDERS)?;
+    run_cases(rt.alloc(), frames::OTHER_FRAMES)?;
+    run_cases(rt.alloc(), inquiries::SHOWS)?;
+    run_cases(rt.alloc(), reads::READS)?;
+    run_cases(rt.alloc(), ends::ENDS)?;
+    run_cases(rt.alloc(), words::REFUSED)
 }

@@ -5,6 +5,9 @@ use iso_fakes::{check, sevens};
 use std::fs;
 use std::test::Fail;
 
+/// A file that the test writes, and removes at its end.
+const FILE: &str = "shell_source_test";
+
 /// How many bytes the file at a path gives.
 fn length_of(rt: &HostRuntime, path: &str) -> Result<usize, SourceFault> {
     let disk = Disk { rt };
@@ -21,47 +24,47 @@ fn write_file(rt: &HostRuntime, path: &str, count: usize) -> Result<(), Fail> {
     Ok(())
 }
 
-/// A file of so many bytes, and how many are read.
-const FILES: &[(&str, usize, usize)] = &[
-    ("empty", 0, 0),
-    ("short", 5, 5),
-    ("the most", 1_048_576, 1_048_576),
-    ("one more", 1_048_577, 1_048_577),
-    ("two more", 1_048_578, 1_048_577),
+/// A path, how many bytes stand there where it is a file that is written first, and how many are read.
+const PATHS: &[(&str, &str, Option<usize>, Result<usize, SourceFault>)] = &[
+    ("empty", FILE, Some(0), Ok(0)),
+    ("short", FILE, Some(5), Ok(5)),
+    ("the most", FILE, Some(1_048_576), Ok(1_048_576)),
+    ("one more", FILE, Some(1_048_577), Ok(1_048_577)),
+    ("two more", FILE, Some(1_048_578), Ok(1_048_577)),
+    (
+        "a missing file",
+        "shell_no_such_file",
+        None,
+        Err(SourceFault::File),
+    ),
+    ("a folder", ".", None, Err(SourceFault::File)),
+    ("no path", "", None, Err(SourceFault::File)),
+    (
+        "below a missing folder",
+        "shell_no_such_folder/file",
+        None,
+        Err(SourceFault::File),
+    ),
 ];
 
-/// Whether so many bytes are read of a file of so many.
-fn is_read(rt: &HostRuntime, held: usize, wanted: usize) -> Result<bool, Fail> {
-    write_file(rt, "shell_source_test", held)?;
-    Ok(length_of(rt, "shell_source_test") == Ok(wanted))
-}
-
-fn read_each(rt: &HostRuntime) -> Result<(), Fail> {
-    for (name, held, wanted) in FILES {
-        check(is_read(rt, *held, *wanted)?, *name)?;
+/// Whether so many bytes are read at a path, once its file is written.
+fn is_read(
+    rt: &HostRuntime,
+    path: &str,
+    held: Option<usize>,
+    wanted: Result<usize, SourceFault>,
+) -> Result<bool, Fail> {
+    if let Some(count) = held {
+        write_file(rt, path, count)?;
     }
-    Ok(())
+    Ok(length_of(rt, path) == wanted)
 }
 
 #[test]
-fn reads_files(rt: HostRuntime) -> Result<(), Fail> {
-    read_each(&rt)?;
-    fs::remove_file(&rt, "shell_source_test")?;
-    Ok(())
-}
-
-const OTHER_THINGS: &[(&str, &str)] = &[
-    ("a missing file", "shell_no_such_file"),
-    ("a folder", "."),
-    ("no path", ""),
-    ("below a missing folder", "shell_no_such_folder/file"),
-];
-
-#[test]
-fn reads_no_other_thing(rt: HostRuntime) -> Result<(), Fail> {
-    for (name, path) in OTHER_THINGS {
-        let read = length_of(&rt, *path);
-        check(read == Err(SourceFault::File), *name)?;
+fn reads_files_and_no_other_thing(rt: HostRuntime) -> Result<(), Fail> {
+    for (name, path, held, wanted) in PATHS {
+        check(is_read(&rt, *path, *held, *wanted)?, *name)?;
     }
+    fs::remove_file(&rt, FILE)?;
     Ok(())
 }

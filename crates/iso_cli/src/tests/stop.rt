@@ -3,124 +3,175 @@
 use crate::source::SourceFault;
 use crate::stop::{Stop, tell};
 use crate::streaming::InputFault;
-use crate::tests::check_stop;
 use crate::words::WordsFault;
 use iso_fakes::{FewTaken, check, check_of};
 use iso_host::{ServeFault, Std};
 use std::alloc::Global;
 use std::test::Fail;
 
-/// A stop, its status and its line.
-const STOPS: &[(Stop, u8, &str)] = &[
-    (Stop::Words, 2, "command line refused\n"),
-    (Stop::File, 3, "failed: File\n"),
-    (Stop::Read, 3, "failed: Read\n"),
-    (Stop::Write, 3, "failed: Write\n"),
-    (Stop::Memory, 3, "failed: Memory\n"),
-    (Stop::TooManyTurns, 3, "failed: TooManyTurns\n"),
-    (Stop::InputTooLong, 1, "refused: InputTooLong\n"),
-    (Stop::TrailingBytes, 1, "refused: TrailingBytes\n"),
-    (Stop::BadHeader, 1, "refused: BadHeader\n"),
-    (Stop::CutFrame, 1, "refused: CutFrame\n"),
-];
-
-/// Whether the stop has the status, and is told by the line.
-fn is_told(alloc: Global, stop: Stop, status: u8, line: &str) -> bool {
-    let mut lines = Vec::new(alloc);
-    let given = tell(alloc, &mut Std::new(&mut lines), stop);
-    given == status && lines.as_slice() == line.as_bytes()
-}
-
-#[test]
-fn tells_each_stop(rt: HostRuntime) -> Result<(), Fail> {
-    for (stop, status, line) in STOPS {
-        check(is_told(rt.alloc(), *stop, *status, *line), *line)?;
-    }
-    Ok(())
-}
-
-/// A fault stream, and what comes of telling it that an input is too long.
+/// A stop that is told to a fault stream: how many bytes a write takes, how many writes there are, and whether the flush
+/// fails. Then the status, the line, and the flushes.
 #[derive(Drop)]
-struct Failing {
+struct Told {
     name: &'static str,
-    piece: usize,
-    calls: u32,
-    fails_to_flush: bool,
+    stop: Stop,
+    takes: usize,
+    writes: u32,
+    flush_fails: bool,
     status: u8,
-    told: &'static [u8],
+    line: &'static [u8],
     flushes: u32,
 }
 
-const FAILING: &[Failing] = &[
-    Failing {
-        name: "whole, a few at a time",
-        piece: 5,
-        calls: 5,
-        fails_to_flush: false,
+/// Words that are refused, told to a stream that doesn't fail.
+const WORDS: Told = Told {
+    name: "words",
+    stop: Stop::Words,
+    takes: 99,
+    writes: 9,
+    flush_fails: false,
+    status: 2,
+    line: b"command line refused\n",
+    flushes: 1,
+};
+
+/// A long input, told to a stream that doesn't fail.
+const LONG: Told = Told {
+    name: "a long input",
+    stop: Stop::InputTooLong,
+    status: 1,
+    line: b"refused: InputTooLong\n",
+    ..WORDS
+};
+
+const TOLD: &[Told] = &[
+    WORDS,
+    Told {
+        name: "a file",
+        stop: Stop::File,
+        status: 3,
+        line: b"failed: File\n",
+        ..WORDS
+    },
+    Told {
+        name: "a read",
+        stop: Stop::Read,
+        status: 3,
+        line: b"failed: Read\n",
+        ..WORDS
+    },
+    Told {
+        name: "a write",
+        stop: Stop::Write,
+        status: 3,
+        line: b"failed: Write\n",
+        ..WORDS
+    },
+    Told {
+        name: "memory",
+        stop: Stop::Memory,
+        status: 3,
+        line: b"failed: Memory\n",
+        ..WORDS
+    },
+    Told {
+        name: "turns",
+        stop: Stop::TooManyTurns,
+        status: 3,
+        line: b"failed: TooManyTurns\n",
+        ..WORDS
+    },
+    LONG,
+    Told {
+        name: "bytes behind a message",
+        stop: Stop::TrailingBytes,
         status: 1,
-        told: b"refused: InputTooLong\n",
-        flushes: 1,
+        line: b"refused: TrailingBytes\n",
+        ..WORDS
     },
-    Failing {
+    Told {
+        name: "a bad header",
+        stop: Stop::BadHeader,
+        status: 1,
+        line: b"refused: BadHeader\n",
+        ..WORDS
+    },
+    Told {
+        name: "a cut frame",
+        stop: Stop::CutFrame,
+        status: 1,
+        line: b"refused: CutFrame\n",
+        ..WORDS
+    },
+    Told {
+        name: "whole, a few at a time",
+        takes: 5,
+        writes: 5,
+        flush_fails: false,
+        status: 1,
+        line: b"refused: InputTooLong\n",
+        flushes: 1,
+        ..LONG
+    },
+    Told {
         name: "fails at once",
-        piece: 5,
-        calls: 0,
-        fails_to_flush: false,
+        takes: 5,
+        writes: 0,
+        flush_fails: false,
         status: 3,
-        told: b"",
+        line: b"",
         flushes: 0,
+        ..LONG
     },
-    Failing {
+    Told {
         name: "fails at the third call",
-        piece: 5,
-        calls: 2,
-        fails_to_flush: false,
+        takes: 5,
+        writes: 2,
+        flush_fails: false,
         status: 3,
-        told: b"refused: I",
+        line: b"refused: I",
         flushes: 0,
+        ..LONG
     },
-    Failing {
+    Told {
         name: "takes none",
-        piece: 0,
-        calls: 9,
-        fails_to_flush: false,
+        takes: 0,
+        writes: 9,
+        flush_fails: false,
         status: 3,
-        told: b"",
+        line: b"",
         flushes: 0,
+        ..LONG
     },
-    Failing {
+    Told {
         name: "fails to flush",
-        piece: 99,
-        calls: 9,
-        fails_to_flush: true,
+        takes: 99,
+        writes: 9,
+        flush_fails: true,
         status: 3,
-        told: b"refused: InputTooLong\n",
+        line: b"refused: InputTooLong\n",
         flushes: 1,
+        ..LONG
     },
 ];
 
-/// The status where such a stream is told that an input is too long, and the stream then.
-fn tell_failing(alloc: Global, case: &Failing) -> (u8, FewTaken) {
-    let mut few = FewTaken::new(alloc, case.piece, case.calls, case.fails_to_flush);
-    let status = tell(alloc, &mut Std::new(&mut few), Stop::InputTooLong);
-    (status, few)
-}
-
-/// Compares such a stream, and the status.
-fn check_failing(status: u8, few: &FewTaken, case: &Failing) -> Result<(), Fail> {
-    check_of(few.flushes == case.flushes, case.name, "the flushes")?;
-    check_stop(status, &few.taken, case.status, case.told, case.name)
-}
-
-fn run_failing(alloc: Global, case: &Failing) -> Result<(), Fail> {
-    let (status, few) = tell_failing(alloc, case);
-    check_failing(status, &few, case)
+/// Tells a stop, and compares the status, the line and the flushes.
+fn run_told(alloc: Global, told: &Told) -> Result<(), Fail> {
+    let mut few = FewTaken::new(alloc, told.takes, told.writes, told.flush_fails);
+    let status = tell(alloc, &mut Std::new(&mut few), told.stop);
+    check_of(few.flushes == told.flushes, told.name, "the flushes")?;
+    check_of(status == told.status, told.name, "the status")?;
+    check_of(
+        few.taken.as_slice() == told.line,
+        told.name,
+        "the fault line",
+    )
 }
 
 #[test]
-fn a_failing_fault_stream_gives_status_three(rt: HostRuntime) -> Result<(), Fail> {
-    for case in FAILING {
-        run_failing(rt.alloc(), case)?;
+fn tells_each_stop_and_fails_with_its_stream(rt: HostRuntime) -> Result<(), Fail> {
+    for told in TOLD {
+        run_told(rt.alloc(), told)?;
     }
     Ok(())
 }

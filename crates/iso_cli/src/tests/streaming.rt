@@ -1,48 +1,141 @@
 //! An input, read to its end.
 
 use crate::streaming::{InputFault, read_all};
-use iso_fakes::{FewBytes, check, sevens};
+use crate::tests::join;
+use iso_fakes::{FewBytes, check};
 use iso_host::Std;
 use std::alloc::Global;
 use std::test::Fail;
 
-/// Five bytes in pieces, how many reads and turns there are, and whether the bytes are read.
-type Pieces = (&'static str, usize, u32, u32, Result<(), InputFault>);
-
-const PIECES: &[Pieces] = &[
-    ("at once", 99, 9, 9, Ok(())),
-    ("two bytes at a time", 2, 9, 9, Ok(())),
-    ("in just enough turns", 2, 9, 4, Ok(())),
-    ("one turn too few", 2, 9, 3, Err(InputFault::TooManyTurns)),
-    ("no turn", 2, 9, 0, Err(InputFault::TooManyTurns)),
-    ("fails at once", 2, 0, 9, Err(InputFault::Read)),
-    ("fails at the third read", 2, 2, 9, Err(InputFault::Read)),
-    ("fails at its end", 2, 3, 9, Err(InputFault::Read)),
-    (
-        "fails behind the turns",
-        2,
-        3,
-        3,
-        Err(InputFault::TooManyTurns),
-    ),
-];
-
-/// Whether five bytes are read so.
-fn is_read(
-    alloc: Global,
-    piece: usize,
-    calls: u32,
+/// Bytes so many times, how many of them a read gives, how many reads and turns there are, and whether all are read.
+#[derive(Drop)]
+struct Input {
+    name: &'static str,
+    bytes: &'static [u8],
+    times: usize,
+    gives: usize,
+    reads: u32,
     turns: u32,
     wanted: Result<(), InputFault>,
-) -> bool {
-    let bytes = b"abcde";
-    let mut input = Std::new(FewBytes {
+}
+
+/// Five bytes, two at a time, over reads and turns enough.
+const FIVE: Input = Input {
+    name: "two bytes at a time",
+    bytes: b"abcde",
+    times: 1,
+    gives: 2,
+    reads: 9,
+    turns: 9,
+    wanted: Ok(()),
+};
+
+/// Sevens, a chunk at a time, over reads and turns enough.
+const SEVENS: Input = Input {
+    name: "one byte",
+    bytes: b"\x07",
+    times: 1,
+    gives: 4096,
+    reads: 9999,
+    turns: 2_000_000,
+    wanted: Ok(()),
+};
+
+const INPUTS: &[Input] = &[
+    Input {
+        name: "at once",
+        gives: 99,
+        ..FIVE
+    },
+    FIVE,
+    Input {
+        name: "in just enough turns",
+        turns: 4,
+        ..FIVE
+    },
+    Input {
+        name: "one turn too few",
+        turns: 3,
+        wanted: Err(InputFault::TooManyTurns),
+        ..FIVE
+    },
+    Input {
+        name: "no turn",
+        turns: 0,
+        wanted: Err(InputFault::TooManyTurns),
+        ..FIVE
+    },
+    Input {
+        name: "fails at once",
+        reads: 0,
+        wanted: Err(InputFault::Read),
+        ..FIVE
+    },
+    Input {
+        name: "fails at the third read",
+        reads: 2,
+        wanted: Err(InputFault::Read),
+        ..FIVE
+    },
+    Input {
+        name: "fails at its end",
+        reads: 3,
+        wanted: Err(InputFault::Read),
+        ..FIVE
+    },
+    Input {
+        name: "fails behind the turns",
+        reads: 3,
+        turns: 3,
+        wanted: Err(InputFault::TooManyTurns),
+        ..FIVE
+    },
+    Input {
+        name: "empty",
+        bytes: b"",
+        ..SEVENS
+    },
+    SEVENS,
+    Input {
+        name: "a whole chunk",
+        times: 4096,
+        ..SEVENS
+    },
+    Input {
+        name: "the most",
+        times: 1_048_576,
+        ..SEVENS
+    },
+    Input {
+        name: "the most, in uneven pieces",
+        times: 1_048_576,
+        gives: 1000,
+        ..SEVENS
+    },
+    Input {
+        name: "one more",
+        times: 1_048_577,
+        wanted: Err(InputFault::TooLong),
+        ..SEVENS
+    },
+    Input {
+        name: "one more, in uneven pieces",
+        times: 1_048_577,
+        gives: 1000,
+        wanted: Err(InputFault::TooLong),
+        ..SEVENS
+    },
+];
+
+/// Whether these bytes are read so.
+fn is_read(alloc: Global, bytes: &[u8], input: &Input) -> bool {
+    let mut few = Std::new(FewBytes {
         bytes,
-        piece,
-        calls,
+        piece: input.gives,
+        calls: input.reads,
     });
-    match (read_all(alloc, &mut input, turns), wanted) {
-        (Ok(read), Ok(())) => read.as_slice() == bytes.as_slice(),
+    match (read_all(alloc, &mut few, input.turns), input.wanted) {
+        (Ok(read), Ok(())) => read.as_slice() == bytes,
         (Err(fault), Err(wanted)) => fault == wanted,
         _ => false,
     }
@@ -50,60 +143,9 @@ fn is_read(
 
 #[test]
 fn reads_an_input_to_its_end(rt: HostRuntime) -> Result<(), Fail> {
-    for (name, piece, calls, turns, wanted) in PIECES {
-        let is_read = is_read(rt.alloc(), *piece, *calls, *turns, *wanted);
-        check(is_read, *name)?;
-    }
-    Ok(())
-}
-
-/// How many bytes an input gives that moves so many of them a read.
-fn count_read(alloc: Global, bytes: &[u8], piece: usize) -> Result<usize, InputFault> {
-    let mut input = Std::new(FewBytes {
-        bytes,
-        piece,
-        calls: 9999,
-    });
-    match read_all(alloc, &mut input, 2_000_000) {
-        Ok(read) => Ok(read.len()),
-        Err(fault) => Err(fault),
-    }
-}
-
-/// An input of so many bytes in pieces, and what is read.
-type Long = (&'static str, usize, usize, Result<usize, InputFault>);
-
-const LONG_INPUTS: &[Long] = &[
-    ("empty", 0, 4096, Ok(0)),
-    ("one byte", 1, 4096, Ok(1)),
-    ("a whole chunk", 4096, 4096, Ok(4096)),
-    ("the most", 1_048_576, 4096, Ok(1_048_576)),
-    ("the most, in uneven pieces", 1_048_576, 1000, Ok(1_048_576)),
-    ("one more", 1_048_577, 4096, Err(InputFault::TooLong)),
-    (
-        "one more, in uneven pieces",
-        1_048_577,
-        1000,
-        Err(InputFault::TooLong),
-    ),
-];
-
-/// Whether that is read of an input of so many bytes.
-fn is_counted(
-    alloc: Global,
-    count: usize,
-    piece: usize,
-    wanted: Result<usize, InputFault>,
-) -> Result<bool, Fail> {
-    let held = sevens(alloc, count)?;
-    Ok(count_read(alloc, &held, piece) == wanted)
-}
-
-#[test]
-fn tells_a_long_input_by_its_bytes(rt: HostRuntime) -> Result<(), Fail> {
-    for (name, count, piece, wanted) in LONG_INPUTS {
-        let is_counted = is_counted(rt.alloc(), *count, *piece, *wanted)?;
-        check(is_counted, *name)?;
+    for input in INPUTS {
+        let bytes = join(rt.alloc(), &[input.bytes], input.times)?;
+        check(is_read(rt.alloc(), &bytes, input), input.name)?;
     }
     Ok(())
 }

@@ -103,6 +103,7 @@ fn reads_each_form(rt: HostRuntime) -> Result<(), Fail> {
     Ok(())
 }
 
+/// Words that ask nothing.
 const REFUSED: &[&[&str]] = &[
     // no command
     &[""],
@@ -187,43 +188,22 @@ const REFUSED: &[&[&str]] = &[
     &["show", "t", "-c"],
 ];
 
-/// The status and the fault line where the words ask nothing.
-fn refusal_of(alloc: Global, words: &[&str]) -> Option<(u8, Vec<u8>)> {
+/// Whether the words are refused with the status and the line of words.
+fn is_refused(alloc: Global, words: &[&str]) -> bool {
     let Err(fault) = parse(alloc, words) else {
-        return None;
+        return false;
     };
     let mut lines = Vec::new(alloc);
     let status = tell(alloc, &mut Std::new(&mut lines), Stop::from(fault));
-    Some((status, lines))
-}
-
-/// Whether the words are refused with the status and the line of words.
-fn is_refused(alloc: Global, words: &[&str]) -> bool {
-    match refusal_of(alloc, words) {
-        Some((status, lines)) => {
-            status == 2 && lines.as_slice() == b"command line refused\n".as_slice()
-        }
-        None => false,
-    }
-}
-
-/// Ends the test with the words, unless it is so.
-fn check_refused(is_so: bool, words: &[&str]) -> Result<(), Fail> {
-    if is_so {
-        Ok(())
-    } else {
-        Err(Fail::new(format_args!("{words:?}")))
-    }
-}
-
-fn refuse_each(alloc: Global, lines: &[&[&str]]) -> Result<(), Fail> {
-    for words in lines {
-        check_refused(is_refused(alloc, *words), *words)?;
-    }
-    Ok(())
+    status == 2 && lines.as_slice() == b"command line refused\n".as_slice()
 }
 
 #[test]
 fn refuses_every_other_line(rt: HostRuntime) -> Result<(), Fail> {
-    refuse_each(rt.alloc(), REFUSED)
+    for words in REFUSED {
+        if !is_refused(rt.alloc(), *words) {
+            return Err(Fail::new(format_args!("{words:?}")));
+        }
+    }
+    Ok(())
 }

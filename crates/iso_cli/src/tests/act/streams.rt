@@ -1,89 +1,89 @@
 //! Streams that fail, and one that is too long.
 
-use super::{ECHO, OneFile, TERMINALS, act_on};
-use crate::act::act;
-use crate::tests::{check_end, check_stop};
-use iso_fakes::{FewBytes, FewTaken, sevens};
-use iso_host::Std;
-use std::alloc::Global;
-use std::test::Fail;
+use super::*;
 
-/// The words and the input, over streams that fail at a call.
-fn status_of(alloc: Global, input: FewBytes, output: &mut FewTaken, faults: &mut FewTaken) -> u8 {
-    let source = OneFile { text: TERMINALS };
-    let words = ["convert", "ascii87", "bcd87"];
-    act(
-        alloc,
-        &words,
-        &source,
-        &mut Std::new(input),
-        &mut Std::new(output),
-        &mut Std::new(faults),
-    )
-}
+/// The echo test in BCD, and what two writes of ten bytes take of it.
+const CONVERTED: &[u8] =
+    b"\x08\x00\x82\x20\0\0\0\0\0\0\x04\0\0\0\0\0\0\0\x01\x02\x03\x04\x05\0\0\x01\x03\x01";
 
-/// A name, how many reads and writes there are, whether the output fails to flush, how many lines are told, and then the
-/// status and the fault line.
-type Failing = (&'static str, u32, u32, bool, u32, u8, &'static [u8]);
+const TAKEN: &[u8] = b"\x08\x00\x82\x20\0\0\0\0\0\0\x04\0\0\0\0\0\0\0\x01\x02";
 
-const FAILING: &[Failing] = &[
-    ("nothing fails", 9, 9, false, 9, 0, b""),
-    ("the input", 1, 9, false, 9, 3, b"failed: Read\n"),
-    ("the output", 9, 2, false, 9, 3, b"failed: Write\n"),
-    (
-        "the flush of the output",
-        9,
-        9,
-        true,
-        9,
-        3,
-        b"failed: Write\n",
-    ),
-    ("the output and the fault stream", 9, 2, false, 0, 3, b""),
+/// Reads of twenty bytes, and writes of ten.
+const SMALL: Streams = Streams {
+    gives: 20,
+    reads: 9,
+    takes: 10,
+    writes: 9,
+    tells: 9,
+    ..STREAMS
+};
+
+pub const FAILING: &[Case] = &[
+    Case {
+        name: "nothing fails",
+        streams: SMALL,
+        words: &["convert", "ascii87", "bcd87"],
+        input: &[ECHO],
+        status: 0,
+        output: &[CONVERTED],
+        faults: b"",
+        ..CASE
+    },
+    Case {
+        name: "the input",
+        streams: Streams { reads: 1, ..SMALL },
+        words: &["convert", "ascii87", "bcd87"],
+        input: &[ECHO],
+        status: 3,
+        output: &[],
+        faults: b"failed: Read\n",
+        ..CASE
+    },
+    Case {
+        name: "the output",
+        streams: Streams { writes: 2, ..SMALL },
+        words: &["convert", "ascii87", "bcd87"],
+        input: &[ECHO],
+        status: 3,
+        output: &[TAKEN],
+        faults: b"failed: Write\n",
+        ..CASE
+    },
+    Case {
+        name: "the flush of the output",
+        streams: Streams {
+            flush_fails: true,
+            ..SMALL
+        },
+        words: &["convert", "ascii87", "bcd87"],
+        input: &[ECHO],
+        status: 3,
+        output: &[CONVERTED],
+        faults: b"failed: Write\n",
+        ..CASE
+    },
+    Case {
+        name: "the output and the fault stream",
+        streams: Streams {
+            writes: 2,
+            tells: 0,
+            ..SMALL
+        },
+        words: &["convert", "ascii87", "bcd87"],
+        input: &[ECHO],
+        status: 3,
+        output: &[TAKEN],
+        faults: b"",
+        ..CASE
+    },
+    Case {
+        name: "a long input",
+        words: &[],
+        input: &[b"\x07"],
+        times: 1_048_577,
+        status: 1,
+        output: &[],
+        faults: b"refused: InputTooLong\n",
+        ..CASE
+    },
 ];
-
-/// Acts over streams that fail so.
-fn act_failing(alloc: Global, failing: &Failing) -> (u8, FewTaken) {
-    let (_, reads, writes, flushes, tells, _, _) = failing;
-    let input = FewBytes {
-        bytes: ECHO,
-        piece: 20,
-        calls: *reads,
-    };
-    let mut output = FewTaken::new(alloc, 10, *writes, *flushes);
-    let mut faults = FewTaken::new(alloc, 99, *tells, false);
-    let status = status_of(alloc, input, &mut output, &mut faults);
-    (status, faults)
-}
-
-fn run_failing(alloc: Global, failing: &Failing) -> Result<(), Fail> {
-    let (given, faults) = act_failing(alloc, failing);
-    let (name, _, _, _, _, status, line) = failing;
-    check_stop(given, &faults.taken, *status, *line, *name)
-}
-
-#[test]
-fn failing_streams(rt: HostRuntime) -> Result<(), Fail> {
-    for failing in FAILING {
-        run_failing(rt.alloc(), failing)?;
-    }
-    Ok(())
-}
-
-/// Compares what comes of an input that is too long.
-fn run_long(alloc: Global, long: &[u8]) -> Result<(), Fail> {
-    let ended = act_on(alloc, &[], TERMINALS, long);
-    check_end(
-        &ended,
-        1,
-        &[b""],
-        b"refused: InputTooLong\n",
-        "a long input",
-    )
-}
-
-#[test]
-fn a_long_input_is_refused(rt: HostRuntime) -> Result<(), Fail> {
-    let long = sevens(rt.alloc(), 1_048_577)?;
-    run_long(rt.alloc(), &long)
-}

@@ -12,58 +12,46 @@ const SHOWN_LEAST: &[u8] =
 const NOT_SHOWN: &[u8] =
     b"021062200001020080001641111111111111113100000102030600000009051234596840";
 
-/// Accounts of one, and what an inquiry into it gives.
-#[derive(Drop)]
-struct Shows {
-    name: &'static str,
-    accounts: &'static [u8],
-    output: &'static [&'static [u8]],
-}
-
-const SHOWS: &[Shows] = &[
-    Shows {
+/// An inquiry and its repeat, over accounts of one.
+pub const SHOWS: &[Case] = &[
+    Case {
         name: "twelve digits",
         accounts: b"{\"accounts\":[{\"currency\":\"840\",\"opening\":999999999999,\"pan\":\"4111111111111111\"}]}",
-        output: &[b"0101", SHOWN_MOST, b"0101", SHOWN_MOST],
-    },
-    Shows {
-        name: "thirteen digits",
-        accounts: b"{\"accounts\":[{\"currency\":\"840\",\"opening\":1000000000000,\"pan\":\"4111111111111111\"}]}",
-        output: &[b"0072", NOT_SHOWN, b"0072", NOT_SHOWN],
-    },
-    Shows {
-        name: "twelve digits below zero",
-        accounts: b"{\"accounts\":[{\"currency\":\"840\",\"opening\":-999999999999,\"pan\":\"4111111111111111\"}]}",
-        output: &[b"0101", SHOWN_LEAST, b"0101", SHOWN_LEAST],
-    },
-    Shows {
-        name: "thirteen digits below zero",
-        accounts: b"{\"accounts\":[{\"currency\":\"840\",\"opening\":-1000000000000,\"pan\":\"4111111111111111\"}]}",
-        output: &[b"0072", NOT_SHOWN, b"0072", NOT_SHOWN],
-    },
-];
-
-/// Runs an inquiry and its repeat over such accounts.
-fn ask_twice(alloc: Global, shows: &Shows) -> Result<(), Fail> {
-    let documents = Documents {
-        accounts: shows.accounts,
-        ..DOCUMENTS
-    };
-    let asked_twice = Case {
-        name: shows.name,
-        header: "ascii4",
+        words: RUN,
         input: &[b"0070", INQUIRY, b"0070", INQUIRY_REPEAT],
         status: 0,
-        output: shows.output,
+        output: &[b"0101", SHOWN_MOST, b"0101", SHOWN_MOST],
         faults: b"frames=2 answered=2 silent=0 unreadable=0\n",
-    };
-    run_case(alloc, &documents, &asked_twice)
-}
-
-#[test]
-fn an_inquiry_shows_twelve_digits(rt: HostRuntime) -> Result<(), Fail> {
-    for shows in SHOWS {
-        ask_twice(rt.alloc(), shows)?;
-    }
-    Ok(())
-}
+        ..CASE
+    },
+    Case {
+        name: "thirteen digits",
+        accounts: b"{\"accounts\":[{\"currency\":\"840\",\"opening\":1000000000000,\"pan\":\"4111111111111111\"}]}",
+        words: RUN,
+        input: &[b"0070", INQUIRY, b"0070", INQUIRY_REPEAT],
+        status: 0,
+        output: &[b"0072", NOT_SHOWN, b"0072", NOT_SHOWN],
+        faults: b"frames=2 answered=2 silent=0 unreadable=0\n",
+        ..CASE
+    },
+    Case {
+        name: "twelve digits below zero",
+        accounts: b"{\"accounts\":[{\"currency\":\"840\",\"opening\":-999999999999,\"pan\":\"4111111111111111\"}]}",
+        words: RUN,
+        input: &[b"0070", INQUIRY, b"0070", INQUIRY_REPEAT],
+        status: 0,
+        output: &[b"0101", SHOWN_LEAST, b"0101", SHOWN_LEAST],
+        faults: b"frames=2 answered=2 silent=0 unreadable=0\n",
+        ..CASE
+    },
+    Case {
+        name: "thirteen digits below zero",
+        accounts: b"{\"accounts\":[{\"currency\":\"840\",\"opening\":-1000000000000,\"pan\":\"4111111111111111\"}]}",
+        words: RUN,
+        input: &[b"0070", INQUIRY, b"0070", INQUIRY_REPEAT],
+        status: 0,
+        output: &[b"0072", NOT_SHOWN, b"0072", NOT_SHOWN],
+        faults: b"frames=2 answered=2 silent=0 unreadable=0\n",
+        ..CASE
+    },
+];

@@ -1,17 +1,6 @@
 //! Words and documents that are refused.
 
 use super::*;
-use iso_fakes::FewBytes;
-
-/// Words and documents that are refused before the input is read.
-#[derive(Drop)]
-struct RefusedWords {
-    name: &'static str,
-    words: [&'static str; 4],
-    accounts: &'static [u8],
-    status: u8,
-    faults: &'static [u8],
-}
 
 /// Two accounts of one number, and one with more in it than the most.
 const TWICE: &[u8] =
@@ -21,109 +10,131 @@ const TWICE: &[u8] =
 const MOST: &[u8] =
     b"{\"accounts\":[{\"currency\":\"840\",\"opening\":9000000000000001,\"pan\":\"1\"}]}";
 
-const REFUSED: &[RefusedWords] = &[
-    RefusedWords {
+/// An input that can't be read.
+const UNREAD: Streams = Streams {
+    reads: 0,
+    ..STREAMS
+};
+
+/// Words and documents that are refused before the input is read.
+pub const REFUSED: &[Case] = &[
+    Case {
         name: "no such header, and no such files",
-        words: ["run", "none.json", "none.json", "ascii2"],
         accounts: b"",
+        streams: UNREAD,
+        words: &["run", "none.json", "none.json", "ascii2"],
+        input: &[],
         status: 2,
+        output: &[],
         faults: b"command line refused\n",
+        ..CASE
     },
-    RefusedWords {
+    Case {
         name: "an option in the place of the accounts",
-        words: ["run", "ascii87", "--accounts", "ascii4"],
         accounts: b"",
+        streams: UNREAD,
+        words: &["run", "ascii87", "--accounts", "ascii4"],
+        input: &[],
         status: 2,
+        output: &[],
         faults: b"command line refused\n",
+        ..CASE
     },
-    RefusedWords {
+    Case {
         name: "no such table",
-        words: ["run", "none.json", "accounts.json", "ascii4"],
         accounts: b"{",
+        streams: UNREAD,
+        words: &["run", "none.json", "accounts.json", "ascii4"],
+        input: &[],
         status: 3,
+        output: &[],
         faults: b"failed: File\n",
+        ..CASE
     },
-    RefusedWords {
+    Case {
         name: "accounts in the place of the table",
-        words: ["run", "accounts.json", "accounts.json", "ascii4"],
         accounts: b"{",
+        streams: UNREAD,
+        words: &["run", "accounts.json", "accounts.json", "ascii4"],
+        input: &[],
         status: 1,
+        output: &[],
         faults: b"refused: table NotJson\n",
+        ..CASE
     },
-    RefusedWords {
+    Case {
         name: "a table without an account number, before bad accounts",
-        words: ["run", "table.json", "accounts.json", "ascii4"],
         accounts: b"{",
+        streams: UNREAD,
+        words: &["run", "table.json", "accounts.json", "ascii4"],
+        input: &[],
         status: 1,
+        output: &[],
         faults: b"refused: host NoRow element 2\n",
+        ..CASE
     },
-    RefusedWords {
+    Case {
         name: "no such accounts",
-        words: ["run", "bcd87", "none.json", "ascii4"],
         accounts: b"",
+        streams: UNREAD,
+        words: &["run", "bcd87", "none.json", "ascii4"],
+        input: &[],
         status: 3,
+        output: &[],
         faults: b"failed: File\n",
+        ..CASE
     },
-    RefusedWords {
+    Case {
         name: "accounts that are no JSON",
-        words: ["run", "ascii87", "accounts.json", "ascii4"],
         accounts: b"{",
+        streams: UNREAD,
+        words: RUN,
+        input: &[],
         status: 1,
+        output: &[],
         faults: b"refused: accounts NotJson\n",
+        ..CASE
     },
-    RefusedWords {
+    Case {
         name: "accounts of another shape",
-        words: ["run", "ascii87", "accounts.json", "ascii4"],
         accounts: b"{}",
+        streams: UNREAD,
+        words: RUN,
+        input: &[],
         status: 1,
+        output: &[],
         faults: b"refused: accounts Shape\n",
+        ..CASE
     },
-    RefusedWords {
+    Case {
         name: "an account twice",
-        words: ["run", "ascii87", "accounts.json", "ascii4"],
         accounts: TWICE,
+        streams: UNREAD,
+        words: RUN,
+        input: &[],
         status: 1,
+        output: &[],
         faults: b"refused: accounts Twice 1\n",
+        ..CASE
     },
-    RefusedWords {
+    Case {
         name: "an amount out of range",
-        words: ["run", "ascii87", "accounts.json", "ascii4"],
         accounts: MOST,
+        streams: UNREAD,
+        words: RUN,
+        input: &[],
         status: 1,
+        output: &[],
         faults: b"refused: accounts OutOfRange 0\n",
+        ..CASE
+    },
+    Case {
+        name: "a port",
+        words: &["serve", "ascii87", "accounts.json", "ascii4", "8583", "3"],
+        input: &[PURCHASE],
+        status: 2,
+        output: &[],
+        faults: b"command line refused\n",
+        ..CASE
     },
 ];
-
-/// What comes of such words over an input that can't be read.
-fn act_refused(alloc: Global, case: &RefusedWords) -> End {
-    let documents = Documents {
-        accounts: case.accounts,
-        ..DOCUMENTS
-    };
-    let input = FewBytes {
-        bytes: b"",
-        piece: 1,
-        calls: 0,
-    };
-    act_over(alloc, &documents, &case.words, input)
-}
-
-fn run_refused(alloc: Global, case: &RefusedWords) -> Result<(), Fail> {
-    let ended = act_refused(alloc, case);
-    check_end(&ended, case.status, &[], case.faults, case.name)
-}
-
-#[test]
-fn words_and_documents_are_refused_in_order(rt: HostRuntime) -> Result<(), Fail> {
-    for case in REFUSED {
-        run_refused(rt.alloc(), case)?;
-    }
-    Ok(())
-}
-
-#[test]
-fn a_port_is_not_served_over_streams(rt: HostRuntime) -> Result<(), Fail> {
-    let words = ["serve", "ascii87", "accounts.json", "ascii4", "8583", "3"];
-    let ended = act_over(rt.alloc(), &DOCUMENTS, &words, PURCHASE);
-    check_end(&ended, 2, &[b""], b"command line refused\n", "a port")
-}
