@@ -12,13 +12,9 @@ mod streams;
 
 #[test]
 fn each_command_gives_what_its_cases_say(rt: HostRuntime) -> Result<(), Fail> {
-    run_cases(rt.alloc(), check::CHECKED)?;
-    run_cases(rt.alloc(), check::FOUR_DIGITS)?;
-    run_cases(rt.alloc(), check::REFUSED)?;
-    run_cases(rt.alloc(), convert::CONVERTED)?;
-    run_cases(rt.alloc(), echo::ANSWERED)?;
-    run_cases(rt.alloc(), echo::REFUSED)?;
-    run_cases(rt.alloc(), show::SHOWN)?;
-    run_cases(rt.alloc(), show::REFUSED)?;
-    run_cases(rt.alloc(), streams::FAILING)
+    run_cases(rt.alloc(), check::CASES)?;
+    run_cases(rt.alloc(), convert::CASES)?;
+    run_cases(rt.alloc(), echo::CASES)?;
+    run_cases(rt.alloc(), show::CASES)?;
+    run_cases(rt.alloc(), streams::CASES)
 }

@@ -6,15 +6,16 @@ use crate::tests::{End, check_end};
 use iso_host::Std;
 use std::alloc::Global;
 use std::env::{Env, FillError};
+use std::net::TcpListener;
 use std::test::Fail;
 
 /// A program's arguments, and an environment without variables.
 #[derive(Drop)]
-struct Arguments {
-    all: &'static [&'static [u8]],
+struct Arguments<'a> {
+    all: &'a [&'a [u8]],
 }
 
-impl Env for Arguments {
+impl<'a> Env for Arguments<'a> {
     fn arg(&self, i: usize, buf: &mut [u8]) -> Result<usize, FillError> {
         let Some(argument) = self.all.get(i) else {
             return Err(FillError::NotPresent);
@@ -104,10 +105,25 @@ const CASES: &[Case] = &[
         output: b"",
         faults: b"failed: File\n",
     },
+    Case {
+        name: "port 0",
+        arguments: &[
+            b"iso_cli",
+            b"serve",
+            b"ascii87",
+            b"accounts.json",
+            b"ascii4",
+            b"0",
+            b"3",
+        ],
+        status: 2,
+        output: b"",
+        faults: b"command line refused\n",
+    },
 ];
 
 /// What comes of arguments over an empty input.
-fn act_given(rt: &HostRuntime, arguments: &'static [&'static [u8]]) -> End {
+fn act_given(rt: &HostRuntime, arguments: &[&[u8]]) -> End {
     let given = Arguments { all: arguments };
     let mut input = Std::new(b"".as_slice());
     let mut output = Vec::new(rt.alloc());
@@ -135,4 +151,26 @@ fn the_words_are_those_behind_the_name(rt: HostRuntime) -> Result<(), Fail> {
         check_end(&ended, case.status, &[case.output], case.faults, case.name)?;
     }
     Ok(())
+}
+
+/// What comes of a host on this port, which comes to no connection.
+fn serve_at(rt: &HostRuntime, port: u16) -> Result<End, Fail> {
+    let port = format!(in rt.alloc(); "{port}")?;
+    let arguments = [
+        b"iso_cli".as_slice(),
+        b"serve",
+        b"ascii87",
+        b"accounts.json",
+        b"ascii4",
+        port.as_bytes(),
+        b"3",
+    ];
+    Ok(act_given(rt, &arguments))
+}
+
+#[test]
+fn a_port_that_is_taken_is_a_failed_read(rt: HostRuntime) -> Result<(), Fail> {
+    let taken = TcpListener::bind(&rt, "127.0.0.1:0")?;
+    let ended = serve_at(&rt, taken.local_addr()?.port())?;
+    check_end(&ended, 3, &[], b"failed: Read\n", "a port that is taken")
 }

@@ -42,8 +42,8 @@ pub const DOCUMENTS: Documents = Documents {
     accounts: ACCOUNT,
 };
 
-/// How many bytes each read gives, and each write takes, and how many reads, writes and writes of the fault stream there
-/// are before they fail.
+/// How many bytes a read gives and a write takes, and how many reads, writes, and writes to the fault stream there are
+/// before one fails.
 #[derive(Clone, Copy, Drop)]
 pub struct Streams {
     pub gives: usize,

@@ -74,10 +74,10 @@ const SECOND_GRANTED: &[u8] =
 
 #[test]
 fn a_host_on_a_stream_gives_what_its_cases_say(rt: HostRuntime) -> Result<(), Fail> {
-    run_cases(rt.alloc(), orders::ORDERS)?;
-    run_cases(rt.alloc(), frames::OTHER_FRAMES)?;
-    run_cases(rt.alloc(), inquiries::SHOWS)?;
-    run_cases(rt.alloc(), reads::READS)?;
-    run_cases(rt.alloc(), ends::ENDS)?;
-    run_cases(rt.alloc(), words::REFUSED)
+    run_cases(rt.alloc(), orders::CASES)?;
+    run_cases(rt.alloc(), frames::CASES)?;
+    run_cases(rt.alloc(), inquiries::CASES)?;
+    run_cases(rt.alloc(), reads::CASES)?;
+    run_cases(rt.alloc(), ends::CASES)?;
+    run_cases(rt.alloc(), words::CASES)
 }

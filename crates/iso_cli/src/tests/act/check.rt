@@ -2,7 +2,13 @@
 
 use super::*;
 
-pub const CHECKED: &[Case] = &[
+/// Chip data in hexadecimal digits, behind four digits of a length.
+const CHIP: &[u8] =
+    b"{\"bitmap\":\"hex\",\"mti\":\"ascii\",\"profile\":2,\"rows\":[{\"class\":\"B\",\"coding\":\"hex\",\
+      \"length\":\"LLLL\",\"max\":9999,\"number\":48,\"pad\":\"none\",\"prefix\":\"ascii\"}],\"version\":0}";
+
+/// A table is checked, and what is no table is refused.
+pub const CASES: &[Case] = &[
     Case {
         name: "the 1987 table in ASCII",
         words: &["check", "ascii87"],
@@ -66,16 +72,8 @@ pub const CHECKED: &[Case] = &[
         faults: b"command line refused\n",
         ..CASE
     },
-];
-
-/// Chip data in hexadecimal digits, behind four digits of a length.
-const CHIP: &[u8] =
-    b"{\"bitmap\":\"hex\",\"mti\":\"ascii\",\"profile\":2,\"rows\":[{\"class\":\"B\",\"coding\":\"hex\",\
-      \"length\":\"LLLL\",\"max\":9999,\"number\":48,\"pad\":\"none\",\"prefix\":\"ascii\"}],\"version\":0}";
-
-pub const FOUR_DIGITS: &[Case] = &[
     Case {
-        name: "checked",
+        name: "four digits of a length, checked",
         table: CHIP,
         words: &["check", "table.json"],
         input: &[],
@@ -85,7 +83,7 @@ pub const FOUR_DIGITS: &[Case] = &[
         ..CASE
     },
     Case {
-        name: "shown",
+        name: "four digits of a length, shown",
         table: CHIP,
         words: &["show", "table.json"],
         input: &[b"08000000000000010000000301020A"],
@@ -94,10 +92,7 @@ pub const FOUR_DIGITS: &[Case] = &[
         faults: b"",
         ..CASE
     },
-];
-
-/// Documents that are no tables.
-pub const REFUSED: &[Case] = &[
+    // documents that are no tables
     Case {
         name: "LL of 100",
         table: b"{\"bitmap\":\"hex\",\"mti\":\"ascii\",\"profile\":1,\"rows\":[{\"class\":\"N\",\"coding\":\"ascii\",\

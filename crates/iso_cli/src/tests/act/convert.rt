@@ -5,7 +5,8 @@ use super::*;
 const ECHO_BCD: &[u8] =
     b"\x08\x00\x82\x20\0\0\0\0\0\0\x04\0\0\0\0\0\0\0\x01\x02\x03\x04\x05\0\0\x01\x03\x01";
 
-pub const CONVERTED: &[Case] = &[
+/// A message is converted where both tables have its rows, and no byte is left.
+pub const CASES: &[Case] = &[
     Case {
         name: "to BCD",
         words: &["convert", "ascii87", "bcd87"],

@@ -2,7 +2,8 @@
 
 use super::*;
 
-pub const ANSWERED: &[Case] = &[
+/// A message is shown and answered, or refused where it has no message type.
+pub const CASES: &[Case] = &[
     Case {
         name: "the echo test",
         words: &[],
@@ -114,9 +115,6 @@ pub const ANSWERED: &[Case] = &[
         faults: b"",
         ..CASE
     },
-];
-
-pub const REFUSED: &[Case] = &[
     Case {
         name: "no input",
         words: &[],

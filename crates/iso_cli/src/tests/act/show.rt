@@ -2,7 +2,8 @@
 
 use super::*;
 
-pub const SHOWN: &[Case] = &[
+/// A message is shown, or refused at its first fault.
+pub const CASES: &[Case] = &[
     Case {
         name: "a purchase",
         words: &["show", "ascii87"],
@@ -129,9 +130,6 @@ pub const SHOWN: &[Case] = &[
         faults: b"",
         ..CASE
     },
-];
-
-pub const REFUSED: &[Case] = &[
     Case {
         name: "a length above the maximum",
         words: &["show", "ascii87"],

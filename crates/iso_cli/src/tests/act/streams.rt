@@ -18,7 +18,8 @@ const SMALL: Streams = Streams {
     ..STREAMS
 };
 
-pub const FAILING: &[Case] = &[
+/// A stream that fails ends the command.
+pub const CASES: &[Case] = &[
     Case {
         name: "nothing fails",
         streams: SMALL,

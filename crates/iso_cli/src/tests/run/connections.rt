@@ -13,7 +13,6 @@ use std::net::{Shutdown, TcpListener, TcpStream};
 
 mod faults;
 mod peers;
-mod port;
 mod prepare;
 
 /// The report of a connection of one frame that is answered.
@@ -188,6 +187,10 @@ fn serve(
         &mut Std::new(&mut output),
         &mut Std::new(&mut faults),
     );
+    // want of memory is told, and ends the test as it ends the host
+    if status == 3 && faults.taken.ends_with(b"failed: Memory\n") {
+        return Err(Fail::from(AllocError));
+    }
     Ok(End {
         status,
         output: output.taken,

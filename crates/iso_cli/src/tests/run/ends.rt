@@ -2,8 +2,8 @@
 
 use super::*;
 
-/// Reads, writes and lines that are allowed, and what is told where one more is wanted.
-pub const ENDS: &[Case] = &[
+/// A stream that fails ends the host: what is told where one more read, write or line is wanted than is allowed.
+pub const CASES: &[Case] = &[
     Case {
         name: "the input fails behind a purchase",
         streams: Streams {

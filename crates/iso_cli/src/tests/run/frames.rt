@@ -2,7 +2,8 @@
 
 use super::*;
 
-pub const OTHER_FRAMES: &[Case] = &[
+/// Other frames get no answer.
+pub const CASES: &[Case] = &[
     Case {
         name: "no input",
         words: RUN,

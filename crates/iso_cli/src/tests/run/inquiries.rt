@@ -12,8 +12,8 @@ const SHOWN_LEAST: &[u8] =
 const NOT_SHOWN: &[u8] =
     b"021062200001020080001641111111111111113100000102030600000009051234596840";
 
-/// An inquiry and its repeat, over accounts of one.
-pub const SHOWS: &[Case] = &[
+/// An inquiry and its repeat, over accounts of one, show twelve digits.
+pub const CASES: &[Case] = &[
     Case {
         name: "twelve digits",
         accounts: b"{\"accounts\":[{\"currency\":\"840\",\"opening\":999999999999,\"pan\":\"4111111111111111\"}]}",

@@ -2,7 +2,8 @@
 
 use super::*;
 
-pub const ORDERS: &[Case] = &[
+/// Orders are entered once and answered.
+pub const CASES: &[Case] = &[
     Case {
         name: "a purchase, its repeat and its reversal",
         words: RUN,

@@ -2,8 +2,8 @@
 
 use super::*;
 
-/// The same two frames by other reads: the bytes that one gives, and the reads with the last one, which gives none.
-pub const READS: &[Case] = &[
+/// Reads may cut the same two frames anywhere. The last read gives no byte.
+pub const CASES: &[Case] = &[
     Case {
         name: "both frames in one read",
         streams: Streams {

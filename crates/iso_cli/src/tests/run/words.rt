@@ -16,8 +16,8 @@ const UNREAD: Streams = Streams {
     ..STREAMS
 };
 
-/// Words and documents that are refused before the input is read.
-pub const REFUSED: &[Case] = &[
+/// Words and documents are refused in order, before the input is read.
+pub const CASES: &[Case] = &[
     Case {
         name: "no such header, and no such files",
         accounts: b"",

@@ -1,6 +1,7 @@
 //! Peers, one after the other, and the journal that all of them meet.
 
 use super::*;
+use iso_fakes::check;
 
 /// The report of a connection of one frame that has no message.
 const ONE_UNREADABLE: &[u8] = b"frames=1 answered=0 silent=0 unreadable=1\n";
@@ -320,5 +321,6 @@ const HOSTS: &[Host] = &[
 
 #[test]
 fn peers_meet_one_journal_and_harm_no_other(rt: HostRuntime) -> Result<(), Fail> {
+    check(GRANTED.len() == 90, "the bytes of an answer")?;
     play_all(&rt, HOSTS)
 }

@@ -214,11 +214,9 @@ fn ledger(serving: &PortHost) -> Option<i64> {
     serving.issuer.ledger(pan)
 }
 
-/// Whether a host has this port, this count, the header, the 126 rows, no entries and the account of 50.00.
-fn is_held(serving: &PortHost, port: u16, count: u32) -> bool {
-    serving.port == port
-        && serving.count == count
-        && serving.header == Header::Ascii4
+/// Whether a host has the header, the 126 rows, no entries and the account of 50.00.
+fn is_held(serving: &PortHost) -> bool {
+    serving.header == Header::Ascii4
         && serving.table.rows() == 126
         && serving.issuer.len() == 0
         && ledger(serving) == Some(5000)
@@ -226,13 +224,9 @@ fn is_held(serving: &PortHost, port: u16, count: u32) -> bool {
 
 /// Whether the words name the host, or have the status, that is wanted of them.
 fn is_named(alloc: Global, words: &Words, told: &mut FewTaken) -> bool {
-    match (
-        prepare(alloc, words.words, &DOCUMENTS, &mut Std::new(told)),
-        words.host,
-    ) {
-        (Ok(serving), Ok((port, count))) => is_held(&serving, port, count),
-        (Err(status), Err(wanted)) => status == wanted,
-        _ => false,
+    match prepare(alloc, words.words, &DOCUMENTS, &mut Std::new(told)) {
+        Ok(serving) => is_held(&serving) && words.host == Ok((serving.port, serving.count)),
+        Err(status) => words.host == Err(status),
     }
 }
 
