@@ -153,8 +153,8 @@ fn the_words_are_those_behind_the_name(rt: HostRuntime) -> Result<(), Fail> {
     Ok(())
 }
 
-/// What comes of a host on this port, which comes to no connection.
-fn serve_at(rt: &HostRuntime, port: u16) -> Result<End, Fail> {
+/// Compares what comes of a host on a port that is taken.
+fn run_taken(rt: &HostRuntime, port: u16) -> Result<(), Fail> {
     let port = format!(in rt.alloc(); "{port}")?;
     let arguments = [
         b"iso_cli".as_slice(),
@@ -165,12 +165,13 @@ fn serve_at(rt: &HostRuntime, port: u16) -> Result<End, Fail> {
         port.as_bytes(),
         b"3",
     ];
-    Ok(act_given(rt, &arguments))
+    let ended = act_given(rt, &arguments);
+    check_end(&ended, 3, &[], b"failed: Read\n", "a port that is taken")
 }
 
 #[test]
 fn a_port_that_is_taken_is_a_failed_read(rt: HostRuntime) -> Result<(), Fail> {
     let taken = TcpListener::bind(&rt, "127.0.0.1:0")?;
-    let ended = serve_at(&rt, taken.local_addr()?.port())?;
-    check_end(&ended, 3, &[], b"failed: Read\n", "a port that is taken")
+    let port = taken.local_addr()?.port();
+    run_taken(&rt, port)
 }

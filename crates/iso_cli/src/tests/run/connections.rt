@@ -95,9 +95,11 @@ fn serving(alloc: Global, header: &str) -> Result<PortHost, Fail> {
     }
 }
 
-/// A free port of this machine.
-fn listen(rt: &HostRuntime) -> Result<TcpListener, Fail> {
-    Ok(TcpListener::bind(rt, "127.0.0.1:0")?)
+/// A free port of this machine. An accept waits for a peer, or fails where none waits for it.
+fn listen(rt: &HostRuntime, waits: bool) -> Result<TcpListener, Fail> {
+    let listener = TcpListener::bind(rt, "127.0.0.1:0")?;
+    listener.set_nonblocking(!waits)?;
+    Ok(listener)
 }
 
 /// Sends these bytes in segments, and then no more.
@@ -215,9 +217,7 @@ fn play_round(
 
 /// Plays each round of a host.
 fn play(rt: &HostRuntime, host: &Host) -> Result<(), Fail> {
-    let listener = listen(rt)?;
-    // where no peer waits, an accept then fails
-    listener.set_nonblocking(!host.waits)?;
+    let listener = listen(rt, host.waits)?;
     let mut serving = serving(rt.alloc(), host.header)?;
     for round in host.rounds {
         play_round(rt, &listener, &mut serving, round, host.name)?;

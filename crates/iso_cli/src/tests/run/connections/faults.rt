@@ -20,6 +20,7 @@ const THREE: &[Peer] = &[
     },
 ];
 
+/// Hosts where an `accept`, the output or the fault stream fails, and two where nothing does.
 const HOSTS: &[Host] = &[
     Host {
         name: "an accept that fails is one of the connections",

@@ -18,7 +18,7 @@ const BINARY_PURCHASES: Peer = Peer {
     ..PEER
 };
 
-/// A host that waits for its peers, and serves them in one round.
+/// Hosts that wait for their peers, and serve them in one round.
 const HOSTS: &[Host] = &[
     Host {
         name: "three peers",
