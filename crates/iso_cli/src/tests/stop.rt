@@ -9,8 +9,8 @@ use iso_host::{ServeFault, Std};
 use std::alloc::Global;
 use std::test::Fail;
 
-/// A stop that is told to a fault stream: how many bytes a write takes, how many writes there are, and whether the flush
-/// fails. Then the status, the line, and the flushes.
+/// A stop that is told to a fault stream: how many bytes a write takes, how many writes there are before one fails, and
+/// whether the flush fails. Then the status, the line, and the flushes.
 #[derive(Drop)]
 struct Told {
     name: &'static str,

@@ -2,8 +2,8 @@
 
 use super::*;
 
-/// Words, how many lines the fault stream takes, the port and the count of the host that they name, or else the status, and
-/// the fault line.
+/// Words, how many lines the fault stream takes, the port and the count of the host that they name, or else the status,
+/// and the fault line.
 #[derive(Drop)]
 struct Words {
     name: &'static str,
