@@ -3,6 +3,7 @@
 use iso_fakes::{check, check_of};
 use iso_parts::*;
 use std::alloc::Global;
+use std::fmt::{Debug, Display};
 use std::test::*;
 
 /// A row of six digits, filled with zeros on the left.
@@ -60,77 +61,31 @@ fn is_decoded(
     part: &[u8],
     want: Result<Option<usize>, FieldFault>,
     value: &[u8],
-) -> Result<bool, Fail> {
-    if row.good().is_err() {
-        return Ok(false);
+) -> bool {
+    let mut out = Vec::new(alloc);
+    row.good().is_ok()
+        && out.extend_from_slice(b"before").is_ok()
+        && decode_value(row, part, &mut out) == want
+        && out.strip_prefix(b"before") == Some(value)
+}
+
+/// Whether that is what is shown of it.
+pub(super) fn is_shown(alloc: Global, value: &impl Display, want: &str) -> bool {
+    match format!(in alloc; "{value}") {
+        Ok(text) => text.as_str() == want,
+        Err(_) => false,
     }
-    let mut out = Vec::from_slice(alloc, b"before")?;
-    let answer = decode_value(row, part, &mut out);
-    Ok(answer == want && out.strip_prefix(b"before") == Some(value))
+}
+
+/// Whether that is what is shown of it for debugging.
+pub(super) fn is_debugged(alloc: Global, value: &impl Debug, want: &str) -> bool {
+    match format!(in alloc; "{value:?}") {
+        Ok(text) => text.as_str() == want,
+        Err(_) => false,
+    }
 }
 
 const ZEROS: Pad = Pad::Left(b'0');
-
-const JUDGED_ROWS: &[(&'static str, FieldSpec, Result<(), SpecFault>)] = &[
-    (
-        "LL of 100",
-        number!(Coding::Ascii, LL, 100),
-        Err(SpecFault::BadMax),
-    ),
-    (
-        "a maximum of 0",
-        number!(Coding::Ascii, LL, 0),
-        Err(SpecFault::BadMax),
-    ),
-    (
-        "BCD letters",
-        row!(CharClass::ANS, Coding::Bcd, LL, 9, Pad::None),
-        Err(SpecFault::CodingClass),
-    ),
-    (
-        "a pad on LL",
-        row!(CharClass::N, Coding::Ascii, LL, 9, ZEROS),
-        Err(SpecFault::PadNotAllowed),
-    ),
-    ("LL of 99", number!(Coding::Ascii, LL, 99), Ok(())),
-    (
-        "LLL of 1,000",
-        number!(Coding::Ascii, LLL, 1_000),
-        Err(SpecFault::BadMax),
-    ),
-    (
-        "a fixed length of 1,000",
-        number!(Coding::Ascii, Length::Fixed, 1_000),
-        Err(SpecFault::BadMax),
-    ),
-    (
-        "LLLL of 9,999",
-        number!(Coding::Bcd, LLLL_BCD, 9_999),
-        Ok(()),
-    ),
-    (
-        "LLLL of 10,000",
-        number!(Coding::Bcd, LLLL_BCD, 10_000),
-        Err(SpecFault::BadMax),
-    ),
-    (
-        "a pad on LLLL",
-        row!(CharClass::N, Coding::Bcd, LLLL_BCD, 9, ZEROS),
-        Err(SpecFault::PadNotAllowed),
-    ),
-];
-
-fn is_judged(row: &FieldSpec, expected: Result<(), SpecFault>) -> bool {
-    row.good() == expected
-}
-
-#[test]
-fn rows_are_judged() -> Result<(), Fail> {
-    for (name, row, expected) in JUDGED_ROWS {
-        check(is_judged(row, *expected), *name)?;
-    }
-    Ok(())
-}
 
 /// What a type is: the numbers of its base and its response, and its class.
 #[derive(Drop)]
@@ -186,95 +141,131 @@ const TYPES: &[TypeCase] = &[
     },
 ];
 
-fn is_type(number: u16) -> bool {
-    Mti::from_digits(number).is_some()
-}
-
-fn has_number(number: u16) -> bool {
-    match Mti::from_digits(number) {
-        Some(mti) => mti.number() == number,
+/// Whether a number is that type.
+fn is_type(case: &TypeCase) -> bool {
+    match Mti::from_digits(case.number) {
+        Some(mti) => {
+            mti.number() == case.number
+                && mti.base().number() == case.base
+                && mti.is_repeat() == case.is_repeat
+                && number_of(mti.response()) == case.response
+                && mti.class() == case.class
+        }
         None => false,
     }
 }
 
-fn has_base(number: u16, base: u16, is_repeat: bool) -> bool {
-    match Mti::from_digits(number) {
-        Some(mti) => mti.base().number() == base && mti.is_repeat() == is_repeat,
-        None => false,
-    }
-}
-
-fn has_response(number: u16, response: Option<u16>) -> bool {
-    match Mti::from_digits(number) {
-        Some(mti) => mti.response().map(|m| m.number()) == response,
-        None => false,
-    }
-}
-
-fn has_class(number: u16, class: MtiClass) -> bool {
-    match Mti::from_digits(number) {
-        Some(mti) => mti.class() == class,
-        None => false,
+/// The number of a type, where there is one.
+fn number_of(mti: Option<Mti>) -> Option<u16> {
+    match mti {
+        Some(mti) => Some(mti.number()),
+        None => None,
     }
 }
 
 #[test]
 fn message_types() -> Result<(), Fail> {
-    check(!is_type(10000), "five digits")?;
     for case in TYPES {
-        let (name, number) = (case.name, case.number);
-        check_of(has_number(number), name, "its number")?;
-        check_of(
-            has_base(number, case.base, case.is_repeat),
-            name,
-            "its base",
-        )?;
-        check_of(has_response(number, case.response), name, "its response")?;
-        check_of(has_class(number, case.class), name, "its class")?;
+        check(is_type(case), case.name)?;
     }
-    Ok(())
+    check(number_of(Mti::from_digits(10000)) == None, "five digits")
 }
 
-const TYPE_TEXTS: &[(&'static str, &'static [u8], Option<u16>)] = &[
-    ("the echo test", b"0800", Some(800)),
-    ("private use", b"9920", Some(9920)),
-    ("three digits", b"800", None),
-    ("five digits", b"00800", None),
-    ("a letter in place of a zero", b"O800", None),
-    ("the byte behind a nine", b"080:", None),
-    ("packed digits", b"\x08\x00", None),
+/// What is told of rows, types and lengths.
+#[derive(Clone, Copy)]
+enum Told {
+    /// Whether a row is good, or why it isn't.
+    IsRow(FieldSpec, Result<(), SpecFault>),
+    /// The number of the type that a text is.
+    IsType(&'static [u8], Option<u16>),
+    /// How many bytes a length takes.
+    Takes(Length, usize),
+}
+
+use Told::{IsRow, IsType, Takes};
+
+const TOLD: &[(&'static str, Told)] = &[
+    (
+        "LL of 100",
+        IsRow(number!(Coding::Ascii, LL, 100), Err(SpecFault::BadMax)),
+    ),
+    (
+        "a maximum of 0",
+        IsRow(number!(Coding::Ascii, LL, 0), Err(SpecFault::BadMax)),
+    ),
+    (
+        "BCD letters",
+        IsRow(
+            row!(CharClass::ANS, Coding::Bcd, LL, 9, Pad::None),
+            Err(SpecFault::CodingClass),
+        ),
+    ),
+    (
+        "a pad on LL",
+        IsRow(
+            row!(CharClass::N, Coding::Ascii, LL, 9, ZEROS),
+            Err(SpecFault::PadNotAllowed),
+        ),
+    ),
+    ("LL of 99", IsRow(number!(Coding::Ascii, LL, 99), Ok(()))),
+    (
+        "LLL of 1,000",
+        IsRow(number!(Coding::Ascii, LLL, 1_000), Err(SpecFault::BadMax)),
+    ),
+    (
+        "a fixed length of 1,000",
+        IsRow(
+            number!(Coding::Ascii, Length::Fixed, 1_000),
+            Err(SpecFault::BadMax),
+        ),
+    ),
+    (
+        "LLLL of 9,999",
+        IsRow(number!(Coding::Bcd, LLLL_BCD, 9_999), Ok(())),
+    ),
+    (
+        "LLLL of 10,000",
+        IsRow(
+            number!(Coding::Bcd, LLLL_BCD, 10_000),
+            Err(SpecFault::BadMax),
+        ),
+    ),
+    (
+        "a pad on LLLL",
+        IsRow(
+            row!(CharClass::N, Coding::Bcd, LLLL_BCD, 9, ZEROS),
+            Err(SpecFault::PadNotAllowed),
+        ),
+    ),
+    ("the echo test", IsType(b"0800", Some(800))),
+    ("private use", IsType(b"9920", Some(9920))),
+    ("three digits", IsType(b"800", None)),
+    ("five digits", IsType(b"00800", None)),
+    ("a letter in place of a zero", IsType(b"O800", None)),
+    ("the byte behind a nine", IsType(b"080:", None)),
+    ("packed digits", IsType(b"\x08\x00", None)),
+    ("no digits of a length", Takes(Length::Fixed, 0)),
+    ("two digits of a length", Takes(LL, 2)),
+    ("two digits of a length under BCD", Takes(LL_BCD, 1)),
+    ("three digits of a length", Takes(LLL, 3)),
+    ("three digits of a length under BCD", Takes(LLL_BCD, 2)),
+    ("four digits of a length", Takes(LLLL, 4)),
+    ("four digits of a length under BCD", Takes(LLLL_BCD, 2)),
 ];
 
-fn tells_number(text: &[u8], number: Option<u16>) -> bool {
-    Mti::from_text(text).map(|mti| mti.number()) == number
+/// Whether that is told.
+fn is_told(told: Told) -> bool {
+    match told {
+        IsRow(row, want) => row.good() == want,
+        IsType(text, number) => number_of(Mti::from_text(text)) == number,
+        Takes(length, size) => length.prefix_size() == size,
+    }
 }
 
 #[test]
-fn types_are_read_from_text() -> Result<(), Fail> {
-    for (name, text, number) in TYPE_TEXTS {
-        check(tells_number(text, *number), *name)?;
-    }
-    Ok(())
-}
-
-const PREFIX_SIZES: &[(&'static str, Length, usize)] = &[
-    ("none", Length::Fixed, 0),
-    ("two digits", LL, 2),
-    ("two digits under BCD", LL_BCD, 1),
-    ("three digits", LLL, 3),
-    ("three digits under BCD", LLL_BCD, 2),
-    ("four digits", LLLL, 4),
-    ("four digits under BCD", LLLL_BCD, 2),
-];
-
-fn takes_bytes(length: Length, size: usize) -> bool {
-    length.prefix_size() == size
-}
-
-#[test]
-fn lengths_take_bytes() -> Result<(), Fail> {
-    for (name, length, size) in PREFIX_SIZES {
-        check(takes_bytes(*length, *size), *name)?;
+fn rows_types_and_lengths_are_told() -> Result<(), Fail> {
+    for (name, told) in TOLD {
+        check(is_told(*told), *name)?;
     }
     Ok(())
 }

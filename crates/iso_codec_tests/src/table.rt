@@ -52,18 +52,34 @@ struct Says<'a> {
     max_bytes: u64,
 }
 
-/// A draft that says so.
-fn draft(alloc: Global, says: Says) -> Result<Draft, AllocError> {
-    let rows = says.rows.iter().map(|&(number, spec)| Row {
-        number: u16::from(number),
-        spec,
-    });
-    Ok(Draft {
-        version: says.version,
-        mti: says.mti,
-        bitmap: says.bitmap,
-        rows: Vec::from_iter(alloc, rows)?,
-    })
+/// A draft of these rows.
+pub(super) fn draft(
+    alloc: Global,
+    version: u8,
+    mti: Digits,
+    bitmap: BitmapCoding,
+    rows: &[(u8, FieldSpec)],
+) -> Result<Draft, AllocError> {
+    let mut draft = Draft {
+        version,
+        mti,
+        bitmap,
+        rows: Vec::new(alloc),
+    };
+    for (number, spec) in rows {
+        let number = u16::from(*number);
+        draft.rows.push(Row {
+            number,
+            spec: *spec,
+        })?;
+    }
+    Ok(draft)
+}
+
+/// The table of a draft that says so.
+fn checked(alloc: Global, says: &Says) -> Result<Table, TableFault> {
+    let draft = draft(alloc, says.version, says.mti, says.bitmap, says.rows)?;
+    Table::check(alloc, draft)
 }
 
 /// Ends the test with the name of a table and an element, unless it is so.
@@ -75,15 +91,21 @@ fn check_element(is_so: bool, name: &str, element: u8) -> Result<(), Fail> {
     }
 }
 
-/// That a table says so.
-fn check_says(name: &str, table: &Table, says: &Says) -> Result<(), Fail> {
+/// That a table says so, and has so many rows.
+fn check_heading(name: &str, table: &Table, says: &Says, rows: usize) -> Result<(), Fail> {
     let has_heading = has_heading(table, says.version, says.mti, says.bitmap);
     check_of(has_heading, name, "its heading")?;
-    let has_size = has_size(table, says.rows.len(), says.max_bytes);
-    check_of(has_size, name, "its size")?;
+    let has_size = table.rows() == rows && table.max_bytes() == says.max_bytes;
+    check_of(has_size, name, "its size")
+}
+
+/// That a table says so.
+fn check_says(name: &str, table: &Table, says: &Says) -> Result<(), Fail> {
+    check_heading(name, table, says, says.rows.len())?;
     check_rows(name, table, says.rows)
 }
 
+/// That the table has these rows.
 fn check_rows(name: &str, table: &Table, rows: &[(u8, FieldSpec)]) -> Result<(), Fail> {
     for (element, row) in rows {
         check_element(has_row(table, *element, Some(*row)), name, *element)?;
@@ -91,13 +113,9 @@ fn check_rows(name: &str, table: &Table, rows: &[(u8, FieldSpec)]) -> Result<(),
     Ok(())
 }
 
+/// Whether the table writes messages of that version so.
 fn has_heading(table: &Table, version: u8, mti: Digits, bitmap: BitmapCoding) -> bool {
     table.version() == version && table.mti() == mti && table.bitmap() == bitmap
-}
-
-/// Whether the table has so many rows, and so many bytes are its longest message.
-fn has_size(table: &Table, rows: usize, max_bytes: u64) -> bool {
-    table.rows() == rows && table.max_bytes() == max_bytes
 }
 
 /// Whether that is the row of the element, which is known where it has one.
@@ -105,19 +123,26 @@ fn has_row(table: &Table, element: u8, row: Option<FieldSpec>) -> bool {
     table.row(element).copied() == row && table.known().has(element) == row.is_some()
 }
 
-/// The table of the 1987 edition in ASCII.
-pub(super) fn ascii87(alloc: Global) -> Result<Table, Fail> {
-    Ok(Table::ascii87(alloc)?)
-}
-
-/// The table of the 1987 edition in BCD.
-pub(super) fn bcd87(alloc: Global) -> Result<Table, Fail> {
-    Ok(Table::bcd87(alloc)?)
+/// The table of the 1987 edition whose numbers are of these digits.
+pub(super) fn table87(alloc: Global, digits: Digits) -> Result<Table, TableFault> {
+    let built = match digits {
+        Digits::Ascii => Table::ascii87(alloc),
+        Digits::Bcd => Table::bcd87(alloc),
+    };
+    built.or(Err(TableFault::Memory))
 }
 
 /// The table that a document gives.
 fn read(alloc: Global, text: &[u8]) -> Result<Table, Fail> {
     Ok(Table::from_json(alloc, text)?)
+}
+
+/// Whether that text is written of the table.
+fn is_written(alloc: Global, table: &Table, want: &str) -> bool {
+    match table.to_json(alloc) {
+        Ok(text) => text.as_slice() == want.as_bytes(),
+        Err(_) => false,
+    }
 }
 
 const ASCII87_ROWS: &[(u8, Option<FieldSpec>)] = &[
@@ -138,33 +163,42 @@ const ASCII87_ROWS: &[(u8, Option<FieldSpec>)] = &[
     (129, None),
 ];
 
-#[test]
-fn builds_ascii87(rt: HostRuntime) -> Result<(), Fail> {
-    let table = ascii87(rt.alloc())?;
-    let has_heading = has_heading(&table, 0, Digits::Ascii, BitmapCoding::Hex);
-    check(has_heading, "its heading")?;
-    check(has_size(&table, 126, 36470), "its size")?;
-    for (element, row) in ASCII87_ROWS {
-        check_element(has_row(&table, *element, *row), "ascii87", *element)?;
+const BCD87_ROWS: &[(u8, Option<FieldSpec>)] = &[
+    (2, Some(number!(Coding::Bcd, LL_BCD, 19))),
+    (34, Some(text!(LL_BCD, 28))),
+    (52, Some(bytes!(Coding::Raw, Length::Fixed, 8))),
+    (55, Some(bytes!(Coding::Raw, LLL_BCD, 999))),
+    (63, Some(text!(LLL_BCD, 999))),
+    (90, Some(number!(Coding::Bcd, Length::Fixed, 42))),
+    (100, Some(number!(Coding::Bcd, LL_BCD, 11))),
+];
+
+/// A table of the 1987 edition, what it says but for its rows, and some of these.
+type Built = (
+    &'static str,
+    Says<'static>,
+    &'static [(u8, Option<FieldSpec>)],
+);
+
+const BUILT: &[Built] = &[
+    ("ascii87", ascii_table!(0, &[], 36470), ASCII87_ROWS),
+    ("bcd87", bcd_table!(0, &[], 36141), BCD87_ROWS),
+];
+
+/// That the table has these rows, or none.
+fn check_built(name: &str, table: &Table, rows: &[(u8, Option<FieldSpec>)]) -> Result<(), Fail> {
+    for (element, row) in rows {
+        check_element(has_row(table, *element, *row), name, *element)?;
     }
     Ok(())
 }
 
-const BCD87_ROWS: &[(u8, FieldSpec)] = &[
-    (2, number!(Coding::Bcd, LL_BCD, 19)),
-    (34, text!(LL_BCD, 28)),
-    (52, bytes!(Coding::Raw, Length::Fixed, 8)),
-    (55, bytes!(Coding::Raw, LLL_BCD, 999)),
-    (63, text!(LLL_BCD, 999)),
-    (90, number!(Coding::Bcd, Length::Fixed, 42)),
-    (100, number!(Coding::Bcd, LL_BCD, 11)),
-];
-
 #[test]
-fn builds_bcd87(rt: HostRuntime) -> Result<(), Fail> {
-    let table = bcd87(rt.alloc())?;
-    let has_heading = has_heading(&table, 0, Digits::Bcd, BitmapCoding::Raw);
-    check(has_heading, "its heading")?;
-    check(has_size(&table, 126, 36141), "its size")?;
-    check_rows("bcd87", &table, BCD87_ROWS)
+fn builds_tables(rt: HostRuntime) -> Result<(), Fail> {
+    for (name, says, rows) in BUILT {
+        let table = table87(rt.alloc(), says.mti)?;
+        check_heading(*name, &table, says, 126)?;
+        check_built(*name, &table, *rows)?;
+    }
+    Ok(())
 }

@@ -1,10 +1,10 @@
 //! Messages: what is read of bytes, and which bytes are written.
 
 use super::parts::TERMINAL_ROW;
-use super::table::{ascii87, bcd87};
+use super::table::{draft, table87};
 use iso_fakes::{check, check_of};
 use iso_parts::{BitmapCoding, CharClass, Coding, Digits, FieldSpec, Length, Mti, Pad};
-use iso_table::{Draft, Row, Table, TableFault};
+use iso_table::{Table, TableFault};
 use iso_wire::*;
 use std::alloc::Global;
 use std::test::*;
@@ -23,6 +23,20 @@ macro_rules! counted {
     };
 }
 
+/// A table with element 48 alone: at most so many bytes as digits, behind four digits of a length.
+macro_rules! chips {
+    ($max:expr) => {
+        Rows(
+            0,
+            Digits::Ascii,
+            BitmapCoding::Hex,
+            &[(48, bytes!(Coding::HexText, Length::LLLL(Digits::Ascii), $max))],
+        )
+    };
+}
+
+mod cases;
+mod edits;
 mod faults;
 mod frames;
 mod hostile;
@@ -46,6 +60,14 @@ const REVERSAL: &[u8] = b"042082200001000000000000004000000000010203050000000805
 const PACKED_ECHO: &[u8] =
     b"\x08\x00\x82\x20\0\0\0\0\0\0\x04\0\0\0\0\0\0\0\x01\x02\x03\x04\x05\0\0\x01\x03\x01";
 
+/// Element 48 behind four digits of a length.
+const CHIP: &[u8] = b"08000000000000010000000301020A";
+
+/// A terminal that ends with a blank, and an element behind it.
+const BLANK: &[u8] = b"08000000000000C00000TERM1 ab";
+
+const BLANK_ELEMENTS: Elements = &[(41, b"TERM1 "), (42, b"ab")];
+
 /// The packed echo test with another filler.
 const FILLED_ECHO: &[u8] =
     b"\x08\x00\x82\x20\0\0\0\0\0\0\x04\0\0\0\0\0\0\0\x01\x02\x03\x04\x05\0\0\x01\xF3\x01";
@@ -54,38 +76,6 @@ const FILLED_ECHO: &[u8] =
 type Elements = &'static [(u8, &'static [u8])];
 
 const ECHO_ELEMENTS: Elements = &[(7, b"0102030405"), (11, b"000001"), (70, b"301")];
-
-/// The bytes of a message, and what they say.
-#[derive(Drop)]
-struct Case {
-    name: &'static str,
-    bytes: &'static [u8],
-    used: usize,
-    elements: Elements,
-    plain: &'static [u8],
-}
-
-fn table(
-    alloc: Global,
-    version: u8,
-    mti: Digits,
-    bitmap: BitmapCoding,
-    rows: &[(u8, FieldSpec)],
-) -> Result<Table, TableFault> {
-    let mut draft = Draft {
-        version,
-        mti,
-        bitmap,
-        rows: Vec::new(alloc),
-    };
-    for (number, spec) in rows {
-        draft.rows.push(Row {
-            number: u16::from(*number),
-            spec: *spec,
-        })?;
-    }
-    Table::check(alloc, draft)
-}
 
 /// A terminal alone.
 const TERMINAL_ROWS: &[(u8, FieldSpec)] = &[(41, TERMINAL_ROW)];
@@ -105,87 +95,55 @@ const ASCII_ROWS: &[(u8, FieldSpec)] = &[
     (90, digits!(Ascii, 42)),
 ];
 
-fn ascii(alloc: Global) -> Result<Table, TableFault> {
-    table(alloc, 0, Digits::Ascii, BitmapCoding::Hex, ASCII_ROWS)
-}
-
 const PACKED_ROWS: &[(u8, FieldSpec)] = &[
     (7, digits!(Bcd, 10)),
     (11, digits!(Bcd, 6)),
     (70, digits!(Bcd, 3)),
 ];
 
-fn packed(alloc: Global) -> Result<Table, TableFault> {
-    table(alloc, 0, Digits::Bcd, BitmapCoding::Raw, PACKED_ROWS)
+/// A table that messages are read under.
+#[derive(Clone, Copy)]
+enum Under {
+    /// The table of the 1987 edition whose numbers are of these digits.
+    Edition87(Digits),
+    /// The version, the digits of a type, the coding of bitmaps, and the rows.
+    Rows(u8, Digits, BitmapCoding, &'static [(u8, FieldSpec)]),
 }
 
-const ASCII_CASES: &[Case] = &[
-    Case {
-        name: "echo",
-        bytes: ECHO,
-        used: 55,
-        elements: ECHO_ELEMENTS,
-        plain: ECHO,
-    },
-    Case {
-        name: "payment",
-        bytes: PAYMENT,
-        used: 82,
-        elements: &[
-            (2, b"4111111111111111"),
-            (3, b"000000"),
-            (4, b"000000001000"),
-            (7, b"0102030405"),
-            (11, b"000007"),
-            (32, b"12345"),
-            (49, b"840"),
-        ],
-        plain: PAYMENT,
-    },
-    Case {
-        name: "no element",
-        bytes: b"08000000000000000000",
-        used: 20,
-        elements: &[],
-        plain: b"08000000000000000000",
-    },
-    Case {
-        name: "an empty secondary bitmap",
-        bytes: b"080080000000000000000000000000000000",
-        used: 36,
-        elements: &[],
-        plain: b"08000000000000000000",
-    },
-    Case {
-        name: "a bitmap in lower case, and bytes behind",
-        bytes: b"0800022a000000000000010203040500000101020103XYZ",
-        used: 44,
-        elements: &[
-            (7, b"0102030405"),
-            (11, b"000001"),
-            (13, b"0102"),
-            (15, b"0103"),
-        ],
-        plain: b"0800022A000000000000010203040500000101020103",
-    },
-];
+use Under::{Edition87, Rows};
 
-const PACKED_CASES: &[Case] = &[
-    Case {
-        name: "echo under BCD",
-        bytes: PACKED_ECHO,
-        used: 28,
-        elements: ECHO_ELEMENTS,
-        plain: PACKED_ECHO,
-    },
-    Case {
-        name: "filler F",
-        bytes: FILLED_ECHO,
-        used: 28,
-        elements: ECHO_ELEMENTS,
-        plain: PACKED_ECHO,
-    },
-];
+const ASCII87: Under = Edition87(Digits::Ascii);
+
+const BCD87: Under = Edition87(Digits::Bcd);
+
+const ASCII: Under = Rows(0, Digits::Ascii, BitmapCoding::Hex, ASCII_ROWS);
+
+const PACKED: Under = Rows(0, Digits::Bcd, BitmapCoding::Raw, PACKED_ROWS);
+
+/// The tables of a terminal alone.
+const TERMINALS: Under = Rows(0, Digits::Ascii, BitmapCoding::Hex, TERMINAL_ROWS);
+
+const RAW_TERMINALS: Under = Rows(0, Digits::Ascii, BitmapCoding::Raw, TERMINAL_ROWS);
+
+/// A table that takes the message with the blank.
+const BLANKS: Under = Rows(
+    0,
+    Digits::Ascii,
+    BitmapCoding::Hex,
+    &[(41, text!(Length::Fixed, 6)), (42, text!(Length::Fixed, 2))],
+);
+
+const CHIPS: Under = chips!(9_999);
+
+/// The table, made anew.
+fn table_of(alloc: Global, under: Under) -> Result<Table, TableFault> {
+    match under {
+        Edition87(digits) => table87(alloc, digits),
+        Rows(version, mti, bitmap, rows) => {
+            Table::check(alloc, draft(alloc, version, mti, bitmap, rows)?)
+        }
+    }
+}
 
 /// The value that the elements give a number, if they have it.
 fn value_in<'a>(elements: &[(u8, &'a [u8])], n: u8) -> Option<&'a [u8]> {
@@ -219,24 +177,44 @@ fn message(alloc: Global, mti: u16, elements: &[(u8, &[u8])]) -> Result<Message,
     Ok(message)
 }
 
-/// Bytes that are no message, where they stop being one, in the piece of which element, and why.
-type Stop = (&'static str, &'static [u8], usize, u8, UnpackCause);
-
+/// The fault of bytes that stop being a message there, in the piece of that element.
 fn stop(at: usize, element: u8, cause: UnpackCause) -> UnpackFault {
     UnpackFault { at, element, cause }
 }
 
-fn is_refused(alloc: Global, table: &Table, bytes: &[u8], fault: UnpackFault) -> bool {
-    unpack(alloc, table, bytes).err() == Some(fault)
+/// What `unpack` refuses in the bytes.
+fn refused_whole(alloc: Global, table: &Table, bytes: &[u8]) -> Option<UnpackFault> {
+    unpack(alloc, table, bytes).err()
 }
 
-/// That each of the bytes is refused where it stops being a message.
-fn check_stops(alloc: Global, table: &Table, stops: &[Stop]) -> Result<(), Fail> {
-    for (name, bytes, at, element, cause) in stops {
-        let fault = stop(*at, *element, *cause);
-        check(is_refused(alloc, table, bytes, fault), *name)?;
-    }
-    Ok(())
+/// What `view` refuses in them.
+fn refused_view(table: &Table, bytes: &[u8]) -> Option<UnpackFault> {
+    view(table, bytes).err()
+}
+
+/// What `feed` refuses in them.
+fn refused_piece(alloc: Global, table: &Table, bytes: &[u8]) -> Option<UnpackFault> {
+    Unpacker::new(alloc, table).feed(alloc, bytes).err()
+}
+
+/// What `unpack`, `view` and `feed` refuse in the bytes, where `feed` tells no fault but wants more.
+fn refused(alloc: Global, table: &Table, bytes: &[u8]) -> [Option<UnpackFault>; 3] {
+    [
+        refused_whole(alloc, table, bytes),
+        refused_view(table, bytes),
+        refused_piece(alloc, table, bytes),
+    ]
+}
+
+/// Whether `unpack`, `view` and `feed` all tell that fault, but that `feed` wants more where the bytes are short.
+fn are_refused(alloc: Global, table: &Table, bytes: &[u8], fault: UnpackFault) -> bool {
+    let told = Some(fault);
+    let fed = if fault.cause == UnpackCause::Short {
+        None
+    } else {
+        told
+    };
+    refused(alloc, table, bytes) == [told, told, fed]
 }
 
 /// Where each piece of a message begins, with its element.
@@ -281,63 +259,11 @@ fn short_at(pieces: &[(usize, u8)], size: usize) -> UnpackFault {
     fault
 }
 
-/// Ends the test with how many bytes there are, unless it is so.
-fn check_size(is_so: bool, size: usize) -> Result<(), Fail> {
+/// Ends the test with the name of a message and a count of its bytes, or the number of a bit, unless it is so.
+fn check_at(is_so: bool, name: &str, at: usize) -> Result<(), Fail> {
     if is_so {
         Ok(())
     } else {
-        Err(Fail::new(format_args!("{size} bytes")))
+        Err(Fail::new(format_args!("{name}: {at}")))
     }
-}
-
-/// That a message is short wherever it is cut.
-fn check_short(
-    alloc: Global,
-    table: &Table,
-    bytes: &[u8],
-    pieces: &[(usize, u8)],
-) -> Result<(), Fail> {
-    for size in 0..bytes.len() {
-        let fault = short_at(pieces, size);
-        check_size(is_refused(alloc, table, &bytes[..size], fault), size)?;
-    }
-    Ok(())
-}
-
-/// Whether a case is read, and nothing else.
-fn is_read(alloc: Global, table: &Table, case: &Case) -> Result<bool, Fail> {
-    let (message, used) = unpack(alloc, table, case.bytes)?;
-    Ok(used == case.used && has_only(&message, case.elements))
-}
-
-/// Whether what is read of a case is written as its plain bytes.
-fn is_rewritten(alloc: Global, table: &Table, case: &Case) -> Result<bool, Fail> {
-    let (message, _) = unpack(alloc, table, case.bytes)?;
-    let plain = pack(alloc, table, &message)?;
-    Ok(plain.as_slice() == case.plain)
-}
-
-/// That a case is read, and written as its plain bytes.
-fn check_case(alloc: Global, table: &Table, case: &Case) -> Result<(), Fail> {
-    check_of(is_read(alloc, table, case)?, case.name, "read")?;
-    check_of(is_rewritten(alloc, table, case)?, case.name, "written")
-}
-
-fn check_cases(alloc: Global, table: &Table, cases: &[Case]) -> Result<(), Fail> {
-    for case in cases {
-        check_case(alloc, table, case)?;
-    }
-    Ok(())
-}
-
-#[test]
-fn messages_are_read_and_written(rt: HostRuntime) -> Result<(), Fail> {
-    let table = ascii(rt.alloc())?;
-    check_cases(rt.alloc(), &table, ASCII_CASES)
-}
-
-#[test]
-fn packed_messages_are_read_and_written(rt: HostRuntime) -> Result<(), Fail> {
-    let table = packed(rt.alloc())?;
-    check_cases(rt.alloc(), &table, PACKED_CASES)
 }

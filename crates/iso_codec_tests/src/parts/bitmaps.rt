@@ -1,6 +1,7 @@
 //! Sets of element numbers, and their bytes.
 
 use super::*;
+use iso_parts::BitmapCoding::{Hex, Raw};
 
 /// The set of these numbers.
 fn set_of(numbers: &[u8]) -> Bitmap {
@@ -11,10 +12,6 @@ fn set_of(numbers: &[u8]) -> Bitmap {
         }
     }
     bits
-}
-
-fn has(numbers: &[u8], n: u8) -> bool {
-    set_of(numbers).has(n)
 }
 
 const WORDS: &[(&'static str, [u64; 2], &'static [u8])] = &[
@@ -79,72 +76,6 @@ fn sets_are_made_from_words() -> Result<(), Fail> {
     Ok(())
 }
 
-const OTHER_SETS: &[(&'static str, &'static [u8], bool)] = &[
-    ("the same numbers", &[2, 64, 66, 128], true),
-    ("one less in the first word", &[2, 66, 128], false),
-    ("one less in the second word", &[2, 64, 66], false),
-    ("one more", &[2, 7, 64, 66, 128], false),
-];
-
-fn are_equal(set: &[u8], other: &[u8]) -> bool {
-    set_of(set).equals(&set_of(other))
-}
-
-#[test]
-fn sets_are_compared() -> Result<(), Fail> {
-    for (name, numbers, is_same) in OTHER_SETS {
-        let answer = are_equal(&[2, 64, 66, 128], numbers);
-        check(answer == *is_same, *name)?;
-    }
-    Ok(())
-}
-
-const NUMBERS_BELOW: &[(&'static str, u8, usize)] = &[
-    ("the lowest", 2, 0),
-    ("one that is there", 7, 1),
-    ("one that is not", 8, 2),
-    ("the last of the first word", 64, 2),
-    ("the first of the second word", 65, 3),
-    ("one of the second word", 70, 4),
-    ("the last of the second word", 128, 5),
-];
-
-/// Whether so many of the numbers are below that one.
-fn are_below(numbers: &[u8], n: u8, count: usize) -> bool {
-    (2..=128).contains(&n) && set_of(numbers).count_below(n) == count
-}
-
-#[test]
-fn the_numbers_below_one_are_counted() -> Result<(), Fail> {
-    for (name, n, count) in NUMBERS_BELOW {
-        let are_below = are_below(&[2, 7, 64, 66, 70, 128], *n, *count);
-        check(are_below, *name)?;
-    }
-    Ok(())
-}
-
-const MISSING_NUMBERS: &[(&'static str, &'static [u8], Option<u8>)] = &[
-    ("of none", &[], None),
-    ("of all of them", &[2, 7, 64, 66, 70], None),
-    ("of one of each", &[7, 70], None),
-    ("a low one", &[2, 6, 7, 63], Some(6)),
-    ("a high one", &[2, 67, 70, 128], Some(67)),
-];
-
-/// Whether that is the least of the numbers that the set lacks.
-fn is_missing(set: &[u8], numbers: &[u8], missing: Option<u8>) -> bool {
-    set_of(numbers).missing_from(&set_of(set)) == missing
-}
-
-#[test]
-fn the_least_missing_number_is_told() -> Result<(), Fail> {
-    for (name, numbers, missing) in MISSING_NUMBERS {
-        let is_told = is_missing(&[2, 7, 64, 66, 70], numbers, *missing);
-        check(is_told, *name)?;
-    }
-    Ok(())
-}
-
 /// A set, the bytes that stand for it, and its highest number.
 #[derive(Drop)]
 struct SetCase {
@@ -190,200 +121,224 @@ const SETS: &[SetCase] = &[
 fn is_written(numbers: &[u8], raw: &[u8]) -> bool {
     let mut out = [0xEE; 16];
     let used = set_of(numbers).write_raw(&mut out);
-    &out[..used] == raw && out[used..].iter().all(|b| *b == 0xEE)
-}
-
-fn is_highest(numbers: &[u8], highest: u8) -> bool {
-    set_of(numbers).highest() == highest
-}
-
-/// Whether the bytes, with more behind them, are read as that set.
-fn is_read(alloc: Global, raw: &[u8], numbers: &[u8]) -> Result<bool, Fail> {
-    let longer = [raw, b"more"].concat(alloc)?;
-    let got = BitmapStep::Got {
-        bits: set_of(numbers),
-        used: raw.len(),
-    };
-    Ok(Bitmap::read_raw(&longer) == Ok(got))
-}
-
-fn is_read_of_digits(digits: &[u8], numbers: &[u8]) -> bool {
-    let got = BitmapStep::Got {
-        bits: set_of(numbers),
-        used: digits.len(),
-    };
-    Bitmap::read_hex(digits) == Ok(got)
+    &out[..used] == raw && out[used..] == [0xEE; 16][used..]
 }
 
 /// Whether these bytes are written of the set behind others.
-fn is_appended(
+fn is_appended(alloc: Global, coding: BitmapCoding, numbers: &[u8], bytes: &[u8]) -> bool {
+    let mut out = Vec::new(alloc);
+    out.extend_from_slice(b"before").is_ok()
+        && set_of(numbers).append(coding, &mut out).is_ok()
+        && out.strip_prefix(b"before") == Some(bytes)
+}
+
+/// What stands at the front of the bytes under the coding.
+fn read(coding: BitmapCoding, bytes: &[u8]) -> Result<BitmapStep, BitmapFault> {
+    match coding {
+        Raw => Bitmap::read_raw(bytes),
+        Hex => Bitmap::read_hex(bytes),
+    }
+}
+
+/// Whether so many of the bytes are read as the set of these numbers.
+fn is_got(coding: BitmapCoding, bytes: &[u8], numbers: &[u8], used: usize) -> bool {
+    let bits = set_of(numbers);
+    read(coding, bytes) == Ok(BitmapStep::Got { bits, used })
+}
+
+/// Whether the bytes are read as that set, alone and with more behind them.
+fn is_read(alloc: Global, coding: BitmapCoding, bytes: &[u8], numbers: &[u8]) -> bool {
+    let used = bytes.len();
+    match [bytes, b"more"].concat(alloc) {
+        Ok(longer) => {
+            is_got(coding, bytes, numbers, used) && is_got(coding, &longer, numbers, used)
+        }
+        Err(_) => false,
+    }
+}
+
+/// That the set is written under the coding as these bytes, and read of them.
+fn check_coding(
     alloc: Global,
-    before: &[u8],
-    numbers: &[u8],
+    name: &str,
     coding: BitmapCoding,
+    numbers: &[u8],
     bytes: &[u8],
-) -> Result<bool, Fail> {
-    let mut out = Vec::from_slice(alloc, before)?;
-    set_of(numbers).append(coding, &mut out)?;
-    Ok(out.strip_prefix(before) == Some(bytes))
+) -> Result<(), Fail> {
+    let is_appended = is_appended(alloc, coding, numbers, bytes);
+    check_of(is_appended, name, "appended")?;
+    check_of(is_read(alloc, coding, bytes, numbers), name, "read")
 }
 
-fn check_raw(alloc: Global, case: &SetCase) -> Result<(), Fail> {
-    let (name, numbers, raw) = (case.name, case.numbers, case.raw);
-    check_of(is_written(numbers, raw), name, "written")?;
-    check_of(is_read(alloc, raw, numbers)?, name, "read")?;
-    let is_appended = is_appended(alloc, b"before", numbers, BitmapCoding::Raw, raw)?;
-    check_of(is_appended, name, "appended")
-}
-
-fn check_digits(alloc: Global, case: &SetCase) -> Result<(), Fail> {
-    let (name, numbers, digits) = (case.name, case.numbers, case.digits);
-    let is_appended = is_appended(alloc, b"", numbers, BitmapCoding::Hex, digits)?;
-    check_of(is_appended, name, "as digits")?;
-    check_of(is_read_of_digits(digits, numbers), name, "digits read")
+/// That a set is written and read under each coding, and tells its highest number.
+fn check_set(alloc: Global, case: &SetCase) -> Result<(), Fail> {
+    let (name, numbers) = (case.name, case.numbers);
+    check_of(is_written(numbers, case.raw), name, "written")?;
+    check_of(
+        set_of(numbers).highest() == case.highest,
+        name,
+        "its highest",
+    )?;
+    check_coding(alloc, name, Raw, numbers, case.raw)?;
+    check_coding(alloc, name, Hex, numbers, case.digits)
 }
 
 #[test]
 fn bitmaps_are_written_and_read(rt: HostRuntime) -> Result<(), Fail> {
     for case in SETS {
-        check_raw(rt.alloc(), case)?;
-        check_digits(rt.alloc(), case)?;
-        check_of(
-            is_highest(case.numbers, case.highest),
-            case.name,
-            "its highest",
-        )?;
+        check_set(rt.alloc(), case)?;
     }
     Ok(())
 }
 
-const REFUSED_BITMAPS: &[(&'static str, &'static [u8], Option<(usize, BitmapCause)>)] = &[
-    ("seven bytes", b"\0\0\0\0\0\0\0", None),
+/// What is told of sets, bitmaps and numbers.
+#[derive(Clone, Copy)]
+enum Told {
+    /// Whether a set has the numbers 2, 64, 66 and 128 and no others.
+    Same(&'static [u8], bool),
+    /// How many of the numbers 2, 7, 64, 66, 70 and 128 are below one.
+    Below(u8, usize),
+    /// The least of a set's numbers that is none of 2, 7, 64, 66 and 70.
+    Missing(&'static [u8], Option<u8>),
+    /// Whether a set has a number.
+    Has(&'static [u8], u8, bool),
+    /// The word of one bitmap.
+    Word(BitmapCoding, &'static [u8], Option<u64>),
+    /// Whether a bitmap's word tells of one more bitmap.
+    Another(u64, bool),
+    /// Whether an element may have the number.
+    Element(u16, bool),
+    /// The set of all of the bytes.
+    Got(BitmapCoding, &'static [u8], &'static [u8]),
+    /// That bytes are missing.
+    More(BitmapCoding, &'static [u8]),
+    /// Where bytes are no bitmap, and why.
+    Refused(BitmapCoding, &'static [u8], usize, BitmapCause),
+}
+
+use Told::{Another, Below, Element, Got, Has, Missing, More, Refused, Same, Word};
+
+const TOLD: &[(&'static str, Told)] = &[
+    ("the same numbers", Same(&[2, 64, 66, 128], true)),
+    ("one less in the first word", Same(&[2, 66, 128], false)),
+    ("one less in the second word", Same(&[2, 64, 66], false)),
+    ("one more", Same(&[2, 7, 64, 66, 128], false)),
+    ("below the lowest", Below(2, 0)),
+    ("below one that is there", Below(7, 1)),
+    ("below one that is not", Below(8, 2)),
+    ("below the last of the first word", Below(64, 2)),
+    ("below the first of the second word", Below(65, 3)),
+    ("below one of the second word", Below(70, 4)),
+    ("below the last of the second word", Below(128, 5)),
+    ("none is missing of none", Missing(&[], None)),
+    ("none of all of them", Missing(&[2, 7, 64, 66, 70], None)),
+    ("none of one of each", Missing(&[7, 70], None)),
+    ("a low one is missing", Missing(&[2, 6, 7, 63], Some(6))),
+    (
+        "a high one is missing",
+        Missing(&[2, 67, 70, 128], Some(67)),
+    ),
+    ("the seventh bit", Has(&[7], 7, true)),
+    ("the seventh bit from the end", Has(&[7], 58, false)),
+    (
+        "the word of raw bytes",
+        Word(Raw, b"\x82\x20\0\0\0\0\0\x01", Some(0x8220_0000_0000_0001)),
+    ),
+    (
+        "the word of digits",
+        Word(Hex, b"8220000000000001", Some(0x8220_0000_0000_0001)),
+    ),
+    ("no word of a blank", Word(Hex, b"82200000000000 1", None)),
+    ("a word of no bit", Another(0, false)),
+    (
+        "a word of all bits but the first",
+        Another(0x7FFF_FFFF_FFFF_FFFF, false),
+    ),
+    (
+        "a word of the first bit alone",
+        Another(0x8000_0000_0000_0000, true),
+    ),
+    ("a word of all bits", Another(0xFFFF_FFFF_FFFF_FFFF, true)),
+    ("number 0", Element(0, false)),
+    ("the first bit", Element(1, false)),
+    ("the account number", Element(2, true)),
+    ("the last of the primary bitmap", Element(64, true)),
+    ("the bit of a third bitmap", Element(65, false)),
+    ("the first of the secondary bitmap", Element(66, true)),
+    ("the last number", Element(128, true)),
+    ("one more than the last", Element(129, false)),
+    ("seven bytes", More(Raw, b"\0\0\0\0\0\0\0")),
     (
         "seven of a second bitmap",
-        b"\x80\0\0\0\0\0\0\0\x80\0\0\0\0\0\0",
-        None,
+        More(Raw, b"\x80\0\0\0\0\0\0\0\x80\0\0\0\0\0\0"),
     ),
     (
         "a third bitmap",
-        b"\x80\0\0\0\0\0\0\0\x80\0\0\0\0\0\0\0",
-        Some((8, BitmapCause::ThirdBitmap)),
+        Refused(
+            Raw,
+            b"\x80\0\0\0\0\0\0\0\x80\0\0\0\0\0\0\0",
+            8,
+            BitmapCause::ThirdBitmap,
+        ),
     ),
-];
-
-/// What is answered where no bitmap is found: a fault, or that bytes are missing.
-fn answer(fault: Option<(usize, BitmapCause)>) -> Result<BitmapStep, BitmapFault> {
-    match fault {
-        Some((at, cause)) => Err(BitmapFault { at, cause }),
-        None => Ok(BitmapStep::More),
-    }
-}
-
-fn is_refused(raw: &[u8], fault: Option<(usize, BitmapCause)>) -> bool {
-    Bitmap::read_raw(raw) == answer(fault)
-}
-
-#[test]
-fn raw_bitmaps_are_refused() -> Result<(), Fail> {
-    for (name, raw, fault) in REFUSED_BITMAPS {
-        check(is_refused(raw, *fault), *name)?;
-    }
-    Ok(())
-}
-
-const REFUSED_DIGITS: &[(&'static str, &'static [u8], Option<(usize, BitmapCause)>)] = &[
-    ("fifteen digits", b"022a00000000000", None),
+    (
+        "digits in lower case",
+        Got(Hex, b"022a000000000000", &[7, 11, 13, 15]),
+    ),
+    ("fifteen digits", More(Hex, b"022a00000000000")),
     (
         "G is no digit",
-        b"022A00000000000G",
-        Some((0, BitmapCause::BadHex)),
+        Refused(Hex, b"022A00000000000G", 0, BitmapCause::BadHex),
     ),
     (
         "x in the second bitmap",
-        b"8000000000000000x000000000000000",
-        Some((16, BitmapCause::BadHex)),
+        Refused(
+            Hex,
+            b"8000000000000000x000000000000000",
+            16,
+            BitmapCause::BadHex,
+        ),
     ),
     (
-        "a third bitmap",
-        b"80000000000000008000000000000000",
-        Some((16, BitmapCause::ThirdBitmap)),
+        "a third bitmap of digits",
+        Refused(
+            Hex,
+            b"80000000000000008000000000000000",
+            16,
+            BitmapCause::ThirdBitmap,
+        ),
     ),
 ];
 
-fn are_refused_digits(digits: &[u8], fault: Option<(usize, BitmapCause)>) -> bool {
-    Bitmap::read_hex(digits) == answer(fault)
+/// Whether so many of the numbers are below that one.
+fn are_below(numbers: &[u8], n: u8, count: usize) -> bool {
+    (2..=128).contains(&n) && set_of(numbers).count_below(n) == count
 }
 
-#[test]
-fn hexadecimal_bitmaps_are_refused() -> Result<(), Fail> {
-    let lower = is_read_of_digits(b"022a000000000000", &[7, 11, 13, 15]);
-    check(lower, "digits in lower case")?;
-    for (name, digits, fault) in REFUSED_DIGITS {
-        check(are_refused_digits(digits, *fault), *name)?;
+/// Whether that is told.
+fn is_told(told: Told) -> bool {
+    match told {
+        Same(numbers, is_so) => set_of(&[2, 64, 66, 128]).equals(&set_of(numbers)) == is_so,
+        Below(n, count) => are_below(&[2, 7, 64, 66, 70, 128], n, count),
+        Missing(numbers, missing) => {
+            set_of(numbers).missing_from(&set_of(&[2, 7, 64, 66, 70])) == missing
+        }
+        Has(numbers, n, is_so) => set_of(numbers).has(n) == is_so,
+        Word(coding, bytes, word) => bytes.len() == coding.size() && coding.word(bytes) == word,
+        Another(word, is_so) => tells_another(word) == is_so,
+        Element(number, is_so) => is_element(number) == is_so,
+        Got(coding, bytes, numbers) => is_got(coding, bytes, numbers, bytes.len()),
+        More(coding, bytes) => read(coding, bytes) == Ok(BitmapStep::More),
+        Refused(coding, bytes, at, cause) => {
+            read(coding, bytes) == Err(BitmapFault { at, cause })
+        }
     }
-    Ok(())
-}
-
-const SINGLE_BITMAPS: &[(&'static str, BitmapCoding, &'static [u8], Option<u64>)] = &[
-    (
-        "raw",
-        BitmapCoding::Raw,
-        b"\x82\x20\0\0\0\0\0\x01",
-        Some(0x8220_0000_0000_0001),
-    ),
-    (
-        "digits",
-        BitmapCoding::Hex,
-        b"8220000000000001",
-        Some(0x8220_0000_0000_0001),
-    ),
-    ("no digits", BitmapCoding::Hex, b"82200000000000 1", None),
-];
-
-fn is_word(coding: BitmapCoding, bytes: &[u8], word: Option<u64>) -> bool {
-    bytes.len() == coding.size() && coding.word(bytes) == word
 }
 
 #[test]
-fn one_bitmap_is_a_word() -> Result<(), Fail> {
-    for (name, coding, bytes, word) in SINGLE_BITMAPS {
-        check(is_word(*coding, bytes, *word), *name)?;
-    }
-    check(has(&[7], 7) && !has(&[7], 58), "the seventh bit")
-}
-
-/// A bitmap's word, and whether it tells of one more bitmap.
-const FIRST_BITS: &[(&'static str, u64, bool)] = &[
-    ("no bit", 0, false),
-    ("all bits but the first", 0x7FFF_FFFF_FFFF_FFFF, false),
-    ("the first bit alone", 0x8000_0000_0000_0000, true),
-    ("all bits", 0xFFFF_FFFF_FFFF_FFFF, true),
-];
-
-#[test]
-fn the_first_bit_tells_of_another_bitmap() -> Result<(), Fail> {
-    for (name, word, want) in FIRST_BITS {
-        check(tells_another(*word) == *want, *name)?;
-    }
-    Ok(())
-}
-
-/// A number, and whether an element may have it.
-const NUMBERS: &[(&'static str, u16, bool)] = &[
-    ("none", 0, false),
-    ("the first bit", 1, false),
-    ("the account number", 2, true),
-    ("the last of the primary bitmap", 64, true),
-    ("the bit of a third bitmap", 65, false),
-    ("the first of the secondary bitmap", 66, true),
-    ("the last", 128, true),
-    ("one more", 129, false),
-];
-
-#[test]
-fn elements_have_their_numbers() -> Result<(), Fail> {
-    for (name, number, want) in NUMBERS {
-        check(is_element(*number) == *want, *name)?;
+fn sets_and_bitmaps_tell() -> Result<(), Fail> {
+    for (name, told) in TOLD {
+        check(is_told(*told), *name)?;
     }
     Ok(())
 }

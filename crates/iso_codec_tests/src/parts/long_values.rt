@@ -65,31 +65,18 @@ const LONG_VALUES: &[LongCase] = &[
     ),
 ];
 
-fn repeated(alloc: Global, byte: u8, count: usize) -> Result<Vec<u8>, Fail> {
-    let mut value = Vec::new(alloc);
-    value.resize(count, byte)?;
-    Ok(value)
+/// Whether a part is of the bytes of a length, and a body of that size.
+fn has_size(part: &[u8], prefix: &[u8], size: usize) -> bool {
+    part.len().checked_sub(size) == Some(prefix.len()) && part.starts_with(prefix)
 }
 
-/// The part that stands for the value.
-fn encoded(alloc: Global, row: &FieldSpec, value: &[u8]) -> Result<Vec<u8>, Fail> {
-    if row.good().is_err() {
-        return Err("the row isn't good".into());
-    }
-    let mut part = Vec::new(alloc);
-    encode_field(row, value, &mut part)?;
-    Ok(part)
+/// Whether the value is written under a good row, behind no other bytes.
+fn is_encoded(row: &FieldSpec, value: &[u8], out: &mut Vec<u8>) -> bool {
+    row.good().is_ok() && encode_field(row, value, out).is_ok()
 }
 
-/// Compares what is written for a value: the bytes of its length, and a body of that size.
-fn check_part(name: &str, part: &[u8], prefix: &[u8], size: usize) -> Result<(), Fail> {
-    let body = part.len().checked_sub(size);
-    check_of(body == Some(prefix.len()), name, "its size")?;
-    check_of(part.starts_with(prefix), name, "its length")
-}
-
-/// Compares what is told of a part, and what is read of it.
-fn check_read(
+/// That a part is judged, and read as the value; its body begins there.
+fn check_part(
     alloc: Global,
     name: &str,
     row: &FieldSpec,
@@ -100,7 +87,7 @@ fn check_read(
     let used = part.len();
     let got = Ok(Judged::Got { body, used });
     check_of(is_judged_field(row, part, got), name, "judged")?;
-    let is_read = is_decoded(alloc, row, part, Ok(Some(used)), value)?;
+    let is_read = is_decoded(alloc, row, part, Ok(Some(used)), value);
     check_of(is_read, name, "read")
 }
 
@@ -108,10 +95,11 @@ fn check_read(
 fn long_values_are_written_and_read(rt: HostRuntime) -> Result<(), Fail> {
     let alloc = rt.alloc();
     for (name, row, byte, count, prefix, size) in LONG_VALUES {
-        let value = repeated(alloc, *byte, *count)?;
-        let part = encoded(alloc, row, &value)?;
-        check_part(*name, &part, *prefix, *size)?;
-        check_read(alloc, *name, row, &part, prefix.len(), &value)?;
+        let value = vec![in alloc; *byte; *count]?;
+        let mut part = Vec::new(alloc);
+        check_of(is_encoded(row, &value, &mut part), *name, "written")?;
+        check_of(has_size(&part, *prefix, *size), *name, "its size")?;
+        check_part(alloc, *name, row, &part, prefix.len(), &value)?;
     }
     Ok(())
 }

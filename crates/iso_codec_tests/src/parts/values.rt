@@ -153,167 +153,137 @@ const PARTS: &[Case] = &[
 ];
 
 /// Whether the part is written for the value behind other bytes.
-fn is_encoded(alloc: Global, row: &FieldSpec, value: &[u8], part: &[u8]) -> Result<bool, Fail> {
-    if row.good().is_err() {
-        return Ok(false);
-    }
-    let mut out = Vec::from_slice(alloc, b"before")?;
-    encode_field(row, value, &mut out)?;
-    Ok(out.strip_prefix(b"before") == Some(part))
-}
-
-#[test]
-fn values_are_written(rt: HostRuntime) -> Result<(), Fail> {
-    for case in PARTS {
-        let name = case.name;
-        let is_written = is_encoded(rt.alloc(), &case.row, case.value, case.part)?;
-        check(is_written, name)?;
-    }
-    Ok(())
+fn is_encoded(alloc: Global, case: &Case) -> bool {
+    let mut out = Vec::new(alloc);
+    case.row.good().is_ok()
+        && out.extend_from_slice(b"before").is_ok()
+        && encode_field(&case.row, case.value, &mut out).is_ok()
+        && out.strip_prefix(b"before") == Some(case.part)
 }
 
 /// Whether the part, with more bytes behind it, is read as the value.
-fn is_read(alloc: Global, case: &Case) -> Result<bool, Fail> {
-    if case.row.good().is_err() {
-        return Ok(false);
-    }
-    let longer = [case.part, b"7?"].concat(alloc)?;
-    match decode_field(alloc, &case.row, &longer)? {
-        Step::Got { value, used } => {
-            Ok(value.as_slice() == case.value && used == case.part.len())
+fn is_read(alloc: Global, case: &Case, longer: &[u8]) -> bool {
+    case.row.good().is_ok()
+        && match decode_field(alloc, &case.row, longer) {
+            Ok(Step::Got { value, used }) => {
+                value.as_slice() == case.value && used == case.part.len()
+            }
+            _ => false,
         }
-        Step::More => Ok(false),
-    }
-}
-
-#[test]
-fn parts_are_read(rt: HostRuntime) -> Result<(), Fail> {
-    for case in PARTS {
-        let name = case.name;
-        check(is_read(rt.alloc(), case)?, name)?;
-    }
-    Ok(())
 }
 
 /// Whether the part, with more bytes behind it, is judged, and then built behind other bytes.
-fn is_built(alloc: Global, case: &Case) -> Result<bool, Fail> {
-    if case.row.good().is_err() {
-        return Ok(false);
+fn is_built(alloc: Global, case: &Case, longer: &[u8]) -> bool {
+    let mut out = Vec::new(alloc);
+    if case.row.good().is_err() || out.extend_from_slice(b"before").is_err() {
+        return false;
     }
-    let longer = [case.part, b"7?"].concat(alloc)?;
-    let mut out = Vec::from_slice(alloc, b"before")?;
-    match judge_field(&case.row, &longer)? {
-        Judged::Got { .. } => {
-            let used = decode_judged(&case.row, &longer, &mut out)?;
-            Ok(used == case.part.len() && out.strip_prefix(b"before") == Some(case.value))
+    match judge_field(&case.row, longer) {
+        Ok(Judged::Got { .. }) => {
+            decode_judged(&case.row, longer, &mut out) == Ok(case.part.len())
+                && out.strip_prefix(b"before") == Some(case.value)
         }
-        Judged::More => Ok(false),
+        _ => false,
     }
 }
 
+/// That a value is written as its part, and read of it, with more bytes behind it, by each call.
+fn check_part(alloc: Global, case: &Case, longer: &[u8]) -> Result<(), Fail> {
+    check_of(is_encoded(alloc, case), case.name, "written")?;
+    check_of(is_read(alloc, case, longer), case.name, "read")?;
+    check_of(is_built(alloc, case, longer), case.name, "built")
+}
+
 #[test]
-fn judged_parts_are_built(rt: HostRuntime) -> Result<(), Fail> {
+fn values_are_written_and_read(rt: HostRuntime) -> Result<(), Fail> {
     for case in PARTS {
-        let name = case.name;
-        check(is_built(rt.alloc(), case)?, name)?;
+        let longer = [case.part, b"7?"].concat(rt.alloc())?;
+        check_part(rt.alloc(), case, &longer)?;
     }
     Ok(())
 }
 
-const OTHER_SPELLINGS: &[Case] = &[
-    Case {
-        name: "filler F",
-        row: number!(Coding::Bcd, LL_BCD, 19),
-        value: b"378282246310005",
-        part: b"\x15\xF3\x78\x28\x22\x46\x31\x00\x05",
-    },
-    Case {
-        name: "digits in lower case",
-        row: bytes!(Coding::HexText, Length::Fixed, 8),
-        value: b"\x01\x23\x45\x67\x89\xAB\xCD\xEF",
-        part: b"0123456789abcdef",
-    },
+/// What is told of digits.
+#[derive(Clone, Copy)]
+enum Told {
+    /// The number that four characters are, where they are digits.
+    Text([u8; 4], Option<u16>),
+    /// The four digits of a number, in ASCII and in BCD.
+    Written(usize, [u8; 4], [u8; 2]),
+    /// The number that bytes are under a coding, where they are four digits.
+    Read(Digits, &'static [u8], Option<u16>),
+    /// The characters of two packed bytes.
+    Characters(u8, u8, [u8; 4]),
+    /// The hexadecimal digit of a nibble.
+    Nibble(u8, u8),
+}
+
+use Told::{Characters, Nibble, Read, Text, Written};
+
+const TOLD: &[(&'static str, Told)] = &[
+    ("four zeros", Text(*b"0000", Some(0))),
+    ("zeros in front", Text(*b"0055", Some(55))),
+    ("four nines", Text(*b"9999", Some(9999))),
+    ("a letter", Text(*b"00A5", None)),
+    ("the byte before a zero", Text(*b"/000", None)),
+    ("zero written", Written(0, *b"0000", [0x00, 0x00])),
+    ("two digits written", Written(55, *b"0055", [0x00, 0x55])),
+    ("four digits written", Written(1234, *b"1234", [0x12, 0x34])),
+    (
+        "the greatest written",
+        Written(9999, *b"9999", [0x99, 0x99]),
+    ),
+    ("ASCII digits", Read(Digits::Ascii, b"0055", Some(55))),
+    (
+        "a letter among ASCII digits",
+        Read(Digits::Ascii, b"00A5", None),
+    ),
+    ("three ASCII digits", Read(Digits::Ascii, b"055", None)),
+    ("BCD digits", Read(Digits::Bcd, b"\x12\x34", Some(1234))),
+    (
+        "a nibble that is no digit",
+        Read(Digits::Bcd, b"\x12\x3A", None),
+    ),
+    ("one BCD byte", Read(Digits::Bcd, b"\x12", None)),
+    ("packed digits", Characters(0x12, 0x34, *b"1234")),
+    ("nibbles above nine", Characters(0x9A, 0xF0, *b"9:?0")),
+    ("the first digit", Nibble(0, b'0')),
+    ("the last digit", Nibble(9, b'9')),
+    ("the first letter", Nibble(10, b'A')),
+    ("the last letter", Nibble(15, b'F')),
 ];
 
-#[test]
-fn other_spellings_are_read(rt: HostRuntime) -> Result<(), Fail> {
-    for case in OTHER_SPELLINGS {
-        let name = case.name;
-        let used = Ok(Some(case.part.len()));
-        let is_read = is_decoded(rt.alloc(), &case.row, case.part, used, case.value)?;
-        check(is_read, name)?;
-    }
-    Ok(())
-}
-
+/// Whether four characters are that number.
 fn is_number(text: [u8; 4], number: Option<u16>) -> bool {
     let [a, b, c, d] = text;
     four_digits(a, b, c, d) == number
 }
 
-/// Four characters, and the number that they are, where they are digits.
-const FOUR_CHARACTERS: &[(&'static str, [u8; 4], Option<u16>)] = &[
-    ("four zeros", *b"0000", Some(0)),
-    ("zeros in front", *b"0055", Some(55)),
-    ("four nines", *b"9999", Some(9999)),
-    ("a letter", *b"00A5", None),
-    ("the byte before a zero", *b"/000", None),
-];
-
-#[test]
-fn four_digits_are_a_number() -> Result<(), Fail> {
-    for (name, text, number) in FOUR_CHARACTERS {
-        check(is_number(*text, *number), *name)?;
-    }
-    Ok(())
-}
-
+/// Whether a number has these four digits.
 fn has_digits(number: usize, ascii: [u8; 4], bcd: [u8; 2]) -> bool {
     number <= 9999 && four_ascii_digits(number) == ascii && four_bcd_digits(number) == bcd
 }
 
-/// A number, and its four digits in ASCII and in BCD.
-const FOUR_DIGITS: &[(&'static str, usize, [u8; 4], [u8; 2])] = &[
-    ("zero", 0, *b"0000", [0x00, 0x00]),
-    ("two digits", 55, *b"0055", [0x00, 0x55]),
-    ("four digits", 1234, *b"1234", [0x12, 0x34]),
-    ("the greatest", 9999, *b"9999", [0x99, 0x99]),
-];
+/// Whether two packed bytes have these characters.
+fn has_characters(first: u8, second: u8, text: [u8; 4]) -> bool {
+    bcd_characters(first, second) == text
+}
+
+/// Whether that is told.
+fn is_told(told: Told) -> bool {
+    match told {
+        Text(text, number) => is_number(text, number),
+        Written(number, ascii, bcd) => has_digits(number, ascii, bcd),
+        Read(digits, bytes, number) => four_digits_in(digits, bytes) == number,
+        Characters(first, second, text) => has_characters(first, second, text),
+        Nibble(nibble, digit) => nibble <= 15 && hex_digit(nibble) == digit,
+    }
+}
 
 #[test]
-fn a_number_has_four_digits() -> Result<(), Fail> {
-    for (name, number, ascii, bcd) in FOUR_DIGITS {
-        check(has_digits(*number, *ascii, *bcd), *name)?;
+fn digits_are_told() -> Result<(), Fail> {
+    for (name, told) in TOLD {
+        check(is_told(*told), *name)?;
     }
     Ok(())
-}
-
-/// Four digits under a coding, and the number that they are, where they are digits.
-const DIGITS_IN_BYTES: &[(&'static str, Digits, &'static [u8], Option<u16>)] = &[
-    ("ASCII digits", Digits::Ascii, b"0055", Some(55)),
-    ("a letter", Digits::Ascii, b"00A5", None),
-    ("three ASCII digits", Digits::Ascii, b"055", None),
-    ("BCD digits", Digits::Bcd, b"\x12\x34", Some(1234)),
-    ("a nibble that is no digit", Digits::Bcd, b"\x12\x3A", None),
-    ("one BCD byte", Digits::Bcd, b"\x12", None),
-];
-
-#[test]
-fn four_digits_are_read_under_a_coding() -> Result<(), Fail> {
-    for (name, digits, bytes, want) in DIGITS_IN_BYTES {
-        check(four_digits_in(*digits, *bytes) == *want, *name)?;
-    }
-    Ok(())
-}
-
-#[test]
-fn bcd_bytes_have_characters() -> Result<(), Fail> {
-    check(bcd_characters(0x12, 0x34) == *b"1234", "digits")?;
-    check(bcd_characters(0x9A, 0xF0) == *b"9:?0", "nibbles above nine")
-}
-
-#[test]
-fn hex_digits_are_in_upper_case() -> Result<(), Fail> {
-    check(hex_digit(0) == b'0' && hex_digit(9) == b'9', "digits")?;
-    check(hex_digit(10) == b'A' && hex_digit(15) == b'F', "letters")
 }

@@ -28,16 +28,11 @@ const ROW_TWICE: &str =
         {"class":"ANS","coding":"ascii","length":"fixed","max":8,"number":41,"pad":"right:20"}]"#;
 
 /// A document with a new text in place of an old one, which stands there once.
-fn edited_in(alloc: Global, document: &str, old: &str, new: &str) -> Result<String, Fail> {
+fn edited(alloc: Global, document: &str, old: &str, new: &str) -> Result<String, Fail> {
     let parts = document.split_once(old);
     let (front, rest) = parts.ok_or("the document has the old text")?;
     check_of(!rest.contains(old), old, "the document has it twice")?;
     Ok(format!(in alloc; "{front}{new}{rest}")?)
-}
-
-/// The document of one row, with a new text in place of an old one.
-fn edited(alloc: Global, old: &str, new: &str) -> Result<String, Fail> {
-    edited_in(alloc, TERMINAL, old, new)
 }
 
 /// A terminal's row that is filled up on the left.
@@ -119,13 +114,14 @@ const DOCUMENTS: &[Document] = &[
 #[test]
 fn reads_documents(rt: HostRuntime) -> Result<(), Fail> {
     for (name, old, new, says) in DOCUMENTS {
-        let text = edited(rt.alloc(), *old, *new)?;
+        let text = edited(rt.alloc(), TERMINAL, *old, *new)?;
         let table = read(rt.alloc(), text.as_bytes())?;
         check_says(*name, &table, says)?;
     }
     Ok(())
 }
 
+/// Whether a text is no table for that reason.
 fn is_refused(alloc: Global, text: &[u8], fault: TableFault) -> bool {
     Table::from_json(alloc, text).err() == Some(fault)
 }
@@ -222,48 +218,6 @@ const REFUSED_ROWS: &[Refused] = &[
     ),
 ];
 
-/// Whether the document of one row is refused so with a new text in place of an old one.
-fn is_refused_edited(alloc: Global, old: &str, new: &str, fault: TableFault) -> Result<bool, Fail> {
-    let text = edited(alloc, old, new)?;
-    Ok(is_refused(alloc, text.as_bytes(), fault))
-}
-
-fn refuse(alloc: Global, edits: &[Refused]) -> Result<(), Fail> {
-    for (name, old, new, fault) in edits {
-        check(is_refused_edited(alloc, *old, *new, *fault)?, *name)?;
-    }
-    Ok(())
-}
-
-#[test]
-fn refuses_documents(rt: HostRuntime) -> Result<(), Fail> {
-    refuse(rt.alloc(), REFUSED_DOCUMENTS)?;
-    refuse(rt.alloc(), REFUSED_ROWS)
-}
-
-/// Arrays within one another.
-fn nested(alloc: Global, depth: usize) -> Result<Vec<u8>, AllocError> {
-    let mut text = Vec::new(alloc);
-    for _ in 0..depth {
-        text.push(b'[')?;
-    }
-    for _ in 0..depth {
-        text.push(b']')?;
-    }
-    Ok(text)
-}
-
-#[test]
-fn reads_text_alone(rt: HostRuntime) -> Result<(), Fail> {
-    let alloc = rt.alloc();
-    let latin = b"{\"profile\":7,\"owner\":\"\xE9\"}";
-    check(is_refused(alloc, latin, NotJson), "another encoding")?;
-    let deep = nested(alloc, 127)?;
-    check(is_refused(alloc, &deep, Shape), "127 arrays")?;
-    let deeper = nested(alloc, 128)?;
-    check(is_refused(alloc, &deeper, NotJson), "128 arrays")
-}
-
 /// Edits of the table with four digits of a length.
 const REFUSED_DIGITS: &[Refused] = &[
     ("profile 1", r#""profile":2"#, r#""profile":1"#, Shape),
@@ -277,19 +231,55 @@ const REFUSED_DIGITS: &[Refused] = &[
     ("text as digits", r#""B""#, r#""ANS""#, CodingClass(48)),
 ];
 
-#[test]
-fn refuses_four_digits(rt: HostRuntime) -> Result<(), Fail> {
-    for (name, old, new, fault) in REFUSED_DIGITS {
-        let text = edited_in(rt.alloc(), CHIP, *old, *new)?;
-        check(is_refused(rt.alloc(), text.as_bytes(), *fault), *name)?;
+/// Documents, and edits of each that are no table.
+const REFUSED: &[(&'static str, &'static [Refused])] = &[
+    (TERMINAL, REFUSED_DOCUMENTS),
+    (TERMINAL, REFUSED_ROWS),
+    (CHIP, REFUSED_DIGITS),
+];
+
+/// That each edit of a document is refused.
+fn refuse(alloc: Global, document: &str, edits: &[Refused]) -> Result<(), Fail> {
+    for (name, old, new, fault) in edits {
+        let text = edited(alloc, document, *old, *new)?;
+        check(is_refused(alloc, text.as_bytes(), *fault), *name)?;
     }
     Ok(())
 }
 
-/// What is written of the table that a document gives.
-fn rewritten(alloc: Global, document: &str) -> Result<Vec<u8>, Fail> {
-    let table = Table::from_json(alloc, document.as_bytes())?;
-    Ok(table.to_json(alloc)?)
+#[test]
+fn refuses_documents(rt: HostRuntime) -> Result<(), Fail> {
+    for (document, edits) in REFUSED {
+        refuse(rt.alloc(), *document, *edits)?;
+    }
+    Ok(())
+}
+
+/// So many arrays within one another.
+fn nested(alloc: Global, depth: u8) -> Result<Vec<u8>, AllocError> {
+    let mut text = Vec::new(alloc);
+    text.resize(usize::from(depth), b'[')?;
+    text.resize(2 * usize::from(depth), b']')?;
+    Ok(text)
+}
+
+#[test]
+fn reads_text_alone(rt: HostRuntime) -> Result<(), Fail> {
+    let latin = b"{\"profile\":7,\"owner\":\"\xE9\"}";
+    check(is_refused(rt.alloc(), latin, NotJson), "another encoding")?;
+    for (name, depth, fault) in [("127 arrays", 127, Shape), ("128 arrays", 128, NotJson)] {
+        let text = nested(rt.alloc(), depth)?;
+        check(is_refused(rt.alloc(), &text, fault), name)?;
+    }
+    Ok(())
+}
+
+/// Whether that is written of the table that a document gives.
+fn is_rewritten(alloc: Global, document: &str, written: &str) -> bool {
+    match Table::from_json(alloc, document.as_bytes()) {
+        Ok(table) => is_written(alloc, &table, written),
+        Err(_) => false,
+    }
 }
 
 /// Documents, and what is written of the tables that they give.
@@ -302,8 +292,7 @@ const WRITTEN_DOCUMENTS: &[(&'static str, &'static str, &'static str)] = &[
 #[test]
 fn writes_what_it_read(rt: HostRuntime) -> Result<(), Fail> {
     for (name, document, written) in WRITTEN_DOCUMENTS {
-        let text = rewritten(rt.alloc(), document)?;
-        check(text.as_slice() == written.as_bytes(), *name)?;
+        check(is_rewritten(rt.alloc(), *document, *written), *name)?;
     }
     Ok(())
 }

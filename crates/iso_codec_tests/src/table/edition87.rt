@@ -271,24 +271,20 @@ fn joined(alloc: Global, text: &str) -> Result<String, AllocError> {
     Ok(line)
 }
 
-fn is_written(alloc: Global, table: &Table, lines: &str) -> Result<bool, Fail> {
-    let expected = joined(alloc, lines)?;
-    let text = table.to_json(alloc)?;
-    Ok(text.as_slice() == expected.as_bytes())
-}
+/// The text of each table.
+const TEXTS: &[(&'static str, Digits, &'static str)] = &[
+    ("ascii87", Digits::Ascii, ASCII87),
+    ("bcd87", Digits::Bcd, BCD87),
+];
 
 #[test]
 fn writes_built_in_tables(rt: HostRuntime) -> Result<(), Fail> {
-    let alloc = rt.alloc();
-    let ascii = is_written(alloc, &ascii87(alloc)?, ASCII87)?;
-    check(ascii, "ascii87")?;
-    let bcd = is_written(alloc, &bcd87(alloc)?, BCD87)?;
-    check(bcd, "bcd87")
-}
-
-/// Whether both tables write messages alike.
-fn are_alike(read: &Table, table: &Table) -> bool {
-    has_heading(read, table.version(), table.mti(), table.bitmap())
+    for (name, digits, lines) in TEXTS {
+        let expected = joined(rt.alloc(), *lines)?;
+        let table = table87(rt.alloc(), *digits)?;
+        check(is_written(rt.alloc(), &table, expected.as_str()), *name)?;
+    }
+    Ok(())
 }
 
 /// Whether both tables have the same row for the element, or none.
@@ -296,24 +292,22 @@ fn have_same_row(read: &Table, table: &Table, element: u8) -> bool {
     read.row(element).copied() == table.row(element).copied()
 }
 
-/// That both tables have the same row for each element, or none.
-fn check_same_rows(name: &str, read: &Table, table: &Table) -> Result<(), Fail> {
+/// That both tables write messages alike, and have the same row for each element, or none.
+fn check_same(name: &str, read: &Table, table: &Table) -> Result<(), Fail> {
+    let are_alike = has_heading(read, table.version(), table.mti(), table.bitmap());
+    check(are_alike, name)?;
     for element in 0..=255 {
         check_element(have_same_row(read, table, element), name, element)?;
     }
     Ok(())
 }
 
-/// That the lines are read as the table.
-fn check_read(alloc: Global, name: &str, lines: &str, table: &Table) -> Result<(), Fail> {
-    let read = read(alloc, lines.as_bytes())?;
-    check(are_alike(&read, table), name)?;
-    check_same_rows(name, &read, table)
-}
-
 #[test]
 fn reads_built_in_tables(rt: HostRuntime) -> Result<(), Fail> {
-    let alloc = rt.alloc();
-    check_read(alloc, "ascii87", ASCII87, &ascii87(alloc)?)?;
-    check_read(alloc, "bcd87", BCD87, &bcd87(alloc)?)
+    for (name, digits, lines) in TEXTS {
+        let read = read(rt.alloc(), lines.as_bytes())?;
+        let table = table87(rt.alloc(), *digits)?;
+        check_same(*name, &read, &table)?;
+    }
+    Ok(())
 }

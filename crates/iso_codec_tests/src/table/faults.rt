@@ -1,57 +1,47 @@
 //! The numbers of faults, and what is told of them.
 
+use super::super::parts::is_shown;
 use super::*;
 
-const TABLE_FAULTS: &[(TableFault, u8)] = &[
-    (TableFault::NotJson, 1),
-    (TableFault::Shape, 2),
-    (TableFault::BadVersion, 3),
-    (TableFault::BadNumber(65), 4),
-    (TableFault::Twice(2), 5),
-    (TableFault::BadMax(2), 6),
-    (TableFault::CodingClass(2), 7),
-    (TableFault::PadNotAllowed(2), 8),
-    (TableFault::Profile, 9),
-    (TableFault::Memory, 10),
-];
-
-const HOST_FAULTS: &[(HostTableFault, u8)] = &[
-    (HostTableFault::NotVersion0, 1),
-    (HostTableFault::NoRow(2), 2),
-    (HostTableFault::RowShape(54), 3),
-];
-
-/// Whether a fault is told in these words.
-fn is_told(alloc: Global, fault: TableFault, text: &str) -> Result<bool, Fail> {
-    Ok(fault.to_string(alloc)?.as_str() == text)
+/// Each fault that has a number.
+#[derive(Clone, Copy)]
+enum Numbered {
+    OfTable(TableFault),
+    OfHost(HostTableFault),
 }
 
-fn number_table_faults() -> Result<(), Fail> {
-    for (fault, number) in TABLE_FAULTS {
-        if fault.number() != *number {
-            return Err(Fail::new(format_args!("{fault:?}")));
-        }
-    }
-    Ok(())
-}
+use Numbered::{OfHost, OfTable};
 
-fn number_host_faults() -> Result<(), Fail> {
-    for (fault, number) in HOST_FAULTS {
-        if fault.number() != *number {
-            return Err(Fail::new(format_args!("{fault:?}")));
-        }
+const NUMBERS: &[(&'static str, Numbered, u8)] = &[
+    ("NotJson", OfTable(TableFault::NotJson), 1),
+    ("Shape", OfTable(TableFault::Shape), 2),
+    ("BadVersion", OfTable(TableFault::BadVersion), 3),
+    ("BadNumber", OfTable(TableFault::BadNumber(65)), 4),
+    ("Twice", OfTable(TableFault::Twice(2)), 5),
+    ("BadMax", OfTable(TableFault::BadMax(2)), 6),
+    ("CodingClass", OfTable(TableFault::CodingClass(2)), 7),
+    ("PadNotAllowed", OfTable(TableFault::PadNotAllowed(2)), 8),
+    ("Profile", OfTable(TableFault::Profile), 9),
+    ("Memory", OfTable(TableFault::Memory), 10),
+    ("host NotVersion0", OfHost(HostTableFault::NotVersion0), 1),
+    ("host NoRow", OfHost(HostTableFault::NoRow(2)), 2),
+    ("host RowShape", OfHost(HostTableFault::RowShape(54)), 3),
+];
+
+/// The fault's number.
+fn number_of(numbered: Numbered) -> u8 {
+    match numbered {
+        OfTable(fault) => fault.number(),
+        OfHost(fault) => fault.number(),
     }
-    Ok(())
 }
 
 #[test]
-fn numbers_faults() -> Result<(), Fail> {
-    number_table_faults()?;
-    number_host_faults()
-}
-
-#[test]
-fn tells_faults(rt: HostRuntime) -> Result<(), Fail> {
-    let is_told = is_told(rt.alloc(), TableFault::Twice(41), "element 41 has two rows")?;
+fn faults_are_told(rt: HostRuntime) -> Result<(), Fail> {
+    for (name, numbered, number) in NUMBERS {
+        check(number_of(*numbered) == *number, *name)?;
+    }
+    let twice = TableFault::Twice(41);
+    let is_told = is_shown(rt.alloc(), &twice, "element 41 has two rows");
     check(is_told, "a row twice")
 }

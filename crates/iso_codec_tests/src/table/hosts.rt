@@ -3,8 +3,8 @@
 use super::*;
 
 /// The 1987 table in ASCII, with another row for one element, or with none.
-fn with_row(alloc: Global, element: u8, row: Option<FieldSpec>) -> Result<Table, Fail> {
-    let table = Table::ascii87(alloc)?;
+fn with_row(alloc: Global, element: u8, row: Option<FieldSpec>) -> Result<Table, TableFault> {
+    let table = table87(alloc, Digits::Ascii)?;
     let mut rows = Vec::new(alloc);
     for number in 2..=128u8 {
         let row = if number == element {
@@ -23,32 +23,168 @@ fn with_row(alloc: Global, element: u8, row: Option<FieldSpec>) -> Result<Table,
         bitmap: table.bitmap(),
         rows,
     };
-    Ok(Table::check(alloc, draft)?)
+    Table::check(alloc, draft)
 }
 
-fn ready(table: &Table) -> Result<(), HostTableFault> {
-    table.host_ready()
-}
-
-/// What is said of a table with the terminal's row alone.
-fn terminals_ready(alloc: Global, version: u8) -> Result<Result<(), HostTableFault>, Fail> {
-    let draft = draft(alloc, ascii_table!(version, &[(41, TERMINAL_ROW)], 44))?;
-    Ok(Table::check(alloc, draft)?.host_ready())
+/// Whether that is said of a table.
+fn says(table: Result<Table, TableFault>, want: Result<(), HostTableFault>) -> bool {
+    match table {
+        Ok(table) => table.host_ready() == want,
+        Err(_) => false,
+    }
 }
 
 #[test]
 fn judges_whole_tables(rt: HostRuntime) -> Result<(), Fail> {
     let alloc = rt.alloc();
-    check(ready(&ascii87(alloc)?) == Ok(()), "ascii87")?;
-    check(ready(&bcd87(alloc)?) == Ok(()), "bcd87")?;
-    let version_0 = terminals_ready(alloc, 0)?;
-    check(version_0 == Err(HostTableFault::NoRow(2)), "version 0")?;
-    let version_1 = terminals_ready(alloc, 1)?;
-    check(version_1 == Err(HostTableFault::NotVersion0), "version 1")
+    check(says(table87(alloc, Digits::Ascii), Ok(())), "ascii87")?;
+    check(says(table87(alloc, Digits::Bcd), Ok(())), "bcd87")?;
+    let version_0 = checked(alloc, &ascii_table!(0, &[(41, TERMINAL_ROW)], 44));
+    let no_row = Err(HostTableFault::NoRow(2));
+    check(says(version_0, no_row), "version 0")?;
+    let version_1 = checked(alloc, &ascii_table!(1, &[(41, TERMINAL_ROW)], 44));
+    let not_version_0 = Err(HostTableFault::NotVersion0);
+    check(says(version_1, not_version_0), "version 1")
 }
 
+/// What is said of the table with another row for one element, or with none.
+#[derive(Clone, Copy)]
+enum Answer {
+    Ready,
+    NoRow,
+    RowShape,
+}
+
+use Answer::{NoRow, Ready, RowShape};
+
+/// The answer about an element.
+fn answered(answer: Answer, element: u8) -> Result<(), HostTableFault> {
+    match answer {
+        Ready => Ok(()),
+        NoRow => Err(HostTableFault::NoRow(element)),
+        RowShape => Err(HostTableFault::RowShape(element)),
+    }
+}
+
+/// Elements, and other rows for them, or none.
+type Changes = &'static [(u8, Option<FieldSpec>)];
+
+const NEEDED: Changes = &[
+    (2, None),
+    (3, None),
+    (4, None),
+    (7, None),
+    (11, None),
+    (32, None),
+    (38, None),
+    (39, None),
+    (49, None),
+    (54, None),
+    (70, None),
+    (90, None),
+];
+
+const NOT_NEEDED: Changes = &[
+    (5, None),
+    (12, None),
+    (13, None),
+    (33, None),
+    (37, None),
+    (41, None),
+    (42, None),
+    (128, None),
+];
+
+const FIXED: Length = Length::Fixed;
+
+const GOOD_ROWS: Changes = &[
+    (2, Some(number!(Coding::Bcd, LLL_BCD, 1))),
+    (3, Some(number!(Coding::Bcd, FIXED, 6))),
+    (12, Some(bytes!(Coding::Raw, LLL_BCD, 99))),
+    (
+        13,
+        Some(row!(CharClass::A, Coding::Ascii, FIXED, 99, Pad::Left(0x20))),
+    ),
+    (32, Some(number!(Coding::Ascii, LL, 10))),
+    (33, Some(text!(LLL_BCD, 99))),
+    (37, Some(text!(LLLL, 99))),
+    (42, Some(bytes!(Coding::HexText, LLLL, 99))),
+    (48, Some(bytes!(Coding::HexText, LLLL, 9_999))),
+    (38, Some(number!(Coding::Ascii, FIXED, 6))),
+    (
+        38,
+        Some(row!(CharClass::AN, Coding::Ascii, FIXED, 6, Pad::None)),
+    ),
+    (39, Some(text!(FIXED, 2))),
+    (
+        41,
+        Some(row!(CharClass::ANS, Coding::Ascii, FIXED, 99, Pad::Right(0x20))),
+    ),
+    (49, Some(number!(Coding::Ascii, FIXED, 3))),
+    (54, Some(text!(LLL_BCD, 20))),
+    (
+        54,
+        Some(row!(CharClass::AN, Coding::Ascii, LL, 99, Pad::None)),
+    ),
+    (90, Some(number!(Coding::Bcd, FIXED, 42))),
+];
+
+const BAD_ROWS: Changes = &[
+    (2, Some(number!(Coding::Ascii, LL, 20))),
+    (2, Some(number!(Coding::Ascii, FIXED, 19))),
+    (2, Some(text!(LL, 19))),
+    (2, Some(number!(Coding::Ascii, LLLL_BCD, 19))),
+    (32, Some(number!(Coding::Bcd, LLLL_BCD, 11))),
+    (37, Some(text!(LLLL_BCD, 100))),
+    (54, Some(text!(LLLL_BCD, 120))),
+    (90, Some(number!(Coding::Ascii, LLLL_BCD, 42))),
+    (3, Some(number!(Coding::Ascii, FIXED, 5))),
+    (
+        3,
+        Some(row!(CharClass::N, Coding::Ascii, FIXED, 6, Pad::Left(0x30))),
+    ),
+    (4, Some(number!(Coding::Ascii, LL, 12))),
+    (7, Some(text!(FIXED, 10))),
+    (11, Some(number!(Coding::Ascii, FIXED, 12))),
+    (12, Some(number!(Coding::Ascii, FIXED, 100))),
+    (13, Some(number!(Coding::Ascii, LLL, 100))),
+    (32, Some(number!(Coding::Ascii, LL, 12))),
+    (33, Some(number!(Coding::Ascii, LLL, 100))),
+    (37, Some(text!(FIXED, 100))),
+    (
+        38,
+        Some(row!(CharClass::A, Coding::Ascii, FIXED, 6, Pad::None)),
+    ),
+    (38, Some(text!(LL, 6))),
+    (
+        39,
+        Some(row!(CharClass::AN, Coding::Ascii, FIXED, 3, Pad::None)),
+    ),
+    (
+        41,
+        Some(row!(CharClass::ANS, Coding::Ascii, FIXED, 100, Pad::Right(0x20))),
+    ),
+    (42, Some(text!(FIXED, 100))),
+    (49, Some(bytes!(Coding::Raw, FIXED, 3))),
+    (54, Some(text!(LLL, 19))),
+    (54, Some(text!(FIXED, 120))),
+    (54, Some(number!(Coding::Ascii, LLL, 120))),
+    (70, Some(text!(FIXED, 3))),
+    (70, Some(number!(Coding::Ascii, FIXED, 2))),
+    (90, Some(number!(Coding::Ascii, FIXED, 41))),
+    (90, Some(number!(Coding::Ascii, LLL, 42))),
+];
+
+/// What is said of the table with each of the changes.
+const CHANGES: &[(Answer, Changes)] = &[
+    (NoRow, NEEDED),
+    (Ready, NOT_NEEDED),
+    (Ready, GOOD_ROWS),
+    (RowShape, BAD_ROWS),
+];
+
 /// Ends the test with an element and its row, unless it is so.
-fn check_row(is_so: bool, element: u8, row: &FieldSpec) -> Result<(), Fail> {
+fn check_row(is_so: bool, element: u8, row: Option<FieldSpec>) -> Result<(), Fail> {
     if is_so {
         Ok(())
     } else {
@@ -56,123 +192,23 @@ fn check_row(is_so: bool, element: u8, row: &FieldSpec) -> Result<(), Fail> {
     }
 }
 
-/// Whether that is said of the table with another row for one element, or with none.
-fn is_told(
+/// That this is said of the table with each change.
+fn check_changes(
     alloc: Global,
-    element: u8,
-    row: Option<FieldSpec>,
-    want: Result<(), HostTableFault>,
-) -> Result<bool, Fail> {
-    Ok(with_row(alloc, element, row)?.host_ready() == want)
-}
-
-/// Compares what is said of the table without the row of each of these elements.
-fn check_needed(alloc: Global, elements: &[u8]) -> Result<(), Fail> {
-    for element in elements {
-        let fault = Err(HostTableFault::NoRow(*element));
-        let is_needed = is_told(alloc, *element, None, fault)?;
-        check_element(is_needed, "needed", *element)?;
-    }
-    Ok(())
-}
-
-fn check_not_needed(alloc: Global, elements: &[u8]) -> Result<(), Fail> {
-    for element in elements {
-        let is_ready = is_told(alloc, *element, None, Ok(()))?;
-        check_element(is_ready, "not needed", *element)?;
+    said: Answer,
+    changes: &[(u8, Option<FieldSpec>)],
+) -> Result<(), Fail> {
+    for (element, row) in changes {
+        let table = with_row(alloc, *element, *row);
+        check_row(says(table, answered(said, *element)), *element, *row)?;
     }
     Ok(())
 }
 
 #[test]
-fn needs_rows(rt: HostRuntime) -> Result<(), Fail> {
-    check_needed(rt.alloc(), &[2, 3, 4, 7, 11, 32, 38, 39, 49, 54, 70, 90])?;
-    check_not_needed(rt.alloc(), &[5, 12, 13, 33, 37, 41, 42, 128])
-}
-
-const FIXED: Length = Length::Fixed;
-
-const GOOD_ROWS: &[(u8, FieldSpec)] = &[
-    (2, number!(Coding::Bcd, LLL_BCD, 1)),
-    (3, number!(Coding::Bcd, FIXED, 6)),
-    (12, bytes!(Coding::Raw, LLL_BCD, 99)),
-    (
-        13,
-        row!(CharClass::A, Coding::Ascii, FIXED, 99, Pad::Left(0x20)),
-    ),
-    (32, number!(Coding::Ascii, LL, 10)),
-    (33, text!(LLL_BCD, 99)),
-    (37, text!(LLLL, 99)),
-    (42, bytes!(Coding::HexText, LLLL, 99)),
-    (48, bytes!(Coding::HexText, LLLL, 9_999)),
-    (38, number!(Coding::Ascii, FIXED, 6)),
-    (38, row!(CharClass::AN, Coding::Ascii, FIXED, 6, Pad::None)),
-    (39, text!(FIXED, 2)),
-    (
-        41,
-        row!(CharClass::ANS, Coding::Ascii, FIXED, 99, Pad::Right(0x20)),
-    ),
-    (49, number!(Coding::Ascii, FIXED, 3)),
-    (54, text!(LLL_BCD, 20)),
-    (54, row!(CharClass::AN, Coding::Ascii, LL, 99, Pad::None)),
-    (90, number!(Coding::Bcd, FIXED, 42)),
-];
-
-#[test]
-fn takes_rows(rt: HostRuntime) -> Result<(), Fail> {
-    for (element, row) in GOOD_ROWS {
-        let is_ready = is_told(rt.alloc(), *element, Some(*row), Ok(()))?;
-        check_row(is_ready, *element, row)?;
-    }
-    Ok(())
-}
-
-const BAD_ROWS: &[(u8, FieldSpec)] = &[
-    (2, number!(Coding::Ascii, LL, 20)),
-    (2, number!(Coding::Ascii, FIXED, 19)),
-    (2, text!(LL, 19)),
-    (2, number!(Coding::Ascii, LLLL_BCD, 19)),
-    (32, number!(Coding::Bcd, LLLL_BCD, 11)),
-    (37, text!(LLLL_BCD, 100)),
-    (54, text!(LLLL_BCD, 120)),
-    (90, number!(Coding::Ascii, LLLL_BCD, 42)),
-    (3, number!(Coding::Ascii, FIXED, 5)),
-    (
-        3,
-        row!(CharClass::N, Coding::Ascii, FIXED, 6, Pad::Left(0x30)),
-    ),
-    (4, number!(Coding::Ascii, LL, 12)),
-    (7, text!(FIXED, 10)),
-    (11, number!(Coding::Ascii, FIXED, 12)),
-    (12, number!(Coding::Ascii, FIXED, 100)),
-    (13, number!(Coding::Ascii, LLL, 100)),
-    (32, number!(Coding::Ascii, LL, 12)),
-    (33, number!(Coding::Ascii, LLL, 100)),
-    (37, text!(FIXED, 100)),
-    (38, row!(CharClass::A, Coding::Ascii, FIXED, 6, Pad::None)),
-    (38, text!(LL, 6)),
-    (39, row!(CharClass::AN, Coding::Ascii, FIXED, 3, Pad::None)),
-    (
-        41,
-        row!(CharClass::ANS, Coding::Ascii, FIXED, 100, Pad::Right(0x20)),
-    ),
-    (42, text!(FIXED, 100)),
-    (49, bytes!(Coding::Raw, FIXED, 3)),
-    (54, text!(LLL, 19)),
-    (54, text!(FIXED, 120)),
-    (54, number!(Coding::Ascii, LLL, 120)),
-    (70, text!(FIXED, 3)),
-    (70, number!(Coding::Ascii, FIXED, 2)),
-    (90, number!(Coding::Ascii, FIXED, 41)),
-    (90, number!(Coding::Ascii, LLL, 42)),
-];
-
-#[test]
-fn refuses_shapes(rt: HostRuntime) -> Result<(), Fail> {
-    for (element, row) in BAD_ROWS {
-        let fault = Err(HostTableFault::RowShape(*element));
-        let is_refused = is_told(rt.alloc(), *element, Some(*row), fault)?;
-        check_row(is_refused, *element, row)?;
+fn judges_rows(rt: HostRuntime) -> Result<(), Fail> {
+    for (said, changes) in CHANGES {
+        check_changes(rt.alloc(), *said, *changes)?;
     }
     Ok(())
 }

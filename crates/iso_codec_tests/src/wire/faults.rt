@@ -46,6 +46,7 @@ const NUMBERS: &[(&str, Numbered, u8)] = &[
     ("frame Memory", Frame(FrameFault::Memory), 3),
 ];
 
+/// The fault's number.
 fn number_of(numbered: &Numbered) -> u8 {
     match numbered {
         Set(fault) => fault.number(),

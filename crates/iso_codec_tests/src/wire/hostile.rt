@@ -1,107 +1,74 @@
-//! Bytes of strangers: `unpack`, `view` and `feed` refuse them alike.
+//! Bytes of strangers: messages cut at every length, every bit without a row, and the largest bytes.
 
 use super::*;
-use iso_parts::FieldFault;
-use iso_wire::UnpackCause::{BadMti, Field, ThirdBitmap, UnknownElement};
+use iso_wire::UnpackCause::{BadMti, ThirdBitmap, UnknownElement};
 use std::alloc::AllocError;
 
-/// A message, and where each of its pieces begins, with its element.
+/// A message under a table, and where each of its pieces begins, with its element.
 #[derive(Drop)]
-struct Named {
+struct Whole {
     name: &'static str,
+    under: Under,
     bytes: &'static [u8],
     pieces: &'static [(usize, u8)],
 }
 
-const ASCII_MESSAGES: &[Named] = &[
-    Named {
+const WHOLE_MESSAGES: &[Whole] = &[
+    Whole {
         name: "echo",
+        under: ASCII87,
         bytes: ECHO,
         pieces: ECHO_PIECES,
     },
-    Named {
+    Whole {
+        name: "echo under a table of few rows",
+        under: ASCII,
+        bytes: ECHO,
+        pieces: ECHO_PIECES,
+    },
+    Whole {
         name: "payment",
+        under: ASCII87,
         bytes: PAYMENT,
         pieces: PAYMENT_PIECES,
     },
-    Named {
+    Whole {
         name: "reversal",
+        under: ASCII87,
         bytes: REVERSAL,
         pieces: REVERSAL_PIECES,
     },
+    Whole {
+        name: "echo under BCD",
+        under: BCD87,
+        bytes: PACKED_ECHO,
+        pieces: PACKED_ECHO_PIECES,
+    },
 ];
 
-const PACKED_MESSAGE: &Named = &Named {
-    name: "echo under BCD",
-    bytes: PACKED_ECHO,
-    pieces: PACKED_ECHO_PIECES,
-};
-
-fn refused_whole(alloc: Global, table: &Table, bytes: &[u8]) -> Option<UnpackFault> {
-    unpack(alloc, table, bytes).err()
-}
-
-fn refused_view(table: &Table, bytes: &[u8]) -> Option<UnpackFault> {
-    view(table, bytes).err()
-}
-
-fn refused_piece(alloc: Global, table: &Table, bytes: &[u8]) -> Option<UnpackFault> {
-    match Unpacker::new(alloc, table).feed(alloc, bytes) {
-        Ok(_) => None,
-        Err(fault) => Some(fault),
-    }
-}
-
-/// What `unpack`, `view` and `feed` refuse in the bytes, where `feed` tells no fault but wants more.
-fn refused(alloc: Global, table: &Table, bytes: &[u8]) -> [Option<UnpackFault>; 3] {
-    [
-        refused_whole(alloc, table, bytes),
-        refused_view(table, bytes),
-        refused_piece(alloc, table, bytes),
-    ]
-}
-
-/// Tries a message, cut at every length: the first length at which something else is answered than that it is short.
-fn wrong_cut(alloc: Global, table: &Table, named: &Named) -> Option<usize> {
-    for size in 0..named.bytes.len() {
-        let cut = &named.bytes[..size];
-        let short = Some(short_at(named.pieces, size));
-        if refused(alloc, table, cut) != [short, short, None] {
-            return Some(size);
-        }
-    }
-    None
-}
-
-fn check_cuts(alloc: Global, table: &Table, named: &Named) -> Result<(), Fail> {
-    match wrong_cut(alloc, table, named) {
-        None => Ok(()),
-        Some(size) => {
-            let name = named.name;
-            Err(Fail::new(format_args!("{name}: {size} bytes")))
-        }
-    }
-}
-
-#[test]
-fn cut_messages_are_short_alike(rt: HostRuntime) -> Result<(), Fail> {
-    let table = ascii87(rt.alloc())?;
-    for named in ASCII_MESSAGES {
-        check_cuts(rt.alloc(), &table, named)?;
+/// That a message, cut at any length, is short.
+fn check_cuts(alloc: Global, whole: &Whole) -> Result<(), Fail> {
+    let table = table_of(alloc, whole.under)?;
+    for size in 0..whole.bytes.len() {
+        let short = short_at(whole.pieces, size);
+        let is_short = are_refused(alloc, &table, &whole.bytes[..size], short);
+        check_at(is_short, whole.name, size)?;
     }
     Ok(())
 }
 
 #[test]
-fn a_cut_packed_message_is_short_alike(rt: HostRuntime) -> Result<(), Fail> {
-    let table = bcd87(rt.alloc())?;
-    check_cuts(rt.alloc(), &table, PACKED_MESSAGE)
+fn cut_messages_are_short_alike(rt: HostRuntime) -> Result<(), Fail> {
+    for whole in WHOLE_MESSAGES {
+        check_cuts(rt.alloc(), whole)?;
+    }
+    Ok(())
 }
 
 /// The fault of a message whose bit `n` is set and has no row; its bitmaps begin at `first` and `second`.
-fn unknown(n: u8, first: usize, second: usize) -> UnpackFault {
+fn unknown(n: u8, first: u8, second: u8) -> UnpackFault {
     UnpackFault {
-        at: if n <= 64 { first } else { second },
+        at: usize::from(if n <= 64 { first } else { second }),
         element: if n <= 64 { 0 } else { 1 },
         cause: if n == 65 {
             ThirdBitmap
@@ -124,179 +91,129 @@ fn with_bit(digit: u8, bit: u8) -> u8 {
     }
 }
 
-/// Whether `unpack`, `view` and `feed` all tell that fault.
-fn are_refused(alloc: Global, table: &Table, bytes: &[u8], fault: UnpackFault) -> bool {
-    refused(alloc, table, bytes) == [Some(fault), Some(fault), Some(fault)]
+/// A message under a table, the coding of its bitmaps, where they begin, and their last bit.
+#[derive(Drop)]
+struct Marked {
+    name: &'static str,
+    under: Under,
+    bytes: &'static [u8],
+    coding: BitmapCoding,
+    first: u8,
+    second: u8,
+    last: u8,
 }
 
-/// The bytes of a message with the bit at that place set in its bitmaps, which are of hexadecimal digits.
-fn with_digit(alloc: Global, bytes: &[u8], place: u8) -> Result<Vec<u8>, AllocError> {
-    let mut changed = Vec::from_slice(alloc, bytes)?;
-    if let Some(digit) = changed.get_mut(4 + place as usize / 4) {
-        *digit = with_bit(*digit, 8 >> (place % 4));
+/// A message whose bitmaps are of hexadecimal digits.
+macro_rules! marked {
+    ($name:expr, $bytes:expr, $last:expr) => {
+        Marked {
+            name: $name,
+            under: ASCII,
+            bytes: $bytes,
+            coding: BitmapCoding::Hex,
+            first: 4,
+            second: 20,
+            last: $last,
+        }
+    };
+}
+
+/// A message whose bitmaps stand as they are.
+macro_rules! raw_marked {
+    ($name:expr, $under:expr, $bytes:expr, $first:expr, $last:expr) => {
+        Marked {
+            name: $name,
+            under: $under,
+            bytes: $bytes,
+            coding: BitmapCoding::Raw,
+            first: $first,
+            second: $first + 8,
+            last: $last,
+        }
+    };
+}
+
+const MARKED: &[Marked] = &[
+    marked!("echo", ECHO, 128),
+    marked!("payment", PAYMENT, 64),
+    marked!("reversal", REVERSAL, 128),
+    raw_marked!("echo under BCD", PACKED, PACKED_ECHO, 2, 128),
+    raw_marked!(
+        "one bit alone",
+        RAW_TERMINALS,
+        b"0800\0\0\0\0\0\0\0\0",
+        4,
+        64
+    ),
+    raw_marked!(
+        "one bit alone behind that of the secondary bitmap",
+        RAW_TERMINALS,
+        b"0800\x80\0\0\0\0\0\0\0\0\0\0\0\0\0\0\0",
+        4,
+        128
+    ),
+];
+
+/// The bytes of a message with the bit at that place set in its bitmaps.
+fn with_place(alloc: Global, marked: &Marked, place: u8) -> Result<Vec<u8>, AllocError> {
+    let mut bytes = Vec::from_slice(alloc, marked.bytes)?;
+    let first = usize::from(marked.first);
+    match marked.coding {
+        BitmapCoding::Hex => {
+            if let Some(digit) = bytes.get_mut(first + place as usize / 4) {
+                *digit = with_bit(*digit, 8 >> (place % 4));
+            }
+        }
+        BitmapCoding::Raw => {
+            if let Some(eight) = bytes.get_mut(first + place as usize / 8) {
+                *eight |= 128 >> (place % 8);
+            }
+        }
     }
-    Ok(changed)
+    Ok(bytes)
 }
 
 /// Whether a message is refused once the bit of an element without a row is set.
 fn is_bit_refused(
     alloc: Global,
     table: &Table,
-    bytes: &[u8],
+    marked: &Marked,
     place: u8,
     fault: UnpackFault,
 ) -> Result<bool, Fail> {
-    let changed = with_digit(alloc, bytes, place)?;
-    Ok(are_refused(alloc, table, &changed, fault))
+    let bytes = with_place(alloc, marked, place)?;
+    Ok(are_refused(alloc, table, &bytes, fault))
 }
-
-/// The bytes of a packed message with the bit at that place set in its bitmaps.
-fn with_eight(alloc: Global, bytes: &[u8], place: u8) -> Result<Vec<u8>, AllocError> {
-    let mut changed = Vec::from_slice(alloc, bytes)?;
-    if let Some(eight) = changed.get_mut(2 + place as usize / 8) {
-        *eight |= 128 >> (place % 8);
-    }
-    Ok(changed)
-}
-
-/// Whether a packed message is refused once the bit of an element without a row is set.
-fn is_raw_bit_refused(
-    alloc: Global,
-    table: &Table,
-    bytes: &[u8],
-    place: u8,
-    fault: UnpackFault,
-) -> Result<bool, Fail> {
-    let changed = with_eight(alloc, bytes, place)?;
-    Ok(are_refused(alloc, table, &changed, fault))
-}
-
-/// Ends the test with the name of a message and the bit, unless it is so.
-fn check_bit(is_so: bool, name: &str, n: u8) -> Result<(), Fail> {
-    if is_so {
-        Ok(())
-    } else {
-        Err(Fail::new(format_args!("{name}: {n}")))
-    }
-}
-
-/// A message, and the last bit of its bitmaps.
-type Marked = (&'static str, &'static [u8], u8);
 
 /// Tries a message with each bit set that has no row.
-fn check_bits(alloc: Global, table: &Table, (name, bytes, last): &Marked) -> Result<(), Fail> {
-    for n in 2..=*last {
+fn check_bits(alloc: Global, marked: &Marked) -> Result<(), Fail> {
+    let table = table_of(alloc, marked.under)?;
+    for n in 2..=marked.last {
         if table.row(n).is_none() {
-            let fault = unknown(n, 4, 20);
-            check_bit(is_bit_refused(alloc, table, bytes, n - 1, fault)?, *name, n)?;
+            let fault = unknown(n, marked.first, marked.second);
+            let is_refused = is_bit_refused(alloc, &table, marked, n - 1, fault)?;
+            check_at(is_refused, marked.name, usize::from(n))?;
         }
-    }
-    Ok(())
-}
-
-/// Tries a packed message with each bit set that has no row.
-fn check_raw_bits(alloc: Global, table: &Table, (name, bytes, last): &Marked) -> Result<(), Fail> {
-    for n in 2..=*last {
-        if table.row(n).is_none() {
-            let fault = unknown(n, 2, 10);
-            check_bit(
-                is_raw_bit_refused(alloc, table, bytes, n - 1, fault)?,
-                *name,
-                n,
-            )?;
-        }
-    }
-    Ok(())
-}
-
-const MARKED: &[Marked] = &[
-    ("echo", ECHO, 128),
-    ("payment", PAYMENT, 64),
-    ("reversal", REVERSAL, 128),
-];
-
-fn check_marked(alloc: Global, table: &Table, messages: &[Marked]) -> Result<(), Fail> {
-    for marked in messages {
-        check_bits(alloc, table, marked)?;
     }
     Ok(())
 }
 
 #[test]
 fn bits_without_a_row_are_refused_alike(rt: HostRuntime) -> Result<(), Fail> {
-    let table = ascii(rt.alloc())?;
-    check_marked(rt.alloc(), &table, MARKED)?;
-    let packed = packed(rt.alloc())?;
-    check_raw_bits(rt.alloc(), &packed, &("echo under BCD", PACKED_ECHO, 128))
-}
-
-const BAD_PIECES: &[Stop] = &[
-    ("a letter in the type", b"08A0", 0, 0, BadMti),
-    (
-        "two elements without a row",
-        b"08000880000000000000",
-        4,
-        0,
-        UnknownElement(5),
-    ),
-    (
-        "a late element without a row",
-        b"080080000000000000004000000000000000",
-        20,
-        1,
-        UnknownElement(66),
-    ),
-];
-
-/// That each of the bytes is refused alike where it stops being a message.
-fn check_alike(alloc: Global, table: &Table, stops: &[Stop]) -> Result<(), Fail> {
-    for (name, bytes, at, element, cause) in stops {
-        let fault = stop(*at, *element, *cause);
-        check(are_refused(alloc, table, bytes, fault), *name)?;
+    for marked in MARKED {
+        check_bits(rt.alloc(), marked)?;
     }
     Ok(())
 }
 
 #[test]
-fn bad_pieces_are_refused_alike(rt: HostRuntime) -> Result<(), Fail> {
-    let table = table(
-        rt.alloc(),
-        0,
-        Digits::Ascii,
-        BitmapCoding::Hex,
-        TERMINAL_ROWS,
-    )?;
-    check_alike(rt.alloc(), &table, BAD_PIECES)
-}
-
-/// A payment with a letter in element 3.
-const LETTER: &[u8] = b"0200722000010000800016411111111111111\
-1x0000000000000100001020304050000070512345840";
-
-#[test]
-fn a_letter_among_digits_is_refused_alike(rt: HostRuntime) -> Result<(), Fail> {
-    let table = ascii87(rt.alloc())?;
-    let fault = stop(38, 3, Field(FieldFault::NotInClass));
-    let is_refused = are_refused(rt.alloc(), &table, &LETTER[..82], fault);
-    check(is_refused, "the whole message")?;
-    let is_refused = are_refused(rt.alloc(), &table, &LETTER[..50], fault);
-    check(is_refused, "cut behind it")
-}
-
-#[test]
 fn the_largest_bytes_are_judged(rt: HostRuntime) -> Result<(), Fail> {
     let alloc = rt.alloc();
-    let table = ascii87(alloc)?;
+    let table = table_of(alloc, ASCII87)?;
     let zeros = vec![in alloc; b'0'; 65535]?;
-    check(are_taken(alloc, &table, &zeros), "zeros")?;
+    let are_taken = refused(alloc, &table, &zeros) == [None, None, None];
+    check(are_taken, "zeros")?;
     let ones = vec![in alloc; 0xFF; 65535]?;
-    check(
-        are_refused(alloc, &table, &ones, stop(0, 0, BadMti)),
-        "ones",
-    )
-}
-
-/// Whether `unpack`, `view` and `feed` all refuse nothing.
-fn are_taken(alloc: Global, table: &Table, bytes: &[u8]) -> bool {
-    refused(alloc, table, bytes) == [None, None, None]
+    let fault = stop(0, 0, BadMti);
+    check(are_refused(alloc, &table, &ones, fault), "ones")
 }

@@ -1,182 +1,210 @@
-//! Values from outside, and that the calls succeed.
+//! What messages hold, and that the calls succeed.
 
 use super::*;
+use std::alloc::AllocError;
 
-/// A value of a message whose elements are set in that order.
-type ValueCase = (&'static str, Elements, u8, Option<&'static [u8]>);
+/// What holds of a message.
+#[derive(Clone, Copy)]
+enum Fact {
+    Type(u16),
+    /// The value of an element.
+    Value(u8, Option<&'static [u8]>),
+    /// The number that the value of an element writes.
+    Number(u8, Option<u64>),
+    /// Whether the number is among those of its elements.
+    Has(u8, bool),
+    /// The elements that it gives, in that order and no more.
+    Gives(Elements),
+    /// Whether it equals the first message, by each way.
+    IsFirst(bool),
+}
 
-const VALUE_CASES: &[ValueCase] = &[
-    ("nothing set", &[], 3, None),
-    ("one value", &[(3, b"000000")], 3, Some(b"000000")),
-    ("ascending", &[(3, b"a"), (4, b"bc")], 4, Some(b"bc")),
+use Fact::{Gives, Has, IsFirst, Number, Type, Value};
+
+/// The elements of the first message, which is of type 0100.
+const FIRST: Elements = &[(2, b"ab"), (3, b"c")];
+
+const SET: Elements = &[(70, b"301"), (7, b"0102030405"), (128, b"x")];
+
+const FOUR: Elements = &[(70, b"301"), (7, b"0102030405"), (128, b"x"), (11, b"")];
+
+const ASCENDING: Elements = &[(7, b"0102030405"), (11, b""), (70, b"301"), (128, b"x")];
+
+/// A message whose elements are set in that order, and what holds of it.
+const MESSAGES: &[(&str, u16, Elements, Fact)] = &[
+    ("nothing set", 100, &[], Value(3, None)),
+    (
+        "one value",
+        100,
+        &[(3, b"000000")],
+        Value(3, Some(b"000000")),
+    ),
+    (
+        "ascending",
+        100,
+        &[(3, b"a"), (4, b"bc")],
+        Value(4, Some(b"bc")),
+    ),
     (
         "in front of the others",
+        100,
         &[(11, b"abc"), (70, b"d"), (2, b"ef")],
-        2,
-        Some(b"ef"),
+        Value(2, Some(b"ef")),
     ),
     (
         "between the others",
+        100,
         &[(2, b"ab"), (70, b"cde"), (11, b"f")],
-        11,
-        Some(b"f"),
+        Value(11, Some(b"f")),
     ),
     (
         "behind one set in between",
+        100,
         &[(2, b"ab"), (70, b"cde"), (11, b"f")],
-        70,
-        Some(b"cde"),
+        Value(70, Some(b"cde")),
     ),
     (
         "replaced by a longer one",
+        100,
         &[(2, b"ab"), (3, b"c"), (2, b"defg")],
-        2,
-        Some(b"defg"),
+        Value(2, Some(b"defg")),
     ),
     (
         "behind one replaced by a shorter one",
+        100,
         &[(2, b"abcd"), (3, b"ef"), (2, b"g")],
-        3,
-        Some(b"ef"),
+        Value(3, Some(b"ef")),
     ),
-    ("an empty value", &[(2, b"ab"), (3, b"")], 3, Some(b"")),
-];
-
-fn has_value(message: &Message, n: u8, value: Option<&[u8]>) -> bool {
-    message.get(n) == value
-}
-
-#[test]
-fn values(rt: HostRuntime) -> Result<(), Fail> {
-    for (name, elements, n, want) in VALUE_CASES {
-        let made = message(rt.alloc(), 100, *elements)?;
-        check(has_value(&made, *n, *want), *name)?;
-    }
-    Ok(())
-}
-
-/// Takes an element out, and says whether it was there.
-fn is_unset(message: &mut Message, n: u8) -> bool {
-    message.unset(n)
-}
-
-/// An element that is taken out of three, and the others.
-const UNSET_CASES: &[(&str, u8, Elements)] = &[
-    ("the first", 2, &[(11, b"cd"), (70, b"efg")]),
-    ("the last", 70, &[(2, b"ab"), (11, b"cd")]),
-    ("the one between", 11, &[(2, b"ab"), (70, b"efg")]),
-];
-
-const THREE: Elements = &[(2, b"ab"), (11, b"cd"), (70, b"efg")];
-
-/// That an element is taken out of three, once, and the others are left.
-fn check_unset(alloc: Global, name: &str, n: u8, left: &[(u8, &[u8])]) -> Result<(), Fail> {
-    let mut made = message(alloc, 100, THREE)?;
-    check(is_unset(&mut made, n), name)?;
-    check_of(!is_unset(&mut made, n), name, "twice")?;
-    let want = message(alloc, 100, left)?;
-    check_of(are_equal(&made, &want), name, "and the others")
-}
-
-#[test]
-fn unset(rt: HostRuntime) -> Result<(), Fail> {
-    for (name, n, left) in UNSET_CASES {
-        check_unset(rt.alloc(), *name, *n, *left)?;
-    }
-    Ok(())
-}
-
-fn are_equal(message: &Message, other: &Message) -> bool {
-    message.equals(other)
-}
-
-fn is_bad(message: &mut Message, n: u8) -> bool {
-    message.set(n, b"1") == Err(SetFault::BadNumber(n))
-}
-
-fn is_bad_for_a_number(message: &mut Message, n: u8) -> bool {
-    message.set_number(n, 1, 1) == Err(SetFault::BadNumber(n))
-}
-
-const BAD_NUMBERS: &[(&str, u8)] = &[
-    ("the message type", 0),
-    ("the bit that tells of a secondary bitmap", 1),
-    ("the bit that tells of a third bitmap", 65),
-    ("one above the last", 129),
-    ("the greatest byte", 255),
-];
-
-#[test]
-fn bad_numbers(rt: HostRuntime) -> Result<(), Fail> {
-    for (name, n) in BAD_NUMBERS {
-        let mut made = message(rt.alloc(), 100, &[])?;
-        check(is_bad(&mut made, *n), *name)?;
-        check_of(is_bad_for_a_number(&mut made, *n), *name, "set to a number")?;
-    }
-    Ok(())
-}
-
-fn set_six_digits(message: &mut Message) -> Result<(), SetFault> {
-    message.set_number(11, 7, 6)
-}
-
-fn set_one_digit(message: &mut Message) -> Result<(), SetFault> {
-    message.set_number(12, 0, 1)
-}
-
-fn set_nineteen_digits(message: &mut Message) -> Result<(), SetFault> {
-    message.set_number(13, 1_234_567_890_123_456_789, 19)
-}
-
-/// A message with three numbers in decimal digits.
-fn numbered(alloc: Global) -> Result<Message, Fail> {
-    let mut made = message(alloc, 100, &[])?;
-    set_six_digits(&mut made)?;
-    set_one_digit(&mut made)?;
-    set_nineteen_digits(&mut made)?;
-    Ok(made)
-}
-
-const NUMBERED: Elements = &[(11, b"000007"), (12, b"0"), (13, b"1234567890123456789")];
-
-#[test]
-fn numbers(rt: HostRuntime) -> Result<(), Fail> {
-    let made = numbered(rt.alloc())?;
-    let want = message(rt.alloc(), 100, NUMBERED)?;
-    check(are_equal(&made, &want), "three numbers")
-}
-
-/// The only value of a message, and the number of element 11.
-const NUMBER_CASES: &[(&str, u8, &[u8], Option<u64>)] = &[
-    ("another element", 12, b"000007", None),
-    ("zeros in front", 11, b"000007", Some(7)),
-    ("one digit", 11, b"0", Some(0)),
+    (
+        "an empty value",
+        100,
+        &[(2, b"ab"), (3, b"")],
+        Value(3, Some(b"")),
+    ),
+    ("another element", 100, &[(12, b"000007")], Number(11, None)),
+    (
+        "zeros in front",
+        100,
+        &[(11, b"000007")],
+        Number(11, Some(7)),
+    ),
+    ("one digit", 100, &[(11, b"0")], Number(11, Some(0))),
     (
         "nineteen digits",
-        11,
-        b"9999999999999999999",
-        Some(9_999_999_999_999_999_999),
+        100,
+        &[(11, b"9999999999999999999")],
+        Number(11, Some(9_999_999_999_999_999_999)),
     ),
-    ("twenty digits", 11, b"00000000000000000007", None),
-    ("no digit", 11, b"", None),
-    ("a letter in place of a zero", 11, b"1O00", None),
-    ("a sign", 11, b"-7", None),
+    (
+        "twenty digits",
+        100,
+        &[(11, b"00000000000000000007")],
+        Number(11, None),
+    ),
+    ("no digit", 100, &[(11, b"")], Number(11, None)),
+    (
+        "a letter in place of a zero",
+        100,
+        &[(11, b"1O00")],
+        Number(11, None),
+    ),
+    ("a sign", 100, &[(11, b"-7")], Number(11, None)),
+    ("its type", 800, SET, Type(800)),
+    ("no number of an element", 800, SET, Has(1, false)),
+    ("the lowest, which was not set", 800, SET, Has(2, false)),
+    ("one of the primary bitmap", 800, SET, Has(7, true)),
+    (
+        "the first bit of the secondary bitmap",
+        800,
+        SET,
+        Has(65, false),
+    ),
+    ("one of the secondary bitmap", 800, SET, Has(70, true)),
+    ("one before the last", 800, SET, Has(127, false)),
+    ("the last", 800, SET, Has(128, true)),
+    (
+        "four elements in ascending order",
+        800,
+        FOUR,
+        Gives(ASCENDING),
+    ),
+    (
+        "set in another order",
+        100,
+        &[(3, b"c"), (2, b"ab")],
+        IsFirst(true),
+    ),
+    (
+        "another type",
+        110,
+        &[(2, b"ab"), (3, b"c")],
+        IsFirst(false),
+    ),
+    (
+        "another number",
+        100,
+        &[(2, b"ab"), (4, b"c")],
+        IsFirst(false),
+    ),
+    (
+        "another value",
+        100,
+        &[(2, b"ab"), (3, b"d")],
+        IsFirst(false),
+    ),
+    (
+        "the same bytes shared out otherwise",
+        100,
+        &[(2, b"a"), (3, b"bc")],
+        IsFirst(false),
+    ),
+    (
+        "one more",
+        100,
+        &[(2, b"ab"), (3, b"c"), (4, b"")],
+        IsFirst(false),
+    ),
 ];
 
-/// Whether that is the number of element 11 of a message with one value.
-fn is_number(alloc: Global, n: u8, value: &[u8], number: Option<u64>) -> Result<bool, Fail> {
-    let made = message(alloc, 100, &[(n, value)])?;
-    Ok(made.get_number(11) == number)
+/// Whether the message gives these elements, in that order and no more.
+fn gives(message: &Message, elements: &[(u8, &[u8])]) -> bool {
+    let mut left = message.iter();
+    for element in elements {
+        if left.next() != Some(*element) {
+            return false;
+        }
+    }
+    left.next() == None
+}
+
+/// Whether the messages are equal by the operator.
+fn are_equal(message: &Message, other: &Message) -> bool {
+    message == other
+}
+
+/// Whether that holds of a message, which equals the first one or doesn't.
+fn holds(message: &Message, first: &Message, what: Fact) -> bool {
+    match what {
+        Type(mti) => message.mti().number() == mti,
+        Value(n, value) => message.get(n) == value,
+        Number(n, number) => message.get_number(n) == number,
+        Has(n, is_there) => message.elements().has(n) == is_there,
+        Gives(elements) => gives(message, elements),
+        IsFirst(is_so) => first.equals(message) == is_so && are_equal(first, message) == is_so,
+    }
 }
 
 #[test]
-fn numbers_are_read(rt: HostRuntime) -> Result<(), Fail> {
-    for (name, n, value, want) in NUMBER_CASES {
-        check(is_number(rt.alloc(), *n, value, *want)?, *name)?;
+fn messages_hold_what_is_set(rt: HostRuntime) -> Result<(), Fail> {
+    let first = message(rt.alloc(), 100, FIRST)?;
+    for (name, mti, elements, what) in MESSAGES {
+        let made = message(rt.alloc(), *mti, *elements)?;
+        check(holds(&made, &first, *what), *name)?;
     }
     Ok(())
 }
 
+/// Whether a number has so many digits.
 fn has_digits(v: u64, count: u8) -> bool {
     digits_of(v) == count
 }
@@ -199,120 +227,25 @@ fn digits() -> Result<(), Fail> {
     Ok(())
 }
 
-/// A message, and whether it equals the first one.
-const OTHER_MESSAGES: &[(&str, u16, Elements, bool)] = &[
-    ("set in another order", 100, &[(3, b"c"), (2, b"ab")], true),
-    ("another type", 110, &[(2, b"ab"), (3, b"c")], false),
-    ("another number", 100, &[(2, b"ab"), (4, b"c")], false),
-    ("another value", 100, &[(2, b"ab"), (3, b"d")], false),
-    (
-        "the same bytes shared out otherwise",
-        100,
-        &[(2, b"a"), (3, b"bc")],
-        false,
-    ),
-    ("one more", 100, &[(2, b"ab"), (3, b"c"), (4, b"")], false),
-];
+const COPIED: Elements = &[(2, b"4111111111111111"), (11, b"000007")];
 
-/// Whether the messages are equal by the operator.
-fn are_equal_by_operator(message: &Message, other: &Message) -> bool {
-    message == other
+/// That the copy of a purchase is equal, and stays what it is where the purchase gets another number.
+fn check_copy(made: &mut Message, copy: &Message) -> Result<(), Fail> {
+    check(are_equal(copy, made), "a copy is equal")?;
+    let is_other = made.set(11, b"000008").is_ok() && !are_equal(copy, made);
+    check(is_other, "a copy has memory of its own")?;
+    check(copy.get(11) == Some(b"000007"), "its value")
 }
-
-/// That a message equals the other, or doesn't, by each way.
-fn check_equality(name: &str, message: &Message, other: &Message, want: bool) -> Result<(), Fail> {
-    check(are_equal(message, other) == want, name)?;
-    let by_operator = are_equal_by_operator(message, other);
-    check_of(by_operator == want, name, "by the operator")
-}
-
-#[test]
-fn equality(rt: HostRuntime) -> Result<(), Fail> {
-    let first = message(rt.alloc(), 100, &[(2, b"ab"), (3, b"c")])?;
-    for (name, mti, elements, want) in OTHER_MESSAGES {
-        let other = message(rt.alloc(), *mti, *elements)?;
-        check_equality(*name, &first, &other, *want)?;
-    }
-    Ok(())
-}
-
-fn copy_of(message: &Message) -> Result<Message, Fail> {
-    Ok(message.clone()?)
-}
-
-fn set(message: &mut Message, n: u8, value: &[u8]) -> Result<(), Fail> {
-    message.set(n, value)?;
-    Ok(())
-}
-
-const PURCHASE: Elements = &[(2, b"4111111111111111"), (11, b"000007")];
 
 #[test]
 fn copies(rt: HostRuntime) -> Result<(), Fail> {
-    let mut made = message(rt.alloc(), 201, PURCHASE)?;
-    let copy = copy_of(&made)?;
-    check(are_equal_by_operator(&copy, &made), "a copy is equal")?;
-    set(&mut made, 11, b"000008")?;
-    let is_other = !are_equal_by_operator(&copy, &made);
-    check(is_other, "a copy has memory of its own")?;
-    check(has_value(&copy, 11, Some(b"000007")), "its value")
-}
-
-/// Whether the message gives these elements, in that order and no more.
-fn gives(message: &Message, elements: &[(u8, &[u8])]) -> bool {
-    let mut left = message.iter();
-    for element in elements {
-        if left.next() != Some(*element) {
-            return false;
-        }
-    }
-    left.next() == None
-}
-
-const FOUR: Elements = &[(70, b"301"), (7, b"0102030405"), (128, b"x"), (11, b"")];
-
-const ASCENDING: Elements = &[(7, b"0102030405"), (11, b""), (70, b"301"), (128, b"x")];
-
-#[test]
-fn elements_come_in_ascending_order(rt: HostRuntime) -> Result<(), Fail> {
-    let made = message(rt.alloc(), 800, FOUR)?;
-    check(gives(&made, ASCENDING), "four elements")
-}
-
-fn has_type(message: &Message, mti: u16) -> bool {
-    message.mti().number() == mti
-}
-
-fn has_element(message: &Message, n: u8) -> bool {
-    message.elements().has(n)
-}
-
-const SET: Elements = &[(70, b"301"), (7, b"0102030405"), (128, b"x")];
-
-/// A number, and whether it is among those that are set.
-const NUMBERS: &[(&str, u8, bool)] = &[
-    ("no number of an element", 1, false),
-    ("the lowest, which was not set", 2, false),
-    ("one of the primary bitmap", 7, true),
-    ("the first bit of the secondary bitmap", 65, false),
-    ("one of the secondary bitmap", 70, true),
-    ("one before the last", 127, false),
-    ("the last", 128, true),
-];
-
-#[test]
-fn sets(rt: HostRuntime) -> Result<(), Fail> {
-    let made = message(rt.alloc(), 800, SET)?;
-    check(has_type(&made, 800), "its type")?;
-    for (name, n, want) in NUMBERS {
-        check(has_element(&made, *n) == *want, *name)?;
-    }
-    Ok(())
+    let mut made = message(rt.alloc(), 201, COPIED)?;
+    let copy = made.clone()?;
+    check_copy(&mut made, &copy)
 }
 
 /// A message of two values that are appended.
-fn appended(alloc: Global) -> Result<Message, Fail> {
-    let mti = Mti::from_digits(100).ok_or("not four digits")?;
+fn appended(alloc: Global, mti: Mti) -> Result<Message, AllocError> {
     let mut made = Message::with_room(alloc, mti, 2, 5)?;
     made.append(3, b"abc")?;
     made.append(4, b"de")?;
@@ -322,6 +255,6 @@ fn appended(alloc: Global) -> Result<Message, Fail> {
 #[test]
 fn built_in_order(rt: HostRuntime) -> Result<(), Fail> {
     let want = message(rt.alloc(), 100, &[(3, b"abc"), (4, b"de")])?;
-    let made = appended(rt.alloc())?;
-    check(are_equal(&made, &want), "two values")
+    let made = appended(rt.alloc(), want.mti())?;
+    check(made.equals(&want), "two values")
 }

@@ -1,321 +1,276 @@
-//! Messages in pieces.
+//! Messages in pieces, and what an unpacker answers to them.
 
+use super::cases::{Case, ECHO_CASE, NO_ELEMENT, is_message};
 use super::*;
 use iso_parts::FieldFault;
 use iso_wire::UnpackCause::{BadMti, Field};
 
 /// What is answered to a piece, but for the message itself.
 #[derive(Clone, Copy, PartialEq, Eq)]
-enum FeedAnswer {
+pub(super) enum FeedAnswer {
     More,
     Done(usize),
     Fault(UnpackFault),
 }
 
+use FeedAnswer::{Done, Fault, More};
+
+/// The answer, without its message.
 fn answer_to(fed: Result<Fed, UnpackFault>) -> FeedAnswer {
     match fed {
-        Ok(Fed::More) => FeedAnswer::More,
-        Ok(Fed::Done { message: _, used }) => FeedAnswer::Done(used),
-        Err(fault) => FeedAnswer::Fault(fault),
+        Ok(Fed::More) => More,
+        Ok(Fed::Done { message: _, used }) => Done(used),
+        Err(fault) => Fault(fault),
     }
 }
 
-const BAD_CLASS: UnpackFault = UnpackFault {
-    at: 38,
-    element: 3,
-    cause: Field(FieldFault::NotInClass),
-};
-
-const BAD_TYPE: UnpackFault = UnpackFault {
-    at: 0,
-    element: 0,
-    cause: BadMti,
-};
-
-/// Feeds a piece, and says whether that is the answer.
-fn feeds(unpacker: &mut Unpacker, alloc: Global, piece: &[u8], want: FeedAnswer) -> bool {
-    answer_to(unpacker.feed(alloc, piece)) == want
+/// What is done to an unpacker, and what comes of it.
+#[derive(Clone, Copy)]
+pub(super) enum Event {
+    /// A piece is fed: the answer, and how many bytes are held then.
+    Feed(&'static [u8], FeedAnswer, usize),
+    /// A piece is fed that ends the message of the case: how many of its bytes are used.
+    End(&'static [u8], usize, Case),
+    /// The whole message of the case is read, and its memory given back: how many bytes of another are held then.
+    Whole(Case, usize),
+    /// Bytes that are no message: where they stop being one, in the piece of which element, and why.
+    Stopped(&'static [u8], usize, u8, UnpackCause),
+    Reset,
 }
 
-fn holds(unpacker: &Unpacker, count: usize) -> bool {
-    unpacker.held() == count
+use Event::{End, Feed, Reset, Stopped, Whole};
+
+/// A table, and what is done to an unpacker of it, one after the other.
+pub(super) type Events = (&'static str, Under, &'static [(&'static str, Event)]);
+
+/// Whether a piece ends the message of the case, and so many of its bytes are used.
+fn is_ended(unpacker: &mut Unpacker, alloc: Global, piece: &[u8], size: usize, case: Case) -> bool {
+    match unpacker.feed(alloc, piece) {
+        Ok(Fed::Done { message, used }) => {
+            used == size && is_message(&message, case.mti, case.elements)
+        }
+        _ => false,
+    }
 }
 
-fn reset(unpacker: &mut Unpacker) {
-    unpacker.reset();
+/// Whether the message of the case is read, and gives its memory back.
+fn is_reread(unpacker: &mut Unpacker, alloc: Global, case: Case) -> bool {
+    match unpacker.unpack(alloc, case.bytes) {
+        Ok((message, used)) => {
+            let is_read = used == case.used && is_message(&message, case.mti, case.elements);
+            unpacker.reuse(message);
+            is_read
+        }
+        Err(_) => false,
+    }
 }
 
-/// A piece, what is answered to it, and how many bytes are held then.
-type Piece = (&'static str, &'static [u8], FeedAnswer, usize);
-
-/// Feeds a piece, and says whether that is the answer, and whether so many bytes are held then.
-fn is_answered(
+/// Whether a piece is answered so, and so many bytes are held then.
+fn is_fed(
     unpacker: &mut Unpacker,
     alloc: Global,
     piece: &[u8],
-    want: FeedAnswer,
+    answer: FeedAnswer,
     held: usize,
 ) -> bool {
-    feeds(unpacker, alloc, piece, want) && holds(unpacker, held)
+    answer_to(unpacker.feed(alloc, piece)) == answer && unpacker.held() == held
 }
 
-/// That each piece is answered so.
-fn check_pieces(unpacker: &mut Unpacker, alloc: Global, pieces: &[Piece]) -> Result<(), Fail> {
-    for (name, piece, want, held) in pieces {
-        check(is_answered(unpacker, alloc, piece, *want, *held), *name)?;
+/// Whether that comes of it.
+fn comes(unpacker: &mut Unpacker, alloc: Global, event: Event) -> bool {
+    match event {
+        Feed(piece, answer, held) => is_fed(unpacker, alloc, piece, answer, held),
+        End(piece, used, case) => {
+            is_ended(unpacker, alloc, piece, used, case) && unpacker.held() == 0
+        }
+        Whole(case, held) => is_reread(unpacker, alloc, case) && unpacker.held() == held,
+        Stopped(bytes, at, element, cause) => {
+            unpacker.unpack(alloc, bytes).err() == Some(stop(at, element, cause))
+        }
+        Reset => {
+            unpacker.reset();
+            unpacker.held() == 0
+        }
+    }
+}
+
+/// That all comes of the events.
+fn check_unpacker(
+    unpacker: &mut Unpacker,
+    alloc: Global,
+    name: &str,
+    events: &[(&str, Event)],
+) -> Result<(), Fail> {
+    for (what, event) in events {
+        check_of(comes(unpacker, alloc, *event), name, *what)?;
     }
     Ok(())
 }
 
-/// Two pieces that end inside an element.
-const FRONT_PIECES: &[Piece] = &[
-    ("the first piece", b"08008220000000", FeedAnswer::More, 14),
+/// That all comes of the events, in an unpacker of each table.
+pub(super) fn check_events(alloc: Global, lists: &[Events]) -> Result<(), Fail> {
+    for (name, under, events) in lists {
+        let table = table_of(alloc, *under)?;
+        let mut unpacker = Unpacker::new(alloc, &table);
+        check_unpacker(&mut unpacker, alloc, *name, *events)?;
+    }
+    Ok(())
+}
+
+const BAD_CLASS: FeedAnswer = Fault(UnpackFault {
+    at: 38,
+    element: 3,
+    cause: Field(FieldFault::NotInClass),
+});
+
+const BAD_TYPE: FeedAnswer = Fault(UnpackFault {
+    at: 0,
+    element: 0,
+    cause: BadMti,
+});
+
+const IN_PIECES: &[Events] = &[
     (
-        "the second piece",
-        b"00000004000000000000000102",
-        FeedAnswer::More,
-        40,
+        "a message in pieces",
+        ASCII87,
+        &[
+            ("the first piece", Feed(b"08008220000000", More, 14)),
+            // it ends inside an element
+            (
+                "the second piece",
+                Feed(b"00000004000000000000000102", More, 40),
+            ),
+            ("the last piece", End(b"0304050000013010800", 15, ECHO_CASE)),
+            // what was left of it
+            ("the beginning of the next message", Feed(b"0800", More, 4)),
+        ],
+    ),
+    (
+        "pieces are judged when they are whole",
+        ASCII,
+        &[
+            ("no bytes", Feed(b"", More, 0)),
+            ("three digits of a type", Feed(b"08A", More, 3)),
+            ("the fourth", Feed(b"0", BAD_TYPE, 0)),
+            ("behind a fault", Feed(ECHO, BAD_TYPE, 0)),
+            ("no bytes behind a fault", Feed(b"", BAD_TYPE, 0)),
+            ("it starts anew", Reset),
+            ("the echo test", End(ECHO, 55, ECHO_CASE)),
+        ],
+    ),
+    (
+        "a fault is told from the start of the message",
+        ASCII,
+        &[
+            (
+                "a whole message and more",
+                End(b"08000000000000000000020", 20, NO_ELEMENT),
+            ),
+            (
+                "a type and a bitmap",
+                Feed(b"02007220000100008000", More, 20),
+            ),
+            ("half a length", Feed(b"1", More, 21)),
+            (
+                "its end, and a body without its end",
+                Feed(b"6411111", More, 28),
+            ),
+            ("its end", Feed(b"1111111111", More, 38)),
+            ("five digits of six", Feed(b"00000", More, 43)),
+            (
+                "a letter among digits",
+                Feed(b"x000000001000", BAD_CLASS, 0),
+            ),
+            ("it starts anew", Reset),
+            ("a bad type", Feed(b"08A0", BAD_TYPE, 0)),
+        ],
     ),
 ];
-
-/// Whether the message is the echo test, with the 15th byte of its last piece.
-fn is_echo(message: &Message, used: usize) -> bool {
-    (message.mti().number(), used) == (800, 15)
-        && message.get(7) == Some(b"0102030405".as_slice())
-        && message.get(70) == Some(b"301".as_slice())
-}
-
-/// Whether a piece ends the echo test, and what is left of it begins the next message.
-fn ends_echo(unpacker: &mut Unpacker, alloc: Global, last: &[u8]) -> Result<bool, Fail> {
-    match unpacker.feed(alloc, last)? {
-        Fed::More => Err(Fail::new("the message is whole")),
-        Fed::Done { message, used } => Ok(
-            is_echo(&message, used)
-                && is_answered(unpacker, alloc, &last[used..], FeedAnswer::More, 4),
-        ),
-    }
-}
-
-/// That the echo test comes in three pieces, the last of them with the beginning of the next message.
-fn check_echo(unpacker: &mut Unpacker, alloc: Global) -> Result<(), Fail> {
-    check_pieces(unpacker, alloc, FRONT_PIECES)?;
-    let last = b"0304050000013010800";
-    check(ends_echo(unpacker, alloc, last)?, "the last piece")
-}
 
 #[test]
 fn a_message_comes_in_pieces(rt: HostRuntime) -> Result<(), Fail> {
-    let alloc = rt.alloc();
-    let table = ascii87(alloc)?;
-    let mut unpacker = Unpacker::new(alloc, &table);
-    check_echo(&mut unpacker, alloc)
-}
-
-const JUDGED_PIECES: &[Piece] = &[
-    ("no bytes", b"", FeedAnswer::More, 0),
-    ("three digits of a type", b"08A", FeedAnswer::More, 3),
-    ("the fourth", b"0", FeedAnswer::Fault(BAD_TYPE), 0),
-    ("behind a fault", ECHO, FeedAnswer::Fault(BAD_TYPE), 0),
-    (
-        "no bytes behind a fault",
-        b"",
-        FeedAnswer::Fault(BAD_TYPE),
-        0,
-    ),
-];
-
-/// That each piece is answered so, and the echo test behind them.
-fn check_judged_pieces(unpacker: &mut Unpacker, alloc: Global) -> Result<(), Fail> {
-    check_pieces(unpacker, alloc, JUDGED_PIECES)?;
-    reset(unpacker);
-    let is_done = feeds(unpacker, alloc, ECHO, FeedAnswer::Done(55));
-    check(is_done, "the echo test")
-}
-
-#[test]
-fn pieces_are_judged_when_they_are_whole(rt: HostRuntime) -> Result<(), Fail> {
-    let alloc = rt.alloc();
-    let table = ascii(alloc)?;
-    let mut unpacker = Unpacker::new(alloc, &table);
-    check_judged_pieces(&mut unpacker, alloc)
-}
-
-const FAULTY_PIECES: &[(&str, &[u8], FeedAnswer)] = &[
-    (
-        "a whole message and more",
-        b"08000000000000000000020",
-        FeedAnswer::Done(20),
-    ),
-    (
-        "a type and a bitmap",
-        b"02007220000100008000",
-        FeedAnswer::More,
-    ),
-    ("half a length", b"1", FeedAnswer::More),
-    (
-        "its end, and a body without its end",
-        b"6411111",
-        FeedAnswer::More,
-    ),
-    ("its end", b"1111111111", FeedAnswer::More),
-    ("five digits of six", b"00000", FeedAnswer::More),
-    (
-        "a letter among digits",
-        b"x000000001000",
-        FeedAnswer::Fault(BAD_CLASS),
-    ),
-];
-
-/// That each piece is answered so, whatever is held then.
-fn check_answers(
-    unpacker: &mut Unpacker,
-    alloc: Global,
-    pieces: &[(&str, &[u8], FeedAnswer)],
-) -> Result<(), Fail> {
-    for (name, piece, want) in pieces {
-        check(feeds(unpacker, alloc, piece, *want), *name)?;
-    }
-    Ok(())
-}
-
-/// That each piece is answered so, and a bad type behind them.
-fn check_faulty_pieces(unpacker: &mut Unpacker, alloc: Global) -> Result<(), Fail> {
-    check_answers(unpacker, alloc, FAULTY_PIECES)?;
-    reset(unpacker);
-    let is_fault = feeds(unpacker, alloc, b"08A0", FeedAnswer::Fault(BAD_TYPE));
-    check(is_fault, "a bad type")
-}
-
-#[test]
-fn a_fault_is_told_from_the_start_of_the_message(rt: HostRuntime) -> Result<(), Fail> {
-    let alloc = rt.alloc();
-    let table = ascii(alloc)?;
-    let mut unpacker = Unpacker::new(alloc, &table);
-    check_faulty_pieces(&mut unpacker, alloc)
+    check_events(rt.alloc(), IN_PIECES)
 }
 
 /// The answers to a message in pieces of one size: how often more was wanted, and the last answer.
 fn in_pieces_of(alloc: Global, table: &Table, size: usize, bytes: &[u8]) -> (usize, FeedAnswer) {
     let mut unpacker = Unpacker::new(alloc, table);
     let mut wanted: usize = 0;
-    let mut last = FeedAnswer::More;
+    let mut last = More;
     for piece in bytes.chunks(size.max(1)) {
         last = answer_to(unpacker.feed(alloc, piece));
-        if last == FeedAnswer::More {
+        if last == More {
             wanted = wanted.saturating_add(1);
         }
     }
     (wanted, last)
 }
 
-/// Whether a message in pieces of that size is wanted more of so often, and done with so many bytes of its last piece.
-fn is_done(
-    alloc: Global,
-    table: &Table,
-    size: usize,
-    bytes: &[u8],
-    wanted: usize,
-    used: usize,
-) -> bool {
-    in_pieces_of(alloc, table, size, bytes) == (wanted, FeedAnswer::Done(used))
-}
+/// A message, the size of each piece, how often more is wanted, and how many bytes of the last piece are used.
+type Sizes = (&'static str, Under, &'static [u8], usize, usize, usize);
 
-/// The size of each piece, how often more is wanted, and how many bytes of the last piece are used.
-const PIECE_SIZES: &[(&str, usize, usize, usize)] = &[
-    ("one byte each", 1, 54, 1),
-    ("seven bytes each", 7, 7, 6),
-    ("54 bytes and one", 54, 1, 1),
-    ("all bytes", 55, 0, 55),
+const PIECE_SIZES: &[Sizes] = &[
+    ("one byte each", ASCII87, ECHO, 1, 54, 1),
+    ("seven bytes each", ASCII87, ECHO, 7, 7, 6),
+    ("54 bytes and one", ASCII87, ECHO, 54, 1, 1),
+    ("all bytes", ASCII87, ECHO, 55, 0, 55),
+    ("one byte each of a payment", ASCII87, PAYMENT, 1, 81, 1),
+    ("one byte each of a reversal", ASCII87, REVERSAL, 1, 100, 1),
+    ("one byte each under BCD", BCD87, PACKED_ECHO, 1, 27, 1),
 ];
-
-/// That a message in pieces of each size is done with its last byte.
-fn check_sizes(alloc: Global, table: &Table, bytes: &[u8]) -> Result<(), Fail> {
-    for (name, size, wanted, used) in PIECE_SIZES {
-        check(is_done(alloc, table, *size, bytes, *wanted, *used), *name)?;
-    }
-    Ok(())
-}
 
 #[test]
 fn a_message_is_done_with_its_last_byte(rt: HostRuntime) -> Result<(), Fail> {
-    let table = ascii87(rt.alloc())?;
-    check_sizes(rt.alloc(), &table, ECHO)
+    for (name, under, bytes, size, wanted, used) in PIECE_SIZES {
+        let table = table_of(rt.alloc(), *under)?;
+        let answers = in_pieces_of(rt.alloc(), &table, *size, *bytes);
+        check(answers == (*wanted, Done(*used)), *name)?;
+    }
+    Ok(())
 }
 
-/// Whether a piece ends that message, `size` bytes in.
-fn ends(
-    unpacker: &mut Unpacker,
+/// Whether a message that is fed in two pieces, cut at `size`, is that whole one, which has `end` bytes.
+pub(super) fn is_read_in_two(
     alloc: Global,
-    back: &[u8],
+    table: &Table,
+    bytes: &[u8],
     size: usize,
     whole: &Message,
     end: usize,
-) -> Result<bool, Fail> {
-    match unpacker.feed(alloc, back)? {
-        Fed::Done { message, used } => {
-            Ok(used.checked_add(size) == Some(end) && message.equals(whole) && holds(unpacker, 0))
-        }
-        Fed::More => Ok(false),
-    }
-}
-
-/// Whether a message that is fed in two pieces, cut at `size`, is the one that `unpack` reads.
-fn is_read_in_two(alloc: Global, table: &Table, bytes: &[u8], size: usize) -> Result<bool, Fail> {
-    let (whole, end) = unpack(alloc, table, bytes)?;
+) -> bool {
     let mut unpacker = Unpacker::new(alloc, table);
     let (front, back) = bytes.split_at(size.min(bytes.len()));
-    if !is_answered(&mut unpacker, alloc, front, FeedAnswer::More, size) {
-        return Ok(false);
-    }
-    ends(&mut unpacker, alloc, back, size, &whole, end)
+    is_fed(&mut unpacker, alloc, front, More, size)
+        && match unpacker.feed(alloc, back) {
+            Ok(Fed::Done { message, used }) => {
+                used.checked_add(size) == Some(end) && message.equals(whole) && unpacker.held() == 0
+            }
+            _ => false,
+        }
 }
 
-/// Ends the test with the name of a message and the size of its first piece, unless it is so.
-fn check_split(is_so: bool, name: &str, size: usize) -> Result<(), Fail> {
-    if is_so {
-        Ok(())
-    } else {
-        Err(Fail::new(format_args!("{name}, {size} bytes")))
-    }
-}
-
-/// That a message is the same wherever it is split in two.
-fn check_halves(alloc: Global, name: &str, table: &Table, bytes: &[u8]) -> Result<(), Fail> {
+/// That a message is the one that `unpack` reads wherever it is split in two.
+fn check_splits(alloc: Global, table: &Table, name: &str, bytes: &[u8]) -> Result<(), Fail> {
+    let (whole, end) = unpack(alloc, table, bytes)?;
     for size in 0..bytes.len() {
-        check_split(is_read_in_two(alloc, table, bytes, size)?, name, size)?;
+        let is_whole = is_read_in_two(alloc, table, bytes, size, &whole, end);
+        check_at(is_whole, name, size)?;
     }
     Ok(())
 }
 
-/// That a message is the same wherever it is split in two, and where each byte comes alone.
-fn check_splits(alloc: Global, name: &str, table: &Table, bytes: &[u8]) -> Result<(), Fail> {
-    check_halves(alloc, name, table, bytes)?;
-    let wanted = bytes.len().saturating_sub(1);
-    check(is_done(alloc, table, 1, bytes, wanted, 1), name)
-}
-
-const WHOLE_MESSAGES: &[(&str, &[u8])] = &[
-    ("echo", ECHO),
-    ("payment", PAYMENT),
-    ("reversal", REVERSAL),
+const WHOLE_MESSAGES: &[(&str, Under, &[u8])] = &[
+    ("echo", ASCII87, ECHO),
+    ("payment", ASCII87, PAYMENT),
+    ("reversal", ASCII87, REVERSAL),
+    ("echo under BCD", BCD87, PACKED_ECHO),
 ];
-
-/// That each message is the same wherever it is split.
-fn check_all_splits(alloc: Global, table: &Table, messages: &[(&str, &[u8])]) -> Result<(), Fail> {
-    for (name, bytes) in messages {
-        check_splits(alloc, *name, table, bytes)?;
-    }
-    Ok(())
-}
 
 #[test]
 fn each_split_gives_the_same_message(rt: HostRuntime) -> Result<(), Fail> {
-    let table = ascii87(rt.alloc())?;
-    check_all_splits(rt.alloc(), &table, WHOLE_MESSAGES)
-}
-
-#[test]
-fn each_split_gives_the_same_packed_message(rt: HostRuntime) -> Result<(), Fail> {
-    let table = bcd87(rt.alloc())?;
-    check_splits(rt.alloc(), "echo under BCD", &table, PACKED_ECHO)
+    for (name, under, bytes) in WHOLE_MESSAGES {
+        let table = table_of(rt.alloc(), *under)?;
+        check_splits(rt.alloc(), &table, *name, *bytes)?;
+    }
+    Ok(())
 }

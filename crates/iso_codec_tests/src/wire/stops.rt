@@ -1,35 +1,103 @@
-//! Where bytes stop being a message, under the tables of the 1987 edition.
+//! Where bytes stop being a message: `unpack`, `view` and `feed` refuse them alike.
 
 use super::*;
 use iso_parts::FieldFault;
-use iso_wire::UnpackCause::{BadMti, Field, Short, UnknownElement};
+use iso_wire::UnpackCause::{
+    BadHex, BadMti, Field, Short, ThirdBitmap, UnknownElement, WrongVersion,
+};
 
-#[test]
-fn a_cut_payment_is_short(rt: HostRuntime) -> Result<(), Fail> {
-    let table = ascii87(rt.alloc())?;
-    check_short(rt.alloc(), &table, PAYMENT, PAYMENT_PIECES)
-}
+/// Bytes that are no message, where they stop being one, in the piece of which element, and why.
+type Stop = (&'static str, &'static [u8], usize, u8, UnpackCause);
 
-#[test]
-fn a_cut_reversal_is_short(rt: HostRuntime) -> Result<(), Fail> {
-    let table = ascii87(rt.alloc())?;
-    check_short(rt.alloc(), &table, REVERSAL, REVERSAL_PIECES)?;
-    check(uses(rt.alloc(), &table, REVERSAL, 101)?, "all bytes")
-}
+const REFUSED_BYTES: &[Stop] = &[
+    ("no bytes", b"", 0, 0, Short),
+    ("a letter in the type", b"08A0", 0, 0, BadMti),
+    ("another version", b"1800", 0, 0, WrongVersion),
+    (
+        "a letter in the primary bitmap",
+        b"0800022G000000000000",
+        4,
+        0,
+        BadHex,
+    ),
+    (
+        "a letter in the secondary bitmap",
+        b"08008000000000000000000000000000000x",
+        20,
+        1,
+        BadHex,
+    ),
+    (
+        "a third bitmap",
+        b"080080000000000000008000000000000000",
+        20,
+        1,
+        ThirdBitmap,
+    ),
+    (
+        "two elements without a row",
+        b"08000880000000000000",
+        4,
+        0,
+        UnknownElement(5),
+    ),
+    (
+        "a late element without a row",
+        b"080080000000000000004000000000000000",
+        20,
+        1,
+        UnknownElement(66),
+    ),
+    (
+        "a length above the maximum",
+        b"0200400000000000000020",
+        20,
+        2,
+        Field(FieldFault::LengthOver),
+    ),
+    (
+        "a letter in a length",
+        b"020040000000000000001x",
+        20,
+        2,
+        Field(FieldFault::BadLengthDigits),
+    ),
+    ("half a length", b"020040000000000000001", 20, 2, Short),
+    (
+        "a value without its end",
+        b"0200400000000000000016411",
+        22,
+        2,
+        Short,
+    ),
+    (
+        "a letter among digits",
+        b"02007220000100008000164111111111111111x0000000000000",
+        38,
+        3,
+        Field(FieldFault::NotInClass),
+    ),
+];
 
-/// Whether so many bytes are a message.
-fn uses(alloc: Global, table: &Table, bytes: &[u8], size: usize) -> Result<bool, Fail> {
-    let (_, used) = unpack(alloc, table, bytes)?;
-    Ok(used == size)
-}
+/// The packed echo test with another last element.
+const BAD_FILLERS: &[Stop] = &[
+    (
+        "a filler 1",
+        b"\x08\x00\x82\x20\0\0\0\0\0\0\x04\0\0\0\0\0\0\0\x01\x02\x03\x04\x05\0\0\x01\x13\x01",
+        26,
+        70,
+        Field(FieldFault::BadFiller),
+    ),
+    (
+        "a nibble A",
+        b"\x08\x00\x82\x20\0\0\0\0\0\0\x04\0\0\0\0\0\0\0\x01\x02\x03\x04\x05\0\0\x01\x03\x0A",
+        26,
+        70,
+        Field(FieldFault::NotInClass),
+    ),
+];
 
-#[test]
-fn a_cut_packed_echo_is_short(rt: HostRuntime) -> Result<(), Fail> {
-    let table = bcd87(rt.alloc())?;
-    check_short(rt.alloc(), &table, PACKED_ECHO, PACKED_ECHO_PIECES)
-}
-
-const BAD_PIECES: &[Stop] = &[
+const BAD_PIECES_87: &[Stop] = &[
     ("a bad type, and no more", b"08A0", 0, 0, BadMti),
     (
         "a bad type, and a bad bitmap",
@@ -87,15 +155,23 @@ const BAD_PIECES: &[Stop] = &[
         49,
         Short,
     ),
+    (
+        "a letter among digits",
+        b"02007220000100008000164111111111111111x0000000000000100001020304050000070512345840",
+        38,
+        3,
+        Field(FieldFault::NotInClass),
+    ),
+    (
+        "a letter among digits, cut behind it",
+        b"02007220000100008000164111111111111111x00000000000",
+        38,
+        3,
+        Field(FieldFault::NotInClass),
+    ),
 ];
 
-#[test]
-fn the_first_bad_piece_is_told(rt: HostRuntime) -> Result<(), Fail> {
-    let table = ascii87(rt.alloc())?;
-    check_stops(rt.alloc(), &table, BAD_PIECES)
-}
-
-const BAD_PACKED_PIECES: &[Stop] = &[
+const BAD_PACKED_PIECES_87: &[Stop] = &[
     (
         "a first nibble 1 of a length",
         b"\x08\x00\0\0\0\0\0\0\x04\0\x10\x20",
@@ -126,73 +202,8 @@ const BAD_PACKED_PIECES: &[Stop] = &[
     ),
 ];
 
-#[test]
-fn packed_lengths_and_fillers_are_told(rt: HostRuntime) -> Result<(), Fail> {
-    let table = bcd87(rt.alloc())?;
-    check_stops(rt.alloc(), &table, BAD_PACKED_PIECES)
-}
-
-/// The table that has a row for element 41 alone, with raw bitmaps.
-fn terminals(alloc: Global) -> Result<Table, TableFault> {
-    table(alloc, 0, Digits::Ascii, BitmapCoding::Raw, TERMINAL_ROWS)
-}
-
-/// The fault of a message with that bit alone.
-fn bit_fault(n: u8) -> UnpackFault {
-    if n == 41 {
-        stop(12, 41, Short)
-    } else {
-        stop(4, 0, UnknownElement(n))
-    }
-}
-
-/// Ends the test with the number of a bit, unless it is so.
-fn check_bit(is_so: bool, n: u8) -> Result<(), Fail> {
-    if is_so { Ok(()) } else { Err(Fail::new(n)) }
-}
-
-/// Whether a message with that bit alone is refused.
-fn is_bit_refused(alloc: Global, table: &Table, n: u8, fault: UnpackFault) -> Result<bool, Fail> {
-    let word = if (1..=64).contains(&n) {
-        1u64 << (64 - n)
-    } else {
-        0
-    };
-    let bytes = [b"0800".as_slice(), &word.to_be_bytes()].concat(alloc)?;
-    Ok(is_refused(alloc, table, &bytes, fault))
-}
-
-#[test]
-fn each_bit_without_a_row_is_told(rt: HostRuntime) -> Result<(), Fail> {
-    let table = terminals(rt.alloc())?;
-    for n in 2..=64u8 {
-        check_bit(is_bit_refused(rt.alloc(), &table, n, bit_fault(n))?, n)?;
-    }
-    Ok(())
-}
-
-/// Whether a message with that bit of the secondary bitmap alone is refused.
-fn is_late_bit_refused(alloc: Global, table: &Table, n: u8) -> Result<bool, Fail> {
-    let word = if (65..=128).contains(&n) {
-        1u64 << (128 - n)
-    } else {
-        0
-    };
-    let first = b"0800\x80\0\0\0\0\0\0\0".as_slice();
-    let bytes = [first, &word.to_be_bytes()].concat(alloc)?;
-    Ok(is_refused(alloc, table, &bytes, stop(12, 1, UnknownElement(n))))
-}
-
-#[test]
-fn each_late_bit_without_a_row_is_told(rt: HostRuntime) -> Result<(), Fail> {
-    let table = terminals(rt.alloc())?;
-    for n in 66..=128u8 {
-        check_bit(is_late_bit_refused(rt.alloc(), &table, n)?, n)?;
-    }
-    Ok(())
-}
-
-const LOWEST_BITS: &[Stop] = &[
+const BAD_TERMINALS: &[Stop] = &[
+    ("a letter in the type", b"08A0", 0, 0, BadMti),
     (
         "bits 5 and 9",
         b"08000880000000000000",
@@ -223,14 +234,60 @@ const LOWEST_BITS: &[Stop] = &[
     ),
 ];
 
+/// A bit whose element has a row, but no bytes.
+const RAW_BITS: &[Stop] = &[("bit 41", b"0800\0\0\0\0\0\x80\0\0", 12, 41, Short)];
+
+/// Four digits of a length.
+const BAD_LENGTHS: &[Stop] = &[
+    (
+        "one byte too many",
+        b"080000000000000100009999",
+        20,
+        48,
+        Field(FieldFault::LengthOver),
+    ),
+    (
+        "a letter",
+        b"08000000000000010000000x",
+        20,
+        48,
+        Field(FieldFault::BadLengthDigits),
+    ),
+    ("three digits", b"08000000000000010000000", 20, 48, Short),
+    (
+        "no byte of 9,998",
+        b"080000000000000100009998",
+        24,
+        48,
+        Short,
+    ),
+];
+
+/// The bytes under each table.
+const STOPS: &[(Under, &[Stop])] = &[
+    (ASCII, REFUSED_BYTES),
+    (PACKED, BAD_FILLERS),
+    (ASCII87, BAD_PIECES_87),
+    (BCD87, BAD_PACKED_PIECES_87),
+    (TERMINALS, BAD_TERMINALS),
+    (RAW_TERMINALS, RAW_BITS),
+    (chips!(9_998), BAD_LENGTHS),
+];
+
+/// That each of the bytes is refused where it stops being a message.
+fn check_stops(alloc: Global, table: &Table, stops: &[Stop]) -> Result<(), Fail> {
+    for (name, bytes, at, element, cause) in stops {
+        let fault = stop(*at, *element, *cause);
+        check(are_refused(alloc, table, bytes, fault), *name)?;
+    }
+    Ok(())
+}
+
 #[test]
-fn the_lowest_bit_without_a_row_is_told(rt: HostRuntime) -> Result<(), Fail> {
-    let table = table(
-        rt.alloc(),
-        0,
-        Digits::Ascii,
-        BitmapCoding::Hex,
-        TERMINAL_ROWS,
-    )?;
-    check_stops(rt.alloc(), &table, LOWEST_BITS)
+fn bytes_are_refused_alike(rt: HostRuntime) -> Result<(), Fail> {
+    for (under, stops) in STOPS {
+        let table = table_of(rt.alloc(), *under)?;
+        check_stops(rt.alloc(), &table, *stops)?;
+    }
+    Ok(())
 }
