@@ -263,13 +263,19 @@ fn nested(alloc: Global, depth: u8) -> Result<Vec<u8>, AllocError> {
     Ok(text)
 }
 
+/// So many arrays within one another, and the fault.
+const ARRAYS: &[(&'static str, u8, TableFault)] = &[
+    ("127 arrays", 127, Shape),
+    ("128 arrays", 128, NotJson),
+];
+
 #[test]
 fn reads_text_alone(rt: HostRuntime) -> Result<(), Fail> {
     let latin = b"{\"profile\":7,\"owner\":\"\xE9\"}";
     check(is_refused(rt.alloc(), latin, NotJson), "another encoding")?;
-    for (name, depth, fault) in [("127 arrays", 127, Shape), ("128 arrays", 128, NotJson)] {
-        let text = nested(rt.alloc(), depth)?;
-        check(is_refused(rt.alloc(), &text, fault), name)?;
+    for (name, depth, fault) in ARRAYS {
+        let text = nested(rt.alloc(), *depth)?;
+        check(is_refused(rt.alloc(), &text, *fault), *name)?;
     }
     Ok(())
 }

@@ -277,14 +277,12 @@ const TEXTS: &[(&'static str, Digits, &'static str)] = &[
     ("bcd87", Digits::Bcd, BCD87),
 ];
 
-#[test]
-fn writes_built_in_tables(rt: HostRuntime) -> Result<(), Fail> {
-    for (name, digits, lines) in TEXTS {
-        let expected = joined(rt.alloc(), *lines)?;
-        let table = table87(rt.alloc(), *digits)?;
-        check(is_written(rt.alloc(), &table, expected.as_str()), *name)?;
+/// Whether the lines, without their ends, are written of the table.
+fn is_written_of(alloc: Global, table: &Table, lines: &str) -> bool {
+    match joined(alloc, lines) {
+        Ok(line) => is_written(alloc, table, line.as_str()),
+        Err(_) => false,
     }
-    Ok(())
 }
 
 /// Whether both tables have the same row for the element, or none.
@@ -302,12 +300,18 @@ fn check_same(name: &str, read: &Table, table: &Table) -> Result<(), Fail> {
     Ok(())
 }
 
+/// That the lines are read as the table.
+fn check_read(alloc: Global, name: &str, lines: &str, table: &Table) -> Result<(), Fail> {
+    let read = read(alloc, lines.as_bytes())?;
+    check_same(name, &read, table)
+}
+
 #[test]
-fn reads_built_in_tables(rt: HostRuntime) -> Result<(), Fail> {
+fn built_in_tables_are_written_and_read(rt: HostRuntime) -> Result<(), Fail> {
     for (name, digits, lines) in TEXTS {
-        let read = read(rt.alloc(), lines.as_bytes())?;
         let table = table87(rt.alloc(), *digits)?;
-        check_same(*name, &read, &table)?;
+        check_of(is_written_of(rt.alloc(), &table, *lines), *name, "written")?;
+        check_read(rt.alloc(), *name, *lines, &table)?;
     }
     Ok(())
 }
