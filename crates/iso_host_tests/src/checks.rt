@@ -19,8 +19,11 @@ struct Line {
 
 impl Eprint for Line {
     fn eprint<D: Display + Drop>(&self, value: D) -> io::Result<()> {
-        let line = format!(in self.alloc; "{value}")?;
-        self.told.set(Some(line.as_str() == self.wanted));
+        let is_wanted = match format!(in self.alloc; "{value}") {
+            Ok(line) => line.as_str() == self.wanted,
+            Err(_) => false,
+        };
+        self.told.set(Some(is_wanted));
         Ok(())
     }
 
@@ -29,47 +32,40 @@ impl Eprint for Line {
     }
 }
 
-/// The status that a test ends with, and whether it is told by this line; none where nothing is told.
-fn reported(
-    alloc: Global,
-    ended: Result<(), Fail>,
-    wanted: &'static str,
-) -> (ExitCode, Option<bool>) {
+/// What is compared with a name, whether it is so, and the line that the test then fails with, where it does.
+const CHECKS: &[(Option<&str>, bool, Option<&str>)] = &[
+    (None, false, Some("a read")),
+    (Some("the bytes"), false, Some("a read: the bytes")),
+    (None, true, None),
+    (Some("the bytes"), true, None),
+];
+
+/// The check of a read.
+fn check_read(what: Option<&str>, is_so: bool) -> Result<(), Fail> {
+    match what {
+        Some(what) => check_of(is_so, "a read", what),
+        None => check(is_so, "a read"),
+    }
+}
+
+/// Whether the test fails, and is told by this line, or goes on, and nothing is told.
+fn is_reported(alloc: Global, ended: Result<(), Fail>, wanted: Option<&'static str>) -> bool {
     let line = Line {
         alloc,
-        wanted,
+        wanted: wanted.unwrap_or(""),
         told: Cell::new(None),
     };
-    let status = ended.report(&line);
-    (status, line.told.get())
-}
-
-/// Whether the test fails, and is told by this line.
-fn fails(alloc: Global, ended: Result<(), Fail>, wanted: &'static str) -> bool {
-    reported(alloc, ended, wanted) == (ExitCode::FAILURE, Some(true))
-}
-
-/// Whether the test goes on, and nothing is told.
-fn goes_on(alloc: Global, ended: Result<(), Fail>) -> bool {
-    reported(alloc, ended, "") == (ExitCode::SUCCESS, None)
+    let reported = (ended.report(&line), line.told.get());
+    if wanted.is_some() {
+        reported == (ExitCode::FAILURE, Some(true))
+    } else {
+        reported == (ExitCode::SUCCESS, None)
+    }
 }
 
 #[test]
 fn a_test_ends_with_what_is_not_so(rt: HostRuntime) {
-    let alloc = rt.alloc();
-    assert!(rt; fails(alloc, check(false, "a read"), "a read"));
-    assert!(rt;
-        fails(
-            alloc,
-            check_of(false, "a read", "the bytes"),
-            "a read: the bytes"
-        )
-    );
-}
-
-#[test]
-fn a_test_goes_on_where_it_is_so(rt: HostRuntime) {
-    let alloc = rt.alloc();
-    assert!(rt; goes_on(alloc, check(true, "a read")));
-    assert!(rt; goes_on(alloc, check_of(true, "a read", "the bytes")));
+    for (what, is_so, wanted) in CHECKS {
+        assert!(rt; is_reported(rt.alloc(), check_read(*what, *is_so), *wanted));
+    }
 }

@@ -1,10 +1,10 @@
-//! A day of frames, and a host that serves it. The day is a purchase, its repeat, three bytes that are no message, a second
-//! purchase, and the reversal of the first.
+//! A day of frames, and a host that serves it with each of its calls failing in turn. The day is a purchase, its repeat, three
+//! bytes that are no message, a second purchase, and the reversal of the first.
 
 use super::ends::{Reader, Writer};
 use super::frames::{
-    GRANTED, PURCHASE, REPEAT, REVERSAL, REVERSED, SECOND, SECOND_GRANTED, has_entered, issuer,
-    join, serving_end_between,
+    GRANTED, PURCHASE, REPEAT, REVERSAL, REVERSED, SECOND, SECOND_GRANTED, end_of, has_entered,
+    issuer, join,
 };
 use iso_host::{Report, ServeFault};
 use iso_issuer::Issuer;
@@ -13,8 +13,33 @@ use iso_wire::Header;
 use std::alloc::Global;
 use std::test::Fail;
 
+/// The frames of the day.
+const FRAMES: &[&[u8]] = &[
+    b"0082", PURCHASE, b"0082", REPEAT, b"0003abc", b"0082", SECOND, b"0101", REVERSAL,
+];
+
+/// The frames of the answers.
+const ANSWERS: &[&[u8]] = &[
+    b"0090",
+    GRANTED,
+    b"0090",
+    GRANTED,
+    b"0090",
+    SECOND_GRANTED,
+    b"0103",
+    REVERSED,
+];
+
+/// The report of the whole day.
+const WHOLE: Report = Report {
+    frames: 5,
+    answered: 4,
+    silent: 0,
+    unreadable: 1,
+};
+
 /// What stands once some frames of the day are handled.
-#[derive(Clone, Copy, Debug)]
+#[derive(Clone, Copy)]
 struct Mark {
     /// The bytes of these frames.
     read: usize,
@@ -64,192 +89,206 @@ const MARKS: &[Mark] = &[
     },
 ];
 
-/// The report of the whole day.
-pub const WHOLE: Report = Report {
-    frames: 5,
-    answered: 4,
-    silent: 0,
-    unreadable: 1,
-};
-
-/// The day: its frames, their answers, and the table that they are written in.
+/// The day: the table that it is written in, its frames, and their answers.
 #[derive(Drop)]
-pub struct Day {
+struct Day {
     table: Table,
-    pub frames: Vec<u8>,
+    frames: Vec<u8>,
     answers: Vec<u8>,
 }
 
 impl Day {
-    pub fn new(alloc: Global) -> Result<Day, Fail> {
+    fn new(alloc: Global) -> Result<Day, Fail> {
         Ok(Day {
             table: Table::ascii87(alloc)?,
-            frames: frames(alloc)?,
-            answers: answers(alloc)?,
+            frames: join(alloc, FRAMES)?,
+            answers: join(alloc, ANSWERS)?,
         })
     }
 }
 
-/// The frames of the day.
-fn frames(alloc: Global) -> Result<Vec<u8>, Fail> {
-    join(
-        alloc,
-        &[
-            b"0082", PURCHASE, b"0082", REPEAT, b"0003abc", b"0082", SECOND, b"0101", REVERSAL,
-        ],
-    )
-}
-
-/// The frames of the answers.
-fn answers(alloc: Global) -> Result<Vec<u8>, Fail> {
-    join(
-        alloc,
-        &[
-            b"0090",
-            GRANTED,
-            b"0090",
-            GRANTED,
-            b"0090",
-            SECOND_GRANTED,
-            b"0103",
-            REVERSED,
-        ],
-    )
-}
-
-/// Whether the issuer stands as at the mark.
-fn stands_at(issuer: &Issuer, mark: &Mark) -> Result<bool, Fail> {
-    has_entered(issuer, mark.ledger, mark.entries)
-}
-
-/// The last mark that so many bytes come up to.
-fn last_mark(read: usize) -> Mark {
-    let mut last = Mark {
-        read: 0,
-        written: 0,
-        ledger: 5000,
-        entries: 0,
-    };
-    for mark in MARKS {
-        if mark.read <= read {
-            last = *mark;
-        }
-    }
-    last
-}
-
-/// Whether the issuer stands as at some mark, and so many bytes lie between the answers up to the mark before it and those
-/// up to it.
-fn lies_at_a_mark(issuer: &Issuer, written: usize) -> Result<bool, Fail> {
-    let mut before = 0;
-    for mark in MARKS {
-        if stands_at(issuer, mark)? && before <= written && written <= mark.written {
-            return Ok(true);
-        }
-        before = mark.written;
-    }
-    Ok(false)
-}
-
-/// What serves the day: an issuer, a reader of its frames, and a writer.
+/// The day served once: how it ended, and its reader and its writer then.
 #[derive(Drop)]
-pub struct Host<'a> {
-    pub issuer: Issuer,
-    pub reader: Reader<'a>,
-    pub writer: Writer,
+struct Run<'a> {
+    ended: Option<Result<Report, ServeFault>>,
+    reader: Reader<'a>,
+    writer: Writer,
 }
 
-impl<'a> Host<'a> {
-    /// One whose read and whose write or flush of these numbers fail.
-    fn new(
-        alloc: Global,
-        day: &'a Day,
-        piece: usize,
-        failing: (u32, u32),
-    ) -> Result<Host<'a>, Fail> {
-        let writer = Writer::new(alloc, piece, failing.1)?;
-        Ok(Host {
-            issuer: issuer(alloc)?,
-            reader: Reader::new(&day.frames, piece, failing.0),
-            writer,
-        })
-    }
-
-    /// How serving the day ends.
-    fn serve(
-        &mut self,
-        alloc: Global,
-        day: &Day,
-        turns: u64,
-    ) -> Result<Result<Report, ServeFault>, Fail> {
-        serving_end_between(
-            alloc,
-            &day.table,
-            Header::Ascii4,
-            &mut self.issuer,
-            &mut self.reader,
-            &mut self.writer,
-            turns,
-        )
+/// The read that fails, the write or flush that does, and the turns, where serving is to end with this fault once so many
+/// calls are made. No call fails at 0.
+fn failing(fault: ServeFault, calls: u32) -> (u32, u32, u64) {
+    match fault {
+        ServeFault::Read => (calls.saturating_add(1), 0, 1000),
+        ServeFault::Write => (0, calls.saturating_add(1), 1000),
+        _ => (0, 0, u64::from(calls)),
     }
 }
 
-/// The day served once, and how it ended.
-#[derive(Drop)]
-pub struct Run<'a> {
-    pub host: Host<'a>,
-    pub ended: Result<Report, ServeFault>,
-}
-
-/// Serves the day. The read and the write or flush of these numbers fail.
-pub fn serve_day<'a>(
+/// Serves the day by that issuer, so that it ends with this fault once so many calls are made.
+fn serve_day<'a>(
     alloc: Global,
     day: &'a Day,
-    piece: usize,
-    failing: (u32, u32),
-    turns: u64,
-) -> Result<Run<'a>, Fail> {
-    let mut host = Host::new(alloc, day, piece, failing)?;
-    let ended = host.serve(alloc, day, turns)?;
-    Ok(Run { host, ended })
-}
-
-/// Whether all whole frames that were read are handled and answered, and no more.
-pub fn stands_as_read(run: &Run<'_>, day: &Day) -> Result<bool, Fail> {
-    let mark = last_mark(day.frames.len().saturating_sub(run.host.reader.bytes.len()));
-    let written = run.host.writer.taken.as_slice();
-    Ok(day.answers.get(..mark.written) == Some(written) && stands_at(&run.host.issuer, &mark)?)
-}
-
-/// Whether some frames are handled, and all of them but the last are answered, and no more.
-pub fn stands_as_written(run: &Run<'_>, day: &Day) -> Result<bool, Fail> {
-    let written = run.host.writer.taken.as_slice();
-    Ok(day.answers.starts_with(written) && lies_at_a_mark(&run.host.issuer, written.len())?)
-}
-
-/// How these frames end where no read fails and there are turns enough.
-pub fn end_of_frames(
-    alloc: Global,
-    table: &Table,
     issuer: &mut Issuer,
-    frames: &[u8],
-    writer: &mut Writer,
-) -> Result<Result<Report, ServeFault>, Fail> {
-    let mut reader = Reader::new(frames, 4096, 0);
-    serving_end_between(
+    piece: usize,
+    fault: ServeFault,
+    calls: u32,
+) -> Run<'a> {
+    let (read, write, turns) = failing(fault, calls);
+    let mut reader = Reader::new(&day.frames, piece, read);
+    let mut writer = Writer::new(alloc, piece, write);
+    let ended = end_of(
         alloc,
-        table,
+        &day.table,
         Header::Ascii4,
         issuer,
         &mut reader,
+        &mut writer,
+        turns,
+    );
+    Run {
+        ended,
+        reader,
         writer,
-        1000,
-    )
+    }
 }
 
-/// Whether the whole day gets its answers where it is sent once more to the same issuer.
-pub fn is_answered_again(alloc: Global, issuer: &mut Issuer, day: &Day) -> Result<bool, Fail> {
-    let mut writer = Writer::new(alloc, 4096, 0)?;
-    let ended = end_of_frames(alloc, &day.table, issuer, &day.frames, &mut writer)?;
-    Ok(ended == Ok(WHOLE) && writer.taken.as_slice() == day.answers.as_slice())
+/// How many calls were made, of those at which serving can end with this fault.
+fn calls_made(run: &Run<'_>, fault: ServeFault) -> u32 {
+    let (reads, writes) = (run.reader.reads, run.writer.writes);
+    match fault {
+        ServeFault::Read => reads,
+        ServeFault::Write => writes.saturating_add(run.writer.flushes),
+        _ => reads.saturating_add(writes),
+    }
+}
+
+/// Whether the issuer stands as at a mark, where so many bytes were read and so many are written. Where a read failed, that
+/// is the last mark that was read, and all answers up to it are written. Else it is any mark, and some bytes of the answers
+/// behind the mark before it may be missing.
+fn stands(issuer: &Issuer, fault: ServeFault, read: usize, written: usize) -> bool {
+    let mut stands = false;
+    let mut before = 0;
+    for mark in MARKS {
+        let has_entered = has_entered(issuer, mark.ledger, mark.entries);
+        if fault != ServeFault::Read {
+            stands = stands || has_entered && before <= written && written <= mark.written;
+        } else if mark.read <= read {
+            stands = has_entered && written == mark.written;
+        }
+        before = mark.written;
+    }
+    stands
+}
+
+/// Whether the day ended with this fault once so many calls were made, and stands as it should.
+fn has_ended(run: &Run<'_>, day: &Day, issuer: &Issuer, fault: ServeFault, calls: u32) -> bool {
+    let written = run.writer.taken.as_slice();
+    let read = day.frames.len().saturating_sub(run.reader.bytes.len());
+    run.ended == Some(Err(fault))
+        && (fault != ServeFault::TooManyTurns || calls_made(run, fault) == calls)
+        && day.answers.starts_with(written)
+        && stands(issuer, fault, read, written.len())
+}
+
+/// Whether the day was served whole.
+fn is_whole(run: &Run<'_>, day: &Day) -> bool {
+    run.ended == Some(Ok(WHOLE)) && run.writer.taken.as_slice() == day.answers.as_slice()
+}
+
+/// What comes of a day that is to end with a fault once so many calls are made.
+#[derive(Clone, Copy)]
+enum DayEnd {
+    /// It ends so, and stands as it should.
+    Fault,
+    /// It takes no more calls than these, and is served whole.
+    Whole,
+    /// It ends otherwise.
+    Wrong,
+}
+
+/// What came of the day.
+fn day_end(run: &Run<'_>, day: &Day, issuer: &Issuer, fault: ServeFault, calls: u32) -> DayEnd {
+    if has_ended(run, day, issuer, fault, calls) {
+        DayEnd::Fault
+    } else if is_whole(run, day) && calls_made(run, fault) == calls {
+        DayEnd::Whole
+    } else {
+        DayEnd::Wrong
+    }
+}
+
+/// What comes of the day, where it gets all its answers once it is sent again to the same issuer.
+fn serve_twice(
+    alloc: Global,
+    day: &Day,
+    issuer: &mut Issuer,
+    piece: usize,
+    fault: ServeFault,
+    calls: u32,
+) -> DayEnd {
+    let run = serve_day(alloc, day, issuer, piece, fault, calls);
+    let end = day_end(&run, day, issuer, fault, calls);
+    let again = serve_day(alloc, day, issuer, 4096, ServeFault::TooManyTurns, 1000);
+    if is_whole(&again, day) {
+        end
+    } else {
+        DayEnd::Wrong
+    }
+}
+
+/// What comes of it by an issuer of its own.
+fn serve_anew(
+    alloc: Global,
+    day: &Day,
+    piece: usize,
+    fault: ServeFault,
+    calls: u32,
+) -> Result<DayEnd, Fail> {
+    let mut issuer = issuer(alloc, false)?;
+    Ok(serve_twice(alloc, day, &mut issuer, piece, fault, calls))
+}
+
+/// The failure of a test where the day ends otherwise behind so many calls.
+fn wrong_end(piece: usize, fault: ServeFault, calls: u32) -> Fail {
+    Fail::new(format_args!("{piece} bytes a call: {fault} behind {calls} calls"))
+}
+
+/// Serves the day with this fault behind each count of calls, up to those that the whole day takes, where a call moves so
+/// many bytes.
+fn check_each_call(alloc: Global, day: &Day, piece: usize, fault: ServeFault) -> Result<(), Fail> {
+    for calls in 0..1000 {
+        match serve_anew(alloc, day, piece, fault, calls)? {
+            DayEnd::Fault => {}
+            DayEnd::Whole => return Ok(()),
+            DayEnd::Wrong => return Err(wrong_end(piece, fault, calls)),
+        }
+    }
+    Err(wrong_end(piece, fault, 1000))
+}
+
+/// Serves the day so in pieces of any size.
+fn check_each_piece(alloc: Global, day: &Day, fault: ServeFault) -> Result<(), Fail> {
+    for piece in 1..=day.frames.len().saturating_add(1) {
+        check_each_call(alloc, day, piece, fault)?;
+    }
+    Ok(())
+}
+
+#[test]
+fn each_write_and_flush_fails(rt: HostRuntime) -> Result<(), Fail> {
+    check_each_piece(rt.alloc(), &Day::new(rt.alloc())?, ServeFault::Write)
+}
+
+/// Serves the day with each of its reads failing in turn, and, in pieces of three sizes, with fewer turns than it takes.
+fn check_reads_and_turns(alloc: Global, day: &Day) -> Result<(), Fail> {
+    for piece in &[7, 64, 4096] {
+        check_each_call(alloc, day, *piece, ServeFault::TooManyTurns)?;
+    }
+    check_each_piece(alloc, day, ServeFault::Read)
+}
+
+#[test]
+fn each_read_fails_and_the_turns_are_spent(rt: HostRuntime) -> Result<(), Fail> {
+    check_reads_and_turns(rt.alloc(), &Day::new(rt.alloc())?)
 }

@@ -2,7 +2,7 @@
 ghost use Rattle.std.specs.Prelude.{Some};
 
 use iso_host::{Call, Failed, Inlet, Outlet, Tally};
-use std::alloc::{AllocError, Global};
+use std::alloc::Global;
 
 /// Gives at most so many bytes a read, and at least one. One of its reads fails, counted from 1; with 0 none does.
 #[derive(Drop)]
@@ -59,16 +59,15 @@ pub struct Writer {
 }
 
 impl Writer {
-    /// A writer with room for 1,000 bytes.
-    pub fn new(alloc: Global, piece: usize, fails_at: u32) -> Result<Writer, AllocError> {
-        Ok(Writer {
-            taken: Vec::with_capacity(alloc, 1000)?,
+    pub fn new(alloc: Global, piece: usize, fails_at: u32) -> Writer {
+        Writer {
+            taken: Vec::new(alloc),
             piece,
             fails_at,
             writes: 0,
             flushes: 0,
             tally: Tally::new(),
-        })
+        }
     }
 }
 

@@ -13,14 +13,10 @@ const NUMBERS: &[(&str, ServeFault, u8)] = &[
     ("too many turns", ServeFault::TooManyTurns, 6),
 ];
 
-fn has_number(fault: ServeFault, number: u8) -> bool {
-    fault.number() == number
-}
-
 #[test]
 fn each_fault_has_its_number() -> Result<(), Fail> {
     for (name, fault, number) in NUMBERS {
-        check(has_number(*fault, *number), *name)?;
+        check(fault.number() == *number, *name)?;
     }
     Ok(())
 }

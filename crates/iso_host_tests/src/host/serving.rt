@@ -1,295 +1,391 @@
-//! Streams of frames whose bytes are known from outside.
+//! Sessions whose bytes are known from outside.
 
-use super::check_at;
 use super::frames::{
-    ECHO, ECHOED, GRANTED, PURCHASE, REPEAT, SECOND, SECOND_GRANTED, Session, SessionEnd,
-    serve_once, serve_pieces,
+    ECHO, ECHOED, GRANTED, PURCHASE, REPEAT, REVERSAL, REVERSED, SECOND, SECOND_GRANTED, THIRD,
+    THIRD_REFUSED,
 };
-use iso_fakes::{check, check_of};
+use super::sessions::{
+    NO_FRAMES, NOTHING, ONE_ANSWERED, ONE_UNREADABLE, SECOND_ANSWERED, Session, TWO_ANSWERED,
+};
 use iso_host::{Report, ServeFault};
-use std::alloc::Global;
-use std::test::Fail;
+use iso_wire::Header;
 
-/// Five frames: one of them is silent, and one has no message.
-const FRAMES: &[&[u8]] = &[
-    b"0082", PURCHASE, b"0082", REPEAT, b"0090", GRANTED, b"0003abc", b"0055", ECHO,
-];
-
-/// The frames of their answers.
-const ANSWERS: &[&[u8]] = &[b"0090", GRANTED, b"0090", GRANTED, b"0057", ECHOED];
-
-/// The report of the five frames that are served in pieces.
-const FIVE: Report = Report {
-    frames: 5,
-    answered: 3,
-    silent: 1,
-    unreadable: 1,
+/// One unreadable body, in reads of four sizes.
+const UNREADABLE: Session = Session {
+    moves: &[(1, 5000), (7, 5000), (59, 5000), (5000, 5000)],
+    ended: Ok(ONE_UNREADABLE),
+    ..NOTHING
 };
 
-/// Serves the five frames, where a read and a write move so many bytes.
-fn serve_five(alloc: Global, piece: usize) -> Result<SessionEnd, Fail> {
-    let session = Session {
-        piece,
-        taken: piece,
-        ..Session::new(b"")
-    };
-    serve_pieces(alloc, FRAMES, session)
-}
+/// An unreadable body and an echo test behind it, in reads of four sizes.
+const BEFORE_ECHO: Session = Session {
+    ended: Ok(SECOND_ANSWERED),
+    written: &[b"0057", ECHOED],
+    flushes: 1,
+    ..UNREADABLE
+};
 
-/// Compares what comes of the five frames, where a read and a write move so many bytes.
-fn check_five(alloc: Global, piece: usize) -> Result<(), Fail> {
-    let outcome = serve_five(alloc, piece)?;
-    let is_written = outcome.is_of(alloc, Ok(FIVE), ANSWERS)?;
-    check_at(is_written, piece, "the end and what is written")?;
-    check_at(outcome.flushes == 3, piece, "the flushes")?;
-    check_at(outcome.ledger == Some(4000), piece, "the ledger")
-}
+/// A frame behind two bytes that is cut.
+const CUT: Session = Session {
+    header: Header::Binary2,
+    moves: &[(3, 5000)],
+    ended: Err(ServeFault::CutFrame),
+    ..NOTHING
+};
 
-#[test]
-fn serves_in_pieces_of_any_size(rt: HostRuntime) -> Result<(), Fail> {
-    for piece in &[1usize, 7, 86, 5000] {
-        check_five(rt.alloc(), *piece)?;
-    }
-    Ok(())
-}
+/// Two echo tests, in reads of one frame.
+const TWO_ECHOES: Session = Session {
+    sent: &[b"0055", ECHO, b"0055", ECHO],
+    moves: &[(59, 5000)],
+    reads: 9,
+    writes: 9,
+    ended: Err(ServeFault::TooManyTurns),
+    ..NOTHING
+};
 
-/// How many frames are answered, or how serving ends else.
-fn answered(end: &SessionEnd) -> Result<u64, ServeFault> {
-    match end.ended {
-        Ok(report) => Ok(report.answered),
-        Err(fault) => Err(fault),
-    }
-}
+/// A purchase that is entered, but for which serving ends with a fault.
+const FAULTY_PURCHASE: Session = Session {
+    sent: &[b"0082", PURCHASE],
+    moves: &[(200, 200)],
+    reads: 9,
+    writes: 9,
+    turns: 99,
+    ended: Err(ServeFault::Write),
+    ledger: 4000,
+    entries: 1,
+    ..NOTHING
+};
 
-#[test]
-fn writes_a_response_at_once(rt: HostRuntime) -> Result<(), Fail> {
-    let session = Session {
+/// Bytes that end inside a frame.
+const CUT_FRAME: Session = Session {
+    moves: &[(200, 200)],
+    reads: 9,
+    writes: 9,
+    turns: 99,
+    ended: Err(ServeFault::CutFrame),
+    ..NOTHING
+};
+
+/// A purchase whose answer is whole, by an issuer to which it was sent before.
+const SENT_AGAIN: Session = Session {
+    name: "a purchase whose answer was cut, sent again",
+    sent: &[b"0082", PURCHASE],
+    ended: Ok(ONE_ANSWERED),
+    written: &[b"0090", GRANTED],
+    flushes: 1,
+    ledger: 4000,
+    entries: 1,
+    ..NOTHING
+};
+
+/// The longest body behind two bytes, of zeros, and of bytes that are no digits.
+const ZEROS: &[u8] = &[b'0'; 65_535];
+
+const NO_DIGITS: &[u8] = &[0xFF; 65_535];
+
+/// A message and three bytes behind it.
+const LONGER_ECHO: &[u8] = b"0800822000000000000004000000000000000102030405000001301XYZ";
+
+/// The front of an echo test: all of it but a byte.
+const SHORTER_ECHO: &[u8] = b"080082200000000000000400000000000000010203040500000130";
+
+/// The sessions, each under a name that says what it is about.
+pub const SESSIONS: &[Session] = &[
+    // bodies that are no message
+    Session {
+        name: "no bytes",
+        sent: &[b"0000"],
+        ..UNREADABLE
+    },
+    Session {
+        name: "no message",
+        sent: &[b"0003", b"abc"],
+        ..UNREADABLE
+    },
+    Session {
+        name: "a message type with a letter",
+        sent: &[b"0006", b"08A0xy"],
+        ..UNREADABLE
+    },
+    Session {
+        name: "a message and three bytes",
+        sent: &[b"0058", LONGER_ECHO],
+        ..UNREADABLE
+    },
+    Session {
+        name: "a front of a message",
+        sent: &[b"0054", SHORTER_ECHO],
+        ..UNREADABLE
+    },
+    Session {
+        name: "behind no bytes",
+        sent: &[b"0000", b"0055", ECHO],
+        ..BEFORE_ECHO
+    },
+    Session {
+        name: "behind a message type with a letter",
+        sent: &[b"0006", b"08A0xy", b"0055", ECHO],
+        ..BEFORE_ECHO
+    },
+    Session {
+        name: "behind a message and three bytes",
+        sent: &[b"0058", LONGER_ECHO, b"0055", ECHO],
+        ..BEFORE_ECHO
+    },
+    Session {
+        name: "behind a front of a message",
+        sent: &[b"0054", SHORTER_ECHO, b"0055", ECHO],
+        ..BEFORE_ECHO
+    },
+    Session {
+        name: "a purchase behind an unreadable body",
+        sent: &[b"0003abc0082", PURCHASE],
+        moves: &[(1, 5000), (5, 5000), (5000, 5000)],
+        ended: Ok(SECOND_ANSWERED),
+        written: &[b"0090", GRANTED],
+        flushes: 1,
+        ledger: 4000,
+        entries: 1,
+        ..NOTHING
+    },
+    Session {
+        name: "the longest body, of zeros",
+        header: Header::Binary2,
+        sent: &[b"\xFF\xFF", ZEROS],
+        ended: Ok(ONE_UNREADABLE),
+        ..NOTHING
+    },
+    Session {
+        name: "the longest body, of bytes that are no digits",
+        header: Header::Binary2,
+        sent: &[b"\xFF\xFF", NO_DIGITS],
+        ended: Ok(ONE_UNREADABLE),
+        ..NOTHING
+    },
+    // a long body that is cut
+    Session {
+        name: "ten zeros",
+        sent: &[b"\xFF\xFF0000000000"],
+        ..CUT
+    },
+    Session {
+        name: "a front of a message behind two bytes",
+        sent: &[b"\xFF\xFF0800822000"],
+        ..CUT
+    },
+    Session {
+        name: "no message behind two bytes",
+        sent: &[b"\xFF\xFF\xFF\xFF\xFF\xFF"],
+        ..CUT
+    },
+    Session {
+        name: "no byte behind two bytes",
+        sent: &[b"\xFF\xFF"],
+        ..CUT
+    },
+    Session {
+        name: "half a header of two bytes",
+        sent: &[b"\xFF"],
+        ..CUT
+    },
+    // frames that are answered, one after the other
+    Session {
+        name: "a purchase, a repeat and a reversal",
+        sent: &[b"0082", PURCHASE, b"0082", REPEAT, b"0101", REVERSAL],
+        moves: &[(1, 5000), (5000, 5000)],
+        ended: Ok(Report {
+            frames: 3,
+            answered: 3,
+            ..NO_FRAMES
+        }),
+        written: &[b"0090", GRANTED, b"0090", GRANTED, b"0103", REVERSED],
+        flushes: 3,
+        entries: 2,
+        ..NOTHING
+    },
+    Session {
+        name: "five frames, one of them silent and one unreadable",
+        sent: &[
+            b"0082", PURCHASE, b"0082", REPEAT, b"0090", GRANTED, b"0003abc", b"0055", ECHO,
+        ],
+        moves: &[(1, 1), (7, 7), (86, 86), (5000, 5000)],
+        ended: Ok(Report {
+            frames: 5,
+            answered: 3,
+            silent: 1,
+            unreadable: 1,
+        }),
+        written: &[b"0090", GRANTED, b"0090", GRANTED, b"0057", ECHOED],
+        flushes: 3,
+        ledger: 4000,
+        entries: 1,
+        ..NOTHING
+    },
+    Session {
+        name: "an answer in one write",
+        sent: &[b"0055", ECHO],
         reads: 2,
         writes: 1,
         turns: 3,
-        ..Session::new(b"")
-    };
-    let outcome = serve_pieces(rt.alloc(), &[b"0055", ECHO], session)?;
-    check(answered(&outcome) == Ok(1), "the frames that are answered")?;
-    check(outcome.left == 0, "the writes that are left")
-}
-
-/// Frames whose serving ends with a fault: how many reads and writes are made, how many bytes a write takes, the turns,
-/// and what comes of it.
-#[derive(Drop)]
-struct Ending {
-    name: &'static str,
-    sent: &'static [&'static [u8]],
-    reads: u32,
-    taken: usize,
-    writes: u32,
-    turns: u64,
-    fault: ServeFault,
-    written: &'static [&'static [u8]],
-    left: i64,
-}
-
-const ENDINGS: &[Ending] = &[
-    Ending {
-        name: "a failing read",
-        sent: &[b"0082", PURCHASE],
-        reads: 1,
-        taken: 200,
-        writes: 9,
-        turns: 99,
-        fault: ServeFault::Read,
-        written: &[b"0090", GRANTED],
-        left: 4000,
+        ended: Ok(ONE_ANSWERED),
+        written: &[b"0057", ECHOED],
+        left: Some(0),
+        flushes: 1,
+        ..NOTHING
     },
-    Ending {
-        name: "a failing write",
-        sent: &[b"0082", PURCHASE],
-        reads: 9,
-        taken: 10,
+    Session {
+        name: "interruptions take no turn",
+        sent: &[b"0055", ECHO],
+        interruptions: 2,
+        reads: 2,
         writes: 1,
-        turns: 99,
-        fault: ServeFault::Write,
-        written: &[b"0090021072"],
-        left: 4000,
+        turns: 3,
+        ended: Ok(ONE_ANSWERED),
+        written: &[b"0057", ECHOED],
+        flushes: 1,
+        ..NOTHING
     },
-    Ending {
-        name: "a writer that takes nothing",
-        sent: &[b"0082", PURCHASE],
-        reads: 9,
-        taken: 0,
-        writes: 9,
-        turns: 99,
-        fault: ServeFault::Write,
-        written: &[],
-        left: 4000,
-    },
-    Ending {
-        name: "a turn too few",
-        sent: &[b"0082", PURCHASE],
-        reads: 9,
-        taken: 200,
-        writes: 9,
+    Session {
+        name: "nothing, in one read",
+        reads: 1,
+        writes: 0,
         turns: 1,
-        fault: ServeFault::TooManyTurns,
-        written: &[],
-        left: 4000,
+        ..NOTHING
     },
-    Ending {
-        name: "no turn",
-        sent: &[],
+    Session {
+        name: "a full journal answers 96",
+        sent: &[
+            b"0082", PURCHASE, b"0082", SECOND, b"0082", THIRD, b"0082", REPEAT,
+        ],
+        moves: &[(4096, 4096)],
         reads: 9,
-        taken: 200,
         writes: 9,
-        turns: 0,
-        fault: ServeFault::TooManyTurns,
-        written: &[],
-        left: 5000,
+        turns: 99,
+        is_small: true,
+        ended: Ok(Report {
+            frames: 4,
+            answered: 4,
+            ..NO_FRAMES
+        }),
+        written: &[
+            b"0090",
+            GRANTED,
+            b"0090",
+            SECOND_GRANTED,
+            b"0084",
+            THIRD_REFUSED,
+            b"0090",
+            GRANTED,
+        ],
+        flushes: 4,
+        ledger: 3000,
+        entries: 2,
+        ..NOTHING
     },
-    Ending {
+    // faults
+    Session {
+        name: "a failing read",
+        reads: 1,
+        ended: Err(ServeFault::Read),
+        written: &[b"0090", GRANTED],
+        flushes: 1,
+        ..FAULTY_PURCHASE
+    },
+    Session {
+        name: "a failing write",
+        moves: &[(200, 10)],
+        writes: 1,
+        written: &[b"0090021072"],
+        ..FAULTY_PURCHASE
+    },
+    Session {
+        name: "an answer that is cut and comes again",
+        moves: &[(10, 10)],
+        reads: 1000,
+        writes: 1,
+        turns: 1000,
+        written: &[b"0090021072"],
+        then: Some(&SENT_AGAIN),
+        ..FAULTY_PURCHASE
+    },
+    Session {
+        name: "a writer that takes nothing",
+        moves: &[(200, 0)],
+        ..FAULTY_PURCHASE
+    },
+    Session {
+        name: "a turn too few",
+        turns: 1,
+        ended: Err(ServeFault::TooManyTurns),
+        ..FAULTY_PURCHASE
+    },
+    Session {
+        name: "no turn",
+        turns: 0,
+        ended: Err(ServeFault::TooManyTurns),
+        ..CUT_FRAME
+    },
+    Session {
         name: "no digits",
         sent: &[b"00A2"],
-        reads: 9,
-        taken: 200,
-        writes: 9,
-        turns: 99,
-        fault: ServeFault::BadHeader,
-        written: &[],
-        left: 5000,
+        ended: Err(ServeFault::BadHeader),
+        ..CUT_FRAME
     },
-    Ending {
+    Session {
         name: "a cut frame",
         sent: &[b"00820123456789"],
-        reads: 9,
-        taken: 200,
-        writes: 9,
-        turns: 99,
-        fault: ServeFault::CutFrame,
-        written: &[],
-        left: 5000,
+        ..CUT_FRAME
     },
-    Ending {
+    Session {
         name: "a cut header",
         sent: &[b"008"],
-        reads: 9,
-        taken: 200,
-        writes: 9,
-        turns: 99,
-        fault: ServeFault::CutFrame,
-        written: &[],
-        left: 5000,
+        ..CUT_FRAME
     },
-];
-
-/// Serves the frames of such a case.
-fn serve_to_end(alloc: Global, case: &Ending) -> Result<SessionEnd, Fail> {
-    let session = Session {
-        piece: 200,
-        reads: case.reads,
-        taken: case.taken,
-        writes: case.writes,
-        turns: case.turns,
-        ..Session::new(b"")
-    };
-    serve_pieces(alloc, case.sent, session)
-}
-
-/// Compares what comes of the frames of such a case.
-fn ends_so(alloc: Global, case: &Ending) -> Result<(), Fail> {
-    let outcome = serve_to_end(alloc, case)?;
-    let is_written = outcome.is_of(alloc, Err(case.fault), case.written)?;
-    check_of(is_written, case.name, "the end and what is written")?;
-    check_of(outcome.ledger == Some(case.left), case.name, "the ledger")
-}
-
-#[test]
-fn ends_where_a_stream_does(rt: HostRuntime) -> Result<(), Fail> {
-    for case in ENDINGS {
-        ends_so(rt.alloc(), case)?;
-    }
-    Ok(())
-}
-
-#[test]
-fn a_failing_flush_is_a_failing_write(rt: HostRuntime) -> Result<(), Fail> {
-    let session = Session {
+    Session {
+        name: "a failing flush is a failing write",
+        sent: &[b"0055", ECHO],
         reads: 9,
         writes: 9,
         fails_to_flush: true,
         turns: 99,
-        ..Session::new(b"")
-    };
-    let outcome = serve_pieces(rt.alloc(), &[b"0055", ECHO], session)?;
-    check(outcome.ended == Err(ServeFault::Write), "the end")?;
-    check(outcome.written.len() == 61, "how much is written")
-}
-
-#[test]
-fn nothing_to_serve(rt: HostRuntime) -> Result<(), Fail> {
-    let session = Session {
-        reads: 1,
-        writes: 0,
+        ended: Err(ServeFault::Write),
+        written: &[b"0057", ECHOED],
+        flushes: 1,
+        ..NOTHING
+    },
+    // a frame is answered before the next is read
+    Session {
+        name: "a read",
         turns: 1,
-        ..Session::new(b"")
-    };
-    let outcome = serve_once(rt.alloc(), session)?;
-    let report = Report {
-        frames: 0,
-        answered: 0,
-        silent: 0,
-        unreadable: 0,
-    };
-    check(outcome.ended == Ok(report), "the end")
-}
-
-/// A third purchase, and the answer to it where the journal takes two orders.
-const THIRD: &[u8] =
-    b"0200722000010000800016411111111111111100000000000000100001020304050000110512345840";
-
-const THIRD_REFUSED: &[u8] =
-    b"021072200001020080001641111111111111110000000000000010000102030405000011051234596840";
-
-/// A purchase, two others and its repeat, each in its frame.
-const THREE_PURCHASES: &[&[u8]] = &[
-    b"0082", PURCHASE, b"0082", SECOND, b"0082", THIRD, b"0082", REPEAT,
+        ..TWO_ECHOES
+    },
+    Session {
+        name: "a read and a write",
+        turns: 2,
+        written: &[b"0057", ECHOED],
+        flushes: 1,
+        ..TWO_ECHOES
+    },
+    Session {
+        name: "two reads and a write",
+        turns: 3,
+        written: &[b"0057", ECHOED],
+        flushes: 1,
+        ..TWO_ECHOES
+    },
+    Session {
+        name: "two reads and two writes",
+        turns: 4,
+        written: &[b"0057", ECHOED, b"0057", ECHOED],
+        flushes: 2,
+        ..TWO_ECHOES
+    },
+    Session {
+        name: "and the read at the end",
+        turns: 5,
+        ended: Ok(TWO_ANSWERED),
+        written: &[b"0057", ECHOED, b"0057", ECHOED],
+        flushes: 2,
+        ..TWO_ECHOES
+    },
 ];
-
-/// The answers to them, where the journal takes two orders.
-const TWO_GRANTED: &[&[u8]] = &[
-    b"0090",
-    GRANTED,
-    b"0090",
-    SECOND_GRANTED,
-    b"0084",
-    THIRD_REFUSED,
-    b"0090",
-    GRANTED,
-];
-
-/// Serves with a journal that takes two orders.
-fn serve_small(alloc: Global, frames: &[&[u8]]) -> Result<SessionEnd, Fail> {
-    let session = Session {
-        piece: 4096,
-        reads: 9,
-        taken: 4096,
-        writes: 9,
-        turns: 99,
-        is_small: true,
-        ..Session::new(b"")
-    };
-    serve_pieces(alloc, frames, session)
-}
-
-#[test]
-fn a_full_journal_answers_ninety_six(rt: HostRuntime) -> Result<(), Fail> {
-    let outcome = serve_small(rt.alloc(), THREE_PURCHASES)?;
-    let report = Report {
-        frames: 4,
-        answered: 4,
-        silent: 0,
-        unreadable: 0,
-    };
-    let is_written = outcome.is_of(rt.alloc(), Ok(report), TWO_GRANTED)?;
-    check(is_written, "the end and what is written")?;
-    check(outcome.entries == 2, "the entries")?;
-    check(outcome.ledger == Some(3000), "the ledger")
-}

@@ -1,14 +1,16 @@
-//! Streams in memory, whole and failing.
+//! Streams in memory, whole, failing and interrupted.
 
-use iso_fakes::{FewBytes, FewTaken, check};
+use iso_fakes::{FewBytes, FewTaken, Interrupted, check, check_of};
 use iso_host::{Failed, Inlet, Outlet, Std, write_all};
 use std::alloc::Global;
 use std::test::Fail;
 
-/// Whether a read answers so.
-fn reads<R: Inlet>(reader: &mut R, buffer: &mut [u8], answer: Result<usize, Failed>) -> bool {
-    reader.read(buffer) == answer
-}
+/// The bytes that a call writes to a vector, how many a call reads of five, and what a buffer of three then holds.
+const MOVES: &[(&str, &[u8], usize, &[u8; 3])] = &[
+    ("the first call", b"abc", 3, b"abc"),
+    ("the second call", b"", 2, b"dec"),
+    ("the call at the end", b"de", 0, b"dec"),
+];
 
 /// Whether a read answers with so many bytes, and the buffer then holds these.
 fn reads_into<R: Inlet>(
@@ -17,105 +19,202 @@ fn reads_into<R: Inlet>(
     count: usize,
     held: &[u8; 3],
 ) -> bool {
-    reads(reader, buffer, Ok(count)) && *buffer == *held
+    reader.read(buffer) == Ok(count) && *buffer == *held
 }
 
-#[test]
-fn reads_a_slice() -> Result<(), Fail> {
-    let mut reader = Std::new(b"abcde".as_slice());
+/// Whether a write takes all these bytes.
+fn takes_all<W: Outlet>(writer: &mut W, bytes: &[u8]) -> bool {
+    writer.write(bytes) == Ok(bytes.len())
+}
+
+/// Compares what reads of a slice and writes to a vector answer, and a flush.
+fn check_moves(slice: &[u8], vector: &mut Vec<u8>) -> Result<(), Fail> {
+    let mut reader = Std::new(slice);
+    let mut writer = Std::new(vector);
     let mut buffer = [0u8; 3];
-    let is_first = reads_into(&mut reader, &mut buffer, 3, b"abc");
-    let is_second = reads_into(&mut reader, &mut buffer, 2, b"dec");
-    let is_end = reads(&mut reader, &mut buffer, Ok(0));
-    check(is_first, "the first read")?;
-    check(is_second, "the second read")?;
-    check(is_end, "the read at the end")
-}
-
-/// Whether a write of these bytes answers so.
-fn writes<W: Outlet>(writer: &mut W, bytes: &[u8], answer: Result<usize, Failed>) -> bool {
-    writer.write(bytes) == answer
-}
-
-/// Whether a flush answers so.
-fn flushes<W: Outlet>(writer: &mut W, answer: Result<(), Failed>) -> bool {
-    writer.flush() == answer
-}
-
-/// Whether writes of three bytes, none and two answer so, and a flush.
-fn writes_five<W: Outlet>(writer: &mut W) -> bool {
-    writes(writer, b"abc", Ok(3))
-        && writes(writer, b"", Ok(0))
-        && writes(writer, b"de", Ok(2))
-        && flushes(writer, Ok(()))
+    for (name, bytes, count, held) in MOVES {
+        let is_read = reads_into(&mut reader, &mut buffer, *count, *held);
+        let is_written = takes_all(&mut writer, *bytes);
+        check(is_read && is_written, *name)?;
+    }
+    check(writer.flush() == Ok(()), "the flush")
 }
 
 #[test]
-fn writes_to_a_vector(rt: HostRuntime) -> Result<(), Fail> {
+fn reads_a_slice_and_writes_to_a_vector(rt: HostRuntime) -> Result<(), Fail> {
     let mut held = Vec::new(rt.alloc());
-    check(writes_five(&mut Std::new(&mut held)), "the answers")?;
+    check_moves(b"abcde", &mut held)?;
     check(held.as_slice() == b"abcde".as_slice(), "what is held")
 }
 
-/// A call: how many bytes it moves at most, how many calls there are, and what it answers.
-type Call = (&'static str, usize, u32, Result<usize, Failed>);
+/// A read and a write of five bytes, and a flush, each by a stream of its own.
+#[derive(Clone, Copy)]
+struct Call {
+    name: &'static str,
+    /// How often the stream is interrupted before it is called.
+    times: u32,
+    /// How many bytes a call moves at most.
+    piece: usize,
+    /// How many reads or writes there are before one fails. With none, a flush fails too.
+    calls: u32,
+    /// What the read answers, and what a buffer of eight bytes then holds.
+    read: Result<usize, Failed>,
+    held: &'static [u8; 8],
+    /// What the write answers, and what is taken.
+    write: Result<usize, Failed>,
+    taken: &'static [u8],
+    /// What the flush answers, and how many flushes the stream sees.
+    flush: Result<(), Failed>,
+    flushes: u32,
+    /// How many interruptions are left of each stream.
+    left: u32,
+}
 
-const READS_OF_FIVE: &[Call] = &[
-    ("whole", 9, 1, Ok(5)),
-    ("two bytes at a time", 2, 1, Ok(2)),
-    ("no byte", 0, 1, Ok(0)),
-    ("failing", 9, 0, Err(Failed)),
+/// A call that is answered.
+const ANSWERED: Call = Call {
+    name: "answered",
+    times: 0,
+    piece: 9,
+    calls: 1,
+    read: Ok(5),
+    held: b"abcde\0\0\0",
+    write: Ok(5),
+    taken: b"abcde",
+    flush: Ok(()),
+    flushes: 1,
+    left: 0,
+};
+
+/// A call that fails.
+const FAILED: Call = Call {
+    read: Err(Failed),
+    held: b"\0\0\0\0\0\0\0\0",
+    write: Err(Failed),
+    taken: b"",
+    flush: Err(Failed),
+    flushes: 0,
+    ..ANSWERED
+};
+
+const CALLS: &[Call] = &[
+    Call {
+        name: "whole, and never interrupted",
+        ..ANSWERED
+    },
+    Call {
+        name: "two bytes at a time",
+        piece: 2,
+        read: Ok(2),
+        held: b"ab\0\0\0\0\0\0",
+        write: Ok(2),
+        taken: b"ab",
+        ..ANSWERED
+    },
+    Call {
+        name: "no byte read, and none taken of some",
+        piece: 0,
+        read: Ok(0),
+        held: b"\0\0\0\0\0\0\0\0",
+        write: Err(Failed),
+        taken: b"",
+        ..ANSWERED
+    },
+    Call {
+        name: "failing",
+        calls: 0,
+        flushes: 1,
+        ..FAILED
+    },
+    Call {
+        name: "interrupted once",
+        times: 1,
+        ..ANSWERED
+    },
+    Call {
+        name: "interrupted twice",
+        times: 2,
+        ..ANSWERED
+    },
+    Call {
+        name: "interrupted 999 times",
+        times: 999,
+        ..ANSWERED
+    },
+    Call {
+        name: "interrupted 1,000 times",
+        times: 1000,
+        ..FAILED
+    },
+    Call {
+        name: "interrupted without end",
+        times: 9000,
+        left: 8000,
+        ..FAILED
+    },
+    Call {
+        name: "interrupted once, and then it fails",
+        times: 1,
+        calls: 0,
+        flushes: 1,
+        ..FAILED
+    },
 ];
 
-fn is_read(piece: usize, calls: u32, answer: Result<usize, Failed>) -> bool {
+/// Whether the read answers so.
+fn is_read(call: &Call) -> bool {
     let few = FewBytes {
         bytes: b"abcde",
-        piece,
-        calls,
+        piece: call.piece,
+        calls: call.calls,
     };
-    let mut reader = Std::new(few);
+    let mut reader = Interrupted {
+        stream: few,
+        times: call.times,
+    };
     let mut buffer = [0u8; 8];
-    reader.read(&mut buffer) == answer
+    let answer = Std::new(&mut reader).read(&mut buffer);
+    answer == call.read && buffer == *call.held && reader.times == call.left
+}
+
+/// The writer of a call.
+fn writer(alloc: Global, call: &Call) -> Interrupted<FewTaken> {
+    Interrupted {
+        stream: FewTaken::new(alloc, call.piece, call.calls, call.calls == 0),
+        times: call.times,
+    }
+}
+
+/// Whether the write answers so.
+fn is_written(alloc: Global, call: &Call) -> bool {
+    let mut writer = writer(alloc, call);
+    let answer = Std::new(&mut writer).write(b"abcde");
+    let taken = writer.stream.taken.as_slice();
+    answer == call.write && taken == call.taken && writer.times == call.left
+}
+
+/// Whether the flush answers so.
+fn is_flushed(alloc: Global, call: &Call) -> bool {
+    let mut writer = writer(alloc, call);
+    let answer = Std::new(&mut writer).flush();
+    let flushes = writer.stream.flushes;
+    answer == call.flush && flushes == call.flushes && writer.times == call.left
 }
 
 #[test]
-fn each_read_answers_as_the_stream_does() -> Result<(), Fail> {
-    for (name, piece, calls, answer) in READS_OF_FIVE {
-        check(is_read(*piece, *calls, *answer), *name)?;
+fn each_call_answers_as_the_stream_does(rt: HostRuntime) -> Result<(), Fail> {
+    for call in CALLS {
+        check_of(is_read(call), call.name, "the read")?;
+        check_of(is_written(rt.alloc(), call), call.name, "the write")?;
+        check_of(is_flushed(rt.alloc(), call), call.name, "the flush")?;
     }
     Ok(())
 }
 
-const WRITES_OF_FIVE: &[Call] = &[
-    ("whole", 9, 1, Ok(5)),
-    ("two bytes at a time", 2, 1, Ok(2)),
-    ("none taken of some", 0, 1, Err(Failed)),
-    ("failing", 9, 0, Err(Failed)),
-];
-
-fn is_written(alloc: Global, piece: usize, calls: u32, answer: Result<usize, Failed>) -> bool {
-    let mut writer = Std::new(FewTaken::new(alloc, piece, calls, false));
-    writes(&mut writer, b"abcde", answer)
-}
-
-/// Whether the flush of a writer whose flushes fail answers so.
-fn is_flushed(alloc: Global, answer: Result<(), Failed>) -> bool {
-    let mut writer = Std::new(FewTaken::new(alloc, 9, 9, true));
-    flushes(&mut writer, answer)
-}
-
-#[test]
-fn each_write_answers_as_the_stream_does(rt: HostRuntime) -> Result<(), Fail> {
-    for (name, piece, calls, answer) in WRITES_OF_FIVE {
-        check(is_written(rt.alloc(), *piece, *calls, *answer), *name)?;
-    }
-    check(is_flushed(rt.alloc(), Err(Failed)), "a failing flush")
-}
-
-/// A writer, what writing seven bytes whole to it answers, and what it then has taken.
+/// A writer, what writing these bytes whole to it answers, and what it then has taken.
 #[derive(Drop)]
 struct Whole {
     name: &'static str,
+    bytes: &'static [u8],
     piece: usize,
     calls: u32,
     fails_to_flush: bool,
@@ -127,6 +226,7 @@ struct Whole {
 const WHOLES: &[Whole] = &[
     Whole {
         name: "at once",
+        bytes: b"abcdefg",
         piece: 9,
         calls: 1,
         fails_to_flush: false,
@@ -136,6 +236,7 @@ const WHOLES: &[Whole] = &[
     },
     Whole {
         name: "three bytes a call",
+        bytes: b"abcdefg",
         piece: 3,
         calls: 3,
         fails_to_flush: false,
@@ -145,6 +246,7 @@ const WHOLES: &[Whole] = &[
     },
     Whole {
         name: "fails at the third call",
+        bytes: b"abcdefg",
         piece: 3,
         calls: 2,
         fails_to_flush: false,
@@ -154,6 +256,7 @@ const WHOLES: &[Whole] = &[
     },
     Whole {
         name: "fails at once",
+        bytes: b"abcdefg",
         piece: 3,
         calls: 0,
         fails_to_flush: false,
@@ -163,6 +266,7 @@ const WHOLES: &[Whole] = &[
     },
     Whole {
         name: "takes none",
+        bytes: b"abcdefg",
         piece: 0,
         calls: 9,
         fails_to_flush: false,
@@ -172,6 +276,7 @@ const WHOLES: &[Whole] = &[
     },
     Whole {
         name: "fails to flush",
+        bytes: b"abcdefg",
         piece: 9,
         calls: 9,
         fails_to_flush: true,
@@ -179,38 +284,30 @@ const WHOLES: &[Whole] = &[
         taken: b"abcdefg",
         flushes: 1,
     },
+    Whole {
+        name: "no bytes",
+        bytes: b"",
+        piece: 9,
+        calls: 0,
+        fails_to_flush: false,
+        answer: Ok(()),
+        taken: b"",
+        flushes: 1,
+    },
 ];
 
-/// Whether writing these bytes whole answers so.
-fn writes_whole<W: Outlet>(writer: &mut W, bytes: &[u8], answer: Result<(), Failed>) -> bool {
-    write_all(writer, bytes) == answer
-}
-
-/// Whether these bytes are taken, and so many flushes.
-fn has_taken(few: &FewTaken, taken: &[u8], flushes: u32) -> bool {
-    few.taken.as_slice() == taken && few.flushes == flushes
-}
-
-/// Whether a writer of that case answers so, and then has taken so.
-fn is_whole(alloc: Global, case: &Whole, bytes: &[u8]) -> bool {
-    let mut few = FewTaken::new(alloc, case.piece, case.calls, case.fails_to_flush);
-    let mut writer = Std::new(&mut few);
-    let answers = writes_whole(&mut writer, bytes, case.answer);
-    answers && has_taken(&few, case.taken, case.flushes)
+/// Whether writing the bytes whole answers so, and the writer then has taken so.
+fn is_whole(alloc: Global, whole: &Whole) -> bool {
+    let mut few = FewTaken::new(alloc, whole.piece, whole.calls, whole.fails_to_flush);
+    let answer = write_all(&mut Std::new(&mut few), whole.bytes);
+    let taken = few.taken.as_slice();
+    answer == whole.answer && taken == whole.taken && few.flushes == whole.flushes
 }
 
 #[test]
 fn writes_whole_bytes_and_flushes(rt: HostRuntime) -> Result<(), Fail> {
-    for case in WHOLES {
-        check(is_whole(rt.alloc(), case, b"abcdefg"), case.name)?;
+    for whole in WHOLES {
+        check(is_whole(rt.alloc(), whole), whole.name)?;
     }
     Ok(())
-}
-
-#[test]
-fn flushes_after_no_bytes(rt: HostRuntime) -> Result<(), Fail> {
-    let mut few = FewTaken::new(rt.alloc(), 9, 0, false);
-    let mut writer = Std::new(&mut few);
-    check(writes_whole(&mut writer, b"", Ok(())), "the answer")?;
-    check(has_taken(&few, b"", 1), "what is taken")
 }
