@@ -172,7 +172,7 @@ fn stands(issuer: &Issuer, fault: ServeFault, read: usize, written: usize) -> bo
     for mark in MARKS {
         let has_entered = has_entered(issuer, mark.ledger, mark.entries);
         if fault != ServeFault::Read {
-            stands = stands || has_entered && before <= written && written <= mark.written;
+            stands |= has_entered && before <= written && written <= mark.written;
         } else if mark.read <= read {
             stands = has_entered && written == mark.written;
         }
@@ -237,7 +237,7 @@ fn serve_twice(
     }
 }
 
-/// What comes of it by an issuer of its own.
+/// What comes of the day by an issuer of its own.
 fn serve_anew(
     alloc: Global,
     day: &Day,

@@ -10,7 +10,7 @@ use iso_wire::Header;
 use std::alloc::Global;
 use std::test::Fail;
 
-/// What is served, and how, and what comes of it.
+/// What is served, and how, and what comes of it: a row of the test.
 #[derive(Clone, Copy)]
 pub struct Session {
     pub name: &'static str,
@@ -216,7 +216,7 @@ fn serve_anew(alloc: Global, table: &Table, session: &Session, moves: Moves) -> 
     serve_in_turn(alloc, table, session, moves, &mut issuer)
 }
 
-/// Holds a session once for each count of bytes that a read and a write move.
+/// Holds a session once for each of its counts of bytes.
 fn serve_in_pieces(alloc: Global, table: &Table, session: &Session) -> Result<(), Fail> {
     for moves in session.moves {
         serve_anew(alloc, table, session, *moves)?;
@@ -225,7 +225,7 @@ fn serve_in_pieces(alloc: Global, table: &Table, session: &Session) -> Result<()
 }
 
 #[test]
-fn each_session_ends_so(rt: HostRuntime) -> Result<(), Fail> {
+fn each_session_ends_as_its_row_says(rt: HostRuntime) -> Result<(), Fail> {
     let table = Table::ascii87(rt.alloc())?;
     for session in SESSIONS {
         serve_in_pieces(rt.alloc(), &table, session)?;

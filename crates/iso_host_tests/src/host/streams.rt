@@ -12,30 +12,16 @@ const MOVES: &[(&str, &[u8], usize, &[u8; 3])] = &[
     ("the call at the end", b"de", 0, b"dec"),
 ];
 
-/// Whether a read answers with so many bytes, and the buffer then holds these.
-fn reads_into<R: Inlet>(
-    reader: &mut R,
-    buffer: &mut [u8; 3],
-    count: usize,
-    held: &[u8; 3],
-) -> bool {
-    reader.read(buffer) == Ok(count) && *buffer == *held
-}
-
-/// Whether a write takes all these bytes.
-fn takes_all<W: Outlet>(writer: &mut W, bytes: &[u8]) -> bool {
-    writer.write(bytes) == Ok(bytes.len())
-}
-
 /// Compares what reads of a slice and writes to a vector answer, and a flush.
 fn check_moves(slice: &[u8], vector: &mut Vec<u8>) -> Result<(), Fail> {
     let mut reader = Std::new(slice);
     let mut writer = Std::new(vector);
     let mut buffer = [0u8; 3];
     for (name, bytes, count, held) in MOVES {
-        let is_read = reads_into(&mut reader, &mut buffer, *count, *held);
-        let is_written = takes_all(&mut writer, *bytes);
-        check(is_read && is_written, *name)?;
+        let is_read = reader.read(&mut buffer) == Ok(*count) && buffer == **held;
+        check_of(is_read, *name, "the read")?;
+        let is_written = writer.write(*bytes) == Ok(bytes.len());
+        check_of(is_written, *name, "the write")?;
     }
     check(writer.flush() == Ok(()), "the flush")
 }
