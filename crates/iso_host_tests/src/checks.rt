@@ -32,15 +32,26 @@ impl Eprint for Line {
     }
 }
 
-/// What is compared with a name, whether it is so, and the line that the test then fails with, where it does.
-const CHECKS: &[(Option<&str>, bool, Option<&str>)] = &[
-    (None, false, Some("a read")),
-    (Some("the bytes"), false, Some("a read: the bytes")),
-    (None, true, None),
-    (Some("the bytes"), true, None),
+/// A check of a read: what is compared beside its name, whether it is so, and the line that the test then fails with, where
+/// it does.
+const CHECKS: &[(&str, Option<&str>, bool, Option<&str>)] = &[
+    ("a check that isn't so", None, false, Some("a read")),
+    (
+        "a check of the bytes that isn't so",
+        Some("the bytes"),
+        false,
+        Some("a read: the bytes"),
+    ),
+    ("a check that is so", None, true, None),
+    (
+        "a check of the bytes that is so",
+        Some("the bytes"),
+        true,
+        None,
+    ),
 ];
 
-/// The check of a read.
+/// Checks a read.
 fn check_read(what: Option<&str>, is_so: bool) -> Result<(), Fail> {
     match what {
         Some(what) => check_of(is_so, "a read", what),
@@ -65,7 +76,8 @@ fn is_reported(alloc: Global, ended: Result<(), Fail>, wanted: Option<&'static s
 
 #[test]
 fn a_test_ends_with_what_is_not_so(rt: HostRuntime) {
-    for (what, is_so, wanted) in CHECKS {
-        assert!(rt; is_reported(rt.alloc(), check_read(*what, *is_so), *wanted));
+    for (name, what, is_so, wanted) in CHECKS {
+        let ended = check_read(*what, *is_so);
+        assert!(rt; is_reported(rt.alloc(), ended, *wanted), "{name}");
     }
 }

@@ -116,7 +116,7 @@ struct Run<'a> {
 }
 
 /// The read that fails, the write or flush that does, and the turns, where serving is to end with this fault once so many
-/// calls are made. No call fails at 0.
+/// calls are made. No call fails at 0. A fault that is neither is that of the turns.
 fn failing(fault: ServeFault, calls: u32) -> (u32, u32, u64) {
     match fault {
         ServeFault::Read => (calls.saturating_add(1), 0, 1000),

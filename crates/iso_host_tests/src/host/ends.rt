@@ -59,6 +59,7 @@ pub struct Writer {
 }
 
 impl Writer {
+    /// A writer that took no bytes yet.
     pub fn new(alloc: Global, piece: usize, fails_at: u32) -> Writer {
         Writer {
             taken: Vec::new(alloc),

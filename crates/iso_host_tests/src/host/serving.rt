@@ -43,27 +43,22 @@ const TWO_ECHOES: Session = Session {
     ..NOTHING
 };
 
-/// A purchase that is entered, but for which serving ends with a fault.
-const FAULTY_PURCHASE: Session = Session {
-    sent: &[b"0082", PURCHASE],
+/// Nothing, in nine reads and nine writes at most.
+const IN_NINE: Session = Session {
     moves: &[(200, 200)],
     reads: 9,
     writes: 9,
     turns: 99,
-    ended: Err(ServeFault::Write),
-    ledger: 4000,
-    entries: 1,
     ..NOTHING
 };
 
-/// Bytes that end inside a frame.
-const CUT_FRAME: Session = Session {
-    moves: &[(200, 200)],
-    reads: 9,
-    writes: 9,
-    turns: 99,
-    ended: Err(ServeFault::CutFrame),
-    ..NOTHING
+/// A purchase that is entered before serving ends with a fault.
+const ENTERED: Session = Session {
+    sent: &[b"0082", PURCHASE],
+    ended: Err(ServeFault::Write),
+    ledger: 4000,
+    entries: 1,
+    ..IN_NINE
 };
 
 /// A purchase whose answer is whole, by an issuer to which it was sent before.
@@ -222,7 +217,7 @@ pub const SESSIONS: &[Session] = &[
         ..NOTHING
     },
     Session {
-        name: "an answer in one write",
+        name: "a response is written at once",
         sent: &[b"0055", ECHO],
         reads: 2,
         writes: 1,
@@ -258,9 +253,6 @@ pub const SESSIONS: &[Session] = &[
             b"0082", PURCHASE, b"0082", SECOND, b"0082", THIRD, b"0082", REPEAT,
         ],
         moves: &[(4096, 4096)],
-        reads: 9,
-        writes: 9,
-        turns: 99,
         is_small: true,
         ended: Ok(Report {
             frames: 4,
@@ -280,7 +272,7 @@ pub const SESSIONS: &[Session] = &[
         flushes: 4,
         ledger: 3000,
         entries: 2,
-        ..NOTHING
+        ..IN_NINE
     },
     // faults
     Session {
@@ -289,14 +281,14 @@ pub const SESSIONS: &[Session] = &[
         ended: Err(ServeFault::Read),
         written: &[b"0090", GRANTED],
         flushes: 1,
-        ..FAULTY_PURCHASE
+        ..ENTERED
     },
     Session {
         name: "a failing write",
         moves: &[(200, 10)],
         writes: 1,
         written: &[b"0090021072"],
-        ..FAULTY_PURCHASE
+        ..ENTERED
     },
     Session {
         name: "an answer that is cut and comes again",
@@ -306,52 +298,52 @@ pub const SESSIONS: &[Session] = &[
         turns: 1000,
         written: &[b"0090021072"],
         then: Some(&SENT_AGAIN),
-        ..FAULTY_PURCHASE
+        ..ENTERED
     },
     Session {
         name: "a writer that takes nothing",
         moves: &[(200, 0)],
-        ..FAULTY_PURCHASE
+        ..ENTERED
     },
     Session {
         name: "a turn too few",
         turns: 1,
         ended: Err(ServeFault::TooManyTurns),
-        ..FAULTY_PURCHASE
+        ..ENTERED
     },
     Session {
         name: "no turn",
         turns: 0,
         ended: Err(ServeFault::TooManyTurns),
-        ..CUT_FRAME
+        ..IN_NINE
     },
     Session {
         name: "no digits",
         sent: &[b"00A2"],
         ended: Err(ServeFault::BadHeader),
-        ..CUT_FRAME
+        ..IN_NINE
     },
     Session {
         name: "a cut frame",
         sent: &[b"00820123456789"],
-        ..CUT_FRAME
+        ended: Err(ServeFault::CutFrame),
+        ..IN_NINE
     },
     Session {
         name: "a cut header",
         sent: &[b"008"],
-        ..CUT_FRAME
+        ended: Err(ServeFault::CutFrame),
+        ..IN_NINE
     },
     Session {
         name: "a failing flush is a failing write",
         sent: &[b"0055", ECHO],
-        reads: 9,
-        writes: 9,
+        moves: &[(5000, 5000)],
         fails_to_flush: true,
-        turns: 99,
         ended: Err(ServeFault::Write),
         written: &[b"0057", ECHOED],
         flushes: 1,
-        ..NOTHING
+        ..IN_NINE
     },
     // a frame is answered before the next is read
     Session {
