@@ -1,5 +1,6 @@
 mod CommandLemmas
 mod SourceLemmas
 mod StreamingLemmas
+mod RefusedLemmas
 mod RunLemmas
 mod ConnectionLemmas

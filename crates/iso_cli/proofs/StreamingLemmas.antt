@@ -1,6 +1,6 @@
 -- Bytes that are known, and were read whole.
-use Rattle.std.proofs.Common.{◌≡◌, ℕ, ◌≤◌, List, ◌++◌, length, Option, Some, None, IfSome, OnOk, Result, Ok, Err, sym, ap, subst, ◌∙◌}
-use Rattle.std.proofs.lemmas.List.{append-nil}
+use Rattle.std.proofs.Common.{◌≡◌, ℕ, ◌≤◌, ◌<◌, List, ◌++◌, length, Option, Some, None, IfSome, OnOk, Result, Ok, Err, sym, ap, subst, ◌∙◌, arith}
+use Rattle.std.proofs.lemmas.List.{append-nil, length-take}
 use Rattle.std.specs.Io.KnownBytes.{Consumes, IsAtEnd}
 use Rattle.iso_cli.specs.Source.{read_of}
 use Rattle.iso_cli.proofs.SourceLemmas.{read_of-short}
@@ -20,6 +20,11 @@ known_all (Some all) bytes P same p = subst P (sym same) p
 pub known_file : (known : Option (List ℕ)) (bytes : List ℕ) (P : List ℕ → Type 0) → IfSome known (λ held. bytes ≡ read_of held) → length bytes ≤ 1048576 → P bytes → IfSome known P
 known_file None bytes P same short p = tt
 known_file (Some held) bytes P same short p = subst P (same ∙ read_of-short held (subst (λ (l : List ℕ). length l ≤ 1048576) same short)) p
+
+-- a file of which more bytes were read than one may have is too long
+pub known_long : (known : Option (List ℕ)) (bytes : List ℕ) → IfSome known (λ held. bytes ≡ read_of held) → 1048576 < length bytes → IfSome known (λ held. 1048576 < length held)
+known_long None bytes same long = tt
+known_long (Some held) bytes same long = omega (arith, long, ap length same, length-take 1048577 held)
 
 -- what follows where a step went well
 pub where_ok : {E : Type 0} (r : Result Unit E) (P Q : Type 0) → (P → Q) → OnOk r P → OnOk r Q

@@ -7,6 +7,7 @@ pub mod Listening
 pub mod NoJob
 pub mod OneConnection
 pub mod Prepare
+pub mod Refused
 pub mod Run
 pub mod Show
 pub mod Source

@@ -3,7 +3,13 @@ use Rattle.std.specs.Prelude.{ℕ, List, [], ◌∷◌, ◌++◌, Option, Some, 
 use Rattle.std.specs.Fmt.{decimal}
 use Rattle.iso_table.specs.FaultNames.{table_fault_name, table_fault_element, host_table_fault_name, host_table_fault_element}
 use Rattle.iso_wire.specs.FaultNames.{unpack_cause_name, pack_fault_name, pack_fault_element}
+use Rattle.iso_wire.specs.declared.fault.PackFault.{PackFault}
+use Rattle.iso_wire.specs.declared.fault.PackFault.TheVariants as pack
+use Rattle.iso_wire.specs.declared.fault.UnpackCause.{UnpackCause}
+use Rattle.iso_wire.specs.declared.fault.UnpackCause.TheVariants as cause
 use Rattle.iso_wire.specs.declared.fault.UnpackFault.{UnpackFault}
+use Rattle.iso_table.specs.declared.fault.TableFault.{TableFault}
+use Rattle.iso_table.specs.declared.fault.TableFault.TheVariants as table
 use Rattle.iso_issuer.specs.FaultNames.{accounts_fault_name, accounts_fault_account}
 use Rattle.iso_issuer.specs.declared.fault.AccountsFault.{AccountsFault}
 use Rattle.iso_host.specs.declared.fault.ServeFault.{ServeFault}
@@ -117,3 +123,16 @@ stop_of_serving serving.TooManyTurns = TooManyTurns
 abbrev pub stop_of_words : WordsFault → Stop
 stop_of_words words.Refused = Words
 stop_of_words words.Memory = Memory
+
+-- the stops that faults of a table, of reading and of writing are: want of memory is one stop for all
+abbrev pub stop_of_table : TableFault → Stop
+stop_of_table table.Memory = Memory
+stop_of_table fault = Table fault
+
+abbrev pub stop_of_unpack : UnpackFault → UnpackCause → Stop
+stop_of_unpack fault cause.Memory = Memory
+stop_of_unpack fault why = Unpack fault
+
+abbrev pub stop_of_pack : PackFault → Stop
+stop_of_pack pack.Memory = Memory
+stop_of_pack fault = Pack fault

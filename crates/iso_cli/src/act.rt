@@ -1,12 +1,14 @@
 //! What the command does.
 
-ghost use Rattle.std.specs.Prelude.{◌≡◌, ◌≤◌, [], map, OnOk};
+ghost use Rattle.std.specs.Prelude.{◌≡◌, ◌≤◌, [], map, IfErr, OnOk};
 ghost use Rattle.iso_cli.specs.Echo.{EchoesOver};
 ghost use Rattle.iso_cli.specs.Check.{ChecksAsked};
 ghost use Rattle.iso_cli.specs.Convert.{ConvertsAsked};
 ghost use Rattle.iso_cli.specs.Run.{RunsAsked};
 ghost use Rattle.iso_cli.specs.Show.{ShowsAsked};
+ghost use Rattle.iso_cli.specs.Stop.{status_of};
 ghost use Rattle.iso_cli.specs.Tells.{TellsEnding};
+ghost use Rattle.iso_cli.specs.Refused.{CheckStopsAsked, ConvertStopsAsked, EchoStops, IsRefused, ShowStopsAsked};
 
 use crate::check::check;
 use crate::convert::convert;
@@ -38,6 +40,14 @@ fn perform<S: Source, I: Inlet, O: Outlet>(
         (I.remaining input.old) (O.contents output.old) (O.contents output.new)) }
     ensures run { OnOk result (RunsAsked (map (λ w. w.now) words.now) (S.file source.now)
         (I.remaining input.old) (O.contents output.old) (O.contents output.new)) }
+    // Which stop with status 1 comes of each command but `run`.
+    ensures echo_stop { words.now ≡ [] → IfErr result (λ stop. status_of stop ≡ 1 → EchoStops (I.remaining input.old) stop) }
+    ensures check_stop { IfErr result (λ stop. status_of stop ≡ 1
+        → CheckStopsAsked (map (λ w. w.now) words.now) (S.file source.now) stop) }
+    ensures show_stop { IfErr result (λ stop. status_of stop ≡ 1
+        → ShowStopsAsked (map (λ w. w.now) words.now) (S.file source.now) (I.remaining input.old) stop) }
+    ensures convert_stop { IfErr result (λ stop. status_of stop ≡ 1
+        → ConvertStopsAsked (map (λ w. w.now) words.now) (S.file source.now) (I.remaining input.old) stop) }
 {
     match parse(alloc, words)? {
         Job::Echo => echo(alloc, input, output)?,
@@ -79,6 +89,10 @@ pub fn act<S: Source, I: Inlet, O: Outlet, F: Outlet>(
     // `run`: the output for the bodies of the whole input, for the accounts of the document, with an empty journal.
     ensures run { result ≡ 0 → RunsAsked (map (λ w. w.now) words.now) (S.file source.now)
         (I.remaining input.old) (O.contents output.old) (O.contents output.new) }
+    // With status 1, of each command but `run`: the line of the first thing that is refused, be it the document of a table, an
+    // input that is too long, or what the input holds.
+    ensures refused { result ≡ 1 → IsRefused (map (λ w. w.now) words.now) (S.file source.now)
+        (I.remaining input.old) (F.contents faults.old) (F.contents faults.new) }
     ensures status { result ≤ 3 }
     // The fault stream has nothing more, the report of `run`, or the line of a stop, and the status is that of what was told.
     ensures told { TellsEnding (F.contents faults.old) (F.contents faults.new) (F.counts faults.old) (F.counts faults.new) result }

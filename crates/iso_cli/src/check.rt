@@ -1,7 +1,9 @@
 //! What a table is.
 
-ghost use Rattle.std.specs.Prelude.{◌≡◌, IfOk, OnOk, string_bytes};
+ghost use Rattle.std.specs.Prelude.{◌≡◌, IfErr, IfOk, OnOk, string_bytes};
 ghost use Rattle.iso_cli.specs.Check.{ChecksOver, table_line};
+ghost use Rattle.iso_cli.specs.Stop.{status_of};
+ghost use Rattle.iso_cli.specs.Refused.{NamesNone};
 
 use crate::source::Source;
 use crate::stop::Stop;
@@ -26,7 +28,8 @@ pub fn check<S: Source, O: Outlet>(
     source: &S,
     output: &mut O,
 ) -> Result<(), Stop>
-    ensures { OnOk result (ChecksOver (S.file source.now) table.now (O.contents output.old) (O.contents output.new)) }
+    ensures line { OnOk result (ChecksOver (S.file source.now) table.now (O.contents output.old) (O.contents output.new)) }
+    ensures stop { IfErr result (λ stop. status_of stop ≡ 1 → NamesNone (S.file source.now) table.now stop) }
 {
     let table = table_named(alloc, source, table)?;
     let line = line_of(alloc, &table)?;

@@ -1,8 +1,12 @@
 //! A message from one table to another.
 
-ghost use Rattle.std.specs.Prelude.{IfOk, OnOk};
+ghost use Rattle.std.specs.Prelude.{◌≡◌, ◌≢◌, IfErr, IfOk, OnOk, Some};
+ghost use Rattle.iso_wire.specs.Reading.{message_at};
 ghost use Rattle.iso_wire.specs.Spelling.{Converts};
 ghost use Rattle.iso_cli.specs.Convert.{ConvertsOver};
+ghost use Rattle.iso_cli.specs.Stop.{status_of};
+ghost use Rattle.iso_cli.specs.declared.stop.Stop.TheVariants.{Memory};
+ghost use Rattle.iso_cli.specs.Refused.{ConvertStops, rewrite_stop};
 
 use crate::source::Source;
 use crate::stop::Stop;
@@ -15,7 +19,8 @@ use std::alloc::Global;
 
 /// The plain bytes, under the second table, of the message that the bytes spell under the first.
 fn converted_bytes(alloc: Global, from: &Table, to: &Table, bytes: &[u8]) -> Result<Vec<u8>, Stop>
-    ensures { IfOk result (λ packed. Converts from.now to.now bytes.now packed.items) }
+    ensures packed { IfOk result (λ packed. Converts from.now to.now bytes.now packed.items) }
+    ensures stop { IfErr result (λ stop. stop ≢ Memory → rewrite_stop to.now bytes.now (message_at from.now bytes.now) ≡ Some stop) }
 {
     let (message, used) = unpack(alloc, from, bytes)?;
     if used < bytes.len() {
@@ -33,8 +38,10 @@ pub fn convert<S: Source, I: Inlet, O: Outlet>(
     input: &mut I,
     output: &mut O,
 ) -> Result<(), Stop>
-    ensures { OnOk result (ConvertsOver (S.file source.now) from.now to.now
+    ensures packed { OnOk result (ConvertsOver (S.file source.now) from.now to.now
         (I.remaining input.old) (O.contents output.old) (O.contents output.new)) }
+    ensures stop { IfErr result (λ stop. status_of stop ≡ 1
+        → ConvertStops (S.file source.now) from.now to.now (I.remaining input.old) stop) }
 {
     let from = table_named(alloc, source, from)?;
     let to = table_named(alloc, source, to)?;

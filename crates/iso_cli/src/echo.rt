@@ -1,7 +1,12 @@
 //! The echo: one message in, its lines and its answer out.
 
-ghost use Rattle.std.specs.Prelude.{◌≡◌, ◌++◌, IfOk, OnOk};
+ghost use Rattle.std.specs.Prelude.{◌≡◌, ◌≢◌, ◌++◌, IfErr, IfOk, OnOk, Some};
+ghost use Rattle.iso_wire.specs.Reading.{message_at};
+ghost use Rattle.iso_order.specs.Verdict.{verdict};
 ghost use Rattle.iso_cli.specs.Echo.{Answers, Echoes, EchoesOver, answer_line};
+ghost use Rattle.iso_cli.specs.Stop.{status_of};
+ghost use Rattle.iso_cli.specs.declared.stop.Stop.TheVariants.{Memory};
+ghost use Rattle.iso_cli.specs.Refused.{EchoStops, echo_stop, reply_stop};
 
 use crate::describe::shown_lines;
 use crate::stop::Stop;
@@ -14,7 +19,8 @@ use std::alloc::{AllocError, Global};
 
 /// The bytes of the response where the message itself decides it, else `none`.
 fn answer_bytes(alloc: Global, table: &Table, message: &Message) -> Result<Vec<u8>, Stop>
-    ensures { IfOk result (λ answer. Answers table.now message.now answer.items) }
+    ensures answer { IfOk result (λ answer. Answers table.now message.now answer.items) }
+    ensures stop { IfErr result (λ stop. stop ≢ Memory → reply_stop table.now message.now (verdict message.now) ≡ Some stop) }
 {
     let Verdict::Reply(code) = order_of(message) else {
         return Ok(Vec::from_slice(alloc, b"none")?);
@@ -34,7 +40,8 @@ fn push_answer(answer: &[u8], text: &mut Vec<u8>) -> Result<(), AllocError>
 
 /// The lines of the message that the bytes begin with, and the line of its answer.
 fn echo_text(alloc: Global, table: &Table, bytes: &[u8]) -> Result<Vec<u8>, Stop>
-    ensures { IfOk result (λ text. Echoes table.now bytes.now text.items) }
+    ensures text { IfOk result (λ text. Echoes table.now bytes.now text.items) }
+    ensures stop { IfErr result (λ stop. stop ≢ Memory → echo_stop table.now (message_at table.now bytes.now) ≡ Some stop) }
 {
     let (message, used) = unpack(alloc, table, bytes)?;
     let mut text = shown_lines(alloc, table, &message, used, bytes.len(), false)?;
@@ -46,7 +53,8 @@ fn echo_text(alloc: Global, table: &Table, bytes: &[u8]) -> Result<Vec<u8>, Stop
 /// Reads the message that the input begins with, under the 1987 table in ASCII, and writes its lines and the
 /// line of its answer. Later bytes are left.
 pub fn echo<I: Inlet, O: Outlet>(alloc: Global, input: &mut I, output: &mut O) -> Result<(), Stop>
-    ensures { OnOk result (EchoesOver (I.remaining input.old) (O.contents output.old) (O.contents output.new)) }
+    ensures text { OnOk result (EchoesOver (I.remaining input.old) (O.contents output.old) (O.contents output.new)) }
+    ensures stop { IfErr result (λ stop. status_of stop ≡ 1 → EchoStops (I.remaining input.old) stop) }
 {
     let bytes = read_input(alloc, input)?;
     let table = Table::ascii87(alloc)?;

@@ -1,6 +1,7 @@
 //! How the command stops where it doesn't end well: a line on the fault stream, and a status.
 ghost use Rattle.std.specs.Prelude.{◌≡◌, ◌<◌, ◌≤◌, option_map};
-ghost use Rattle.iso_cli.specs.Stop.{status_of, stop_line, stop_of_input, stop_of_serving, stop_of_source, stop_of_words};
+ghost use Rattle.iso_cli.specs.Stop.{status_of, stop_line, stop_of_input, stop_of_pack, stop_of_serving, stop_of_source, stop_of_table, stop_of_unpack, stop_of_words};
+ghost use Rattle.iso_cli.specs.declared.stop.Stop.TheVariants.{Memory};
 ghost use Rattle.iso_cli.specs.Tells.{Tells, TellsAs, TellsLine, TellsLineOf, TellsStop};
 
 use crate::refusal::refusal_line;
@@ -135,18 +136,24 @@ impl From<ServeFault> for Stop {
 }
 
 impl From<NoMemory> for Stop {
+    ghost from_gives = { λ _ stop. stop ≡ Memory };
+
     fn from(_fault: NoMemory) -> Stop {
         Stop::Memory
     }
 }
 
 impl From<AllocError> for Stop {
+    ghost from_gives = { λ _ stop. stop ≡ Memory };
+
     fn from(_fault: AllocError) -> Stop {
         Stop::Memory
     }
 }
 
 impl From<TableFault> for Stop {
+    ghost from_gives = { λ fault stop. stop ≡ stop_of_table fault };
+
     fn from(fault: TableFault) -> Stop {
         match fault {
             TableFault::Memory => Stop::Memory,
@@ -171,6 +178,8 @@ impl From<AccountsFault> for Stop {
 }
 
 impl From<UnpackFault> for Stop {
+    ghost from_gives = { λ fault stop. stop ≡ stop_of_unpack fault fault.cause };
+
     fn from(fault: UnpackFault) -> Stop {
         match fault.cause {
             UnpackCause::Memory => Stop::Memory,
@@ -180,6 +189,8 @@ impl From<UnpackFault> for Stop {
 }
 
 impl From<PackFault> for Stop {
+    ghost from_gives = { λ fault stop. stop ≡ stop_of_pack fault };
+
     fn from(fault: PackFault) -> Stop {
         match fault {
             PackFault::Memory => Stop::Memory,
@@ -226,6 +237,8 @@ pub fn tell_as<F: Outlet>(alloc: Global, faults: &mut F, stop: Stop, status: u8)
 pub fn tell<F: Outlet>(alloc: Global, faults: &mut F, stop: Stop) -> u8
     ensures told { Tells (F.contents faults.old) (F.contents faults.new)
         (F.counts faults.old) (F.counts faults.new) stop result }
+    ensures line { TellsLineOf (F.contents faults.old) (F.contents faults.new)
+        (F.counts faults.old) (F.counts faults.new) stop (status_of stop) result }
     ensures stop { TellsStop (F.contents faults.old) (F.contents faults.new) (F.counts faults.old) (F.counts faults.new) result }
     ensures range { (1 ≤ result) × (result ≤ 3) }
 {

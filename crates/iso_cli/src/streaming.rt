@@ -1,7 +1,10 @@
 //! A whole input.
-ghost use Rattle.std.specs.Prelude.{◌≡◌, ◌≤◌, ◌<◌, IfOk, IfSome, OnOk, IsErrOf, vec_len, length};
+ghost use Rattle.std.specs.Prelude.{◌≡◌, ◌≤◌, ◌<◌, IfErr, IfOk, IfSome, OnOk, IsErrOf, vec_len, length};
 ghost use Rattle.std.specs.Io.KnownBytes.{Appends, Consumes, IsAtEnd};
+ghost use Rattle.iso_cli.specs.Stop.{status_of};
 ghost use Rattle.iso_cli.specs.Streaming.{ReadCause};
+ghost use Rattle.iso_cli.specs.Refused.{IsTooLong};
+ghost use Rattle.iso_cli.specs.declared.stop.Stop.TheVariants.{Write};
 
 use crate::source::MOST_BYTES;
 use crate::stop::Stop;
@@ -55,7 +58,8 @@ const MOST_READS: u32 = 2_000_000;
 
 /// Reads the command's input to its end.
 pub fn read_input<I: Inlet>(alloc: Global, input: &mut I) -> Result<Vec<u8>, Stop>
-    ensures { IfOk result (λ bytes. IfSome (I.remaining input.old) (λ all. all ≡ bytes.items)) }
+    ensures bytes { IfOk result (λ bytes. IfSome (I.remaining input.old) (λ all. all ≡ bytes.items)) }
+    ensures stop { IfErr result (λ stop. status_of stop ≡ 1 → IsTooLong (I.remaining input.old) stop) }
 {
     match read_all(alloc, input, MOST_READS) {
         Ok(bytes) => Ok(bytes),
@@ -65,7 +69,8 @@ pub fn read_input<I: Inlet>(alloc: Global, input: &mut I) -> Result<Vec<u8>, Sto
 
 /// Writes the command's output, and flushes it.
 pub fn write_output<O: Outlet>(output: &mut O, bytes: &[u8]) -> Result<(), Stop>
-    ensures { OnOk result (Appends (O.contents output.old) (O.contents output.new) bytes.now) }
+    ensures written { OnOk result (Appends (O.contents output.old) (O.contents output.new) bytes.now) }
+    ensures stop { IfErr result (λ stop. stop ≡ Write) }
 {
     match write_all(output, bytes) {
         Ok(()) => Ok(()),

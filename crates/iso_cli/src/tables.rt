@@ -1,8 +1,10 @@
 //! The tables that the command line names.
 
-ghost use Rattle.std.specs.Prelude.{IfOk, IfSome};
+ghost use Rattle.std.specs.Prelude.{◌≡◌, IfErr, IfOk, IfSome};
 ghost use Rattle.iso_table.specs.Document.{IsTableOf};
+ghost use Rattle.iso_cli.specs.Stop.{status_of};
 ghost use Rattle.iso_cli.specs.Tables.{IsNamed};
+ghost use Rattle.iso_cli.specs.Refused.{HoldsNone, NamesNone};
 
 use crate::documents::document_at;
 use crate::source::Source;
@@ -12,7 +14,8 @@ use std::alloc::Global;
 
 /// The table of the document at a path.
 fn table_at<S: Source>(alloc: Global, source: &S, path: &str) -> Result<Table, Stop>
-    ensures { IfOk result (λ table. IfSome (S.file source.now path.now) (λ text. IsTableOf text table)) }
+    ensures ok { IfOk result (λ table. IfSome (S.file source.now path.now) (λ text. IsTableOf text table)) }
+    ensures stop { IfErr result (λ stop. status_of stop ≡ 1 → IfSome (S.file source.now path.now) (λ held. HoldsNone held stop)) }
 {
     let text = document_at(alloc, source, path)?;
     Ok(Table::from_json(alloc, &text)?)
@@ -20,7 +23,8 @@ fn table_at<S: Source>(alloc: Global, source: &S, path: &str) -> Result<Table, S
 
 /// The table that a word names: `ascii87` and `bcd87` are built in, every other word is the path of a document.
 pub fn table_named<S: Source>(alloc: Global, source: &S, word: &str) -> Result<Table, Stop>
-    ensures { IfOk result (IsNamed (S.file source.now) word.now) }
+    ensures ok { IfOk result (IsNamed (S.file source.now) word.now) }
+    ensures stop { IfErr result (λ stop. status_of stop ≡ 1 → NamesNone (S.file source.now) word.now stop) }
 {
     if word == "ascii87" {
         return Ok(Table::ascii87(alloc)?);

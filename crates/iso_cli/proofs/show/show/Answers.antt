@@ -6,18 +6,18 @@ use Rattle.iso_cli.specs.Show.{Shows}
 use Rattle.iso_cli.proofs.StreamingLemmas.{known_all, where_ok}
 use Rattle.iso_cli.proofs.show.show.Goals as goal
 
-pub returns : goal.returns
-returns g c =
+pub returns-clause-lines : goal.returns-clause-lines
+returns-clause-lines g c =
     let file = g.S.Source.file c.args.source.now in
     let table : Layout = c.in_ok-table.table in
     let bytes : List ℕ = c.in_ok-bytes.bytes.items in
     let lines : List ℕ = c.in_ok-lines.lines.items in
     let old = g.O.Outlet.contents c.args.output.now in
     let new = g.O.Outlet.contents c.write_output.new.output in
-    let shows : Shows table c.args.clear bytes lines = subst (λ (l : List ℕ). Shows table c.args.clear l lines) c.deref.ensures.value c.in_ok-lines.ensures in
+    let shows : Shows table c.args.clear bytes lines = subst (λ (l : List ℕ). Shows table c.args.clear l lines) c.deref.ensures.value c.in_ok-lines.ensures.lines in
     where_ok c.write_output.result (Appends old new c.deref-2.result.now) _
     (λ written. known_all (g.I.Inlet.remaining c.args.input.now) bytes
     (λ all. (t : Layout) × (ls : List ℕ) × IsNamed file c.args.table.now t × Shows t c.args.clear all ls × Appends old new ls)
-    c.in_ok-bytes.ensures
-    (table, lines, c.in_ok-table.ensures, shows, subst (λ (l : List ℕ). Appends old new l) c.deref-2.ensures.value written))
-    c.write_output.ensures
+    c.in_ok-bytes.ensures.bytes
+    (table, lines, c.in_ok-table.ensures.ok, shows, subst (λ (l : List ℕ). Appends old new l) c.deref-2.ensures.value written))
+    c.write_output.ensures.written

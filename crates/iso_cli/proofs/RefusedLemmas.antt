@@ -1,0 +1,93 @@
+-- Which stop a fault is.
+use Rattle.std.proofs.Common.{◌≡◌, ◌≢◌, inl, inr, ℕ, Bool, true, false, IsTrue, List, [], ◌∷◌, map, Option, IfSome, refl, ap, subst, sym, ◌∙◌, arith}
+use Rattle.std.specs.Prelude.{codes}
+use Rattle.std.specs.Io.KnownBytes.{Appends}
+use Rattle.iso_host.specs.Counts.{Counts}
+use Rattle.iso_table.specs.Document.{IsNotJson, IsDocumentFault}
+use Rattle.iso_table.specs.declared.fault.TableFault.{TableFault}
+use Rattle.iso_table.specs.declared.fault.TableFault.TheVariants.{NotJson, Shape, BadVersion, BadNumber, Twice, BadMax, CodingClass, PadNotAllowed, Profile, Memory}
+use Rattle.iso_cli.specs.Stop.{status_of, line_of, stop_of_table, stop_of_words}
+use Rattle.iso_cli.specs.Tells.{TellsLineOf}
+use Rattle.iso_cli.specs.Refused.{ConvertStops, ConvertStopsAsked, HoldsNone, ShowStops, ShowStopsAsked}
+use Rattle.iso_cli.specs.Words.{AsksShow, is_name}
+use Rattle.iso_cli.specs.declared.stop.Stop.{Stop}
+use Rattle.iso_cli.specs.declared.words.WordsFault.{WordsFault}
+use Rattle.iso_cli.specs.declared.words.WordsFault.TheVariants as words
+use Rattle.iso_cli.proofs.StreamingLemmas.{known_all}
+
+-- a document that holds no good table, by its fault
+module _ (held : List ℕ) where
+  by_fault : (e : TableFault) → (e ≡ NotJson → IsNotJson held) → (e ≢ Memory → e ≢ NotJson → IsDocumentFault held e) → status_of (stop_of_table e) ≡ 1
+      → HoldsNone held (stop_of_table e)
+  by_fault Memory n f s = absurd (omega (arith, s))
+  by_fault NotJson n f s = (n, λ d. f (λ p. cc) d)
+  by_fault Shape n f s = (n, λ d. f (λ p. cc) d)
+  by_fault BadVersion n f s = (n, λ d. f (λ p. cc) d)
+  by_fault (BadNumber m) n f s = (n, λ d. f (λ p. cc) d)
+  by_fault (Twice m) n f s = (n, λ d. f (λ p. cc) d)
+  by_fault (BadMax m) n f s = (n, λ d. f (λ p. cc) d)
+  by_fault (CodingClass m) n f s = (n, λ d. f (λ p. cc) d)
+  by_fault (PadNotAllowed m) n f s = (n, λ d. f (λ p. cc) d)
+  by_fault Profile n f s = (n, λ d. f (λ p. cc) d)
+
+-- the same of the document that a word names
+pub holds_none : (known : Option (List ℕ)) (held : List ℕ) (e : TableFault) (stop : Stop) → IfSome known (λ all. all ≡ held) → stop ≡ stop_of_table e
+    → (e ≡ NotJson → IsNotJson held) → (e ≢ Memory → e ≢ NotJson → IsDocumentFault held e) → status_of stop ≡ 1
+    → IfSome known (λ all. HoldsNone all stop)
+holds_none known held e stop same is n f s =
+    known_all known held (λ all. HoldsNone all stop) same
+    (subst (λ (x : Stop). HoldsNone held x) (sym is) (by_fault held e n f (subst (λ (x : Stop). status_of x ≡ 1) is s)))
+
+-- where status 1 was given, the line of a stop of that status was told whole
+pub told_whole : (held written : Option (List ℕ)) (old new : Counts) (stop : Stop) (given : ℕ) → TellsLineOf held written old new stop (status_of stop) given → given ≡ 1
+    → (status_of stop ≡ 1) × Appends held written (line_of stop)
+told_whole held written old new stop given (inl (inl told)) one = (sym told.given_is ∙ one, told.whole)
+told_whole held written old new stop given (inl (inr untold)) one = absurd (omega (arith, untold.status, one))
+told_whole held written old new stop given (inr (inl told)) one = absurd (omega (arith, told.given_is, one))
+told_whole held written old new stop given (inr (inr untold)) one = absurd (omega (arith, untold.status, one))
+
+-- the words' own faults have another status
+pub words_stop : (fault : WordsFault) (stop : Stop) → stop ≡ stop_of_words fault → status_of stop ≡ 1 → ⊥
+words_stop words.Refused stop is one = absurd (omega (arith, one, ap status_of is))
+words_stop words.Memory stop is one = absurd (omega (arith, one, ap status_of is))
+
+-- ---- what the words ask
+
+-- where no word's bytes are there, no word is
+pub no_words : {A B : Type 0} (f : A → B) (l : List A) → map f l ≡ [] → l ≡ []
+no_words f [] none = refl
+no_words f (x ∷ l) none = cc
+
+-- the words name one table to show
+same_show : (words : List (List ℕ)) (s t : List ℕ) (a b : Bool) → IsTrue (is_name s) → IsTrue (is_name t) → AsksShow words s a → AsksShow words t b → s ≡ t
+same_show words s t false false s_name t_name p q = cc
+same_show words s t false true s_name t_name p (inl q) = cc
+same_show words s t false true s_name t_name p (inr q) = cc
+same_show words s t true false s_name t_name (inl p) q = cc
+same_show words s t true false s_name t_name (inr p) q = cc
+same_show words s t true true s_name t_name (inl p) (inl q) = cc
+same_show words s t true true s_name t_name (inr p) (inr q) = cc
+same_show words s t true true s_name t_name (inl p) (inr q) =
+    let is : t ≡ codes "--clear" = cc in
+    let no : false ≡ true = subst (λ (l : List ℕ). IsTrue (is_name l)) is t_name in
+    cc
+same_show words s t true true s_name t_name (inr p) (inl q) =
+    let is : s ≡ codes "--clear" = cc in
+    let no : false ≡ true = subst (λ (l : List ℕ). IsTrue (is_name l)) is s_name in
+    cc
+
+-- and one pair of tables to convert between
+same_convert : (words : List (List ℕ)) (a b c d : List ℕ) → words ≡ codes "convert" ∷ a ∷ c ∷ [] → words ≡ codes "convert" ∷ b ∷ d ∷ [] → (a ≡ b) × (c ≡ d)
+same_convert words a b c d p q = (cc, cc)
+
+-- so what stops the showing of that table stops what the words ask, and likewise a conversion
+pub show_asked : (words : List (List ℕ)) (file : List ℕ → Option (List ℕ)) (input : Option (List ℕ)) (stop : Stop) (s : List ℕ) (a : Bool) → IsTrue (is_name s)
+    → AsksShow words s a → ShowStops file s input stop → ShowStopsAsked words file input stop
+show_asked words file input stop s a named asks stops = λ t b t_named t_asks.
+    subst (λ (x : List ℕ). ShowStops file x input stop) (same_show words s t a b named t_named asks t_asks) stops
+
+pub convert_asked : (words : List (List ℕ)) (file : List ℕ → Option (List ℕ)) (input : Option (List ℕ)) (stop : Stop) (from to : List ℕ)
+    → words ≡ codes "convert" ∷ from ∷ to ∷ [] → ConvertStops file from to input stop → ConvertStopsAsked words file input stop
+convert_asked words file input stop from to asks stops = λ f t asked.
+    let same = same_convert words from f to t asks asked in
+    subst (λ (x : List ℕ). ConvertStops file x t input stop) same.0 (subst (λ (x : List ℕ). ConvertStops file from x input stop) same.1 stops)
