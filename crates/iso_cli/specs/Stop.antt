@@ -12,6 +12,7 @@ use Rattle.iso_table.specs.declared.fault.TableFault.{TableFault}
 use Rattle.iso_table.specs.declared.fault.TableFault.TheVariants as table
 use Rattle.iso_issuer.specs.FaultNames.{accounts_fault_name, accounts_fault_account}
 use Rattle.iso_issuer.specs.declared.fault.AccountsFault.{AccountsFault}
+use Rattle.iso_issuer.specs.declared.fault.AccountsFault.TheVariants as accounts
 use Rattle.iso_host.specs.declared.fault.ServeFault.{ServeFault}
 use Rattle.iso_host.specs.declared.fault.ServeFault.TheVariants as serving
 use Rattle.iso_cli.specs.declared.stop.Stop.{Stop}
@@ -124,7 +125,11 @@ abbrev pub stop_of_words : WordsFault → Stop
 stop_of_words words.Refused = Words
 stop_of_words words.Memory = Memory
 
--- the stops that faults of a table, of reading and of writing are: want of memory is one stop for all
+-- the stops that faults of accounts, of a table, of reading and of writing are: want of memory is one stop for all
+abbrev pub stop_of_accounts : AccountsFault → Stop
+stop_of_accounts accounts.Memory = Memory
+stop_of_accounts fault = Accounts fault
+
 abbrev pub stop_of_table : TableFault → Stop
 stop_of_table table.Memory = Memory
 stop_of_table fault = Table fault

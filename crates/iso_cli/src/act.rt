@@ -1,6 +1,6 @@
 //! What the command does.
 
-ghost use Rattle.std.specs.Prelude.{◌≡◌, ◌≤◌, [], map, IfErr, OnOk};
+ghost use Rattle.std.specs.Prelude.{◌≡◌, ◌≤◌, [], map, IfErr, IsErrOf, OnOk};
 ghost use Rattle.iso_cli.specs.Echo.{EchoesOver};
 ghost use Rattle.iso_cli.specs.Check.{ChecksAsked};
 ghost use Rattle.iso_cli.specs.Convert.{ConvertsAsked};
@@ -8,6 +8,8 @@ ghost use Rattle.iso_cli.specs.Run.{RunsAsked};
 ghost use Rattle.iso_cli.specs.Show.{ShowsAsked};
 ghost use Rattle.iso_cli.specs.Stop.{status_of};
 ghost use Rattle.iso_cli.specs.Tells.{TellsEnding};
+ghost use Rattle.iso_cli.specs.Words.{AsksNothing};
+ghost use Rattle.iso_cli.specs.declared.stop.Stop.TheVariants as Stop;
 ghost use Rattle.iso_cli.specs.Refused.{CheckStopsAsked, ConvertStopsAsked, EchoStops, IsRefused, ShowStopsAsked};
 
 use crate::check::check;
@@ -40,6 +42,7 @@ fn perform<S: Source, I: Inlet, O: Outlet>(
         (I.remaining input.old) (O.contents output.old) (O.contents output.new)) }
     ensures run { OnOk result (RunsAsked (map (λ w. w.now) words.now) (S.file source.now)
         (I.remaining input.old) (O.contents output.old) (O.contents output.new)) }
+    ensures words { IsErrOf result Stop.Words → AsksNothing (map (λ w. w.now) words.now) }
     // Which stop with status 1 comes of each command but `run`.
     ensures echo_stop { words.now ≡ [] → IfErr result (λ stop. status_of stop ≡ 1 → EchoStops (I.remaining input.old) stop) }
     ensures check_stop { IfErr result (λ stop. status_of stop ≡ 1
@@ -93,6 +96,8 @@ pub fn act<S: Source, I: Inlet, O: Outlet, F: Outlet>(
     // input that is too long, or what the input holds.
     ensures refused { result ≡ 1 → IsRefused (map (λ w. w.now) words.now) (S.file source.now)
         (I.remaining input.old) (F.contents faults.old) (F.contents faults.new) }
+    // With status 2, the words are no command line.
+    ensures words { result ≡ 2 → AsksNothing (map (λ w. w.now) words.now) }
     ensures status { result ≤ 3 }
     // The fault stream has nothing more, the report of `run`, or the line of a stop, and the status is that of what was told.
     ensures told { TellsEnding (F.contents faults.old) (F.contents faults.new) (F.counts faults.old) (F.counts faults.new) result }

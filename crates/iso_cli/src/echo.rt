@@ -5,7 +5,7 @@ ghost use Rattle.iso_wire.specs.Reading.{message_at};
 ghost use Rattle.iso_order.specs.Verdict.{verdict};
 ghost use Rattle.iso_cli.specs.Echo.{Answers, Echoes, EchoesOver, answer_line};
 ghost use Rattle.iso_cli.specs.Stop.{status_of};
-ghost use Rattle.iso_cli.specs.declared.stop.Stop.TheVariants.{Memory};
+ghost use Rattle.iso_cli.specs.declared.stop.Stop.TheVariants.{Memory, Words};
 ghost use Rattle.iso_cli.specs.Refused.{EchoStops, echo_stop, reply_stop};
 
 use crate::describe::shown_lines;
@@ -21,6 +21,7 @@ use std::alloc::{AllocError, Global};
 fn answer_bytes(alloc: Global, table: &Table, message: &Message) -> Result<Vec<u8>, Stop>
     ensures answer { IfOk result (λ answer. Answers table.now message.now answer.items) }
     ensures stop { IfErr result (λ stop. stop ≢ Memory → reply_stop table.now message.now (verdict message.now) ≡ Some stop) }
+    ensures words { IfErr result (λ stop. stop ≢ Words) }
 {
     let Verdict::Reply(code) = order_of(message) else {
         return Ok(Vec::from_slice(alloc, b"none")?);
@@ -42,6 +43,7 @@ fn push_answer(answer: &[u8], text: &mut Vec<u8>) -> Result<(), AllocError>
 fn echo_text(alloc: Global, table: &Table, bytes: &[u8]) -> Result<Vec<u8>, Stop>
     ensures text { IfOk result (λ text. Echoes table.now bytes.now text.items) }
     ensures stop { IfErr result (λ stop. stop ≢ Memory → echo_stop table.now (message_at table.now bytes.now) ≡ Some stop) }
+    ensures words { IfErr result (λ stop. stop ≢ Words) }
 {
     let (message, used) = unpack(alloc, table, bytes)?;
     let mut text = shown_lines(alloc, table, &message, used, bytes.len(), false)?;
@@ -55,6 +57,7 @@ fn echo_text(alloc: Global, table: &Table, bytes: &[u8]) -> Result<Vec<u8>, Stop
 pub fn echo<I: Inlet, O: Outlet>(alloc: Global, input: &mut I, output: &mut O) -> Result<(), Stop>
     ensures text { OnOk result (EchoesOver (I.remaining input.old) (O.contents output.old) (O.contents output.new)) }
     ensures stop { IfErr result (λ stop. status_of stop ≡ 1 → EchoStops (I.remaining input.old) stop) }
+    ensures words { IfErr result (λ stop. stop ≢ Words) }
 {
     let bytes = read_input(alloc, input)?;
     let table = Table::ascii87(alloc)?;

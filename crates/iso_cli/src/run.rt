@@ -1,10 +1,11 @@
 //! The issuer host on a stream: frames in, the frames of their responses out.
 
-ghost use Rattle.std.specs.Prelude.{◌≡◌, IfOk, IfSome, OnOk};
+ghost use Rattle.std.specs.Prelude.{◌≡◌, ◌≢◌, IfErr, IfOk, IfSome, OnOk};
 ghost use Rattle.iso_issuer.specs.Document.{ListsAccounts};
 ghost use Rattle.iso_table.specs.HostReady.{IsHostReady};
 ghost use Rattle.iso_cli.specs.Run.{RunsOver};
 ghost use Rattle.iso_cli.specs.Tables.{IsNamed};
+ghost use Rattle.iso_cli.specs.declared.stop.Stop.TheVariants.{Words};
 
 use crate::documents::document_at;
 use crate::source::Source;
@@ -26,6 +27,7 @@ pub const MOST_TURNS: u64 = 100_000_000;
 pub fn host_table<S: Source>(alloc: Global, source: &S, word: &str) -> Result<Table, Stop>
     ensures named { IfOk result (IsNamed (S.file source.now) word.now) }
     ensures ready { IfOk result IsHostReady }
+    ensures words { IfErr result (λ stop. stop ≢ Words) }
 {
     let table = table_named(alloc, source, word)?;
     table.host_ready()?;
@@ -34,7 +36,8 @@ pub fn host_table<S: Source>(alloc: Global, source: &S, word: &str) -> Result<Ta
 
 /// The accounts of the document at a path.
 pub fn accounts_at<S: Source>(alloc: Global, source: &S, path: &str) -> Result<Accounts, Stop>
-    ensures { IfOk result (λ accounts. IfSome (S.file source.now path.now) (λ text. ListsAccounts text accounts)) }
+    ensures accounts { IfOk result (λ accounts. IfSome (S.file source.now path.now) (λ text. ListsAccounts text accounts)) }
+    ensures words { IfErr result (λ stop. stop ≢ Words) }
 {
     let text = document_at(alloc, source, path)?;
     Ok(Accounts::from_json(alloc, &text)?)
@@ -50,8 +53,9 @@ pub fn run<S: Source, I: Inlet, O: Outlet>(
     input: &mut I,
     output: &mut O,
 ) -> Result<Report, Stop>
-    ensures { OnOk result (RunsOver (S.file source.now) table.now accounts.now header
+    ensures output { OnOk result (RunsOver (S.file source.now) table.now accounts.now header
         (I.remaining input.old) (O.contents output.old) (O.contents output.new)) }
+    ensures words { IfErr result (λ stop. stop ≢ Words) }
 {
     let table = host_table(alloc, source, table)?;
     let accounts = accounts_at(alloc, source, accounts)?;

@@ -1,10 +1,10 @@
 //! A whole input.
-ghost use Rattle.std.specs.Prelude.{◌≡◌, ◌≤◌, ◌<◌, IfErr, IfOk, IfSome, OnOk, IsErrOf, vec_len, length};
+ghost use Rattle.std.specs.Prelude.{◌≡◌, ◌≢◌, ◌≤◌, ◌<◌, IfErr, IfOk, IfSome, OnOk, IsErrOf, vec_len, length};
 ghost use Rattle.std.specs.Io.KnownBytes.{Appends, Consumes, IsAtEnd};
 ghost use Rattle.iso_cli.specs.Stop.{status_of};
 ghost use Rattle.iso_cli.specs.Streaming.{ReadCause};
 ghost use Rattle.iso_cli.specs.Refused.{IsTooLong};
-ghost use Rattle.iso_cli.specs.declared.stop.Stop.TheVariants.{Write};
+ghost use Rattle.iso_cli.specs.declared.stop.Stop.TheVariants.{Words, Write};
 
 use crate::source::MOST_BYTES;
 use crate::stop::Stop;
@@ -60,6 +60,7 @@ const MOST_READS: u32 = 2_000_000;
 pub fn read_input<I: Inlet>(alloc: Global, input: &mut I) -> Result<Vec<u8>, Stop>
     ensures bytes { IfOk result (λ bytes. IfSome (I.remaining input.old) (λ all. all ≡ bytes.items)) }
     ensures stop { IfErr result (λ stop. status_of stop ≡ 1 → IsTooLong (I.remaining input.old) stop) }
+    ensures words { IfErr result (λ stop. stop ≢ Words) }
 {
     match read_all(alloc, input, MOST_READS) {
         Ok(bytes) => Ok(bytes),

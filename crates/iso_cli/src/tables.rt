@@ -1,10 +1,11 @@
 //! The tables that the command line names.
 
-ghost use Rattle.std.specs.Prelude.{◌≡◌, IfErr, IfOk, IfSome};
+ghost use Rattle.std.specs.Prelude.{◌≡◌, ◌≢◌, IfErr, IfOk, IfSome};
 ghost use Rattle.iso_table.specs.Document.{IsTableOf};
 ghost use Rattle.iso_cli.specs.Stop.{status_of};
 ghost use Rattle.iso_cli.specs.Tables.{IsNamed};
 ghost use Rattle.iso_cli.specs.Refused.{HoldsNone, NamesNone};
+ghost use Rattle.iso_cli.specs.declared.stop.Stop.TheVariants.{Words};
 
 use crate::documents::document_at;
 use crate::source::Source;
@@ -16,6 +17,7 @@ use std::alloc::Global;
 fn table_at<S: Source>(alloc: Global, source: &S, path: &str) -> Result<Table, Stop>
     ensures ok { IfOk result (λ table. IfSome (S.file source.now path.now) (λ text. IsTableOf text table)) }
     ensures stop { IfErr result (λ stop. status_of stop ≡ 1 → IfSome (S.file source.now path.now) (λ held. HoldsNone held stop)) }
+    ensures words { IfErr result (λ stop. stop ≢ Words) }
 {
     let text = document_at(alloc, source, path)?;
     Ok(Table::from_json(alloc, &text)?)
@@ -25,6 +27,7 @@ fn table_at<S: Source>(alloc: Global, source: &S, path: &str) -> Result<Table, S
 pub fn table_named<S: Source>(alloc: Global, source: &S, word: &str) -> Result<Table, Stop>
     ensures ok { IfOk result (IsNamed (S.file source.now) word.now) }
     ensures stop { IfErr result (λ stop. status_of stop ≡ 1 → NamesNone (S.file source.now) word.now stop) }
+    ensures words { IfErr result (λ stop. stop ≢ Words) }
 {
     if word == "ascii87" {
         return Ok(Table::ascii87(alloc)?);
