@@ -27,8 +27,6 @@ mod source;
 mod stop;
 mod streaming;
 mod tables;
-#[cfg(test)]
-mod tests;
 mod words;
 
 use arguments::act_as_given;

@@ -1,6 +1,7 @@
 //! How the command stops where it doesn't end well: a line on the fault stream, and a status.
 ghost use Rattle.std.specs.Prelude.{◌≡◌, ◌<◌, ◌≤◌, option_map};
-ghost use Rattle.iso_cli.specs.Stop.{status_of, stop_line, stop_of_accounts, stop_of_input, stop_of_pack, stop_of_serving, stop_of_source, stop_of_table, stop_of_unpack, stop_of_words};
+ghost use Rattle.iso_cli.specs.Stop.{status_of, stop_line, stop_of_accounts, stop_of_input, stop_of_pack};
+ghost use Rattle.iso_cli.specs.Stop.{stop_of_serving, stop_of_source, stop_of_table, stop_of_unpack, stop_of_words};
 ghost use Rattle.iso_cli.specs.declared.stop.Stop.TheVariants.{Host, Memory};
 ghost use Rattle.iso_cli.specs.Tells.{Tells, TellsAs, TellsLine, TellsLineOf, TellsStop};
 

@@ -6,4 +6,4 @@ mod checks;
 mod streams;
 
 pub use checks::{check, check_of};
-pub use streams::{FewBytes, FewTaken, Interrupted, sevens};
+pub use streams::{FewBytes, FewTaken, Interrupted};

@@ -1,6 +1,6 @@
 //! A reader and a writer that move a few bytes at a time and fail at a call, and streams that are interrupted.
 
-use std::alloc::{AllocError, Global};
+use std::alloc::Global;
 use std::io;
 use std::io::{ErrorKind, Read, Write};
 
@@ -108,9 +108,4 @@ impl<S: Write> Write for Interrupted<S> {
         }
         self.stream.flush()
     }
-}
-
-/// So many bytes, each of them a 7.
-pub fn sevens(alloc: Global, count: usize) -> Result<Vec<u8>, AllocError> {
-    vec![in alloc; 7u8; count]
 }

@@ -180,7 +180,8 @@ const DOCUMENTS: &[(&str, &[u8], Option<AccountsFault>)] = &[
     ),
     (
         "the same, behind two of one number",
-        br#"{"accounts":[{"currency":"840","opening":5000,"pan":"1"},{"currency":"840","opening":5000,"pan":"1"},{"currency":"840","opening":5000,"pan":"1"}]}"#,
+        br#"{"accounts":[{"currency":"840","opening":5000,"pan":"1"},{"currency":"840","opening":5000,"pan":"1"},
+            {"currency":"840","opening":5000,"pan":"1"}]}"#,
         SECOND_AGAIN,
     ),
     (
@@ -190,7 +191,8 @@ const DOCUMENTS: &[(&str, &[u8], Option<AccountsFault>)] = &[
     ),
     (
         "another currency, behind two of one number",
-        br#"{"accounts":[{"currency":"840","opening":5000,"pan":"1"},{"currency":"840","opening":5000,"pan":"1"},{"currency":"USD","opening":5000,"pan":"1"}]}"#,
+        br#"{"accounts":[{"currency":"840","opening":5000,"pan":"1"},{"currency":"840","opening":5000,"pan":"1"},
+            {"currency":"USD","opening":5000,"pan":"1"}]}"#,
         SECOND_AGAIN,
     ),
     (
@@ -200,7 +202,8 @@ const DOCUMENTS: &[(&str, &[u8], Option<AccountsFault>)] = &[
     ),
     (
         "out of range too, behind two of one number",
-        br#"{"accounts":[{"currency":"840","opening":5000,"pan":"1"},{"currency":"840","opening":5000,"pan":"1"},{"currency":"840","opening":9000000000000001,"pan":"1"}]}"#,
+        br#"{"accounts":[{"currency":"840","opening":5000,"pan":"1"},{"currency":"840","opening":5000,"pan":"1"},
+            {"currency":"840","opening":9000000000000001,"pan":"1"}]}"#,
         SECOND_AGAIN,
     ),
     (
@@ -220,7 +223,8 @@ const DOCUMENTS: &[(&str, &[u8], Option<AccountsFault>)] = &[
     ),
     (
         "another number, behind two of one number",
-        br#"{"accounts":[{"currency":"840","opening":5000,"pan":"1"},{"currency":"840","opening":5000,"pan":"1"},{"currency":"840","opening":5000,"pan":"01"}]}"#,
+        br#"{"accounts":[{"currency":"840","opening":5000,"pan":"1"},{"currency":"840","opening":5000,"pan":"1"},
+            {"currency":"840","opening":5000,"pan":"01"}]}"#,
         SECOND_AGAIN,
     ),
 ];
