@@ -1,0 +1,293 @@
+#!/usr/bin/env python3
+"""Runs the command on each row of crates/iso_cli/rows, and compares what comes of it with what the row says.
+
+command-rows.py COMMAND runs every row on that built program. command-rows.py runs those that need no device of their own, by one
+quick run, without proofs. Either prints each row that fails, with what differs, and as its last line how many passed and failed.
+
+A document in that folder has "rows", and may have "each", with members that each row has unless it gives others, and "texts",
+which its rows may name. The files and the texts of shared.json are those of all documents. A row has a "name" and
+    "words"         behind the program's name, none by default
+    "called"        the program's name, null where it gets not even that
+    "files"         the texts of files in the folder where it runs
+    "stdin"         "folder": the input is a folder, of which each read fails
+    "input"         what it reads, nothing by default
+    "input pieces"  it comes through a pipe, so many bytes once those before were read
+    "input fails"   true: the read behind it fails
+    "output takes"  so many bytes, before a write to the output fails
+    "faults take"   the same of the fault stream
+    "status"        with which it ends, 0 by default
+    "output"        what it writes, nothing by default
+    "faults"        what it tells on the fault stream, nothing by default
+A text is a string, in which each character is one byte, from U+0000 to U+00FF; or "@NAME", a text of that name; or an object,
+which is its JSON without blanks; or [TEXT, TIMES]; or a list of texts, end to end.
+"""
+import array
+import contextlib
+import fcntl
+import hashlib
+import json
+import os
+import pathlib
+import re
+import resource
+import signal
+import socket
+import struct
+import subprocess
+import sys
+import tempfile
+import termios
+import time
+
+TOP = pathlib.Path(__file__).resolve().parent.parent
+CRATE = TOP / "crates" / "iso_cli"
+DOCUMENTS = CRATE / "rows"
+WAIT = 60
+
+# ---- the rows
+
+ROW = {"name": None, "words": [], "called": "iso_cli", "files": {}, "stdin": None, "input": "", "input pieces": None,
+       "input fails": False, "output takes": None, "faults take": None, "status": 0, "output": "", "faults": ""}
+DEVICES = ["stdin", "input pieces", "input fails", "output takes", "faults take"]
+
+
+def encoded(text):
+    return text.encode("latin-1")
+
+
+def text_of(value, texts):
+    """The bytes of a text."""
+    if isinstance(value, dict):
+        return json.dumps(value, separators=(",", ":")).encode()
+    if isinstance(value, str):
+        return text_of(texts[value[1:]], texts) if value.startswith("@") else encoded(value)
+    if len(value) == 2 and isinstance(value[1], int):
+        return text_of(value[0], texts) * value[1]
+    return b"".join(text_of(part, texts) for part in value)
+
+
+def whole_row(given, shared, document):
+    """The row with all its members, in bytes."""
+    texts = {**shared["texts"], **document.get("texts", {})}
+    row = {**ROW, **document.get("each", {}), **given}
+    if row.keys() != ROW.keys():
+        raise ValueError(f"{given['name']}: what is {sorted(row.keys() - ROW.keys())}?")
+    row["files"] = {encoded(name): text_of(value, texts) for name, value in {**shared["files"], **row["files"]}.items()}
+    row["words"] = [encoded(word) for word in row["words"]]
+    for name in ("input", "output", "faults"):
+        row[name] = text_of(row[name], texts)
+    return row
+
+
+def all_rows():
+    """The rows of all documents, each named by its document too."""
+    shared = json.loads((DOCUMENTS / "shared.json").read_text())
+    rows = []
+    for path in sorted(DOCUMENTS.glob("*.json")):
+        document = json.loads(path.read_text())
+        for given in document.get("rows", []):
+            row = whole_row(given, shared, document)
+            row["name"] = f"{path.relative_to(TOP)}: {row['name']}"
+            rows.append(row)
+    return rows
+
+
+# ---- what a built program reads
+
+def unread(end):
+    """How many bytes of a pipe or a socket nobody has read."""
+    count = array.array("i", [0])
+    fcntl.ioctl(end, termios.FIONREAD, count)
+    return count[0]
+
+
+def failing_input(text, opened):
+    """A connection that gives these bytes, and then fails, since its other end was reset."""
+    with socket.create_server(("127.0.0.1", 0)) as listener:
+        peer = socket.create_connection(listener.getsockname())
+        taken = opened.enter_context(listener.accept()[0])
+    peer.sendall(text)
+    end = time.monotonic() + WAIT
+    while unread(taken) < len(text) and time.monotonic() < end:
+        time.sleep(0.001)
+    peer.setsockopt(socket.SOL_SOCKET, socket.SO_LINGER, struct.pack("ii", 1, 0))
+    peer.close()
+    return taken
+
+
+def opened_input(row, folder, opened):
+    """What the program reads, and the end that is still to be fed, if any."""
+    if row["stdin"] == "folder":
+        descriptor = os.open(folder, os.O_RDONLY)
+        opened.callback(os.close, descriptor)
+        return descriptor, None
+    if row["input fails"]:
+        return failing_input(row["input"], opened), None
+    if row["input pieces"]:
+        read_end, write_end = os.pipe()
+        return opened.enter_context(os.fdopen(read_end, "rb")), os.fdopen(write_end, "wb", buffering=0)
+    file = opened.enter_context(tempfile.TemporaryFile())
+    file.write(row["input"])
+    file.seek(0)
+    return file, None
+
+
+def feed(process, write_end, text, size):
+    """Writes each piece once the program has read those before."""
+    with write_end, contextlib.suppress(BrokenPipeError):
+        for at in range(0, len(text), size):
+            write_end.write(text[at:at + size])
+            while unread(write_end) and process.poll() is None:
+                time.sleep(0.0001)
+
+
+# ---- what it writes
+
+def opened_output(takes, opened):
+    """A stream that takes all, or so many bytes."""
+    if takes is None:
+        return subprocess.PIPE
+    if takes == 0:
+        return opened.enter_context(open("/dev/full", "wb"))
+    return opened.enter_context(tempfile.TemporaryFile())
+
+
+def limit_files(size):
+    """The system refuses what would make a file larger, and ends nobody for it."""
+    signal.signal(signal.SIGXFSZ, signal.SIG_IGN)
+    resource.setrlimit(resource.RLIMIT_FSIZE, (size, size))
+
+
+def written(stream, piped):
+    """What a stream took."""
+    if stream == subprocess.PIPE:
+        return piped
+    if not stream.seekable() or stream.name == "/dev/full":
+        return b""
+    stream.seek(0)
+    return stream.read()
+
+
+# ---- a built program
+
+def run_in(command, row, folder, opened):
+    """The status, the output and the fault lines of a program in a folder."""
+    for name, text in row["files"].items():
+        pathlib.Path(folder, os.fsdecode(name)).write_bytes(text)
+    called = [] if row["called"] is None else [encoded(row["called"])]
+    limit = row["output takes"] or row["faults take"]
+    read_end, write_end = opened_input(row, folder, opened)
+    output = opened_output(row["output takes"], opened)
+    faults = opened_output(row["faults take"], opened)
+    process = opened.enter_context(subprocess.Popen(
+        called + row["words"], executable=command, cwd=folder, env={}, stdin=read_end, stdout=output, stderr=faults,
+        preexec_fn=(lambda: limit_files(limit)) if limit else None))
+    opened.callback(process.kill)
+    if write_end:
+        feed(process, write_end, row["input"], row["input pieces"])
+    piped = process.communicate(timeout=WAIT)
+    return process.returncode, written(output, piped[0]), written(faults, piped[1])
+
+
+def run_rows(command, rows):
+    """What comes of each row on a built program."""
+    ends = []
+    for row in rows:
+        with tempfile.TemporaryDirectory() as folder, contextlib.ExitStack() as opened:
+            try:
+                ends.append(run_in(command, row, folder, opened))
+            except (OSError, subprocess.TimeoutExpired) as fault:
+                ends.append(fault)
+    return ends
+
+
+# ---- the quick run
+
+def is_quick(row):
+    """Whether the quick run can give the program all that: no device, and only words that stand in a line of text."""
+    try:
+        lines = [word.decode() for word in row["words"]]
+    except UnicodeDecodeError:
+        return False
+    return (row["called"] == ROW["called"] and all(row[name] == ROW[name] for name in DEVICES)
+            and not any("\n" in line or line == "{}" for line in lines))
+
+
+def quick_name(name, text):
+    """The cases share their files, so a file has a name of its own for each of its texts."""
+    return hashlib.sha256(text).hexdigest()[:16].encode() + b"-" + name
+
+
+def write_cases(rows, cases, data):
+    """Writes a case for each row, and the files that their words name."""
+    for number, row in enumerate(rows):
+        names = {name: quick_name(name, text) for name, text in row["files"].items() if name in row["words"]}
+        for name, quick in names.items():
+            (data / os.fsdecode(quick)).write_bytes(row["files"][name])
+        (cases / f"row{number}").write_bytes(row["input"])
+        if row["words"]:
+            (cases / f"row{number}.args").write_bytes(b"".join(names.get(word, word) + b"\n" for word in row["words"]))
+
+
+def end_of(number, told, faults):
+    """The status, the output and the fault lines of a case, out of what the quick run told."""
+    line, fault_lines = faults.get(number, (b"the quick run has no such case", b""))
+    status = re.search(rb" run=ended status=(\d+) ", line)
+    if not status:
+        return f"{line.decode()} {fault_lines.decode(errors='replace')}"
+    return int(status[1]), told.get(number, b""), fault_lines
+
+
+def try_rows(rows):
+    """What comes of each row in one quick run."""
+    with tempfile.TemporaryDirectory() as folder:
+        cases, data = pathlib.Path(folder, "cases"), pathlib.Path(folder, "data")
+        cases.mkdir()
+        data.mkdir()
+        write_cases(rows, cases, data)
+        shared = [word for path in data.iterdir() for word in ("--data", f"{path.name}={path}")]
+        run = subprocess.run(["rt", "try", "--cases", cases, *shared], cwd=CRATE, stdin=subprocess.DEVNULL, capture_output=True)
+    parts = re.split(rb"^== row(\d+)\n", run.stdout, flags=re.MULTILINE)
+    told = {int(number): text for number, text in zip(parts[1::2], parts[2::2])}
+    parts = re.split(rb"^(case=row(\d+) .*)\n", run.stderr, flags=re.MULTILINE)
+    faults = {int(number): (line, text) for text, line, number in zip(parts[::3], parts[1::3], parts[2::3])}
+    if not faults:
+        sys.stdout.write(run.stderr.decode(errors="replace"))
+    # the quick run puts a newline behind an output that has none
+    ends = [end_of(number, told, faults) for number in range(len(rows))]
+    return [(end[0], row["output"], end[2]) if isinstance(end, tuple) and end[1] == row["output"] + b"\n" else end
+            for row, end in zip(rows, ends)]
+
+
+# ---- the judgement
+
+def differences(row, end):
+    """What isn't as the row says."""
+    if not isinstance(end, tuple):
+        return [str(end)]
+    wanted = row["status"], row["output"], row["faults"]
+    return [f"{what} is {found!r}, not {expected!r}" for what, found, expected
+            in zip(("the status", "the output", "the fault line"), end, wanted) if found != expected]
+
+
+def main(words):
+    rows = all_rows()
+    if not words:
+        rows = [row for row in rows if is_quick(row)]
+        ends = try_rows(rows)
+    elif len(words) == 1 and os.access(words[0], os.X_OK):
+        ends = run_rows(os.path.abspath(words[0]), rows)
+    else:
+        sys.exit("command-rows.py: which command?")
+    failed = 0
+    for row, end in zip(rows, ends):
+        differing = differences(row, end)
+        failed += bool(differing)
+        if differing:
+            print(f"FAILED {row['name']}", *differing, sep="\n    ")
+    print(f"scripts/command-rows.py: {len(rows) - failed} rows passed, {failed} failed")
+    return 1 if failed or not rows else 0
+
+
+if __name__ == "__main__":
+    sys.exit(main(sys.argv[1:]))
