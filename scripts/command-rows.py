@@ -37,6 +37,7 @@ import subprocess
 import sys
 import tempfile
 import termios
+import threading
 import time
 
 TOP = pathlib.Path(__file__).resolve().parent.parent
@@ -116,29 +117,36 @@ def failing_input(text, opened):
 
 
 def opened_input(row, folder, opened):
-    """What the program reads, and the end that is still to be fed, if any."""
+    """What the program reads, unless that comes through a pipe."""
     if row["stdin"] == "folder":
         descriptor = os.open(folder, os.O_RDONLY)
         opened.callback(os.close, descriptor)
-        return descriptor, None
-    if row["input fails"]:
-        return failing_input(row["input"], opened), None
+        return descriptor
     if row["input pieces"]:
-        read_end, write_end = os.pipe()
-        return opened.enter_context(os.fdopen(read_end, "rb")), os.fdopen(write_end, "wb", buffering=0)
+        return subprocess.PIPE
+    if row["input fails"]:
+        return failing_input(row["input"], opened)
     file = opened.enter_context(tempfile.TemporaryFile())
     file.write(row["input"])
     file.seek(0)
-    return file, None
+    return file
 
 
-def feed(process, write_end, text, size):
+def feed(process, pipe, text, size):
     """Writes each piece once the program has read those before."""
-    with write_end, contextlib.suppress(BrokenPipeError):
+    with pipe, contextlib.suppress(BrokenPipeError):
         for at in range(0, len(text), size):
-            write_end.write(text[at:at + size])
-            while unread(write_end) and process.poll() is None:
+            os.write(pipe.fileno(), text[at:at + size])
+            while unread(pipe) and process.poll() is None:
                 time.sleep(0.0001)
+
+
+def start_feeding(process, row, opened):
+    """Has a thread write what comes through a pipe, while the output is read."""
+    pipe, process.stdin = process.stdin, None
+    feeder = threading.Thread(target=feed, args=(process, pipe, row["input"], row["input pieces"]))
+    feeder.start()
+    opened.callback(feeder.join)
 
 
 # ---- what it writes
@@ -176,15 +184,14 @@ def run_in(command, row, folder, opened):
         pathlib.Path(folder, os.fsdecode(name)).write_bytes(text)
     called = [] if row["called"] is None else [encoded(row["called"])]
     limit = row["output takes"] or row["faults take"]
-    read_end, write_end = opened_input(row, folder, opened)
     output = opened_output(row["output takes"], opened)
     faults = opened_output(row["faults take"], opened)
     process = opened.enter_context(subprocess.Popen(
-        called + row["words"], executable=command, cwd=folder, env={}, stdin=read_end, stdout=output, stderr=faults,
-        preexec_fn=(lambda: limit_files(limit)) if limit else None))
+        called + row["words"], executable=command, cwd=folder, env={}, stdin=opened_input(row, folder, opened), stdout=output,
+        stderr=faults, preexec_fn=(lambda: limit_files(limit)) if limit else None))
+    if process.stdin:
+        start_feeding(process, row, opened)
     opened.callback(process.kill)
-    if write_end:
-        feed(process, write_end, row["input"], row["input pieces"])
     piped = process.communicate(timeout=WAIT)
     return process.returncode, written(output, piped[0]), written(faults, piped[1])
 
@@ -290,4 +297,9 @@ def main(words):
 
 
 if __name__ == "__main__":
-    sys.exit(main(sys.argv[1:]))
+    try:
+        sys.exit(main(sys.argv[1:]))
+    except (OSError, ValueError, KeyError) as fault:
+        print(f"FAILED scripts/command-rows.py: {fault!r}")
+        print("scripts/command-rows.py: 0 rows passed, 1 failed")
+        sys.exit(1)
