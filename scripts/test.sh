@@ -8,11 +8,13 @@ folder=$(mktemp -d)
 trap 'rm -rf "$folder"' EXIT
 trap 'exit 1' HUP INT TERM
 
-# a script and its word in each line: what the pages show, the examples in C, the crates that have tests, and the programs that have a stored run
+# a command in each line: what the pages show, the examples in C, the rows of the command, the crates that have tests, and the
+# programs that have a stored run
 jobs() {
     echo scripts/recipes.sh docs
     echo scripts/elements.sh docs/ELEMENTS.md
     echo scripts/c-examples.sh examples/c
+    echo scripts/command-rows.py
     grep -rl --include='*.rt' '^ *#\[test\]' crates/*/src | cut -d/ -f2 | sort -u | sed 's|^|scripts/try-tests.sh |'
     ls crates/*/stdout | cut -d/ -f2 | sed 's|^|scripts/try-runs.sh |'
 }
@@ -48,7 +50,7 @@ tables() {
     example README.md crates/iso_host_tests/src/host/example.rt
     example examples/pieces.md crates/iso_ledger_tests/src/order/pieces.rt
     tables
-    jobs | xargs -P 2 -n 2 sh
+    jobs | xargs -P 2 -I JOB sh -c JOB
 } | tee "$folder/told"
 awk '/^[^ ]*: [0-9]* .*passed, [0-9]* failed$/ { passed += $2; failed += $(NF - 1) }
     END { print passed + 0 " passed, " failed + 0 " failed"; exit failed > 0 || passed == 0 }' "$folder/told"
