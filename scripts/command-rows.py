@@ -14,7 +14,7 @@ which its rows may name. The files and the texts of shared.json are those of all
     "input pieces"  it comes through a pipe, so many bytes once those before were read
     "input fails"   true: the read behind it fails
     "output takes"  so many bytes, before a write to the output fails
-    "faults take"   the same of the fault stream
+    "faults take"   the same of the fault stream; of both, one at most is above 0
     "status"        with which it ends, 0 by default
     "output"        what it writes, nothing by default
     "faults"        what it tells on the fault stream, nothing by default
@@ -170,7 +170,7 @@ def written(stream, piped):
     """What a stream took."""
     if stream == subprocess.PIPE:
         return piped
-    if not stream.seekable() or stream.name == "/dev/full":
+    if stream.name == "/dev/full":
         return b""
     stream.seek(0)
     return stream.read()
@@ -236,6 +236,11 @@ def write_cases(rows, cases, data):
             (cases / f"row{number}.args").write_bytes(b"".join(names.get(word, word) + b"\n" for word in row["words"]))
 
 
+def shown(output):
+    """The quick run puts a newline behind an output that has none."""
+    return output if not output or output.endswith(b"\n") else output + b"\n"
+
+
 def end_of(number, told, faults):
     """The status, the output and the fault lines of a case, out of what the quick run told."""
     line, fault_lines = faults.get(number, (b"the quick run has no such case", b""))
@@ -260,9 +265,8 @@ def try_rows(rows):
     faults = {int(number): (line, text) for text, line, number in zip(parts[::3], parts[1::3], parts[2::3])}
     if not faults:
         sys.stdout.write(run.stderr.decode(errors="replace"))
-    # the quick run puts a newline behind an output that has none
     ends = [end_of(number, told, faults) for number in range(len(rows))]
-    return [(end[0], row["output"], end[2]) if isinstance(end, tuple) and end[1] == row["output"] + b"\n" else end
+    return [(end[0], row["output"], end[2]) if isinstance(end, tuple) and end[1] == shown(row["output"]) else end
             for row, end in zip(rows, ends)]
 
 
