@@ -4,7 +4,7 @@
 # make day     the frames of examples/day.txt through an issuer host, and each answer; builds the command
 # make replay  a host that is killed and started again on the frames that were kept; builds the command
 # make connections  an acquirer whose answers get lost, and peers that misbehave, at a host on a port; builds the command
-# make rows    each row of the command's at the built command; builds the command
+# make rows    the rows of the command, and of its host on a port, at the built command; builds the command
 # make schedule  an acquirer whose answers get lost, and what both ends hold: SCHEDULE=examples/lost-answers.txt
 # make library  proves the library for C and what it stands on, and builds it: crates/iso_c/out/libiso_c.a
 # make check   proves what changed since the last check
@@ -69,6 +69,7 @@ connections: $(COMMAND)
 
 rows: $(COMMAND)
 	@python3 scripts/command-rows.py $(COMMAND)
+	@python3 scripts/port-rows.py $(COMMAND)
 
 schedule:
 	@scripts/quick-run.sh iso_schedule $(SCHEDULE)

@@ -302,6 +302,20 @@ def differences_in_folder(differences_of, command, files, row, texts):
             return [str(fault)]
 
 
+def only_run():
+    """A socket that one run of this script has at a time, as its rows name ports that one host has at a time."""
+    held = socket.socket(socket.AF_UNIX)
+    end = time.monotonic() + WAIT
+    while True:
+        try:
+            held.bind("\0scripts/port-rows.py")
+            return held
+        except OSError:
+            if time.monotonic() > end:
+                sys.exit("port-rows.py: another run of it doesn't end")
+            time.sleep(0.05)
+
+
 def main(command):
     document = json.loads(ROWS.read_text(encoding="ascii"))
     texts = {name: text.encode("latin-1") for name, text in document["texts"].items()}
@@ -324,4 +338,5 @@ def main(command):
 if __name__ == "__main__":
     if len(sys.argv) != 2:
         sys.exit("port-rows.py: which command?")
-    main(os.path.abspath(sys.argv[1]))
+    with only_run():
+        main(os.path.abspath(sys.argv[1]))
