@@ -92,8 +92,8 @@ def set_devices(row):
 @contextlib.contextmanager
 def started(command, words, folder, row):
     """The command on these words. Its output is a file and its fault stream a pipe of one page, unless they take nothing."""
-    output = "/dev/full" if row.get("output takes") == 0 else f"{folder}/output"
-    with open(output, "wb") as output, open("/dev/full", "wb") as full:
+    device = "/dev/full" if row.get("output takes") == 0 else f"{folder}/output"
+    with open(device, "wb") as output, open("/dev/full", "wb") as full:
         faults = full if row.get("faults take") == 0 else subprocess.PIPE
         host = subprocess.Popen([command, *words], cwd=folder, stdin=subprocess.DEVNULL, stdout=output, stderr=faults, bufsize=0,
                                 pipesize=PIPE, preexec_fn=lambda: set_devices(row))
