@@ -1,4 +1,4 @@
-use Rattle.std.proofs.Common.{Err}
+use Rattle.std.proofs.Common.{Err, rules}
 use Rattle.iso_wire.proofs.Packs.{is_written, appended_again}
 use Rattle.iso_wire.proofs.packing.append_message.Goals as goal
 
@@ -8,3 +8,6 @@ returns-in-Ok-clause-again c =
 
 pub returns-in-Err-clause-only : goal.returns-in-Err-clause-only
 returns-in-Err-clause-only c = is_written {T = Unit {0}} c.args.table.now c.args.message.now (Err c.in-Err.fault) c.in-Err.ensures.fault
+
+pub returns-in-Err-clause-unchanged : goal.returns-in-Err-clause-unchanged
+returns-in-Err-clause-unchanged c = search rules

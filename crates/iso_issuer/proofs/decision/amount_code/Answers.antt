@@ -1,0 +1,6 @@
+-- A wrong edit turns this function. It is refused sooner where its goals have answers, as these.
+use Rattle.std.proofs.Common.{rules}
+use Rattle.iso_issuer.proofs.decision.amount_code.Goals as goal
+
+pub returns-then-balance-smaller_of-clause-value : goal.returns-then-balance-smaller_of-clause-value
+returns-then-balance-smaller_of-clause-value c = search rules

@@ -1,0 +1,6 @@
+-- A wrong edit turns this function. It is refused sooner where its goals have answers, as these.
+use Rattle.std.proofs.Common.{rules}
+use Rattle.iso_issuer.proofs.index.keep_left.Goals as goal
+
+pub returns-in_ok-insert-in-Undo-clause-ok : goal.returns-in_ok-insert-in-Undo-clause-ok
+returns-in_ok-insert-in-Undo-clause-ok c = search rules

@@ -1,0 +1,9 @@
+-- A wrong edit turns this function. It is refused sooner where its goals have answers, as these.
+use Rattle.std.proofs.Common.{rules}
+use Rattle.iso_order.proofs.response.is_approved.Goals as goal
+
+pub returns-else-class-eq1 : goal.returns-else-class-eq1
+returns-else-class-eq1 c = search rules
+
+pub returns-then-class-eq1 : goal.returns-then-class-eq1
+returns-then-class-eq1 c = search rules

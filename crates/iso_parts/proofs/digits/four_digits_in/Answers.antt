@@ -1,0 +1,6 @@
+-- A wrong edit turns this function. It is refused sooner where its goals have answers, as these.
+use Rattle.std.proofs.Common.{rules}
+use Rattle.iso_parts.proofs.digits.four_digits_in.Goals as goal
+
+pub returns-in-Bcd-len2 : goal.returns-in-Bcd-len2
+returns-in-Bcd-len2 c = search rules

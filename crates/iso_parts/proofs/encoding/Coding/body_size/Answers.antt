@@ -1,0 +1,6 @@
+-- A wrong edit turns this function. It is refused sooner where its goals have answers, as these.
+use Rattle.std.proofs.Common.{rules}
+use Rattle.iso_parts.proofs.encoding.Coding.body_size.Goals as goal
+
+pub returns-then-eq-clause-size : goal.returns-then-eq-clause-size
+returns-then-eq-clause-size c = search rules

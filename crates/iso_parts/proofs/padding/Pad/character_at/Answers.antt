@@ -1,0 +1,10 @@
+-- A wrong edit turns this function. It is refused sooner where its goals have answers, as these.
+use Rattle.std.proofs.Common.{arith}
+use Rattle.std.proofs.lemmas.Grind.{common_steps}
+use Rattle.iso_parts.proofs.padding.Pad.character_at.Goals as goal
+
+pub returns-else-at-value : goal.returns-else-at-value
+returns-else-at-value c = grind (arith, common_steps)
+
+pub returns-then-at-value : goal.returns-then-at-value
+returns-then-at-value c = grind (arith, common_steps)

@@ -1,0 +1,9 @@
+-- A wrong edit turns this function. It is refused sooner where its goals have answers, as these.
+use Rattle.std.proofs.Common.{rules}
+use Rattle.iso_table.proofs.writing.row_value.Goals as goal
+
+pub returns : goal.returns
+returns c = search rules
+
+pub returns-in-None : goal.returns-in-None
+returns-in-None c = search rules

@@ -1,0 +1,7 @@
+-- A wrong edit turns this function. It is refused sooner where its goals have answers, as these.
+use Rattle.std.proofs.Common.{arith}
+use Rattle.std.proofs.lemmas.Grind.{common_steps}
+use Rattle.iso_wire.proofs.framing.open_frame.Goals as goal
+
+pub returns-clause-ok : goal.returns-clause-ok
+returns-clause-ok c = grind (arith, common_steps)

@@ -1,0 +1,6 @@
+-- A wrong edit turns this function. It is refused sooner where its goals have answers, as these.
+use Rattle.std.proofs.Common.{rules}
+use Rattle.iso_wire.proofs.header.Header.size.Goals as goal
+
+pub returns-in-Ascii4 : goal.returns-in-Ascii4
+returns-in-Ascii4 c = search rules
