@@ -1,4 +1,5 @@
 mod CommandLemmas
+mod ListeningLemmas
 mod SourceLemmas
 mod StreamingLemmas
 mod RefusedLemmas

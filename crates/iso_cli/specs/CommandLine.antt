@@ -33,9 +33,13 @@ show_app = with_rule (with_rule (bare_app (codes "show")) (name_rule (codes "tab
 abbrev pub convert_app : App
 convert_app = with_rule (with_rule (bare_app (codes "convert")) (name_rule (codes "from"))) (name_rule (codes "to"))
 
+-- a command of this name that takes a table, accounts and a header
+abbrev pub host_app : Text → App
+host_app name = with_rule (with_rule (with_rule (bare_app name) (name_rule (codes "table"))) (name_rule (codes "accounts"))) (name_rule (codes "header"))
+
 -- `run TABLE ACCOUNTS HEADER`
 abbrev pub run_app : App
-run_app = with_rule (with_rule (with_rule (bare_app (codes "run")) (name_rule (codes "table"))) (name_rule (codes "accounts"))) (name_rule (codes "header"))
+run_app = host_app (codes "run")
 
 -- the command before its subcommands
 abbrev pub iso_alone : App
@@ -50,6 +54,14 @@ codec_app = with_subcommand (with_subcommand (with_subcommand iso_alone check_ap
 -- the whole command
 abbrev pub iso_app : App
 iso_app = with_subcommand codec_app run_app.top
+
+-- `serve TABLE ACCOUNTS HEADER PORT COUNT`
+abbrev pub serve_app : App
+serve_app = with_rule (with_rule (host_app (codes "serve")) (name_rule (codes "port"))) (name_rule (codes "count"))
+
+-- the command of a host on a port
+abbrev pub port_app : App
+port_app = with_subcommand iso_alone serve_app.top
 
 -- the argument follows this rule, in its own command alone
 pub record FollowsRule (rule : Rule) (arg : Arg) : Type 0 where

@@ -1,8 +1,8 @@
 -- What the words of a host on a port ask.
-use Rattle.std.specs.Prelude.{◌≡◌, ◌≤◌, ℕ, List, [], ◌∷◌, codes}
+use Rattle.std.specs.Prelude.{◌≡◌, ◌≤◌, IsTrue, ℕ, List, [], ◌∷◌, codes}
 use Rattle.std.specs.Str.Parse.{IsNumeral, digits_value, without_leading_plus}
 use Rattle.iso_cli.specs.declared.listening.Listening.{Listening}
-use Rattle.iso_cli.specs.Words.{header_name}
+use Rattle.iso_cli.specs.Words.{AsksNothing, header_name, is_name}
 
 -- the word writes this number, which lies in these bounds: decimal digits, with a plus in front or none
 pub record IsWholeNumber (low high : ℕ) (word : List ℕ) (n : ℕ) : Type 0 where
@@ -13,6 +13,8 @@ pub record IsWholeNumber (low high : ℕ) (word : List ℕ) (n : ℕ) : Type 0 w
 
 -- these words name a host's table, accounts, header, port and count
 pub record Listens (table accounts header port count : List ℕ) (l : Listening) : Type 0 where
+  pub table_name : IsTrue (is_name table)
+  pub accounts_name : IsTrue (is_name accounts)
   pub table_is : l.table.now ≡ table
   pub accounts_is : l.accounts.now ≡ accounts
   pub header_is : header ≡ header_name l.header
@@ -28,3 +30,12 @@ pub record AsksServe (words : List (List ℕ)) (l : Listening) : Type 0 where
   pub count : List ℕ
   pub listens : Listens table accounts header port count l
   pub spelled : words ≡ codes "serve" ∷ table ∷ accounts ∷ header ∷ port ∷ count ∷ []
+
+-- these words spell no host on a port
+abbrev pub AsksNoServe : List (List ℕ) → Type 0
+AsksNoServe words = (l : Listening) → AsksServe words l → ⊥
+
+-- these words are no command line
+pub record IsNoCommand (words : List (List ℕ)) : Type 0 where
+  pub job : AsksNothing words
+  pub host : AsksNoServe words

@@ -1,6 +1,7 @@
 //! The words that the program is given.
 
 ghost use Rattle.std.specs.Prelude.{◌≡◌, ◌≤◌, ◌⊎◌, IfOk, IfErr, map, string_bytes};
+ghost use Rattle.iso_cli.specs.Listening.{IsNoCommand};
 ghost use Rattle.iso_cli.specs.declared.stop.Stop.TheVariants.{Words, Memory};
 
 use crate::act::act;
@@ -79,6 +80,8 @@ fn act_or_serve<
     faults: &mut F,
 ) -> u8
     ensures status { result ≤ 3 }
+    // With status 2, the words are no command line.
+    ensures words { result ≡ 2 → IsNoCommand (map (λ w. w.now) words.now) }
 {
     match words {
         ["serve", ..] => serve_port(alloc, net, words, source, output, faults),

@@ -1,11 +1,14 @@
 //! The command line of a host on a port.
 //!
 //! `clap` judges the words, and what it lets pass is matched word by word, so that contracts can speak of the words.
-ghost use Rattle.std.specs.Prelude.{IfOk, IfSome, map};
-ghost use Rattle.iso_cli.specs.Listening.{AsksServe, IsWholeNumber, Listens};
+ghost use Rattle.std.specs.Prelude.{◌≡◌, ℕ, IfErr, IfNone, IfOk, IfSome, IsErrOf, map, true};
+ghost use Rattle.clap.specs.Words.{takes};
+ghost use Rattle.iso_cli.specs.CommandLine.{IsCommand, port_app, serve_app};
+ghost use Rattle.iso_cli.specs.Listening.{AsksNoServe, AsksServe, IsWholeNumber, Listens};
+ghost use Rattle.iso_cli.specs.declared.listening.Listening.{Listening};
 
 use crate::words::{
-    WordsFault, bare_command, header_of_word, is_name, iso_alone, judge_by, name_argument,
+    WordsFault, header_of_word, host_command, is_name, iso_alone, judge_by, name_argument,
 };
 use clap::Command;
 use iso_wire::Header;
@@ -26,22 +29,27 @@ pub struct Listening<'a> {
     pub count: u16,
 }
 
-fn serve_command<'a>(alloc: Global) -> Result<Command<'a>, AllocError> {
-    bare_command(alloc, "serve")
-        .arg(name_argument(alloc, "table"))?
-        .arg(name_argument(alloc, "accounts"))?
-        .arg(name_argument(alloc, "header"))?
+fn serve_command<'a>(alloc: Global) -> Result<Command<'a>, AllocError>
+    ensures { IfOk result (IsCommand serve_app) }
+{
+    host_command(alloc, "serve")?
         .arg(name_argument(alloc, "port"))?
         .arg(name_argument(alloc, "count"))
 }
 
 /// The command with this subcommand alone.
-fn command<'a>(alloc: Global) -> Result<Command<'a>, AllocError> {
+#[tactic(auto, using(crate::proofs::CommandLemmas::adds))]
+fn command<'a>(alloc: Global) -> Result<Command<'a>, AllocError>
+    ensures { IfOk result (IsCommand port_app) }
+{
     iso_alone(alloc).subcommand(serve_command(alloc)?)
 }
 
 /// Whether `clap` lets the words pass.
-fn judge<'a>(alloc: Global, words: &'a [&'a str]) -> Result<(), WordsFault> {
+fn judge<'a>(alloc: Global, words: &'a [&'a str]) -> Result<(), WordsFault>
+    ensures passes { IfErr result (λ fault. takes port_app (map (λ w. w.now) words.now) ≡ true
+        → fault ≡ WordsFault.Memory) }
+{
     let Ok(command) = command(alloc) else {
         return Err(WordsFault::Memory);
     };
@@ -50,7 +58,8 @@ fn judge<'a>(alloc: Global, words: &'a [&'a str]) -> Result<(), WordsFault> {
 
 /// The number that a word is, if it is 1 to `most`: decimal digits, with a plus in front or none.
 fn whole_number(word: &str, most: u16) -> Option<u16>
-    ensures { IfSome result (IsWholeNumber 1 most word.now) }
+    ensures found { IfSome result (IsWholeNumber 1 most word.now) }
+    ensures none { IfNone result ((n : ℕ) → IsWholeNumber 1 most word.now n → ⊥) }
 {
     match word.parse::<u16>() {
         Ok(number) if 1 <= number && number <= most => Some(number),
@@ -66,7 +75,8 @@ fn listening_by<'a>(
     port: &str,
     count: &str,
 ) -> Option<Listening<'a>>
-    ensures { IfSome result (Listens table.now accounts.now header.now port.now count.now) }
+    ensures found { IfSome result (Listens table.now accounts.now header.now port.now count.now) }
+    ensures none { IfNone result ((l : Listening) → Listens table.now accounts.now header.now port.now count.now l → ⊥) }
 {
     if !is_name(table) || !is_name(accounts) {
         return None;
@@ -82,7 +92,8 @@ fn listening_by<'a>(
 
 /// What the words ask, by the words alone.
 fn listening_of<'a>(words: &'a [&'a str]) -> Option<Listening<'a>>
-    ensures { IfSome result (AsksServe (map (λ w. w.now) words.now)) }
+    ensures found { IfSome result (AsksServe (map (λ w. w.now) words.now)) }
+    ensures none { IfNone result (AsksNoServe (map (λ w. w.now) words.now)) }
 {
     match words {
         ["serve", table, accounts, header, port, count] => {
@@ -96,7 +107,8 @@ fn listening_of<'a>(words: &'a [&'a str]) -> Option<Listening<'a>>
 ///
 /// No name of a table and no path of accounts starts with a dash.
 pub fn parse_serve<'a>(alloc: Global, words: &'a [&'a str]) -> Result<Listening<'a>, WordsFault>
-    ensures { IfOk result (AsksServe (map (λ w. w.now) words.now)) }
+    ensures found { IfOk result (AsksServe (map (λ w. w.now) words.now)) }
+    ensures refused { IsErrOf result WordsFault.Refused → AsksNoServe (map (λ w. w.now) words.now) }
 {
     if let Err(fault) = judge(alloc, words) {
         return Err(fault);

@@ -1,6 +1,7 @@
 //! A host on a port of this machine.
 
-ghost use Rattle.std.specs.Prelude.{◌≤◌};
+ghost use Rattle.std.specs.Prelude.{◌≡◌, ◌≤◌, map};
+ghost use Rattle.iso_cli.specs.Listening.{AsksNoServe};
 
 use crate::connections::serve_connections;
 use crate::prepare::{PortHost, prepare};
@@ -19,6 +20,8 @@ pub fn serve_port<
     F: Outlet,
 >(alloc: Global, net: &N, words: &[&str], source: &S, output: &mut O, faults: &mut F) -> u8
     ensures status { result ≤ 3 }
+    // With status 2, the words name no host.
+    ensures words { result ≡ 2 → AsksNoServe (map (λ w. w.now) words.now) }
 {
     let PortHost {
         table,

@@ -1,8 +1,10 @@
 //! A host on a port, before the port is bound.
 
 ghost use Rattle.std.specs.Prelude.{◌≡◌, ◌≤◌, IfErr, IfOk, OnOk, map};
+ghost use Rattle.iso_cli.specs.Listening.{AsksNoServe};
 ghost use Rattle.iso_cli.specs.Prepare.{Prepares};
 ghost use Rattle.iso_cli.specs.Tells.{TellsStop};
+ghost use Rattle.iso_cli.specs.declared.stop.Stop.TheVariants as Stop;
 
 use crate::listening::parse_serve;
 use crate::run::{MOST_ENTRIES, accounts_at, host_table};
@@ -31,7 +33,8 @@ pub struct PortHost {
 
 /// The host that the words name. The table is read before the accounts.
 fn host_named<S: Source>(alloc: Global, words: &[&str], source: &S) -> Result<PortHost, Stop>
-    ensures { IfOk result (Prepares (map (λ w. w.now) words.now) (S.file source.now)) }
+    ensures prepared { IfOk result (Prepares (map (λ w. w.now) words.now) (S.file source.now)) }
+    ensures words { IfErr result (λ stop. stop ≡ Stop.Words → AsksNoServe (map (λ w. w.now) words.now)) }
 {
     let asked = parse_serve(alloc, words)?;
     let table = host_table(alloc, source, asked.table)?;
@@ -57,6 +60,8 @@ pub fn prepare<S: Source, F: Outlet>(
     // What the words spell: the table and the accounts that they name, with an empty journal, the port and the count.
     ensures prepared { IfOk result (Prepares (map (λ w. w.now) words.now) (S.file source.now)) }
     ensures status { IfErr result (λ status. (1 ≤ status) × (status ≤ 3)) }
+    // Status 2 comes of words alone that name no host.
+    ensures words { IfErr result (λ status. status ≡ 2 → AsksNoServe (map (λ w. w.now) words.now)) }
     // The line of a stop is told, and its status given;
     ensures told { IfErr result (TellsStop (F.contents faults.old) (F.contents faults.new) (F.counts faults.old) (F.counts faults.new)) }
     // else nothing is told.

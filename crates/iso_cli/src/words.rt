@@ -6,7 +6,7 @@ ghost use Rattle.clap.specs.Words.{app_of, takes};
 ghost use Rattle.iso_cli.specs.Words.{Asks, AsksNothing, header_name, is_name};
 ghost use Rattle.iso_cli.specs.NoJob.{AsksNoCodec, AsksNoRun};
 ghost use Rattle.iso_cli.specs.CommandLine.{FollowsRule, IsCommand, bare_app, check_app, clear_rule, codec_app, convert_app, iso_alone};
-ghost use Rattle.iso_cli.specs.CommandLine.{iso_app, name_rule, run_app, show_app};
+ghost use Rattle.iso_cli.specs.CommandLine.{host_app, iso_app, name_rule, run_app, show_app};
 
 use clap::error::ErrorKind;
 use clap::{Arg, ArgAction, Command};
@@ -73,7 +73,7 @@ fn clear_flag<'a>(alloc: Global) -> Arg<'a>
 }
 
 /// A command with no help and no version of its own.
-pub fn bare_command<'a>(alloc: Global, name: &'static str) -> Command<'a>
+fn bare_command<'a>(alloc: Global, name: &'static str) -> Command<'a>
     ensures { IsCommand (bare_app name.now) result }
 {
     Command::new(alloc, name)
@@ -104,13 +104,20 @@ fn convert_command<'a>(alloc: Global) -> Result<Command<'a>, AllocError>
         .arg(name_argument(alloc, "to"))
 }
 
-fn run_command<'a>(alloc: Global) -> Result<Command<'a>, AllocError>
-    ensures { IfOk result (IsCommand run_app) }
+/// A command of this name that takes what a host serves with: a table, accounts and a header.
+pub fn host_command<'a>(alloc: Global, name: &'static str) -> Result<Command<'a>, AllocError>
+    ensures { IfOk result (IsCommand (host_app name.now)) }
 {
-    bare_command(alloc, "run")
+    bare_command(alloc, name)
         .arg(name_argument(alloc, "table"))?
         .arg(name_argument(alloc, "accounts"))?
         .arg(name_argument(alloc, "header"))
+}
+
+fn run_command<'a>(alloc: Global) -> Result<Command<'a>, AllocError>
+    ensures { IfOk result (IsCommand run_app) }
+{
+    host_command(alloc, "run")
 }
 
 /// The command before its subcommands.

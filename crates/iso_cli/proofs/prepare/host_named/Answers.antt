@@ -1,6 +1,13 @@
--- A wrong edit turns this function. It is refused sooner where its goals have answers, as these.
-use Rattle.std.proofs.Common.{rules}
+use Rattle.std.proofs.Common.{Err, ap, rules}
+use Rattle.std.proofs.lemmas.Result.{err_from_is_err_and}
+use Rattle.iso_cli.proofs.ListeningLemmas.{refused_words}
 use Rattle.iso_cli.proofs.prepare.host_named.Goals as goal
 
-pub returns : goal.returns
-returns c = search rules
+-- a wrong edit turns this function: it is refused sooner where this goal has an answer
+pub returns-clause-prepared : goal.returns-clause-prepared
+returns-clause-prepared c = search rules
+
+pub returns-in_err-asked-clause-words : goal.returns-in_err-asked-clause-words
+returns-in_err-asked-clause-words g c =
+    let p = err_from_is_err_and c.from_residual.result c.from_residual.ensures.1 in
+    rw (p.1) (λ is. c.in_err-asked.ensures.refused (ap Err (refused_words _ _ p.2 is)))
