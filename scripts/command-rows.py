@@ -5,7 +5,7 @@ command-rows.py COMMAND runs every row on that built program. command-rows.py ru
 quick run, without proofs. Either prints each row that fails, with what differs, and as its last line how many passed and failed.
 
 A document in that folder has "rows", and may have "each", with members that each row has unless it gives others, and "texts",
-which its rows may name. The files and the texts of shared.json are those of all documents. A row has a "name" and
+which its rows may name. A row has a "name" and
     "words"         behind the program's name, none by default
     "called"        the program's name, null where it gets not even that
     "files"         the texts of files in the folder where it runs
@@ -18,14 +18,12 @@ which its rows may name. The files and the texts of shared.json are those of all
     "status"        with which it ends, 0 by default
     "output"        what it writes, nothing by default
     "faults"        what it tells on the fault stream, nothing by default
-A text is a string, in which each character is one byte, from U+0000 to U+00FF; or "@NAME", a text of that name; or an object,
-which is its JSON without blanks; or [TEXT, TIMES]; or a list of texts, end to end.
+What a text is, rows.py says.
 """
 import array
 import contextlib
 import fcntl
 import hashlib
-import json
 import os
 import pathlib
 import re
@@ -40,9 +38,8 @@ import termios
 import threading
 import time
 
-TOP = pathlib.Path(__file__).resolve().parent.parent
-CRATE = TOP / "crates" / "iso_cli"
-DOCUMENTS = CRATE / "rows"
+from rows import CRATE, DOCUMENTS, TOP, encoded, read, text_of
+
 WAIT = 60
 
 # ---- the rows
@@ -52,28 +49,13 @@ ROW = {"name": None, "words": [], "called": "iso_cli", "files": {}, "stdin": Non
 DEVICES = ["stdin", "input pieces", "input fails", "output takes", "faults take"]
 
 
-def encoded(text):
-    return text.encode("latin-1")
-
-
-def text_of(value, texts):
-    """The bytes of a text."""
-    if isinstance(value, dict):
-        return json.dumps(value, separators=(",", ":")).encode()
-    if isinstance(value, str):
-        return text_of(texts[value[1:]], texts) if value.startswith("@") else encoded(value)
-    if len(value) == 2 and isinstance(value[1], int):
-        return text_of(value[0], texts) * value[1]
-    return b"".join(text_of(part, texts) for part in value)
-
-
-def whole_row(given, shared, document):
+def whole_row(given, document):
     """The row with all its members, in bytes."""
-    texts = {**shared["texts"], **document.get("texts", {})}
+    texts = document["texts"]
     row = {**ROW, **document.get("each", {}), **given}
     if row.keys() != ROW.keys():
         raise ValueError(f"{given['name']}: what is {sorted(row.keys() - ROW.keys())}?")
-    row["files"] = {encoded(name): text_of(value, texts) for name, value in {**shared["files"], **row["files"]}.items()}
+    row["files"] = {encoded(name): text_of(value, texts) for name, value in {**document["files"], **row["files"]}.items()}
     row["words"] = [encoded(word) for word in row["words"]]
     for name in ("input", "output", "faults"):
         row[name] = text_of(row[name], texts)
@@ -82,12 +64,11 @@ def whole_row(given, shared, document):
 
 def all_rows():
     """The rows of all documents, each named by its document too."""
-    shared = json.loads((DOCUMENTS / "shared.json").read_text())
     rows = []
     for path in sorted(DOCUMENTS.glob("*.json")):
-        document = json.loads(path.read_text())
+        document = read(path)
         for given in document.get("rows", []):
-            row = whole_row(given, shared, document)
+            row = whole_row(given, document)
             row["name"] = f"{path.relative_to(TOP)}: {row['name']}"
             rows.append(row)
     return rows

@@ -4,7 +4,7 @@
 port-rows.py COMMAND prints each row that fails, with what differs, and as its last line how many passed and failed. A row whose
 own port somebody else has is left out, and a line says so.
 
-The document has "files", which lie in the folder where the command runs, and "texts", which its rows name. A row of "words" has
+The document has "texts", which its rows name; what a text is, rows.py says. A row of "words" has
     "words"              behind the program's name; "@TAKEN" is a port at which this script listens
     "serves"             [PORT, COUNT] of the host that they name, none by default. Its first peer sends a purchase and an inquiry,
                          which show its table, its accounts and an empty journal, and the others send nothing
@@ -20,13 +20,11 @@ true where it closes before it is answered. Each row may have
     "faults take"        the same of the fault stream, where none is the only number
     "status"             with which the command ends, 0 by default
     "output", "faults"   what it writes and tells, nothing by default
-Bytes are a list of pieces: a string, in which each character is one byte; "@NAME", a text; or [PIECE, TIMES].
 """
 import array
 import contextlib
 import errno
 import fcntl
-import json
 import os
 import pathlib
 import resource
@@ -39,21 +37,12 @@ import tempfile
 import termios
 import time
 
-ROWS = pathlib.Path(__file__).resolve().parent.parent / "crates" / "iso_cli" / "rows" / "port.json"
+from rows import DOCUMENTS, read, text_of
+
 HERE = "127.0.0.1"
 WAIT = 20
 
 # ---- bytes
-
-def piece_bytes(piece, texts):
-    if isinstance(piece, list):
-        return piece_bytes(piece[0], texts) * piece[1]
-    return texts[piece[1:]] if piece.startswith("@") else piece.encode("latin-1")
-
-
-def bytes_of(pieces, texts):
-    return b"".join(piece_bytes(piece, texts) for piece in pieces)
-
 
 def framed(header, body):
     return b"%04d" % len(body) + body if header == "ascii4" else struct.pack(">H", len(body)) + body
@@ -121,8 +110,8 @@ def differences_of_end(host, folder, row, texts, more_output=b"", told=b""):
     _, faults = host.communicate(timeout=WAIT)
     file = pathlib.Path(folder, "output")
     output = file.read_bytes() if file.exists() else b""
-    return [*difference("the output is", output, bytes_of(row.get("output", []), texts) + more_output),
-            *difference("the fault stream is", told + (faults or b""), bytes_of(row.get("faults", []), texts)),
+    return [*difference("the output is", output, text_of(row.get("output", []), texts) + more_output),
+            *difference("the fault stream is", told + (faults or b""), text_of(row.get("faults", []), texts)),
             *difference("the status is", host.returncode, row.get("status", 0))]
 
 # ---- the peers of a host
@@ -173,7 +162,7 @@ def connect_all(host, port, peers, texts):
     streams = []
     for peer in peers:
         streams.append(connect(port) if streams else connect_first(host, port))
-        send(streams[-1], bytes_of(peer.get("sent", []), texts), peer.get("segment", 100_000))
+        send(streams[-1], text_of(peer.get("sent", []), texts), peer.get("segment", 100_000))
         if "gone" in peer:
             streams[-1].close()
     if streams:
@@ -188,7 +177,7 @@ def differences_of_peers(host, port, peers, texts):
     for stream, peer in zip(streams, peers):
         answered = peer.get("answered", [])
         if answered is not None and "gone" not in peer:
-            differences += difference(f"{peer['name']} is answered", receive(stream), bytes_of(answered, texts))
+            differences += difference(f"{peer['name']} is answered", receive(stream), text_of(answered, texts))
     for stream in streams:
         stream.close()
     return differences
@@ -196,8 +185,8 @@ def differences_of_peers(host, port, peers, texts):
 
 def differences_of_number(port, header, entered, texts):
     """Connects a peer that sends another purchase, and says whether its answer has the number behind so many orders."""
-    wanted = texts["SECOND_GRANTED_AS"] + b"%06d" % (entered + 1) + texts["APPROVED"]
-    return difference("the other purchase is answered", ask(port, framed(header, texts["SECOND"])), framed(header, wanted))
+    wanted = text_of(["@SECOND_GRANTED_AS", f"{entered + 1:06}", "@APPROVED"], texts)
+    return difference("the other purchase is answered", ask(port, framed(header, text_of("@SECOND", texts))), framed(header, wanted))
 
 # ---- accepts that fail
 
@@ -250,7 +239,7 @@ def differences_of_host(command, folder, row, texts):
             more_output = b""
             if "entered" in row:
                 differences += differences_of_number(port, header, row["entered"], texts)
-                more_output = texts["ONE_ANSWERED"]
+                more_output = text_of("@ONE_ANSWERED", texts)
             return differences + differences_of_end(host, folder, row, texts, more_output, told)
 
 
@@ -294,8 +283,8 @@ def as_system_lets(row):
 def differences_in_folder(differences_of, command, files, row, texts):
     """What differs in a row that has a folder of its own."""
     with tempfile.TemporaryDirectory() as folder:
-        for name, document in files.items():
-            pathlib.Path(folder, name).write_text(json.dumps(document, separators=(",", ":")), encoding="ascii")
+        for name, text in files.items():
+            pathlib.Path(folder, name).write_bytes(text_of(text, texts))
         try:
             return differences_of(command, folder, row, texts)
         except (AssertionError, OSError, subprocess.SubprocessError) as fault:
@@ -317,8 +306,8 @@ def only_run():
 
 
 def main(command):
-    document = json.loads(ROWS.read_text(encoding="ascii"))
-    texts = {name: text.encode("latin-1") for name, text in document["texts"].items()}
+    document = read(DOCUMENTS / "port.json")
+    texts = document["texts"]
     passed = failed = 0
     for kind, differences_of in (("words", differences_of_words), ("hosts", differences_of_host)):
         for row in document[kind]:
