@@ -14,7 +14,7 @@ ghost use Rattle.iso_acquirer.specs.Acquirer.{stage_after, stage_after_undo, slo
 use crate::fault::AcqFault;
 use crate::slot::{Role, Slot, Stage};
 use crate::state::State;
-use iso_order::{Act, Money, Order, Pan, TxKey};
+use iso_order::{Act, MOST_STAN, Money, Order, Pan, TxKey};
 use std::alloc::Global;
 use std::marker::Model;
 
@@ -218,7 +218,7 @@ impl Acquirer {
         ensures unchanged { OnErr result (self.new ≡ self.old) }
     {
         let used = self.slots.len();
-        if used >= 999_999 {
+        if used >= MOST_STAN as usize {
             return Err(AcqFault::NoMoreTrace);
         }
         self.slots.reserve(self.reversals_left + 2)?;
@@ -268,7 +268,7 @@ impl Acquirer {
         ensures unchanged { OnErr result (self.new ≡ self.old) }
     {
         let used = self.slots.len();
-        if used >= 999_999 {
+        if used >= MOST_STAN as usize {
             return Err(AcqFault::NoMoreTrace);
         }
         let undo = next_reversal(used, slot.order);

@@ -3,14 +3,11 @@
 use crate::orders::{ACCOUNTS, AMOUNT, accounts, pan, purchase, reversal};
 use crate::speed::Speed;
 use anyhow::{Context, Result, ensure};
-use iso_issuer::Issuer;
+use iso_issuer::{Issuer, MOST_ENTRIES};
 use iso_order::Order;
 use std::alloc::Global;
 use std::rt::Clock;
 use std::time::Instant;
-
-/// The most entries of the journal.
-const LIMIT: u32 = 999_999;
 
 /// How many orders of each kind are measured, unless the journal has fewer entries.
 const SAMPLE: u32 = 2000;
@@ -89,7 +86,7 @@ fn reversals(alloc: Global, next: u32, from: u32, to: u32, count: u32) -> Result
 impl Load {
     fn new(alloc: Global) -> Result<Load> {
         Ok(Load {
-            issuer: Issuer::new(accounts(alloc)?, LIMIT),
+            issuer: Issuer::new(accounts(alloc)?, MOST_ENTRIES),
             purchases: 0,
             reversals: 0,
         })

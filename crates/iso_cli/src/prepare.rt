@@ -7,11 +7,11 @@ ghost use Rattle.iso_cli.specs.Tells.{TellsStop};
 ghost use Rattle.iso_cli.specs.declared.stop.Stop.TheVariants as Stop;
 
 use crate::listening::parse_serve;
-use crate::run::{MOST_ENTRIES, accounts_at, host_table};
+use crate::run::{accounts_at, host_table};
 use crate::source::Source;
 use crate::stop::{Stop, tell};
 use iso_host::Outlet;
-use iso_issuer::Issuer;
+use iso_issuer::{Issuer, MOST_ENTRIES};
 use iso_table::Table;
 use iso_wire::Header;
 use std::alloc::Global;

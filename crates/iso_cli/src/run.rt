@@ -12,13 +12,10 @@ use crate::source::Source;
 use crate::stop::Stop;
 use crate::tables::table_named;
 use iso_host::{Inlet, Outlet, Report, serve};
-use iso_issuer::{Accounts, Issuer};
+use iso_issuer::{Accounts, Issuer, MOST_ENTRIES};
 use iso_table::Table;
 use iso_wire::Header;
 use std::alloc::Global;
-
-/// The most orders that the journal takes.
-pub const MOST_ENTRIES: u32 = 999_999;
 
 /// The most reads and writes of a stream.
 pub const MOST_TURNS: u64 = 100_000_000;

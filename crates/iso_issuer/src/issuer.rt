@@ -20,6 +20,9 @@ use iso_order::{Answer, NoMemory, Order, Pan};
 use std::alloc::Global;
 use std::marker::Model;
 
+/// The most orders that a journal can take: an answer tells the place of its order in six digits (element 38).
+pub const MOST_ENTRIES: u32 = 999_999;
+
 /// An issuer: its accounts with what is on them, and the journal of the orders that were entered. No
 /// call looks through the journal or the accounts: what it needs is found by key and by number, and
 /// the balances are kept up to date.
@@ -45,7 +48,7 @@ impl Model for Issuer {
 }
 
 impl Issuer {
-    /// An issuer with an empty journal, which takes at most `limit` orders. Takes no memory. The
+    /// An issuer with an empty journal, which takes at most `limit` orders, 1 to `MOST_ENTRIES`. Takes no memory. The
     /// journal grows by the allocator of the accounts.
     pub fn new(accounts: Accounts, limit: u32) -> Issuer
         requires least { 1 ≤ limit }

@@ -18,4 +18,4 @@ mod posting;
 
 pub use accounts::Accounts;
 pub use fault::{AccountsFault, Refused};
-pub use issuer::Issuer;
+pub use issuer::{Issuer, MOST_ENTRIES};

@@ -3,6 +3,9 @@
 ghost use Rattle.std.specs.Prelude.{◌≡◌};
 ghost use Rattle.iso_order.specs.Key.{class_digit, function_digit, is_valid_key, same_key};
 
+/// The largest trace number: six nines (element 11, system trace audit number).
+pub const MOST_STAN: u32 = 999_999;
+
 /// Names a transaction. Each delivery of it has the same key, whatever the repeat digit of its message type.
 #[derive(Clone, Copy, Debug, PartialEq, Eq, PartialOrd, Ord, Hash)]
 pub struct TxKey {
@@ -48,7 +51,7 @@ impl TxKey {
         self.base < 1000
             && matches!(self.function(), 0 | 2)
             && matches!(self.base % 10, 0 | 2 | 4)
-            && self.stan <= 999_999
+            && self.stan <= MOST_STAN
             && self.sent <= 9_999_999_999
             && self.acquirer <= 99_999_999_999
     }

@@ -17,7 +17,7 @@ mod verdict;
 pub use act::{Act, MOST_AMOUNT, Money, currency_of};
 pub use answer::Answer;
 pub use iso_table::NoMemory;
-pub use key::TxKey;
+pub use key::{MOST_STAN, TxKey};
 pub use order::Order;
 pub use pan::Pan;
 pub use requests::request;

@@ -17,7 +17,7 @@ mod told;
 
 use anyhow::{Context, Result};
 use iso_acquirer::{Acquirer, Event, World};
-use iso_issuer::{Accounts, Issuer};
+use iso_issuer::{Accounts, Issuer, MOST_ENTRIES};
 use iso_order::Pan;
 use line::{ScheduleLine, schedule_line};
 use std::alloc::Global;
@@ -34,13 +34,13 @@ const PAN: &[u8] = b"4111111111111111";
 const ACCOUNTS: &[u8] =
     b"{\"accounts\":[{\"currency\":\"840\",\"opening\":5000,\"pan\":\"4111111111111111\"}]}";
 
-/// How many orders the issuer's journal takes.
-const LIMIT: u32 = 999_999;
-
 /// Both ends, before anything is sent.
 fn new_world(alloc: Global) -> Result<World> {
     let accounts = Accounts::from_json(alloc, ACCOUNTS).context("reading the account")?;
-    Ok(World::new(Acquirer::new(alloc, ACQUIRER), Issuer::new(accounts, LIMIT)))
+    Ok(World::new(
+        Acquirer::new(alloc, ACQUIRER),
+        Issuer::new(accounts, MOST_ENTRIES),
+    ))
 }
 
 /// Plays an event, and prints what came of it.

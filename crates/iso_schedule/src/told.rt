@@ -2,11 +2,8 @@
 
 use iso_acquirer::{AcqFault, Event, State, StepFault, World};
 use iso_issuer::Refused;
-use iso_order::Pan;
+use iso_order::{MOST_STAN, Pan};
 use std::io;
-
-/// The largest trace number.
-const LAST_TRACE: usize = 999_999;
 
 /// Prints why an event was refused.
 pub fn tell_refused(rt: &HostRuntime, text: &str, fault: &StepFault) -> io::Result<()> {
@@ -67,7 +64,7 @@ pub fn tell(
     if let Some(ledger) = world.issuer().ledger(pan) {
         print!(rt; "  ledger {ledger:>5} ")?;
     }
-    let last = world.sent().len().min(LAST_TRACE) as u32;
+    let last = world.sent().len().min(MOST_STAN as usize) as u32;
     for trace in 1..last + 1 {
         if let Some(state) = world.acquirer().state(trace) {
             tell_state(rt, trace, state)?;

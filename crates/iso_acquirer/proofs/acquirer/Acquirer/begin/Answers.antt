@@ -13,5 +13,5 @@ invariant_of-self-2 c =
     (kept-begun c.self.inside.id slots c.self.inside.reversals_left _ _ _ _ c.debit-order.result c.self.invariant
     (ap (λ o. o.key.stan) c.debit-order.ensures ∙ ap (λ n. n + 1) many)
     (ap (λ o. o.key.base) c.debit-order.ensures)
-    (omega (arith, many, c.if-used-ge999999.false))
+    (omega (arith, many, c.if-used.false))
     (omega (arith, c.in_ok-reserve.ensures.ok, c.push_reserved.ensures.len, c.push_reserved.ensures.capacity)))

@@ -49,4 +49,4 @@ invariant_of-self c =
     rw items
     (kept-reversing c.self.inside.id slots c.self.inside.reversals_left _ _ _ _ c.args.slot.now.order.key.stan c.args.slot.now c.next_reversal-undo.result c.self.invariant
     (subst (λ (p : Party). slot_at p.slots c.args.slot.now.order.key.stan ≡ Some c.args.slot.now) (sym c.self.view_is) c.requires.there) c.requires.asked
-    (ap (λ o. o.key.stan) undo) (omega (arith, many, c.if-used-ge999999.false)) c.push_reserved.ensures.len c.push_reserved.ensures.capacity)
+    (ap (λ o. o.key.stan) undo) (omega (arith, many, c.if-used.false)) c.push_reserved.ensures.len c.push_reserved.ensures.capacity)
