@@ -1,4 +1,4 @@
-use Rattle.std.proofs.Common.{◌≡◌, ◌<◌, ◌/◌, ◌++◌, ℕ, ap, subst, refl, ◌∙◌, arith}
+use Rattle.std.proofs.Common.{◌≡◌, ◌<◌, ◌/◌, ◌++◌, ℕ, ap, subst, refl, ◌∙◌, arith, rules}
 use Rattle.std.proofs.lemmas.Result.{err_from_is_err_and}
 use Rattle.std.specs.List.{flat_map}
 use Rattle.iso_parts.specs.Digits.{four_digits_of}
@@ -36,3 +36,6 @@ pub returns-in_err-append_parts-clause-kept : goal.returns-in_err-append_parts-c
 returns-in_err-append_parts-clause-kept c =
     let p = err_from_is_err_and c.from_residual-in_err-append_parts.result c.from_residual-in_err-append_parts.ensures.1 in
     rw p.1 (kept_behind c.args.out.now.items c.make_room.new.out.items c.append_mti.new.out.items c.append.new.out.items c.append_parts.new.out.items _ _ c.make_room.ensures c.in_ok-append_mti.ensures.ok c.in_ok-append.ensures.ok.2 c.in_err-append_parts.ensures.kept)
+
+pub returns-then-mti-version-clause-fault : goal.returns-then-mti-version-clause-fault
+returns-then-mti-version-clause-fault c = search rules
