@@ -1,4 +1,4 @@
-use Rattle.std.proofs.Common.{◌≡◌, ◌<◌, ◌/◌, ◌++◌, ℕ, ap, subst, refl, ◌∙◌, arith, rules}
+use Rattle.std.proofs.Common.{◌≡◌, ◌<◌, ◌/◌, ◌++◌, ℕ, Some, ap, subst, refl, ◌∙◌, arith, rules}
 use Rattle.std.proofs.lemmas.Result.{err_from_is_err_and}
 use Rattle.std.specs.List.{flat_map}
 use Rattle.iso_parts.specs.Digits.{four_digits_of}
@@ -6,6 +6,8 @@ use Rattle.iso_parts.specs.declared.bitmap.BitmapCoding.{BitmapCoding}
 use Rattle.iso_parts.specs.declared.digits.Digits.{Digits}
 use Rattle.iso_parts.specs.Bitmap.{contains, PlainBitmaps}
 use Rattle.iso_parts.specs.Mti.{mti_number}
+use Rattle.iso_wire.specs.declared.fault.PackFault.TheVariants.{WrongVersion}
+use Rattle.iso_wire.specs.Refusal.{message_refusal}
 use Rattle.iso_wire.specs.Spelling.{Parts, plain_of}
 use Rattle.iso_wire.proofs.Orders.{Values}
 use Rattle.iso_wire.proofs.Packs.{plain_spelling_lem, three_pieces, kept_behind}
@@ -38,4 +40,6 @@ returns-in_err-append_parts-clause-kept c =
     rw p.1 (kept_behind c.args.out.now.items c.make_room.new.out.items c.append_mti.new.out.items c.append.new.out.items c.append_parts.new.out.items _ _ c.make_room.ensures c.in_ok-append_mti.ensures.ok c.in_ok-append.ensures.ok.2 c.in_err-append_parts.ensures.kept)
 
 pub returns-then-mti-version-clause-fault : goal.returns-then-mti-version-clause-fault
-returns-then-mti-version-clause-fault c = search rules
+returns-then-mti-version-clause-fault c =
+    let told : message_refusal c.args.table.now c.args.message.now ≡ Some WrongVersion = search rules in
+    λ other. told

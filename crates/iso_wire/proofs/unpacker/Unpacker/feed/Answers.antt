@@ -1,4 +1,4 @@
-use Rattle.std.proofs.Common.{subst}
+use Rattle.std.proofs.Common.{subst, rules}
 use Rattle.std.specs.Prelude.{◌++◌, length, Result, Ok, Err}
 use Rattle.iso_wire.specs.declared.fault.UnpackFault.{UnpackFault}
 use Rattle.iso_wire.specs.declared.unpacker.Fed.{Fed}
@@ -42,3 +42,9 @@ returns-after-ne-clause-told c = λ none at element cause.
     let inside = c.self.inside in
     let told = subst (λ (r : Result Fed UnpackFault). Stops inside.table.now (inside.taken.items ++ c.args.piece.now) at element cause → Feeds (length inside.taken.items) r (halt element at cause)) c.in-Err.is (c.take-point.ensures.told at element cause) in
     subst (λ (x : Feeding). Stops x.table (x.taken ++ c.args.piece.now) at element cause → Feeds (length x.taken) (Err c.in-Err.fault) (halt element at cause)) c.self.view_is told
+
+pub invariant_of-self-then-ne : goal.invariant_of-self-then-ne
+invariant_of-self-then-ne c = ((search rules, search rules, search rules), search rules)
+
+pub returns-after-ne-clause-state : goal.returns-after-ne-clause-state
+returns-after-ne-clause-state c = search rules
