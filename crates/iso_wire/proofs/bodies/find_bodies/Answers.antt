@@ -29,3 +29,9 @@ loop-n-preserved c =
       starts = search rules;
       sizes = search rules;
     }
+
+pub returns-clause-exact : goal.returns-clause-exact
+returns-clause-exact c = search rules
+
+pub returns-clause-within : goal.returns-clause-within
+returns-clause-within c = search rules

@@ -1,4 +1,4 @@
-use Rattle.std.proofs.Common.{◌≡◌, ◌++◌, take, sym, ap, ◌∙◌, arith}
+use Rattle.std.proofs.Common.{◌≡◌, ◌++◌, take, sym, ap, ◌∙◌, arith, rules}
 use Rattle.std.proofs.lemmas.List.{take-append-drop}
 use Rattle.iso_wire.specs.Spelling.{AreBytes}
 use Rattle.iso_wire.proofs.Bytes.{bytes_take}
@@ -17,3 +17,6 @@ returns-clause-front c =
     rw c.split_at.ensures.front (bytes_take size input (λ i. omega (arith, c.type_inv.input i))) in
     let header = header_takes c.args.header c.in-Some.length front bytes (sym c.length_of.ensures ∙ c.in-Some.is) in
     rw c.size-size.ensures (frame_begins c.args.header c.in-Some.length input front rest parts header c.if-rest-length.false)
+
+pub returns-clause-read : goal.returns-clause-read
+returns-clause-read c = search rules

@@ -14,8 +14,7 @@ returns-in-Ok-clause-written c =
 
 pub returns-in-Ok-clause-spelled : goal.returns-in-Ok-clause-spelled
 returns-in-Ok-clause-spelled c =
-    let row = c.in-Some.row.now in
-    (
+    let row = c.in-Some.row.now in (
       row,
       sym c.in-Some.ensures.row,
       subst (λ (s : Option FieldSpec). Part row c.args.value.now (plain_by s c.args.value.now)) c.in-Some.ensures.row c.in-Ok.ensures.spelled,
@@ -29,5 +28,5 @@ pub returns-in-Err-clause-fault : goal.returns-in-Err-clause-fault
 returns-in-Err-clause-fault c = λ other.
     let refused = c.in-Err.ensures.refused (λ is. other (c.pack_fault.ensures ∙ ap (as_pack c.args.n) is)) in
     ap (λ (s : Option FieldSpec). refused_by s c.args.n c.args.value.now) (sym c.in-Some.ensures.row)
-      ∙ ap (refused_field c.args.n) refused
-      ∙ ap Some (sym c.pack_fault.ensures)
+    ∙ ap (refused_field c.args.n) refused
+    ∙ ap Some (sym c.pack_fault.ensures)

@@ -1,8 +1,11 @@
-use Rattle.std.proofs.Common.{◌≡◌, ℕ, List, ◌++◌, subst, sym, ap, ◌∙◌, rules}
+use Rattle.std.proofs.Common.{◌≡◌, ℕ, List, ◌++◌, take, length, subst, sym, ap, ◌∙◌, rules}
 use Rattle.iso_wire.specs.declared.fault.UnpackCause.TheVariants.{Short}
 use Rattle.iso_wire.specs.ReadingLaws.{IsShort}
 use Rattle.iso_wire.specs.Reading.{message_at}
-use Rattle.iso_wire.specs.Judging.{end_of, Resumes}
+use Rattle.iso_wire.specs.declared.fault.UnpackFault.{UnpackFault}
+use Rattle.iso_wire.specs.Faults.{out_of_memory}
+use Rattle.iso_wire.specs.Judging.{end_of, Resumes, IsResumed}
+use Rattle.std.proofs.lemmas.List.{take_at}
 use Rattle.iso_wire.proofs.Feeds.{is_read}
 use Rattle.iso_wire.proofs.Resumes.{resumed_read, resumed_fault, fault_no_memory}
 use Rattle.iso_wire.proofs.unpacker.take_next.Goals as goal
@@ -57,3 +60,24 @@ build-requires-clause-read c =
     let resumes = subst (λ (l : List ℕ). Resumes t c.args.point l reached answer) all c.judge_from-reached.ensures in
     let read = resumed_read t c.args.point reached old piece answer c.requires.resumed resumes in
     is_read (message_at t c.deref-2.result.now) c.in_default.field-0 (ap (λ (l : List ℕ). end_of (message_at t l)) again ∙ read ∙ c.in_default.is)
+
+pub returns-in-Err-build-clause-kept : goal.returns-in-Err-build-clause-kept
+returns-in-Err-build-clause-kept c =
+    let old : List ℕ = c.args.taken.now.items in
+    let piece : List ℕ = c.args.piece.now in
+    let cut : c.truncate.new.self.items ≡ take c.len-before.result c.extend_from_slice.new.self.items = c.truncate.ensures.items in
+    let before : length old ≡ c.len-before.result = search rules in
+    let all : c.extend_from_slice.new.self.items ≡ old ++ piece = search rules in
+    let back : c.truncate.new.self.items ≡ old = cut ∙ ap (λ (l : List ℕ). take c.len-before.result l) all ∙ take_at old piece c.len-before.result before in
+    let memory : c.in-Err-build.fault ≡ out_of_memory = c.in-Err-build.ensures.exact in
+    (λ _. back, λ other. absurd (other (ap (λ (e : UnpackFault). e.cause) memory)))
+
+pub returns-in-Err-build-clause-resumed : goal.returns-in-Err-build-clause-resumed
+returns-in-Err-build-clause-resumed c =
+    let old : List ℕ = c.args.taken.now.items in
+    let piece : List ℕ = c.args.piece.now in
+    let cut : c.truncate.new.self.items ≡ take c.len-before.result c.extend_from_slice.new.self.items = c.truncate.ensures.items in
+    let before : length old ≡ c.len-before.result = search rules in
+    let all : c.extend_from_slice.new.self.items ≡ old ++ piece = search rules in
+    let back : c.truncate.new.self.items ≡ old = cut ∙ ap (λ (l : List ℕ). take c.len-before.result l) all ∙ take_at old piece c.len-before.result before in
+    subst (λ (l : List ℕ). IsResumed c.args.table.now c.args.point l) (sym back) c.requires.resumed

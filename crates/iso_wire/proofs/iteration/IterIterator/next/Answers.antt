@@ -12,3 +12,6 @@ slice_bounds-value-end c =
     let own = subst (λ (l : List ℕ). Ascend it.start l (length it.values.now)) is c.self.invariant.0 in
     let within : end ≤ length it.values.now = ascend_le end (length it.values.now) later own.1 in
     search rules
+
+pub returns-clause-steps : goal.returns-clause-steps
+returns-clause-steps c = search rules
