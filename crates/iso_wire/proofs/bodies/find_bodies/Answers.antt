@@ -1,6 +1,7 @@
-use Rattle.std.proofs.Common.{◌≤◌, ◌+◌, length, drop, ap, arith, refl, rules, ◌∙◌}
+use Rattle.std.proofs.Common.{Ok, ◌≤◌, ◌+◌, length, drop, ap, arith, refl, rules, ◌∙◌}
 use Rattle.std.proofs.lemmas.List.{drop-drop, length-drop}
 use Rattle.iso_parts.specs.Numbers.{members}
+use Rattle.iso_wire.specs.Bodies.{AreWithin, FindsBodies, wires_at}
 use Rattle.iso_wire.proofs.Wires.{found_first, found_next, few_left, left_ascend}
 use Rattle.iso_wire.proofs.bodies.find_bodies.Goals as goal
 
@@ -31,7 +32,15 @@ loop-n-preserved c =
     }
 
 pub returns-clause-exact : goal.returns-clause-exact
-returns-clause-exact c = search rules
+returns-clause-exact c =
+    let start = c.args.start in
+    let b = c.args.bytes.now in
+    let ns = members c.args.numbers in
+    let found : FindsBodies b c.loop-n.bodies ns (Ok c.loop-n.at) (wires_at c.args.table.now.rows ns start (drop start b)) = search rules in
+    found
 
 pub returns-clause-within : goal.returns-clause-within
-returns-clause-within c = search rules
+returns-clause-within c =
+    let at = c.loop-n.at in
+    let within : (at ≤ length c.args.bytes.now) × AreWithin at c.loop-n.bodies (members c.args.numbers) = search rules in
+    within

@@ -14,15 +14,17 @@ returns-in-Ok-clause-written c =
 
 pub returns-in-Ok-clause-spelled : goal.returns-in-Ok-clause-spelled
 returns-in-Ok-clause-spelled c =
-    let row = c.in-Some.row.now in (
+    let row = c.in-Some.row.now in
+    let v = c.args.value.now in (
       row,
       sym c.in-Some.ensures.row,
-      subst (λ (s : Option FieldSpec). Part row c.args.value.now (plain_by s c.args.value.now)) c.in-Some.ensures.row c.in-Ok.ensures.spelled,
+      subst (λ (s : Option FieldSpec). Part row v (plain_by s v)) c.in-Some.ensures.row c.in-Ok.ensures.spelled,
     )
 
 pub returns-in-Ok-clause-fits : goal.returns-in-Ok-clause-fits
 returns-in-Ok-clause-fits c =
-    ap (λ (s : Option FieldSpec). refused_by s c.args.n c.args.value.now) (sym c.in-Some.ensures.row) ∙ ap (refused_field c.args.n) c.in-Ok.ensures.accepted
+    ap (λ (s : Option FieldSpec). refused_by s c.args.n c.args.value.now) (sym c.in-Some.ensures.row)
+    ∙ ap (refused_field c.args.n) c.in-Ok.ensures.accepted
 
 pub returns-in-Err-clause-fault : goal.returns-in-Err-clause-fault
 returns-in-Err-clause-fault c = λ other.

@@ -68,7 +68,8 @@ returns-in-Err-build-clause-kept c =
     let cut : c.truncate.new.self.items ≡ take c.len-before.result c.extend_from_slice.new.self.items = c.truncate.ensures.items in
     let before : length old ≡ c.len-before.result = search rules in
     let all : c.extend_from_slice.new.self.items ≡ old ++ piece = search rules in
-    let back : c.truncate.new.self.items ≡ old = cut ∙ ap (λ (l : List ℕ). take c.len-before.result l) all ∙ take_at old piece c.len-before.result before in
+    let back : c.truncate.new.self.items ≡ old =
+    cut ∙ ap (λ (l : List ℕ). take c.len-before.result l) all ∙ take_at old piece c.len-before.result before in
     let memory : c.in-Err-build.fault ≡ out_of_memory = c.in-Err-build.ensures.exact in
     (λ _. back, λ other. absurd (other (ap (λ (e : UnpackFault). e.cause) memory)))
 
@@ -79,5 +80,6 @@ returns-in-Err-build-clause-resumed c =
     let cut : c.truncate.new.self.items ≡ take c.len-before.result c.extend_from_slice.new.self.items = c.truncate.ensures.items in
     let before : length old ≡ c.len-before.result = search rules in
     let all : c.extend_from_slice.new.self.items ≡ old ++ piece = search rules in
-    let back : c.truncate.new.self.items ≡ old = cut ∙ ap (λ (l : List ℕ). take c.len-before.result l) all ∙ take_at old piece c.len-before.result before in
+    let back : c.truncate.new.self.items ≡ old =
+    cut ∙ ap (λ (l : List ℕ). take c.len-before.result l) all ∙ take_at old piece c.len-before.result before in
     subst (λ (l : List ℕ). IsResumed c.args.table.now c.args.point l) (sym back) c.requires.resumed

@@ -1,4 +1,4 @@
-use Rattle.std.proofs.Common.{drop, ap, subst, ◌∙◌, rules}
+use Rattle.std.proofs.Common.{drop, ap, subst, ◌∙◌}
 use Rattle.std.proofs.lemmas.List.{drop-drop}
 use Rattle.iso_parts.specs.Bitmap.{contains}
 use Rattle.iso_wire.specs.Ends.{views, Awaits}
@@ -38,4 +38,6 @@ pub returns-clause-whole : goal.returns-clause-whole
 returns-clause-whole c = awaits_none c.loop-n.elements (subst (λ l. Awaits c.loop-n.elements l) c.in_default.ensures.0 c.loop-n.invariant.awaits)
 
 pub returns-clause-exact : goal.returns-clause-exact
-returns-clause-exact c = search rules
+returns-clause-exact c =
+    is_done c.args.table.now.rows (views c.loop-n.elements) (members c.loop-n.rest) c.loop-n.at (drop c.loop-n.at c.args.bytes.now) _
+    c.in_default.ensures.0 c.loop-n.invariant.read
