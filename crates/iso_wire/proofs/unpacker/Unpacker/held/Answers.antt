@@ -1,4 +1,4 @@
-use Rattle.std.proofs.Common.{◌≤◌, length, subst, ap, arith}
+use Rattle.std.proofs.Common.{◌≡◌, ◌≤◌, length, subst, ap, arith, rules}
 use Rattle.iso_table.specs.Sizes.{max_bytes}
 use Rattle.iso_wire.specs.Unpacker.{Feeding}
 use Rattle.iso_wire.proofs.Longest.{ready_is_small}
@@ -10,3 +10,8 @@ returns-clause-most c =
     let small = subst (λ (x : Feeding). length x.taken ≤ max_bytes x.table) c.self.view_is (ready_is_small c.parts.ensures inside.table.now inside.taken.items inside.stopped c.self.invariant.0) in
     let same = ap (λ (x : Feeding). length x.taken) c.self.view_is in
     omega (arith, small, same, c.len.ensures)
+
+pub returns-clause-held : goal.returns-clause-held
+returns-clause-held c =
+    let held : c.len.result ≡ length c.args.self.now.taken = search rules in
+    held
