@@ -1,4 +1,4 @@
-use Rattle.std.proofs.Common.{◌≡◌, arith, ◌∙◌, ap, ◌+◌, ◌++◌, ◌∷◌, [], length}
+use Rattle.std.proofs.Common.{◌≡◌, arith, ◌∙◌, ap, ◌+◌, ◌++◌, ◌∷◌, [], length, rules}
 use Rattle.iso_acquirer.specs.Acquirer.{slots_with, transaction_of}
 use Rattle.iso_acquirer.proofs.Kept.{kept-begun}
 use Rattle.iso_acquirer.proofs.acquirer.Acquirer.begin.Goals as goal
@@ -15,3 +15,7 @@ invariant_of-self-2 c =
     (ap (λ o. o.key.base) c.debit-order.ensures)
     (omega (arith, many, c.if-used.false))
     (omega (arith, c.in_ok-reserve.ensures.ok, c.push_reserved.ensures.len, c.push_reserved.ensures.capacity)))
+
+-- a wrong edit turns this: it is refused sooner where the goal has an answer
+pub returns-clause-begun : goal.returns-clause-begun
+returns-clause-begun c = search rules

@@ -23,3 +23,10 @@ returns-in-Answer-clause-closed c =
 pub returns-in-Other-clause-closed : goal.returns-in-Other-clause-closed
 returns-in-Other-clause-closed c =
     stays c.args.self.now c.other.new.self (Other c.in-Other.order) c.other.result (subst IsSound c.self.view_is c.self.invariant) c.other.ensures.ok c.other.ensures.unchanged
+
+-- wrong edits turn these: they are refused sooner where the goals have answers
+pub returns-in-Deliver-clause-made : goal.returns-in-Deliver-clause-made
+returns-in-Deliver-clause-made c = rw c.in-Deliver.is c.deliver.ensures.ok
+
+pub returns-in-Deliver-clause-fault : goal.returns-in-Deliver-clause-fault
+returns-in-Deliver-clause-fault c = rw c.in-Deliver.is c.deliver.ensures.fault
