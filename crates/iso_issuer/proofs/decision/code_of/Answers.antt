@@ -1,4 +1,4 @@
-use Rattle.std.proofs.Common.{◌≡◌, ap, sym, ◌∙◌}
+use Rattle.std.proofs.Common.{◌≡◌, ap, sym, ◌∙◌, rules}
 use Rattle.std.specs.Prelude.{false, Some, option_map, if◌then◌else◌}
 use Rattle.iso_order.specs.Order.{money_of}
 use Rattle.iso_issuer.specs.Account.{account_of}
@@ -22,3 +22,7 @@ returns-else-is_nothing-clause-value c = λ entries balances sums placed own.
     code
     ∙ sym (ap (λ b. if b then 21 else account_code entries c.args.order money (account_of accounts money.pan)) fresh)
     ∙ ap (money_code accounts entries c.args.order) about
+
+-- a wrong edit turns this: it is refused sooner where the goal has an answer
+pub returns-then-is_nothing-clause-value : goal.returns-then-is_nothing-clause-value
+returns-then-is_nothing-clause-value c = search rules

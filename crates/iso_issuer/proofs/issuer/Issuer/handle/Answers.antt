@@ -1,5 +1,6 @@
-use Rattle.std.proofs.Common.{◌≡◌, refl, ap, sym, ◌∙◌, arith, ◌++◌, [], ◌∷◌}
+use Rattle.std.proofs.Common.{◌≡◌, refl, ap, sym, ◌∙◌, arith, ◌++◌, [], ◌∷◌, rules}
 use Rattle.std.specs.Prelude.{is_some, Some, None, map, List}
+use Rattle.std.proofs.lemmas.Grind.{common_steps}
 use Rattle.std.proofs.lemmas.List.{length-map}
 use Rattle.iso_order.specs.Outcome.{Outcome}
 use Rattle.iso_issuer.specs.declared.journal.Entry.{Entry}
@@ -15,7 +16,7 @@ use Rattle.iso_issuer.proofs.issuer.Issuer.handle.Goals as goal
 
 pub returns-then-len-self-clause-full : goal.returns-then-len-self-clause-full
 returns-then-len-self-clause-full c =
-    let found : entry_at c.self.inside.journal c.args.order.key ≡ None = cc in
+    let found : entry_at c.self.inside.journal c.args.order.key ≡ None = sym (c.in-None.ensures ∙ ap (entry_at c.self.inside.journal) c.key.ensures.value) in
     let books : Books = record { accounts = accounts_of c.self.inside.balances; limit = c.self.inside.limit; orders = map (λ (e : Entry). e.order) c.self.inside.journal } in
     let full = full-new books c.args.order.key (entered-found c.self.inside.journal c.args.order.key ∙ ap is_some found)
     (omega (arith, length-map c.self.inside.journal (λ (e : Entry). e.order), c.if-len-self.true, c.len.ensures)) in
@@ -23,24 +24,24 @@ returns-then-len-self-clause-full c =
 
 pub returns-then-len-self-clause-repeat : goal.returns-then-len-self-clause-repeat
 returns-then-len-self-clause-repeat c =
-    let found : entry_at c.self.inside.journal c.args.order.key ≡ None = cc in
+    let found : entry_at c.self.inside.journal c.args.order.key ≡ None = sym (c.in-None.ensures ∙ ap (entry_at c.self.inside.journal) c.key.ensures.value) in
     rw (← c.self.view_is) (λ h. absurd (never _ (entered-found c.self.inside.journal c.args.order.key ∙ ap is_some found) h))
 
 pub enter-requires-clause-new : goal.enter-requires-clause-new
 enter-requires-clause-new c =
-    let found : entry_at c.self.inside.journal c.args.order.key ≡ None = cc in
+    let found : entry_at c.self.inside.journal c.args.order.key ≡ None = sym (c.in-None.ensures ∙ ap (entry_at c.self.inside.journal) c.key.ensures.value) in
     rw (← c.self.view_is) (entered-found c.self.inside.journal c.args.order.key ∙ ap is_some found)
 
 pub returns-in-Some-clause-full : goal.returns-in-Some-clause-full
 returns-in-Some-clause-full c =
-    let found : entry_at c.self.inside.journal c.args.order.key ≡ Some c.in-Some.entry = cc in
+    let found : entry_at c.self.inside.journal c.args.order.key ≡ Some c.in-Some.entry = sym (c.in-Some.ensures ∙ ap (entry_at c.self.inside.journal) c.key.ensures.value) in
     let books : Books = record { accounts = accounts_of c.self.inside.balances; limit = c.self.inside.limit; orders = map (λ (e : Entry). e.order) c.self.inside.journal } in
     let known = full-known books c.args.order.key (entered-found c.self.inside.journal c.args.order.key ∙ ap is_some found) in
     rw (← c.self.view_is) ((λ e. cc), (λ h. absurd (known h)))
 
 pub returns-in-Some-clause-entered : goal.returns-in-Some-clause-entered
 returns-in-Some-clause-entered c =
-    let found : entry_at c.self.inside.journal c.args.order.key ≡ Some c.in-Some.entry = cc in
+    let found : entry_at c.self.inside.journal c.args.order.key ≡ Some c.in-Some.entry = sym (c.in-Some.ensures ∙ ap (entry_at c.self.inside.journal) c.key.ensures.value) in
     let orders = map (λ (e : Entry). e.order) c.self.inside.journal in
     let same : firsts (orders ++ c.args.order ∷ []) ≡ orders =
     firsts-known orders c.args.order (entered-found c.self.inside.journal c.args.order.key ∙ ap is_some found)
@@ -49,12 +50,12 @@ returns-in-Some-clause-entered c =
 
 pub returns-else-len-self-clause-repeat : goal.returns-else-len-self-clause-repeat
 returns-else-len-self-clause-repeat c =
-    let found : entry_at c.self.inside.journal c.args.order.key ≡ None = cc in
+    let found : entry_at c.self.inside.journal c.args.order.key ≡ None = sym (c.in-None.ensures ∙ ap (entry_at c.self.inside.journal) c.key.ensures.value) in
     rw (← c.self.view_is) (λ h. absurd (never _ (entered-found c.self.inside.journal c.args.order.key ∙ ap is_some found) h))
 
 pub returns-else-len-self-clause-entered : goal.returns-else-len-self-clause-entered
 returns-else-len-self-clause-entered c =
-    let found : entry_at c.self.inside.journal c.args.order.key ≡ None = cc in
+    let found : entry_at c.self.inside.journal c.args.order.key ≡ None = sym (c.in-None.ensures ∙ ap (entry_at c.self.inside.journal) c.key.ensures.value) in
     let orders = map (λ (e : Entry). e.order) c.self.inside.journal in
     let same : firsts (c.args.self.now.orders ++ c.args.order ∷ []) ≡ c.args.self.now.orders ++ c.args.order ∷ [] =
     rw (← c.self.view_is)
@@ -64,7 +65,7 @@ returns-else-len-self-clause-entered c =
 
 pub returns-else-len-self-clause-memory : goal.returns-else-len-self-clause-memory
 returns-else-len-self-clause-memory c = λ memory.
-    let found : entry_at c.self.inside.journal c.args.order.key ≡ None = cc in
+    let found : entry_at c.self.inside.journal c.args.order.key ≡ None = sym (c.in-None.ensures ∙ ap (entry_at c.self.inside.journal) c.key.ensures.value) in
     rw (← c.self.view_is)
     record {
       below = omega (arith, length-map c.self.inside.journal (λ (e : Entry). e.order));
@@ -76,14 +77,14 @@ returns-in-Some-clause-shown c =
     let es = c.self.inside.journal in
     let accounts = accounts_of c.self.inside.balances in
     let orders = map (λ (e : Entry). e.order) es in
-    let found : entry_at es c.args.order.key ≡ Some c.in-Some.entry = cc in
+    let found : entry_at es c.args.order.key ≡ Some c.in-Some.entry = sym (c.in-Some.ensures ∙ ap (entry_at es) c.key.ensures.value) in
     let answer : c.repeat_answer.result ≡ answer_for accounts (journal_of accounts orders) c.args.order =
     c.repeat_answer.ensures ∙ sym (ap (answer_by accounts es c.args.order) found) ∙ ap (λ (j : List Entry). answer_for accounts j c.args.order) c.self.invariant.0.decided in
     ap (λ (a : Outcome). is_shown_for c.args.order.act a.shown) answer ∙ answer-shown accounts orders c.args.order
 
 pub returns-in-Some-clause-kept : goal.returns-in-Some-clause-kept
 returns-in-Some-clause-kept c = λ other.
-    let found : entry_at c.self.inside.journal c.args.order.key ≡ Some c.in-Some.entry = cc in
+    let found : entry_at c.self.inside.journal c.args.order.key ≡ Some c.in-Some.entry = sym (c.in-Some.ensures ∙ ap (entry_at c.self.inside.journal) c.key.ensures.value) in
     let orders = map (λ (e : Entry). e.order) c.self.inside.journal in
     let same = kept-known c.self.inside.limit orders c.args.order c.self.invariant.0.distinct (omega (arith, c.self.invariant.0.few, length-map c.self.inside.journal (λ (e : Entry). e.order)))
     (entered-found c.self.inside.journal c.args.order.key ∙ ap is_some found) in
@@ -91,7 +92,7 @@ returns-in-Some-clause-kept c = λ other.
 
 pub returns-then-len-self-clause-kept : goal.returns-then-len-self-clause-kept
 returns-then-len-self-clause-kept c = λ other.
-    let found : entry_at c.self.inside.journal c.args.order.key ≡ None = cc in
+    let found : entry_at c.self.inside.journal c.args.order.key ≡ None = sym (c.in-None.ensures ∙ ap (entry_at c.self.inside.journal) c.key.ensures.value) in
     let orders = map (λ (e : Entry). e.order) c.self.inside.journal in
     let same = kept-full c.self.inside.limit orders c.args.order c.self.invariant.0.distinct
     (omega (arith, c.self.invariant.0.few, length-map c.self.inside.journal (λ (e : Entry). e.order), c.if-len-self.true, c.len.ensures))
@@ -100,7 +101,7 @@ returns-then-len-self-clause-kept c = λ other.
 
 pub returns-else-len-self-clause-kept : goal.returns-else-len-self-clause-kept
 returns-else-len-self-clause-kept c = λ other.
-    let found : entry_at c.self.inside.journal c.args.order.key ≡ None = cc in
+    let found : entry_at c.self.inside.journal c.args.order.key ≡ None = sym (c.in-None.ensures ∙ ap (entry_at c.self.inside.journal) c.key.ensures.value) in
     let orders = map (λ (e : Entry). e.order) c.self.inside.journal in
     let same = kept-new c.self.inside.limit orders c.args.order c.self.invariant.0.distinct
     (omega (arith, length-map c.self.inside.journal (λ (e : Entry). e.order)))
@@ -108,3 +109,13 @@ returns-else-len-self-clause-kept c = λ other.
     rw (← c.self.view_is)
     (rw (← c.self.view_is) at (granted c.enter.result other c.enter.ensures.memory c.enter.ensures.entered)
     ∙ ap (λ xs. record { accounts = accounts_of c.self.inside.balances; limit = c.self.inside.limit; orders = xs }) (sym same))
+
+-- wrong edits turn these: they are refused sooner where the goals have answers
+pub returns-in-Some-clause-answer : goal.returns-in-Some-clause-answer
+returns-in-Some-clause-answer c = search rules
+
+pub returns-else-len-self-clause-answer : goal.returns-else-len-self-clause-answer
+returns-else-len-self-clause-answer c = search rules
+
+pub returns-else-len-self-clause-full : goal.returns-else-len-self-clause-full
+returns-else-len-self-clause-full c = grind (arith, common_steps)
