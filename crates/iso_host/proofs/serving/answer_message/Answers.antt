@@ -1,4 +1,4 @@
-use Rattle.std.proofs.Common.{List, ℕ, refl, arith, inl, inr}
+use Rattle.std.proofs.Common.{List, ℕ, refl, arith, inl, inr, rules}
 use Rattle.std.proofs.KnownBytes.{Appends-nil}
 use Rattle.std.specs.declared.option.Option.{Option}
 use Rattle.iso_table.specs.Layout.{Layout}
@@ -16,3 +16,7 @@ none_written t h old new message held (inr entered) = inr (entered.0, (entered.1
 
 pub returns-in_default-clause-answered : goal.returns-in_default-clause-answered
 returns-in_default-clause-answered g c = none_written _ _ _ _ _ _ c.in_default.ensures.memory
+
+-- a wrong edit turns this: it is refused sooner where the goal has an answer
+pub returns-in-Err-clause-answered : goal.returns-in-Err-clause-answered
+returns-in-Err-clause-answered g c = search rules
