@@ -1,6 +1,0 @@
--- A wrong edit turns this function. It is refused sooner where its goals have answers, as these.
-use Rattle.std.proofs.Common.{rules}
-use Rattle.iso_cli.proofs.refusal.unpack_line.Goals as goal
-
-pub returns : goal.returns
-returns c = search rules
