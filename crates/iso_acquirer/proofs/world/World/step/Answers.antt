@@ -1,4 +1,4 @@
-use Rattle.std.proofs.Common.{subst}
+use Rattle.std.proofs.Common.{subst, rules}
 use Rattle.iso_acquirer.specs.declared.event.Event.TheVariants.{Begin, Timeout, Deliver, Answer, Other}
 use Rattle.iso_acquirer.specs.Agreed.{IsSound}
 use Rattle.iso_acquirer.proofs.Closed.{stays}
@@ -26,7 +26,7 @@ returns-in-Other-clause-closed c =
 
 -- wrong edits turn these: they are refused sooner where the goals have answers
 pub returns-in-Deliver-clause-made : goal.returns-in-Deliver-clause-made
-returns-in-Deliver-clause-made c = rw c.in-Deliver.is c.deliver.ensures.ok
+returns-in-Deliver-clause-made c = search rules
 
 pub returns-in-Deliver-clause-fault : goal.returns-in-Deliver-clause-fault
-returns-in-Deliver-clause-fault c = rw c.in-Deliver.is c.deliver.ensures.fault
+returns-in-Deliver-clause-fault c = search rules
