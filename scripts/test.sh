@@ -35,7 +35,7 @@ tables() {
     same=0
     for table in ascii87 bcd87; do
         name=$(echo "$table" | tr a-z A-Z)
-        sed -n "/^const $name/,/\"#;\$/p" crates/iso_codec_tests/src/table/edition87.rt | sed 's/.*r#"//; s/"#;$//' \
+        sed -n "/^pub(super) const $name:/,/\"#;\$/p" crates/iso_codec_tests/src/table/edition87.rt | sed 's/.*r#"//; s/"#;$//' \
             | tr -d '\n' > "$folder/table"
         if [ -s "$folder/table" ] && cmp -s "$folder/table" "tables/$table.json"; then
             same=$((same + 1))

@@ -41,6 +41,8 @@ macro_rules! bytes {
 }
 
 #[cfg(test)]
+mod faults;
+#[cfg(test)]
 mod parts;
 #[cfg(test)]
 mod table;

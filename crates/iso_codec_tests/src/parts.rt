@@ -1,9 +1,8 @@
 //! The pieces of a message: rows, parts, message types, lengths and bitmaps.
 
-use iso_fakes::{check, check_of};
+use iso_fakes::check;
 use iso_parts::*;
 use std::alloc::Global;
-use std::fmt::{Debug, Display};
 use std::test::*;
 
 /// A row of six digits, filled with zeros on the left.
@@ -14,11 +13,12 @@ macro_rules! zero_filled {
 }
 
 mod bitmaps;
-mod faults;
 mod judgements;
-mod long_values;
-mod refusals;
 mod values;
+
+use bitmaps::{FACTS, SetFact, check_sets, is_fact};
+use judgements::{JUDGEMENTS, Judgement, is_judged};
+use values::{FIGURES, Figure, check_values, is_figure};
 
 /// Lengths in ASCII digits.
 pub(super) const LL: Length = Length::LL(Digits::Ascii);
@@ -54,43 +54,11 @@ fn is_judged_field(row: &FieldSpec, part: &[u8], want: Result<Judged, FieldFault
     row.good().is_ok() && judge_field(row, part) == want
 }
 
-/// Whether a part under a good row is decoded so, and the value is appended to other bytes.
-fn is_decoded(
-    alloc: Global,
-    row: &FieldSpec,
-    part: &[u8],
-    want: Result<Option<usize>, FieldFault>,
-    value: &[u8],
-) -> bool {
-    let mut out = Vec::new(alloc);
-    row.good().is_ok()
-        && out.extend_from_slice(b"before").is_ok()
-        && decode_value(row, part, &mut out) == want
-        && out.strip_prefix(b"before") == Some(value)
-}
-
-/// Whether that is what is shown of it.
-pub(super) fn is_shown(alloc: Global, value: &impl Display, want: &str) -> bool {
-    match format!(in alloc; "{value}") {
-        Ok(text) => text.as_str() == want,
-        Err(_) => false,
-    }
-}
-
-/// Whether that is what is shown of it for debugging.
-pub(super) fn is_debugged(alloc: Global, value: &impl Debug, want: &str) -> bool {
-    match format!(in alloc; "{value:?}") {
-        Ok(text) => text.as_str() == want,
-        Err(_) => false,
-    }
-}
-
 const ZEROS: Pad = Pad::Left(b'0');
 
 /// What a type is: the numbers of its base and its response, and its class.
-#[derive(Drop)]
+#[derive(Clone, Copy)]
 struct TypeCase {
-    name: &'static str,
     number: u16,
     base: u16,
     is_repeat: bool,
@@ -98,51 +66,61 @@ struct TypeCase {
     class: MtiClass,
 }
 
-const TYPES: &[TypeCase] = &[
-    TypeCase {
-        name: "a reversal's repeat",
-        number: 421,
-        base: 420,
-        is_repeat: true,
-        response: Some(430),
-        class: MtiClass::Reversal,
-    },
-    TypeCase {
-        name: "a financial request, with an odd origin",
-        number: 207,
-        base: 206,
-        is_repeat: true,
-        response: Some(216),
-        class: MtiClass::Financial,
-    },
-    TypeCase {
-        name: "a financial response",
-        number: 210,
-        base: 210,
-        is_repeat: false,
-        response: None,
-        class: MtiClass::Financial,
-    },
-    TypeCase {
-        name: "the echo test",
-        number: 800,
-        base: 800,
-        is_repeat: false,
-        response: Some(810),
-        class: MtiClass::NetworkManagement,
-    },
-    TypeCase {
-        name: "private use, with a digit without a meaning",
-        number: 9920,
-        base: 9920,
-        is_repeat: false,
-        response: Some(9930),
-        class: MtiClass::Reserved(9),
-    },
+const TYPES: &[(&'static str, Told)] = &[
+    (
+        "a reversal's repeat",
+        Type(TypeCase {
+            number: 421,
+            base: 420,
+            is_repeat: true,
+            response: Some(430),
+            class: MtiClass::Reversal,
+        }),
+    ),
+    (
+        "a financial request, with an odd origin",
+        Type(TypeCase {
+            number: 207,
+            base: 206,
+            is_repeat: true,
+            response: Some(216),
+            class: MtiClass::Financial,
+        }),
+    ),
+    (
+        "a financial response",
+        Type(TypeCase {
+            number: 210,
+            base: 210,
+            is_repeat: false,
+            response: None,
+            class: MtiClass::Financial,
+        }),
+    ),
+    (
+        "the echo test",
+        Type(TypeCase {
+            number: 800,
+            base: 800,
+            is_repeat: false,
+            response: Some(810),
+            class: MtiClass::NetworkManagement,
+        }),
+    ),
+    (
+        "private use, with a digit without a meaning",
+        Type(TypeCase {
+            number: 9920,
+            base: 9920,
+            is_repeat: false,
+            response: Some(9930),
+            class: MtiClass::Reserved(9),
+        }),
+    ),
 ];
 
 /// Whether a number is that type.
-fn is_type(case: &TypeCase) -> bool {
+fn is_type(case: TypeCase) -> bool {
     match Mti::from_digits(case.number) {
         Some(mti) => {
             mti.number() == case.number
@@ -163,26 +141,28 @@ fn number_of(mti: Option<Mti>) -> Option<u16> {
     }
 }
 
-#[test]
-fn message_types() -> Result<(), Fail> {
-    for case in TYPES {
-        check(is_type(case), case.name)?;
-    }
-    check(number_of(Mti::from_digits(10000)) == None, "five digits")
-}
-
-/// What is told of rows, types and lengths.
+/// What is told of rows, types, lengths, parts, digits, sets and bitmaps.
 #[derive(Clone, Copy)]
 enum Told {
     /// Whether a row is good, or why it isn't.
     IsRow(FieldSpec, Result<(), SpecFault>),
+    /// What a type is.
+    Type(TypeCase),
     /// The number of the type that a text is.
     IsType(&'static [u8], Option<u16>),
+    /// Whether a number is the digits of a type.
+    IsNumber(u16, bool),
     /// How many bytes a length takes.
     Takes(Length, usize),
+    /// What is judged of a part, or of a piece of it.
+    Judged(Judgement),
+    /// What is told of digits.
+    Digits(Figure),
+    /// What is told of sets and bitmaps.
+    Set(SetFact),
 }
 
-use Told::{IsRow, IsType, Takes};
+use Told::{IsNumber, IsRow, IsType, Takes, Type};
 
 const TOLD: &[(&'static str, Told)] = &[
     (
@@ -237,6 +217,7 @@ const TOLD: &[(&'static str, Told)] = &[
             Err(SpecFault::PadNotAllowed),
         ),
     ),
+    ("five digits of a number", IsNumber(10000, false)),
     ("the echo test", IsType(b"0800", Some(800))),
     ("private use", IsType(b"9920", Some(9920))),
     ("three digits", IsType(b"800", None)),
@@ -257,15 +238,35 @@ const TOLD: &[(&'static str, Told)] = &[
 fn is_told(told: Told) -> bool {
     match told {
         IsRow(row, want) => row.good() == want,
+        Type(case) => is_type(case),
         IsType(text, number) => number_of(Mti::from_text(text)) == number,
+        IsNumber(number, is_so) => Mti::from_digits(number).is_some() == is_so,
         Takes(length, size) => length.prefix_size() == size,
+        Told::Judged(judgement) => is_judged(judgement),
+        Told::Digits(figure) => is_figure(figure),
+        Told::Set(fact) => is_fact(fact),
     }
 }
 
-#[test]
-fn rows_types_and_lengths_are_told() -> Result<(), Fail> {
-    for (name, told) in TOLD {
+/// That each is told.
+fn check_told(table: &[(&str, Told)]) -> Result<(), Fail> {
+    for (name, told) in table {
         check(is_told(*told), *name)?;
     }
     Ok(())
+}
+
+#[test]
+fn pieces_are_told() -> Result<(), Fail> {
+    for table in [TYPES, TOLD, JUDGEMENTS, FIGURES, FACTS] {
+        check_told(table)?;
+    }
+    Ok(())
+}
+
+#[test]
+fn values_and_bitmaps_are_written_and_read(rt: HostRuntime) -> Result<(), Fail> {
+    let mut out = vec![in rt.alloc(); b'a', b'b']?;
+    check_sets(&mut out)?;
+    check_values(rt.alloc(), &mut out)
 }

@@ -1,54 +1,26 @@
-//! Tables: drafts that are checked, the tables of the 1987 edition, and their documents.
+//! Tables: drafts that are checked, the tables of the 1987 edition, and their documents. The rows of `iso_cli` have the documents
+//! that are refused, and the tables under which no host can serve.
 
-use super::parts::{
-    ACCOUNT_ROW, LL, LL_BCD, LLL, LLL_BCD, LLLL, LLLL_BCD, PACKED_ACCOUNT_ROW, TERMINAL_ROW,
-};
-use iso_fakes::{check, check_of};
+use super::parts::{ACCOUNT_ROW, LL, LL_BCD, LLL, LLL_BCD, LLLL, TERMINAL_ROW};
+use iso_fakes::check;
 use iso_parts::{CharClass, Coding, Digits, FieldSpec, Length, Pad};
 use iso_table::*;
 use std::alloc::{AllocError, Global};
 use std::test::*;
 
-/// What a table says whose type is in ASCII digits, and whose bitmaps are in hexadecimal ones.
-macro_rules! ascii_table {
-    ($version:expr, $rows:expr, $max_bytes:expr) => {
-        Says {
-            version: $version,
-            mti: Digits::Ascii,
-            bitmap: BitmapCoding::Hex,
-            rows: $rows,
-            max_bytes: $max_bytes,
-        }
-    };
-}
-
-/// What a table says whose type is in BCD, and whose bitmaps stand as they are.
-macro_rules! bcd_table {
-    ($version:expr, $rows:expr, $max_bytes:expr) => {
-        Says {
-            version: $version,
-            mti: Digits::Bcd,
-            bitmap: BitmapCoding::Raw,
-            rows: $rows,
-            max_bytes: $max_bytes,
-        }
-    };
-}
-
-mod documents;
-mod drafts;
+mod cases;
 mod edition87;
-mod faults;
-mod hosts;
 mod members;
 
-/// What a table says: it has these rows and no others.
+/// What a table says: its heading, how many rows it has, some of them, what it says to a host, and its greatest message.
 #[derive(Clone, Copy)]
 struct Says<'a> {
     version: u8,
     mti: Digits,
     bitmap: BitmapCoding,
+    count: usize,
     rows: &'a [(u8, FieldSpec)],
+    host: Result<(), HostTableFault>,
     max_bytes: u64,
 }
 
@@ -76,41 +48,22 @@ pub(super) fn draft(
     Ok(draft)
 }
 
-/// The table of a draft that says so.
-fn checked(alloc: Global, says: &Says) -> Result<Table, TableFault> {
+/// The table of the 1987 edition whose numbers are of these digits.
+pub(super) fn table87(alloc: Global, digits: Digits) -> Result<Table, TableFault> {
+    let built = match digits {
+        Digits::Ascii => Table::ascii87(alloc),
+        Digits::Bcd => Table::bcd87(alloc),
+    };
+    built.or(Err(TableFault::Memory))
+}
+
+/// The table that says so: of the 1987 edition where it has 126 rows, else of a draft of all rows that are told.
+fn table_that(alloc: Global, says: &Says) -> Result<Table, TableFault> {
+    if says.count == 126 {
+        return table87(alloc, says.mti);
+    }
     let draft = draft(alloc, says.version, says.mti, says.bitmap, says.rows)?;
     Table::check(alloc, draft)
-}
-
-/// Ends the test with the name of a table and an element, unless it is so.
-fn check_element(is_so: bool, name: &str, element: u8) -> Result<(), Fail> {
-    if is_so {
-        Ok(())
-    } else {
-        Err(Fail::new(format_args!("{name}: element {element}")))
-    }
-}
-
-/// That a table says so, and has so many rows.
-fn check_heading(name: &str, table: &Table, says: &Says, rows: usize) -> Result<(), Fail> {
-    let has_heading = has_heading(table, says.version, says.mti, says.bitmap);
-    check_of(has_heading, name, "its heading")?;
-    let has_size = table.rows() == rows && table.max_bytes() == says.max_bytes;
-    check_of(has_size, name, "its size")
-}
-
-/// That a table says so.
-fn check_says(name: &str, table: &Table, says: &Says) -> Result<(), Fail> {
-    check_heading(name, table, says, says.rows.len())?;
-    check_rows(name, table, says.rows)
-}
-
-/// That the table has these rows.
-fn check_rows(name: &str, table: &Table, rows: &[(u8, FieldSpec)]) -> Result<(), Fail> {
-    for (element, row) in rows {
-        check_element(has_row(table, *element, Some(*row)), name, *element)?;
-    }
-    Ok(())
 }
 
 /// Whether the table writes messages of that version so.
@@ -123,82 +76,80 @@ fn has_row(table: &Table, element: u8, row: Option<FieldSpec>) -> bool {
     table.row(element).copied() == row && table.known().has(element) == row.is_some()
 }
 
-/// The table of the 1987 edition whose numbers are of these digits.
-pub(super) fn table87(alloc: Global, digits: Digits) -> Result<Table, TableFault> {
-    let built = match digits {
-        Digits::Ascii => Table::ascii87(alloc),
-        Digits::Bcd => Table::bcd87(alloc),
-    };
-    built.or(Err(TableFault::Memory))
+/// Whether the table has these rows, and none at the numbers that no element has.
+fn has_rows(table: &Table, rows: &[(u8, FieldSpec)]) -> bool {
+    for (element, row) in rows {
+        if !has_row(table, *element, Some(*row)) {
+            return false;
+        }
+    }
+    for element in [0, 1, 65, 129, 255] {
+        if !has_row(table, element, None) {
+            return false;
+        }
+    }
+    true
 }
 
-/// The table that a document gives.
-fn read(alloc: Global, text: &[u8]) -> Result<Table, Fail> {
-    Ok(Table::from_json(alloc, text)?)
+/// Whether a table says so.
+fn says_so(table: &Table, says: &Says) -> bool {
+    has_heading(table, says.version, says.mti, says.bitmap)
+        && table.rows() == says.count
+        && table.max_bytes() == says.max_bytes
+        && table.host_ready() == says.host
+        && has_rows(table, says.rows)
 }
 
-/// Whether that text is written of the table.
-fn is_written(alloc: Global, table: &Table, want: &str) -> bool {
+/// Whether both tables write messages alike, and have the same row for each element, or none.
+fn are_same(table: &Table, other: &Table) -> bool {
+    for element in 0..=255 {
+        if !has_row(table, element, other.row(element).copied()) {
+            return false;
+        }
+    }
+    has_heading(table, other.version(), other.mti(), other.bitmap())
+}
+
+/// Whether the text is the lines without their ends.
+fn is_joined(text: &[u8], lines: &str) -> bool {
+    let mut left = text;
+    for line in lines.lines() {
+        match left.strip_prefix(line.as_bytes()) {
+            Some(behind) => left = behind,
+            None => return false,
+        }
+    }
+    left.is_empty()
+}
+
+/// Whether the lines, without their ends, are written of the table.
+fn is_written(alloc: Global, table: &Table, lines: &str) -> bool {
     match table.to_json(alloc) {
-        Ok(text) => text.as_slice() == want.as_bytes(),
+        Ok(text) => is_joined(&text, lines),
         Err(_) => false,
     }
 }
 
-const ASCII87_ROWS: &[(u8, Option<FieldSpec>)] = &[
-    (1, None),
-    (2, Some(number!(Coding::Ascii, LL, 19))),
-    (3, Some(number!(Coding::Ascii, Length::Fixed, 6))),
-    (13, Some(number!(Coding::Ascii, Length::Fixed, 4))),
-    (18, Some(number!(Coding::Ascii, Length::Fixed, 4))),
-    (41, Some(TERMINAL_ROW)),
-    (52, Some(bytes!(Coding::HexText, Length::Fixed, 8))),
-    (54, Some(text!(LLL, 120))),
-    (55, Some(bytes!(Coding::Raw, LLL, 999))),
-    (65, None),
-    (96, Some(bytes!(Coding::HexText, Length::Fixed, 8))),
-    (104, Some(text!(LLL, 100))),
-    (127, Some(text!(LLL, 999))),
-    (128, Some(bytes!(Coding::HexText, Length::Fixed, 8))),
-    (129, None),
-];
-
-const BCD87_ROWS: &[(u8, Option<FieldSpec>)] = &[
-    (2, Some(number!(Coding::Bcd, LL_BCD, 19))),
-    (34, Some(text!(LL_BCD, 28))),
-    (52, Some(bytes!(Coding::Raw, Length::Fixed, 8))),
-    (55, Some(bytes!(Coding::Raw, LLL_BCD, 999))),
-    (63, Some(text!(LLL_BCD, 999))),
-    (90, Some(number!(Coding::Bcd, Length::Fixed, 42))),
-    (100, Some(number!(Coding::Bcd, LL_BCD, 11))),
-];
-
-/// A table of the 1987 edition, what it says but for its rows, and some of these.
-type Built = (
-    &'static str,
-    Says<'static>,
-    &'static [(u8, Option<FieldSpec>)],
-);
-
-const BUILT: &[Built] = &[
-    ("ascii87", ascii_table!(0, &[], 36470), ASCII87_ROWS),
-    ("bcd87", bcd_table!(0, &[], 36141), BCD87_ROWS),
-];
-
-/// That the table has these rows, or none.
-fn check_built(name: &str, table: &Table, rows: &[(u8, Option<FieldSpec>)]) -> Result<(), Fail> {
-    for (element, row) in rows {
-        check_element(has_row(table, *element, *row), name, *element)?;
+/// Whether the document is one of the table.
+fn is_read(alloc: Global, table: &Table, document: &str) -> bool {
+    match Table::from_json(alloc, document.as_bytes()) {
+        Ok(read) => are_same(&read, table),
+        Err(_) => false,
     }
-    Ok(())
 }
 
-#[test]
-fn builds_tables(rt: HostRuntime) -> Result<(), Fail> {
-    for (name, says, rows) in BUILT {
-        let table = table87(rt.alloc(), says.mti)?;
-        check_heading(*name, &table, says, 126)?;
-        check_built(*name, &table, *rows)?;
+/// What is written of a table, as lines, and a document that is read as it.
+type Texts = (&'static str, &'static str);
+
+/// Whether a table says so, is written as the first of the texts, and is read of the second.
+fn is_table(alloc: Global, says: &Says, texts: Option<Texts>) -> bool {
+    match (table_that(alloc, says), texts) {
+        (Ok(table), Some((lines, document))) => {
+            says_so(&table, says)
+                && is_written(alloc, &table, lines)
+                && is_read(alloc, &table, document)
+        }
+        (Ok(table), None) => says_so(&table, says),
+        (Err(_), _) => false,
     }
-    Ok(())
 }

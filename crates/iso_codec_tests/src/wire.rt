@@ -37,17 +37,12 @@ macro_rules! chips {
 
 mod cases;
 mod edits;
-mod faults;
 mod frames;
 mod hostile;
-mod long_values;
 mod masks;
 mod messages;
 mod pieces;
-mod refusals;
-mod reuse;
 mod stops;
-mod views;
 
 const ECHO: &[u8] = b"0800822000000000000004000000000000000102030405000001301";
 
@@ -145,36 +140,24 @@ fn table_of(alloc: Global, under: Under) -> Result<Table, TableFault> {
     }
 }
 
-/// The value that the elements give a number, if they have it.
-fn value_in<'a>(elements: &[(u8, &'a [u8])], n: u8) -> Option<&'a [u8]> {
-    for (number, value) in elements {
-        if *number == n {
-            return Some(value);
-        }
-    }
-    None
-}
-
-/// Whether the message has these elements and no other.
-fn has_only(message: &Message, elements: &[(u8, &[u8])]) -> bool {
-    let numbers = message.elements();
-    for n in 0..=255 {
-        let value = value_in(elements, n);
-        if message.get(n) != value || numbers.has(n) != value.is_some() {
+/// Whether the message gives these elements, in that order and no more.
+fn gives(message: &Message, elements: &[(u8, &[u8])]) -> bool {
+    let mut left = message.iter();
+    for element in elements {
+        if left.next() != Some(*element) {
             return false;
         }
     }
-    true
+    left.next() == None
 }
 
-/// A message of that type with the elements, set in that order.
-fn message(alloc: Global, mti: u16, elements: &[(u8, &[u8])]) -> Result<Message, Fail> {
-    let mti = Mti::from_digits(mti).ok_or("not four digits")?;
-    let mut message = Message::new(alloc, mti);
+/// A message of that type with the elements, set in that order, if all can be set.
+fn message(alloc: Global, mti: u16, elements: &[(u8, &[u8])]) -> Option<Message> {
+    let mut message = Message::new(alloc, Mti::from_digits(mti)?);
     for (n, value) in elements {
-        message.set(*n, value)?;
+        message.set(*n, value).ok()?;
     }
-    Ok(message)
+    Some(message)
 }
 
 /// The fault of bytes that stop being a message there, in the piece of that element.
@@ -197,15 +180,6 @@ fn refused_piece(alloc: Global, table: &Table, bytes: &[u8]) -> Option<UnpackFau
     Unpacker::new(alloc, table).feed(alloc, bytes).err()
 }
 
-/// What `unpack`, `view` and `feed` refuse in the bytes, where `feed` tells no fault but wants more.
-fn refused(alloc: Global, table: &Table, bytes: &[u8]) -> [Option<UnpackFault>; 3] {
-    [
-        refused_whole(alloc, table, bytes),
-        refused_view(table, bytes),
-        refused_piece(alloc, table, bytes),
-    ]
-}
-
 /// Whether `unpack`, `view` and `feed` all tell that fault, but that `feed` wants more where the bytes are short.
 fn are_refused(alloc: Global, table: &Table, bytes: &[u8], fault: UnpackFault) -> bool {
     let told = Some(fault);
@@ -214,7 +188,9 @@ fn are_refused(alloc: Global, table: &Table, bytes: &[u8], fault: UnpackFault) -
     } else {
         told
     };
-    refused(alloc, table, bytes) == [told, told, fed]
+    refused_whole(alloc, table, bytes) == told
+        && refused_view(table, bytes) == told
+        && refused_piece(alloc, table, bytes) == fed
 }
 
 /// Where each piece of a message begins, with its element.

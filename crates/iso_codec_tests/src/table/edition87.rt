@@ -1,9 +1,7 @@
-//! The built-in tables of the 1987 edition, as they are written and read.
-
-use super::*;
+//! The documents of the built-in tables.
 
 /// The table of the 1987 edition in ASCII, a row a line: without its line ends it is `tables/ascii87.json`.
-const ASCII87: &str = r#"{"bitmap":"hex","mti":"ascii","profile":2,"rows":[
+pub(super) const ASCII87: &str = r#"{"bitmap":"hex","mti":"ascii","profile":2,"rows":[
 {"class":"N","coding":"ascii","length":"LL","max":19,"number":2,"pad":"none","prefix":"ascii"},
 {"class":"N","coding":"ascii","length":"fixed","max":6,"number":3,"pad":"none"},
 {"class":"N","coding":"ascii","length":"fixed","max":12,"number":4,"pad":"none"},
@@ -133,7 +131,7 @@ const ASCII87: &str = r#"{"bitmap":"hex","mti":"ascii","profile":2,"rows":[
 ],"version":0}"#;
 
 /// The table of the 1987 edition in BCD, a row a line: without its line ends it is `tables/bcd87.json`.
-const BCD87: &str = r#"{"bitmap":"raw","mti":"bcd","profile":2,"rows":[
+pub(super) const BCD87: &str = r#"{"bitmap":"raw","mti":"bcd","profile":2,"rows":[
 {"class":"N","coding":"bcd","length":"LL","max":19,"number":2,"pad":"none","prefix":"bcd"},
 {"class":"N","coding":"bcd","length":"fixed","max":6,"number":3,"pad":"none"},
 {"class":"N","coding":"bcd","length":"fixed","max":12,"number":4,"pad":"none"},
@@ -261,57 +259,3 @@ const BCD87: &str = r#"{"bitmap":"raw","mti":"bcd","profile":2,"rows":[
 {"class":"ANS","coding":"ascii","length":"LLL","max":999,"number":127,"pad":"none","prefix":"bcd"},
 {"class":"B","coding":"raw","length":"fixed","max":8,"number":128,"pad":"none"}
 ],"version":0}"#;
-
-/// A text without its line ends.
-fn joined(alloc: Global, text: &str) -> Result<String, AllocError> {
-    let mut line = String::new(alloc);
-    for part in text.lines() {
-        line.push_str(part)?;
-    }
-    Ok(line)
-}
-
-/// The text of each table.
-const TEXTS: &[(&'static str, Digits, &'static str)] = &[
-    ("ascii87", Digits::Ascii, ASCII87),
-    ("bcd87", Digits::Bcd, BCD87),
-];
-
-/// Whether the lines, without their ends, are written of the table.
-fn is_written_of(alloc: Global, table: &Table, lines: &str) -> bool {
-    match joined(alloc, lines) {
-        Ok(line) => is_written(alloc, table, line.as_str()),
-        Err(_) => false,
-    }
-}
-
-/// Whether both tables have the same row for the element, or none.
-fn have_same_row(read: &Table, table: &Table, element: u8) -> bool {
-    read.row(element).copied() == table.row(element).copied()
-}
-
-/// That both tables write messages alike, and have the same row for each element, or none.
-fn check_same(name: &str, read: &Table, table: &Table) -> Result<(), Fail> {
-    let are_alike = has_heading(read, table.version(), table.mti(), table.bitmap());
-    check(are_alike, name)?;
-    for element in 0..=255 {
-        check_element(have_same_row(read, table, element), name, element)?;
-    }
-    Ok(())
-}
-
-/// That the lines are read as the table.
-fn check_read(alloc: Global, name: &str, lines: &str, table: &Table) -> Result<(), Fail> {
-    let read = read(alloc, lines.as_bytes())?;
-    check_same(name, &read, table)
-}
-
-#[test]
-fn built_in_tables_are_written_and_read(rt: HostRuntime) -> Result<(), Fail> {
-    for (name, digits, lines) in TEXTS {
-        let table = table87(rt.alloc(), *digits)?;
-        check_of(is_written_of(rt.alloc(), &table, *lines), *name, "written")?;
-        check_read(rt.alloc(), *name, *lines, &table)?;
-    }
-    Ok(())
-}

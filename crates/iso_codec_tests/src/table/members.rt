@@ -4,40 +4,36 @@ use super::*;
 use iso_table::members::{has_members, text_at};
 use serde_json::Value;
 
-/// Whether a value has so many members and no other count, and that text at its member `pad`; or is no object.
-fn has_only(value: &Value, size: Option<usize>, pad: Option<&str>) -> bool {
-    match size {
-        Some(size) => {
-            has_members(value, size)
-                && !has_members(value, size.saturating_add(1))
-                && text_at(value, "pad") == pad
-        }
-        None => !has_members(value, 0),
-    }
-}
-
-/// Whether that is so of a document.
-fn is_told(alloc: Global, document: &str, size: Option<usize>, pad: Option<&str>) -> bool {
+/// Whether a document has so many members, or hasn't, and that text at its member `pad`.
+fn is_told(alloc: Global, document: &str, size: usize, is_so: bool, pad: Option<&str>) -> bool {
     match Value::from_slice(alloc, document.as_bytes()) {
-        Ok(value) => has_only(&value, size, pad),
+        Ok(value) => has_members(&value, size) == is_so && text_at(&value, "pad") == pad,
         Err(_) => false,
     }
 }
 
-/// Documents, how many members each has, one given twice being one, and the text at the member `pad`.
-const DOCUMENTS: &[(&'static str, Option<usize>, Option<&'static str>)] = &[
-    (r#"{"class":"N","pad":"none"}"#, Some(2), Some("none")),
-    (r#"{"pad":"left:2a","pad":"none"}"#, Some(1), Some("none")),
-    (r#"{"pad":20}"#, Some(1), None),
-    ("{}", Some(0), None),
+/// A document, a count of members and whether it has so many, and the text at the member `pad`.
+type Told = (&'static str, usize, bool, Option<&'static str>);
+
+/// A member that is given twice is one.
+const DOCUMENTS: &[Told] = &[
+    (r#"{"class":"N","pad":"none"}"#, 2, true, Some("none")),
+    (r#"{"class":"N","pad":"none"}"#, 3, false, Some("none")),
+    (r#"{"pad":"left:2a","pad":"none"}"#, 1, true, Some("none")),
+    (r#"{"pad":"left:2a","pad":"none"}"#, 2, false, Some("none")),
+    (r#"{"pad":20}"#, 1, true, None),
+    (r#"{"pad":20}"#, 2, false, None),
+    ("{}", 0, true, None),
+    ("{}", 1, false, None),
     // a list is no object
-    ("[]", None, None),
+    ("[]", 0, false, None),
 ];
 
 #[test]
 fn members_of_an_object(rt: HostRuntime) -> Result<(), Fail> {
-    for (document, size, pad) in DOCUMENTS {
-        check(is_told(rt.alloc(), *document, *size, *pad), *document)?;
+    for (document, size, is_so, pad) in DOCUMENTS {
+        let is_told = is_told(rt.alloc(), *document, *size, *is_so, *pad);
+        check(is_told, *document)?;
     }
     Ok(())
 }

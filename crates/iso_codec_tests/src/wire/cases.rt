@@ -2,7 +2,7 @@
 
 use super::*;
 
-/// The bytes of a message, and what they say.
+/// The bytes of a message, what they say, and how that is written.
 #[derive(Clone, Copy)]
 pub(super) struct Case {
     pub(super) name: &'static str,
@@ -11,6 +11,8 @@ pub(super) struct Case {
     pub(super) used: usize,
     pub(super) elements: Elements,
     pub(super) plain: &'static [u8],
+    /// Where the bodies lie in the bytes.
+    places: &'static [(u8, usize, usize)],
 }
 
 pub(super) const ECHO_CASE: Case = Case {
@@ -20,6 +22,7 @@ pub(super) const ECHO_CASE: Case = Case {
     used: 55,
     elements: ECHO_ELEMENTS,
     plain: ECHO,
+    places: &[(7, 36, 46), (11, 46, 52), (70, 52, 55)],
 };
 
 pub(super) const PAYMENT_CASE: Case = Case {
@@ -37,6 +40,15 @@ pub(super) const PAYMENT_CASE: Case = Case {
         (49, b"840"),
     ],
     plain: PAYMENT,
+    places: &[
+        (2, 22, 38),
+        (3, 38, 44),
+        (4, 44, 56),
+        (7, 56, 66),
+        (11, 66, 72),
+        (32, 74, 79),
+        (49, 79, 82),
+    ],
 };
 
 pub(super) const REVERSAL_CASE: Case = Case {
@@ -51,6 +63,7 @@ pub(super) const REVERSAL_CASE: Case = Case {
         (90, b"020000000701020304050000001234500000000000"),
     ],
     plain: REVERSAL,
+    places: &[(7, 36, 46), (11, 46, 52), (32, 54, 59), (90, 59, 101)],
 };
 
 pub(super) const NO_ELEMENT: Case = Case {
@@ -60,6 +73,7 @@ pub(super) const NO_ELEMENT: Case = Case {
     used: 20,
     elements: &[],
     plain: b"08000000000000000000",
+    places: &[],
 };
 
 pub(super) const EMPTY_SECONDARY: Case = Case {
@@ -69,6 +83,7 @@ pub(super) const EMPTY_SECONDARY: Case = Case {
     used: 36,
     elements: &[],
     plain: b"08000000000000000000",
+    places: &[],
 };
 
 pub(super) const LOWER_CASE: Case = Case {
@@ -83,26 +98,48 @@ pub(super) const LOWER_CASE: Case = Case {
         (15, b"0103"),
     ],
     plain: b"0800022A000000000000010203040500000101020103",
+    places: &[(7, 20, 30), (11, 30, 36), (13, 36, 40), (15, 40, 44)],
 };
 
-const PACKED_CASES: &[Case] = &[
-    Case {
-        name: "echo under BCD",
-        bytes: PACKED_ECHO,
-        mti: 800,
-        used: 28,
-        elements: ECHO_ELEMENTS,
-        plain: PACKED_ECHO,
-    },
-    Case {
-        name: "filler F",
-        bytes: FILLED_ECHO,
-        mti: 800,
-        used: 28,
-        elements: ECHO_ELEMENTS,
-        plain: PACKED_ECHO,
-    },
-];
+pub(super) const PACKED_ECHO_CASE: Case = Case {
+    name: "echo under BCD",
+    bytes: PACKED_ECHO,
+    mti: 800,
+    used: 28,
+    elements: ECHO_ELEMENTS,
+    plain: PACKED_ECHO,
+    places: &[(7, 18, 23), (11, 23, 26), (70, 26, 28)],
+};
+
+const FILLED_CASE: Case = Case {
+    name: "filler F",
+    bytes: FILLED_ECHO,
+    mti: 800,
+    used: 28,
+    elements: ECHO_ELEMENTS,
+    plain: PACKED_ECHO,
+    places: &[(7, 18, 23), (11, 23, 26), (70, 26, 28)],
+};
+
+const PADDED_CASE: Case = Case {
+    name: "a padded value, and bytes behind",
+    bytes: b"08000000000000800000TERM1   08",
+    mti: 800,
+    used: 28,
+    elements: &[(41, b"TERM1")],
+    plain: b"08000000000000800000TERM1   ",
+    places: &[(41, 20, 28)],
+};
+
+const BLANKS_ALONE: Case = Case {
+    name: "eight blanks",
+    bytes: b"08000000000000800000        ",
+    mti: 800,
+    used: 28,
+    elements: &[(41, b"")],
+    plain: b"08000000000000800000        ",
+    places: &[(41, 20, 28)],
+};
 
 const CHIP_CASE: Case = Case {
     name: "three bytes behind four digits of a length",
@@ -111,6 +148,7 @@ const CHIP_CASE: Case = Case {
     used: 30,
     elements: &[(48, b"\x01\x02\x0A")],
     plain: CHIP,
+    places: &[(48, 24, 30)],
 };
 
 const BLANK_CASE: Case = Case {
@@ -120,91 +158,126 @@ const BLANK_CASE: Case = Case {
     used: 28,
     elements: BLANK_ELEMENTS,
     plain: BLANK,
+    places: &[(41, 20, 26), (42, 26, 28)],
 };
 
-/// Cases under each table.
-const CASES: &[(Under, &[Case])] = &[
-    (
-        ASCII,
-        &[
-            ECHO_CASE,
-            PAYMENT_CASE,
-            NO_ELEMENT,
-            EMPTY_SECONDARY,
-            LOWER_CASE,
-        ],
-    ),
-    (ASCII87, &[REVERSAL_CASE]),
-    (PACKED, PACKED_CASES),
-    (CHIPS, &[CHIP_CASE]),
-    (BLANKS, &[BLANK_CASE]),
+/// Cases, each under a table.
+const CASES: &[(Under, Case)] = &[
+    (ASCII, ECHO_CASE),
+    (ASCII, PAYMENT_CASE),
+    (ASCII, NO_ELEMENT),
+    (ASCII, EMPTY_SECONDARY),
+    (ASCII, LOWER_CASE),
+    (ASCII87, PAYMENT_CASE),
+    (ASCII87, REVERSAL_CASE),
+    (ASCII87, PADDED_CASE),
+    (ASCII87, BLANKS_ALONE),
+    (PACKED, PACKED_ECHO_CASE),
+    (PACKED, FILLED_CASE),
+    (BCD87, PACKED_ECHO_CASE),
+    (BCD87, FILLED_CASE),
+    (CHIPS, CHIP_CASE),
+    (BLANKS, BLANK_CASE),
 ];
 
 /// Whether the message has that type, and these elements alone.
 pub(super) fn is_message(message: &Message, mti: u16, elements: &[(u8, &[u8])]) -> bool {
-    message.mti().number() == mti && has_only(message, elements)
+    message.mti().number() == mti && gives(message, elements)
 }
 
-/// Whether the message is written as the bytes.
-pub(super) fn is_packed(alloc: Global, table: &Table, message: &Message, bytes: &[u8]) -> bool {
-    match pack(alloc, table, message) {
-        Ok(packed) => packed.as_slice() == bytes,
+/// Whether the message is written as the bytes, alone and behind `ab`.
+fn is_written(
+    alloc: Global,
+    table: &Table,
+    message: &Message,
+    bytes: &[u8],
+    out: &mut Vec<u8>,
+) -> bool {
+    out.truncate(2);
+    append_message(table, message, out).is_ok()
+        && out.strip_prefix(b"ab") == Some(bytes)
+        && match pack(alloc, table, message) {
+            Ok(packed) => packed.as_slice() == bytes,
+            Err(_) => false,
+        }
+}
+
+/// Whether a case is read, and what is read is written.
+fn is_read(alloc: Global, table: &Table, case: &Case, out: &mut Vec<u8>) -> bool {
+    match unpack(alloc, table, case.bytes) {
+        Ok((read, used)) => {
+            used == case.used
+                && is_message(&read, case.mti, case.elements)
+                && is_written(alloc, table, &read, case.plain, out)
+        }
         Err(_) => false,
     }
 }
 
-/// Whether the message is appended as the bytes to `ab`, which alone is left.
-fn is_appended(table: &Table, message: &Message, bytes: &[u8], out: &mut Vec<u8>) -> bool {
-    let is_done = append_message(table, message, out).is_ok();
-    let is_appended = is_done && out.strip_prefix(b"ab") == Some(bytes);
-    // the next one is written over it
-    out.truncate(2);
-    is_appended
+/// Whether a message whose elements were set is written.
+fn is_made(alloc: Global, table: &Table, case: &Case, out: &mut Vec<u8>) -> bool {
+    match message(alloc, case.mti, case.elements) {
+        Some(made) => is_written(alloc, table, &made, case.plain, out),
+        None => false,
+    }
 }
 
-/// That a message is written as the plain bytes of a case, alone and behind others.
-fn check_written(
-    alloc: Global,
-    table: &Table,
-    case: &Case,
-    message: &Message,
-    out: &mut Vec<u8>,
-) -> Result<(), Fail> {
-    let is_packed = is_packed(alloc, table, message, case.plain);
-    check_of(is_packed, case.name, "written")?;
-    let is_appended = is_appended(table, message, case.plain, out);
-    check_of(is_appended, case.name, "appended")
+/// Where the body of an element lies, if there is one.
+fn place_in(places: &[(u8, usize, usize)], n: u8) -> Option<(usize, usize)> {
+    for (number, start, end) in places {
+        if *number == n {
+            return Some((*start, *end));
+        }
+    }
+    None
 }
 
-/// That a case is read, and nothing else, and that what is read is written.
-fn check_read(alloc: Global, table: &Table, case: &Case, out: &mut Vec<u8>) -> Result<(), Fail> {
-    let (read, used) = unpack(alloc, table, case.bytes)?;
-    let is_read = used == case.used && is_message(&read, case.mti, case.elements);
-    check_of(is_read, case.name, "read")?;
-    check_written(alloc, table, case, &read, out)
+/// Whether the body of an element lies there, and is what stands there; or there is none.
+fn lies(seen: &View, bytes: &[u8], n: u8, place: Option<(usize, usize)>) -> bool {
+    match place {
+        Some((start, end)) => {
+            seen.place(n) == Some(start..end) && seen.wire(n) == bytes.get(start..end)
+        }
+        None => seen.place(n) == None && seen.wire(n) == None,
+    }
 }
 
-/// That a message whose elements were set is written.
-fn check_made(alloc: Global, table: &Table, case: &Case, out: &mut Vec<u8>) -> Result<(), Fail> {
-    let made = message(alloc, case.mti, case.elements)?;
-    check_written(alloc, table, case, &made, out)
+/// Whether the view finds the bodies of a case and no other.
+fn finds_only(seen: &View, case: &Case) -> bool {
+    for n in 0..=255 {
+        if !lies(seen, case.bytes, n, place_in(case.places, n)) {
+            return false;
+        }
+    }
+    true
 }
 
-/// That each case is read, and written.
-fn check_cases(alloc: Global, table: &Table, cases: &[Case]) -> Result<(), Fail> {
-    let mut out = vec![in alloc; b'a', b'b']?;
-    for case in cases {
-        check_read(alloc, table, case, &mut out)?;
-        check_made(alloc, table, case, &mut out)?;
+/// Whether a case is left where it lies.
+fn is_viewed(table: &Table, case: &Case) -> bool {
+    match view(table, case.bytes) {
+        Ok(seen) => {
+            seen.mti().number() == case.mti && seen.used() == case.used && finds_only(&seen, case)
+        }
+        Err(_) => false,
+    }
+}
+
+/// Whether a case is read, written and viewed.
+fn is_case(alloc: Global, table: &Table, case: &Case, out: &mut Vec<u8>) -> bool {
+    is_read(alloc, table, case, out) && is_made(alloc, table, case, out) && is_viewed(table, case)
+}
+
+/// That each case is so.
+fn check_cases(alloc: Global, out: &mut Vec<u8>) -> Result<(), Fail> {
+    for (under, case) in CASES {
+        let table = table_of(alloc, *under)?;
+        check(is_case(alloc, &table, case, out), case.name)?;
     }
     Ok(())
 }
 
 #[test]
 fn messages_are_read_and_written(rt: HostRuntime) -> Result<(), Fail> {
-    for (under, cases) in CASES {
-        let table = table_of(rt.alloc(), *under)?;
-        check_cases(rt.alloc(), &table, *cases)?;
-    }
-    Ok(())
+    let mut out = vec![in rt.alloc(); b'a', b'b']?;
+    check_cases(rt.alloc(), &mut out)
 }

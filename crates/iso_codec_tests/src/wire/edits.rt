@@ -1,11 +1,10 @@
-//! What is done to messages, and what they hold then.
+//! What is done to messages.
 
-use super::cases::is_message;
 use super::*;
 
 /// What is done to a message.
 #[derive(Clone, Copy)]
-enum Edit {
+pub(super) enum Edit {
     Set(u8, &'static [u8]),
     /// Sets three numbers in decimal digits.
     SetNumbers,
@@ -15,9 +14,11 @@ enum Edit {
     Refuse(u8),
     /// Makes it a message of that type without elements.
     StartOver(u16),
+    /// Copies it, and gives it another trace number, which the copy doesn't get.
+    Copy,
 }
 
-use Edit::{Refuse, Set, SetNumbers, StartOver, Unset};
+pub(super) use Edit::{Copy, Refuse, Set, SetNumbers, StartOver, Unset};
 
 /// Sets three numbers of six, one and nineteen digits, and says whether each is set.
 fn sets_numbers(message: &mut Message) -> bool {
@@ -42,6 +43,19 @@ fn starts_over(message: &mut Message, mti: u16) -> bool {
     }
 }
 
+/// Whether a copy is equal, and stays what it is where the message gets another number.
+fn is_copied(message: &mut Message) -> bool {
+    match message.clone() {
+        Ok(copy) => {
+            copy == *message
+                && message.set(11, b"000008").is_ok()
+                && copy != *message
+                && copy.get(11) == Some(b"000007")
+        }
+        Err(_) => false,
+    }
+}
+
 /// Whether that can be done to the message.
 fn is_done(message: &mut Message, edit: Edit) -> bool {
     match edit {
@@ -50,11 +64,12 @@ fn is_done(message: &mut Message, edit: Edit) -> bool {
         Unset(n, was_there) => message.unset(n) == was_there,
         Refuse(n) => is_refused(message, n),
         StartOver(mti) => starts_over(message, mti),
+        Copy => is_copied(message),
     }
 }
 
 /// Whether all of it can be done to the message, one after the other.
-fn are_done(message: &mut Message, edits: &[Edit]) -> bool {
+pub(super) fn are_done(message: &mut Message, edits: &[Edit]) -> bool {
     for edit in edits {
         if !is_done(message, *edit) {
             return false;
@@ -63,105 +78,8 @@ fn are_done(message: &mut Message, edits: &[Edit]) -> bool {
     true
 }
 
-/// A message, what is done to it, and its type and its elements then.
-type Edited = (&'static str, u16, Elements, &'static [Edit], u16, Elements);
+pub(super) const THREE: Elements = &[(2, b"ab"), (11, b"cd"), (70, b"efg")];
 
-const THREE: Elements = &[(2, b"ab"), (11, b"cd"), (70, b"efg")];
+pub(super) const NUMBERED: Elements = &[(11, b"000007"), (12, b"0"), (13, b"1234567890123456789")];
 
-const NUMBERED: Elements = &[(11, b"000007"), (12, b"0"), (13, b"1234567890123456789")];
-
-const PURCHASE: Elements = &[(2, b"4111111111111111"), (3, b"000000")];
-
-const EDITED: &[Edited] = &[
-    (
-        "the first",
-        100,
-        THREE,
-        &[Unset(2, true), Unset(2, false)],
-        100,
-        &[(11, b"cd"), (70, b"efg")],
-    ),
-    (
-        "the last",
-        100,
-        THREE,
-        &[Unset(70, true), Unset(70, false)],
-        100,
-        &[(2, b"ab"), (11, b"cd")],
-    ),
-    (
-        "the one between",
-        100,
-        THREE,
-        &[Unset(11, true), Unset(11, false)],
-        100,
-        &[(2, b"ab"), (70, b"efg")],
-    ),
-    ("the message type", 100, &[], &[Refuse(0)], 100, &[]),
-    (
-        "the bit that tells of a secondary bitmap",
-        100,
-        &[],
-        &[Refuse(1)],
-        100,
-        &[],
-    ),
-    (
-        "the bit that tells of a third bitmap",
-        100,
-        &[],
-        &[Refuse(65)],
-        100,
-        &[],
-    ),
-    ("one above the last", 100, &[], &[Refuse(129)], 100, &[]),
-    ("the greatest byte", 100, &[], &[Refuse(255)], 100, &[]),
-    ("three numbers", 100, &[], &[SetNumbers], 100, NUMBERED),
-    (
-        "a message starts over",
-        200,
-        PURCHASE,
-        &[StartOver(810)],
-        810,
-        &[],
-    ),
-    (
-        "and has a code alone",
-        200,
-        PURCHASE,
-        &[StartOver(810), Set(39, b"00")],
-        810,
-        &[(39, b"00")],
-    ),
-];
-
-/// That a message is the other one, and has that type and these elements.
-fn check_same(
-    name: &str,
-    message: &Message,
-    other: &Message,
-    mti: u16,
-    elements: &[(u8, &[u8])],
-) -> Result<(), Fail> {
-    check_of(message.equals(other), name, "equal")?;
-    check_of(is_message(message, mti, elements), name, "its elements")
-}
-
-/// That all of it is done to a message, and what is left.
-fn check_edited(
-    alloc: Global,
-    (name, mti, elements, edits, then, left): &Edited,
-) -> Result<(), Fail> {
-    let mut made = message(alloc, *mti, *elements)?;
-    check(are_done(&mut made, *edits), *name)?;
-    let want = message(alloc, *then, *left)?;
-    check_same(*name, &made, &want, *then, *left)
-}
-
-#[test]
-fn messages_are_edited(rt: HostRuntime) -> Result<(), Fail> {
-    for edited in EDITED {
-        check_edited(rt.alloc(), edited)?;
-    }
-    Ok(())
-}
+pub(super) const PURCHASE: Elements = &[(2, b"4111111111111111"), (3, b"000000")];

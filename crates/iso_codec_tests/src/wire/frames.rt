@@ -8,84 +8,15 @@ use iso_wire::{
     FrameFault, Framed, Header, append_frame, body_length, close_frame, frame, open_frame, unframe,
 };
 
-/// The frame of a body that is written behind room for its header.
-fn closed(alloc: Global, header: Header, body: &[u8]) -> Result<Vec<u8>, FrameFault> {
-    let mut out = Vec::new(alloc);
-    open_frame(header, &mut out)?;
-    out.extend_from_slice(body)?;
-    close_frame(header, out.as_mut_slice())?;
-    Ok(out)
-}
-
-/// A body behind a header, and the frame.
-type FrameCase = (&'static str, Header, &'static [u8], &'static [u8]);
-
-const FRAMES: &[FrameCase] = &[
-    (
-        "an echo behind two bytes",
-        Binary2,
-        ECHO,
-        b"\x00\x370800822000000000000004000000000000000102030405000001301",
-    ),
-    (
-        "an echo behind four digits",
-        Ascii4,
-        ECHO,
-        b"00550800822000000000000004000000000000000102030405000001301",
-    ),
-    (
-        "an echo behind two bytes of digits",
-        Bcd2,
-        ECHO,
-        b"\x00\x550800822000000000000004000000000000000102030405000001301",
-    ),
-    ("nothing behind two bytes", Binary2, b"", b"\x00\x00"),
-    ("nothing behind four digits", Ascii4, b"", b"0000"),
-];
-
-/// Whether that is the frame.
-fn is_frame(made: Result<Vec<u8>, FrameFault>, want: &[u8]) -> bool {
-    match made {
-        Ok(bytes) => bytes.as_slice() == want,
-        Err(_) => false,
-    }
-}
-
-/// Whether the body is framed so in one call.
-fn is_framed(alloc: Global, header: Header, body: &[u8], want: &[u8]) -> bool {
-    is_frame(frame(alloc, header, body), want)
-}
-
-/// Whether it is framed so behind room for its header.
-fn is_closed(alloc: Global, header: Header, body: &[u8], want: &[u8]) -> bool {
-    is_frame(closed(alloc, header, body), want)
-}
-
-/// Whether the body is read of a frame that ends with it.
-fn is_read_back(header: Header, body: &[u8], bytes: &[u8]) -> bool {
-    let used = bytes.len();
-    is_front(header, bytes, Frame(Ok(Got { body, used })))
-}
-
-#[test]
-fn bodies_are_framed(rt: HostRuntime) -> Result<(), Fail> {
-    for (name, header, body, want) in FRAMES {
-        check(is_framed(rt.alloc(), *header, body, want), *name)?;
-        check_of(is_closed(rt.alloc(), *header, body, want), *name, "closed")?;
-        check_of(is_read_back(*header, body, want), *name, "read")?;
-    }
-    Ok(())
-}
-
 /// A header before a body of so many bytes, and its bytes.
-type LongCase = (
+type FrameCase = (
     &'static str,
     Header,
     usize,
     Result<&'static [u8], FrameFault>,
 );
 
-const LONG_FRAMES: &[LongCase] = &[
+const FRAMES: &[FrameCase] = &[
     ("two bytes before 10,000", Binary2, 10_000, Ok(b"\x27\x10")),
     ("four digits before 10,000", Ascii4, 10_000, Err(TooLong)),
     (
@@ -103,27 +34,93 @@ const LONG_FRAMES: &[LongCase] = &[
     ),
     ("two bytes before 65,535", Binary2, 65_535, Ok(b"\xFF\xFF")),
     ("two bytes before 65,536", Binary2, 65_536, Err(TooLong)),
+    ("two bytes before an echo", Binary2, 55, Ok(b"\x00\x37")),
+    ("four digits before an echo", Ascii4, 55, Ok(b"0055")),
+    (
+        "two bytes of digits before an echo",
+        Bcd2,
+        55,
+        Ok(b"\x00\x55"),
+    ),
+    ("two bytes before nothing", Binary2, 0, Ok(b"\x00\x00")),
+    ("four digits before nothing", Ascii4, 0, Ok(b"0000")),
+    ("four digits before one byte", Ascii4, 1, Ok(b"0001")),
+    ("two bytes before 10,002", Binary2, 10_002, Ok(b"\x27\x12")),
 ];
 
-/// Whether a frame is that whole header and the body.
-fn has_front(bytes: &[u8], header: Header, front: &[u8], body: &[u8]) -> bool {
+/// Whether some bytes are that whole header and the body.
+fn is_frame(bytes: &[u8], header: Header, front: &[u8], body: &[u8]) -> bool {
     front.len() == header.size() && bytes.strip_prefix(front) == Some(body)
 }
 
-/// Whether a body has that header, or is refused so.
-fn has_header(alloc: Global, header: Header, body: &[u8], want: Result<&[u8], FrameFault>) -> bool {
+/// Whether a body is framed so, or refused so.
+fn is_framed(alloc: Global, header: Header, body: &[u8], want: Result<&[u8], FrameFault>) -> bool {
     match (frame(alloc, header, body), want) {
-        (Ok(bytes), Ok(front)) => has_front(&bytes, header, front, body),
+        (Ok(bytes), Ok(front)) => is_frame(&bytes, header, front, body),
         (Err(fault), Err(other)) => fault == other,
         _ => false,
     }
 }
 
-#[test]
-fn long_bodies(rt: HostRuntime) -> Result<(), Fail> {
-    for (name, header, length, want) in LONG_FRAMES {
-        let body = vec![in rt.alloc(); b'x'; *length]?;
-        check(has_header(rt.alloc(), *header, &body, *want), *name)?;
+/// Whether a frame is appended so to `ab`, or is refused so, and `ab` alone is left.
+fn is_appended(
+    header: Header,
+    body: &[u8],
+    want: Result<&[u8], FrameFault>,
+    out: &mut Vec<u8>,
+) -> bool {
+    out.truncate(2);
+    match (append_frame(header, body, out), want) {
+        (Ok(()), Ok(front)) => match out.strip_prefix(b"ab") {
+            Some(bytes) => is_frame(bytes, header, front, body),
+            None => false,
+        },
+        (Err(fault), Err(other)) => fault == other && out.as_slice() == b"ab".as_slice(),
+        _ => false,
+    }
+}
+
+/// Whether the body of an open frame gets that header, or is refused so, and stays behind the open room.
+fn is_closed(
+    header: Header,
+    body: &[u8],
+    want: Result<&[u8], FrameFault>,
+    opened: &mut [u8],
+) -> bool {
+    if opened.len() < header.size() {
+        return false;
+    }
+    match (close_frame(header, opened), want) {
+        (Ok(()), Ok(front)) => is_frame(opened, header, front, body),
+        (Err(fault), Err(other)) => {
+            fault == other && is_frame(opened, header, &[0; 4][..header.size()], body)
+        }
+        _ => false,
+    }
+}
+
+/// Whether a frame is so behind `ab` and room for its header.
+fn is_closed_in(
+    header: Header,
+    body: &[u8],
+    want: Result<&[u8], FrameFault>,
+    out: &mut Vec<u8>,
+) -> bool {
+    out.truncate(2);
+    open_frame(header, out).is_ok()
+        && out.extend_from_slice(body).is_ok()
+        && out.len() >= 2
+        && is_closed(header, body, want, &mut out.as_mut_slice()[2..])
+}
+
+/// That bodies of so many bytes are framed so, by each call.
+fn check_frames(alloc: Global, bytes: &[u8], out: &mut Vec<u8>) -> Result<(), Fail> {
+    for (name, header, length, want) in FRAMES {
+        let body = &bytes[..(*length).min(bytes.len())];
+        let is_so = is_framed(alloc, *header, body, *want)
+            && is_appended(*header, body, *want, out)
+            && is_closed_in(*header, body, *want, out);
+        check(is_so, *name)?;
     }
     Ok(())
 }
@@ -265,6 +262,45 @@ const FRONTS: &[Fronted] = &[
         Length(Err(BadDigits)),
     ),
     ("three digits", Ascii4, b"055", Length(Ok(None))),
+    (
+        "an echo behind two bytes, and no more",
+        Binary2,
+        b"\x00\x370800822000000000000004000000000000000102030405000001301",
+        Frame(Ok(Got {
+            body: ECHO,
+            used: 57,
+        })),
+    ),
+    (
+        "an echo behind four digits",
+        Ascii4,
+        b"00550800822000000000000004000000000000000102030405000001301",
+        Frame(Ok(Got {
+            body: ECHO,
+            used: 59,
+        })),
+    ),
+    (
+        "an echo behind two bytes of digits",
+        Bcd2,
+        b"\x00\x550800822000000000000004000000000000000102030405000001301",
+        Frame(Ok(Got {
+            body: ECHO,
+            used: 57,
+        })),
+    ),
+    (
+        "nothing behind two bytes",
+        Binary2,
+        b"\x00\x00",
+        Frame(Ok(Got { body: b"", used: 2 })),
+    ),
+    (
+        "nothing behind four digits",
+        Ascii4,
+        b"0000",
+        Frame(Ok(Got { body: b"", used: 4 })),
+    ),
 ];
 
 /// Whether that is read of the front of the bytes.
@@ -275,60 +311,18 @@ fn is_front(header: Header, bytes: &[u8], front: Front<'_>) -> bool {
     }
 }
 
-#[test]
-fn frames_and_headers_are_read() -> Result<(), Fail> {
+/// That all is read of the fronts.
+fn check_fronts() -> Result<(), Fail> {
     for (name, header, bytes, front) in FRONTS {
         check(is_front(*header, bytes, *front), *name)?;
     }
     check(Binary2.limit() == 65_535, "the limit of two bytes")
 }
 
-/// Whether that is the answer where a frame is appended, and these are the bytes then.
-fn appends(
-    header: Header,
-    body: &[u8],
-    out: &mut Vec<u8>,
-    want: Result<(), FrameFault>,
-    bytes: &[u8],
-) -> bool {
-    append_frame(header, body, out) == want && out.as_slice() == bytes
-}
-
-/// Whether each of the bytes is that one.
-fn are_all(bytes: &[u8], byte: u8) -> bool {
-    for b in bytes {
-        if *b != byte {
-            return false;
-        }
-    }
-    true
-}
-
-/// Whether a frame of so many `x` is too long for four digits, and is left as it is.
-fn stays_open(frame: &mut [u8]) -> bool {
-    frame.len() >= 4 && close_frame(Ascii4, frame) == Err(TooLong) && are_all(frame, b'x')
-}
-
-/// Whether a header of two bytes counts what is behind it.
-fn is_counted(frame: &mut [u8]) -> bool {
-    frame.len() >= 2 && close_frame(Binary2, frame) == Ok(()) && frame.starts_with(b"\x27\x12xx")
-}
-
-/// That a frame is appended, and that a body of so many `x` is too long for four digits.
-fn check_appended(out: &mut Vec<u8>, long: &[u8]) -> Result<(), Fail> {
-    let is_appended = appends(Ascii4, b"c", out, Ok(()), b"ab0001c");
-    check(is_appended, "a body of one byte")?;
-    let is_left = appends(Ascii4, long, out, Err(TooLong), b"ab0001c");
-    check(is_left, "a body that is too long")
-}
-
 #[test]
-fn what_is_too_long_is_left(rt: HostRuntime) -> Result<(), Fail> {
+fn frames_are_written_and_read(rt: HostRuntime) -> Result<(), Fail> {
+    check_fronts()?;
+    let bytes = vec![in rt.alloc(); b'x'; 65_536]?;
     let mut out = vec![in rt.alloc(); b'a', b'b']?;
-    let mut long = vec![in rt.alloc(); b'x'; 10_000]?;
-    check_appended(&mut out, &long)?;
-    long.resize(10_004, b'x')?;
-    check(stays_open(long.as_mut_slice()), "four digits")?;
-    // a header of two bytes counts the other 10,002
-    check(is_counted(long.as_mut_slice()), "two bytes")
+    check_frames(rt.alloc(), &bytes, &mut out)
 }

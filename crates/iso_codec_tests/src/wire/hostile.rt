@@ -1,66 +1,28 @@
-//! Bytes of strangers: messages cut at every length, every bit without a row, and the largest bytes.
+//! Bytes that are no message, messages cut at every length, and every bit without a row: `unpack`, `view` and `feed` refuse them
+//! alike.
 
+use super::cases::{Case, ECHO_CASE, PACKED_ECHO_CASE, PAYMENT_CASE, REVERSAL_CASE};
+use super::pieces::{is_read_in, is_read_in_two};
+use super::stops::{
+    BAD_FILLERS, BAD_LENGTHS, BAD_PACKED_PIECES_87, BAD_PIECES_87, BAD_TERMINALS, RAW_BITS,
+    REFUSED_BYTES, Stop, check_stops,
+};
 use super::*;
-use iso_wire::UnpackCause::{BadMti, ThirdBitmap, UnknownElement};
+use iso_wire::UnpackCause::{ThirdBitmap, UnknownElement};
 use std::alloc::AllocError;
 
-/// A message under a table, and where each of its pieces begins, with its element.
-#[derive(Drop)]
-struct Whole {
-    name: &'static str,
-    under: Under,
-    bytes: &'static [u8],
-    pieces: &'static [(usize, u8)],
-}
-
-const WHOLE_MESSAGES: &[Whole] = &[
-    Whole {
-        name: "echo",
-        under: ASCII87,
-        bytes: ECHO,
-        pieces: ECHO_PIECES,
-    },
-    Whole {
-        name: "echo under a table of few rows",
-        under: ASCII,
-        bytes: ECHO,
-        pieces: ECHO_PIECES,
-    },
-    Whole {
-        name: "payment",
-        under: ASCII87,
-        bytes: PAYMENT,
-        pieces: PAYMENT_PIECES,
-    },
-    Whole {
-        name: "reversal",
-        under: ASCII87,
-        bytes: REVERSAL,
-        pieces: REVERSAL_PIECES,
-    },
-    Whole {
-        name: "echo under BCD",
-        under: BCD87,
-        bytes: PACKED_ECHO,
-        pieces: PACKED_ECHO_PIECES,
-    },
-];
-
-/// That a message, cut at any length, is short.
-fn check_cuts(alloc: Global, whole: &Whole) -> Result<(), Fail> {
-    let table = table_of(alloc, whole.under)?;
-    for size in 0..whole.bytes.len() {
-        let short = short_at(whole.pieces, size);
-        let is_short = are_refused(alloc, &table, &whole.bytes[..size], short);
-        check_at(is_short, whole.name, size)?;
-    }
-    Ok(())
-}
-
-#[test]
-fn cut_messages_are_short_alike(rt: HostRuntime) -> Result<(), Fail> {
-    for whole in WHOLE_MESSAGES {
-        check_cuts(rt.alloc(), whole)?;
+/// That a message, cut at any length, is short, and is read once its other piece comes.
+fn check_cuts(
+    alloc: Global,
+    table: &Table,
+    case: Case,
+    pieces: &[(usize, u8)],
+) -> Result<(), Fail> {
+    for size in 0..case.bytes.len() {
+        let short = short_at(pieces, size);
+        let is_cut = are_refused(alloc, table, &case.bytes[..size], short)
+            && is_read_in_two(alloc, table, case, size);
+        check_at(is_cut, case.name, size)?;
     }
     Ok(())
 }
@@ -91,11 +53,10 @@ fn with_bit(digit: u8, bit: u8) -> u8 {
     }
 }
 
-/// A message under a table, the coding of its bitmaps, where they begin, and their last bit.
-#[derive(Drop)]
+/// A message, the coding of its bitmaps, where they begin, and their last bit.
+#[derive(Clone, Copy)]
 struct Marked {
     name: &'static str,
-    under: Under,
     bytes: &'static [u8],
     coding: BitmapCoding,
     first: u8,
@@ -106,114 +67,155 @@ struct Marked {
 /// A message whose bitmaps are of hexadecimal digits.
 macro_rules! marked {
     ($name:expr, $bytes:expr, $last:expr) => {
-        Marked {
+        Bits(Marked {
             name: $name,
-            under: ASCII,
             bytes: $bytes,
             coding: BitmapCoding::Hex,
             first: 4,
             second: 20,
             last: $last,
-        }
+        })
     };
 }
 
 /// A message whose bitmaps stand as they are.
 macro_rules! raw_marked {
-    ($name:expr, $under:expr, $bytes:expr, $first:expr, $last:expr) => {
-        Marked {
+    ($name:expr, $bytes:expr, $first:expr, $last:expr) => {
+        Bits(Marked {
             name: $name,
-            under: $under,
             bytes: $bytes,
             coding: BitmapCoding::Raw,
             first: $first,
             second: $first + 8,
             last: $last,
-        }
+        })
     };
 }
 
-const MARKED: &[Marked] = &[
-    marked!("echo", ECHO, 128),
-    marked!("payment", PAYMENT, 64),
-    marked!("reversal", REVERSAL, 128),
-    raw_marked!("echo under BCD", PACKED, PACKED_ECHO, 2, 128),
-    raw_marked!(
-        "one bit alone",
-        RAW_TERMINALS,
-        b"0800\0\0\0\0\0\0\0\0",
-        4,
-        64
-    ),
-    raw_marked!(
-        "one bit alone behind that of the secondary bitmap",
-        RAW_TERMINALS,
-        b"0800\x80\0\0\0\0\0\0\0\0\0\0\0\0\0\0\0",
-        4,
-        128
-    ),
-];
+/// Where the bit at that place of the bitmaps stands, counted from the first bitmap.
+fn index_of(coding: BitmapCoding, place: u8) -> usize {
+    match coding {
+        BitmapCoding::Hex => place as usize / 4,
+        BitmapCoding::Raw => place as usize / 8,
+    }
+}
+
+/// A byte of bitmaps with the bit of that place.
+fn with_mark(coding: BitmapCoding, byte: u8, place: u8) -> u8 {
+    match coding {
+        BitmapCoding::Hex => with_bit(byte, 8 >> (place % 4)),
+        BitmapCoding::Raw => byte | (128 >> (place % 8)),
+    }
+}
 
 /// The bytes of a message with the bit at that place set in its bitmaps.
 fn with_place(alloc: Global, marked: &Marked, place: u8) -> Result<Vec<u8>, AllocError> {
     let mut bytes = Vec::from_slice(alloc, marked.bytes)?;
     let first = usize::from(marked.first);
-    match marked.coding {
-        BitmapCoding::Hex => {
-            if let Some(digit) = bytes.get_mut(first + place as usize / 4) {
-                *digit = with_bit(*digit, 8 >> (place % 4));
-            }
-        }
-        BitmapCoding::Raw => {
-            if let Some(eight) = bytes.get_mut(first + place as usize / 8) {
-                *eight |= 128 >> (place % 8);
-            }
-        }
+    let index = first.saturating_add(index_of(marked.coding, place));
+    if let Some(byte) = bytes.get_mut(index) {
+        *byte = with_mark(marked.coding, *byte, place);
     }
     Ok(bytes)
 }
 
 /// Whether a message is refused once the bit of an element without a row is set.
-fn is_bit_refused(
-    alloc: Global,
-    table: &Table,
-    marked: &Marked,
-    place: u8,
-    fault: UnpackFault,
-) -> Result<bool, Fail> {
-    let bytes = with_place(alloc, marked, place)?;
-    Ok(are_refused(alloc, table, &bytes, fault))
+fn is_bit_refused(alloc: Global, table: &Table, marked: &Marked, n: u8) -> bool {
+    let fault = unknown(n, marked.first, marked.second);
+    match with_place(alloc, marked, n.saturating_sub(1)) {
+        Ok(bytes) => are_refused(alloc, table, &bytes, fault),
+        Err(_) => false,
+    }
 }
 
 /// Tries a message with each bit set that has no row.
-fn check_bits(alloc: Global, marked: &Marked) -> Result<(), Fail> {
-    let table = table_of(alloc, marked.under)?;
+fn check_bits(alloc: Global, table: &Table, marked: Marked) -> Result<(), Fail> {
     for n in 2..=marked.last {
-        if table.row(n).is_none() {
-            let fault = unknown(n, marked.first, marked.second);
-            let is_refused = is_bit_refused(alloc, &table, marked, n - 1, fault)?;
-            check_at(is_refused, marked.name, usize::from(n))?;
+        let is_so = table.row(n).is_some() || is_bit_refused(alloc, table, &marked, n);
+        check_at(is_so, marked.name, usize::from(n))?;
+    }
+    Ok(())
+}
+
+/// What is refused alike, or read in pieces as it is read whole.
+#[derive(Clone, Copy)]
+enum Alike {
+    Stops(&'static [Stop]),
+    /// A message, and where each of its pieces begins, with its element.
+    Cuts(Case, &'static [(usize, u8)]),
+    Bits(Marked),
+    /// A message, the size of each piece, how often more is wanted, and how many bytes of the last piece are used.
+    Pieces(&'static str, Case, usize, usize, usize),
+}
+
+use Alike::{Bits, Cuts, Pieces, Stops};
+
+/// What is so under each table.
+const ALIKE: &[(Under, Alike)] = &[
+    (ASCII, Stops(REFUSED_BYTES)),
+    (PACKED, Stops(BAD_FILLERS)),
+    (ASCII87, Stops(BAD_PIECES_87)),
+    (BCD87, Stops(BAD_PACKED_PIECES_87)),
+    (TERMINALS, Stops(BAD_TERMINALS)),
+    (RAW_TERMINALS, Stops(RAW_BITS)),
+    (chips!(9_998), Stops(BAD_LENGTHS)),
+    (ASCII87, Cuts(ECHO_CASE, ECHO_PIECES)),
+    (ASCII, Cuts(ECHO_CASE, ECHO_PIECES)),
+    (ASCII87, Cuts(PAYMENT_CASE, PAYMENT_PIECES)),
+    (ASCII87, Cuts(REVERSAL_CASE, REVERSAL_PIECES)),
+    (BCD87, Cuts(PACKED_ECHO_CASE, PACKED_ECHO_PIECES)),
+    (ASCII, marked!("echo", ECHO, 128)),
+    (ASCII, marked!("payment", PAYMENT, 64)),
+    (ASCII, marked!("reversal", REVERSAL, 128)),
+    (PACKED, raw_marked!("echo under BCD", PACKED_ECHO, 2, 128)),
+    (
+        RAW_TERMINALS,
+        raw_marked!("one bit alone", b"0800\0\0\0\0\0\0\0\0", 4, 64),
+    ),
+    (
+        RAW_TERMINALS,
+        raw_marked!(
+            "one bit alone behind that of the secondary bitmap",
+            b"0800\x80\0\0\0\0\0\0\0\0\0\0\0\0\0\0\0",
+            4,
+            128
+        ),
+    ),
+    (ASCII87, Pieces("one byte each", ECHO_CASE, 1, 54, 1)),
+    (ASCII87, Pieces("seven bytes each", ECHO_CASE, 7, 7, 6)),
+    (ASCII87, Pieces("54 bytes and one", ECHO_CASE, 54, 1, 1)),
+    (ASCII87, Pieces("all bytes", ECHO_CASE, 55, 0, 55)),
+    (
+        ASCII87,
+        Pieces("one byte each of a payment", PAYMENT_CASE, 1, 81, 1),
+    ),
+    (
+        ASCII87,
+        Pieces("one byte each of a reversal", REVERSAL_CASE, 1, 100, 1),
+    ),
+    (
+        BCD87,
+        Pieces("one byte each under BCD", PACKED_ECHO_CASE, 1, 27, 1),
+    ),
+];
+
+/// That it is so.
+fn check_alike(alloc: Global, table: &Table, alike: Alike) -> Result<(), Fail> {
+    match alike {
+        Stops(stops) => check_stops(alloc, table, stops),
+        Cuts(case, pieces) => check_cuts(alloc, table, case, pieces),
+        Bits(marked) => check_bits(alloc, table, marked),
+        Pieces(name, case, size, wanted, used) => {
+            check(is_read_in(alloc, table, case, size, wanted, used), name)
         }
     }
-    Ok(())
 }
 
 #[test]
-fn bits_without_a_row_are_refused_alike(rt: HostRuntime) -> Result<(), Fail> {
-    for marked in MARKED {
-        check_bits(rt.alloc(), marked)?;
+fn bytes_are_refused_alike(rt: HostRuntime) -> Result<(), Fail> {
+    for (under, alike) in ALIKE {
+        let table = table_of(rt.alloc(), *under)?;
+        check_alike(rt.alloc(), &table, *alike)?;
     }
     Ok(())
-}
-
-#[test]
-fn the_largest_bytes_are_judged(rt: HostRuntime) -> Result<(), Fail> {
-    let alloc = rt.alloc();
-    let table = table_of(alloc, ASCII87)?;
-    let zeros = vec![in alloc; b'0'; 65535]?;
-    let are_taken = refused(alloc, &table, &zeros) == [None, None, None];
-    check(are_taken, "zeros")?;
-    let ones = vec![in alloc; 0xFF; 65535]?;
-    let fault = stop(0, 0, BadMti);
-    check(are_refused(alloc, &table, &ones, fault), "ones")
 }

@@ -1,5 +1,9 @@
-//! What messages hold, and that the calls succeed.
+//! What messages hold, once something was done to them.
 
+use super::cases::is_message;
+use super::edits::{
+    Copy, Edit, NUMBERED, PURCHASE, Refuse, Set, SetNumbers, StartOver, THREE, Unset, are_done,
+};
 use super::*;
 use std::alloc::AllocError;
 
@@ -17,12 +21,16 @@ enum Fact {
     Gives(Elements),
     /// Whether it equals the first message, by each way.
     IsFirst(bool),
+    /// Its type, and its elements, of which it has no more.
+    Is(u16, Elements),
 }
 
-use Fact::{Gives, Has, IsFirst, Number, Type, Value};
+use Fact::{Gives, Has, Is, IsFirst, Number, Type, Value};
 
-/// The elements of the first message, which is of type 0100.
-const FIRST: Elements = &[(2, b"ab"), (3, b"c")];
+const COPIED: Elements = &[(2, b"4111111111111111"), (11, b"000007")];
+
+/// What a copy leaves of them.
+const COPIED_ANEW: Elements = &[(2, b"4111111111111111"), (11, b"000008")];
 
 const SET: Elements = &[(70, b"301"), (7, b"0102030405"), (128, b"x")];
 
@@ -30,152 +38,235 @@ const FOUR: Elements = &[(70, b"301"), (7, b"0102030405"), (128, b"x"), (11, b""
 
 const ASCENDING: Elements = &[(7, b"0102030405"), (11, b""), (70, b"301"), (128, b"x")];
 
-/// A message whose elements are set in that order, and what holds of it.
-const MESSAGES: &[(&str, u16, Elements, Fact)] = &[
-    ("nothing set", 100, &[], Value(3, None)),
+/// A message whose elements are set in that order, what is done to it, and what holds of it then.
+type Made = (&'static str, u16, Elements, &'static [Edit], Fact);
+
+const MESSAGES: &[Made] = &[
+    ("nothing set", 100, &[], &[], Value(3, None)),
     (
         "one value",
         100,
         &[(3, b"000000")],
+        &[],
         Value(3, Some(b"000000")),
     ),
     (
         "ascending",
         100,
         &[(3, b"a"), (4, b"bc")],
+        &[],
         Value(4, Some(b"bc")),
     ),
     (
         "in front of the others",
         100,
         &[(11, b"abc"), (70, b"d"), (2, b"ef")],
+        &[],
         Value(2, Some(b"ef")),
     ),
     (
         "between the others",
         100,
         &[(2, b"ab"), (70, b"cde"), (11, b"f")],
+        &[],
         Value(11, Some(b"f")),
     ),
     (
         "behind one set in between",
         100,
         &[(2, b"ab"), (70, b"cde"), (11, b"f")],
+        &[],
         Value(70, Some(b"cde")),
     ),
     (
         "replaced by a longer one",
         100,
         &[(2, b"ab"), (3, b"c"), (2, b"defg")],
+        &[],
         Value(2, Some(b"defg")),
     ),
     (
         "behind one replaced by a shorter one",
         100,
         &[(2, b"abcd"), (3, b"ef"), (2, b"g")],
+        &[],
         Value(3, Some(b"ef")),
     ),
     (
         "an empty value",
         100,
         &[(2, b"ab"), (3, b"")],
+        &[],
         Value(3, Some(b"")),
     ),
-    ("another element", 100, &[(12, b"000007")], Number(11, None)),
+    (
+        "another element",
+        100,
+        &[(12, b"000007")],
+        &[],
+        Number(11, None),
+    ),
     (
         "zeros in front",
         100,
         &[(11, b"000007")],
+        &[],
         Number(11, Some(7)),
     ),
-    ("one digit", 100, &[(11, b"0")], Number(11, Some(0))),
+    ("one digit", 100, &[(11, b"0")], &[], Number(11, Some(0))),
     (
         "nineteen digits",
         100,
         &[(11, b"9999999999999999999")],
+        &[],
         Number(11, Some(9_999_999_999_999_999_999)),
     ),
     (
         "twenty digits",
         100,
         &[(11, b"00000000000000000007")],
+        &[],
         Number(11, None),
     ),
-    ("no digit", 100, &[(11, b"")], Number(11, None)),
+    ("no digit", 100, &[(11, b"")], &[], Number(11, None)),
     (
         "a letter in place of a zero",
         100,
         &[(11, b"1O00")],
+        &[],
         Number(11, None),
     ),
-    ("a sign", 100, &[(11, b"-7")], Number(11, None)),
-    ("its type", 800, SET, Type(800)),
-    ("no number of an element", 800, SET, Has(1, false)),
-    ("the lowest, which was not set", 800, SET, Has(2, false)),
-    ("one of the primary bitmap", 800, SET, Has(7, true)),
+    ("a sign", 100, &[(11, b"-7")], &[], Number(11, None)),
+    ("its type", 800, SET, &[], Type(800)),
+    ("no number of an element", 800, SET, &[], Has(1, false)),
+    (
+        "the lowest, which was not set",
+        800,
+        SET,
+        &[],
+        Has(2, false),
+    ),
+    ("one of the primary bitmap", 800, SET, &[], Has(7, true)),
     (
         "the first bit of the secondary bitmap",
         800,
         SET,
+        &[],
         Has(65, false),
     ),
-    ("one of the secondary bitmap", 800, SET, Has(70, true)),
-    ("one before the last", 800, SET, Has(127, false)),
-    ("the last", 800, SET, Has(128, true)),
+    ("one of the secondary bitmap", 800, SET, &[], Has(70, true)),
+    ("one before the last", 800, SET, &[], Has(127, false)),
+    ("the last", 800, SET, &[], Has(128, true)),
     (
         "four elements in ascending order",
         800,
         FOUR,
+        &[],
         Gives(ASCENDING),
     ),
     (
         "set in another order",
         100,
         &[(3, b"c"), (2, b"ab")],
+        &[],
         IsFirst(true),
     ),
     (
         "another type",
         110,
         &[(2, b"ab"), (3, b"c")],
+        &[],
         IsFirst(false),
     ),
     (
         "another number",
         100,
         &[(2, b"ab"), (4, b"c")],
+        &[],
         IsFirst(false),
     ),
     (
         "another value",
         100,
         &[(2, b"ab"), (3, b"d")],
+        &[],
         IsFirst(false),
     ),
     (
         "the same bytes shared out otherwise",
         100,
         &[(2, b"a"), (3, b"bc")],
+        &[],
         IsFirst(false),
     ),
     (
         "one more",
         100,
         &[(2, b"ab"), (3, b"c"), (4, b"")],
+        &[],
         IsFirst(false),
     ),
+    (
+        "the first",
+        100,
+        THREE,
+        &[Unset(2, true), Unset(2, false)],
+        Is(100, &[(11, b"cd"), (70, b"efg")]),
+    ),
+    (
+        "the last",
+        100,
+        THREE,
+        &[Unset(70, true), Unset(70, false)],
+        Is(100, &[(2, b"ab"), (11, b"cd")]),
+    ),
+    (
+        "the one between",
+        100,
+        THREE,
+        &[Unset(11, true), Unset(11, false)],
+        Is(100, &[(2, b"ab"), (70, b"efg")]),
+    ),
+    ("the message type", 100, &[], &[Refuse(0)], Is(100, &[])),
+    (
+        "the bit that tells of a secondary bitmap",
+        100,
+        &[],
+        &[Refuse(1)],
+        Is(100, &[]),
+    ),
+    (
+        "the bit that tells of a third bitmap",
+        100,
+        &[],
+        &[Refuse(65)],
+        Is(100, &[]),
+    ),
+    ("one above the last", 100, &[], &[Refuse(129)], Is(100, &[])),
+    ("the greatest byte", 100, &[], &[Refuse(255)], Is(100, &[])),
+    ("three numbers", 100, &[], &[SetNumbers], Is(100, NUMBERED)),
+    (
+        "a message starts over",
+        200,
+        PURCHASE,
+        &[StartOver(810)],
+        Is(810, &[]),
+    ),
+    (
+        "and has a code alone",
+        200,
+        PURCHASE,
+        &[StartOver(810), Set(39, b"00")],
+        Is(810, &[(39, b"00")]),
+    ),
+    (
+        "a copy has memory of its own",
+        201,
+        COPIED,
+        &[Copy],
+        Is(201, COPIED_ANEW),
+    ),
 ];
-
-/// Whether the message gives these elements, in that order and no more.
-fn gives(message: &Message, elements: &[(u8, &[u8])]) -> bool {
-    let mut left = message.iter();
-    for element in elements {
-        if left.next() != Some(*element) {
-            return false;
-        }
-    }
-    left.next() == None
-}
 
 /// Whether the messages are equal by the operator.
 fn are_equal(message: &Message, other: &Message) -> bool {
@@ -191,70 +282,37 @@ fn holds(message: &Message, first: &Message, what: Fact) -> bool {
         Has(n, is_there) => message.elements().has(n) == is_there,
         Gives(elements) => gives(message, elements),
         IsFirst(is_so) => first.equals(message) == is_so && are_equal(first, message) == is_so,
+        Is(mti, elements) => is_message(message, mti, elements),
     }
+}
+
+/// The first message, whose values are appended in their order.
+fn first_message(alloc: Global, mti: Mti) -> Result<Message, AllocError> {
+    let mut made = Message::with_room(alloc, mti, 2, 3)?;
+    made.append(2, b"ab")?;
+    made.append(3, b"c")?;
+    Ok(made)
+}
+
+/// Whether all is done to a message, and holds of it then.
+fn is_made(alloc: Global, (_, mti, elements, edits, what): &Made, first: &Message) -> bool {
+    match message(alloc, *mti, *elements) {
+        Some(mut made) => are_done(&mut made, *edits) && holds(&made, first, *what),
+        None => false,
+    }
+}
+
+/// That each message is so.
+fn check_messages(alloc: Global, first: &Message) -> Result<(), Fail> {
+    for made in MESSAGES {
+        check(is_made(alloc, made, first), made.0)?;
+    }
+    Ok(())
 }
 
 #[test]
 fn messages_hold_what_is_set(rt: HostRuntime) -> Result<(), Fail> {
-    let first = message(rt.alloc(), 100, FIRST)?;
-    for (name, mti, elements, what) in MESSAGES {
-        let made = message(rt.alloc(), *mti, *elements)?;
-        check(holds(&made, &first, *what), *name)?;
-    }
-    Ok(())
-}
-
-/// Whether a number has so many digits.
-fn has_digits(v: u64, count: u8) -> bool {
-    digits_of(v) == count
-}
-
-/// A number, and the count of its digits.
-const DIGITS: &[(&str, u64, u8)] = &[
-    ("none but a zero", 0, 1),
-    ("the last of one digit", 9, 1),
-    ("the first of two", 10, 2),
-    ("the last of six", 999_999, 6),
-    ("the first of seven", 1_000_000, 7),
-    ("the greatest number", u64::MAX, 20),
-];
-
-#[test]
-fn digits() -> Result<(), Fail> {
-    for (name, v, want) in DIGITS {
-        check(has_digits(*v, *want), *name)?;
-    }
-    Ok(())
-}
-
-const COPIED: Elements = &[(2, b"4111111111111111"), (11, b"000007")];
-
-/// That the copy of a purchase is equal, and stays what it is where the purchase gets another number.
-fn check_copy(made: &mut Message, copy: &Message) -> Result<(), Fail> {
-    check(are_equal(copy, made), "a copy is equal")?;
-    let is_other = made.set(11, b"000008").is_ok() && !are_equal(copy, made);
-    check(is_other, "a copy has memory of its own")?;
-    check(copy.get(11) == Some(b"000007"), "its value")
-}
-
-#[test]
-fn copies(rt: HostRuntime) -> Result<(), Fail> {
-    let mut made = message(rt.alloc(), 201, COPIED)?;
-    let copy = made.clone()?;
-    check_copy(&mut made, &copy)
-}
-
-/// A message of two values that are appended.
-fn appended(alloc: Global, mti: Mti) -> Result<Message, AllocError> {
-    let mut made = Message::with_room(alloc, mti, 2, 5)?;
-    made.append(3, b"abc")?;
-    made.append(4, b"de")?;
-    Ok(made)
-}
-
-#[test]
-fn built_in_order(rt: HostRuntime) -> Result<(), Fail> {
-    let want = message(rt.alloc(), 100, &[(3, b"abc"), (4, b"de")])?;
-    let made = appended(rt.alloc(), want.mti())?;
-    check(made.equals(&want), "two values")
+    let mti = Mti::from_digits(100).ok_or("not four digits")?;
+    let first = first_message(rt.alloc(), mti)?;
+    check_messages(rt.alloc(), &first)
 }

@@ -7,9 +7,9 @@ use iso_wire::UnpackCause::{
 };
 
 /// Bytes that are no message, where they stop being one, in the piece of which element, and why.
-type Stop = (&'static str, &'static [u8], usize, u8, UnpackCause);
+pub(super) type Stop = (&'static str, &'static [u8], usize, u8, UnpackCause);
 
-const REFUSED_BYTES: &[Stop] = &[
+pub(super) const REFUSED_BYTES: &[Stop] = &[
     ("no bytes", b"", 0, 0, Short),
     ("a letter in the type", b"08A0", 0, 0, BadMti),
     ("another version", b"1800", 0, 0, WrongVersion),
@@ -80,7 +80,7 @@ const REFUSED_BYTES: &[Stop] = &[
 ];
 
 /// The packed echo test with another last element.
-const BAD_FILLERS: &[Stop] = &[
+pub(super) const BAD_FILLERS: &[Stop] = &[
     (
         "a filler 1",
         b"\x08\x00\x82\x20\0\0\0\0\0\0\x04\0\0\0\0\0\0\0\x01\x02\x03\x04\x05\0\0\x01\x13\x01",
@@ -97,7 +97,7 @@ const BAD_FILLERS: &[Stop] = &[
     ),
 ];
 
-const BAD_PIECES_87: &[Stop] = &[
+pub(super) const BAD_PIECES_87: &[Stop] = &[
     ("a bad type, and no more", b"08A0", 0, 0, BadMti),
     (
         "a bad type, and a bad bitmap",
@@ -171,7 +171,7 @@ const BAD_PIECES_87: &[Stop] = &[
     ),
 ];
 
-const BAD_PACKED_PIECES_87: &[Stop] = &[
+pub(super) const BAD_PACKED_PIECES_87: &[Stop] = &[
     (
         "a first nibble 1 of a length",
         b"\x08\x00\0\0\0\0\0\0\x04\0\x10\x20",
@@ -202,7 +202,7 @@ const BAD_PACKED_PIECES_87: &[Stop] = &[
     ),
 ];
 
-const BAD_TERMINALS: &[Stop] = &[
+pub(super) const BAD_TERMINALS: &[Stop] = &[
     ("a letter in the type", b"08A0", 0, 0, BadMti),
     (
         "bits 5 and 9",
@@ -235,10 +235,10 @@ const BAD_TERMINALS: &[Stop] = &[
 ];
 
 /// A bit whose element has a row, but no bytes.
-const RAW_BITS: &[Stop] = &[("bit 41", b"0800\0\0\0\0\0\x80\0\0", 12, 41, Short)];
+pub(super) const RAW_BITS: &[Stop] = &[("bit 41", b"0800\0\0\0\0\0\x80\0\0", 12, 41, Short)];
 
 /// Four digits of a length.
-const BAD_LENGTHS: &[Stop] = &[
+pub(super) const BAD_LENGTHS: &[Stop] = &[
     (
         "one byte too many",
         b"080000000000000100009999",
@@ -263,31 +263,11 @@ const BAD_LENGTHS: &[Stop] = &[
     ),
 ];
 
-/// The bytes under each table.
-const STOPS: &[(Under, &[Stop])] = &[
-    (ASCII, REFUSED_BYTES),
-    (PACKED, BAD_FILLERS),
-    (ASCII87, BAD_PIECES_87),
-    (BCD87, BAD_PACKED_PIECES_87),
-    (TERMINALS, BAD_TERMINALS),
-    (RAW_TERMINALS, RAW_BITS),
-    (chips!(9_998), BAD_LENGTHS),
-];
-
 /// That each of the bytes is refused where it stops being a message.
-fn check_stops(alloc: Global, table: &Table, stops: &[Stop]) -> Result<(), Fail> {
+pub(super) fn check_stops(alloc: Global, table: &Table, stops: &[Stop]) -> Result<(), Fail> {
     for (name, bytes, at, element, cause) in stops {
         let fault = stop(*at, *element, *cause);
         check(are_refused(alloc, table, bytes, fault), *name)?;
-    }
-    Ok(())
-}
-
-#[test]
-fn bytes_are_refused_alike(rt: HostRuntime) -> Result<(), Fail> {
-    for (under, stops) in STOPS {
-        let table = table_of(rt.alloc(), *under)?;
-        check_stops(rt.alloc(), &table, *stops)?;
     }
     Ok(())
 }
