@@ -1,9 +1,9 @@
 //! What an acquirer does by itself, and what it and an issuer agree on whatever is lost, late or repeated between them.
-use crate::accounts::{ACCOUNT, money, pan};
+use crate::plain::{ACCOUNT, Plain, USUAL, order};
 use iso_acquirer::{AcqFault, Acquirer, Event, State, StepFault, World};
 use iso_fakes::{check, check_of};
 use iso_issuer::{Accounts, Issuer, Refused};
-use iso_order::{Act, Order, Pan, TxKey};
+use iso_order::{Order, Pan, TxKey};
 use std::alloc::Global;
 use std::test::*;
 
@@ -19,7 +19,7 @@ macro_rules! key {
     };
 }
 
-mod faults;
+mod cases;
 mod schedules;
 mod transactions;
 
@@ -27,14 +27,6 @@ mod transactions;
 const ID: u64 = 12_345;
 
 const SENT: u64 = 102_030_405;
-
-fn account() -> Result<Pan, Fail> {
-    pan(ACCOUNT)
-}
-
-const fn key(base: u16, stan: u32, acquirer: u64) -> TxKey {
-    key!(base, stan, acquirer)
-}
 
 /// The trace number of a transaction, and what the acquirer holds of it.
 type Held = (u32, Option<State>);

@@ -1,209 +1,314 @@
 //! What an issuer answers to orders, and what is on its accounts then.
-use crate::accounts::{ACCOUNT, money, pan};
-use Expected::{Declined, Full, Granted, Shows};
-use asking::Ask::*;
-use asking::*;
+use crate::plain::{ACCOUNT, Does, Plain, USUAL, USUAL_KEY, order};
 use iso_fakes::{check, check_of};
-use iso_issuer::{Accounts, AccountsFault, Issuer, Refused};
-use iso_order::{Act, Answer, Money, Order, Pan, TxKey};
+use iso_issuer::{Accounts, Issuer, Refused};
+use iso_order::{Answer, Order, Pan, TxKey};
 use std::alloc::Global;
 use std::test::*;
 
-mod asking;
+/// A key, as tables have it.
+macro_rules! key {
+    ($base:expr, $stan:expr) => {
+        TxKey {
+            base: $base,
+            stan: $stan,
+            ..USUAL_KEY
+        }
+    };
+}
+
+/// An order of the account: what it does, its key, its amount, and the key of its hold or its original.
+macro_rules! plain {
+    ($does:expr, $key:expr, $amount:expr, $of:expr) => {
+        Plain {
+            key: $key,
+            does: $does,
+            amount: $amount,
+            of: $of,
+            ..USUAL
+        }
+    };
+}
+
+/// A debit by the type of its message, its trace number and its amount.
+macro_rules! debit {
+    ($base:expr, $stan:expr, $amount:expr) => {
+        plain!(Does::Debit, key!($base, $stan), $amount, USUAL_KEY)
+    };
+}
+
+/// A credit by its trace number and its amount.
+macro_rules! credit {
+    ($stan:expr, $amount:expr) => {
+        plain!(Does::Credit, key!(200, $stan), $amount, USUAL_KEY)
+    };
+}
+
+macro_rules! inquiry {
+    ($stan:expr) => {
+        plain!(Does::Inquiry, key!(200, $stan), 0, USUAL_KEY)
+    };
+}
+
+/// A completion by its trace number, that of its hold, and its amount.
+macro_rules! complete {
+    ($stan:expr, $hold:expr, $amount:expr) => {
+        plain!(Does::Complete, key!(220, $stan), $amount, key!(100, $hold))
+    };
+}
+
+/// A reversal by its trace number, the type and the trace number of its original, and how much it leaves.
+macro_rules! undo {
+    ($stan:expr, $base:expr, $original:expr, $left:expr) => {
+        plain!(Does::Undo, key!(420, $stan), $left, key!($base, $original))
+    };
+}
+
+/// The answer of code 0 at a place in the journal.
+macro_rules! granted {
+    ($seq:expr) => {
+        Some((0, $seq, None))
+    };
+}
+
+macro_rules! declined {
+    ($code:expr, $seq:expr) => {
+        Some(($code, $seq, None))
+    };
+}
+
+/// The answer to an inquiry at a place in the journal, which shows that.
+macro_rules! shows {
+    ($seq:expr, $shown:expr) => {
+        Some((0, $seq, Some($shown)))
+    };
+}
+
 mod days;
 mod documents;
-mod faults;
 mod holds;
 mod laws;
+mod reordered;
 mod replacements;
-mod wire;
 
-const fn key(base: u16, stan: u32) -> TxKey {
-    TxKey {
-        base,
-        stan,
-        sent: 102_030_405,
-        acquirer: 12_345,
-    }
-}
+/// A code, a place in the journal, and what is shown; none where the journal is full.
+type Told = Option<(u8, u32, Option<i64>)>;
 
-/// What a table expects: an answer's place in the journal, and a code other than 0 or what is shown; or a full journal.
-#[derive(Clone, Copy)]
-enum Expected {
-    Granted(u32),
-    Declined(u8, u32),
-    Shows(u32, i64),
-    Full,
-}
+const FULL: Told = None;
 
-fn reply(expected: Expected) -> Result<Reply, Refused> {
-    match expected {
-        Granted(seq) => Ok((0, seq, None)),
-        Declined(code, seq) => Ok((code, seq, None)),
-        Shows(seq, amount) => Ok((0, seq, Some(amount))),
-        Full => Err(Refused::Full),
-    }
-}
+/// How many orders are entered, the ledger of the account, and what is available.
+type Books = (u32, i64, i64);
 
-/// The place in the journal, where one is told.
-fn place(expected: Expected) -> u32 {
-    match expected {
-        Granted(seq) | Declined(_, seq) | Shows(seq, _) => seq,
-        Full => 0,
-    }
-}
+/// A name, what is asked, what is told, and the books after it.
+type Step = (&'static str, Plain, Told, Books);
 
-/// A name, what is asked, its answer, and the ledger and the available amount after it.
-type Step = (&'static str, Ask, Expected, (i64, i64));
-
-/// A day of the account: how many orders the journal takes, what is on the account at first, and what is asked.
+/// A day of the account: how many orders the journal takes, the document of the account, and what is asked.
 #[derive(Clone, Copy)]
 struct Day {
     name: &'static str,
     limit: u32,
-    opening: i64,
+    accounts: &'static [u8],
     steps: &'static [Step],
 }
 
 /// How many orders a journal can take at most.
 const MOST_ORDERS: u32 = 999_999;
 
-/// How many orders were entered, and the ledger and what is available.
-type Books = (u32, OnAccount);
-
 /// Whether that is in the books of an issuer.
-fn has_books(issuer: &Issuer, books: Books) -> Result<bool, Fail> {
-    Ok((entries(issuer), balances(issuer)?) == books)
-}
-
-/// Whether that is told of what is asked. Where memory runs out, the test ends.
-fn is_told(issuer: &mut Issuer, asked: Ask, expected: Expected) -> Result<bool, Fail> {
-    match reply_to(issuer, asked)? {
-        Err(Refused::Memory) => Err("memory ran out")?,
-        told => Ok(told == reply(expected)),
+fn has_books(issuer: &Issuer, books: Books) -> bool {
+    let (entries, ledger, available) = books;
+    match Pan::from_digits(ACCOUNT) {
+        Some(pan) => {
+            (issuer.len(), issuer.ledger(pan), issuer.available(pan))
+                == (entries, Some(ledger), Some(available))
+        }
+        None => false,
     }
 }
 
-/// Whether a step gets its answer and leaves that on the account, and so many orders are entered then.
-fn is_step(issuer: &mut Issuer, step: &Step, count: u32) -> Result<bool, Fail> {
-    let (_, asked, expected, (ledger, available)) = step;
-    let books = (count, (Some(*ledger), Some(*available)));
-    Ok(is_told(issuer, *asked, *expected)? && has_books(issuer, books)?)
+/// What is told of an order. Apart from what looks at it: the contract says much.
+fn told_of(issuer: &mut Issuer, order: Order) -> Result<Answer, Refused> {
+    issuer.handle(order)
 }
 
-/// Hands what is asked to an issuer, and compares each answer and what is in the books then: as many orders as the greatest
-/// place that was told.
-fn play_on(issuer: &mut Issuer, day: &str, steps: &[Step]) -> Result<(), Fail> {
-    let mut count = 0;
+fn is_told(told: Result<Answer, Refused>, expected: Told) -> bool {
+    match told {
+        Ok(answer) => expected == Some((answer.code, answer.seq, answer.shown)),
+        Err(fault) => fault == Refused::Full && expected.is_none(),
+    }
+}
+
+/// Whether a step is told what it should be, and leaves those books.
+fn is_step(issuer: &mut Issuer, step: &Step) -> bool {
+    let (_, asked, told, books) = step;
+    match order(asked) {
+        Some(order) => is_told(told_of(issuer, order), *told) && has_books(issuer, *books),
+        None => false,
+    }
+}
+
+/// The name of the first step that isn't so.
+fn wrong_step(issuer: &mut Issuer, steps: &[Step]) -> Option<&'static str> {
     for step in steps {
-        let (name, _, expected, _) = step;
-        count = count.max(place(*expected));
-        check_of(is_step(issuer, step, count)?, day, *name)?;
+        if !is_step(issuer, step) {
+            let (name, _, _, _) = step;
+            return Some(*name);
+        }
     }
-    Ok(())
+    None
 }
 
-/// The account alone.
-fn account_of(alloc: Global, opening: i64) -> Result<Accounts, Fail> {
-    let account = "\"currency\":\"840\",\"pan\":\"4111111111111111\"";
-    let text = format!(in alloc; "{{\"accounts\":[{{{account},\"opening\":{opening}}}]}}")?;
-    Ok(Accounts::from_json(alloc, text.as_bytes())?)
-}
-
-/// An issuer of the account alone.
-fn issuer(alloc: Global, opening: i64, limit: u32) -> Result<Issuer, Fail> {
-    if limit < 1 || 999_999 < limit {
-        return Err("a limit from 1 to 999,999")?;
+/// An issuer of the accounts of a document, whose journal takes so many orders.
+fn issuer(alloc: Global, accounts: &[u8], limit: u32) -> Option<Issuer> {
+    match Accounts::from_json(alloc, accounts) {
+        Ok(accounts) => Some(Issuer::new(accounts, limit.max(1).min(MOST_ORDERS))),
+        Err(_) => None,
     }
-    Ok(Issuer::new(account_of(alloc, opening)?, limit))
 }
 
-/// Plays a day on an issuer that never was asked before.
-fn play_day(alloc: Global, day: &Day) -> Result<(), Fail> {
-    let mut issuer = issuer(alloc, day.opening, day.limit)?;
-    play_on(&mut issuer, day.name, day.steps)
+/// The name of the first step of a day that isn't so.
+fn wrong_in(alloc: Global, day: &Day) -> Option<&'static str> {
+    match issuer(alloc, day.accounts, day.limit) {
+        Some(mut issuer) => wrong_step(&mut issuer, day.steps),
+        None => Some("the account"),
+    }
 }
 
-/// Plays days, each by itself.
+/// Plays days, each on an issuer that never was asked before.
 fn play(alloc: Global, days: &[Day]) -> Result<(), Fail> {
     for day in days {
-        play_day(alloc, day)?;
+        if let Some(step) = wrong_in(alloc, day) {
+            return check_of(false, day.name, step);
+        }
     }
     Ok(())
 }
+
+const OF_5000: &[u8] =
+    br#"{"accounts":[{"currency":"840","opening":5000,"pan":"4111111111111111"}]}"#;
+
+const OF_500: &[u8] =
+    br#"{"accounts":[{"currency":"840","opening":500,"pan":"4111111111111111"}]}"#;
+
+const OF_300: &[u8] =
+    br#"{"accounts":[{"currency":"840","opening":300,"pan":"4111111111111111"}]}"#;
+
+const OF_100: &[u8] =
+    br#"{"accounts":[{"currency":"840","opening":100,"pan":"4111111111111111"}]}"#;
+
+const OF_MINUS_50: &[u8] =
+    br#"{"accounts":[{"currency":"840","opening":-50,"pan":"4111111111111111"}]}"#;
+
+const OF_999999999999: &[u8] =
+    br#"{"accounts":[{"currency":"840","opening":999999999999,"pan":"4111111111111111"}]}"#;
+
+const OF_1000000000000: &[u8] =
+    br#"{"accounts":[{"currency":"840","opening":1000000000000,"pan":"4111111111111111"}]}"#;
+
+const OF_MINUS_999999999999: &[u8] =
+    br#"{"accounts":[{"currency":"840","opening":-999999999999,"pan":"4111111111111111"}]}"#;
+
+const OF_MINUS_1000000000000: &[u8] =
+    br#"{"accounts":[{"currency":"840","opening":-1000000000000,"pan":"4111111111111111"}]}"#;
+
+const OF_9000000000000000: &[u8] =
+    br#"{"accounts":[{"currency":"840","opening":9000000000000000,"pan":"4111111111111111"}]}"#;
+
+const OF_MINUS_9000000000000000: &[u8] =
+    br#"{"accounts":[{"currency":"840","opening":-9000000000000000,"pan":"4111111111111111"}]}"#;
 
 const LIMITS: &[Day] = &[
     Day {
         name: "a limit of one",
         limit: 1,
-        opening: 100,
+        accounts: OF_100,
         steps: &[
-            ("a purchase", Debit(200, 1, 10), Granted(1), (90, 90)),
-            ("one above the limit", Debit(200, 2, 10), Full, (90, 90)),
+            ("a purchase", debit!(200, 1, 10), granted!(1), (1, 90, 90)),
+            ("one above the limit", debit!(200, 2, 10), FULL, (1, 90, 90)),
             (
                 "the purchase again",
-                Debit(200, 1, 10),
-                Granted(1),
-                (90, 90),
+                debit!(200, 1, 10),
+                granted!(1),
+                (1, 90, 90),
             ),
         ],
     },
     Day {
         name: "a limit of two",
         limit: 2,
-        opening: 100,
+        accounts: OF_100,
         steps: &[
-            ("a purchase", Debit(200, 1, 10), Granted(1), (90, 90)),
-            ("another purchase", Debit(200, 2, 10), Granted(2), (80, 80)),
-            ("one above the limit", Debit(200, 3, 10), Full, (80, 80)),
-            ("the first again", Debit(200, 1, 10), Granted(1), (80, 80)),
+            ("a purchase", debit!(200, 1, 10), granted!(1), (1, 90, 90)),
+            (
+                "another purchase",
+                debit!(200, 2, 10),
+                granted!(2),
+                (2, 80, 80),
+            ),
+            ("one above the limit", debit!(200, 3, 10), FULL, (2, 80, 80)),
+            (
+                "the first again",
+                debit!(200, 1, 10),
+                granted!(1),
+                (2, 80, 80),
+            ),
         ],
     },
     Day {
         name: "the greatest limit",
         limit: MOST_ORDERS,
-        opening: 100,
-        steps: &[("a purchase", Debit(200, 3, 10), Granted(1), (90, 90))],
+        accounts: OF_100,
+        steps: &[("a purchase", debit!(200, 3, 10), granted!(1), (1, 90, 90))],
     },
 ];
 
-#[test]
-fn a_full_journal_takes_no_more(rt: HostRuntime) -> Result<(), Fail> {
-    play(rt.alloc(), LIMITS)
+/// Plays the days of all files.
+fn play_all(alloc: Global) -> Result<(), Fail> {
+    play(alloc, LIMITS)?;
+    play(alloc, days::DAYS)?;
+    play(alloc, days::WIDE_BALANCES)?;
+    play(alloc, replacements::DAYS)?;
+    play(alloc, holds::DAYS)?;
+    play(alloc, laws::DAYS)?;
+    play(alloc, reordered::REORDERED)
 }
 
-/// Whether these are the answers to a purchase, to its repeat and to another one, where the journal takes one order.
-fn is_run(answers: &[Result<Answer, Refused>]) -> bool {
+#[test]
+fn days_are_answered_step_by_step(rt: HostRuntime) -> Result<(), Fail> {
+    laws::laws_hold();
+    play_all(rt.alloc())
+}
+
+/// Whether a list of orders gets an answer, that answer again, and none for want of room.
+fn runs(alloc: Global, issuer: &mut Issuer, orders: &[Order]) -> bool {
     let answer = Answer {
         code: 0,
         seq: 1,
         shown: None,
     };
-    // Where memory runs out (`rt try --test --fail-alloc N`), the next delivery is the first that is entered.
-    let first = match answers {
-        [Err(Refused::Memory), ..] => Err(Refused::Memory),
-        _ => Ok(answer),
-    };
-    answers == [first, Ok(answer), Err(Refused::Full)].as_slice()
+    match issuer.run(alloc, orders) {
+        Ok(answers) => {
+            answers.as_slice() == [Ok(answer), Ok(answer), Err(Refused::Full)].as_slice()
+        }
+        Err(_) => false,
+    }
 }
 
-/// Hands a purchase, its repeat and another one to an issuer as one list, and tells whether the answers are those.
-fn runs_three(alloc: Global, issuer: &mut Issuer) -> Result<bool, Fail> {
-    let purchase = order(Debit(200, 7, 1000))?;
-    let other = order(Debit(200, 8, 1000))?;
-    let answers = issuer.run(alloc, &[purchase, purchase, other])?;
-    Ok(is_run(&answers))
-}
-
-/// Compares the answers to a list of orders, and what is in the books then.
-fn check_run(alloc: Global, issuer: &mut Issuer) -> Result<(), Fail> {
-    check(runs_three(alloc, issuer)?, "the answers to the list")?;
-    let books = (1, (Some(4000), Some(4000)));
-    check(has_books(issuer, books)?, "the books at the end")
+/// Whether a purchase, its repeat and another one are answered as a list, where the journal takes one order.
+fn runs_three(alloc: Global, issuer: &mut Issuer) -> bool {
+    match (order(&debit!(200, 7, 1000)), order(&debit!(200, 8, 1000))) {
+        (Some(purchase), Some(other)) => runs(alloc, issuer, &[purchase, purchase, other]),
+        _ => false,
+    }
 }
 
 #[test]
 fn a_list_is_run(rt: HostRuntime) -> Result<(), Fail> {
-    let mut issuer = issuer(rt.alloc(), 5000, 1)?;
-    check_run(rt.alloc(), &mut issuer)
+    let is_run = match issuer(rt.alloc(), OF_5000, 1) {
+        Some(mut issuer) => {
+            runs_three(rt.alloc(), &mut issuer) && has_books(&issuer, (1, 4000, 4000))
+        }
+        None => false,
+    };
+    check(is_run, "the answers to the list, and the books at the end")
 }

@@ -19,6 +19,74 @@ macro_rules! key {
     };
 }
 
+/// The key of a hold, as tables have it.
+macro_rules! hold_key {
+    ($base:expr) => {
+        other_key!($base, 10, 102_030_405)
+    };
+}
+
+/// The key of a completion, which names the hold.
+macro_rules! completion_key {
+    ($base:expr) => {
+        other_key!($base, 11, 102_030_700)
+    };
+}
+
+/// The key of a reversal, which names the payment.
+macro_rules! reversal_key {
+    () => {
+        other_key!(420, 8, 102_030_500)
+    };
+}
+
+/// An order, as tables have it.
+macro_rules! plain {
+    ($does:expr, $key:expr, $digits:expr, $amount:expr, $currency:expr, $of:expr) => {
+        Plain {
+            key: $key,
+            does: $does,
+            digits: $digits,
+            amount: $amount,
+            currency: $currency,
+            of: $of,
+        }
+    };
+}
+
+/// The debit of a key, an account, an amount and a currency.
+macro_rules! debit {
+    ($key:expr, $digits:expr, $amount:expr, $currency:expr) => {
+        plain!(Does::Debit, $key, $digits, $amount, $currency, key!(200))
+    };
+}
+
+macro_rules! credit {
+    ($key:expr, $digits:expr, $amount:expr, $currency:expr) => {
+        plain!(Does::Credit, $key, $digits, $amount, $currency, key!(200))
+    };
+}
+
+macro_rules! inquiry {
+    ($key:expr, $digits:expr, $amount:expr, $currency:expr) => {
+        plain!(Does::Inquiry, $key, $digits, $amount, $currency, key!(200))
+    };
+}
+
+/// The completion of a key, an account, an amount, a currency and the key of its hold.
+macro_rules! complete {
+    ($key:expr, $digits:expr, $amount:expr, $currency:expr, $hold:expr) => {
+        plain!(Does::Complete, $key, $digits, $amount, $currency, $hold)
+    };
+}
+
+/// The reversal of a key, the key of its original, and how much it leaves.
+macro_rules! undo {
+    ($key:expr, $original:expr, $left:expr) => {
+        plain!(Does::Undo, $key, ACCOUNT, $left, *b"840", $original)
+    };
+}
+
 mod answers;
 mod completions;
 mod logs;
@@ -28,28 +96,21 @@ mod requests;
 mod responses;
 mod verdicts;
 
-use crate::accounts::{ACCOUNT, money, pan};
+use crate::plain::{ACCOUNT, Plain, order};
 use iso_fakes::{check, check_of};
-use iso_order::{Act, Order, Pan, TxKey, Verdict, order_of};
+use iso_order::{Pan, Told, Verdict, answer_of, order_of};
 use iso_parts::Mti;
 use iso_wire::Message;
 use std::alloc::Global;
 use std::test::Fail;
 
-/// Sets these elements of a message.
-fn set_all(message: &mut Message, elements: &[(u8, &[u8])]) -> Result<(), Fail> {
+/// Sets these elements of a message, and tells whether all are set.
+fn set_all(message: &mut Message, elements: &[(u8, &[u8])]) -> bool {
+    let mut is_set = true;
     for (n, value) in elements {
-        message.set(*n, value)?;
+        is_set &= message.set(*n, value).is_ok();
     }
-    Ok(())
-}
-
-/// A message of that type with the elements.
-fn message(alloc: Global, mti: u16, elements: &[(u8, &[u8])]) -> Result<Message, Fail> {
-    let mti = Mti::from_digits(mti).ok_or("not four digits")?;
-    let mut message = Message::new(alloc, mti);
-    set_all(&mut message, elements)?;
-    Ok(message)
+    is_set
 }
 
 /// How a message differs from the usual one of its kind.
@@ -60,22 +121,71 @@ enum Change {
     Without(u8),
 }
 
-/// The message of that type with the elements, but for the change.
-fn changed(
-    alloc: Global,
-    mti: u16,
-    elements: &[(u8, &[u8])],
-    change: Change,
-) -> Result<Message, Fail> {
-    let mut made = message(alloc, mti, elements)?;
+/// Makes a change, and tells whether it is made.
+fn change_by(message: &mut Message, change: Change) -> bool {
     match change {
-        Change::Nothing => {}
-        Change::Set(n, value) => made.set(n, value)?,
-        Change::Without(n) => {
-            made.unset(n);
-        }
+        Change::Nothing => true,
+        Change::Set(n, value) => message.set(n, value).is_ok(),
+        Change::Without(n) => message.unset(n),
     }
-    Ok(made)
+}
+
+/// What a message asks, or what a response tells, as tables have it.
+#[derive(Clone, Copy)]
+enum Wants {
+    Silence,
+    Reply(u8),
+    Order(Plain),
+    Told(Option<Told>),
+}
+
+/// Whether the verdict on a message is that order.
+fn is_ordered(message: &Message, plain: &Plain) -> bool {
+    match order(plain) {
+        Some(wanted) => order_of(message) == Verdict::Order(wanted),
+        None => false,
+    }
+}
+
+/// Whether a message asks or tells that.
+fn has(message: &Message, wants: &Wants) -> bool {
+    match wants {
+        Wants::Silence => order_of(message) == Verdict::Silent,
+        Wants::Reply(code) => order_of(message) == Verdict::Reply(*code),
+        Wants::Order(plain) => is_ordered(message, plain),
+        Wants::Told(told) => answer_of(message) == *told,
+    }
+}
+
+/// Whether a message that gets the elements, but for the change, asks or tells that.
+fn is_so(message: &mut Message, elements: &[(u8, &[u8])], change: Change, wants: &Wants) -> bool {
+    set_all(message, elements) && change_by(message, change) && has(message, wants)
+}
+
+/// A name, a type, how the message differs from the usual one of its kind, and what it asks or tells.
+type Asking = (&'static str, u16, Change, Wants);
+
+/// Whether the message of a row, which has these elements but for its change, asks or tells what it should.
+fn is_asked(alloc: Global, elements: &[(u8, &[u8])], row: &Asking) -> bool {
+    let (_, mti, change, wants) = row;
+    match Mti::from_digits(*mti) {
+        Some(mti) => is_so(&mut Message::new(alloc, mti), elements, *change, wants),
+        None => false,
+    }
+}
+
+/// Compares what messages of a kind ask or tell, which have these elements but for their changes.
+fn check_kind(
+    alloc: Global,
+    kind: &str,
+    elements: &[(u8, &[u8])],
+    rows: &[Asking],
+) -> Result<(), Fail> {
+    for row in rows {
+        let (name, _, _, _) = row;
+        check_of(is_asked(alloc, elements, row), kind, *name)?;
+    }
+    Ok(())
 }
 
 /// The elements of a payment.
@@ -89,110 +199,38 @@ const PAYMENT: &[(u8, &'static [u8])] = &[
     (49, b"840"),
 ];
 
-/// The key of the payment of that type.
-const fn key(base: u16) -> TxKey {
-    key!(base)
+/// The elements of a network message.
+const NETWORK: &[(u8, &'static [u8])] = &[(7, b"0102030405")];
+
+#[test]
+fn messages_ask(rt: HostRuntime) -> Result<(), Fail> {
+    let alloc = rt.alloc();
+    check_kind(alloc, "a payment", PAYMENT, verdicts::PAYMENTS)?;
+    check_kind(
+        alloc,
+        "a refused payment",
+        PAYMENT,
+        verdicts::REFUSED_PAYMENTS,
+    )?;
+    check_kind(alloc, "a reversal", verdicts::REVERSAL, verdicts::REVERSALS)?;
+    check_kind(
+        alloc,
+        "a network message",
+        NETWORK,
+        verdicts::NETWORK_MESSAGES,
+    )
 }
 
-/// The key of a hold.
-const HOLD_KEY: TxKey = other_key!(100, 10, 102_030_405);
-
-/// The key of a completion, which names the hold.
-const COMPLETION_KEY: TxKey = other_key!(220, 11, 102_030_700);
-
-/// The key of a reversal, which names the payment.
-const REVERSAL_KEY: TxKey = other_key!(420, 8, 102_030_500);
-
-/// What an order does, as tables have it: money is the digits of its account, its amount and its currency.
-#[derive(Clone, Copy)]
-enum Does {
-    Debit(&'static [u8], u64, [u8; 3]),
-    Credit(&'static [u8], u64, [u8; 3]),
-    Inquiry(&'static [u8], u64, [u8; 3]),
-    Complete(&'static [u8], u64, [u8; 3], TxKey),
-    Undo(TxKey, u64),
-}
-
-/// What a message asks, as tables have it.
-#[derive(Clone, Copy)]
-enum Asked {
-    Nothing,
-    Reply(u8),
-    Order(TxKey, Does),
-}
-
-fn act(does: Does) -> Result<Act, Fail> {
-    Ok(match does {
-        Does::Debit(digits, amount, currency) => Act::Debit(money(digits, amount, currency)?),
-        Does::Credit(digits, amount, currency) => Act::Credit(money(digits, amount, currency)?),
-        Does::Inquiry(digits, amount, currency) => Act::Inquiry(money(digits, amount, currency)?),
-        Does::Complete(digits, amount, currency, hold) => Act::Complete {
-            money: money(digits, amount, currency)?,
-            hold,
-        },
-        Does::Undo(original, left) => Act::Undo { original, left },
-    })
-}
-
-/// The order, where there is one.
-fn new_order(key: TxKey, act: Act) -> Option<Order> {
-    Order::new(key, act)
-}
-
-fn order(key: TxKey, does: Does) -> Result<Order, Fail> {
-    let act = act(does)?;
-    Ok(new_order(key, act).ok_or("no order")?)
-}
-
-fn verdict(asked: Asked) -> Result<Verdict, Fail> {
-    Ok(match asked {
-        Asked::Nothing => Verdict::Silent,
-        Asked::Reply(code) => Verdict::Reply(code),
-        Asked::Order(key, does) => Verdict::Order(order(key, does)?),
-    })
-}
-
-fn verdict_on(message: &Message) -> Verdict {
-    order_of(message)
-}
-
-fn is_same(one: Verdict, other: Verdict) -> bool {
-    one == other
-}
-
-/// Whether a message asks that.
-fn asks(message: &Message, asked: Asked) -> Result<bool, Fail> {
-    let expected = verdict(asked)?;
-    Ok(is_same(verdict_on(message), expected))
-}
-
-/// Whether the message of that type with the elements, but for the change, asks that.
-fn is_asked(
-    alloc: Global,
-    mti: u16,
-    elements: &[(u8, &[u8])],
-    change: Change,
-    asked: Asked,
-) -> Result<bool, Fail> {
-    let made = changed(alloc, mti, elements, change)?;
-    asks(&made, asked)
-}
-
-/// A name, a type, how the message differs from the usual one of its kind, and what it asks.
-type Asking = (&'static str, u16, Change, Asked);
-
-/// Compares what messages of a kind ask, which have these elements but for their changes.
-fn check_asked(
-    alloc: Global,
-    kind: &str,
-    elements: &[(u8, &[u8])],
-    rows: &[Asking],
-) -> Result<(), Fail> {
-    for (name, mti, change, asked) in rows {
-        let is_asked = is_asked(alloc, *mti, elements, *change, *asked)?;
-        check_of(is_asked, kind, *name)?;
-    }
-    Ok(())
+#[test]
+fn completions_ask_and_responses_tell(rt: HostRuntime) -> Result<(), Fail> {
+    let alloc = rt.alloc();
+    check_kind(
+        alloc,
+        "a completion",
+        completions::COMPLETION,
+        completions::COMPLETIONS,
+    )?;
+    check_kind(alloc, "a response", answers::ANSWER, answers::MESSAGES)
 }
 
 /// Texts, and the number and the count of digits of those that are account numbers.
@@ -211,7 +249,10 @@ const ACCOUNT_TEXTS: &[(&'static str, &'static [u8], Option<(u64, u8)>)] = &[
 
 /// Whether a text is an account number of that number and that count of digits, or none.
 fn is_read(text: &[u8], want: Option<(u64, u8)>) -> bool {
-    Pan::from_digits(text).map(|pan| (pan.digits(), pan.len())) == want
+    match Pan::from_digits(text) {
+        Some(pan) => want == Some((pan.digits(), pan.len())),
+        None => want.is_none(),
+    }
 }
 
 #[test]

@@ -1,25 +1,21 @@
 //! What responses tell an acquirer.
 
 use super::Change::{Nothing, Set, Without};
-use super::{ACCOUNT, Change, changed};
-use iso_fakes::check;
-use iso_order::{Told, TxKey, answer_of};
-use iso_wire::Message;
-use std::alloc::Global;
-use std::test::Fail;
+use super::{ACCOUNT, Asking, Wants};
+use iso_order::{Told, TxKey};
 
 /// What is told of the payment of a type, as tables have it.
 macro_rules! told {
     ($base:expr, $code:expr) => {
-        Some(Told {
+        Wants::Told(Some(Told {
             key: key!($base),
             code: $code,
-        })
+        }))
     };
 }
 
 /// The elements of a response to a payment.
-const ANSWER: &[(u8, &'static [u8])] = &[
+pub const ANSWER: &[(u8, &'static [u8])] = &[
     (2, ACCOUNT),
     (3, b"000000"),
     (4, b"000000001000"),
@@ -31,10 +27,10 @@ const ANSWER: &[(u8, &'static [u8])] = &[
     (49, b"840"),
 ];
 
-/// A name, a type, how the message differs from a response to a payment, and what it tells.
-type Telling = (&'static str, u16, Change, Option<Told>);
+/// A message that tells nothing.
+const NOTHING_TOLD: Wants = Wants::Told(None);
 
-const MESSAGES: &[Telling] = &[
+pub const MESSAGES: &[Asking] = &[
     ("granted", 210, Nothing, told!(200, 0)),
     ("declined", 210, Set(39, b"51"), told!(200, 51)),
     ("of class 1", 110, Without(38), told!(100, 0)),
@@ -52,53 +48,44 @@ const MESSAGES: &[Telling] = &[
         Set(32, b"00000012345"),
         told!(200, 0),
     ),
-    ("a request", 200, Without(39), None),
-    ("a request with a response code", 200, Nothing, None),
-    ("an advice", 220, Nothing, None),
-    ("a notification", 240, Nothing, None),
-    ("of another version", 1210, Nothing, None),
-    ("of a file action", 310, Nothing, None),
-    ("of network management", 810, Nothing, None),
-    ("of an origin above 5", 216, Nothing, None),
-    ("a time of nine digits", 210, Set(7, b"102030405"), None),
-    ("without a trace number", 210, Without(11), None),
+    ("a request", 200, Without(39), NOTHING_TOLD),
+    ("a request with a response code", 200, Nothing, NOTHING_TOLD),
+    ("an advice", 220, Nothing, NOTHING_TOLD),
+    ("a notification", 240, Nothing, NOTHING_TOLD),
+    ("of another version", 1210, Nothing, NOTHING_TOLD),
+    ("of a file action", 310, Nothing, NOTHING_TOLD),
+    ("of network management", 810, Nothing, NOTHING_TOLD),
+    ("of an origin above 5", 216, Nothing, NOTHING_TOLD),
+    (
+        "a time of nine digits",
+        210,
+        Set(7, b"102030405"),
+        NOTHING_TOLD,
+    ),
+    ("without a trace number", 210, Without(11), NOTHING_TOLD),
     (
         "a letter in the trace number",
         210,
         Set(11, b"00000A"),
-        None,
+        NOTHING_TOLD,
     ),
-    ("an empty acquirer", 210, Set(32, b""), None),
+    ("an empty acquirer", 210, Set(32, b""), NOTHING_TOLD),
     (
         "an acquirer of twelve digits",
         210,
         Set(32, b"000000012345"),
-        None,
+        NOTHING_TOLD,
     ),
     (
         "a response code of three digits",
         210,
         Set(39, b"000"),
-        None,
+        NOTHING_TOLD,
     ),
-    ("a letter in the response code", 210, Set(39, b"0A"), None),
+    (
+        "a letter in the response code",
+        210,
+        Set(39, b"0A"),
+        NOTHING_TOLD,
+    ),
 ];
-
-/// Whether a message tells that.
-fn tells(message: &Message, told: Option<Told>) -> bool {
-    answer_of(message) == told
-}
-
-/// Whether a response to a payment, but for the change, tells that.
-fn is_told(alloc: Global, mti: u16, change: Change, told: Option<Told>) -> Result<bool, Fail> {
-    let made = changed(alloc, mti, ANSWER, change)?;
-    Ok(tells(&made, told))
-}
-
-#[test]
-fn responses_tell(rt: HostRuntime) -> Result<(), Fail> {
-    for (name, mti, change, told) in MESSAGES {
-        check(is_told(rt.alloc(), *mti, *change, *told)?, *name)?;
-    }
-    Ok(())
-}

@@ -1,108 +1,131 @@
 //! What logs show: no account number in clear.
 
-use super::{ACCOUNT, Does, act, key, money, order, pan};
+use crate::plain::{ACCOUNT, Does, Plain, act, money, order};
 use iso_fakes::check;
-use iso_order::{TxKey, Verdict};
+use iso_order::{Pan, TxKey, Verdict};
 use std::alloc::Global;
-use std::string::String;
+use std::fmt::Debug;
 use std::test::Fail;
 
-/// What a log shows, as tables have it.
+/// What of an order a log shows.
 #[derive(Clone, Copy)]
-enum Shown {
-    Number(&'static [u8]),
-    Money(&'static [u8], u64, [u8; 3]),
-    Act(Does),
-    /// The order under the key of the payment.
-    Order(Does),
-    /// That order as a verdict.
-    Verdict(Does),
+enum What {
+    Number,
+    Money,
+    Act,
+    Order,
+    /// The order as a verdict.
+    Verdict,
 }
 
-const PAYMENT: Does = Does::Debit(ACCOUNT, 1000, *b"840");
+const PAYMENT: Plain = debit!(key!(200), ACCOUNT, 1000, *b"840");
 
-const TEXTS: &[(&'static str, Shown, &'static str)] = &[
-    ("sixteen digits", Shown::Number(ACCOUNT), "411111******1111"),
+const TEXTS: &[(&'static str, What, Plain, &'static str)] = &[
+    (
+        "sixteen digits",
+        What::Number,
+        debit!(key!(200), ACCOUNT, 1000, *b"840"),
+        "411111******1111",
+    ),
     (
         "nineteen digits",
-        Shown::Number(b"6304219447607087665"),
+        What::Number,
+        debit!(key!(200), b"6304219447607087665", 1000, *b"840"),
         "630421*********7665",
     ),
     (
         "thirteen digits",
-        Shown::Number(b"4222222222222"),
+        What::Number,
+        debit!(key!(200), b"4222222222222", 1000, *b"840"),
         "422222***2222",
     ),
     (
         "zeros before",
-        Shown::Number(b"0000001234567890"),
+        What::Number,
+        debit!(key!(200), b"0000001234567890", 1000, *b"840"),
         "000000******7890",
     ),
     (
         "twelve digits",
-        Shown::Number(b"501800000009"),
+        What::Number,
+        debit!(key!(200), b"501800000009", 1000, *b"840"),
         "************",
     ),
-    ("one digit", Shown::Number(b"7"), "*"),
+    (
+        "one digit",
+        What::Number,
+        debit!(key!(200), b"7", 1000, *b"840"),
+        "*",
+    ),
     (
         "an order",
-        Shown::Order(PAYMENT),
+        What::Order,
+        PAYMENT,
         "Order { key: TxKey { base: 200, stan: 7, sent: 102030405, acquirer: 12345 }, \
          act: Debit(Money { pan: 411111******1111, amount: 1000, currency: [56, 52, 48] }) }",
     ),
     (
         "a verdict",
-        Shown::Verdict(PAYMENT),
+        What::Verdict,
+        PAYMENT,
         "Order(Order { key: TxKey { base: 200, stan: 7, sent: 102030405, acquirer: 12345 }, \
          act: Debit(Money { pan: 411111******1111, amount: 1000, currency: [56, 52, 48] }) })",
     ),
     (
         "money",
-        Shown::Money(b"501800000009", 0, *b"USD"),
+        What::Money,
+        debit!(key!(200), b"501800000009", 0, *b"USD"),
         "Money { pan: ************, amount: 0, currency: [85, 83, 68] }",
     ),
     (
         "a credit",
-        Shown::Act(Does::Credit(ACCOUNT, 5, *b"840")),
+        What::Act,
+        credit!(key!(200), ACCOUNT, 5, *b"840"),
         "Credit(Money { pan: 411111******1111, amount: 5, currency: [56, 52, 48] })",
     ),
     (
         "an inquiry",
-        Shown::Act(Does::Inquiry(ACCOUNT, 0, *b"840")),
+        What::Act,
+        inquiry!(key!(200), ACCOUNT, 0, *b"840"),
         "Inquiry(Money { pan: 411111******1111, amount: 0, currency: [56, 52, 48] })",
     ),
     (
         "a reversal",
-        Shown::Act(Does::Undo(key!(200), 400)),
+        What::Act,
+        undo!(key!(420), key!(200), 400),
         "Undo { original: TxKey { base: 200, stan: 7, sent: 102030405, acquirer: 12345 }, left: 400 }",
     ),
 ];
 
-/// What a log writes of it.
-fn text_of(alloc: Global, shown: Shown) -> Result<String, Fail> {
-    Ok(match shown {
-        Shown::Number(digits) => format!(in alloc; "{:?}", pan(digits)?)?,
-        Shown::Money(digits, amount, currency) => {
-            format!(in alloc; "{:?}", money(digits, amount, currency)?)?
-        }
-        Shown::Act(does) => format!(in alloc; "{:?}", act(does)?)?,
-        Shown::Order(does) => format!(in alloc; "{:?}", order(key(200), does)?)?,
-        Shown::Verdict(does) => {
-            format!(in alloc; "{:?}", Verdict::Order(order(key(200), does)?))?
-        }
-    })
+/// Whether a log writes that of it, where it is there.
+fn is_shown<T: Debug + Drop>(alloc: Global, shown: Option<T>, want: &str) -> bool {
+    match shown {
+        Some(shown) => match format!(in alloc; "{shown:?}") {
+            Ok(text) => text.as_str() == want,
+            Err(_) => false,
+        },
+        None => false,
+    }
 }
 
-/// Whether a log writes that of it.
-fn shows(alloc: Global, shown: Shown, want: &str) -> Result<bool, Fail> {
-    let text = text_of(alloc, shown)?;
-    Ok(text.as_str() == want)
+/// Whether a log writes that of an order.
+fn shows(alloc: Global, what: What, plain: &Plain, want: &str) -> bool {
+    match what {
+        What::Number => is_shown(alloc, Pan::from_digits(plain.digits), want),
+        What::Money => is_shown(alloc, money(plain), want),
+        What::Act => is_shown(alloc, act(plain), want),
+        What::Order => is_shown(alloc, order(plain), want),
+        What::Verdict => match order(plain) {
+            Some(order) => is_shown(alloc, Some(Verdict::Order(order)), want),
+            None => false,
+        },
+    }
 }
 
 #[test]
 fn account_numbers_are_masked(rt: HostRuntime) -> Result<(), Fail> {
-    for (name, shown, want) in TEXTS {
-        check(shows(rt.alloc(), *shown, *want)?, *name)?;
+    for (name, what, plain, want) in TEXTS {
+        check(shows(rt.alloc(), *what, plain, *want), *name)?;
     }
     Ok(())
 }

@@ -1,8 +1,8 @@
 //! Keys, and which orders are one.
 
-use super::{ACCOUNT, Does, act, key, new_order, order};
+use crate::plain::{ACCOUNT, Does, Plain, act, order};
 use iso_fakes::check;
-use iso_order::{Act, Order, TxKey};
+use iso_order::{Order, TxKey};
 use std::test::Fail;
 
 /// The key of a payment with a time of eleven digits.
@@ -34,7 +34,7 @@ fn keys() -> Result<(), Fail> {
     Ok(())
 }
 
-const PURCHASE: Does = Does::Debit(ACCOUNT, 1000, *b"840");
+const PURCHASE: Plain = debit!(key!(200), ACCOUNT, 1000, *b"840");
 
 /// The key of a payment for another acquirer.
 const OTHER: TxKey = TxKey {
@@ -42,141 +42,141 @@ const OTHER: TxKey = TxKey {
     ..key!(200)
 };
 
-/// A name, the type of a key, what an order of it would do, and whether that order is the purchase, where there is one.
-type Likely = (&'static str, u16, Does, Option<bool>);
+/// A name, what an order would be, and whether that order is the purchase, where there is one.
+type Likely = (&'static str, Plain, Option<bool>);
 
 const ORDERS: &[Likely] = &[
-    ("itself", 200, PURCHASE, Some(true)),
-    ("under another key", 220, PURCHASE, Some(false)),
+    (
+        "itself",
+        debit!(key!(200), ACCOUNT, 1000, *b"840"),
+        Some(true),
+    ),
+    (
+        "under another key",
+        debit!(key!(220), ACCOUNT, 1000, *b"840"),
+        Some(false),
+    ),
     (
         "of another amount",
-        200,
-        Does::Debit(ACCOUNT, 1001, *b"840"),
+        debit!(key!(200), ACCOUNT, 1001, *b"840"),
         Some(false),
     ),
     (
         "of another account",
-        200,
-        Does::Debit(b"04111111111111111", 1000, *b"840"),
+        debit!(key!(200), b"04111111111111111", 1000, *b"840"),
         Some(false),
     ),
     (
         "in another currency",
-        200,
-        Does::Debit(ACCOUNT, 1000, *b"USD"),
+        debit!(key!(200), ACCOUNT, 1000, *b"USD"),
         Some(false),
     ),
     (
         "a credit",
-        200,
-        Does::Credit(ACCOUNT, 1000, *b"840"),
+        credit!(key!(200), ACCOUNT, 1000, *b"840"),
         Some(false),
     ),
     (
         "a debit of nothing",
-        200,
-        Does::Debit(ACCOUNT, 0, *b"840"),
+        debit!(key!(200), ACCOUNT, 0, *b"840"),
         None,
     ),
     (
         "an advice of an inquiry",
-        220,
-        Does::Inquiry(ACCOUNT, 0, *b"840"),
+        inquiry!(key!(220), ACCOUNT, 0, *b"840"),
         None,
     ),
     (
         "a currency with a blank",
-        200,
-        Does::Inquiry(ACCOUNT, 0, *b"US "),
+        inquiry!(key!(200), ACCOUNT, 0, *b"US "),
         None,
     ),
     (
         "an amount of thirteen digits",
-        200,
-        Does::Debit(ACCOUNT, 1_000_000_000_000, *b"840"),
+        debit!(key!(200), ACCOUNT, 1_000_000_000_000, *b"840"),
         None,
     ),
     (
         "a credit of class 1",
-        100,
-        Does::Credit(ACCOUNT, 1000, *b"840"),
+        credit!(key!(100), ACCOUNT, 1000, *b"840"),
         None,
     ),
     (
         "a reversal in a payment",
-        200,
-        Does::Undo(key!(200), 0),
+        undo!(key!(200), key!(200), 0),
         None,
     ),
     (
         "a reversal for another acquirer",
-        420,
-        Does::Undo(OTHER, 0),
+        undo!(key!(420), OTHER, 0),
         None,
     ),
     (
         "a reversal of a reversal",
-        420,
-        Does::Undo(key!(400), 0),
+        undo!(key!(420), key!(400), 0),
         None,
     ),
     (
         "a reversal that leaves thirteen digits",
-        420,
-        Does::Undo(key!(200), 1_000_000_000_000),
+        undo!(key!(420), key!(200), 1_000_000_000_000),
         None,
     ),
     (
         "a completion by a request",
-        200,
-        Does::Complete(ACCOUNT, 1000, *b"840", key!(100)),
+        complete!(key!(200), ACCOUNT, 1000, *b"840", key!(100)),
         None,
     ),
     (
         "a completion of a purchase",
-        220,
-        Does::Complete(ACCOUNT, 1000, *b"840", key!(200)),
+        complete!(key!(220), ACCOUNT, 1000, *b"840", key!(200)),
         None,
     ),
     (
         "a completion for another acquirer",
-        220,
-        Does::Complete(ACCOUNT, 1000, *b"840", TxKey { base: 100, ..OTHER }),
+        complete!(
+            key!(220),
+            ACCOUNT,
+            1000,
+            *b"840",
+            TxKey { base: 100, ..OTHER }
+        ),
         None,
     ),
     (
         "a completion of nothing",
-        220,
-        Does::Complete(ACCOUNT, 0, *b"840", key!(100)),
+        complete!(key!(220), ACCOUNT, 0, *b"840", key!(100)),
         None,
     ),
     (
         "under the key of a repeat",
-        201,
-        Does::Inquiry(ACCOUNT, 0, *b"840"),
+        inquiry!(key!(201), ACCOUNT, 0, *b"840"),
         None,
     ),
 ];
 
-/// Whether an order has that key and that act, and is the other one or isn't.
-fn is_order(order: &Order, key: TxKey, act: Act, other: &Order, is_same: bool) -> bool {
-    (order.key(), order.act(), order.is_same(other)) == (key, act, is_same)
+/// Whether an order has the key and the act of its plain words, and is the purchase or isn't.
+fn is_order(made: &Order, plain: &Plain, is_purchase: bool) -> bool {
+    match order(&PURCHASE) {
+        Some(purchase) => {
+            (made.key(), Some(made.act()), made.is_same(&purchase))
+                == (plain.key, act(plain), is_purchase)
+        }
+        None => false,
+    }
 }
 
 /// Whether there is such an order, which is the purchase or isn't, or none.
-fn is_made(base: u16, does: Does, want: Option<bool>) -> Result<bool, Fail> {
-    let purchase = order(key(200), PURCHASE)?;
-    let (key, act) = (key(base), act(does)?);
-    Ok(match (new_order(key, act), want) {
-        (Some(order), Some(is_same)) => is_order(&order, key, act, &purchase, is_same),
+fn is_made(plain: &Plain, want: Option<bool>) -> bool {
+    match (order(plain), want) {
+        (Some(made), Some(is_purchase)) => is_order(&made, plain, is_purchase),
         (made, want) => made.is_none() && want.is_none(),
-    })
+    }
 }
 
 #[test]
 fn orders() -> Result<(), Fail> {
-    for (name, base, does, want) in ORDERS {
-        check(is_made(*base, *does, *want)?, *name)?;
+    for (name, plain, want) in ORDERS {
+        check(is_made(plain, *want), *name)?;
     }
     Ok(())
 }

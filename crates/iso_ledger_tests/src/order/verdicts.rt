@@ -1,60 +1,60 @@
 //! What messages ask.
 
 use super::Change::{Nothing, Set, Without};
-use super::{ACCOUNT, Asked, Asking, Does, PAYMENT, REVERSAL_KEY, check_asked};
+use super::{ACCOUNT, Asking, Wants};
+use crate::plain::{Does, Plain};
 use iso_order::TxKey;
-use std::test::Fail;
 
 /// The debit of the payment by a message of that type, as tables have it.
-macro_rules! debit {
+macro_rules! debit_of {
     ($base:expr) => {
-        Asked::Order(key!($base), Does::Debit(ACCOUNT, 1000, *b"840"))
+        Wants::Order(debit!(key!($base), ACCOUNT, 1000, *b"840"))
     };
 }
 
 /// The reversal of the payment of that type, which leaves so much, as tables have it.
-macro_rules! undo {
+macro_rules! undo_of {
     ($base:expr, $left:expr) => {
-        Asked::Order(REVERSAL_KEY, Does::Undo(key!($base), $left))
+        Wants::Order(undo!(reversal_key!(), key!($base), $left))
     };
 }
 
 /// The elements of a reversal of that payment.
-const REVERSAL: &[(u8, &'static [u8])] = &[
+pub const REVERSAL: &[(u8, &'static [u8])] = &[
     (7, b"0102030500"),
     (11, b"000008"),
     (32, b"12345"),
     (90, b"020000000701020304050000001234500000000000"),
 ];
 
-const CREDIT: Asked = Asked::Order(key!(200), Does::Credit(ACCOUNT, 1000, *b"840"));
+const CREDIT: Wants = Wants::Order(credit!(key!(200), ACCOUNT, 1000, *b"840"));
 
-const INQUIRY: Asked = Asked::Order(key!(100), Does::Inquiry(ACCOUNT, 0, *b"840"));
+const INQUIRY: Wants = Wants::Order(inquiry!(key!(100), ACCOUNT, 0, *b"840"));
 
-const PAYMENTS: &[Asking] = &[
-    ("as it stands", 200, Nothing, debit!(200)),
-    ("a repeat", 201, Nothing, debit!(200)),
-    ("an advice", 220, Nothing, debit!(220)),
-    ("an authorization", 100, Nothing, debit!(100)),
-    ("of another origin", 205, Nothing, debit!(204)),
+pub const PAYMENTS: &[Asking] = &[
+    ("as it stands", 200, Nothing, debit_of!(200)),
+    ("a repeat", 201, Nothing, debit_of!(200)),
+    ("an advice", 220, Nothing, debit_of!(220)),
+    ("an authorization", 100, Nothing, debit_of!(100)),
+    ("of another origin", 205, Nothing, debit_of!(204)),
     (
         "zeros before the acquirer",
         200,
         Set(32, b"00012345"),
-        debit!(200),
+        debit_of!(200),
     ),
-    ("cash", 200, Set(3, b"010000"), debit!(200)),
+    ("cash", 200, Set(3, b"010000"), debit_of!(200)),
     (
         "another currency",
         200,
         Set(49, b"USD"),
-        Asked::Order(key!(200), Does::Debit(ACCOUNT, 1000, *b"USD")),
+        Wants::Order(debit!(key!(200), ACCOUNT, 1000, *b"USD")),
     ),
     (
         "another account",
         200,
         Set(2, b"4000000000000002"),
-        Asked::Order(key!(200), Does::Debit(b"4000000000000002", 1000, *b"840")),
+        Wants::Order(debit!(key!(200), b"4000000000000002", 1000, *b"840")),
     ),
     ("a return", 200, Set(3, b"200000"), CREDIT),
     ("a deposit", 200, Set(3, b"210099"), CREDIT),
@@ -63,223 +63,209 @@ const PAYMENTS: &[Asking] = &[
         "an authorization that names another",
         120,
         Set(90, b""),
-        debit!(120),
+        debit_of!(120),
     ),
 ];
 
-const REFUSED_PAYMENTS: &[Asking] = &[
-    ("of another version", 1200, Nothing, Asked::Nothing),
-    ("a response", 210, Nothing, Asked::Nothing),
-    ("a notification", 240, Nothing, Asked::Nothing),
-    ("a file action", 300, Nothing, Asked::Reply(12)),
-    ("of an origin above 5", 206, Nothing, Asked::Reply(12)),
-    ("without a time", 200, Without(7), Asked::Reply(30)),
+pub const REFUSED_PAYMENTS: &[Asking] = &[
+    ("of another version", 1200, Nothing, Wants::Silence),
+    ("a response", 210, Nothing, Wants::Silence),
+    ("a notification", 240, Nothing, Wants::Silence),
+    ("a file action", 300, Nothing, Wants::Reply(12)),
+    ("of an origin above 5", 206, Nothing, Wants::Reply(12)),
+    ("without a time", 200, Without(7), Wants::Reply(30)),
     (
         "a time of nine digits",
         200,
         Set(7, b"102030405"),
-        Asked::Reply(30),
+        Wants::Reply(30),
     ),
-    ("without a trace number", 200, Without(11), Asked::Reply(30)),
+    ("without a trace number", 200, Without(11), Wants::Reply(30)),
     (
         "a blank in the trace number",
         200,
         Set(11, b"00000 "),
-        Asked::Reply(30),
+        Wants::Reply(30),
     ),
-    ("an empty acquirer", 200, Set(32, b""), Asked::Reply(30)),
+    ("an empty acquirer", 200, Set(32, b""), Wants::Reply(30)),
     (
         "an acquirer of twelve digits",
         200,
         Set(32, b"000000012345"),
-        Asked::Reply(30),
+        Wants::Reply(30),
     ),
     (
         "an advice that names nothing",
         220,
         Set(90, b""),
-        Asked::Reply(30),
+        Wants::Reply(30),
     ),
     (
         "without an account number",
         200,
         Without(2),
-        Asked::Reply(30),
+        Wants::Reply(30),
     ),
     (
         "an account number of twenty digits",
         200,
         Set(2, b"41111111111111110000"),
-        Asked::Reply(30),
+        Wants::Reply(30),
     ),
     (
         "a processing code of five digits",
         200,
         Set(3, b"00000"),
-        Asked::Reply(30),
+        Wants::Reply(30),
     ),
     (
         "a currency of two letters",
         200,
         Set(49, b"US"),
-        Asked::Reply(30),
+        Wants::Reply(30),
     ),
     (
         "a currency with a blank",
         200,
         Set(49, b"US "),
-        Asked::Reply(30),
+        Wants::Reply(30),
     ),
     (
         "another processing code",
         200,
         Set(3, b"400000"),
-        Asked::Reply(12),
+        Wants::Reply(12),
     ),
     (
         "a return in class 1",
         100,
         Set(3, b"200000"),
-        Asked::Reply(12),
+        Wants::Reply(12),
     ),
     (
         "an advice of an inquiry",
         220,
         Set(3, b"310000"),
-        Asked::Reply(12),
+        Wants::Reply(12),
     ),
-    ("without an amount", 200, Without(4), Asked::Reply(30)),
+    ("without an amount", 200, Without(4), Wants::Reply(30)),
     (
         "an amount of eleven digits",
         200,
         Set(4, b"00000001000"),
-        Asked::Reply(30),
+        Wants::Reply(30),
     ),
-    ("no amount", 200, Set(4, b"000000000000"), Asked::Reply(13)),
-    ("a reversal of nothing", 420, Nothing, Asked::Reply(30)),
+    ("no amount", 200, Set(4, b"000000000000"), Wants::Reply(13)),
+    ("a reversal of nothing", 420, Nothing, Wants::Reply(30)),
 ];
 
-const REVERSALS: &[Asking] = &[
-    ("as it stands", 420, Nothing, undo!(200, 0)),
-    ("a repeat", 421, Nothing, undo!(200, 0)),
+pub const REVERSALS: &[Asking] = &[
+    ("as it stands", 420, Nothing, undo_of!(200, 0)),
+    ("a repeat", 421, Nothing, undo_of!(200, 0)),
     (
         "no original acquirer",
         420,
         Set(90, b"020000000701020304050000000000000000000000"),
-        undo!(200, 0),
+        undo_of!(200, 0),
     ),
     (
         "of a repeat",
         420,
         Set(90, b"020100000701020304050000001234500000000000"),
-        undo!(200, 0),
+        undo_of!(200, 0),
     ),
     (
         "of an advice of class 1",
         420,
         Set(90, b"012500000701020304050000001234500000000099"),
-        undo!(124, 0),
+        undo_of!(124, 0),
     ),
     (
         "another original acquirer",
         420,
         Set(90, b"020000000701020304050000005432100000000000"),
-        Asked::Reply(12),
+        Wants::Reply(12),
     ),
     (
         "of a message of class 8",
         420,
         Set(90, b"080000000701020304050000001234500000000000"),
-        Asked::Reply(12),
+        Wants::Reply(12),
     ),
     (
         "of a response",
         420,
         Set(90, b"021000000701020304050000001234500000000000"),
-        Asked::Reply(12),
+        Wants::Reply(12),
     ),
     (
         "of an origin above 5",
         420,
         Set(90, b"020600000701020304050000001234500000000000"),
-        Asked::Reply(12),
+        Wants::Reply(12),
     ),
     (
         "of another version",
         420,
         Set(90, b"120000000701020304050000001234500000000000"),
-        Asked::Reply(12),
+        Wants::Reply(12),
     ),
     (
         "no bytes of replacement amounts",
         420,
         Set(95, b""),
-        Asked::Reply(30),
+        Wants::Reply(30),
     ),
     (
         "a letter in the replacement amount",
         420,
         Set(95, b"00000000040A000000000000D00000000D00000000"),
-        Asked::Reply(30),
+        Wants::Reply(30),
     ),
     (
         "a replacement amount",
         420,
         Set(95, b"000000000400000000000000D00000000D00000000"),
-        undo!(200, 400),
+        undo_of!(200, 400),
     ),
     (
         "an original of 41 digits",
         420,
         Set(90, b"02000000070102030405000000123450000000000"),
-        Asked::Reply(30),
+        Wants::Reply(30),
     ),
     (
         "a letter in the original",
         420,
         Set(90, b"02000000070102030405000000123450000000000A"),
-        Asked::Reply(30),
+        Wants::Reply(30),
     ),
-    ("without its original", 420, Without(90), Asked::Reply(30)),
-    ("without a time", 420, Without(7), Asked::Reply(30)),
+    ("without its original", 420, Without(90), Wants::Reply(30)),
+    ("without a time", 420, Without(7), Wants::Reply(30)),
 ];
 
-const NETWORK_MESSAGES: &[Asking] = &[
-    ("sign on", 800, Set(70, b"001"), Asked::Reply(0)),
-    ("sign off", 820, Set(70, b"002"), Asked::Reply(0)),
-    ("the echo test", 801, Set(70, b"301"), Asked::Reply(0)),
+pub const NETWORK_MESSAGES: &[Asking] = &[
+    ("sign on", 800, Set(70, b"001"), Wants::Reply(0)),
+    ("sign off", 820, Set(70, b"002"), Wants::Reply(0)),
+    ("the echo test", 801, Set(70, b"301"), Wants::Reply(0)),
     (
         "the echo test's response",
         810,
         Set(70, b"301"),
-        Asked::Nothing,
+        Wants::Silence,
     ),
-    ("another code", 800, Set(70, b"161"), Asked::Reply(12)),
+    ("another code", 800, Set(70, b"161"), Wants::Reply(12)),
     (
         "a code of two digits",
         800,
         Set(70, b"01"),
-        Asked::Reply(30),
+        Wants::Reply(30),
     ),
     (
         "a letter in the code",
         800,
         Set(70, b"30A"),
-        Asked::Reply(30),
+        Wants::Reply(30),
     ),
-    ("without a code", 800, Nothing, Asked::Reply(30)),
+    ("without a code", 800, Nothing, Wants::Reply(30)),
 ];
-
-#[test]
-fn messages_ask(rt: HostRuntime) -> Result<(), Fail> {
-    let alloc = rt.alloc();
-    check_asked(alloc, "a payment", PAYMENT, PAYMENTS)?;
-    check_asked(alloc, "a refused payment", PAYMENT, REFUSED_PAYMENTS)?;
-    check_asked(alloc, "a reversal", REVERSAL, REVERSALS)?;
-    check_asked(
-        alloc,
-        "a network message",
-        &[(7, b"0102030405")],
-        NETWORK_MESSAGES,
-    )
-}
