@@ -1,34 +1,29 @@
 //! A day of frames, and a host that serves it with each of its calls failing in turn. The day is a purchase, its repeat, three
 //! bytes that are no message, a second purchase, and the reversal of the first.
 
-use super::ends::{Reader, Writer};
-use super::frames::{
-    GRANTED, PURCHASE, REPEAT, REVERSAL, REVERSED, SECOND, SECOND_GRANTED, end_of, has_entered,
-    issuer, join,
-};
-use iso_host::{Report, ServeFault};
+use super::ends::Writer;
+use super::frames::{end_of, has_entered, issuer};
+use iso_fakes::{FewBytes, check};
+use iso_host::{Report, ServeFault, Std};
 use iso_issuer::Issuer;
 use iso_table::Table;
-use iso_wire::Header;
 use std::alloc::Global;
 use std::test::Fail;
 
 /// The frames of the day.
-const FRAMES: &[&[u8]] = &[
-    b"0082", PURCHASE, b"0082", REPEAT, b"0003abc", b"0082", SECOND, b"0101", REVERSAL,
-];
+const FRAMES: &[u8] =
+    b"00820200722000010000800016411111111111111100000000000000100001020304050000070512345840\
+00820201722000010000800016411111111111111100000000000000100001020304050000070512345840\
+0003abc\
+00820200722000010000800016411111111111111100000000000000100001020304050000100512345840\
+010104208220000100000000000000400000000001020305000000080512345020000000701020304050000001234500000000000";
 
 /// The frames of the answers.
-const ANSWERS: &[&[u8]] = &[
-    b"0090",
-    GRANTED,
-    b"0090",
-    GRANTED,
-    b"0090",
-    SECOND_GRANTED,
-    b"0103",
-    REVERSED,
-];
+const ANSWERS: &[u8] =
+    b"0090021072200001060080001641111111111111110000000000000010000102030405000007051234500000100840\
+0090021072200001060080001641111111111111110000000000000010000102030405000007051234500000100840\
+0090021072200001060080001641111111111111110000000000000010000102030405000010051234500000200840\
+01030430822000010200000000000040000000000102030500000008051234500020000000701020304050000001234500000000000";
 
 /// The report of the whole day.
 const WHOLE: Report = Report {
@@ -89,77 +84,67 @@ const MARKS: &[Mark] = &[
     },
 ];
 
-/// The day: the table that it is written in, its frames, and their answers.
+/// The day served once: how it ended, how many reads were made and how many bytes are left of its frames, and its writer.
 #[derive(Drop)]
-struct Day {
-    table: Table,
-    frames: Vec<u8>,
-    answers: Vec<u8>,
-}
-
-impl Day {
-    fn new(alloc: Global) -> Result<Day, Fail> {
-        Ok(Day {
-            table: Table::ascii87(alloc)?,
-            frames: join(alloc, FRAMES)?,
-            answers: join(alloc, ANSWERS)?,
-        })
-    }
-}
-
-/// The day served once: how it ended, and its reader and its writer then.
-#[derive(Drop)]
-struct Run<'a> {
+struct Run {
     ended: Option<Result<Report, ServeFault>>,
-    reader: Reader<'a>,
+    reads: u32,
+    left: usize,
     writer: Writer,
 }
 
-/// The read that fails, the write or flush that does, and the turns, where serving is to end with this fault once so many
-/// calls are made. No call fails at 0. A fault that is neither is that of the turns.
+/// More reads than the day takes.
+const MANY: u32 = 10_000;
+
+/// The reads before one fails, the write or flush that fails, and the turns, where serving is to end with this fault once so
+/// many calls are made. No write or flush fails at 0. A fault that is neither is that of the turns.
 fn failing(fault: ServeFault, calls: u32) -> (u32, u32, u64) {
     match fault {
-        ServeFault::Read => (calls.saturating_add(1), 0, 1000),
-        ServeFault::Write => (0, calls.saturating_add(1), 1000),
-        _ => (0, 0, u64::from(calls)),
+        ServeFault::Read => (calls, 0, 1000),
+        ServeFault::Write => (MANY, calls.saturating_add(1), 1000),
+        _ => (MANY, 0, u64::from(calls)),
     }
 }
 
 /// Serves the day by that issuer, so that it ends with this fault once so many calls are made.
-fn serve_day<'a>(
+fn serve_day(
     alloc: Global,
-    day: &'a Day,
+    table: &Table,
     issuer: &mut Issuer,
     piece: usize,
     fault: ServeFault,
     calls: u32,
-) -> Run<'a> {
-    let (read, write, turns) = failing(fault, calls);
-    let mut reader = Reader::new(&day.frames, piece, read);
-    let mut writer = Writer::new(alloc, piece, write);
+) -> Run {
+    let (reads, fails_at, turns) = failing(fault, calls);
+    let mut few = FewBytes {
+        bytes: FRAMES,
+        piece,
+        calls: reads,
+    };
+    let mut writer = Writer::new(alloc, piece, fails_at);
     let ended = end_of(
         alloc,
-        &day.table,
-        Header::Ascii4,
+        table,
         issuer,
-        &mut reader,
+        &mut Std::new(&mut few),
         &mut writer,
         turns,
     );
     Run {
         ended,
-        reader,
+        reads: reads.saturating_sub(few.calls),
+        left: few.bytes.len(),
         writer,
     }
 }
 
 /// How many calls were made, of those at which serving can end with this fault.
-fn calls_made(run: &Run<'_>, fault: ServeFault) -> u32 {
-    let (reads, writes) = (run.reader.reads, run.writer.writes);
+fn calls_made(run: &Run, fault: ServeFault) -> u32 {
+    let writes = run.writer.writes;
     match fault {
-        ServeFault::Read => reads,
+        ServeFault::Read => run.reads,
         ServeFault::Write => writes.saturating_add(run.writer.flushes),
-        _ => reads.saturating_add(writes),
+        _ => run.reads.saturating_add(writes),
     }
 }
 
@@ -182,18 +167,18 @@ fn stands(issuer: &Issuer, fault: ServeFault, read: usize, written: usize) -> bo
 }
 
 /// Whether the day ended with this fault once so many calls were made, and stands as it should.
-fn has_ended(run: &Run<'_>, day: &Day, issuer: &Issuer, fault: ServeFault, calls: u32) -> bool {
+fn has_ended(run: &Run, issuer: &Issuer, fault: ServeFault, calls: u32) -> bool {
     let written = run.writer.taken.as_slice();
-    let read = day.frames.len().saturating_sub(run.reader.bytes.len());
+    let read = FRAMES.len().saturating_sub(run.left);
     run.ended == Some(Err(fault))
         && (fault != ServeFault::TooManyTurns || calls_made(run, fault) == calls)
-        && day.answers.starts_with(written)
+        && ANSWERS.starts_with(written)
         && stands(issuer, fault, read, written.len())
 }
 
 /// Whether the day was served whole.
-fn is_whole(run: &Run<'_>, day: &Day) -> bool {
-    run.ended == Some(Ok(WHOLE)) && run.writer.taken.as_slice() == day.answers.as_slice()
+fn is_whole(run: &Run) -> bool {
+    run.ended == Some(Ok(WHOLE)) && run.writer.taken.as_slice() == ANSWERS
 }
 
 /// What comes of a day that is to end with a fault once so many calls are made.
@@ -208,87 +193,93 @@ enum DayEnd {
 }
 
 /// What came of the day.
-fn day_end(run: &Run<'_>, day: &Day, issuer: &Issuer, fault: ServeFault, calls: u32) -> DayEnd {
-    if has_ended(run, day, issuer, fault, calls) {
+fn day_end(run: &Run, issuer: &Issuer, fault: ServeFault, calls: u32) -> DayEnd {
+    if has_ended(run, issuer, fault, calls) {
         DayEnd::Fault
-    } else if is_whole(run, day) && calls_made(run, fault) == calls {
+    } else if is_whole(run) && calls_made(run, fault) == calls {
         DayEnd::Whole
     } else {
         DayEnd::Wrong
     }
 }
 
-/// What comes of the day, where it gets all its answers once it is sent again to the same issuer.
-fn serve_twice(
+/// Whether the day gets all its answers where it is sent again to the issuer.
+fn is_answered_again(alloc: Global, table: &Table, issuer: &mut Issuer) -> bool {
+    is_whole(&serve_day(alloc, table, issuer, 4096, ServeFault::TooManyTurns, 1000))
+}
+
+/// What comes of the day by that issuer.
+fn serve_once(
     alloc: Global,
-    day: &Day,
+    table: &Table,
     issuer: &mut Issuer,
     piece: usize,
     fault: ServeFault,
     calls: u32,
 ) -> DayEnd {
-    let run = serve_day(alloc, day, issuer, piece, fault, calls);
-    let end = day_end(&run, day, issuer, fault, calls);
-    let again = serve_day(alloc, day, issuer, 4096, ServeFault::TooManyTurns, 1000);
-    if is_whole(&again, day) {
-        end
-    } else {
-        DayEnd::Wrong
+    let run = serve_day(alloc, table, issuer, piece, fault, calls);
+    day_end(&run, issuer, fault, calls)
+}
+
+/// What comes of the day by an issuer of its own, where it gets all its answers once it is sent again.
+fn serve_anew(alloc: Global, table: &Table, piece: usize, fault: ServeFault, calls: u32) -> DayEnd {
+    match issuer(alloc, false) {
+        Some(mut issuer) => {
+            let end = serve_once(alloc, table, &mut issuer, piece, fault, calls);
+            if is_answered_again(alloc, table, &mut issuer) {
+                end
+            } else {
+                DayEnd::Wrong
+            }
+        }
+        None => DayEnd::Wrong,
     }
-}
-
-/// What comes of the day by an issuer of its own.
-fn serve_anew(
-    alloc: Global,
-    day: &Day,
-    piece: usize,
-    fault: ServeFault,
-    calls: u32,
-) -> Result<DayEnd, Fail> {
-    let mut issuer = issuer(alloc, false)?;
-    Ok(serve_twice(alloc, day, &mut issuer, piece, fault, calls))
-}
-
-/// The failure of a test where the day ends otherwise behind so many calls.
-fn wrong_end(piece: usize, fault: ServeFault, calls: u32) -> Fail {
-    Fail::new(format_args!("{piece} bytes a call: {fault} behind {calls} calls"))
 }
 
 /// Serves the day with this fault behind each count of calls, up to those that the whole day takes, where a call moves so
-/// many bytes.
-fn check_each_call(alloc: Global, day: &Day, piece: usize, fault: ServeFault) -> Result<(), Fail> {
+/// many bytes. Gives the first count behind which it ends otherwise.
+fn wrong_call(alloc: Global, table: &Table, piece: usize, fault: ServeFault) -> Option<u32> {
     for calls in 0..1000 {
-        match serve_anew(alloc, day, piece, fault, calls)? {
+        match serve_anew(alloc, table, piece, fault, calls) {
             DayEnd::Fault => {}
-            DayEnd::Whole => return Ok(()),
-            DayEnd::Wrong => return Err(wrong_end(piece, fault, calls)),
+            DayEnd::Whole => return None,
+            DayEnd::Wrong => return Some(calls),
         }
     }
-    Err(wrong_end(piece, fault, 1000))
+    Some(1000)
 }
 
-/// Serves the day so in pieces of any size.
-fn check_each_piece(alloc: Global, day: &Day, fault: ServeFault) -> Result<(), Fail> {
-    for piece in 1..=day.frames.len().saturating_add(1) {
-        check_each_call(alloc, day, piece, fault)?;
+/// Whether the day is served with this fault in pieces of that size: with fewer turns than it takes in three sizes, of which
+/// the last has the whole day.
+fn is_tried(piece: usize, fault: ServeFault) -> bool {
+    fault != ServeFault::TooManyTurns || matches!(piece, 7 | 64 | 371)
+}
+
+/// Serves the day so in pieces of each size up to the whole day.
+fn check_pieces(alloc: Global, table: &Table, fault: ServeFault) -> Result<(), Fail> {
+    for piece in 1..=371 {
+        if is_tried(piece, fault)
+            && let Some(calls) = wrong_call(alloc, table, piece, fault)
+        {
+            return Err(Fail::new(format_args!(
+                "{piece} bytes a call: {fault} behind {calls} calls"
+            )));
+        }
     }
     Ok(())
 }
 
-#[test]
-fn each_write_and_flush_fails(rt: HostRuntime) -> Result<(), Fail> {
-    check_each_piece(rt.alloc(), &Day::new(rt.alloc())?, ServeFault::Write)
+/// Serves the day with each write and flush failing, with each read failing, and with fewer turns than it takes.
+fn check_day(alloc: Global, table: &Table) -> Result<(), Fail> {
+    check_pieces(alloc, table, ServeFault::Write)?;
+    check_pieces(alloc, table, ServeFault::Read)?;
+    check_pieces(alloc, table, ServeFault::TooManyTurns)
 }
 
-/// Serves the day with each of its reads failing in turn, and, in pieces of three sizes, with fewer turns than it takes.
-fn check_reads_and_turns(alloc: Global, day: &Day) -> Result<(), Fail> {
-    for piece in &[7, 64, 4096] {
-        check_each_call(alloc, day, *piece, ServeFault::TooManyTurns)?;
+#[test]
+fn each_call_fails_and_the_turns_are_spent(rt: HostRuntime) -> Result<(), Fail> {
+    match Table::ascii87(rt.alloc()) {
+        Ok(table) => check_day(rt.alloc(), &table),
+        Err(_) => check(false, "the table"),
     }
-    check_each_piece(alloc, day, ServeFault::Read)
-}
-
-#[test]
-fn each_read_fails_and_the_turns_are_spent(rt: HostRuntime) -> Result<(), Fail> {
-    check_reads_and_turns(rt.alloc(), &Day::new(rt.alloc())?)
 }

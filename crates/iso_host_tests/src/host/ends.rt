@@ -1,50 +1,8 @@
-//! A reader and a writer that move a few bytes a call, and of whose calls one fails.
+//! A writer that moves a few bytes a call, and of whose calls one fails.
 ghost use Rattle.std.specs.Prelude.{Some};
 
-use iso_host::{Call, Failed, Inlet, Outlet, Tally};
+use iso_host::{Call, Failed, Outlet, Tally};
 use std::alloc::Global;
-
-/// Gives at most so many bytes a read, and at least one. One of its reads fails, counted from 1; with 0 none does.
-#[derive(Drop)]
-pub struct Reader<'a> {
-    pub bytes: &'a [u8],
-    pub piece: usize,
-    pub fails_at: u32,
-    pub reads: u32,
-    pub tally: Tally,
-}
-
-impl<'a> Reader<'a> {
-    pub fn new(bytes: &'a [u8], piece: usize, fails_at: u32) -> Reader<'a> {
-        Reader {
-            bytes,
-            piece,
-            fails_at,
-            reads: 0,
-            tally: Tally::new(),
-        }
-    }
-}
-
-impl<'a> Inlet for Reader<'a> {
-    ghost remaining = { λ r. Some r.bytes.now };
-
-    ghost counts = { λ r. r.tally.counts };
-
-    fn read(&mut self, buffer: &mut [u8]) -> Result<usize, Failed> {
-        self.reads = self.reads.saturating_add(1);
-        if self.reads == self.fails_at {
-            self.tally = self.tally.then(&Call::Failed);
-            return Err(Failed);
-        }
-        let count = self.bytes.len().min(self.piece.max(1)).min(buffer.len());
-        let (front, rest) = self.bytes.split_at(count);
-        buffer[..count].copy_from_slice(front);
-        self.bytes = rest;
-        self.tally = self.tally.then(&Call::Read(count));
-        Ok(count)
-    }
-}
 
 /// Takes at most so many bytes a write, and at least one. One of its writes and flushes fails, counted together from 1;
 /// with 0 none does.
