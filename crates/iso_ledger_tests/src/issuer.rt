@@ -114,13 +114,18 @@ struct Day {
 /// How many orders a journal can take at most.
 const MOST_ORDERS: u32 = 999_999;
 
-/// Whether that is in the books of an issuer.
-fn has_books(issuer: &Issuer, books: Books) -> bool {
-    let (entries, ledger, available) = books;
-    match Pan::from_digits(ACCOUNT) {
+/// Whether so many orders are entered, and that is on the account of these digits, and available.
+fn has_books(
+    issuer: &Issuer,
+    digits: &[u8],
+    entries: u32,
+    ledger: Option<i64>,
+    available: Option<i64>,
+) -> bool {
+    match Pan::from_digits(digits) {
         Some(pan) => {
             (issuer.len(), issuer.ledger(pan), issuer.available(pan))
-                == (entries, Some(ledger), Some(available))
+                == (entries, ledger, available)
         }
         None => false,
     }
@@ -140,9 +145,12 @@ fn is_told(told: Result<Answer, Refused>, expected: Told) -> bool {
 
 /// Whether a step is told what it should be, and leaves those books.
 fn is_step(issuer: &mut Issuer, step: &Step) -> bool {
-    let (_, asked, told, books) = step;
+    let (_, asked, told, (entries, ledger, available)) = step;
     match order(asked) {
-        Some(order) => is_told(told_of(issuer, order), *told) && has_books(issuer, *books),
+        Some(order) => {
+            is_told(told_of(issuer, order), *told)
+                && has_books(issuer, ACCOUNT, *entries, Some(*ledger), Some(*available))
+        }
         None => false,
     }
 }
@@ -306,7 +314,8 @@ fn runs_three(alloc: Global, issuer: &mut Issuer) -> bool {
 fn a_list_is_run(rt: HostRuntime) -> Result<(), Fail> {
     let is_run = match issuer(rt.alloc(), OF_5000, 1) {
         Some(mut issuer) => {
-            runs_three(rt.alloc(), &mut issuer) && has_books(&issuer, (1, 4000, 4000))
+            runs_three(rt.alloc(), &mut issuer)
+                && has_books(&issuer, ACCOUNT, 1, Some(4000), Some(4000))
         }
         None => false,
     };

@@ -139,15 +139,6 @@ fn wrong_of(alloc: Global, schedule: &Schedule) -> Option<&'static str> {
     }
 }
 
-#[test]
-fn both_ends_agree_event_by_event(rt: HostRuntime) -> Result<(), Fail> {
-    for schedule in SCHEDULES {
-        let wrong = wrong_of(rt.alloc(), schedule);
-        check_of(wrong.is_none(), schedule.name, wrong.unwrap_or(""))?;
-    }
-    Ok(())
-}
-
 /// Hands over a list of events, and tells how many were refused.
 fn refused_count(world: &mut World) -> Option<u32> {
     let begun = begin(1000)?;
@@ -180,6 +171,10 @@ fn is_run(alloc: Global) -> bool {
 }
 
 #[test]
-fn a_list_is_run(rt: HostRuntime) -> Result<(), Fail> {
-    check(is_run(rt.alloc()), "what the list leaves")
+fn both_ends_agree_event_by_event(rt: HostRuntime) -> Result<(), Fail> {
+    for schedule in SCHEDULES {
+        let wrong = wrong_of(rt.alloc(), schedule);
+        check_of(wrong.is_none(), schedule.name, wrong.unwrap_or(""))?;
+    }
+    check(is_run(rt.alloc()), "what a list of events leaves")
 }

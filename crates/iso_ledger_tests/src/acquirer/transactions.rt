@@ -280,10 +280,11 @@ fn wrong_step(acquirer: &mut Acquirer, steps: &[Step]) -> Option<&'static str> {
     None
 }
 
-/// The name of the first step that isn't so, behind so many debits.
-fn wrong_behind(acquirer: &mut Acquirer, count: u32, steps: &[Step]) -> Option<&'static str> {
-    if begin_all(acquirer, count) {
-        wrong_step(acquirer, steps)
+/// The name of the first step that isn't so, of a new acquirer behind so many debits.
+fn wrong_behind(alloc: Global, count: u32, steps: &[Step]) -> Option<&'static str> {
+    let mut acquirer = Acquirer::new(alloc, ID);
+    if begin_all(&mut acquirer, count) {
+        wrong_step(&mut acquirer, steps)
     } else {
         Some("the debits before")
     }
@@ -292,7 +293,7 @@ fn wrong_behind(acquirer: &mut Acquirer, count: u32, steps: &[Step]) -> Option<&
 #[test]
 fn an_acquirer_asks_again_and_reverses(rt: HostRuntime) -> Result<(), Fail> {
     for (name, count, steps) in LISTS {
-        let wrong = wrong_behind(&mut Acquirer::new(rt.alloc(), ID), *count, *steps);
+        let wrong = wrong_behind(rt.alloc(), *count, *steps);
         check_of(wrong.is_none(), *name, wrong.unwrap_or(""))?;
     }
     Ok(())

@@ -21,20 +21,10 @@ const BALANCES: &[(&str, &[u8], &[u8], Option<i64>)] = &[
     ("no account", NO_ACCOUNTS, b"01", None),
 ];
 
-/// Whether no order is entered, that is on the account of these digits, and all of it available.
-fn has_balance(issuer: &Issuer, digits: &[u8], balance: Option<i64>) -> bool {
-    match Pan::from_digits(digits) {
-        Some(pan) => {
-            (issuer.len(), issuer.ledger(pan), issuer.available(pan)) == (0, balance, balance)
-        }
-        None => false,
-    }
-}
-
 /// Whether an issuer of the accounts of a document begins with that on the account of these digits.
 fn opens(alloc: Global, text: &[u8], digits: &[u8], balance: Option<i64>) -> bool {
     match issuer(alloc, text, 2) {
-        Some(issuer) => has_balance(&issuer, digits, balance),
+        Some(issuer) => has_books(&issuer, digits, 0, balance, balance),
         None => false,
     }
 }
