@@ -102,40 +102,43 @@ fn answered_count(answers: &[Result<Answer, Refused>]) -> u32 {
     count
 }
 
-/// Whether all three are entered, in any order.
-fn are_entered(issuer: &Issuer, answers: &[Result<Answer, Refused>]) -> bool {
-    answered_count(answers) == 3 && issuer.len() == 3 && balances(issuer) == Some((2000, 2000))
-}
-
 /// Whether those that were answered are entered, and no other.
 fn is_as_answered(issuer: &Issuer, count: u32) -> bool {
     let left = 5000 - 1000 * i64::from(count.min(3));
     issuer.len() == count && balances(issuer) == Some((left, left))
 }
 
+/// Three purchases of 10.00.
+fn purchases() -> Option<[Order; 3]> {
+    Some([
+        debit(200, 1, 1000)?,
+        debit(200, 2, 1000)?,
+        debit(200, 3, 1000)?,
+    ])
+}
+
+/// Runs the orders: how many were answered, where they were handled.
+fn run_count(alloc: Global, issuer: &mut Issuer, orders: &[Order]) -> Option<u32> {
+    match issuer.run(alloc, orders) {
+        Ok(answers) => Some(answered_count(&answers)),
+        Err(_) => None,
+    }
+}
+
 /// Runs three purchases, and runs them again where one was refused or none was handled: what was answered stays so.
 fn runs(alloc: Global) -> Ended {
-    let Some(mut issuer) = issuer(alloc) else {
+    let (Some(mut issuer), Some(orders)) = (issuer(alloc), purchases()) else {
         return Ended::Unready;
     };
-    let (Some(a), Some(b), Some(c)) = (
-        debit(200, 1, 1000),
-        debit(200, 2, 1000),
-        debit(200, 3, 1000),
-    ) else {
-        return Ended::Wrong;
-    };
-    let count = match issuer.run(alloc, &[a, b, c]) {
-        Ok(answers) => answered_count(&answers),
-        Err(_) => 0,
-    };
+    let count = run_count(alloc, &mut issuer, &orders).unwrap_or(0);
     if !is_as_answered(&issuer, count) {
         return Ended::Wrong;
     }
-    match issuer.run(alloc, &[a, b, c]) {
-        Ok(answers) => Ended::of(count < 3, are_entered(&issuer, &answers)),
-        Err(_) if count == 3 && is_as_answered(&issuer, 3) => Ended::Unready,
-        Err(_) => Ended::Wrong,
+    let again = run_count(alloc, &mut issuer, &orders);
+    match (again, is_as_answered(&issuer, 3)) {
+        (Some(3), are_entered) => Ended::of(count < 3, are_entered),
+        (None, true) if count == 3 => Ended::Unready,
+        _ => Ended::Wrong,
     }
 }
 

@@ -56,22 +56,34 @@ fn is_whole(told: &Option<Result<Report, ServeFault>>, issuer: &Issuer) -> bool 
     is_told && issuer.len() == 1 && balances(issuer) == Some((4000, 4000))
 }
 
+/// Serves the input into no output: whether both frames were answered, and the output is whole.
+fn serves_again(
+    alloc: Global,
+    table: &Table,
+    issuer: &mut Issuer,
+    input: &[u8],
+    written: &mut Vec<u8>,
+) -> bool {
+    written.clear();
+    let told = serve_input(alloc, table, issuer, input, written);
+    is_whole(&told, issuer)
+}
+
 /// Serves a purchase and its repeat, and serves them again where memory ran out: what was posted is posted once.
 fn serves_frames(alloc: Global, table: &Table, input: &[u8], output: &[u8]) -> Ended {
     let (Some(mut issuer), Some(mut written)) = (issuer(alloc), frame_bytes(alloc, &[])) else {
         return Ended::Unready;
     };
-    let mut told = serve_input(alloc, table, &mut issuer, input, &mut written);
-    let was_refused = told == Some(Err(ServeFault::Memory));
-    if was_refused {
-        if !is_as_written(&issuer, &written, output) {
-            return Ended::Wrong;
-        }
-        written.clear();
-        told = serve_input(alloc, table, &mut issuer, input, &mut written);
+    let told = serve_input(alloc, table, &mut issuer, input, &mut written);
+    if told != Some(Err(ServeFault::Memory)) {
+        return Ended::of(
+            false,
+            is_whole(&told, &issuer) && written.as_slice() == output,
+        );
     }
-    let is_right = is_whole(&told, &issuer) && written.as_slice() == output;
-    Ended::of(was_refused, is_right)
+    let is_front = is_as_written(&issuer, &written, output);
+    let is_whole = serves_again(alloc, table, &mut issuer, input, &mut written);
+    Ended::of(true, is_front && is_whole && written.as_slice() == output)
 }
 
 fn serves(alloc: Global) -> Ended {

@@ -248,6 +248,36 @@ fn feeds_two_pieces(alloc: Global) -> Ended {
     )
 }
 
+/// Reads the purchase, and reads it again where memory ran out: whether it did, and whether it was read.
+fn unpacks_beside(alloc: Global, unpacker: &mut Unpacker<'_>, message: &Message) -> (bool, bool) {
+    let mut told = unpacker.unpack(alloc, PURCHASE);
+    let was_refused = matches!(&told, Err(fault) if is_memory(fault));
+    if was_refused {
+        told = unpacker.unpack(alloc, PURCHASE);
+    }
+    let is_read = matches!(&told, Ok((read, used)) if read.equals(message) && *used == 82);
+    (was_refused, is_read)
+}
+
+/// Whether the rest ends the message, where memory doesn't run out.
+fn ends(
+    alloc: Global,
+    unpacker: &mut Unpacker<'_>,
+    rest: &[u8],
+    message: &Message,
+) -> Option<bool> {
+    match unpacker.feed(alloc, rest) {
+        Ok(
+            Fed::Done {
+                message: fed,
+                used: 52,
+            },
+        ) => Some(fed.equals(message)),
+        Err(fault) if is_memory(&fault) => None,
+        _ => Some(false),
+    }
+}
+
 /// Reads a message between two pieces that are fed: the first piece stays.
 fn unpacks_between(alloc: Global) -> Ended {
     let (Ok(table), Some(message)) = (Table::ascii87(alloc), purchase(alloc, 200)) else {
@@ -258,21 +288,11 @@ fn unpacks_between(alloc: Global) -> Ended {
     let Ok(Fed::More) = unpacker.feed(alloc, front) else {
         return Ended::Unready;
     };
-    let mut told = unpacker.unpack(alloc, PURCHASE);
-    let was_refused = matches!(&told, Err(fault) if is_memory(fault));
-    if was_refused {
-        told = unpacker.unpack(alloc, PURCHASE);
-    }
-    let is_read = matches!(&told, Ok((read, used)) if read.equals(&message) && *used == 82);
-    match unpacker.feed(alloc, rest) {
-        Ok(
-            Fed::Done {
-                message: fed,
-                used: 52,
-            },
-        ) => Ended::of(was_refused, is_read && fed.equals(&message)),
-        Err(fault) if is_memory(&fault) && is_read && !was_refused => Ended::Unready,
-        _ => Ended::Wrong,
+    let (was_refused, is_read) = unpacks_beside(alloc, &mut unpacker, &message);
+    match ends(alloc, &mut unpacker, rest, &message) {
+        Some(is_ended) => Ended::of(was_refused, is_read && is_ended),
+        None if is_read && !was_refused => Ended::Unready,
+        None => Ended::Wrong,
     }
 }
 

@@ -5,11 +5,12 @@ use crate::known::{
     ACQUIRER, FIRST, GRANTED, PURCHASE, SENT, account, balances, debit, issuer, purchase,
 };
 use iso_acquirer::{Acquirer, State, World};
-use iso_order::{Answer, Verdict, answer_of, order_of, respond, respond_into};
+use iso_issuer::Issuer;
+use iso_order::{Answer, Order, Verdict, answer_of, order_of, respond, respond_into};
 use iso_parts::{Bitmap, BitmapStep, Judged, Mti, judge_field};
 use iso_table::Table;
 use iso_wire::{
-    Framed, Header, Unpacker, append_message, close_frame, pack, unframe, unpack, view,
+    Framed, Header, Message, Unpacker, append_message, close_frame, pack, unframe, unpack, view,
 };
 use std::alloc::Global;
 
@@ -76,7 +77,28 @@ fn responses(alloc: Global) -> Ended {
     Ended::of(false, told)
 }
 
-/// A view of the purchase, a frame that is read and one that is closed, and an unpacker before and after.
+/// Whether a view of the purchase shows its account number.
+fn is_seen(table: &Table) -> bool {
+    match view(table, PURCHASE) {
+        Ok(seen) => {
+            let account = seen.wire(2) == Some(b"4111111111111111".as_slice());
+            account && seen.wire(5).is_none() && (seen.mti().number(), seen.used()) == (200, 82)
+        }
+        Err(_) => false,
+    }
+}
+
+/// Whether a frame is read, and one is closed.
+fn are_framed() -> bool {
+    let framed = matches!(
+        unframe(Header::Ascii4, b"0002ab"),
+        Ok(Framed::Got { used: 6, .. })
+    );
+    let mut bytes = *b"..ab";
+    framed && close_frame(Header::Bcd2, &mut bytes).is_ok() && bytes == *b"\x00\x02ab"
+}
+
+/// A view of the purchase, frames, and an unpacker before and after it is reset.
 fn views(alloc: Global) -> Ended {
     let Ok(table) = Table::ascii87(alloc) else {
         return Ended::Unready;
@@ -84,23 +106,29 @@ fn views(alloc: Global) -> Ended {
     let mut unpacker = Unpacker::new(alloc, &table);
     let was_empty = unpacker.held() == 0;
     unpacker.reset();
-    let seen = match view(&table, PURCHASE) {
-        Ok(seen) => {
-            let account = seen.wire(2) == Some(b"4111111111111111".as_slice());
-            account && seen.wire(5).is_none() && (seen.mti().number(), seen.used()) == (200, 82)
-        }
-        Err(_) => false,
-    };
-    let framed = matches!(
-        unframe(Header::Ascii4, b"0002ab"),
-        Ok(Framed::Got { used: 6, .. })
-    );
-    let mut bytes = *b"..ab";
-    let closed = close_frame(Header::Bcd2, &mut bytes).is_ok() && bytes == *b"\x00\x02ab";
+    let is_empty = unpacker.held() == 0;
     Ended::of(
         false,
-        was_empty && seen && framed && closed && unpacker.held() == 0,
+        was_empty && is_empty && is_seen(&table) && are_framed(),
     )
+}
+
+/// Whether the purchase is written over bytes that have the room.
+fn is_written(table: &Table, message: &Message, bytes: &mut Vec<u8>) -> bool {
+    bytes.clear();
+    append_message(table, message, bytes).is_ok() && bytes.as_slice() == PURCHASE
+}
+
+/// Whether the purchase is read into a message that has the room, and another is begun there.
+fn is_read(alloc: Global, unpacker: &mut Unpacker<'_>, message: &Message) -> bool {
+    match unpacker.unpack(alloc, PURCHASE) {
+        Ok((mut again, 82)) => {
+            let is_same = again.equals(message);
+            let is_begun = again.start_over(message.mti(), 7, 58).is_ok();
+            is_same && is_begun && again.get(11).is_none()
+        }
+        _ => false,
+    }
 }
 
 /// A message that is read, and bytes that are written, in memory that has the room.
@@ -116,20 +144,8 @@ fn messages_in_place(alloc: Global) -> Ended {
         return Ended::Unready;
     };
     unpacker.reuse(read);
-    bytes.clear();
-    let is_written = append_message(&table, &message, &mut bytes).is_ok()
-        && bytes.as_slice() == PURCHASE;
-    match unpacker.unpack(alloc, PURCHASE) {
-        Ok((mut again, 82)) => {
-            let is_read = again.equals(&message);
-            let is_begun = again.start_over(message.mti(), 7, 58).is_ok();
-            Ended::of(
-                false,
-                is_written && is_read && is_begun && again.get(11).is_none(),
-            )
-        }
-        _ => Ended::Wrong,
-    }
+    let is_written = is_written(&table, &message, &mut bytes);
+    Ended::of(false, is_written && is_read(alloc, &mut unpacker, &message))
 }
 
 /// The answer to the first order that is declined.
@@ -154,7 +170,14 @@ fn responses_in_place(alloc: Global) -> Ended {
     Ended::of(false, is_made && made.get(39) == Some(b"51".as_slice()))
 }
 
-/// A known key, and a full journal.
+/// Whether an order that is known is answered as before, and another of its key is refused.
+fn is_repeated(issuer: &mut Issuer, first: Order, other: Order, answer: Answer) -> bool {
+    let again = issuer.handle(first) == Ok(answer);
+    let changed = matches!(issuer.handle(other), Ok(answer) if answer.code == 94);
+    again && changed && balances(issuer) == Some((4000, 4000))
+}
+
+/// A known key.
 fn repeats(alloc: Global) -> Ended {
     let (Some(mut issuer), Some(first), Some(other)) = (
         issuer(alloc),
@@ -163,15 +186,23 @@ fn repeats(alloc: Global) -> Ended {
     ) else {
         return Ended::Unready;
     };
-    let Ok(answer) = issuer.handle(first) else {
-        return Ended::Unready;
-    };
-    let again = issuer.handle(first) == Ok(answer);
-    let changed = matches!(issuer.handle(other), Ok(answer) if answer.code == 94);
-    Ended::of(
-        false,
-        again && changed && balances(&issuer) == Some((4000, 4000)),
-    )
+    match issuer.handle(first) {
+        Ok(answer) => Ended::of(false, is_repeated(&mut issuer, first, other, answer)),
+        Err(_) => Ended::Unready,
+    }
+}
+
+/// Whether a purchase that gets no answer is sent again, then reversed, and an answer comes too late.
+fn is_reversed(acquirer: &mut Acquirer, order: &Order) -> bool {
+    let again = matches!(acquirer.timeout(1), Ok(sent) if sent.is_same(order));
+    let reverses = acquirer.timeout(1).is_ok() && acquirer.state(1) == Some(State::Reversing);
+    acquirer.answer(order.key(), 0);
+    again && reverses && acquirer.state(1) == Some(State::Reversing)
+}
+
+/// Whether nothing was sent or given yet.
+fn is_new(world: &World) -> bool {
+    world.sent().is_empty() && world.given().is_empty()
 }
 
 /// What is sent where no answer came, and an answer to it.
@@ -183,13 +214,9 @@ fn acquirers(alloc: Global) -> Ended {
     let Ok(order) = acquirer.begin(pan, 1000, *b"840", SENT) else {
         return Ended::Unready;
     };
-    let again = matches!(acquirer.timeout(1), Ok(sent) if sent.is_same(&order));
-    let reverses = acquirer.timeout(1).is_ok() && acquirer.state(1) == Some(State::Reversing);
-    acquirer.answer(order.key(), 0);
-    let stays = acquirer.state(1) == Some(State::Reversing);
+    let is_reversed = is_reversed(&mut acquirer, &order);
     let world = World::new(Acquirer::new(alloc, ACQUIRER), issuer);
-    let (sent, given) = (world.sent().len(), world.given().len());
-    Ended::of(false, again && reverses && stays && (sent, given) == (0, 0))
+    Ended::of(false, is_reversed && is_new(&world))
 }
 
 /// These calls by name, and how each ended.

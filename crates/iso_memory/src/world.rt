@@ -105,25 +105,33 @@ fn steps(alloc: Global) -> Ended {
     Ended::of(was_refused, are_made && both_ends(&world) == wanted)
 }
 
+/// Runs a purchase and its answer: how many events were refused.
+fn run_purchase(world: &mut World, begin: Event) -> u32
+    requires { IsFairEvent begin }
+{
+    world.run(&[begin, Event::Deliver(0), Event::Answer(0)])
+}
+
+/// Whether the first purchase is approved, and entered once.
+fn is_approved(world: &World) -> bool {
+    let issuer = world.issuer();
+    let is_posted = issuer.len() == 1 && balances(issuer) == Some((4000, 4000));
+    is_posted && world.acquirer().state(1) == Some(State::Approved)
+}
+
 /// Runs a purchase and its answer, and runs them again where one was refused: then the purchase is approved, and so is
 /// a second one that was begun meanwhile.
 fn runs(alloc: Global) -> Ended {
     let (Some(mut world), Some(begin)) = (world(alloc), begin()) else {
         return Ended::Unready;
     };
-    let mut refused = world.run(&[begin, Event::Deliver(0), Event::Answer(0)]);
-    let was_refused = refused > 0;
-    let before = world.issuer().len();
-    if was_refused {
-        refused = world.run(&[begin, Event::Deliver(0), Event::Answer(0)]);
+    let refused = run_purchase(&mut world, begin);
+    if refused == 0 {
+        return Ended::of(false, is_approved(&world));
     }
-    let is_kept = before <= 1 && world.issuer().len() == 1;
-    let is_right = refused == 0 && balances(world.issuer()) == Some((4000, 4000));
-    let state = world.acquirer().state(1);
-    Ended::of(
-        was_refused,
-        is_kept && is_right && state == Some(State::Approved),
-    )
+    let is_kept = world.issuer().len() <= 1;
+    let is_whole = run_purchase(&mut world, begin) == 0;
+    Ended::of(true, is_kept && is_whole && is_approved(&world))
 }
 
 /// These calls by name, and how each ended.
