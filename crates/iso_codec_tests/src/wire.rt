@@ -23,18 +23,6 @@ macro_rules! counted {
     };
 }
 
-/// A table with element 48 alone: at most so many bytes as digits, behind four digits of a length.
-macro_rules! chips {
-    ($max:expr) => {
-        Rows(
-            0,
-            Digits::Ascii,
-            BitmapCoding::Hex,
-            &[(48, bytes!(Coding::HexText, Length::LLLL(Digits::Ascii), $max))],
-        )
-    };
-}
-
 mod cases;
 mod edits;
 mod frames;
@@ -96,47 +84,63 @@ const PACKED_ROWS: &[(u8, FieldSpec)] = &[
     (70, digits!(Bcd, 3)),
 ];
 
+/// The rows that take the message with the blank.
+const BLANK_ROWS: &[(u8, FieldSpec)] = &[
+    (41, text!(Length::Fixed, 6)),
+    (42, text!(Length::Fixed, 2)),
+];
+
 /// A table that messages are read under.
 #[derive(Clone, Copy)]
 enum Under {
-    /// The table of the 1987 edition whose numbers are of these digits.
-    Edition87(Digits),
-    /// The version, the digits of a type, the coding of bitmaps, and the rows.
-    Rows(u8, Digits, BitmapCoding, &'static [(u8, FieldSpec)]),
+    /// The table of the 1987 edition in ASCII.
+    Ascii87,
+    /// The one in BCD.
+    Bcd87,
+    /// Twelve rows in ASCII.
+    Ascii,
+    /// Three rows in BCD.
+    Packed,
+    /// A terminal alone.
+    Terminals,
+    /// A terminal alone, under bitmaps as they are.
+    RawTerminals,
+    /// What takes the message with the blank.
+    Blanks,
+    /// Element 48 alone: at most so many bytes as digits, behind four digits of a length.
+    Chips(u16),
 }
 
-use Under::{Edition87, Rows};
+use Under::{Ascii, Ascii87, Bcd87, Blanks, Chips, Packed, RawTerminals, Terminals};
 
-const ASCII87: Under = Edition87(Digits::Ascii);
+/// A table of these rows, whose type is in ASCII digits, and whose bitmaps are in hexadecimal ones.
+fn ascii_table(alloc: Global, rows: &[(u8, FieldSpec)]) -> Result<Table, TableFault> {
+    let draft = draft(alloc, 0, Digits::Ascii, BitmapCoding::Hex, rows)?;
+    Table::check(alloc, draft)
+}
 
-const BCD87: Under = Edition87(Digits::Bcd);
+/// A table of these rows, whose type is of these digits, and whose bitmaps stand as they are.
+fn raw_table(alloc: Global, mti: Digits, rows: &[(u8, FieldSpec)]) -> Result<Table, TableFault> {
+    let draft = draft(alloc, 0, mti, BitmapCoding::Raw, rows)?;
+    Table::check(alloc, draft)
+}
 
-const ASCII: Under = Rows(0, Digits::Ascii, BitmapCoding::Hex, ASCII_ROWS);
-
-const PACKED: Under = Rows(0, Digits::Bcd, BitmapCoding::Raw, PACKED_ROWS);
-
-/// The tables of a terminal alone.
-const TERMINALS: Under = Rows(0, Digits::Ascii, BitmapCoding::Hex, TERMINAL_ROWS);
-
-const RAW_TERMINALS: Under = Rows(0, Digits::Ascii, BitmapCoding::Raw, TERMINAL_ROWS);
-
-/// A table that takes the message with the blank.
-const BLANKS: Under = Rows(
-    0,
-    Digits::Ascii,
-    BitmapCoding::Hex,
-    &[(41, text!(Length::Fixed, 6)), (42, text!(Length::Fixed, 2))],
-);
-
-const CHIPS: Under = chips!(9_999);
+/// The row of that many bytes as digits, behind four digits of a length.
+fn chip_row(max: u16) -> FieldSpec {
+    bytes!(Coding::HexText, Length::LLLL(Digits::Ascii), max)
+}
 
 /// The table, made anew.
 fn table_of(alloc: Global, under: Under) -> Result<Table, TableFault> {
     match under {
-        Edition87(digits) => table87(alloc, digits),
-        Rows(version, mti, bitmap, rows) => {
-            Table::check(alloc, draft(alloc, version, mti, bitmap, rows)?)
-        }
+        Ascii87 => table87(alloc, Digits::Ascii),
+        Bcd87 => table87(alloc, Digits::Bcd),
+        Ascii => ascii_table(alloc, ASCII_ROWS),
+        Packed => raw_table(alloc, Digits::Bcd, PACKED_ROWS),
+        Terminals => ascii_table(alloc, TERMINAL_ROWS),
+        RawTerminals => raw_table(alloc, Digits::Ascii, TERMINAL_ROWS),
+        Blanks => ascii_table(alloc, BLANK_ROWS),
+        Chips(max) => ascii_table(alloc, &[(48, chip_row(max))]),
     }
 }
 

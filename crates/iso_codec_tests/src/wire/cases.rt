@@ -15,7 +15,7 @@ pub(super) struct Case {
     places: &'static [(u8, usize, usize)],
 }
 
-pub(super) const ECHO_CASE: Case = Case {
+const ECHO_CASE: Case = Case {
     name: "echo",
     bytes: ECHO,
     mti: 800,
@@ -25,7 +25,7 @@ pub(super) const ECHO_CASE: Case = Case {
     places: &[(7, 36, 46), (11, 46, 52), (70, 52, 55)],
 };
 
-pub(super) const PAYMENT_CASE: Case = Case {
+const PAYMENT_CASE: Case = Case {
     name: "payment",
     bytes: PAYMENT,
     mti: 200,
@@ -51,7 +51,7 @@ pub(super) const PAYMENT_CASE: Case = Case {
     ],
 };
 
-pub(super) const REVERSAL_CASE: Case = Case {
+const REVERSAL_CASE: Case = Case {
     name: "reversal",
     bytes: REVERSAL,
     mti: 420,
@@ -66,7 +66,7 @@ pub(super) const REVERSAL_CASE: Case = Case {
     places: &[(7, 36, 46), (11, 46, 52), (32, 54, 59), (90, 59, 101)],
 };
 
-pub(super) const NO_ELEMENT: Case = Case {
+const NO_ELEMENT: Case = Case {
     name: "no element",
     bytes: b"08000000000000000000",
     mti: 800,
@@ -76,7 +76,7 @@ pub(super) const NO_ELEMENT: Case = Case {
     places: &[],
 };
 
-pub(super) const EMPTY_SECONDARY: Case = Case {
+const EMPTY_SECONDARY: Case = Case {
     name: "an empty secondary bitmap",
     bytes: b"080080000000000000000000000000000000",
     mti: 800,
@@ -86,7 +86,7 @@ pub(super) const EMPTY_SECONDARY: Case = Case {
     places: &[],
 };
 
-pub(super) const LOWER_CASE: Case = Case {
+const LOWER_CASE: Case = Case {
     name: "a bitmap in lower case, and bytes behind",
     bytes: b"0800022a000000000000010203040500000101020103XYZ",
     mti: 800,
@@ -101,7 +101,7 @@ pub(super) const LOWER_CASE: Case = Case {
     places: &[(7, 20, 30), (11, 30, 36), (13, 36, 40), (15, 40, 44)],
 };
 
-pub(super) const PACKED_ECHO_CASE: Case = Case {
+const PACKED_ECHO_CASE: Case = Case {
     name: "echo under BCD",
     bytes: PACKED_ECHO,
     mti: 800,
@@ -161,23 +161,63 @@ const BLANK_CASE: Case = Case {
     places: &[(41, 20, 26), (42, 26, 28)],
 };
 
+/// The cases by name.
+#[derive(Clone, Copy)]
+pub(super) enum Known {
+    Echo,
+    Payment,
+    Reversal,
+    NoElement,
+    EmptySecondary,
+    LowerCase,
+    PackedEcho,
+    Filled,
+    Padded,
+    BlanksAlone,
+    Chip,
+    Blank,
+}
+
+use Known::{
+    Blank, BlanksAlone, Chip, Echo, EmptySecondary, Filled, LowerCase, NoElement, PackedEcho,
+    Padded, Payment, Reversal,
+};
+
+/// The case of that name.
+pub(super) fn case_of(known: Known) -> Case {
+    match known {
+        Echo => ECHO_CASE,
+        Payment => PAYMENT_CASE,
+        Reversal => REVERSAL_CASE,
+        NoElement => NO_ELEMENT,
+        EmptySecondary => EMPTY_SECONDARY,
+        LowerCase => LOWER_CASE,
+        PackedEcho => PACKED_ECHO_CASE,
+        Filled => FILLED_CASE,
+        Padded => PADDED_CASE,
+        BlanksAlone => BLANKS_ALONE,
+        Chip => CHIP_CASE,
+        Blank => BLANK_CASE,
+    }
+}
+
 /// Cases, each under a table.
-const CASES: &[(Under, Case)] = &[
-    (ASCII, ECHO_CASE),
-    (ASCII, PAYMENT_CASE),
-    (ASCII, NO_ELEMENT),
-    (ASCII, EMPTY_SECONDARY),
-    (ASCII, LOWER_CASE),
-    (ASCII87, PAYMENT_CASE),
-    (ASCII87, REVERSAL_CASE),
-    (ASCII87, PADDED_CASE),
-    (ASCII87, BLANKS_ALONE),
-    (PACKED, PACKED_ECHO_CASE),
-    (PACKED, FILLED_CASE),
-    (BCD87, PACKED_ECHO_CASE),
-    (BCD87, FILLED_CASE),
-    (CHIPS, CHIP_CASE),
-    (BLANKS, BLANK_CASE),
+const CASES: &[(Under, Known)] = &[
+    (Ascii, Echo),
+    (Ascii, Payment),
+    (Ascii, NoElement),
+    (Ascii, EmptySecondary),
+    (Ascii, LowerCase),
+    (Ascii87, Payment),
+    (Ascii87, Reversal),
+    (Ascii87, Padded),
+    (Ascii87, BlanksAlone),
+    (Packed, PackedEcho),
+    (Packed, Filled),
+    (Bcd87, PackedEcho),
+    (Bcd87, Filled),
+    (Chips(9_999), Chip),
+    (Blanks, Blank),
 ];
 
 /// Whether the message has that type, and these elements alone.
@@ -269,9 +309,10 @@ fn is_case(alloc: Global, table: &Table, case: &Case, out: &mut Vec<u8>) -> bool
 
 /// That each case is so.
 fn check_cases(alloc: Global, out: &mut Vec<u8>) -> Result<(), Fail> {
-    for (under, case) in CASES {
+    for (under, known) in CASES {
         let table = table_of(alloc, *under)?;
-        check(is_case(alloc, &table, case, out), case.name)?;
+        let case = case_of(*known);
+        check(is_case(alloc, &table, &case, out), case.name)?;
     }
     Ok(())
 }

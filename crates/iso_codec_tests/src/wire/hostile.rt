@@ -1,7 +1,8 @@
 //! Bytes that are no message, messages cut at every length, and every bit without a row: `unpack`, `view` and `feed` refuse them
 //! alike.
 
-use super::cases::{Case, ECHO_CASE, PACKED_ECHO_CASE, PAYMENT_CASE, REVERSAL_CASE};
+use super::cases::Known::{self, Echo, PackedEcho, Payment, Reversal};
+use super::cases::case_of;
 use super::pieces::{is_read_in, is_read_in_two};
 use super::stops::{
     BAD_FILLERS, BAD_LENGTHS, BAD_PACKED_PIECES_87, BAD_PIECES_87, BAD_TERMINALS, RAW_BITS,
@@ -15,13 +16,14 @@ use std::alloc::AllocError;
 fn check_cuts(
     alloc: Global,
     table: &Table,
-    case: Case,
+    known: Known,
     pieces: &[(usize, u8)],
 ) -> Result<(), Fail> {
+    let case = case_of(known);
     for size in 0..case.bytes.len() {
         let short = short_at(pieces, size);
         let is_cut = are_refused(alloc, table, &case.bytes[..size], short)
-            && is_read_in_two(alloc, table, case, size);
+            && is_read_in_two(alloc, table, known, size);
         check_at(is_cut, case.name, size)?;
     }
     Ok(())
@@ -140,40 +142,43 @@ fn check_bits(alloc: Global, table: &Table, marked: Marked) -> Result<(), Fail> 
 /// What is refused alike, or read in pieces as it is read whole.
 #[derive(Clone, Copy)]
 enum Alike {
-    Stops(&'static [Stop]),
     /// A message, and where each of its pieces begins, with its element.
-    Cuts(Case, &'static [(usize, u8)]),
+    Cuts(Known, &'static [(usize, u8)]),
     Bits(Marked),
     /// A message, the size of each piece, how often more is wanted, and how many bytes of the last piece are used.
-    Pieces(&'static str, Case, usize, usize, usize),
+    Pieces(&'static str, Known, usize, usize, usize),
 }
 
-use Alike::{Bits, Cuts, Pieces, Stops};
+use Alike::{Bits, Cuts, Pieces};
+
+/// Bytes that are no message under each table.
+const STOPS: &[(Under, &[Stop])] = &[
+    (Ascii, REFUSED_BYTES),
+    (Packed, BAD_FILLERS),
+    (Ascii87, BAD_PIECES_87),
+    (Bcd87, BAD_PACKED_PIECES_87),
+    (Terminals, BAD_TERMINALS),
+    (RawTerminals, RAW_BITS),
+    (Chips(9_998), BAD_LENGTHS),
+];
 
 /// What is so under each table.
 const ALIKE: &[(Under, Alike)] = &[
-    (ASCII, Stops(REFUSED_BYTES)),
-    (PACKED, Stops(BAD_FILLERS)),
-    (ASCII87, Stops(BAD_PIECES_87)),
-    (BCD87, Stops(BAD_PACKED_PIECES_87)),
-    (TERMINALS, Stops(BAD_TERMINALS)),
-    (RAW_TERMINALS, Stops(RAW_BITS)),
-    (chips!(9_998), Stops(BAD_LENGTHS)),
-    (ASCII87, Cuts(ECHO_CASE, ECHO_PIECES)),
-    (ASCII, Cuts(ECHO_CASE, ECHO_PIECES)),
-    (ASCII87, Cuts(PAYMENT_CASE, PAYMENT_PIECES)),
-    (ASCII87, Cuts(REVERSAL_CASE, REVERSAL_PIECES)),
-    (BCD87, Cuts(PACKED_ECHO_CASE, PACKED_ECHO_PIECES)),
-    (ASCII, marked!("echo", ECHO, 128)),
-    (ASCII, marked!("payment", PAYMENT, 64)),
-    (ASCII, marked!("reversal", REVERSAL, 128)),
-    (PACKED, raw_marked!("echo under BCD", PACKED_ECHO, 2, 128)),
+    (Ascii87, Cuts(Echo, ECHO_PIECES)),
+    (Ascii, Cuts(Echo, ECHO_PIECES)),
+    (Ascii87, Cuts(Payment, PAYMENT_PIECES)),
+    (Ascii87, Cuts(Reversal, REVERSAL_PIECES)),
+    (Bcd87, Cuts(PackedEcho, PACKED_ECHO_PIECES)),
+    (Ascii, marked!("echo", ECHO, 128)),
+    (Ascii, marked!("payment", PAYMENT, 64)),
+    (Ascii, marked!("reversal", REVERSAL, 128)),
+    (Packed, raw_marked!("echo under BCD", PACKED_ECHO, 2, 128)),
     (
-        RAW_TERMINALS,
+        RawTerminals,
         raw_marked!("one bit alone", b"0800\0\0\0\0\0\0\0\0", 4, 64),
     ),
     (
-        RAW_TERMINALS,
+        RawTerminals,
         raw_marked!(
             "one bit alone behind that of the secondary bitmap",
             b"0800\x80\0\0\0\0\0\0\0\0\0\0\0\0\0\0\0",
@@ -181,34 +186,42 @@ const ALIKE: &[(Under, Alike)] = &[
             128
         ),
     ),
-    (ASCII87, Pieces("one byte each", ECHO_CASE, 1, 54, 1)),
-    (ASCII87, Pieces("seven bytes each", ECHO_CASE, 7, 7, 6)),
-    (ASCII87, Pieces("54 bytes and one", ECHO_CASE, 54, 1, 1)),
-    (ASCII87, Pieces("all bytes", ECHO_CASE, 55, 0, 55)),
+    (Ascii87, Pieces("one byte each", Echo, 1, 54, 1)),
+    (Ascii87, Pieces("seven bytes each", Echo, 7, 7, 6)),
+    (Ascii87, Pieces("54 bytes and one", Echo, 54, 1, 1)),
+    (Ascii87, Pieces("all bytes", Echo, 55, 0, 55)),
     (
-        ASCII87,
-        Pieces("one byte each of a payment", PAYMENT_CASE, 1, 81, 1),
+        Ascii87,
+        Pieces("one byte each of a payment", Payment, 1, 81, 1),
     ),
     (
-        ASCII87,
-        Pieces("one byte each of a reversal", REVERSAL_CASE, 1, 100, 1),
+        Ascii87,
+        Pieces("one byte each of a reversal", Reversal, 1, 100, 1),
     ),
     (
-        BCD87,
-        Pieces("one byte each under BCD", PACKED_ECHO_CASE, 1, 27, 1),
+        Bcd87,
+        Pieces("one byte each under BCD", PackedEcho, 1, 27, 1),
     ),
 ];
 
 /// That it is so.
 fn check_alike(alloc: Global, table: &Table, alike: Alike) -> Result<(), Fail> {
     match alike {
-        Stops(stops) => check_stops(alloc, table, stops),
-        Cuts(case, pieces) => check_cuts(alloc, table, case, pieces),
+        Cuts(known, pieces) => check_cuts(alloc, table, known, pieces),
         Bits(marked) => check_bits(alloc, table, marked),
-        Pieces(name, case, size, wanted, used) => {
-            check(is_read_in(alloc, table, case, size, wanted, used), name)
+        Pieces(name, known, size, wanted, used) => {
+            check(is_read_in(alloc, table, known, size, wanted, used), name)
         }
     }
+}
+
+#[test]
+fn bytes_that_are_no_message_are_refused(rt: HostRuntime) -> Result<(), Fail> {
+    for (under, stops) in STOPS {
+        let table = table_of(rt.alloc(), *under)?;
+        check_stops(rt.alloc(), &table, *stops)?;
+    }
+    Ok(())
 }
 
 #[test]

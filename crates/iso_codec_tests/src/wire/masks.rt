@@ -233,6 +233,6 @@ fn check_prints(alloc: Global, table: &Table) -> Result<(), Fail> {
 
 #[test]
 fn values_and_messages_are_printed(rt: HostRuntime) -> Result<(), Fail> {
-    let table = table_of(rt.alloc(), ASCII87)?;
+    let table = table_of(rt.alloc(), Ascii87)?;
     check_prints(rt.alloc(), &table)
 }

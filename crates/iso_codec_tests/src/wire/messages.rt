@@ -41,7 +41,8 @@ const ASCENDING: Elements = &[(7, b"0102030405"), (11, b""), (70, b"301"), (128,
 /// A message whose elements are set in that order, what is done to it, and what holds of it then.
 type Made = (&'static str, u16, Elements, &'static [Edit], Fact);
 
-const MESSAGES: &[Made] = &[
+/// What an element has.
+const VALUES: &[Made] = &[
     ("nothing set", 100, &[], &[], Value(3, None)),
     (
         "one value",
@@ -99,6 +100,10 @@ const MESSAGES: &[Made] = &[
         &[],
         Value(3, Some(b"")),
     ),
+];
+
+/// Which number a value writes.
+const NUMBERS: &[Made] = &[
     (
         "another element",
         100,
@@ -137,6 +142,10 @@ const MESSAGES: &[Made] = &[
         Number(11, None),
     ),
     ("a sign", 100, &[(11, b"-7")], &[], Number(11, None)),
+];
+
+/// Which elements there are.
+const ELEMENTS: &[Made] = &[
     ("its type", 800, SET, &[], Type(800)),
     ("no number of an element", 800, SET, &[], Has(1, false)),
     (
@@ -164,6 +173,10 @@ const MESSAGES: &[Made] = &[
         &[],
         Gives(ASCENDING),
     ),
+];
+
+/// Which messages equal the first one.
+const EQUALS: &[Made] = &[
     (
         "set in another order",
         100,
@@ -206,6 +219,10 @@ const MESSAGES: &[Made] = &[
         &[],
         IsFirst(false),
     ),
+];
+
+/// What is left behind a change.
+const CHANGED: &[Made] = &[
     (
         "the first",
         100,
@@ -303,16 +320,30 @@ fn is_made(alloc: Global, (_, mti, elements, edits, what): &Made, first: &Messag
 }
 
 /// That each message is so.
-fn check_messages(alloc: Global, first: &Message) -> Result<(), Fail> {
-    for made in MESSAGES {
+fn check_messages(alloc: Global, first: &Message, messages: &[Made]) -> Result<(), Fail> {
+    for made in messages {
         check(is_made(alloc, made, first), made.0)?;
     }
     Ok(())
+}
+
+/// That values are read so, as bytes and as numbers.
+fn check_values(alloc: Global, first: &Message) -> Result<(), Fail> {
+    check_messages(alloc, first, VALUES)?;
+    check_messages(alloc, first, NUMBERS)
+}
+
+/// That messages have these elements, and equal the first one where they should.
+fn check_elements(alloc: Global, first: &Message) -> Result<(), Fail> {
+    check_messages(alloc, first, ELEMENTS)?;
+    check_messages(alloc, first, EQUALS)
 }
 
 #[test]
 fn messages_hold_what_is_set(rt: HostRuntime) -> Result<(), Fail> {
     let mti = Mti::from_digits(100).ok_or("not four digits")?;
     let first = first_message(rt.alloc(), mti)?;
-    check_messages(rt.alloc(), &first)
+    check_values(rt.alloc(), &first)?;
+    check_elements(rt.alloc(), &first)?;
+    check_messages(rt.alloc(), &first, CHANGED)
 }

@@ -1,8 +1,7 @@
 //! Messages in pieces, and what an unpacker answers to them.
 
-use super::cases::{
-    Case, ECHO_CASE, EMPTY_SECONDARY, LOWER_CASE, NO_ELEMENT, PAYMENT_CASE, is_message,
-};
+use super::cases::Known::{self, Echo, EmptySecondary, LowerCase, NoElement, Payment};
+use super::cases::{Case, case_of, is_message};
 use super::*;
 use iso_parts::FieldFault;
 use iso_wire::UnpackCause::{BadHex, BadMti, Field, Short};
@@ -15,9 +14,9 @@ enum Event {
     /// A piece is fed in which bytes stop being a message: none is held then.
     Refused(&'static [u8], UnpackFault),
     /// A piece is fed that ends the message of the case: how many of its bytes are used.
-    End(&'static [u8], usize, Case),
+    End(&'static [u8], usize, Known),
     /// The whole message of the case is read, and its memory given back: how many bytes of another are held then.
-    Whole(Case, usize),
+    Whole(Known, usize),
     /// Bytes that are no message: where they stop being one, in the piece of which element, and why.
     Stopped(&'static [u8], usize, u8, UnpackCause),
     Reset,
@@ -65,10 +64,10 @@ fn comes(unpacker: &mut Unpacker, alloc: Global, event: Event) -> bool {
         Refused(piece, fault) => {
             unpacker.feed(alloc, piece).err() == Some(fault) && unpacker.held() == 0
         }
-        End(piece, used, case) => {
-            is_ended(unpacker, alloc, piece, used, case) && unpacker.held() == 0
+        End(piece, used, known) => {
+            is_ended(unpacker, alloc, piece, used, case_of(known)) && unpacker.held() == 0
         }
-        Whole(case, held) => is_reread(unpacker, alloc, case) && unpacker.held() == held,
+        Whole(known, held) => is_reread(unpacker, alloc, case_of(known)) && unpacker.held() == held,
         Stopped(bytes, at, element, cause) => {
             unpacker.unpack(alloc, bytes).err() == Some(stop(at, element, cause))
         }
@@ -91,12 +90,13 @@ fn first_failed(alloc: Global, table: &Table, events: &[(&'static str, Event)]) 
 }
 
 /// Whether the message of the case is read where it is fed in two pieces, cut at `size`.
-pub(super) fn is_read_in_two(alloc: Global, table: &Table, case: Case, size: usize) -> bool {
+pub(super) fn is_read_in_two(alloc: Global, table: &Table, known: Known, size: usize) -> bool {
+    let case = case_of(known);
     let mut unpacker = Unpacker::new(alloc, table);
     let (front, back) = case.bytes.split_at(size.min(case.bytes.len()));
     let used = case.used.saturating_sub(size);
     comes(&mut unpacker, alloc, Feed(front, size))
-        && comes(&mut unpacker, alloc, End(back, used, case))
+        && comes(&mut unpacker, alloc, End(back, used, known))
 }
 
 /// Whether the message of the case is read in pieces of one size: how often more is wanted before, and how many bytes of the last
@@ -104,11 +104,12 @@ pub(super) fn is_read_in_two(alloc: Global, table: &Table, case: Case, size: usi
 pub(super) fn is_read_in(
     alloc: Global,
     table: &Table,
-    case: Case,
+    known: Known,
     size: usize,
     wanted: usize,
     used: usize,
 ) -> bool {
+    let case = case_of(known);
     let mut unpacker = Unpacker::new(alloc, table);
     let mut left = wanted;
     for piece in case.bytes.chunks(size.max(1)) {
@@ -138,19 +139,19 @@ const BAD_TYPE: UnpackFault = UnpackFault {
 const EVENTS: &[Events] = &[
     (
         "a message in pieces",
-        ASCII87,
+        Ascii87,
         &[
             ("the first piece", Feed(b"08008220000000", 14)),
             // it ends inside an element
             ("the second piece", Feed(b"00000004000000000000000102", 40)),
-            ("the last piece", End(b"0304050000013010800", 15, ECHO_CASE)),
+            ("the last piece", End(b"0304050000013010800", 15, Echo)),
             // what was left of it
             ("the beginning of the next message", Feed(b"0800", 4)),
         ],
     ),
     (
         "pieces are judged when they are whole",
-        ASCII,
+        Ascii,
         &[
             ("no bytes", Feed(b"", 0)),
             ("three digits of a type", Feed(b"08A", 3)),
@@ -158,16 +159,16 @@ const EVENTS: &[Events] = &[
             ("behind a fault", Refused(ECHO, BAD_TYPE)),
             ("no bytes behind a fault", Refused(b"", BAD_TYPE)),
             ("it starts anew", Reset),
-            ("the echo test", End(ECHO, 55, ECHO_CASE)),
+            ("the echo test", End(ECHO, 55, Echo)),
         ],
     ),
     (
         "a fault is told from the start of the message",
-        ASCII,
+        Ascii,
         &[
             (
                 "a whole message and more",
-                End(b"08000000000000000000020", 20, NO_ELEMENT),
+                End(b"08000000000000000000020", 20, NoElement),
             ),
             ("a type and a bitmap", Feed(b"02007220000100008000", 20)),
             ("half a length", Feed(b"1", 21)),
@@ -185,32 +186,32 @@ const EVENTS: &[Events] = &[
     // messages that are read one after another, each into the memory of those before it
     (
         "a message is read into memory that was given back",
-        ASCII,
+        Ascii,
         &[
-            ("the echo test", Whole(ECHO_CASE, 0)),
-            ("the payment", Whole(PAYMENT_CASE, 0)),
-            ("no element", Whole(NO_ELEMENT, 0)),
-            ("an empty secondary bitmap", Whole(EMPTY_SECONDARY, 0)),
-            ("a bitmap in lower case", Whole(LOWER_CASE, 0)),
+            ("the echo test", Whole(Echo, 0)),
+            ("the payment", Whole(Payment, 0)),
+            ("no element", Whole(NoElement, 0)),
+            ("an empty secondary bitmap", Whole(EmptySecondary, 0)),
+            ("a bitmap in lower case", Whole(LowerCase, 0)),
             // in the second round the first message is read into the memory of the last one
-            ("the echo test again", Whole(ECHO_CASE, 0)),
-            ("the payment again", Whole(PAYMENT_CASE, 0)),
-            ("no element again", Whole(NO_ELEMENT, 0)),
-            ("an empty secondary bitmap again", Whole(EMPTY_SECONDARY, 0)),
-            ("a bitmap in lower case again", Whole(LOWER_CASE, 0)),
+            ("the echo test again", Whole(Echo, 0)),
+            ("the payment again", Whole(Payment, 0)),
+            ("no element again", Whole(NoElement, 0)),
+            ("an empty secondary bitmap again", Whole(EmptySecondary, 0)),
+            ("a bitmap in lower case again", Whole(LowerCase, 0)),
         ],
     ),
     (
         "a message behind a fault has its own elements",
-        ASCII,
+        Ascii,
         &[
             ("a letter in a type", Stopped(b"08A0", 0, 0, BadMti)),
-            ("an echo behind it", Whole(ECHO_CASE, 0)),
+            ("an echo behind it", Whole(Echo, 0)),
             (
                 "a letter in a bitmap",
                 Stopped(b"0800G220000000000000", 4, 0, BadHex),
             ),
-            ("an echo behind that", Whole(ECHO_CASE, 0)),
+            ("an echo behind that", Whole(Echo, 0)),
             (
                 "a letter in the fifth of seven values",
                 Stopped(
@@ -220,7 +221,7 @@ const EVENTS: &[Events] = &[
                     Field(FieldFault::NotInClass),
                 ),
             ),
-            ("an echo behind the letter", Whole(ECHO_CASE, 0)),
+            ("an echo behind the letter", Whole(Echo, 0)),
             (
                 "the last of seven values cut short",
                 Stopped(
@@ -230,21 +231,21 @@ const EVENTS: &[Events] = &[
                     Short,
                 ),
             ),
-            ("an echo behind the cut", Whole(ECHO_CASE, 0)),
+            ("an echo behind the cut", Whole(Echo, 0)),
         ],
     ),
     (
         "reading a whole message leaves the pieces of another",
-        ASCII,
+        Ascii,
         &[
             (
                 "the first piece",
                 Feed(b"080082200000000000000400000000", 30),
             ),
-            ("the payment", Whole(PAYMENT_CASE, 30)),
+            ("the payment", Whole(Payment, 30)),
             (
                 "the last piece",
-                End(b"0000000102030405000001301", 25, ECHO_CASE),
+                End(b"0000000102030405000001301", 25, Echo),
             ),
         ],
     ),
