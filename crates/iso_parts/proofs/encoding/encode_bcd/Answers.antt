@@ -1,7 +1,9 @@
 -- A wrong edit turns this function. It is refused sooner where its goals have answers, as these.
-use Rattle.std.proofs.Common.{arith}
+use Rattle.std.proofs.Common.{◌≡◌, ◌++◌, ◌%◌, ◌∷◌, [], get_or, arith}
 use Rattle.std.proofs.lemmas.Grind.{common_steps}
 use Rattle.iso_parts.proofs.encoding.encode_bcd.Goals as goal
 
 pub returns-in_ok-push-in-len1-up-clause-ok : goal.returns-in_ok-push-in-len1-up-clause-ok
-returns-in_ok-push-in-len1-up-clause-ok c = grind (arith, common_steps)
+returns-in_ok-push-in-len1-up-clause-ok c =
+    let pushed : c.push.new.self.items ≡ c.args.out.now.items ++ (get_or c.args.text.now 0 0 % 16 ∷ []) = c.in_ok-push-in-len1-up.ensures.items in
+    grind (arith, common_steps)

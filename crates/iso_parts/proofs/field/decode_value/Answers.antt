@@ -1,6 +1,8 @@
-use Rattle.std.proofs.Common.{◌≡◌, ◌≤◌, ◌+◌, ℕ, List, length, drop, refl, sym, ap, ap₂, ◌∙◌, arith}
-use Rattle.iso_parts.specs.Reading.{prefix_size, body_size, got}
+use Rattle.std.proofs.Common.{rules, ◌≡◌, ◌≢◌, ◌≤◌, ◌+◌, ℕ, List, length, drop, refl, sym, ap, ap₂, ◌∙◌, arith}
+use Rattle.iso_parts.specs.Reading.{prefix_size, body_size, got, fault, part_at}
 use Rattle.iso_parts.proofs.Judges.{length_fails, body_is}
+use Rattle.std.proofs.lemmas.Grind.{common_steps}
+use Rattle.iso_parts.specs.declared.fault.FieldFault.TheVariants.{Memory}
 use Rattle.iso_parts.proofs.field.decode_value.Goals as goal
 
 pub returns-in-Err-clause-exact : goal.returns-in-Err-clause-exact
@@ -17,3 +19,9 @@ returns-in-Ok-clause-exact c =
     let room : body_size s.coding n ≤ length (drop (prefix_size s.length) b) = omega (arith, c.if-rest-size.false, c.body_size-size.ensures.size, ap length rest) in
     let part = body_is s b n read.0 (sym length_read) room read.1 in
     (read.0, part ∙ ap₂ (λ (k m : ℕ). got read.0 (k + m)) (sym c.prefix_size-front.ensures.size) (sym c.body_size-size.ensures.size), read.2)
+
+pub returns-in-Err-decode_body-clause-exact : goal.returns-in-Err-decode_body-clause-exact
+returns-in-Err-decode_body-clause-exact c =
+    let kept : c.truncate.new.self.items ≡ c.args.out.now.items = search rules in
+    let told : c.in-Err-decode_body.fault ≢ Memory → part_at c.args.spec.now c.args.bytes.now ≡ fault c.in-Err-decode_body.fault = grind (arith, common_steps) in
+    (told, kept)

@@ -11,3 +11,6 @@ returns-then-primary-lt-FIRST_BIT-clause-numbers c = words_number c.args.primary
 
 pub returns-clause-numbers : goal.returns-clause-numbers
 returns-clause-numbers c = words_number _ c.args.secondary (omega (arith, c.if-primary-lt-FIRST_BIT.false, c.ranges.primary.fits)) c.requires
+
+pub invariant_of-result : goal.invariant_of-result
+invariant_of-result c = record { not_1 = c.if-primary-lt-FIRST_BIT.true; not_65 = c.requires }

@@ -1,7 +1,12 @@
 -- A wrong edit turns this function. It is refused sooner where its goals have answers, as these.
-use Rattle.std.proofs.Common.{arith}
+use Rattle.std.proofs.Common.{◌≡◌, ◌-◌, ◌/◌, ◌^◌, ◌==◌, arith}
 use Rattle.std.proofs.lemmas.Grind.{common_steps}
+use Rattle.std.specs.Int.Bits.{bit_and}
+use Rattle.iso_parts.specs.Bitmap.{contains}
 use Rattle.iso_parts.proofs.bitmap.Bitmap.has.Goals as goal
 
 pub returns-in-1-to-64-clause-has : goal.returns-in-1-to-64-clause-has
-returns-in-1-to-64-clause-has c = grind (arith, common_steps)
+returns-in-1-to-64-clause-has c =
+    let set = c.args.self.now in
+    let bit : (bit_and (set.primary / 2 ^ (64 - c.args.n)) 1 == 1) ≡ contains set c.args.n = grind (arith, common_steps) in
+    bit

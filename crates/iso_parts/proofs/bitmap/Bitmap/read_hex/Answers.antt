@@ -11,3 +11,6 @@ returns-clause-only c = is_read Hex c.args.bytes.now c.read.result (λ i. omega 
 
 pub returns-clause-numbers : goal.returns-clause-numbers
 returns-clause-numbers c = read_numbers c.read.result _ c.read.ensures
+
+pub returns-clause-exact : goal.returns-clause-exact
+returns-clause-exact c = c.read.ensures

@@ -1,0 +1,6 @@
+-- A wrong edit turns this function. It is refused sooner where its goals have answers, as these.
+use Rattle.std.proofs.Common.{rules}
+use Rattle.iso_parts.proofs.bitmap.Bitmap.equals.Goals as goal
+
+pub returns-then-has_all : goal.returns-then-has_all
+returns-then-has_all c = search rules

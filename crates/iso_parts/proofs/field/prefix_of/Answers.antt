@@ -1,0 +1,6 @@
+-- A wrong edit turns this function. It is refused sooner where its goals have answers, as these.
+use Rattle.std.proofs.Common.{rules}
+use Rattle.iso_parts.proofs.field.prefix_of.Goals as goal
+
+pub returns-then-spec-n : goal.returns-then-spec-n
+returns-then-spec-n c = search rules

@@ -1,0 +1,6 @@
+-- A wrong edit turns this function. It is refused sooner where its goals have answers, as these.
+use Rattle.std.proofs.Common.{rules}
+use Rattle.iso_parts.proofs.judging.judge_body.Goals as goal
+
+pub returns-in_err-judge_whole-clause-exact : goal.returns-in_err-judge_whole-clause-exact
+returns-in_err-judge_whole-clause-exact c = search rules

@@ -1,0 +1,6 @@
+-- A wrong edit turns this function. It is refused sooner where its goals have answers, as these.
+use Rattle.std.proofs.Common.{rules}
+use Rattle.iso_parts.proofs.mti.Mti.from_digits.Goals as goal
+
+pub returns-then-n-gt9999 : goal.returns-then-n-gt9999
+returns-then-n-gt9999 c = search rules
