@@ -1,7 +1,7 @@
-use Rattle.std.proofs.lemmas.Result.{err_from_is_err_and}
-use Rattle.iso_parts.proofs.Buffers.{Keeps-front}
 use Rattle.std.proofs.Common.{arith}
+use Rattle.std.proofs.lemmas.Result.{err_from_is_err_and}
 use Rattle.std.proofs.lemmas.Grind.{common_steps}
+use Rattle.iso_parts.proofs.Buffers.{Keeps-front}
 use Rattle.iso_parts.proofs.encoding.decode_bcd.Goals as goal
 
 pub returns-in_err-decode_characters-in-len1-up : goal.returns-in_err-decode_characters-in-len1-up

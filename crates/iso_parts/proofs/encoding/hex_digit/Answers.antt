@@ -1,6 +1,6 @@
 -- A wrong edit turns this function. It is refused sooner where its goals have answers, as these.
-use Rattle.std.proofs.Common.{rules}
+use Rattle.std.proofs.Common.{refl}
 use Rattle.iso_parts.proofs.encoding.hex_digit.Goals as goal
 
 pub returns : goal.returns
-returns c = search rules
+returns c = refl

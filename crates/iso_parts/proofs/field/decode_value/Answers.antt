@@ -1,8 +1,8 @@
 use Rattle.std.proofs.Common.{rules, ◌≡◌, ◌≢◌, ◌≤◌, ◌+◌, ℕ, List, length, drop, refl, sym, ap, ap₂, ◌∙◌, arith}
-use Rattle.iso_parts.specs.Reading.{prefix_size, body_size, got, fault, part_at}
-use Rattle.iso_parts.proofs.Judges.{length_fails, body_is}
 use Rattle.std.proofs.lemmas.Grind.{common_steps}
 use Rattle.iso_parts.specs.declared.fault.FieldFault.TheVariants.{Memory}
+use Rattle.iso_parts.specs.Reading.{prefix_size, body_size, got, fault, part_at}
+use Rattle.iso_parts.proofs.Judges.{length_fails, body_is}
 use Rattle.iso_parts.proofs.field.decode_value.Goals as goal
 
 pub returns-in-Err-clause-exact : goal.returns-in-Err-clause-exact

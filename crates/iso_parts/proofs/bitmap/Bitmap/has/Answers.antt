@@ -1,7 +1,7 @@
 -- A wrong edit turns this function. It is refused sooner where its goals have answers, as these.
 use Rattle.std.proofs.Common.{◌≡◌, ◌-◌, ◌/◌, ◌^◌, ◌==◌, arith}
-use Rattle.std.proofs.lemmas.Grind.{common_steps}
 use Rattle.std.specs.Int.Bits.{bit_and}
+use Rattle.std.proofs.lemmas.Grind.{common_steps}
 use Rattle.iso_parts.specs.Bitmap.{contains}
 use Rattle.iso_parts.proofs.bitmap.Bitmap.has.Goals as goal
 

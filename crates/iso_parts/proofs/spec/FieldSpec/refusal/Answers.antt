@@ -3,4 +3,4 @@ use Rattle.std.proofs.Common.{rules}
 use Rattle.iso_parts.proofs.spec.FieldSpec.refusal.Goals as goal
 
 pub returns : goal.returns
-returns c = search rules
+returns c = let clear = c.if-stands_at_end.false in search rules
