@@ -4,4 +4,4 @@ use Rattle.std.proofs.lemmas.Grind.{common_steps}
 use Rattle.iso_parts.proofs.encoding.are_hex_digits.Goals as goal
 
 pub loop-b-preserved : goal.loop-b-preserved
-loop-b-preserved c = let small = c.if-matches-5.branch in grind (arith, common_steps)
+loop-b-preserved = λ (c : goal.Joined-matches-5). grind (arith, common_steps)
