@@ -1,4 +1,4 @@
-use Rattle.std.proofs.Common.{◌≡◌, [], true, refl, sym, ap, ◌∙◌, List, arith}
+use Rattle.std.proofs.Common.{rules, ◌≡◌, [], true, refl, sym, ap, ◌∙◌, List, arith}
 use Rattle.std.proofs.lemmas.Result.{err_from_is_err_and}
 use Rattle.iso_table.specs.declared.draft.Row.{Row}
 use Rattle.iso_table.specs.Layout.{is_version}
@@ -41,3 +41,9 @@ returns-clause-accepted c =
     let fine = c.in_ok-places.ensures in
     let version : is_version c.args.draft.version ≡ true = grind arith in
     table_made _ c.as_slice.result.now version (rw items fine.size) (λ n. rw items (fine.rows n)) fine.good
+
+pub returns-then-not-is_version-clause-refused : goal.returns-then-not-is_version-clause-refused
+returns-then-not-is_version-clause-refused c = let other = c.if-not-is_version.true in search rules
+
+pub returns-then-not-is_version-clause-fault : goal.returns-then-not-is_version-clause-fault
+returns-then-not-is_version-clause-fault c = let other = c.if-not-is_version.true in search rules
