@@ -1,6 +1,6 @@
 -- A wrong edit turns this function. It is refused sooner where its goals have answers, as these.
-use Rattle.std.proofs.Common.{rules}
+use Rattle.std.proofs.Common.{rules, ℕ}
 use Rattle.iso_table.proofs.sizes.field_bytes.Goals as goal
 
 pub returns-clause-exact : goal.returns-clause-exact
-returns-clause-exact c = search rules
+returns-clause-exact c = let front : ℕ = c.prefix_size.result in search rules

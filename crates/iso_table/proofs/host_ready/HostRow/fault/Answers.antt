@@ -1,6 +1,6 @@
 -- A wrong edit turns this function. It is refused sooner where its goals have answers, as these.
-use Rattle.std.proofs.Common.{rules}
+use Rattle.std.proofs.Common.{rules, ◌≡◌, false}
 use Rattle.iso_table.proofs.host_ready.HostRow.fault.Goals as goal
 
 pub returns-in-None-2 : goal.returns-in-None-2
-returns-in-None-2 c = search rules
+returns-in-None-2 c = let free : c.args.self.needed ≡ false = c.if-self.false in search rules
