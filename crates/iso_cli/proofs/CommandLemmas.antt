@@ -2,10 +2,9 @@
 use Rattle.std.proofs.Common.{◌≡◌, refl, sym, subst, ap, ap₂, ◌∙◌, ◌||◌, inl, inr, Bool, ℕ, IsTrue, List, [], ◌∷◌, ◌==◌, codes, true, false}
 use Rattle.std.proofs.lemmas.Bool.{not-true}
 use Rattle.clap.specs.Words.{App, AddsSubcommand, takes, with_subcommand}
+use Rattle.clap.specs.Simple.{built}
 use Rattle.clap.specs.declared.builder.command.Command.{Command}
 use Rattle.clap.proofs.OnLiterals.{clap_on_literals}
-use Rattle.iso_wire.specs.declared.header.Header.{Header}
-use Rattle.iso_wire.specs.declared.header.Header.TheVariants.{Binary2, Ascii4, Bcd2}
 use Rattle.std.specs.Prelude.{IfNone, Some, None}
 use Rattle.std.specs.declared.option.Option.{Option}
 use Rattle.iso_cli.specs.Words.{header_name, is_name, AsksShow, Asks, AsksNothing}
@@ -13,52 +12,51 @@ use Rattle.iso_cli.specs.NoJob.{AsksNoCodec, AsksNoRun}
 use Rattle.iso_cli.specs.CommandLine.{IsCommand, iso_app}
 use Rattle.iso_cli.specs.declared.words.Job.{Job}
 use Rattle.iso_cli.specs.declared.words.Job.TheVariants.{Echo, Check, Show, Convert, Run}
+use Rattle.iso_cli.proofs.WalkLemmas.{Enters, IsName, header_is_name, takes_names}
 
-pub takes_check : (table : List ℕ) → IsTrue (is_name table) → takes iso_app (codes "check" ∷ table ∷ []) ≡ true
+check_enters : Enters (built iso_app) (codes "check")
 unfolding clap_on_literals
-takes_check [] h = refl
-takes_check (x ∷ xs) h = let e = not-true (x == 45) h in rw e (rw e (refl {a = true}))
+check_enters = record { found = refl; stops = refl; turn = refl; defaults = refl; valid = refl }
 
-pub takes_show : (table : List ℕ) → IsTrue (is_name table) → takes iso_app (codes "show" ∷ table ∷ []) ≡ true
+show_enters : Enters (built iso_app) (codes "show")
 unfolding clap_on_literals
-takes_show [] h = refl
-takes_show (x ∷ xs) h = let e = not-true (x == 45) h in rw e (rw e (refl {a = true}))
+show_enters = record { found = refl; stops = refl; turn = refl; defaults = refl; valid = refl }
 
-pub takes_clear_first : (table : List ℕ) → IsTrue (is_name table)
-    → takes iso_app (codes "show" ∷ codes "--clear" ∷ table ∷ []) ≡ true
+convert_enters : Enters (built iso_app) (codes "convert")
 unfolding clap_on_literals
-takes_clear_first [] h = refl
-takes_clear_first (x ∷ xs) h = let e = not-true (x == 45) h in rw e (rw e (refl {a = true}))
+convert_enters = record { found = refl; stops = refl; turn = refl; defaults = refl; valid = refl }
 
-pub takes_clear_last : (table : List ℕ) → IsTrue (is_name table)
-    → takes iso_app (codes "show" ∷ table ∷ codes "--clear" ∷ []) ≡ true
+run_enters : Enters (built iso_app) (codes "run")
 unfolding clap_on_literals
-takes_clear_last [] h = refl
-takes_clear_last (x ∷ xs) h = let e = not-true (x == 45) h in rw e (rw e (refl {a = true}))
+run_enters = record { found = refl; stops = refl; turn = refl; defaults = refl; valid = refl }
 
-pub takes_convert : (from to : List ℕ) → IsTrue (is_name from) → IsTrue (is_name to)
-    → takes iso_app (codes "convert" ∷ from ∷ to ∷ []) ≡ true
+takes_check : (table : List ℕ) → IsName table → takes iso_app (codes "check" ∷ table ∷ []) ≡ true
 unfolding clap_on_literals
-takes_convert [] [] h k = refl
-takes_convert [] (y ∷ ys) h k = let d = not-true (y == 45) k in rw d (rw d (refl {a = true}))
-takes_convert (x ∷ xs) [] h k = let e = not-true (x == 45) h in rw e (rw e (refl {a = true}))
-takes_convert (x ∷ xs) (y ∷ ys) h k = let e = not-true (x == 45) h in let d = not-true (y == 45) k in rw e (rw e (rw d (rw d (refl {a = true}))))
+takes_check table t = takes_names iso_app (codes "check") (table ∷ []) refl refl check_enters (t, tt) refl
 
-pub takes_run : (table accounts : List ℕ) (h : Header) → IsTrue (is_name table) → IsTrue (is_name accounts)
-    → takes iso_app (codes "run" ∷ table ∷ accounts ∷ header_name h ∷ []) ≡ true
+takes_show : (table : List ℕ) → IsName table → takes iso_app (codes "show" ∷ table ∷ []) ≡ true
 unfolding clap_on_literals
-takes_run [] [] Binary2 h k = refl
-takes_run [] [] Ascii4 h k = refl
-takes_run [] [] Bcd2 h k = refl
-takes_run [] (y ∷ ys) Binary2 h k = let d = not-true (y == 45) k in rw d (rw d (refl {a = true}))
-takes_run [] (y ∷ ys) Ascii4 h k = let d = not-true (y == 45) k in rw d (rw d (refl {a = true}))
-takes_run [] (y ∷ ys) Bcd2 h k = let d = not-true (y == 45) k in rw d (rw d (refl {a = true}))
-takes_run (x ∷ xs) [] Binary2 h k = let e = not-true (x == 45) h in rw e (rw e (refl {a = true}))
-takes_run (x ∷ xs) [] Ascii4 h k = let e = not-true (x == 45) h in rw e (rw e (refl {a = true}))
-takes_run (x ∷ xs) [] Bcd2 h k = let e = not-true (x == 45) h in rw e (rw e (refl {a = true}))
-takes_run (x ∷ xs) (y ∷ ys) Binary2 h k = let e = not-true (x == 45) h in let d = not-true (y == 45) k in rw e (rw e (rw d (rw d (refl {a = true}))))
-takes_run (x ∷ xs) (y ∷ ys) Ascii4 h k = let e = not-true (x == 45) h in let d = not-true (y == 45) k in rw e (rw e (rw d (rw d (refl {a = true}))))
-takes_run (x ∷ xs) (y ∷ ys) Bcd2 h k = let e = not-true (x == 45) h in let d = not-true (y == 45) k in rw e (rw e (rw d (rw d (refl {a = true}))))
+takes_show table t = takes_names iso_app (codes "show") (table ∷ []) refl refl show_enters (t, tt) refl
+
+takes_clear_first : (table : List ℕ) → IsName table → takes iso_app (codes "show" ∷ codes "--clear" ∷ table ∷ []) ≡ true
+unfolding clap_on_literals
+takes_clear_first [] t = refl
+takes_clear_first (x ∷ xs) t = let e = not-true (x == 45) t in rw e (rw e (refl {a = true}))
+
+takes_clear_last : (table : List ℕ) → IsName table → takes iso_app (codes "show" ∷ table ∷ codes "--clear" ∷ []) ≡ true
+unfolding clap_on_literals
+takes_clear_last [] t = refl
+takes_clear_last (x ∷ xs) t = let e = not-true (x == 45) t in rw e (rw e (refl {a = true}))
+
+takes_convert : (from to : List ℕ) → IsName from → IsName to → takes iso_app (codes "convert" ∷ from ∷ to ∷ []) ≡ true
+unfolding clap_on_literals
+takes_convert from to f t = takes_names iso_app (codes "convert") (from ∷ to ∷ []) refl refl convert_enters (f, (t, tt)) refl
+
+takes_run : (table accounts header : List ℕ) → IsName table → IsName accounts → IsName header
+    → takes iso_app (codes "run" ∷ table ∷ accounts ∷ header ∷ []) ≡ true
+unfolding clap_on_literals
+takes_run table accounts header t a h =
+    takes_names iso_app (codes "run") (table ∷ accounts ∷ header ∷ []) refl refl run_enters (t, (a, (h, tt))) refl
 
 abbrev pub Passes : List (List ℕ) → Type 0
 Passes words = takes iso_app words ≡ true
@@ -75,7 +73,7 @@ takes_asked words Echo some e = absurd (some e)
 takes_asked words (Check table) some asks = subst Passes (sym asks.1) (takes_check table.now asks.0)
 takes_asked words (Show table clear) some asks = takes_asked_show words table.now clear asks.0 asks.1
 takes_asked words (Convert from to) some asks = subst Passes (sym asks.2) (takes_convert from.now to.now asks.0 asks.1)
-takes_asked words (Run table accounts header) some asks = subst Passes (sym asks.2) (takes_run table.now accounts.now header asks.0 asks.1)
+takes_asked words (Run table accounts header) some asks = subst Passes (sym asks.2) (takes_run table.now accounts.now (header_name header) asks.0 asks.1 (header_is_name header))
 
 -- words that ask no host on a stream and nothing else ask nothing
 pub asks_nothing : (words : List (List ℕ)) (job : Option Job) → AsksNoCodec words → IfNone job (AsksNoRun words) → IfNone job (AsksNothing words)

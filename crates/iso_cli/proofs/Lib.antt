@@ -1,3 +1,4 @@
+mod WalkLemmas
 mod CommandLemmas
 mod ListeningLemmas
 mod SourceLemmas

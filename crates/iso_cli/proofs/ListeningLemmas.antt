@@ -1,15 +1,13 @@
 -- Which words are a host on a port, and which stop is told of those that are none.
-use Rattle.std.proofs.Common.{◌≡◌, inl, inr, refl, sym, subst, ap, ◌∙◌, ◌<◌, Bool, ℕ, IsTrue, List, [], ◌∷◌, ◌==◌, codes, true, false, ne_eqb, arith, slice_index}
-use Rattle.std.proofs.lemmas.Bool.{not-true}
+use Rattle.std.proofs.Common.{◌≡◌, inl, inr, refl, sym, subst, ap, ◌∙◌, ◌<◌, Bool, ℕ, List, [], ◌∷◌, ◌==◌, codes, true, false, ne_eqb, arith, slice_index}
 use Rattle.std.specs.Prelude.{IfNone, Some, None}
 use Rattle.std.specs.declared.option.Option.{Option}
 use Rattle.std.specs.Char.{digit_value}
 use Rattle.std.specs.Str.Parse.{IsNumeral, without_leading_plus}
 use Rattle.clap.specs.Words.{takes}
+use Rattle.clap.specs.Simple.{built}
 use Rattle.clap.proofs.OnLiterals.{clap_on_literals}
-use Rattle.iso_wire.specs.declared.header.Header.{Header}
-use Rattle.iso_wire.specs.declared.header.Header.TheVariants.{Binary2, Ascii4, Bcd2}
-use Rattle.iso_cli.specs.Words.{Asks, AsksNothing, AsksShow, header_name, is_name}
+use Rattle.iso_cli.specs.Words.{Asks, AsksNothing, AsksShow}
 use Rattle.iso_cli.specs.declared.words.Job.{Job}
 use Rattle.iso_cli.specs.declared.words.Job.TheVariants.{Echo, Check, Show, Convert, Run}
 use Rattle.iso_cli.specs.Listening.{AsksNoServe, AsksServe, Listens}
@@ -22,48 +20,32 @@ use Rattle.iso_cli.specs.declared.words.WordsFault.{WordsFault}
 use Rattle.iso_cli.specs.declared.words.WordsFault.TheVariants as words
 use Rattle.iso_cli.specs.CommandLine.{port_app}
 use Rattle.iso_cli.specs.declared.listening.Listening.{Listening}
+use Rattle.iso_cli.proofs.WalkLemmas.{Enters, IsName, header_is_name, takes_names}
 
-takes_serve : (table accounts : List ℕ) (h p n : ℕ) (hs ps ns : List ℕ) → IsTrue (is_name table) → IsTrue (is_name accounts)
-    → (h == 45) ≡ false → (p == 45) ≡ false → (n == 45) ≡ false
-    → takes port_app (codes "serve" ∷ table ∷ accounts ∷ (h ∷ hs) ∷ (p ∷ ps) ∷ (n ∷ ns) ∷ []) ≡ true
+serve_enters : Enters (built port_app) (codes "serve")
 unfolding clap_on_literals
-takes_serve [] [] h p n hs ps ns t a i j k = rw i (rw i (rw j (rw j (rw k (rw k (refl {a = true}))))))
-takes_serve [] (y ∷ ys) h p n hs ps ns t a i j k =
-    let d = not-true (y == 45) a in rw d (rw d (rw i (rw i (rw j (rw j (rw k (rw k (refl {a = true}))))))))
-takes_serve (x ∷ xs) [] h p n hs ps ns t a i j k =
-    let e = not-true (x == 45) t in rw e (rw e (rw i (rw i (rw j (rw j (rw k (rw k (refl {a = true}))))))))
-takes_serve (x ∷ xs) (y ∷ ys) h p n hs ps ns t a i j k =
-    let e = not-true (x == 45) t in
-    let d = not-true (y == 45) a in rw e (rw e (rw d (rw d (rw i (rw i (rw j (rw j (rw k (rw k (refl {a = true}))))))))))
+serve_enters = record { found = refl; stops = refl; turn = refl; defaults = refl; valid = refl }
 
--- the word is not empty and doesn't start with a dash
-abbrev StartsPlain : List ℕ → Type 0
-StartsPlain word = (first : ℕ) × (rest : List ℕ) × (word ≡ first ∷ rest) × ((first == 45) ≡ false)
+takes_serve : (table accounts header port count : List ℕ) → IsName table → IsName accounts → IsName header → IsName port → IsName count
+    → takes port_app (codes "serve" ∷ table ∷ accounts ∷ header ∷ port ∷ count ∷ []) ≡ true
+unfolding clap_on_literals
+takes_serve table accounts header port count t a h p n =
+    takes_names port_app (codes "serve") (table ∷ accounts ∷ header ∷ port ∷ count ∷ []) refl refl serve_enters (t, (a, (h, (p, (n, tt))))) refl
 
-header_plain : (header : Header) → StartsPlain (header_name header)
-header_plain Binary2 = (98, _, refl, refl)
-header_plain Ascii4 = (97, _, refl, refl)
-header_plain Bcd2 = (98, _, refl, refl)
-
-numeral_plain : (word : List ℕ) → IsNumeral 10 (without_leading_plus word) → StartsPlain word
-numeral_plain [] h = absurd (omega (arith, h.0))
-numeral_plain (c ∷ cs) h = (
-  c,
-  cs,
-  refl,
-  ne_eqb c 45 (λ e.
-      let digits = subst (λ (x : ℕ). IsNumeral 10 (without_leading_plus (x ∷ cs))) e h in
-      let dash : digit_value 45 < 10 = digits.1.0 in omega (arith, dash)),
-)
+numeral_is_name : (word : List ℕ) → IsNumeral 10 (without_leading_plus word) → IsName word
+numeral_is_name [] h = absurd (omega (arith, h.0))
+numeral_is_name (c ∷ cs) h =
+    let plain : (c == 45) ≡ false = ne_eqb c 45 (λ e.
+    let digits = subst (λ (x : ℕ). IsNumeral 10 (without_leading_plus (x ∷ cs))) e h in
+    let dash : digit_value 45 < 10 = digits.1.0 in omega (arith, dash)) in
+    rw plain refl
 
 -- the words of a host on a port pass
 pub takes_asked : (words : List (List ℕ)) (l : Listening) → AsksServe words l → takes port_app words ≡ true
 takes_asked words l asks =
-    let header : StartsPlain asks.header = subst StartsPlain (sym asks.listens.header_is) (header_plain l.header) in
-    let port = numeral_plain asks.port asks.listens.port_is.digits in
-    let count = numeral_plain asks.count asks.listens.count_is.digits in
-    rw (asks.spelled, header.2, port.2, count.2)
-    (takes_serve asks.table asks.accounts header.0 port.0 count.0 header.1 port.1 count.1 asks.listens.table_name asks.listens.accounts_name header.3 port.3 count.3)
+    let header : IsName asks.header = subst IsName (sym asks.listens.header_is) (header_is_name l.header) in
+    rw asks.spelled
+    (takes_serve asks.table asks.accounts asks.header asks.port asks.count asks.listens.table_name asks.listens.accounts_name header (numeral_is_name asks.port asks.listens.port_is.digits) (numeral_is_name asks.count asks.listens.count_is.digits))
 
 -- where six words name no host, these words spell none
 pub none_of_six : (found : Option Listening) (words : List (List ℕ)) (table accounts header port count : List ℕ)
