@@ -1,15 +1,14 @@
 -- The words that `clap` lets pass.
-use Rattle.std.proofs.Common.{◌≡◌, refl, sym, subst, ap, ap₂, ◌∙◌, ◌||◌, inl, inr, Bool, ℕ, IsTrue, List, [], ◌∷◌, ◌==◌, codes, true, false}
+use Rattle.std.proofs.Common.{◌≡◌, refl, sym, subst, inl, inr, Bool, ℕ, IsTrue, List, [], ◌∷◌, ◌==◌, codes, true, false}
 use Rattle.std.proofs.lemmas.Bool.{not-true}
-use Rattle.clap.specs.Words.{App, AddsSubcommand, takes, with_subcommand}
+use Rattle.clap.specs.Words.{takes}
 use Rattle.clap.specs.Simple.{built}
-use Rattle.clap.specs.declared.builder.command.Command.{Command}
 use Rattle.clap.proofs.OnLiterals.{clap_on_literals}
 use Rattle.std.specs.Prelude.{IfNone, Some, None}
 use Rattle.std.specs.declared.option.Option.{Option}
 use Rattle.iso_cli.specs.Words.{header_name, is_name, AsksShow, Asks, AsksNothing}
 use Rattle.iso_cli.specs.NoJob.{AsksNoCodec, AsksNoRun}
-use Rattle.iso_cli.specs.CommandLine.{IsCommand, iso_app}
+use Rattle.iso_cli.specs.CommandLine.{iso_app}
 use Rattle.iso_cli.specs.declared.words.Job.{Job}
 use Rattle.iso_cli.specs.declared.words.Job.TheVariants.{Echo, Check, Show, Convert, Run}
 use Rattle.iso_cli.proofs.WalkLemmas.{Enters, IsName, header_is_name, takes_names}
@@ -86,11 +85,3 @@ asks_nothing words None codec run = nothing
     nothing (Show table clear) asks = codec (Show table clear) refl asks
     nothing (Convert from to) asks = codec (Convert from to) refl asks
     nothing (Run table accounts header) asks = run table.now accounts.now header asks.0 asks.1 asks.2
-
--- a command with one more subcommand
-pub adds : (old sub new : Command) (over under : App) → IsCommand over old → IsCommand under sub → AddsSubcommand old sub new
-    → IsCommand (with_subcommand over under.top) new
-adds old sub new over under is_over is_under added = record {
-  app_is = added.shape is_under.local ∙ ap₂ with_subcommand is_over.app_is (ap (λ (a : App). a.top) is_under.app_is);
-  local = added.globals ∙ ap₂ ◌||◌ is_over.local is_under.local;
-}

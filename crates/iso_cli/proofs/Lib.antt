@@ -1,4 +1,5 @@
 mod WalkLemmas
+mod SubcommandLemmas
 mod CommandLemmas
 mod ListeningLemmas
 mod SourceLemmas

@@ -13,6 +13,7 @@ pub mod Show
 pub mod Source
 pub mod Stop
 pub mod Streaming
+pub mod Subcommands
 pub mod Tables
 pub mod Tells
 pub mod Words

@@ -3,16 +3,14 @@
 //! `clap` judges the words, and what it lets pass is matched word by word, so that contracts can speak of the words.
 ghost use Rattle.std.specs.Prelude.{◌≡◌, ℕ, IfErr, IfNone, IfOk, IfSome, IsErrOf, map, true};
 ghost use Rattle.clap.specs.Words.{takes};
-ghost use Rattle.iso_cli.specs.CommandLine.{IsCommand, port_app, serve_app};
+ghost use Rattle.iso_cli.specs.CommandLine.{port_app};
 ghost use Rattle.iso_cli.specs.Listening.{AsksNoServe, AsksServe, IsWholeNumber, Listens};
 ghost use Rattle.iso_cli.specs.declared.listening.Listening.{Listening};
 
-use crate::words::{
-    WordsFault, header_of_word, host_command, is_name, iso_alone, judge_by, name_argument,
-};
-use clap::Command;
+use crate::subcommands::{Subcommand, judge_words};
+use crate::words::{WordsFault, header_of_word, is_name};
 use iso_wire::Header;
-use std::alloc::{AllocError, Global};
+use std::alloc::Global;
 
 /// What the words of a host on a port ask.
 #[derive(Clone, Copy, PartialEq, Eq, Drop)]
@@ -29,31 +27,19 @@ pub struct Listening<'a> {
     pub count: u16,
 }
 
-fn serve_command<'a>(alloc: Global) -> Result<Command<'a>, AllocError>
-    ensures { IfOk result (IsCommand serve_app) }
-{
-    host_command(alloc, "serve")?
-        .arg(name_argument(alloc, "port"))?
-        .arg(name_argument(alloc, "count"))
-}
-
-/// The command with this subcommand alone.
-#[tactic(auto, using(crate::proofs::CommandLemmas::adds))]
-fn command<'a>(alloc: Global) -> Result<Command<'a>, AllocError>
-    ensures { IfOk result (IsCommand port_app) }
-{
-    iso_alone(alloc).subcommand(serve_command(alloc)?)
-}
+/// The one subcommand of a host on a port.
+const SERVE: &[Subcommand] = &[Subcommand {
+    name: "serve",
+    arguments: &["table", "accounts", "header", "port", "count"],
+    clear: false,
+}];
 
 /// Whether `clap` lets the words pass.
 fn judge<'a>(alloc: Global, words: &'a [&'a str]) -> Result<(), WordsFault>
     ensures passes { IfErr result (λ fault. takes port_app (map (λ w. w.now) words.now) ≡ true
         → fault ≡ WordsFault.Memory) }
 {
-    let Ok(command) = command(alloc) else {
-        return Err(WordsFault::Memory);
-    };
-    judge_by(command, words)
+    judge_words(alloc, SERVE, words)
 }
 
 /// The number that a word is, if it is 1 to `most`: decimal digits, with a plus in front or none.

@@ -26,6 +26,7 @@ mod show;
 mod source;
 mod stop;
 mod streaming;
+mod subcommands;
 mod tables;
 mod words;
 

@@ -2,16 +2,14 @@
 //!
 //! `clap` judges the words, and what it lets pass is matched word by word, so that contracts can speak of the words.
 ghost use Rattle.std.specs.Prelude.{◌≡◌, IfOk, IfSome, IfNone, IfErr, IsErrOf, map, true};
-ghost use Rattle.clap.specs.Words.{app_of, takes};
+ghost use Rattle.clap.specs.Words.{takes};
 ghost use Rattle.iso_cli.specs.Words.{Asks, AsksNothing, header_name, is_name};
 ghost use Rattle.iso_cli.specs.NoJob.{AsksNoCodec, AsksNoRun};
-ghost use Rattle.iso_cli.specs.CommandLine.{FollowsRule, IsCommand, bare_app, check_app, clear_rule, codec_app, convert_app, iso_alone};
-ghost use Rattle.iso_cli.specs.CommandLine.{host_app, iso_app, name_rule, run_app, show_app};
+ghost use Rattle.iso_cli.specs.CommandLine.{iso_app};
 
-use clap::error::ErrorKind;
-use clap::{Arg, ArgAction, Command};
+use crate::subcommands::{Subcommand, judge_words};
 use iso_wire::Header;
-use std::alloc::{AllocError, Global};
+use std::alloc::Global;
 
 /// What the words ask.
 #[derive(Clone, Copy, PartialEq, Eq, Drop)]
@@ -57,118 +55,36 @@ pub enum WordsFault {
     Memory,
 }
 
-/// The argument of this name, which has to be given.
-pub fn name_argument<'a>(alloc: Global, id: &'a str) -> Arg<'a>
-    ensures { FollowsRule (name_rule id.now) result }
-{
-    Arg::new(alloc, id).required(true)
-}
-
-fn clear_flag<'a>(alloc: Global) -> Arg<'a>
-    ensures { FollowsRule clear_rule result }
-{
-    Arg::new(alloc, "clear")
-        .long("clear")
-        .action(ArgAction::SetTrue)
-}
-
-/// A command with no help and no version of its own.
-fn bare_command<'a>(alloc: Global, name: &'static str) -> Command<'a>
-    ensures { IsCommand (bare_app name.now) result }
-{
-    Command::new(alloc, name)
-        .disable_help_flag(true)
-        .disable_help_subcommand(true)
-        .disable_version_flag(true)
-}
-
-fn check_command<'a>(alloc: Global) -> Result<Command<'a>, AllocError>
-    ensures { IfOk result (IsCommand check_app) }
-{
-    bare_command(alloc, "check").arg(name_argument(alloc, "table"))
-}
-
-fn show_command<'a>(alloc: Global) -> Result<Command<'a>, AllocError>
-    ensures { IfOk result (IsCommand show_app) }
-{
-    bare_command(alloc, "show")
-        .arg(name_argument(alloc, "table"))?
-        .arg(clear_flag(alloc))
-}
-
-fn convert_command<'a>(alloc: Global) -> Result<Command<'a>, AllocError>
-    ensures { IfOk result (IsCommand convert_app) }
-{
-    bare_command(alloc, "convert")
-        .arg(name_argument(alloc, "from"))?
-        .arg(name_argument(alloc, "to"))
-}
-
-/// A command of this name that takes what a host serves with: a table, accounts and a header.
-pub fn host_command<'a>(alloc: Global, name: &'static str) -> Result<Command<'a>, AllocError>
-    ensures { IfOk result (IsCommand (host_app name.now)) }
-{
-    bare_command(alloc, name)
-        .arg(name_argument(alloc, "table"))?
-        .arg(name_argument(alloc, "accounts"))?
-        .arg(name_argument(alloc, "header"))
-}
-
-fn run_command<'a>(alloc: Global) -> Result<Command<'a>, AllocError>
-    ensures { IfOk result (IsCommand run_app) }
-{
-    host_command(alloc, "run")
-}
-
-/// The command before its subcommands.
-pub fn iso_alone<'a>(alloc: Global) -> Command<'a>
-    ensures { IsCommand iso_alone result }
-{
-    bare_command(alloc, "iso")
-        .no_binary_name(true)
-        .subcommand_required(true)
-}
-
-/// The command with the subcommands that take one message, or none.
-#[tactic(auto, using(crate::proofs::CommandLemmas::adds))]
-fn codec_command<'a>(alloc: Global) -> Result<Command<'a>, AllocError>
-    ensures { IfOk result (IsCommand codec_app) }
-{
-    iso_alone(alloc)
-        .subcommand(check_command(alloc)?)?
-        .subcommand(show_command(alloc)?)?
-        .subcommand(convert_command(alloc)?)
-}
-
-/// The whole command.
-#[tactic(auto, using(crate::proofs::CommandLemmas::adds))]
-fn command<'a>(alloc: Global) -> Result<Command<'a>, AllocError>
-    ensures { IfOk result (IsCommand iso_app) }
-{
-    codec_command(alloc)?.subcommand(run_command(alloc)?)
-}
-
-/// Whether `clap` lets the words of this command pass.
-pub fn judge_by<'a>(command: Command<'a>, words: &'a [&'a str]) -> Result<(), WordsFault>
-    ensures passes { IfErr result (λ fault. takes (app_of command.entry) (map (λ w. w.now) words.now) ≡ true
-        → fault ≡ WordsFault.Memory) }
-{
-    match command.try_get_matches_from(words) {
-        Ok(_found) => Ok(()),
-        Err(error) if error.kind() == ErrorKind::OutOfMemory => Err(WordsFault::Memory),
-        Err(_error) => Err(WordsFault::Refused),
-    }
-}
+/// The subcommands but for a host on a port.
+const SUBCOMMANDS: &[Subcommand] = &[
+    Subcommand {
+        name: "check",
+        arguments: &["table"],
+        clear: false,
+    },
+    Subcommand {
+        name: "show",
+        arguments: &["table"],
+        clear: true,
+    },
+    Subcommand {
+        name: "convert",
+        arguments: &["from", "to"],
+        clear: false,
+    },
+    Subcommand {
+        name: "run",
+        arguments: &["table", "accounts", "header"],
+        clear: false,
+    },
+];
 
 /// Whether `clap` lets the words pass.
 fn judge<'a>(alloc: Global, words: &'a [&'a str]) -> Result<(), WordsFault>
     ensures passes { IfErr result (λ fault. takes iso_app (map (λ w. w.now) words.now) ≡ true
         → fault ≡ WordsFault.Memory) }
 {
-    let Ok(command) = command(alloc) else {
-        return Err(WordsFault::Memory);
-    };
-    judge_by(command, words)
+    judge_words(alloc, SUBCOMMANDS, words)
 }
 
 /// Whether a word is taken for a name, and not for an option: it doesn't start with a dash.
