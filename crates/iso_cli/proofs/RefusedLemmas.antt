@@ -1,5 +1,5 @@
 -- Which stop a fault is.
-use Rattle.std.proofs.Common.{◌≡◌, ◌≢◌, inl, inr, ℕ, Bool, true, false, IsTrue, List, [], ◌∷◌, map, Option, IfSome, refl, ap, subst, sym, ◌∙◌, arith}
+use Rattle.std.proofs.Common.{◌≡◌, ◌≢◌, inl, inr, ℕ, Bool, true, false, IsTrue, List, [], ◌∷◌, map, Option, IfSome, IfErr, Result, Ok, Err, refl, ap, subst, sym, ◌∙◌, arith}
 use Rattle.std.specs.Prelude.{codes}
 use Rattle.std.specs.Io.KnownBytes.{Appends}
 use Rattle.iso_host.specs.Counts.{Counts}
@@ -11,6 +11,7 @@ use Rattle.iso_cli.specs.Tells.{TellsLineOf}
 use Rattle.iso_cli.specs.Refused.{ConvertStops, ConvertStopsAsked, HoldsNone, ShowStops, ShowStopsAsked}
 use Rattle.iso_cli.specs.Words.{AsksShow, is_name}
 use Rattle.iso_cli.specs.declared.stop.Stop.{Stop}
+use Rattle.iso_cli.specs.declared.stop.Stop.TheVariants.{Write}
 use Rattle.iso_cli.specs.declared.words.WordsFault.{WordsFault}
 use Rattle.iso_cli.specs.declared.words.WordsFault.TheVariants as words
 use Rattle.iso_cli.proofs.StreamingLemmas.{known_all}
@@ -50,6 +51,11 @@ told_whole held written old new stop given (inr (inr untold)) one = absurd (omeg
 pub words_stop : (fault : WordsFault) (stop : Stop) → stop ≡ stop_of_words fault → status_of stop ≡ 1 → ⊥
 words_stop words.Refused stop is one = absurd (omega (arith, one, ap status_of is))
 words_stop words.Memory stop is one = absurd (omega (arith, one, ap status_of is))
+
+-- and so has that of an output that fails
+pub write_stops : {X : Type 0} (r : Result X Stop) (P : Stop → Type 0) → IfErr r (λ stop. stop ≡ Write) → IfErr r (λ stop. status_of stop ≡ 1 → P stop)
+write_stops (Ok x) P failed = tt
+write_stops (Err stop) P failed = λ one. absurd (omega (arith, one, ap status_of failed))
 
 -- ---- what the words ask
 

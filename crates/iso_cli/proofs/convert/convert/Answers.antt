@@ -1,8 +1,10 @@
-use Rattle.std.proofs.Common.{List, ℕ, subst}
+use Rattle.std.proofs.Common.{List, ℕ, inl, inr, subst}
+use Rattle.std.proofs.lemmas.Result.{err_from_is_err_and}
 use Rattle.std.specs.Io.KnownBytes.{Appends}
 use Rattle.iso_table.specs.Layout.{Layout}
 use Rattle.iso_cli.specs.Tables.{IsNamed}
 use Rattle.iso_wire.specs.Spelling.{Converts}
+use Rattle.iso_cli.proofs.RefusedLemmas.{write_stops}
 use Rattle.iso_cli.proofs.StreamingLemmas.{known_all, where_ok}
 use Rattle.iso_cli.proofs.convert.convert.Goals as goal
 
@@ -22,3 +24,21 @@ returns-clause-packed g c =
     c.in_ok-bytes.ensures.bytes
     (from, to, packed, c.in_ok-from.ensures.ok, c.in_ok-to.ensures.ok, converts, subst (λ (l : List ℕ). Appends old new l) c.deref-2.ensures.value written))
     c.write_output.ensures.written
+
+pub returns-in_err-from-clause-stop : goal.returns-in_err-from-clause-stop
+returns-in_err-from-clause-stop g c =
+    let p = err_from_is_err_and c.from_residual.result c.from_residual.ensures.1 in
+    rw (p.1, p.2) (λ one. inl (c.in_err-from.ensures.stop one))
+
+pub returns-in_err-to-clause-stop : goal.returns-in_err-to-clause-stop
+returns-in_err-to-clause-stop g c =
+    let p = err_from_is_err_and c.from_residual-in_err-to.result c.from_residual-in_err-to.ensures.1 in
+    rw (p.1, p.2) (λ one. inr (c.in_ok-from.from, c.in_ok-from.ensures.ok, inl (c.in_err-to.ensures.stop one)))
+
+pub returns-in_err-bytes-clause-stop : goal.returns-in_err-bytes-clause-stop
+returns-in_err-bytes-clause-stop g c =
+    let p = err_from_is_err_and c.from_residual-in_err-bytes.result c.from_residual-in_err-bytes.ensures.1 in
+    rw (p.1, p.2) (λ one. inr (c.in_ok-from.from, c.in_ok-from.ensures.ok, inr (c.in_ok-to.to, c.in_ok-to.ensures.ok, inl (c.in_err-bytes.ensures.stop one))))
+
+pub returns-clause-stop : goal.returns-clause-stop
+returns-clause-stop g c = write_stops c.write_output.result _ c.write_output.ensures.stop
