@@ -29,12 +29,12 @@ const BCD87_ROWS: &[(u8, FieldSpec)] = &[
 ];
 
 /// A table of one row, of profile 1, with line ends that `to_json` doesn't write.
-const TERMINAL: &str = r#"{"bitmap":"hex","mti":"ascii","profile":1,"rows":[
+const TERMINAL_OF_PROFILE_1: &str = r#"{"bitmap":"hex","mti":"ascii","profile":1,"rows":[
 {"class":"ANS","coding":"ascii","length":"fixed","max":8,"number":41,"pad":"right:20"}
 ],"version":0}"#;
 
 /// The same table as `to_json` writes it, but for its line ends.
-const WRITTEN: &str = r#"{"bitmap":"hex","mti":"ascii","profile":2,"rows":[
+const TERMINAL: &str = r#"{"bitmap":"hex","mti":"ascii","profile":2,"rows":[
 {"class":"ANS","coding":"ascii","length":"fixed","max":8,"number":41,"pad":"right:20"}
 ],"version":0}"#;
 
@@ -88,20 +88,50 @@ const TERMINALS: Says<'static> = ascii_table!(
     44
 );
 
-/// Tables, and what is written and read of them.
-const WRITTEN_TABLES: &[(&'static str, Says<'static>, Texts)] = &[
+/// A document of a table.
+#[derive(Clone, Copy)]
+enum Document {
+    Ascii87,
+    Bcd87,
+    Terminal,
+    TerminalOfProfile1,
+    Chip,
+}
+
+use Document::{Ascii87, Bcd87, Chip, Terminal, TerminalOfProfile1};
+
+/// Its lines.
+fn lines_of(document: Document) -> &'static str {
+    match document {
+        Ascii87 => ASCII87,
+        Bcd87 => BCD87,
+        Terminal => TERMINAL,
+        TerminalOfProfile1 => TERMINAL_OF_PROFILE_1,
+        Chip => CHIP,
+    }
+}
+
+/// Tables, the document that is written of each, and one that is read as it.
+const WRITTEN_TABLES: &[(&'static str, Says<'static>, Document, Document)] = &[
     (
         "ascii87",
         ascii_table!(0, 126, ASCII87_ROWS, Ok(()), 36470),
-        (ASCII87, ASCII87),
+        Ascii87,
+        Ascii87,
     ),
     (
         "bcd87",
         bcd_table!(0, 126, BCD87_ROWS, Ok(()), 36141),
-        (BCD87, BCD87),
+        Bcd87,
+        Bcd87,
     ),
-    ("a terminal, of profile 1", TERMINALS, (WRITTEN, TERMINAL)),
-    ("a terminal, of profile 2", TERMINALS, (WRITTEN, WRITTEN)),
+    (
+        "a terminal, of profile 1",
+        TERMINALS,
+        Terminal,
+        TerminalOfProfile1,
+    ),
+    ("a terminal, of profile 2", TERMINALS, Terminal, Terminal),
     (
         "four digits of a length",
         ascii_table!(
@@ -111,7 +141,8 @@ const WRITTEN_TABLES: &[(&'static str, Says<'static>, Texts)] = &[
             Err(HostTableFault::NoRow(2)),
             20_038
         ),
-        (CHIP, CHIP),
+        Chip,
+        Chip,
     ),
 ];
 
@@ -155,8 +186,9 @@ const TABLES: &[(&'static str, Says<'static>)] = &[
 
 #[test]
 fn tables_are_written_and_read(rt: HostRuntime) -> Result<(), Fail> {
-    for (name, says, texts) in WRITTEN_TABLES {
-        check(is_table(rt.alloc(), says, Some(*texts)), *name)?;
+    for (name, says, written, read) in WRITTEN_TABLES {
+        let texts = (lines_of(*written), lines_of(*read));
+        check(is_table(rt.alloc(), says, Some(texts)), *name)?;
     }
     Ok(())
 }
