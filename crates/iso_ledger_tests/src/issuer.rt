@@ -270,21 +270,9 @@ const LIMITS: &[Day] = &[
     },
 ];
 
-/// Plays the days of all files.
-fn play_all(alloc: Global) -> Result<(), Fail> {
-    play(alloc, LIMITS)?;
-    play(alloc, days::DAYS)?;
-    play(alloc, days::WIDE_BALANCES)?;
-    play(alloc, replacements::DAYS)?;
-    play(alloc, holds::DAYS)?;
-    play(alloc, laws::DAYS)?;
-    play(alloc, reordered::REORDERED)
-}
-
 #[test]
-fn days_are_answered_step_by_step(rt: HostRuntime) -> Result<(), Fail> {
-    laws::laws_hold();
-    play_all(rt.alloc())
+fn a_full_journal_takes_no_more(rt: HostRuntime) -> Result<(), Fail> {
+    play(rt.alloc(), LIMITS)
 }
 
 /// Whether a list of orders gets an answer, that answer again, and none for want of room.

@@ -203,15 +203,23 @@ const PAYMENT: &[(u8, &'static [u8])] = &[
 const NETWORK: &[(u8, &'static [u8])] = &[(7, b"0102030405")];
 
 #[test]
-fn messages_ask(rt: HostRuntime) -> Result<(), Fail> {
-    let alloc = rt.alloc();
-    check_kind(alloc, "a payment", PAYMENT, verdicts::PAYMENTS)?;
+fn payments_ask(rt: HostRuntime) -> Result<(), Fail> {
+    check_kind(rt.alloc(), "a payment", PAYMENT, verdicts::PAYMENTS)
+}
+
+#[test]
+fn payments_are_refused(rt: HostRuntime) -> Result<(), Fail> {
     check_kind(
-        alloc,
+        rt.alloc(),
         "a refused payment",
         PAYMENT,
         verdicts::REFUSED_PAYMENTS,
-    )?;
+    )
+}
+
+#[test]
+fn reversals_and_network_messages_ask(rt: HostRuntime) -> Result<(), Fail> {
+    let alloc = rt.alloc();
     check_kind(alloc, "a reversal", verdicts::REVERSAL, verdicts::REVERSALS)?;
     check_kind(
         alloc,

@@ -48,7 +48,7 @@ const LATER_KEY: TxKey = TxKey {
 const UNDO_LATER: Plain = plain!(Does::Undo, key!(420, 2), 0, LATER_KEY);
 
 /// Repeats, codes, reversals, and a day that has them all.
-pub const DAYS: &[Day] = &[
+const DAYS: &[Day] = &[
     Day {
         name: "repeats",
         limit: MOST_ORDERS,
@@ -291,7 +291,7 @@ const MOST: i64 = 9_000_000_000_000_000;
 const AMOUNT: u64 = 999_999_999_999;
 
 /// Balances at the ends of what is shown, and of what an account opens with.
-pub const WIDE_BALANCES: &[Day] = &[
+const WIDE_BALANCES: &[Day] = &[
     Day {
         name: "the most that is shown",
         limit: MOST_ORDERS,
@@ -381,3 +381,13 @@ pub const WIDE_BALANCES: &[Day] = &[
         ],
     },
 ];
+
+#[test]
+fn days_are_answered_step_by_step(rt: HostRuntime) -> Result<(), Fail> {
+    play(rt.alloc(), DAYS)
+}
+
+#[test]
+fn the_widest_balances_are_shown(rt: HostRuntime) -> Result<(), Fail> {
+    play(rt.alloc(), WIDE_BALANCES)
+}

@@ -1,7 +1,7 @@
 //! The life of a hold: completions, their reversals, and what comes late.
 use super::*;
 
-pub const DAYS: &[Day] = &[
+const DAYS: &[Day] = &[
     Day {
         name: "completions and their reversals",
         limit: MOST_ORDERS,
@@ -108,3 +108,8 @@ pub const DAYS: &[Day] = &[
         ],
     },
 ];
+
+#[test]
+fn a_hold_ends_by_its_completion(rt: HostRuntime) -> Result<(), Fail> {
+    play(rt.alloc(), DAYS)
+}

@@ -2,7 +2,7 @@
 use super::*;
 use iso_issuer::laws::*;
 
-pub const DAYS: &[Day] = &[
+const DAYS: &[Day] = &[
     Day {
         name: "a granted payment counts whole",
         limit: MOST_ORDERS,
@@ -251,7 +251,7 @@ pub const DAYS: &[Day] = &[
 ];
 
 /// What holds of every journal, and so of those of the days.
-pub fn laws_hold() {
+fn laws_hold() {
     granted_stands();
     reversals_stay();
     stands_no_more();
@@ -266,4 +266,10 @@ pub fn laws_hold() {
     repeats_are_answered();
     answers_are_entered();
     reordered();
+}
+
+#[test]
+fn laws_hold_of_days(rt: HostRuntime) -> Result<(), Fail> {
+    laws_hold();
+    play(rt.alloc(), DAYS)
 }

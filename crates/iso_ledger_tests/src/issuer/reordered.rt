@@ -25,7 +25,7 @@ const CREDIT: Plain = credit!(9, 350);
 
 /// The same orders in four orders. Each leaves the same on the account: 5000 less 200 and 100, with 350 more, of which 40
 /// are held. None is declined for want of money.
-pub const REORDERED: &[Day] = &[
+const REORDERED: &[Day] = &[
     Day {
         name: "a day in order",
         limit: 100,
@@ -151,3 +151,8 @@ pub const REORDERED: &[Day] = &[
         ],
     },
 ];
+
+#[test]
+fn the_order_of_orders_leaves_the_same(rt: HostRuntime) -> Result<(), Fail> {
+    play(rt.alloc(), REORDERED)
+}

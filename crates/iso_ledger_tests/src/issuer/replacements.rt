@@ -1,7 +1,7 @@
 //! Partial reversals: of an original all but the replacement amount is taken back, once.
 use super::*;
 
-pub const DAYS: &[Day] = &[
+const DAYS: &[Day] = &[
     Day {
         name: "partial reversal of a payment",
         limit: MOST_ORDERS,
@@ -85,3 +85,8 @@ pub const DAYS: &[Day] = &[
         ],
     },
 ];
+
+#[test]
+fn reversals_leave_what_they_say(rt: HostRuntime) -> Result<(), Fail> {
+    play(rt.alloc(), DAYS)
+}
