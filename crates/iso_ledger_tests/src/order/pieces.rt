@@ -62,6 +62,19 @@ fn messages_come_in_pieces(rt: HostRuntime) -> Result<(), Fail> {
     Ok(())
 }
 
+/// Where the pieces stop being a message, and why.
+fn fault_of(alloc: Global, unpacker: &mut Unpacker<'_>, piece: &[u8]) -> Option<UnpackFault> {
+    unpacker.feed(alloc, piece).err()
+}
+
+/// Whether the piece is a message of that type, and no more.
+fn is_message(alloc: Global, unpacker: &mut Unpacker<'_>, piece: &[u8], mti: u16) -> bool {
+    match unpacker.feed(alloc, piece) {
+        Ok(Fed::Done { message, used }) => message.mti().number() == mti && used == piece.len(),
+        _ => false,
+    }
+}
+
 #[test]
 fn a_fault_stays_until_the_reset(rt: HostRuntime) -> Result<(), Fail> {
     let alloc = rt.alloc();
@@ -70,19 +83,14 @@ fn a_fault_stays_until_the_reset(rt: HostRuntime) -> Result<(), Fail> {
 
     // bytes that no message begins with, and then a good one
     let echo = b"0800822000000000000004000000000000000102030405000001301";
-    let fault = UnpackFault {
+    let fault = Some(UnpackFault {
         at: 0,
         element: 0,
         cause: UnpackCause::BadMti,
-    };
-    assert!(rt; unpacker.feed(alloc, b"08A0").err() == Some(fault));
-    assert!(rt; unpacker.feed(alloc, echo).err() == Some(fault));
+    });
+    assert!(rt; fault_of(alloc, &mut unpacker, b"08A0") == fault);
+    assert!(rt; fault_of(alloc, &mut unpacker, echo) == fault);
     unpacker.reset();
-    match unpacker.feed(alloc, echo)? {
-        Fed::More => Err("the message is whole".into()),
-        Fed::Done { message, used } => {
-            assert!(rt; message.mti().number() == 800 && used == 55);
-            Ok(())
-        }
-    }
+    assert!(rt; is_message(alloc, &mut unpacker, echo, 800));
+    Ok(())
 }
