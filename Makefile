@@ -8,7 +8,7 @@
 # make schedule  an acquirer whose answers get lost, and what both ends hold: SCHEDULE=examples/lost-answers.txt
 # make library  proves the library for C and what it stands on, and builds it: crates/iso_c/out/libiso_c.a
 # make check   proves what changed since the last check
-# make prove   the whole gate: every proof, must-fail edit, test and program, from nothing; a check a core, RT_JOBS=2 for fewer
+# make prove   the whole gate: every proof, must-fail edit, test and program, from nothing; RT_JOBS=2 for fewer checks side by side
 # make memory  each call that can want memory, and each command, with each of its growths refused in turn
 # make loopback  how long a round trip on a port takes, and the memory of a host over many connections: ROUNDS=1000 for fewer
 # make bench   how fast the streams, the codec and the issuer are: ORDERS=2000 SIZES="100 1000" for fewer orders
@@ -31,7 +31,7 @@ ALL_ROUNDS := 100000
 ORDERS := $(ALL_ORDERS)
 SIZES := $(ALL_SIZES)
 ROUNDS := $(ALL_ROUNDS)
-RT_JOBS ?= $(shell nproc)
+RT_JOBS ?= $(shell expr $$(nproc) + 1)
 
 # the page that whole runs write
 ifeq ($(ORDERS) of $(SIZES),$(ALL_ORDERS) of $(ALL_SIZES))
@@ -89,10 +89,11 @@ $(BENCH): $(SOURCES)
 check:
 	rt all check
 
-# The codec's libraries wait for one another, so they come first, with two cores for each proof; the gate then keeps them.
-# (a gate that runs as CI takes no names)
+# Each crate up to the issuer waits for the one below it, so these come first: there a proof gets the cores that are free. The gate
+# keeps them and does the rest, one check more than cores at a time, since a check that begins or ends leaves its core free.
+# (A gate that runs as CI takes no names.)
 prove:
-	@[ "$$CI" = true ] || rt ci iso_wire
+	@[ "$$CI" = true ] || rt ci iso_issuer
 	RT_JOBS=$(RT_JOBS) rt ci
 
 memory:
