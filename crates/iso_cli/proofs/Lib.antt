@@ -5,5 +5,6 @@ mod ListeningLemmas
 mod SourceLemmas
 mod StreamingLemmas
 mod RefusedLemmas
+mod JobLemmas
 mod RunLemmas
 mod ConnectionLemmas

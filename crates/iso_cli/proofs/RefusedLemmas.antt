@@ -1,5 +1,5 @@
 -- Which stop a fault is.
-use Rattle.std.proofs.Common.{◌≡◌, ◌≢◌, inl, inr, ℕ, Bool, true, false, IsTrue, List, [], ◌∷◌, map, Option, IfSome, IfErr, Result, Ok, Err, refl, ap, subst, sym, ◌∙◌, arith}
+use Rattle.std.proofs.Common.{◌≡◌, ◌≢◌, inl, inr, ℕ, Bool, true, false, IsTrue, List, [], ◌∷◌, Option, IfSome, IfErr, Result, Ok, Err, ap, subst, sym, ◌∙◌, arith}
 use Rattle.std.specs.Prelude.{codes}
 use Rattle.std.specs.Io.KnownBytes.{Appends}
 use Rattle.iso_host.specs.Counts.{Counts}
@@ -8,7 +8,7 @@ use Rattle.iso_table.specs.declared.fault.TableFault.{TableFault}
 use Rattle.iso_table.specs.declared.fault.TableFault.TheVariants.{NotJson, Shape, BadVersion, BadNumber, Twice, BadMax, CodingClass, PadNotAllowed, Profile, Memory}
 use Rattle.iso_cli.specs.Stop.{status_of, line_of, stop_of_table, stop_of_words}
 use Rattle.iso_cli.specs.Tells.{TellsLineOf}
-use Rattle.iso_cli.specs.Refused.{ConvertStops, ConvertStopsAsked, HoldsNone, ShowStops, ShowStopsAsked}
+use Rattle.iso_cli.specs.Refused.{HoldsNone}
 use Rattle.iso_cli.specs.Words.{AsksShow, is_name}
 use Rattle.iso_cli.specs.declared.stop.Stop.{Stop}
 use Rattle.iso_cli.specs.declared.stop.Stop.TheVariants.{Write}
@@ -59,13 +59,8 @@ write_stops (Err stop) P failed = λ one. absurd (omega (arith, one, ap status_o
 
 -- ---- what the words ask
 
--- where no word's bytes are there, no word is
-pub no_words : {A B : Type 0} (f : A → B) (l : List A) → map f l ≡ [] → l ≡ []
-no_words f [] none = refl
-no_words f (x ∷ l) none = cc
-
 -- the words name one table to show
-same_show : (words : List (List ℕ)) (s t : List ℕ) (a b : Bool) → IsTrue (is_name s) → IsTrue (is_name t) → AsksShow words s a → AsksShow words t b → s ≡ t
+pub same_show : (words : List (List ℕ)) (s t : List ℕ) (a b : Bool) → IsTrue (is_name s) → IsTrue (is_name t) → AsksShow words s a → AsksShow words t b → s ≡ t
 same_show words s t false false s_name t_name p q = cc
 same_show words s t false true s_name t_name p (inl q) = cc
 same_show words s t false true s_name t_name p (inr q) = cc
@@ -83,17 +78,5 @@ same_show words s t true true s_name t_name (inr p) (inl q) =
     cc
 
 -- and one pair of tables to convert between
-same_convert : (words : List (List ℕ)) (a b c d : List ℕ) → words ≡ codes "convert" ∷ a ∷ c ∷ [] → words ≡ codes "convert" ∷ b ∷ d ∷ [] → (a ≡ b) × (c ≡ d)
+pub same_convert : (words : List (List ℕ)) (a b c d : List ℕ) → words ≡ codes "convert" ∷ a ∷ c ∷ [] → words ≡ codes "convert" ∷ b ∷ d ∷ [] → (a ≡ b) × (c ≡ d)
 same_convert words a b c d p q = (cc, cc)
-
--- so what stops the showing of that table stops what the words ask, and likewise a conversion
-pub show_asked : (words : List (List ℕ)) (file : List ℕ → Option (List ℕ)) (input : Option (List ℕ)) (stop : Stop) (s : List ℕ) (a : Bool) → IsTrue (is_name s)
-    → AsksShow words s a → ShowStops file s input stop → ShowStopsAsked words file input stop
-show_asked words file input stop s a named asks stops = λ t b t_named t_asks.
-    subst (λ (x : List ℕ). ShowStops file x input stop) (same_show words s t a b named t_named asks t_asks) stops
-
-pub convert_asked : (words : List (List ℕ)) (file : List ℕ → Option (List ℕ)) (input : Option (List ℕ)) (stop : Stop) (from to : List ℕ)
-    → words ≡ codes "convert" ∷ from ∷ to ∷ [] → ConvertStops file from to input stop → ConvertStopsAsked words file input stop
-convert_asked words file input stop from to asks stops = λ f t asked.
-    let same = same_convert words from f to t asks asked in
-    subst (λ (x : List ℕ). ConvertStops file x t input stop) same.0 (subst (λ (x : List ℕ). ConvertStops file from x input stop) same.1 stops)

@@ -3,6 +3,7 @@ pub mod CommandLine
 pub mod Connections
 pub mod Convert
 pub mod Echo
+pub mod Jobs
 pub mod Listening
 pub mod NoJob
 pub mod OneConnection

@@ -1,16 +1,15 @@
 //! What the command does.
 
-ghost use Rattle.std.specs.Prelude.{◌≡◌, ◌≤◌, [], map, IfErr, IsErrOf, OnOk};
+ghost use Rattle.std.specs.Prelude.{◌≡◌, ◌≤◌, [], map};
 ghost use Rattle.iso_cli.specs.Echo.{EchoesOver};
 ghost use Rattle.iso_cli.specs.Check.{ChecksAsked};
 ghost use Rattle.iso_cli.specs.Convert.{ConvertsAsked};
+ghost use Rattle.iso_cli.specs.Jobs.{Performs};
 ghost use Rattle.iso_cli.specs.Run.{RunsAsked};
 ghost use Rattle.iso_cli.specs.Show.{ShowsAsked};
-ghost use Rattle.iso_cli.specs.Stop.{status_of};
 ghost use Rattle.iso_cli.specs.Tells.{TellsEnding};
 ghost use Rattle.iso_cli.specs.Words.{AsksNothing};
-ghost use Rattle.iso_cli.specs.declared.stop.Stop.TheVariants as Stop;
-ghost use Rattle.iso_cli.specs.Refused.{CheckStopsAsked, ConvertStopsAsked, EchoStops, IsRefused, ShowStopsAsked};
+ghost use Rattle.iso_cli.specs.Refused.{IsRefused};
 
 use crate::check::check;
 use crate::convert::convert;
@@ -32,25 +31,8 @@ fn perform<S: Source, I: Inlet, O: Outlet>(
     input: &mut I,
     output: &mut O,
 ) -> Result<Option<Report>, Stop>
-    ensures echo { words.now ≡ []
-        → OnOk result (EchoesOver (I.remaining input.old) (O.contents output.old) (O.contents output.new)) }
-    ensures check { OnOk result (ChecksAsked (map (λ w. w.now) words.now) (S.file source.now)
-        (O.contents output.old) (O.contents output.new)) }
-    ensures show { OnOk result (ShowsAsked (map (λ w. w.now) words.now) (S.file source.now)
-        (I.remaining input.old) (O.contents output.old) (O.contents output.new)) }
-    ensures convert { OnOk result (ConvertsAsked (map (λ w. w.now) words.now) (S.file source.now)
-        (I.remaining input.old) (O.contents output.old) (O.contents output.new)) }
-    ensures run { OnOk result (RunsAsked (map (λ w. w.now) words.now) (S.file source.now)
-        (I.remaining input.old) (O.contents output.old) (O.contents output.new)) }
-    ensures words { IsErrOf result Stop.Words → AsksNothing (map (λ w. w.now) words.now) }
-    // Which stop with status 1 comes of each command but `run`.
-    ensures echo_stop { words.now ≡ [] → IfErr result (λ stop. status_of stop ≡ 1 → EchoStops (I.remaining input.old) stop) }
-    ensures check_stop { IfErr result (λ stop. status_of stop ≡ 1
-        → CheckStopsAsked (map (λ w. w.now) words.now) (S.file source.now) stop) }
-    ensures show_stop { IfErr result (λ stop. status_of stop ≡ 1
-        → ShowStopsAsked (map (λ w. w.now) words.now) (S.file source.now) (I.remaining input.old) stop) }
-    ensures convert_stop { IfErr result (λ stop. status_of stop ≡ 1
-        → ConvertStopsAsked (map (λ w. w.now) words.now) (S.file source.now) (I.remaining input.old) stop) }
+    ensures { Performs (map (λ w. w.now) words.now) (S.file source.now)
+        (I.remaining input.old) (O.contents output.old) (O.contents output.new) result }
 {
     match parse(alloc, words)? {
         Job::Echo => echo(alloc, input, output)?,

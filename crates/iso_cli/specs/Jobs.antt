@@ -1,0 +1,54 @@
+-- What comes of the job that the words ask.
+-- Inner: bodies and proofs cite it, and no public clause does.
+use Rattle.std.specs.Prelude.{◌≡◌, ℕ, List, Option, Result, Ok, Err}
+use Rattle.iso_host.specs.declared.fault.Report.{Report}
+use Rattle.iso_cli.specs.Check.{ChecksOver}
+use Rattle.iso_cli.specs.Convert.{ConvertsOver}
+use Rattle.iso_cli.specs.Echo.{EchoesOver}
+use Rattle.iso_cli.specs.Refused.{ConvertStops, EchoStops, NamesNone, ShowStops}
+use Rattle.iso_cli.specs.Run.{RunsOver}
+use Rattle.iso_cli.specs.Show.{ShowsOver}
+use Rattle.iso_cli.specs.Stop.{status_of}
+use Rattle.iso_cli.specs.Words.{Asks, AsksNothing}
+use Rattle.iso_cli.specs.declared.stop.Stop.{Stop}
+use Rattle.iso_cli.specs.declared.stop.Stop.TheVariants.{Words}
+use Rattle.iso_cli.specs.declared.words.Job.{Job}
+use Rattle.iso_cli.specs.declared.words.Job.TheVariants.{Echo, Check, Show, Convert, Run}
+
+-- what the job writes
+abbrev pub Does : Job → (List ℕ → Option (List ℕ)) → Option (List ℕ) → Option (List ℕ) → Option (List ℕ) → Type 0
+Does Echo file input old new = EchoesOver input old new
+Does (Check table) file input old new = ChecksOver file table.now old new
+Does (Show table clear) file input old new = ShowsOver file table.now clear input old new
+Does (Convert from to) file input old new = ConvertsOver file from.now to.now input old new
+Does (Run table accounts header) file input old new = RunsOver file table.now accounts.now header input old new
+
+-- what stops it with status 1, but for a host
+abbrev pub Stops : Job → (List ℕ → Option (List ℕ)) → Option (List ℕ) → Stop → Type 0
+Stops Echo file input stop = EchoStops input stop
+Stops (Check table) file input stop = NamesNone file table.now stop
+Stops (Show table clear) file input stop = ShowStops file table.now input stop
+Stops (Convert from to) file input stop = ConvertStops file from.now to.now input stop
+Stops (Run table accounts header) file input stop = status_of stop ≡ 1
+
+-- the words ask a job, and that was done
+pub record DoneAsked (words : List (List ℕ)) (file : List ℕ → Option (List ℕ)) (input old new : Option (List ℕ)) : Type 0 where
+  pub job : Job
+  pub asked : Asks words job
+  pub does : Does job file input old new
+
+-- the words ask a job, and this stops it
+pub record StopsAsked (words : List (List ℕ)) (file : List ℕ → Option (List ℕ)) (input : Option (List ℕ)) (stop : Stop) : Type 0 where
+  pub job : Job
+  pub asked : Asks words job
+  pub stops : Stops job file input stop
+
+-- what it means that this is the stop
+pub record Stopped (words : List (List ℕ)) (file : List ℕ → Option (List ℕ)) (input : Option (List ℕ)) (stop : Stop) : Type 0 where
+  pub nothing : stop ≡ Words → AsksNothing words
+  pub refused : status_of stop ≡ 1 → StopsAsked words file input stop
+
+-- the job was done, or something stopped it
+abbrev pub Performs : List (List ℕ) → (List ℕ → Option (List ℕ)) → Option (List ℕ) → Option (List ℕ) → Option (List ℕ) → Result (Option Report) Stop → Type 0
+Performs words file input old new (Ok report) = DoneAsked words file input old new
+Performs words file input old new (Err stop) = Stopped words file input stop
