@@ -1,6 +1,7 @@
 mod WalkLemmas
 mod SubcommandLemmas
 mod CommandLemmas
+mod WordLemmas
 mod ListeningLemmas
 mod SourceLemmas
 mod StreamingLemmas

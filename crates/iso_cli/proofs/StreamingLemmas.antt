@@ -1,8 +1,11 @@
 -- Bytes that are known, and were read whole.
-use Rattle.std.proofs.Common.{◌≡◌, ℕ, ◌≤◌, ◌<◌, List, ◌++◌, length, Option, Some, None, IfSome, OnOk, Result, Ok, Err, sym, ap, subst, ◌∙◌, arith}
-use Rattle.std.proofs.lemmas.List.{append-nil, length-take}
+use Rattle.std.proofs.Common.{◌≡◌, ℕ, ◌+◌, ◌≤◌, ◌<◌, Bool, true, false, if◌then◌else◌, List, ◌++◌, length, Option, Some, None, IfSome, OnOk, Result, Ok, Err, sym, ap, subst, ◌∙◌, arith}
+use Rattle.std.proofs.lemmas.List.{append-nil, length-append, length-take}
+use Rattle.std.proofs.KnownBytes.{Consumes-trans}
 use Rattle.std.specs.Io.KnownBytes.{Consumes, IsAtEnd}
+use Rattle.iso_host.specs.Counts.{Counts}
 use Rattle.iso_cli.specs.Source.{read_of}
+use Rattle.iso_cli.specs.Streaming.{Gave}
 use Rattle.iso_cli.proofs.SourceLemmas.{read_of-short}
 
 -- what was consumed to the end is all that there was
@@ -30,3 +33,27 @@ known_long (Some held) bytes same long = omega (arith, long, ap length same, len
 pub where_ok : {E : Type 0} (r : Result Unit E) (P Q : Type 0) → (P → Q) → OnOk r P → OnOk r Q
 where_ok (Ok u) P Q f p = f p
 where_ok (Err e) P Q f p = tt
+
+-- what a read gave, on top of what was read before
+pub read_more : (a b c : Option (List ℕ)) (old bytes new : List ℕ) (went : Bool) → Consumes a b old → Consumes b c bytes
+    → new ≡ (if went then old ++ bytes else old) → went ≡ true → Consumes a c new
+read_more a b c old bytes new true first next is went = subst (λ (l : List ℕ). Consumes a c l) (sym is) (Consumes-trans a b c old bytes first next)
+read_more a b c old bytes new false first next is went = cc
+
+pub read_len : (old more len : ℕ) (went : Bool) → len ≡ (if went then old + more else old) → went ≡ true → len ≡ old + more
+read_len old more len true is went = is
+read_len old more len false is went = cc
+
+pub gave_more : (a b c : Counts) (old n len : ℕ) → Gave a b old → c ≡ record { calls = b.calls + 1; moved = b.moved + n; failures = b.failures; unflushed = b.unflushed }
+    → len ≡ old + n → Gave a c len
+gave_more a b c old n len gave is more =
+    let moved : c.moved ≡ b.moved + n = ap (λ (x : Counts). x.moved) is in
+    record { moved = omega (arith, moved, gave.moved, more); failures = ap (λ (x : Counts). x.failures) is ∙ gave.failures }
+
+-- and where that is too long, so is what there is
+pub read_long : (a b c : Option (List ℕ)) (old bytes : List ℕ) → Consumes a b old → Consumes b c bytes → 1048576 < length old + length bytes → IfSome a (λ all. 1048576 < length all)
+read_long None b c old bytes first next long = tt
+read_long (Some all) None c old bytes first next long = absurd first
+read_long (Some all) (Some rest) None old bytes first next long = absurd next
+read_long (Some all) (Some rest) (Some end) old bytes first next long =
+    omega (arith, long, ap length first, ap length next, length-append old rest, length-append bytes end)
