@@ -2,7 +2,7 @@
 ghost use Rattle.std.specs.Prelude.{◌≡◌, IfErr, IfOk, map, true};
 ghost use Rattle.clap.specs.Words.{app_of, takes};
 ghost use Rattle.iso_cli.specs.CommandLine.{FollowsRule, IsCommand, bare_app, clear_rule, iso_alone, name_rule};
-ghost use Rattle.iso_cli.specs.Subcommands.{named_app, subcommand_app, with_subcommands};
+ghost use Rattle.iso_cli.specs.Subcommands.{AddsRow, named_app, subcommand_app, with_subcommands};
 ghost use Rattle.iso_cli.specs.declared.words.WordsFault.{WordsFault};
 
 use crate::words::WordsFault;
@@ -81,14 +81,25 @@ fn iso_alone<'a>(alloc: Global) -> Command<'a>
         .subcommand_required(true)
 }
 
+/// The command with one subcommand more.
+fn with_row<'a>(
+    alloc: Global,
+    command: Command<'a>,
+    row: &Subcommand,
+) -> Result<Command<'a>, AllocError>
+    ensures { IfOk result (AddsRow row.now command.entry) }
+{
+    let next = built_subcommand(alloc, row)?;
+    command.subcommand(next)
+}
+
 /// The command with these subcommands.
 fn command<'a>(alloc: Global, subcommands: &[Subcommand]) -> Result<Command<'a>, AllocError>
     ensures { IfOk result (IsCommand (with_subcommands iso_alone subcommands.now)) }
 {
     let mut command = iso_alone(alloc);
     for row in subcommands {
-        let next = built_subcommand(alloc, row)?;
-        command = command.subcommand(next)?;
+        command = with_row(alloc, command, row)?;
     }
     Ok(command)
 }
