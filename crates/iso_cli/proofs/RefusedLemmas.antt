@@ -1,5 +1,5 @@
 -- Which stop a fault is.
-use Rattle.std.proofs.Common.{◌≡◌, ◌≢◌, inl, inr, ℕ, Bool, true, false, IsTrue, List, [], ◌∷◌, Option, IfSome, IfErr, Result, Ok, Err, ap, subst, sym, ◌∙◌, arith}
+use Rattle.std.proofs.Common.{◌≡◌, ◌≢◌, inl, inr, ℕ, Bool, true, false, IsTrue, List, [], ◌∷◌, Option, IfSome, IfErr, OnOk, Result, Ok, Err, ap, subst, sym, ◌∙◌, arith}
 use Rattle.std.specs.Prelude.{codes}
 use Rattle.std.specs.Io.KnownBytes.{Appends}
 use Rattle.iso_host.specs.Counts.{Counts}
@@ -11,7 +11,7 @@ use Rattle.iso_cli.specs.Tells.{TellsLineOf}
 use Rattle.iso_cli.specs.Refused.{HoldsNone}
 use Rattle.iso_cli.specs.Words.{AsksShow, is_name}
 use Rattle.iso_cli.specs.declared.stop.Stop.{Stop}
-use Rattle.iso_cli.specs.declared.stop.Stop.TheVariants.{Write}
+use Rattle.iso_cli.specs.declared.stop.Stop.TheVariants.{Words, Write}
 use Rattle.iso_cli.specs.declared.words.WordsFault.{WordsFault}
 use Rattle.iso_cli.specs.declared.words.WordsFault.TheVariants as words
 use Rattle.iso_cli.proofs.StreamingLemmas.{known_all}
@@ -56,6 +56,19 @@ words_stop words.Memory stop is one = absurd (omega (arith, one, ap status_of is
 pub write_stops : {X : Type 0} (r : Result X Stop) (P : Stop → Type 0) → IfErr r (λ stop. stop ≡ Write) → IfErr r (λ stop. status_of stop ≡ 1 → P stop)
 write_stops (Ok x) P failed = tt
 write_stops (Err stop) P failed = λ one. absurd (omega (arith, one, ap status_of failed))
+
+-- which is no stop of words
+pub write_words : {X : Type 0} (r : Result X Stop) → IfErr r (λ stop. stop ≡ Write) → IfErr r (λ stop. stop ≢ Words)
+write_words (Ok x) failed = tt
+write_words (Err stop) failed = λ is. cc
+
+-- a stop that is handed on is none of words where the first isn't, and nothing was done
+module _ {X : Type 0} (r : Result X Stop) (e : Stop) (p : (x : Stop) × (r ≡ Err x) × (x ≡ e)) where
+  pub handed_words : e ≢ Words → IfErr r (λ stop. stop ≢ Words)
+  handed_words other = rw (p.1, p.2) other
+
+  pub handed_ok : (P : Type 0) → OnOk r P
+  handed_ok P = rw (p.1) tt
 
 -- ---- what the words ask
 

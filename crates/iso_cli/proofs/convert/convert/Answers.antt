@@ -4,7 +4,7 @@ use Rattle.std.specs.Io.KnownBytes.{Appends}
 use Rattle.iso_table.specs.Layout.{Layout}
 use Rattle.iso_cli.specs.Tables.{IsNamed}
 use Rattle.iso_wire.specs.Spelling.{Converts}
-use Rattle.iso_cli.proofs.RefusedLemmas.{write_stops}
+use Rattle.iso_cli.proofs.RefusedLemmas.{handed_ok, handed_words, write_stops, write_words}
 use Rattle.iso_cli.proofs.StreamingLemmas.{known_all, where_ok}
 use Rattle.iso_cli.proofs.convert.convert.Goals as goal
 
@@ -42,3 +42,30 @@ returns-in_err-bytes-clause-stop g c =
 
 pub returns-clause-stop : goal.returns-clause-stop
 returns-clause-stop g c = write_stops c.write_output.result _ c.write_output.ensures.stop
+
+pub returns-in_err-from-clause-words : goal.returns-in_err-from-clause-words
+returns-in_err-from-clause-words g c = handed_words _ _ (err_from_is_err_and c.from_residual.result c.from_residual.ensures.1) c.in_err-from.ensures.words
+
+pub returns-in_err-from-clause-packed : goal.returns-in_err-from-clause-packed
+returns-in_err-from-clause-packed g c = handed_ok _ _ (err_from_is_err_and c.from_residual.result c.from_residual.ensures.1) _
+
+pub returns-in_err-to-clause-words : goal.returns-in_err-to-clause-words
+returns-in_err-to-clause-words g c = handed_words _ _ (err_from_is_err_and c.from_residual-in_err-to.result c.from_residual-in_err-to.ensures.1) c.in_err-to.ensures.words
+
+pub returns-in_err-to-clause-packed : goal.returns-in_err-to-clause-packed
+returns-in_err-to-clause-packed g c = handed_ok _ _ (err_from_is_err_and c.from_residual-in_err-to.result c.from_residual-in_err-to.ensures.1) _
+
+pub returns-in_err-bytes-clause-words : goal.returns-in_err-bytes-clause-words
+returns-in_err-bytes-clause-words g c = handed_words _ _ (err_from_is_err_and c.from_residual-in_err-bytes.result c.from_residual-in_err-bytes.ensures.1) c.in_err-bytes.ensures.words
+
+pub returns-in_err-bytes-clause-packed : goal.returns-in_err-bytes-clause-packed
+returns-in_err-bytes-clause-packed g c = handed_ok _ _ (err_from_is_err_and c.from_residual-in_err-bytes.result c.from_residual-in_err-bytes.ensures.1) _
+
+pub returns-in_err-packed-clause-words : goal.returns-in_err-packed-clause-words
+returns-in_err-packed-clause-words g c = handed_words _ _ (err_from_is_err_and c.from_residual-in_err-packed.result c.from_residual-in_err-packed.ensures.1) c.in_err-packed.ensures.words
+
+pub returns-in_err-packed-clause-packed : goal.returns-in_err-packed-clause-packed
+returns-in_err-packed-clause-packed g c = handed_ok _ _ (err_from_is_err_and c.from_residual-in_err-packed.result c.from_residual-in_err-packed.ensures.1) _
+
+pub returns-clause-words : goal.returns-clause-words
+returns-clause-words g c = write_words c.write_output.result c.write_output.ensures.stop

@@ -4,7 +4,7 @@ use Rattle.std.specs.Io.KnownBytes.{Appends}
 use Rattle.iso_table.specs.Layout.{Layout}
 use Rattle.iso_cli.specs.Tables.{IsNamed}
 use Rattle.iso_cli.specs.Show.{Shows}
-use Rattle.iso_cli.proofs.RefusedLemmas.{write_stops}
+use Rattle.iso_cli.proofs.RefusedLemmas.{handed_ok, handed_words, write_stops, write_words}
 use Rattle.iso_cli.proofs.StreamingLemmas.{known_all, where_ok}
 use Rattle.iso_cli.proofs.show.show.Goals as goal
 
@@ -36,3 +36,24 @@ returns-in_err-bytes-clause-stop g c =
 
 pub returns-clause-stop : goal.returns-clause-stop
 returns-clause-stop g c = write_stops c.write_output.result _ c.write_output.ensures.stop
+
+pub returns-in_err-table-clause-words : goal.returns-in_err-table-clause-words
+returns-in_err-table-clause-words g c = handed_words _ _ (err_from_is_err_and c.from_residual.result c.from_residual.ensures.1) c.in_err-table.ensures.words
+
+pub returns-in_err-table-clause-lines : goal.returns-in_err-table-clause-lines
+returns-in_err-table-clause-lines g c = handed_ok _ _ (err_from_is_err_and c.from_residual.result c.from_residual.ensures.1) _
+
+pub returns-in_err-bytes-clause-words : goal.returns-in_err-bytes-clause-words
+returns-in_err-bytes-clause-words g c = handed_words _ _ (err_from_is_err_and c.from_residual-in_err-bytes.result c.from_residual-in_err-bytes.ensures.1) c.in_err-bytes.ensures.words
+
+pub returns-in_err-bytes-clause-lines : goal.returns-in_err-bytes-clause-lines
+returns-in_err-bytes-clause-lines g c = handed_ok _ _ (err_from_is_err_and c.from_residual-in_err-bytes.result c.from_residual-in_err-bytes.ensures.1) _
+
+pub returns-in_err-lines-clause-words : goal.returns-in_err-lines-clause-words
+returns-in_err-lines-clause-words g c = handed_words _ _ (err_from_is_err_and c.from_residual-in_err-lines.result c.from_residual-in_err-lines.ensures.1) c.in_err-lines.ensures.words
+
+pub returns-in_err-lines-clause-lines : goal.returns-in_err-lines-clause-lines
+returns-in_err-lines-clause-lines g c = handed_ok _ _ (err_from_is_err_and c.from_residual-in_err-lines.result c.from_residual-in_err-lines.ensures.1) _
+
+pub returns-clause-words : goal.returns-clause-words
+returns-clause-words g c = write_words c.write_output.result c.write_output.ensures.stop
