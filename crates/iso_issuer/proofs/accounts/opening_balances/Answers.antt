@@ -1,4 +1,4 @@
-use Rattle.std.proofs.Common.{◌≡◌, ap, sym, ◌∙◌, arith, take, [], ◌∷◌, ◌++◌, ◌+◌, Some, None, true, false, length, refl}
+use Rattle.std.proofs.Common.{◌≡◌, ap, sym, ◌∙◌, take, [], ◌∷◌, ◌++◌, ◌+◌, Some, None, true, false, refl}
 use Rattle.std.specs.Prelude.{is_some}
 use Rattle.std.proofs.lemmas.List.{map-append, take_more, take_all, at_drop_all, length-take-le}
 use Rattle.std.proofs.lemmas.Result.{err_from_is_err_and}
