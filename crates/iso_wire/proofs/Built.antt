@@ -1,15 +1,16 @@
 -- What a message that is read says of its pieces.
-use Rattle.std.proofs.Common.{◌≡◌, ℕ, ◌+◌, List, ◌∷◌, ◌++◌, length, drop, Option, Some, None, Result, Ok, Err, refl, sym, ap, subst, ◌∙◌}
+use Rattle.std.proofs.Common.{◌≡◌, ◌≢◌, ℕ, ◌+◌, List, ◌∷◌, ◌++◌, length, drop, Option, Some, None, Result, Ok, Err, refl, sym, ap, subst, ◌∙◌}
 use Rattle.iso_parts.specs.declared.spec.FieldSpec.{FieldSpec}
 use Rattle.iso_parts.specs.Building.{IsPart}
 use Rattle.iso_parts.specs.Reading.{FieldReading, got, more, fault, part_at}
 use Rattle.iso_table.specs.Layout.{Layout, row_at}
 use Rattle.iso_wire.specs.declared.fault.UnpackFault.{UnpackFault}
+use Rattle.iso_wire.specs.declared.fault.UnpackCause.TheVariants.{Memory}
 use Rattle.iso_wire.specs.Contents.{Contents}
 use Rattle.iso_wire.specs.Taking.{IsRead}
 use Rattle.iso_parts.specs.Numbers.{numbers_in}
 use Rattle.iso_parts.specs.Mti.{mti_size}
-use Rattle.iso_wire.specs.Reading.{◌>>=◌, type_at, words_at, answer, value_by, value_at, elements_at, message_at, whole}
+use Rattle.iso_wire.specs.Reading.{◌>>=◌, type_at, words_at, answer, value_by, value_at, elements_at, message_at, whole, IsFaultOf}
 use Rattle.iso_wire.proofs.Loop.{with_front}
 use Rattle.iso_wire.proofs.Orders.{Values}
 
@@ -67,3 +68,22 @@ elements_read t b mti w type words read =
     let one : IsRead (behind_type t b mti) = subst IsRead (message_is t b ∙ ap (λ r. r >>= behind_type t b) type) read in
     let two : IsRead (behind_words t b mti w) = subst IsRead (ap (λ r. r >>= behind_words t b mti) words) one in
     bind_read (elements_at t.rows (numbers_in w.0 w.1) (mti_size t.mti + w.2) (drop (mti_size t.mti + w.2) b)) (λ x. whole (made mti x.0) x.1) two
+
+-- ---- what each piece gives the message
+
+pub message_built : (t : Layout) (b : List ℕ) (mti : ℕ) (w : ℕ × ℕ × ℕ) (es : Values) (end : ℕ) → type_at t b ≡ Ok mti → words_at t (mti_size t.mti) (drop (mti_size t.mti) b) ≡ Ok w
+    → elements_at t.rows (numbers_in w.0 w.1) (mti_size t.mti + w.2) (drop (mti_size t.mti + w.2) b) ≡ Ok (es, end) → message_at t b ≡ whole (record { mti = mti; elements = es }) end
+message_built t b mti w es end type words elements =
+    message_is t b ∙ ap (λ r. r >>= behind_type t b) type ∙ ap (λ r. r >>= behind_words t b mti) words ∙ ap (λ r. r >>= λ x. whole (made mti x.0) x.1) elements
+
+pub type_fault : (t : Layout) (b : List ℕ) (e : UnpackFault) → IsFaultOf e (type_at t b) → IsFaultOf e (message_at t b)
+type_fault t b e f = (f.0, λ other. message_is t b ∙ ap (λ r. r >>= behind_type t b) (f.1 other))
+
+pub words_fault : (t : Layout) (b : List ℕ) (mti : ℕ) (e : UnpackFault) → type_at t b ≡ Ok mti → words_at t (mti_size t.mti) (drop (mti_size t.mti) b) ≡ Err e → e.cause ≢ Memory → IsFaultOf e (message_at t b)
+words_fault t b mti e type words other =
+    (λ memory. absurd (other memory), λ _. message_is t b ∙ ap (λ r. r >>= behind_type t b) type ∙ ap (λ r. r >>= behind_words t b mti) words)
+
+pub elements_fault : (t : Layout) (b : List ℕ) (mti : ℕ) (w : ℕ × ℕ × ℕ) (e : UnpackFault) → type_at t b ≡ Ok mti → words_at t (mti_size t.mti) (drop (mti_size t.mti) b) ≡ Ok w
+    → IsFaultOf e (elements_at t.rows (numbers_in w.0 w.1) (mti_size t.mti + w.2) (drop (mti_size t.mti + w.2) b)) → IsFaultOf e (message_at t b)
+elements_fault t b mti w e type words f =
+    (f.0, λ other. message_is t b ∙ ap (λ r. r >>= behind_type t b) type ∙ ap (λ r. r >>= behind_words t b mti) words ∙ ap (λ r. r >>= λ x. whole (made mti x.0) x.1) (f.1 other))
