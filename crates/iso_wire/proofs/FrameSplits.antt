@@ -11,13 +11,13 @@ use Rattle.iso_wire.proofs.FrameHeaders.{length-header_of}
 -- ---- a frame at the front is the only one
 
 -- the length that the front tells, if a frame begins there
-abbrev told : Header → List ℕ → ℕ
+abbrev pub told : Header → List ℕ → ℕ
 told Binary2 (x ∷ y ∷ rest) = 256 * x + y
 told Ascii4 (a ∷ b ∷ c ∷ d ∷ rest) = 1000 * (a - 48) + 100 * (b - 48) + 10 * (c - 48) + (d - 48)
 told Bcd2 (x ∷ y ∷ rest) = 1000 * (x / 16) + 100 * (x % 16) + 10 * (y / 16) + y % 16
 told h other = 0
 
-told-header_of : (h : Header) (n : ℕ) (more : List ℕ) → n ≤ largest h → told h (header_of h n ++ more) ≡ n
+pub told-header_of : (h : Header) (n : ℕ) (more : List ℕ) → n ≤ largest h → told h (header_of h n ++ more) ≡ n
 told-header_of Binary2 n more fits = omega arith
 told-header_of Ascii4 n more fits = omega arith
 told-header_of Bcd2 n more fits = omega arith
@@ -100,7 +100,7 @@ front_is h n bytes e room fits =
     record { body = take n rest; more = drop n rest; fits = omega (arith, length-take-le n rest room, fits); whole = e }
 
 -- a frame that begins the bytes is the one that their front tells
-only_front : (h : Header) (bytes body more : List ℕ) → length body ≤ largest h → bytes ≡ frame_of h body ++ more
+pub only_front : (h : Header) (bytes body more : List ℕ) → length body ≤ largest h → bytes ≡ frame_of h body ++ more
     → (told h bytes ≡ length body) × (body ++ more ≡ drop (header_size h) bytes)
 only_front h bytes body more fits e =
     let head = header_of h (length body) in
@@ -193,7 +193,7 @@ bad_stays Bcd2 (x ∷ []) more bad = absurd cc
 bad_stays Bcd2 (x ∷ y ∷ bytes) more bad = search rules
 
 -- a header that counts a length is of digits
-good_header : (h : Header) (n : ℕ) (part : List ℕ) → n ≤ largest h → is_bad_header h (header_of h n ++ part) ≡ false
+pub good_header : (h : Header) (n : ℕ) (part : List ℕ) → n ≤ largest h → is_bad_header h (header_of h n ++ part) ≡ false
 good_header Binary2 n part fits = refl
 good_header Ascii4 n part fits = search rules
 good_header Bcd2 n part fits = search rules

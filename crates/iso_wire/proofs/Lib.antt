@@ -19,6 +19,7 @@ pub mod PlainLaws
 pub mod Endings
 pub mod FrameHeaders
 pub mod FrameSplits
+pub mod FrameFronts
 pub mod NeverMemory
 pub mod Resumes
 pub mod Feeds
