@@ -1,8 +1,9 @@
 -- What is written is the plain spelling, and a message that has a spelling is not refused.
 use Rattle.std.specs.Option.{option_or}
-use Rattle.std.proofs.Common.{◌≡◌, ◌≢◌, ℕ, ◌/◌, ◌≤◌, ◌<◌, Bool, true, eqb, List, [], ◌∷◌, ◌++◌, length, take, drop, Option, Some, None, Result, Ok, Err, refl, sym, ap, subst, ◌∙◌, append_assoc, arith}
+use Rattle.std.proofs.Common.{◌≡◌, ◌≢◌, ℕ, ◌/◌, ◌≤◌, ◌<◌, Bool, true, cond, eqb, List, [], ◌∷◌, ◌++◌, length, take, drop, Option, Some, None, Result, Ok, Err, refl, sym, ap, subst, ◌∙◌, append_assoc, arith}
 use Rattle.std.specs.Prelude.{IfErr}
 use Rattle.std.specs.List.{flat_map}
+use Rattle.std.proofs.lemmas.Bool.{eq-eqb}
 use Rattle.std.proofs.lemmas.Bool.Decides.{nat_tests}
 use Rattle.iso_parts.specs.Digits.{four_digits_of}
 use Rattle.iso_parts.specs.declared.bitmap.BitmapCoding.{BitmapCoding}
@@ -20,7 +21,7 @@ use Rattle.iso_wire.specs.Reading.{message_at, whole}
 use Rattle.iso_wire.specs.Refusal.{refused_field, refused_by, first_refusal, message_refusal}
 use Rattle.iso_wire.specs.Spelling.{AreBytes, PartAs, Parts, plain_of, Spelling, PlainSpelling}
 use Rattle.iso_wire.specs.ReadingLaws.{ReadsSpellings}
-use Rattle.std.proofs.lemmas.List.{drop_at, take_at, take-take, length-append}
+use Rattle.std.proofs.lemmas.List.{drop_at, take_at, take_all, take-take, length-append}
 use Rattle.iso_wire.proofs.Bytes.{bytes_append, bytes_drop}
 use Rattle.iso_wire.proofs.Messages.{maps_agree}
 use Rattle.iso_wire.proofs.Unpacks.{spelled_is_read}
@@ -122,3 +123,14 @@ three_pieces old none one two all a b c same first second third =
     ∙ ap (λ (l : List ℕ). l ++ c) (second ∙ ap (λ (l : List ℕ). l ++ b) (first ∙ ap (λ (l : List ℕ). l ++ a) same))
     ∙ append_assoc (old ++ a) b c
     ∙ append_assoc old a (b ++ c)
+
+-- what was there is kept where something is put behind it, and where nothing is
+pub kept_more : (old new a : List ℕ) → new ≡ old ++ a → Keeps old new
+kept_more old new a is = ap (take (length old)) is ∙ take_at old a (length old) refl
+
+pub kept_same : (old new : List ℕ) → new ≡ old → Keeps old new
+kept_same old new is = ap (take (length old)) is ∙ take_all (length old) old (omega arith)
+
+-- a message of the table's version is refused for its elements alone
+pub refused_elements : (t : Layout) (m : Contents) → m.mti / 1000 ≡ t.version → message_refusal t m ≡ first_refusal t.rows m.elements
+refused_elements t m is = ap (λ (b : Bool). cond b (first_refusal t.rows m.elements) (Some WrongVersion)) (eq-eqb (m.mti / 1000) t.version is)

@@ -1,4 +1,4 @@
-use Rattle.std.proofs.Common.{◌≡◌, ◌<◌, ◌/◌, ◌++◌, ℕ, Some, ap, subst, refl, ◌∙◌, arith, rules}
+use Rattle.std.proofs.Common.{◌≡◌, ◌<◌, ◌/◌, ◌++◌, ℕ, Some, None, ap, subst, refl, ◌∙◌, arith, rules}
 use Rattle.std.proofs.lemmas.Result.{err_from_is_err_and}
 use Rattle.std.specs.List.{flat_map}
 use Rattle.iso_parts.specs.Digits.{four_digits_of}
@@ -7,10 +7,10 @@ use Rattle.iso_parts.specs.declared.digits.Digits.{Digits}
 use Rattle.iso_parts.specs.Bitmap.{contains, PlainBitmaps}
 use Rattle.iso_parts.specs.Mti.{mti_number}
 use Rattle.iso_wire.specs.declared.fault.PackFault.TheVariants.{WrongVersion}
-use Rattle.iso_wire.specs.Refusal.{message_refusal}
+use Rattle.iso_wire.specs.Refusal.{first_refusal, message_refusal}
 use Rattle.iso_wire.specs.Spelling.{Parts, plain_of}
 use Rattle.iso_wire.proofs.Orders.{Values}
-use Rattle.iso_wire.proofs.Packs.{plain_spelling_lem, three_pieces, kept_behind}
+use Rattle.iso_wire.proofs.Packs.{plain_spelling_lem, three_pieces, kept_behind, kept_same, kept_more, refused_elements}
 use Rattle.iso_wire.proofs.packing.append_spelling.Goals as goal
 
 pub returns-clause-packed : goal.returns-clause-packed
@@ -43,3 +43,55 @@ pub returns-then-mti-version-clause-fault : goal.returns-then-mti-version-clause
 returns-then-mti-version-clause-fault c =
     let told : message_refusal c.args.table.now c.args.message.now ≡ Some WrongVersion = search rules in
     λ other. told
+
+pub returns-clause-accepted : goal.returns-clause-accepted
+returns-clause-accepted c =
+    let mti = c.mti-mti.result in
+    let same : mti_number mti ≡ c.args.message.now.mti = c.mti-mti.ensures in
+    let version : c.args.message.now.mti / 1000 ≡ c.args.table.now.version = omega (arith, same, mti.version_digit, mti.class_digit, mti.function_digit, mti.origin_digit, c.if-mti-version.false, c.version.ensures.version) in
+    refused_elements c.args.table.now c.args.message.now version ∙ subst (λ (es : Values). first_refusal c.args.table.now.rows es ≡ None) c.parts-elements.ensures.elements c.in_ok-append_parts.ensures.fits
+
+pub returns-clause-bytes : goal.returns-clause-bytes
+returns-clause-bytes c = c.append_parts.ensures.bytes
+
+pub returns-clause-good : goal.returns-clause-good
+returns-clause-good c = c.version.ensures.good
+
+pub returns-in_err-append_parts-clause-fault : goal.returns-in_err-append_parts-clause-fault
+returns-in_err-append_parts-clause-fault c =
+    let mti = c.mti-mti.result in
+    let same : mti_number mti ≡ c.args.message.now.mti = c.mti-mti.ensures in
+    let version : c.args.message.now.mti / 1000 ≡ c.args.table.now.version = omega (arith, same, mti.version_digit, mti.class_digit, mti.function_digit, mti.origin_digit, c.if-mti-version.false, c.version.ensures.version) in
+    let p = err_from_is_err_and c.from_residual-in_err-append_parts.result c.from_residual-in_err-append_parts.ensures.1 in
+    rw (p.1, p.2) (λ other. refused_elements c.args.table.now c.args.message.now version
+    ∙ subst (λ (es : Values). first_refusal c.args.table.now.rows es ≡ Some c.in_err-append_parts.field-0.0) c.parts-elements.ensures.elements (c.in_err-append_parts.ensures.fault other))
+
+pub returns-in_err-make_room-clause-fault : goal.returns-in_err-make_room-clause-fault
+returns-in_err-make_room-clause-fault c =
+    let p = err_from_is_err_and c.from_residual.result c.from_residual.ensures.1 in
+    rw (p.1, p.2) (λ other. absurd (other refl))
+
+pub returns-in_err-make_room-clause-kept : goal.returns-in_err-make_room-clause-kept
+returns-in_err-make_room-clause-kept c =
+    let p = err_from_is_err_and c.from_residual.result c.from_residual.ensures.1 in
+    rw p.1 (kept_same c.args.out.now.items c.make_room.new.out.items c.make_room.ensures)
+
+pub returns-in_err-append_mti-clause-fault : goal.returns-in_err-append_mti-clause-fault
+returns-in_err-append_mti-clause-fault c =
+    let p = err_from_is_err_and c.from_residual-in_err-append_mti.result c.from_residual-in_err-append_mti.ensures.1 in
+    rw (p.1, p.2) (λ other. absurd (other refl))
+
+pub returns-in_err-append_mti-clause-kept : goal.returns-in_err-append_mti-clause-kept
+returns-in_err-append_mti-clause-kept c =
+    let p = err_from_is_err_and c.from_residual-in_err-append_mti.result c.from_residual-in_err-append_mti.ensures.1 in
+    rw p.1 (kept_same c.args.out.now.items c.append_mti.new.out.items (c.in_err-append_mti.ensures.unchanged ∙ c.make_room.ensures))
+
+pub returns-in_err-append-clause-fault : goal.returns-in_err-append-clause-fault
+returns-in_err-append-clause-fault c =
+    let p = err_from_is_err_and c.from_residual-in_err-append.result c.from_residual-in_err-append.ensures.1 in
+    rw (p.1, p.2) (λ other. absurd (other refl))
+
+pub returns-in_err-append-clause-kept : goal.returns-in_err-append-clause-kept
+returns-in_err-append-clause-kept c =
+    let p = err_from_is_err_and c.from_residual-in_err-append.result c.from_residual-in_err-append.ensures.1 in
+    rw p.1 (kept_more c.args.out.now.items c.append.new.out.items (four_digits_of c.mti.result (mti_number c.mti-mti.result)) (c.in_err-append.ensures.unchanged ∙ c.in_ok-append_mti.ensures.ok ∙ ap (λ l. l ++ four_digits_of c.mti.result (mti_number c.mti-mti.result)) c.make_room.ensures))
