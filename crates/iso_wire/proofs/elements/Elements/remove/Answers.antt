@@ -192,3 +192,15 @@ returns-clause-numbered c =
     } in
     let is_left = removed x whole n good.0 good.1 at start placed begins is len size y c.unset.ensures.removed c.unset.ensures.others made c.requires.ascending in
     λ k. numbered_without x.numbers y.numbers n (views x) c.requires.numbered c.unset.ensures.removed c.unset.ensures.others k ∙ ap (λ es. has es k) (sym is_left)
+
+pub returns-then-not-has-clause-found : goal.returns-then-not-has-clause-found
+returns-then-not-has-clause-found c = sym (sym c.has.ensures.has ∙ c.if-not-has.true) ∙ c.requires.numbered c.args.n
+
+pub returns-then-not-has-clause-whole : goal.returns-then-not-has-clause-whole
+returns-then-not-has-clause-whole c = c.requires.whole
+
+pub returns-then-not-has-clause-numbered : goal.returns-then-not-has-clause-numbered
+returns-then-not-has-clause-numbered c = c.requires.numbered
+
+pub returns-clause-found : goal.returns-clause-found
+returns-clause-found c = sym (sym c.has.ensures.has ∙ c.if-not-has.false) ∙ c.requires.numbered c.args.n
