@@ -3,8 +3,9 @@ use Rattle.iso_wire.specs.declared.fault.UnpackCause.TheVariants.{Short}
 use Rattle.iso_wire.specs.declared.judging.ResumePoint.TheVariants as points
 use Rattle.iso_wire.specs.Reading.{message_at}
 use Rattle.iso_wire.specs.ReadingLaws.{IsShort}
+use Rattle.iso_wire.specs.Judging.{IsResumed}
 use Rattle.iso_wire.proofs.Feeds.{start_short, is_read}
-use Rattle.iso_wire.proofs.Resumes.{at_start, resumed_read, resumed_fault, fault_no_memory}
+use Rattle.iso_wire.proofs.Resumes.{at_start, resumed_more, resumed_read, resumed_fault, fault_no_memory}
 use Rattle.iso_wire.proofs.unpacker.take_first.Goals as goal
 
 pub returns-then-ne-clause-exact : goal.returns-then-ne-clause-exact
@@ -36,3 +37,24 @@ build-requires-clause-read c =
     let piece : List ℕ = c.args.piece.now in
     let read = resumed_read t points.Type c.judge_from-reached.result.0 [] piece c.judge_from-reached.result.1 (at_start t []) c.judge_from-reached.ensures in
     is_read (message_at t piece) c.in_default.field-0 (read ∙ c.in_default.is)
+
+pub returns-then-ne-clause-resumed : goal.returns-then-ne-clause-resumed
+returns-then-ne-clause-resumed c = at_start c.args.table.now c.args.taken.now.items
+
+pub returns-then-is_err-clause-resumed : goal.returns-then-is_err-clause-resumed
+returns-then-is_err-clause-resumed c = at_start c.args.table.now c.extend_from_slice.new.self.items
+
+pub returns-in-Ok-clause-resumed : goal.returns-in-Ok-clause-resumed
+returns-in-Ok-clause-resumed c = at_start c.args.table.now c.args.taken.now.items
+
+pub returns-in-Err-build-clause-resumed : goal.returns-in-Err-build-clause-resumed
+returns-in-Err-build-clause-resumed c = at_start c.args.table.now c.args.taken.now.items
+
+pub returns-in-Err-clause-resumed : goal.returns-in-Err-clause-resumed
+returns-in-Err-clause-resumed c =
+    let t = c.args.table.now in
+    let piece : List ℕ = c.args.piece.now in
+    let put : c.extend_from_slice.new.self.items ≡ c.args.taken.now.items ++ piece = rw c.if-is_err.ensures.negation at c.extend_from_slice.ensures.items in
+    let more = put ∙ ap (λ (l : List ℕ). l ++ piece) c.requires in
+    let reached = c.judge_from-reached.result.0 in
+    subst (λ (l : List ℕ). IsResumed t reached l) (sym more) (resumed_more t points.Type reached [] piece c.judge_from-reached.result.1 (at_start t []) c.judge_from-reached.ensures)
