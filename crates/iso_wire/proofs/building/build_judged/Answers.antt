@@ -41,7 +41,7 @@ elements_of-requires-clause-read c =
     let size = c.mti_size-size.ensures ∙ ap mti_size c.mti.ensures in
     let words = ap (λ (k : ℕ). words_at t k (drop k b)) (sym size) ∙ ap (λ l. words_at t c.mti_size-size.result l) (sym c.split_at.ensures.back) ∙ sym c.in_ok-primary.ensures.exact in
     let es : elements_at t.rows (members c.from_words-numbers.result) (c.mti_size-size.result + c.in_ok-primary.used) (drop (c.mti_size-size.result + c.in_ok-primary.used) b)
-        ≡ elements_at t.rows (numbers_in c.in_ok-primary.primary c.in_ok-primary.secondary) (mti_size t.mti + c.in_ok-primary.used) (drop (mti_size t.mti + c.in_ok-primary.used) b) =
+    ≡ elements_at t.rows (numbers_in c.in_ok-primary.primary c.in_ok-primary.secondary) (mti_size t.mti + c.in_ok-primary.used) (drop (mti_size t.mti + c.in_ok-primary.used) b) =
     ap (λ ns. elements_at t.rows ns (c.mti_size-size.result + c.in_ok-primary.used) (drop (c.mti_size-size.result + c.in_ok-primary.used) b)) c.from_words-numbers.ensures.members
     ∙ ap (λ (k : ℕ). elements_at t.rows (numbers_in c.in_ok-primary.primary c.in_ok-primary.secondary) (k + c.in_ok-primary.used) (drop (k + c.in_ok-primary.used) b)) size in
     subst IsRead (sym es) (elements_read t b (mti_number c.in_ok-mti.mti) (c.in_ok-primary.primary, c.in_ok-primary.secondary, c.in_ok-primary.used) c.in_ok-mti.ensures.exact words c.requires.read)
@@ -53,7 +53,7 @@ returns-in_err-elements-clause-exact c =
     let size = c.mti_size-size.ensures ∙ ap mti_size c.mti.ensures in
     let words = ap (λ (k : ℕ). words_at t k (drop k b)) (sym size) ∙ ap (λ l. words_at t c.mti_size-size.result l) (sym c.split_at.ensures.back) ∙ sym c.in_ok-primary.ensures.exact in
     let es : elements_at t.rows (members c.from_words-numbers.result) (c.mti_size-size.result + c.in_ok-primary.used) (drop (c.mti_size-size.result + c.in_ok-primary.used) b)
-        ≡ elements_at t.rows (numbers_in c.in_ok-primary.primary c.in_ok-primary.secondary) (mti_size t.mti + c.in_ok-primary.used) (drop (mti_size t.mti + c.in_ok-primary.used) b) =
+    ≡ elements_at t.rows (numbers_in c.in_ok-primary.primary c.in_ok-primary.secondary) (mti_size t.mti + c.in_ok-primary.used) (drop (mti_size t.mti + c.in_ok-primary.used) b) =
     ap (λ ns. elements_at t.rows ns (c.mti_size-size.result + c.in_ok-primary.used) (drop (c.mti_size-size.result + c.in_ok-primary.used) b)) c.from_words-numbers.ensures.members
     ∙ ap (λ (k : ℕ). elements_at t.rows (numbers_in c.in_ok-primary.primary c.in_ok-primary.secondary) (k + c.in_ok-primary.used) (drop (k + c.in_ok-primary.used) b)) size in
     let p = err_from_is_err_and c.from_residual-in_err-elements.result c.from_residual-in_err-elements.ensures.1 in
@@ -67,7 +67,7 @@ returns-clause-exact c =
     let size = c.mti_size-size.ensures ∙ ap mti_size c.mti.ensures in
     let words = ap (λ (k : ℕ). words_at t k (drop k b)) (sym size) ∙ ap (λ l. words_at t c.mti_size-size.result l) (sym c.split_at.ensures.back) ∙ sym c.in_ok-primary.ensures.exact in
     let es : elements_at t.rows (members c.from_words-numbers.result) (c.mti_size-size.result + c.in_ok-primary.used) (drop (c.mti_size-size.result + c.in_ok-primary.used) b)
-        ≡ elements_at t.rows (numbers_in c.in_ok-primary.primary c.in_ok-primary.secondary) (mti_size t.mti + c.in_ok-primary.used) (drop (mti_size t.mti + c.in_ok-primary.used) b) =
+    ≡ elements_at t.rows (numbers_in c.in_ok-primary.primary c.in_ok-primary.secondary) (mti_size t.mti + c.in_ok-primary.used) (drop (mti_size t.mti + c.in_ok-primary.used) b) =
     ap (λ ns. elements_at t.rows ns (c.mti_size-size.result + c.in_ok-primary.used) (drop (c.mti_size-size.result + c.in_ok-primary.used) b)) c.from_words-numbers.ensures.members
     ∙ ap (λ (k : ℕ). elements_at t.rows (numbers_in c.in_ok-primary.primary c.in_ok-primary.secondary) (k + c.in_ok-primary.used) (drop (k + c.in_ok-primary.used) b)) size in
     rw c.from_elements.ensures (message_built t b (mti_number c.in_ok-mti.mti) (c.in_ok-primary.primary, c.in_ok-primary.secondary, c.in_ok-primary.used) (views c.in_ok-elements.elements) c.in_ok-elements.end c.in_ok-mti.ensures.exact words
