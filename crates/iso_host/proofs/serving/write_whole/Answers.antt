@@ -1,6 +1,15 @@
-use Rattle.std.proofs.Common.{◌≡◌, ◌<◌, length, drop, take, ◌-◌, arith, length-drop, ap, ◌∙◌}
+use Rattle.std.proofs.Common.{◌≡◌, ℕ, List, ◌≤◌, ◌<◌, subst, length, drop, take, ◌-◌, arith, length-drop, ap, ◌∙◌}
+use Rattle.std.proofs.KnownBytes.{Appends-kept}
+use Rattle.std.proofs.lemmas.List.{take_all}
+use Rattle.std.specs.declared.option.Option.{Option}
+use Rattle.std.specs.Io.KnownBytes.{Appends, Keeps}
+use Rattle.iso_host.specs.Counts.{Counts}
 use Rattle.iso_host.proofs.StreamLemmas.{rest_from, appends_more, spends_more, turns_more}
 use Rattle.iso_host.proofs.serving.write_whole.Goals as goal
+
+-- all was written, and no more came behind it
+whole : (a b c : Option (List ℕ)) (bs : List ℕ) (at : ℕ) → Appends a b (take at bs) → length bs ≤ at → Keeps b c → Appends a c bs
+whole a b c bs at written all kept = subst (λ (l : List ℕ). Appends a c l) (take_all at bs all) (Appends-kept a b c (take at bs) written kept)
 
 pub loop-at-preserved : goal.loop-at-preserved
 loop-at-preserved g c =
@@ -15,3 +24,43 @@ loop-at-preserved g c =
       turns = turns_more _ _ _ _ _ _ c.loop-at.invariant.spent c.loop-at.invariant.turns turn c.in-Ok.ensures.counts;
       spent = spends_more _ _ _ _ _ _ c.loop-at.invariant.spent turn some c.in-Ok.ensures.counts;
     }
+
+pub returns-in_default-clause-written : goal.returns-in_default-clause-written
+returns-in_default-clause-written g c =
+    let so = c.loop-at.invariant in
+    (c.loop-at.at, so.in_range, Appends-kept (g.W.Outlet.contents c.args.writer.now) (g.W.Outlet.contents c.loop-at.writer) (g.W.Outlet.contents c.write.new.self) (take c.loop-at.at c.args.bytes.now) so.written c.in_default.ensures.bytes)
+
+pub returns-in-Err-clause-written : goal.returns-in-Err-clause-written
+returns-in-Err-clause-written g c =
+    let so = c.loop-at.invariant in
+    (c.loop-at.at, so.in_range, Appends-kept (g.W.Outlet.contents c.args.writer.now) (g.W.Outlet.contents c.loop-at.writer) (g.W.Outlet.contents c.flush.new.self) (take c.loop-at.at c.args.bytes.now) so.written c.in-Err.ensures.bytes)
+
+pub returns-then-left-eq0-clause-written : goal.returns-then-left-eq0-clause-written
+returns-then-left-eq0-clause-written g c = (c.loop-at.at, c.loop-at.invariant.in_range, c.loop-at.invariant.written)
+
+pub returns-in-Ok-flush-clause-written : goal.returns-in-Ok-flush-clause-written
+returns-in-Ok-flush-clause-written g c = whole (g.W.Outlet.contents c.args.writer.now) (g.W.Outlet.contents c.loop-at.writer) (g.W.Outlet.contents c.flush.new.self) c.args.bytes.now c.loop-at.at c.loop-at.invariant.written c.loop-at-test.false c.in-Ok-flush.ensures.bytes
+
+pub returns-in_default-clause-spent : goal.returns-in_default-clause-spent
+returns-in_default-clause-spent g c =
+    let failures = ap (λ (k : Counts). k.failures) c.in_default.ensures.counts in
+    omega (arith, failures, c.loop-at.invariant.spent.failures)
+
+pub returns-in-Err-clause-spent : goal.returns-in-Err-clause-spent
+returns-in-Err-clause-spent g c =
+    let failures = ap (λ (k : Counts). k.failures) c.in-Err.ensures.counts in
+    omega (arith, failures, c.loop-at.invariant.spent.failures)
+
+pub returns-then-left-eq0-clause-spent : goal.returns-then-left-eq0-clause-spent
+returns-then-left-eq0-clause-spent g c = (c.loop-at.invariant.spent, c.if-left-eq0.true)
+
+pub returns-in-Ok-flush-clause-spent : goal.returns-in-Ok-flush-clause-spent
+returns-in-Ok-flush-clause-spent g c =
+    let spent = c.loop-at.invariant.spent in
+    let calls = ap (λ (k : Counts). k.calls) c.in-Ok-flush.ensures.counts in
+    let moved = ap (λ (k : Counts). k.moved) c.in-Ok-flush.ensures.counts in
+    let failures = ap (λ (k : Counts). k.failures) c.in-Ok-flush.ensures.counts in
+    record { fewer = spent.fewer; moved = omega (arith, calls, moved, spent.moved); failures = failures ∙ spent.failures }
+
+pub returns-in-Ok-flush-clause-flushed : goal.returns-in-Ok-flush-clause-flushed
+returns-in-Ok-flush-clause-flushed g c = ap (λ (k : Counts). k.unflushed) c.in-Ok-flush.ensures.counts
