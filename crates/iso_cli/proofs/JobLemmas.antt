@@ -9,7 +9,7 @@ use Rattle.iso_wire.specs.declared.header.Header.TheVariants.{Binary2, Ascii4, B
 use Rattle.iso_cli.specs.Check.{ChecksAsked, ChecksOver}
 use Rattle.iso_cli.specs.Convert.{ConvertsAsked, ConvertsOver}
 use Rattle.iso_cli.specs.Echo.{EchoesOver}
-use Rattle.iso_cli.specs.Jobs.{Does, DoneAsked, Performs, Stopped, Stops, StopsAsked}
+use Rattle.iso_cli.specs.Jobs.{DoesJob, DoesAsked, Performs, IsStopOf, StopsJob, StopsAsked}
 use Rattle.iso_cli.specs.Refused.{ConvertStops, EchoStops, IsRefused, NamesNone, ShowStops}
 use Rattle.iso_cli.specs.Run.{RunsAsked, RunsOver}
 use Rattle.iso_cli.specs.Show.{ShowsAsked, ShowsOver}
@@ -27,8 +27,8 @@ use Rattle.iso_cli.proofs.RefusedLemmas.{same_convert, same_show, words_stop}
 
 module _ (words : List (List ℕ)) (file : List ℕ → Option (List ℕ)) (input : Option (List ℕ)) where
   -- what stops such a job, which isn't that the words ask nothing
-  pub stopped : (stop : Stop) (found job : Job) → Asks words found → found ≡ job → (stop ≡ Words → ⊥) → (status_of stop ≡ 1 → Stops job file input stop)
-      → Stopped words file input stop
+  pub stopped : (stop : Stop) (found job : Job) → Asks words found → found ≡ job → (stop ≡ Words → ⊥) → (status_of stop ≡ 1 → StopsJob job file input stop)
+      → IsStopOf words file input stop
   stopped stop found job asks is other stops = record {
     nothing = λ w. absurd (other w);
     refused = λ one. record { job = job; asked = subst (λ (j : Job). Asks words j) is asks; stops = stops one };
@@ -36,19 +36,19 @@ module _ (words : List (List ℕ)) (file : List ℕ → Option (List ℕ)) (inpu
 
 module _ (words : List (List ℕ)) (file : List ℕ → Option (List ℕ)) (input old new : Option (List ℕ)) where
   -- what it does
-  pub done : (found job : Job) → Asks words found → found ≡ job → Does job file input old new → DoneAsked words file input old new
+  pub done : (found job : Job) → Asks words found → found ≡ job → DoesJob job file input old new → DoesAsked words file input old new
   done found job asks is does = record { job = job; asked = subst (λ (j : Job). Asks words j) is asks; does = does }
 
   -- the same of a job that has nothing to report
   pub quiet : (r : Result (Option Report) Stop) (went : Result Unit Stop) (found job : Job) → OnOk r (IsOk went) → IfErr r (λ stop. went ≡ Err stop)
-      → Asks words found → found ≡ job → OnOk went (Does job file input old new) → IfErr went (λ stop. stop ≡ Words → ⊥)
-      → IfErr went (λ stop. status_of stop ≡ 1 → Stops job file input stop) → Performs words file input old new r
+      → Asks words found → found ≡ job → OnOk went (DoesJob job file input old new) → IfErr went (λ stop. stop ≡ Words → ⊥)
+      → IfErr went (λ stop. status_of stop ≡ 1 → StopsJob job file input stop) → Performs words file input old new r
   quiet (Ok x) (Ok u) found job ok err asks is does other stops = done found job asks is does
   quiet (Ok x) (Err stop) found job ok err asks is does other stops = cc
   quiet (Err x) (Ok u) found job ok err asks is does other stops = cc
   quiet (Err x) (Err stop) found job ok err asks is does other stops =
       let same : stop ≡ x = cc in
-      subst (λ (y : Stop). Stopped words file input y) same (stopped words file input stop found job asks is other stops)
+      subst (λ (y : Stop). IsStopOf words file input y) same (stopped words file input stop found job asks is other stops)
 
   -- no job is stopped where the words are refused
   pub unasked : (r : Result (Option Report) Stop) (fault : WordsFault) → (x : Stop) × (r ≡ Err x) × (x ≡ stop_of_words fault)
@@ -154,21 +154,21 @@ module _ (words : List (List ℕ)) (P : Job → Type 0) where
   by_show Q f t true name (inr is) (Run table accounts header) asks p = cc (asks.2)
 
 -- so what was done is what they ask
-module _ (words : List (List ℕ)) (file : List ℕ → Option (List ℕ)) (input old new : Option (List ℕ)) (d : DoneAsked words file input old new) where
+module _ (words : List (List ℕ)) (file : List ℕ → Option (List ℕ)) (input old new : Option (List ℕ)) (d : DoesAsked words file input old new) where
   pub echoes : words ≡ [] → EchoesOver input old new
-  echoes none = by_none words (λ j. Does j file input old new) (EchoesOver input old new) (λ p. p) none d.job d.asked d.does
+  echoes none = by_none words (λ j. DoesJob j file input old new) (EchoesOver input old new) (λ p. p) none d.job d.asked d.does
 
   pub checks : ChecksAsked words file old new
-  checks = λ t named is. by_check words (λ j. Does j file input old new) (λ t. ChecksOver file t old new) (λ table p. p) t is d.job d.asked d.does
+  checks = λ t named is. by_check words (λ j. DoesJob j file input old new) (λ t. ChecksOver file t old new) (λ table p. p) t is d.job d.asked d.does
 
   pub shows : ShowsAsked words file input old new
-  shows = λ t b named is. by_show words (λ j. Does j file input old new) (λ t b. ShowsOver file t b input old new) (λ table clear p. p) t b named is d.job d.asked d.does
+  shows = λ t b named is. by_show words (λ j. DoesJob j file input old new) (λ t b. ShowsOver file t b input old new) (λ table clear p. p) t b named is d.job d.asked d.does
 
   pub converts : ConvertsAsked words file input old new
-  converts = λ a b is. by_convert words (λ j. Does j file input old new) (λ a b. ConvertsOver file a b input old new) (λ from to p. p) a b is d.job d.asked d.does
+  converts = λ a b is. by_convert words (λ j. DoesJob j file input old new) (λ a b. ConvertsOver file a b input old new) (λ from to p. p) a b is d.job d.asked d.does
 
   pub runs : RunsAsked words file input old new
-  runs = λ a b h is. by_run words (λ j. Does j file input old new) (λ a b h. RunsOver file a b h input old new) (λ table accounts h p. p) a b h is d.job d.asked d.does
+  runs = λ a b h is. by_run words (λ j. DoesJob j file input old new) (λ a b h. RunsOver file a b h input old new) (λ table accounts h p. p) a b h is d.job d.asked d.does
 
 -- and likewise what stopped it
 module _ (words : List (List ℕ)) (file : List ℕ → Option (List ℕ)) (input held written : Option (List ℕ)) (stop : Stop) where
@@ -177,8 +177,8 @@ module _ (words : List (List ℕ)) (file : List ℕ → Option (List ℕ)) (inpu
     stop = stop;
     status = status;
     line = line;
-    echo = λ none. by_none words (λ j. Stops j file input stop) (EchoStops input stop) (λ p. p) none s.job s.asked s.stops;
-    check = λ t named is. by_check words (λ j. Stops j file input stop) (λ t. NamesNone file t stop) (λ table p. p) t is s.job s.asked s.stops;
-    show = λ t b named is. by_show words (λ j. Stops j file input stop) (λ t b. ShowStops file t input stop) (λ table clear p. p) t b named is s.job s.asked s.stops;
-    convert = λ a b is. by_convert words (λ j. Stops j file input stop) (λ a b. ConvertStops file a b input stop) (λ from to p. p) a b is s.job s.asked s.stops;
+    echo = λ none. by_none words (λ j. StopsJob j file input stop) (EchoStops input stop) (λ p. p) none s.job s.asked s.stops;
+    check = λ t named is. by_check words (λ j. StopsJob j file input stop) (λ t. NamesNone file t stop) (λ table p. p) t is s.job s.asked s.stops;
+    show = λ t b named is. by_show words (λ j. StopsJob j file input stop) (λ t b. ShowStops file t input stop) (λ table clear p. p) t b named is s.job s.asked s.stops;
+    convert = λ a b is. by_convert words (λ j. StopsJob j file input stop) (λ a b. ConvertStops file a b input stop) (λ from to p. p) a b is s.job s.asked s.stops;
   }

@@ -16,39 +16,39 @@ use Rattle.iso_cli.specs.declared.words.Job.{Job}
 use Rattle.iso_cli.specs.declared.words.Job.TheVariants.{Echo, Check, Show, Convert, Run}
 
 -- what the job writes
-abbrev pub Does : Job → (List ℕ → Option (List ℕ)) → Option (List ℕ) → Option (List ℕ) → Option (List ℕ) → Type 0
-Does Echo file input old new = EchoesOver input old new
-Does (Check table) file input old new = ChecksOver file table.now old new
-Does (Show table clear) file input old new = ShowsOver file table.now clear input old new
-Does (Convert from to) file input old new = ConvertsOver file from.now to.now input old new
-Does (Run table accounts header) file input old new = RunsOver file table.now accounts.now header input old new
+abbrev pub DoesJob : Job → (List ℕ → Option (List ℕ)) → Option (List ℕ) → Option (List ℕ) → Option (List ℕ) → Type 0
+DoesJob Echo file input old new = EchoesOver input old new
+DoesJob (Check table) file input old new = ChecksOver file table.now old new
+DoesJob (Show table clear) file input old new = ShowsOver file table.now clear input old new
+DoesJob (Convert from to) file input old new = ConvertsOver file from.now to.now input old new
+DoesJob (Run table accounts header) file input old new = RunsOver file table.now accounts.now header input old new
 
 -- what stops it with status 1, but for a host
-abbrev pub Stops : Job → (List ℕ → Option (List ℕ)) → Option (List ℕ) → Stop → Type 0
-Stops Echo file input stop = EchoStops input stop
-Stops (Check table) file input stop = NamesNone file table.now stop
-Stops (Show table clear) file input stop = ShowStops file table.now input stop
-Stops (Convert from to) file input stop = ConvertStops file from.now to.now input stop
-Stops (Run table accounts header) file input stop = status_of stop ≡ 1
+abbrev pub StopsJob : Job → (List ℕ → Option (List ℕ)) → Option (List ℕ) → Stop → Type 0
+StopsJob Echo file input stop = EchoStops input stop
+StopsJob (Check table) file input stop = NamesNone file table.now stop
+StopsJob (Show table clear) file input stop = ShowStops file table.now input stop
+StopsJob (Convert from to) file input stop = ConvertStops file from.now to.now input stop
+StopsJob (Run table accounts header) file input stop = status_of stop ≡ 1
 
 -- the words ask a job, and that was done
-pub record DoneAsked (words : List (List ℕ)) (file : List ℕ → Option (List ℕ)) (input old new : Option (List ℕ)) : Type 0 where
+pub record DoesAsked (words : List (List ℕ)) (file : List ℕ → Option (List ℕ)) (input old new : Option (List ℕ)) : Type 0 where
   pub job : Job
   pub asked : Asks words job
-  pub does : Does job file input old new
+  pub does : DoesJob job file input old new
 
 -- the words ask a job, and this stops it
 pub record StopsAsked (words : List (List ℕ)) (file : List ℕ → Option (List ℕ)) (input : Option (List ℕ)) (stop : Stop) : Type 0 where
   pub job : Job
   pub asked : Asks words job
-  pub stops : Stops job file input stop
+  pub stops : StopsJob job file input stop
 
 -- what it means that this is the stop
-pub record Stopped (words : List (List ℕ)) (file : List ℕ → Option (List ℕ)) (input : Option (List ℕ)) (stop : Stop) : Type 0 where
+pub record IsStopOf (words : List (List ℕ)) (file : List ℕ → Option (List ℕ)) (input : Option (List ℕ)) (stop : Stop) : Type 0 where
   pub nothing : stop ≡ Words → AsksNothing words
   pub refused : status_of stop ≡ 1 → StopsAsked words file input stop
 
 -- the job was done, or something stopped it
 abbrev pub Performs : List (List ℕ) → (List ℕ → Option (List ℕ)) → Option (List ℕ) → Option (List ℕ) → Option (List ℕ) → Result (Option Report) Stop → Type 0
-Performs words file input old new (Ok report) = DoneAsked words file input old new
-Performs words file input old new (Err stop) = Stopped words file input stop
+Performs words file input old new (Ok report) = DoesAsked words file input old new
+Performs words file input old new (Err stop) = IsStopOf words file input stop
