@@ -1,5 +1,5 @@
 -- What the words ask is one job.
-use Rattle.std.proofs.Common.{◌≡◌, inl, inr, ℕ, Bool, true, false, IsTrue, List, [], ◌∷◌, Option, Result, Ok, Err, IfErr, IsOk, OnOk, refl, ap, subst, sym, ◌∙◌}
+use Rattle.std.proofs.Common.{◌≡◌, inl, inr, ℕ, Bool, true, false, IsTrue, List, [], ◌∷◌, Option, Result, Err, refl, ap, subst, sym, ◌∙◌}
 use Rattle.std.specs.Borrow.{Bor}
 use Rattle.std.specs.Io.KnownBytes.{Appends}
 use Rattle.std.specs.Prelude.{codes}
@@ -9,7 +9,7 @@ use Rattle.iso_wire.specs.declared.header.Header.TheVariants.{Binary2, Ascii4, B
 use Rattle.iso_cli.specs.Check.{ChecksAsked, ChecksOver}
 use Rattle.iso_cli.specs.Convert.{ConvertsAsked, ConvertsOver}
 use Rattle.iso_cli.specs.Echo.{EchoesOver}
-use Rattle.iso_cli.specs.Jobs.{DoesJob, DoesAsked, Performs, IsStopOf, StopsJob, StopsAsked}
+use Rattle.iso_cli.specs.Jobs.{DoesJob, DoesAsked, Performs, StopsJob, StopsAsked}
 use Rattle.iso_cli.specs.Refused.{ConvertStops, EchoStops, IsRefused, NamesNone, ShowStops}
 use Rattle.iso_cli.specs.Run.{RunsAsked, RunsOver}
 use Rattle.iso_cli.specs.Show.{ShowsAsked, ShowsOver}
@@ -25,30 +25,20 @@ use Rattle.iso_cli.proofs.RefusedLemmas.{same_convert, same_show, words_stop}
 
 -- ---- by a job that the words ask
 
-module _ (words : List (List ℕ)) (file : List ℕ → Option (List ℕ)) (input : Option (List ℕ)) where
-  -- what stops such a job, which isn't that the words ask nothing
-  pub stopped : (stop : Stop) (found job : Job) → Asks words found → found ≡ job → (stop ≡ Words → ⊥) → (status_of stop ≡ 1 → StopsJob job file input stop)
-      → IsStopOf words file input stop
-  stopped stop found job asks is other stops = record {
-    nothing = λ w. absurd (other w);
-    refused = λ one. record { job = job; asked = subst (λ (j : Job). Asks words j) is asks; stops = stops one };
-  }
-
 module _ (words : List (List ℕ)) (file : List ℕ → Option (List ℕ)) (input old new : Option (List ℕ)) where
-  -- what it does
+  -- what such a job does
   pub done : (found job : Job) → Asks words found → found ≡ job → DoesJob job file input old new → DoesAsked words file input old new
   done found job asks is does = record { job = job; asked = subst (λ (j : Job). Asks words j) is asks; does = does }
 
-  -- the same of a job that has nothing to report
-  pub quiet : (r : Result (Option Report) Stop) (went : Result Unit Stop) (found job : Job) → OnOk r (IsOk went) → IfErr r (λ stop. went ≡ Err stop)
-      → Asks words found → found ≡ job → OnOk went (DoesJob job file input old new) → IfErr went (λ stop. stop ≡ Words → ⊥)
-      → IfErr went (λ stop. status_of stop ≡ 1 → StopsJob job file input stop) → Performs words file input old new r
-  quiet (Ok x) (Ok u) found job ok err asks is does other stops = done found job asks is does
-  quiet (Ok x) (Err stop) found job ok err asks is does other stops = cc
-  quiet (Err x) (Ok u) found job ok err asks is does other stops = cc
-  quiet (Err x) (Err stop) found job ok err asks is does other stops =
-      let same : stop ≡ x = cc in
-      subst (λ (y : Stop). IsStopOf words file input y) same (stopped words file input stop found job asks is other stops)
+  -- and what stops it, which isn't that the words ask nothing
+  pub stopped : (r : Result (Option Report) Stop) (stop : Stop) (found job : Job) → (x : Stop) × (r ≡ Err x) × (x ≡ stop) → Asks words found → found ≡ job
+      → (stop ≡ Words → ⊥) → (status_of stop ≡ 1 → StopsJob job file input stop)
+      → Performs words file input old new r
+  stopped r stop found job (x, err, same) asks is other stops =
+      subst (λ (y : Result (Option Report) Stop). Performs words file input old new y) (sym (err ∙ ap Err same)) record {
+        nothing = λ w. absurd (other w);
+        refused = λ one. record { job = job; asked = subst (λ (j : Job). Asks words j) is asks; stops = stops one };
+      }
 
   -- no job is stopped where the words are refused
   pub unasked : (r : Result (Option Report) Stop) (fault : WordsFault) → (x : Stop) × (r ≡ Err x) × (x ≡ stop_of_words fault)

@@ -1,6 +1,6 @@
 //! What the command does.
 
-ghost use Rattle.std.specs.Prelude.{◌≡◌, ◌≤◌, [], map, Err, IfErr, IsOk, OnOk};
+ghost use Rattle.std.specs.Prelude.{◌≡◌, ◌≤◌, [], map};
 ghost use Rattle.iso_cli.specs.Echo.{EchoesOver};
 ghost use Rattle.iso_cli.specs.Check.{ChecksAsked};
 ghost use Rattle.iso_cli.specs.Convert.{ConvertsAsked};
@@ -23,17 +23,6 @@ use crate::words::{Job, parse};
 use iso_host::{Inlet, Outlet, Report};
 use std::alloc::Global;
 
-/// What was done, with nothing to report.
-fn quietly(done: Result<(), Stop>) -> Result<Option<Report>, Stop>
-    ensures ok { OnOk result (IsOk done) }
-    ensures err { IfErr result (λ stop. done ≡ Err stop) }
-{
-    match done {
-        Ok(()) => Ok(None),
-        Err(stop) => Err(stop),
-    }
-}
-
 /// Does what the words ask. A host on a stream has a report at its end.
 fn perform<S: Source, I: Inlet, O: Outlet>(
     alloc: Global,
@@ -46,19 +35,17 @@ fn perform<S: Source, I: Inlet, O: Outlet>(
         (I.remaining input.old) (O.contents output.old) (O.contents output.new) result }
 {
     match parse(alloc, words)? {
-        Job::Echo => quietly(echo(alloc, input, output)),
-        Job::Check { table } => quietly(check(alloc, table, source, output)),
-        Job::Show { table, clear } => quietly(show(alloc, table, clear, source, input, output)),
-        Job::Convert { from, to } => quietly(convert(alloc, from, to, source, input, output)),
+        Job::Echo => echo(alloc, input, output)?,
+        Job::Check { table } => check(alloc, table, source, output)?,
+        Job::Show { table, clear } => show(alloc, table, clear, source, input, output)?,
+        Job::Convert { from, to } => convert(alloc, from, to, source, input, output)?,
         Job::Run {
             table,
             accounts,
             header,
-        } => match run(alloc, table, accounts, header, source, input, output) {
-            Ok(report) => Ok(Some(report)),
-            Err(stop) => Err(stop),
-        },
+        } => return Ok(Some(run(alloc, table, accounts, header, source, input, output)?)),
     }
+    Ok(None)
 }
 
 /// Does what the words ask, and gives the status: 0 done, 1 an input was refused, 2 the command line was, 3 a
