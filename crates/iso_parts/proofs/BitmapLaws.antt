@@ -34,7 +34,7 @@ first_small w fits h =
       | inr le ↦ let e : w / 2 ^ 63 % 2 ≡ 1 = omega arith in absurd (let f : true ≡ false = sym (ap (λ (n : ℕ). eqb n 1) e) ∙ h in cc)
     ]
 
-large_first : (w : ℕ) → w < 2 ^ 64 → top ≤ w → eqb (bit_at w 63) 1 ≡ true
+pub large_first : (w : ℕ) → w < 2 ^ 64 → top ≤ w → eqb (bit_at w 63) 1 ≡ true
 large_first w fits le = let e : w / 2 ^ 63 % 2 ≡ 1 = omega arith in ap (λ (n : ℕ). eqb n 1) e
 
 pub first_large : (w : ℕ) → eqb (bit_at w 63) 1 ≡ true → top ≤ w
@@ -178,14 +178,14 @@ one_first w k small low high =
 one_none : (w k : ℕ) → 64 < k → k ≤ 128 → in_words w 0 k ≡ false
 one_none w k low high = let z = bit_at-zero (128 - k) in grind (arith, nat_tests)
 
-two_first : (w v k : ℕ) → w < 2 ^ 64 → top ≤ w → 0 < k → k ≤ 64 → eqb (bit_at w (64 - k)) 1 ≡ primary_bits true (in_words (w - top) v) k
+pub two_first : (w v k : ℕ) → w < 2 ^ 64 → top ≤ w → 0 < k → k ≤ 64 → eqb (bit_at w (64 - k)) 1 ≡ primary_bits true (in_words (w - top) v) k
 two_first w v k fits large low high =
     elim (cases_eq k 1) [
       | inl e ↦ let s = large_first w fits large in rw e s
       | inr ne ↦ let l = low_bits w (64 - k) large (omega arith) in grind (arith, nat_tests)
     ]
 
-two_second : (w v k : ℕ) → 0 < k → k ≤ 64 → eqb (bit_at v (64 - k)) 1 ≡ secondary_bits (in_words w v) k
+pub two_second : (w v k : ℕ) → 0 < k → k ≤ 64 → eqb (bit_at v (64 - k)) 1 ≡ secondary_bits (in_words w v) k
 two_second w v k low high = let e : 128 - (64 + k) ≡ 64 - k = omega arith in grind (arith, nat_tests)
 
 second_or : (t : Bool) (w v n w' v' n' at : ℕ) → cond t (got w v n) (fault at ThirdBitmap) ≡ got w' v' n' → got w v n ≡ got w' v' n'

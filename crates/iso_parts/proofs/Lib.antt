@@ -20,6 +20,8 @@ pub mod Judges
 pub mod Ranges
 pub mod Extents
 pub mod PieceLaws
+pub mod PartStops
+pub mod MapStops
 pub mod WordSets
 pub mod HexDigits
 pub mod NumberLaws

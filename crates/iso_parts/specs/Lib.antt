@@ -17,5 +17,7 @@ pub mod PartLaws
 pub mod MapLaws
 pub mod Pieces
 pub mod PieceLaws
+pub mod PartStops
+pub mod MapStops
 pub mod Building
 pub mod Debugging

@@ -112,8 +112,10 @@ impl BitmapCoding {
 }
 
 impl Bitmap {
+    ghost use Rattle.iso_parts.specs.declared.bitmap.BitmapFault.{BitmapFault};
     ghost use Rattle.iso_parts.specs.Bitmap.{contains, in_words, AreElements, Bitmaps, PlainBitmaps, HasAbove, IsHighest};
     ghost use Rattle.iso_parts.specs.BitmapReading.{ReadsMaps, FoundMaps, IfRead, IsSetRead, maps_at};
+    ghost use Rattle.iso_parts.specs.MapStops.{EndsInMaps, AreBadMaps};
     ghost use Rattle.iso_parts.specs.Numbers.{numbers_in, members, members_below, TakesFirst, first_missing};
 
     /// No number.
@@ -306,6 +308,11 @@ impl Bitmap {
         ensures numbers { IfRead result AreElements }
         // Which fault it is, and that bytes are missing.
         ensures exact { ReadsMaps result (maps_at BitmapCoding.Raw bytes.now) }
+        // `More` comes exactly where the bytes end inside the bitmaps,
+        ensures more { (result ≡ Ok BitmapStep.More) ↔ EndsInMaps BitmapCoding.Raw bytes.now }
+        // and a fault exactly where a whole one is bad, at its offset.
+        ensures stops { (e : BitmapFault) → (result ≡ Err e)
+            ↔ AreBadMaps BitmapCoding.Raw bytes.now e.at e.cause }
     {
         read(BitmapCoding::Raw, bytes)
     }
@@ -322,6 +329,11 @@ impl Bitmap {
         ensures numbers { IfRead result AreElements }
         // Which fault it is, and that bytes are missing.
         ensures exact { ReadsMaps result (maps_at BitmapCoding.Hex bytes.now) }
+        // `More` comes exactly where the bytes end inside the bitmaps,
+        ensures more { (result ≡ Ok BitmapStep.More) ↔ EndsInMaps BitmapCoding.Hex bytes.now }
+        // and a fault exactly where a whole one is bad, at its offset.
+        ensures stops { (e : BitmapFault) → (result ≡ Err e)
+            ↔ AreBadMaps BitmapCoding.Hex bytes.now e.at e.cause }
     {
         read(BitmapCoding::Hex, bytes)
     }

@@ -3,13 +3,15 @@
 ghost use Rattle.std.specs.Prelude.{◌≡◌, ◌≢◌, ◌≤◌, ◌+◌, ◌-◌, ◌++◌, ℕ, List, length, take, drop, vec_len};
 ghost use Rattle.std.specs.Prelude.{IfOk, IfSome};
 ghost use Rattle.std.specs.Prelude.{OnOk, OnErr, IfErr, IsTrue, None, Some};
+ghost use Rattle.iso_parts.specs.declared.fault.FieldFault.{FieldFault};
 ghost use Rattle.iso_parts.specs.declared.fault.FieldFault.TheVariants.{Memory};
 ghost use Rattle.iso_parts.specs.Spec.{is_length, refusal, IsGood, Fits};
 ghost use Rattle.iso_parts.specs.Part.{with_pads, with_padding, pairs, plain, plain_part, Part};
 ghost use Rattle.iso_parts.specs.Buffers.{Keeps};
 ghost use Rattle.iso_parts.specs.Debugging.{debug_step};
 ghost use Rattle.iso_parts.specs.Texts.{Decodes};
-ghost use Rattle.iso_parts.specs.Reading.{prefix_size, Reads, DecodesValue, IfGot, got, prefix_of, value_of, body_of, part_at};
+ghost use Rattle.iso_parts.specs.PartStops.{EndsInPart, IsBadPart, StopsPart};
+ghost use Rattle.iso_parts.specs.Reading.{prefix_size, Reads, DecodesValue, IfGot, got, more, fault, prefix_of, value_of, body_of, part_at};
 
 use crate::encoding::Coding;
 use crate::fault::FieldFault;
@@ -269,6 +271,12 @@ pub fn decode_field(alloc: Global, spec: &FieldSpec, bytes: &[u8]) -> Result<Ste
     ensures only { (value part rest : List ℕ) → Part spec.now value part → bytes.now ≡ part ++ rest → Reads result (got value (length part)) }
     // Which fault it is, and that bytes are missing.
     ensures exact { Reads result (part_at spec.now bytes.now) }
+    // By its whole pieces, `More` says that the bytes end inside a part, and a fault that a piece is bad.
+    ensures stops { StopsPart spec.now bytes.now result }
+    // Where they end inside a part,
+    ensures more { EndsInPart spec.now bytes.now → Reads result more }
+    // or a piece is bad, that is told, unless memory runs out.
+    ensures told { (e : FieldFault) → IsBadPart spec.now bytes.now e → Reads result (fault e) }
     // No part of the row begins with another one, and two values have no part in common.
     ensures one_part { (v w a b x y : List ℕ) → Part spec.now v a → Part spec.now w b → a ++ x ≡ b ++ y → (v ≡ w) × (a ≡ b) }
 {

@@ -1,13 +1,15 @@
 //! Judging fields without their values, and without memory.
 
 ghost use Rattle.std.specs.Prelude.{◌≡◌, ◌≢◌, ◌≤◌, ◌+◌, ◌*◌, ◌/◌, ℕ, List, take, drop, length};
-ghost use Rattle.std.specs.Prelude.{IfErr, IfOk, IfSome, true, false};
+ghost use Rattle.std.specs.Prelude.{◌↔◌, IfErr, IfOk, IfSome, true, false};
 ghost use Rattle.iso_parts.specs.Judging.{Judges, IfJudged, count_at, size_at};
 ghost use Rattle.iso_parts.specs.Building.{IsPart};
 ghost use Rattle.iso_parts.specs.Class.{is_in_class};
 ghost use Rattle.iso_parts.specs.Spec.{IsGood};
+ghost use Rattle.iso_parts.specs.declared.fault.FieldFault.{FieldFault};
 ghost use Rattle.iso_parts.specs.declared.fault.FieldFault.TheVariants.{Memory};
 ghost use Rattle.iso_parts.specs.Part.{characters, Part};
+ghost use Rattle.iso_parts.specs.PartStops.{EndsInPart, IsBadPart};
 ghost use Rattle.iso_parts.specs.Texts.{IsJudged, is_plain};
 ghost use Rattle.iso_parts.specs.Reading.{without_padding, prefix_size, body_size, value_of, body_of, part_at};
 
@@ -291,6 +293,10 @@ pub fn judge_field(spec: &FieldSpec, bytes: &[u8]) -> Result<Judged, FieldFault>
     ensures part { IfJudged result (λ body used. IsPart (part_at spec.now bytes.now)) }
     // It is judged as reading the value judges it,
     ensures exact { Judges (prefix_size spec.now.length) result (part_at spec.now bytes.now) }
+    // with `More` exactly where, by its whole pieces, the bytes end inside a part,
+    ensures more { (result ≡ Ok Judged.More) ↔ EndsInPart spec.now bytes.now }
+    // and a fault exactly where a piece is bad, and first for it,
+    ensures stops { (e : FieldFault) → (result ≡ Err e) ↔ IsBadPart spec.now bytes.now e }
     // and there is always memory.
     ensures memory { IfErr result (λ e. e ≢ Memory) }
     ensures room { IfJudged result (λ body used. (body ≤ used) × (used ≤ length bytes.now)) }
