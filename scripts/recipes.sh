@@ -2,7 +2,7 @@
 # Runs the commands that the pages of a folder show, and compares what they write with what the pages show behind them. A page
 # shows them in blocks of 'console': '$ ' before a command, '> ' before its further lines. Further words behind 'console' are
 # programs that the block needs: where one isn't installed, the block is left out. A page's commands run one after the other in
-# a folder with the repository's tables and examples. The runs of iso_cli are made by COMMAND, or else by the quick run, without
+# a folder with the repository's tables, examples and bench. The runs of iso_cli are made by COMMAND, or else by the quick run, without
 # proofs. Prints each block that differs, and a line of counts for each page: recipes.sh FOLDER [COMMAND]
 set -u
 cd "$(dirname "$0")/.." || exit 1
@@ -56,6 +56,7 @@ run_blocks() {
         mkdir -p "$work"
         ln -sfn "$top/tables" "$work/tables"
         ln -sfn "$top/examples" "$work/examples"
+        ln -sfn "$top/bench" "$work/bench"
         script_of "$block" > "$block.script"
         (cd "$work" && PATH=$folder/bin:$PATH sh "$block.script") < /dev/null > "$block.told" 2>&1
     done
