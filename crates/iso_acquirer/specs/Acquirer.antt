@@ -1,5 +1,6 @@
 -- What an acquirer keeps, by trace number, and what its calls do to it.
 use Rattle.std.specs.Prelude.{◌≡◌, ◌≤◌, ℕ, true, List, [], ◌∷◌, ◌++◌, ◌==◌, ◌||◌, ◌+◌, length, nat_lt, find, map, Option, Some, None, option_map, option_and_then, Result, Ok, Err, if◌then◌else◌}
+use Rattle.std.specs.Result.{result_err}
 use Rattle.iso_order.specs.declared.key.TxKey.{TxKey}
 use Rattle.iso_order.specs.declared.act.Act.TheVariants.{Debit, Undo}
 use Rattle.iso_order.specs.Pan.{AccountNumber}
@@ -129,6 +130,10 @@ timeout_at slots (Some s) = timeout_in slots s.order s.role
 
 abbrev pub timeout : List Slot → ℕ → Result (Instruction × List Slot) AcqFault
 timeout slots stan = timeout_at slots (slot_at slots stan)
+
+-- why a timeout of that trace number is refused, where it is
+abbrev pub timeout_fault : List Slot → ℕ → Option AcqFault
+timeout_fault slots stan = result_err (timeout slots stan)
 
 -- ---- answer
 

@@ -93,27 +93,34 @@ IsMade old (Other o) new = IsOther old o new
 
 -- ---- why one isn't made
 
--- all trace numbers are used, or memory ran out
+-- all trace numbers are used; or one is left, and memory ran out
 abbrev pub IsNotBegun : World → StepFault → Type 0
-IsNotBegun old (fault.Acquirer e) = (e ≡ acquirer.NoMoreTrace → length old.acquirer.slots ≡ 999999) × (e ≢ acquirer.NoMoreTrace → e ≡ acquirer.Memory)
-IsNotBegun old fault.Memory = Unit {0}
+IsNotBegun old (fault.Acquirer acquirer.NoMoreTrace) = length old.acquirer.slots ≡ 999999
+IsNotBegun old (fault.Acquirer acquirer.Memory) = length old.acquirer.slots < 999999
+IsNotBegun old (fault.Acquirer acquirer.NoSuch) = ⊥
+IsNotBegun old (fault.Acquirer acquirer.Closed) = ⊥
+IsNotBegun old fault.Memory = length old.acquirer.slots < 999999
 IsNotBegun old fault.NoSuch = ⊥
 IsNotBegun old fault.OwnKey = ⊥
 IsNotBegun old (fault.Issuer e) = ⊥
 
--- the acquirer refuses, or memory ran out
+-- the acquirer refuses; or it has an order to send, and memory ran out
 abbrev pub IsNotAsked : World → ℕ → StepFault → Type 0
 IsNotAsked old stan (fault.Acquirer e) = timeout old.acquirer.slots stan ≡ Err e
-IsNotAsked old stan fault.Memory = Unit {0}
+IsNotAsked old stan fault.Memory = (asked : Instruction × List Slot) × (timeout old.acquirer.slots stan ≡ Ok asked)
 IsNotAsked old stan fault.NoSuch = ⊥
 IsNotAsked old stan fault.OwnKey = ⊥
 IsNotAsked old stan (fault.Issuer e) = ⊥
 
--- no order was sent at that place, or the issuer refuses it, or memory ran out
+-- an order was sent at that place, and the issuer has its key or room for it
+abbrev pub IsDue : World → ℕ → Type 0
+IsDue old place = (o : Instruction) × (slice_get old.sent place ≡ Some o) × (IsFullFor old.issuer o.key → ⊥)
+
+-- no order was sent at that place; the issuer refuses it; or it is due, and memory ran out
 abbrev pub IsNotDelivered : World → ℕ → StepFault → Type 0
 IsNotDelivered old place fault.NoSuch = slice_get old.sent place ≡ None
 IsNotDelivered old place (fault.Issuer e) = (o : Instruction) × (slice_get old.sent place ≡ Some o) × IsAnswerFor old.issuer o (Err e)
-IsNotDelivered old place fault.Memory = (o : Instruction) × (slice_get old.sent place ≡ Some o)
+IsNotDelivered old place fault.Memory = IsDue old place
 IsNotDelivered old place fault.OwnKey = ⊥
 IsNotDelivered old place (fault.Acquirer e) = ⊥
 

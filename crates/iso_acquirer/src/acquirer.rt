@@ -1,14 +1,14 @@
 //! The acquirer.
 
 ghost use Rattle.std.specs.Prelude.{◌≡◌, ◌≢◌, ◌≤◌, ◌<◌, ◌↔◌, []};
-ghost use Rattle.std.specs.Prelude.{length, true, Ok, Err, Some, IfSome, List, slice_get, IfOk, OnOk, OnErr, IfErr};
+ghost use Rattle.std.specs.Prelude.{IsTrue, length, true, Ok, Err, Some, IfSome, List, slice_get, IfOk, OnOk, OnErr, IfErr};
 ghost use Rattle.iso_order.specs.Key.{is_valid_key};
 ghost use Rattle.iso_order.specs.declared.act.Act.TheVariants.{Debit};
 ghost use Rattle.iso_acquirer.specs.declared.fault.AcqFault.TheVariants.{NoMoreTrace, Memory};
 ghost use Rattle.iso_acquirer.specs.declared.slot.Role.TheVariants.{Transaction};
 ghost use Rattle.iso_acquirer.specs.Acquirer.{slot_at, state_by, state_of, on_stage, slots_at_stage, slots_with};
 ghost use Rattle.iso_acquirer.specs.Room.{AreNumbered, reversals_at, reversals_of, IsRequest};
-ghost use Rattle.iso_acquirer.specs.Acquirer.{debit_of, IsFair, next_reversal, slots_with_reversal, timeout, timeout_by, slots_after_answer_in};
+ghost use Rattle.iso_acquirer.specs.Acquirer.{debit_of, IsFair, next_reversal, slots_with_reversal, timeout, timeout_by, timeout_fault, slots_after_answer_in};
 ghost use Rattle.iso_acquirer.specs.Acquirer.{stage_after, stage_after_undo, slots_after_answer};
 
 use crate::fault::AcqFault;
@@ -182,6 +182,14 @@ impl Acquirer {
         self.id
     }
 
+    /// Whether a trace number is left. Takes no memory.
+    pub(crate) fn has_trace_left(&self) -> bool
+        ensures left { IsTrue result ↔ (length self.now.slots < 999999) }
+        ensures most { length self.now.slots ≤ 999999 }
+    {
+        self.slots.len() < MOST_STAN as usize
+    }
+
     pub(crate) fn allocator(&self) -> Global {
         *self.slots.allocator()
     }
@@ -298,6 +306,25 @@ impl Acquirer {
         match role {
             Role::Transaction(stage) => self.timeout_by(&slot, stage),
             Role::Reversal(_) => Err(AcqFault::NoSuch),
+        }
+    }
+
+    /// Why a timeout of that trace number is refused, where it is. Takes no memory.
+    pub(crate) fn timeout_fault(&self, stan: u32) -> Option<AcqFault>
+        ensures { result ≡ timeout_fault self.now.slots stan }
+    {
+        let Some(slot) = slot_at(&self.slots, stan) else {
+            return Some(AcqFault::NoSuch);
+        };
+        match slot.role {
+            Role::Reversal(_) => Some(AcqFault::NoSuch),
+            Role::Transaction(stage) => match stage {
+                Stage::Approved | Stage::Declined(_) | Stage::Reversed(_) => Some(AcqFault::Closed),
+                Stage::Waiting(count) if count != 1 && !self.has_trace_left() => {
+                    Some(AcqFault::NoMoreTrace)
+                }
+                Stage::Waiting(_) | Stage::Reversing(_) => None,
+            },
         }
     }
 

@@ -9,8 +9,8 @@ ghost use Rattle.iso_acquirer.specs.Agreement.{BothAgree, StaysClosed, BooksAgre
 
 use crate::acquirer::Acquirer;
 use crate::event::{Event, Given};
-use crate::fault::StepFault;
-use iso_issuer::Issuer;
+use crate::fault::{AcqFault, StepFault};
+use iso_issuer::{Issuer, Refused};
 use iso_issuer::laws::{
     answers_are_entered, granted_stands, journals_grow, keys_stay_distinct, reversals_stay,
     reversed_never_stands, stands_no_more,
@@ -141,6 +141,9 @@ impl World {
         let Some(order) = sent_at(&self.sent, place) else {
             return Err(StepFault::NoSuch);
         };
+        if self.issuer.is_full_for(&order.key()) {
+            return Err(StepFault::Issuer(Refused::Full));
+        }
         self.given.reserve(1)?;
         // the laws of a journal with one order more, for the prover: what was agreed goes on to hold
         journals_grow();
@@ -206,6 +209,9 @@ impl World {
         ensures fault { IfErr result (IsNotBegun self.old) }
         ensures unchanged { OnErr result (self.new ≡ self.old) }
     {
+        if !self.acquirer.has_trace_left() {
+            return Err(StepFault::Acquirer(AcqFault::NoMoreTrace));
+        }
         self.sent.reserve(1)?;
         match self.acquirer.begin(pan, amount, currency, sent) {
             Ok(order) => {
@@ -222,6 +228,9 @@ impl World {
         ensures fault { IfErr result (IsNotAsked self.old stan) }
         ensures unchanged { OnErr result (self.new ≡ self.old) }
     {
+        if let Some(fault) = self.acquirer.timeout_fault(stan) {
+            return Err(StepFault::Acquirer(fault));
+        }
         self.sent.reserve(1)?;
         match self.acquirer.timeout(stan) {
             Ok(order) => {
@@ -232,9 +241,9 @@ impl World {
         }
     }
 
-    /// Makes an event, or refuses it and changes nothing. What is closed stays in its state. Want of memory aside,
-    /// it is refused where no order was sent or no answer given at the place that it names, where an order of others
-    /// has this acquirer's number, and where the acquirer or the issuer refuses.
+    /// Makes an event, or refuses it and changes nothing. What is closed stays in its state. It is refused where no order
+    /// was sent or no answer given at the place that it names, where an order of others has this acquirer's number, and
+    /// where the acquirer or the issuer refuses. Want of memory is told only where none of these holds.
     pub fn step(&mut self, event: Event) -> Result<(), StepFault>
         requires { IsFairEvent event }
         ensures made { OnOk result (IsMade self.old event self.new) }

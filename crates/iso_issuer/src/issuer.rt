@@ -7,7 +7,7 @@ ghost use Rattle.iso_issuer.specs.Account.{account_of};
 ghost use Rattle.iso_issuer.specs.Journal.{firsts, is_entered, HasDistinctKeys};
 ghost use Rattle.iso_issuer.specs.Balance.{ledger, available};
 ghost use Rattle.iso_issuer.specs.Decision.{new_answer, answer_for};
-ghost use Rattle.iso_issuer.specs.Books.{journal, IsFullFor, IsRoomFor, IsRun, answered_of};
+ghost use Rattle.iso_issuer.specs.Books.{journal, is_full, IsFullFor, IsRoomFor, IsRun, answered_of};
 ghost use Rattle.iso_issuer.specs.Decision.{is_shown_for};
 
 use crate::accounts::Accounts;
@@ -16,7 +16,7 @@ use crate::decision::{balance_for, new_answer, place_in, repeat_answer};
 use crate::fault::Refused;
 use crate::journal::{Entry, Journal};
 use crate::posting::post_all;
-use iso_order::{Answer, NoMemory, Order, Pan};
+use iso_order::{Answer, NoMemory, Order, Pan, TxKey};
 use std::alloc::Global;
 use std::marker::Model;
 
@@ -156,6 +156,17 @@ impl Issuer {
         ensures { result ≡ option_map (available (journal self.now)) (account_of self.now.accounts pan) }
     {
         Some(self.balances.get(pan)?.available)
+    }
+
+    /// Whether an order of that key would be refused as `Full`: its key is new, and the journal is at its limit. Takes no
+    /// memory.
+    pub fn is_full_for(&self, key: &TxKey) -> bool
+        ensures { result ≡ is_full self.now key.now }
+    {
+        match self.journal.get(*key) {
+            Some(_) => false,
+            None => self.journal.len() >= self.limit as usize,
+        }
     }
 
     /// How many orders were entered: no two of one key, and at most as many as the limit. Takes no memory.

@@ -24,12 +24,13 @@ pub type Step = (
     i64,
 );
 
-/// What happens between both ends, and by its end how many orders were sent, how many answers were given, and how many orders
-/// the issuer entered, which takes no more than its limit.
+/// What happens between both ends behind so many debits of 1000, and by its end how many orders were sent, how many answers
+/// were given, and how many orders the issuer entered, which takes no more than its limit.
 #[derive(Clone, Copy)]
 pub struct Schedule {
     pub name: &'static str,
     pub limit: u32,
+    pub begun: u32,
     pub steps: &'static [Step],
     pub sent: usize,
     pub given: usize,
@@ -56,6 +57,7 @@ pub const SCHEDULES: &[Schedule] = &[
     Schedule {
         name: "reversed before it came",
         limit: 10,
+        begun: 0,
         steps: &[
             ("a debit", Begin(1000), Ok(()), ASKED, None, 5000),
             ("no answer in time", Timeout(1), Ok(()), AGAIN, None, 5000),
@@ -139,6 +141,7 @@ pub const SCHEDULES: &[Schedule] = &[
     Schedule {
         name: "a late approval while it is reversed",
         limit: 10,
+        begun: 0,
         steps: &[
             ("a debit", Begin(1000), Ok(()), ASKED, None, 5000),
             ("the debit comes", Deliver(0), Ok(()), ASKED, Some(0), 4000),
@@ -190,6 +193,7 @@ pub const SCHEDULES: &[Schedule] = &[
     Schedule {
         name: "approved by the answer to the repeat",
         limit: 10,
+        begun: 0,
         steps: &[
             ("a debit", Begin(1000), Ok(()), ASKED, None, 5000),
             ("the debit comes", Deliver(0), Ok(()), ASKED, Some(0), 4000),
@@ -234,6 +238,7 @@ pub const SCHEDULES: &[Schedule] = &[
     Schedule {
         name: "a full journal",
         limit: 1,
+        begun: 0,
         steps: &[
             ("a debit", Begin(1000), Ok(()), ASKED, None, 5000),
             ("another debit", Begin(1000), Ok(()), ASKED, None, 5000),
@@ -261,6 +266,7 @@ pub const SCHEDULES: &[Schedule] = &[
     Schedule {
         name: "orders of others",
         limit: 2,
+        begun: 0,
         steps: &[
             (
                 "an order in its name",
@@ -293,5 +299,32 @@ pub const SCHEDULES: &[Schedule] = &[
         given: 1,
         sent: 1,
         entered: 2,
+    },
+    Schedule {
+        name: "no trace number is left",
+        limit: 10,
+        begun: 999_999,
+        steps: &[
+            (
+                "one more debit",
+                Begin(1000),
+                Err(StepFault::Acquirer(AcqFault::NoMoreTrace)),
+                ASKED,
+                None,
+                5000,
+            ),
+            ("no answer in time", Timeout(1), Ok(()), AGAIN, None, 5000),
+            (
+                "no answer to the repeat",
+                Timeout(1),
+                Err(StepFault::Acquirer(AcqFault::NoMoreTrace)),
+                AGAIN,
+                None,
+                5000,
+            ),
+        ],
+        sent: 1_000_000,
+        given: 0,
+        entered: 0,
     },
 ];

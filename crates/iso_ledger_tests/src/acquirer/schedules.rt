@@ -131,10 +131,28 @@ fn wrong_in(world: &mut World, schedule: &Schedule) -> Option<&'static str> {
     }
 }
 
+/// Begins debits of 1000, and tells whether all are begun.
+fn begin_all(world: &mut World, count: u32) -> bool {
+    let mut is_begun = true;
+    for _ in 0..count {
+        is_begun &= come_of(world, Begin(1000)) == Some(Ok(()));
+    }
+    is_begun
+}
+
+/// The name of what isn't so first, where a schedule is played behind its debits.
+fn wrong_behind(world: &mut World, schedule: &Schedule) -> Option<&'static str> {
+    if begin_all(world, schedule.begun) {
+        wrong_in(world, schedule)
+    } else {
+        Some("the debits before")
+    }
+}
+
 /// The name of what isn't so first, where a schedule is played where nothing has happened.
 fn wrong_of(alloc: Global, schedule: &Schedule) -> Option<&'static str> {
     match world(alloc, schedule.limit) {
-        Some(mut world) => wrong_in(&mut world, schedule),
+        Some(mut world) => wrong_behind(&mut world, schedule),
         None => Some("the accounts"),
     }
 }
