@@ -10,7 +10,7 @@ use Rattle.iso_acquirer.specs.declared.fault.AcqFault.TheVariants as acquirer
 use Rattle.iso_acquirer.specs.declared.fault.StepFault.{StepFault}
 use Rattle.iso_acquirer.specs.declared.fault.StepFault.TheVariants as fault
 use Rattle.iso_acquirer.specs.declared.slot.Slot.{Slot}
-use Rattle.iso_acquirer.specs.Acquirer.{Party, slots_with, debit_of, IsFair, timeout, slots_after_answer}
+use Rattle.iso_acquirer.specs.Acquirer.{Party, slots_with, debit_of, IsFair, timeout, timeout_fault, slots_after_answer}
 
 -- the acquirer and the issuer, with all that was ever sent and given
 pub record World : Type 0 where
@@ -107,7 +107,7 @@ IsNotBegun old (fault.Issuer e) = ⊥
 -- the acquirer refuses; or it has an order to send, and memory ran out
 abbrev pub IsNotAsked : World → ℕ → StepFault → Type 0
 IsNotAsked old stan (fault.Acquirer e) = timeout old.acquirer.slots stan ≡ Err e
-IsNotAsked old stan fault.Memory = (asked : Instruction × List Slot) × (timeout old.acquirer.slots stan ≡ Ok asked)
+IsNotAsked old stan fault.Memory = timeout_fault old.acquirer.slots stan ≡ None
 IsNotAsked old stan fault.NoSuch = ⊥
 IsNotAsked old stan fault.OwnKey = ⊥
 IsNotAsked old stan (fault.Issuer e) = ⊥

@@ -10,11 +10,11 @@ ghost use Rattle.iso_acquirer.specs.Agreement.{BothAgree, StaysClosed, BooksAgre
 use crate::acquirer::Acquirer;
 use crate::event::{Event, Given};
 use crate::fault::{AcqFault, StepFault};
-use iso_issuer::{Issuer, Refused};
 use iso_issuer::laws::{
     answers_are_entered, granted_stands, journals_grow, keys_stay_distinct, reversals_stay,
     reversed_never_stands, stands_no_more,
 };
+use iso_issuer::{Issuer, Refused};
 use iso_order::{Order, Pan};
 use std::marker::Model;
 
