@@ -1,0 +1,189 @@
+"""The cases: words, files and an input. Each is a function of its seed."""
+import json
+import random
+from dataclasses import dataclass, field
+
+from model.frames import SIZES
+from model.host_rows import GIVEN_BACK, NEEDED_FIXED, NEEDED_TO
+from model.json_text import value_of
+from model.table_document import built_in, read_table
+
+from .days import draw_accounts, draw_frames
+from .messages import draw_message, spell
+from .spoiling import damage, spoil_document, spoil_table, spoil_value
+from .tables import document, draw_pad, draw_row, draw_table, draw_variant
+
+BUILT_IN = ["ascii87", "bcd87"]
+
+
+@dataclass
+class Case:
+    """What the command is given. The input is in parts, which are left out one by one where a failing case is made smaller."""
+    words: list
+    files: dict = field(default_factory=dict)
+    parts: list = field(default_factory=list)
+
+    @property
+    def text(self):
+        """The whole input."""
+        return b"".join(self.parts)
+
+
+def draw_case(seed):
+    """The case of a seed."""
+    draw = random.Random(seed)
+    kinds = {draw_run: 40, draw_show: 20, draw_convert: 16, draw_check: 14, draw_echo: 5, draw_accounts_refused: 3, draw_words: 2}
+    return draw.choices(list(kinds), list(kinds.values()))[0](draw)
+
+
+def draw_known_table(draw):
+    """The name of a table, the file of its document if it has one, and the document."""
+    if draw.random() < 0.4:
+        name = draw.choice(BUILT_IN)
+        return name, {}, document_of(name)
+    table = draw_table(draw) if draw.random() < 0.7 else draw_variant(draw, document_of(draw.choice(BUILT_IN)))
+    return "table.json", {"table.json": document(draw, table)}, table
+
+
+def document_of(name):
+    """The document of a built-in table."""
+    rows = [{"number": row.number, "class": row.char_class, "coding": row.coding, "length": row.length, "max": row.max,
+             "pad": f"{row.pad[0]}:{row.pad[1]:02X}" if row.pad else "none", **({"prefix": row.prefix} if row.prefix else {})}
+            for row in built_in(name).rows.values()]
+    return {"profile": 2, "version": 0, "mti": built_in(name).mti, "bitmap": built_in(name).bitmap, "rows": rows}
+
+
+def as_table(table):
+    """The table that a document stands for."""
+    return read_table(json.dumps(table).encode())
+
+
+def draw_spelled(draw, table):
+    """A message of a table, and often something wrong with its bytes."""
+    text = spell(draw, table, draw_message(draw, table))
+    for _ in range(draw.choice([0, 0, 1, 1, 2])):
+        text = damage(draw, text)
+    return text
+
+
+# ---- one drawing for each command
+
+def draw_show(draw):
+    """A message as lines."""
+    name, files, table = draw_known_table(draw)
+    words = draw.choice([["show", name], ["show", name, "--clear"], ["show", "--clear", name]])
+    return Case(words, files, [draw_spelled(draw, as_table(table))])
+
+
+def draw_convert(draw):
+    """A message under another table."""
+    name, files, table = draw_known_table(draw)
+    variant = draw.choice([lambda: (draw.choice(BUILT_IN), {}), lambda: ("other.json", {"other.json": document(draw, draw_variant(draw, table))})])
+    other, more = variant()
+    return Case(["convert", name, other], files | more, [draw_spelled(draw, as_table(table))])
+
+
+def draw_check(draw):
+    """A document of a table, good or not."""
+    table = draw_table(draw)
+    for _ in range(draw.choice([0, 0, 1, 1, 2])):
+        table = spoil_table(draw, table)
+    if draw.random() < 0.25:
+        table = spoil_value(draw, table)
+    text = document(draw, table) if is_whole(table) else json.dumps(table).encode()
+    if draw.random() < 0.2:
+        text = spoil_document(draw, text)
+    return Case(["check", "table.json"], {"table.json": text})
+
+
+def is_whole(table):
+    """Whether a document has rows that can be put into another order."""
+    return (isinstance(table, dict) and isinstance(table.get("rows"), list)
+            and all(isinstance(row, dict) and "length" in row for row in table["rows"]))
+
+
+def draw_echo(draw):
+    """A message that is shown and answered."""
+    return Case([], {}, [draw_spelled(draw, built_in("ascii87"))])
+
+
+def draw_words(draw):
+    """Words, most of which are no command."""
+    known = ["check", "show", "convert", "run", "ascii87", "bcd87", "table.json", "--clear", "ascii4", "binary2", "bcd2"]
+    others = ["", "-", "--", "--help", "-h", "help", "version", "Check", "\udcff", "\u00e9", "a b", "none.json", "--clear=1", "."]
+    words = [draw.choice(known if draw.random() < 0.8 else others) for _ in range(draw.randint(0, 5))]
+    return Case(words, {"table.json": document(draw, draw_table(draw))}, [damage(draw, b"08000000000000000000")])
+
+
+def draw_accounts_refused(draw):
+    """A document of accounts, good or not."""
+    value = {"accounts": draw_accounts(draw)}
+    for _ in range(draw.choice([0, 1, 1, 2])):
+        value = spoil_value(draw, value) if isinstance(value, dict) and value else value
+    text = json.dumps(value).encode()
+    if draw.random() < 0.3:
+        text = spoil_document(draw, text)
+    return Case(["run", draw.choice(BUILT_IN), "accounts.json", draw.choice(list(SIZES))], {"accounts.json": text})
+
+
+def draw_run(draw):
+    """A host's day."""
+    header, accounts = draw.choice(list(SIZES)), draw_accounts(draw)
+    files = {"accounts.json": json.dumps({"accounts": accounts}).encode()}
+    name, table = draw.choice(BUILT_IN), None
+    if draw.random() < 0.4:
+        name, table = "table.json", draw_host_table(draw)
+        files["table.json"] = document(draw, table)
+    frames = draw_frames(draw, as_table(table) if table else built_in(name), header, accounts)
+    return Case(["run", name, "accounts.json", header], files, frames)
+
+
+def draw_host_table(draw):
+    """A table under which a host can serve, or nearly: codings, lengths and rows that aren't needed differ."""
+    base, rows = document_of(draw.choice(BUILT_IN)), []
+    for row in base["rows"]:
+        number = row["number"]
+        if number in NEEDED_FIXED or number in NEEDED_TO:
+            rows.append(draw_needed(draw, row))
+        elif draw.random() < 0.9:
+            rows.append(draw_row(draw, number) if draw.random() < 0.3 and number not in GIVEN_BACK else row)
+    table = {**base, "mti": draw.choice(["ascii", "bcd"]), "bitmap": draw.choice(["hex", "raw"]), "rows": rows}
+    return draw_variant(draw, table) if draw.random() < 0.1 else table
+
+
+def draw_needed(draw, row):
+    """The row of an element that a host needs, in another coding."""
+    number = row["number"]
+    if number in NEEDED_FIXED:
+        char_class = draw.choice(sorted(NEEDED_FIXED[number][0]))
+        return {**row, "class": char_class, "coding": draw.choice(["ascii", "bcd"]) if char_class == "N" else "ascii"}
+    classes, sizes = NEEDED_TO[number]
+    length = draw.choice(["LL", "LLL"])
+    most = min(max(sizes), 99) if length == "LL" else max(sizes)
+    char_class = draw.choice(sorted(classes))
+    return {**row, "class": char_class, "coding": draw.choice(["ascii", "bcd"]) if char_class == "N" else "ascii", "length": length,
+            "prefix": draw.choice(["ascii", "bcd"]), "max": draw.choice([most, most, max(min(sizes), most - 1)])}
+
+
+def smaller(case):
+    """The case with less: without some parts of its input, or without a row or an account of a document."""
+    size = len(case.parts)
+    step = size
+    while step >= 1:
+        for at in range(0, size, step):
+            yield Case(case.words, case.files, case.parts[:at] + case.parts[at + step:])
+        step //= 2
+    for name, text in case.files.items():
+        for less in smaller_document(text):
+            yield Case(case.words, {**case.files, name: less}, case.parts)
+
+
+def smaller_document(text):
+    """A document with one list element less."""
+    try:
+        value = value_of(text)
+    except Exception:
+        return
+    for name, items in value.items() if isinstance(value, dict) else ():
+        for at in range(len(items) if isinstance(items, list) else 0):
+            yield json.dumps({**value, name: items[:at] + items[at + 1:]}).encode()
