@@ -2,7 +2,7 @@
 """Compares the command with the model of tests/model on cases that are drawn at random.
 
     compare.py COMMAND                     draws cases for SECONDS (120), from SEED (drawn and printed where none is given)
-    compare.py COMMAND --seed SEED/NUMBER  draws one case again, and prints it whole
+    compare.py COMMAND --seed SEED/NUMBER  draws one case again, and writes it to a folder too where both sides say the same
     compare.py COMMAND --keep FILE         also writes the failing cases as rows, which say what the model says
 
 The output, the fault line and the status have to be the same. Each failing case is made smaller, printed with what both sides say,
@@ -194,6 +194,8 @@ def main():
     if given.seed:
         seed, _, number = given.seed.rpartition("/")
         passed, failed = compare_some(command, seed, [int(number)], float("inf"))
+        if passed:
+            tell(command, draw_case(given.seed), given.seed, pathlib.Path(tempfile.mkdtemp(prefix="compare-")) / number)
     else:
         seed = os.environ.get("SEED") or str(random.SystemRandom().randrange(1_000_000))
         seconds = float(os.environ.get("SECONDS") or 120)

@@ -3,9 +3,10 @@ import json
 import random
 from dataclasses import dataclass, field
 
-from model.frames import SIZES
+from model.command import LONGEST_INPUT
+from model.frames import SIZES, frame
 from model.host_rows import GIVEN_BACK, NEEDED_FIXED, NEEDED_TO
-from model.json_text import value_of
+from model.json_text import NotJson, value_of
 from model.table_document import built_in, read_table
 
 from .days import draw_accounts, draw_frames
@@ -32,7 +33,7 @@ class Case:
 def draw_case(seed):
     """The case of a seed."""
     draw = random.Random(seed)
-    kinds = {draw_run: 40, draw_show: 20, draw_convert: 16, draw_check: 14, draw_echo: 5, draw_accounts_refused: 3, draw_words: 2}
+    kinds = {draw_run: 40, draw_show: 20, draw_convert: 16, draw_check: 14, draw_echo: 5, draw_accounts_refused: 3, draw_words: 2, draw_limit: 1}
     return draw.choices(list(kinds), list(kinds.values()))[0](draw)
 
 
@@ -126,6 +127,21 @@ def draw_accounts_refused(draw):
     return Case(["run", draw.choice(BUILT_IN), "accounts.json", draw.choice(list(SIZES))], {"accounts.json": text})
 
 
+def draw_limit(draw):
+    """An input or a file about as long as one may be, or a stream for a host, which has no limit."""
+    behind = b" " * (LONGEST_INPUT + draw.choice([-1, 0, 1, 2]))
+    kind = draw.choice(["input", "table", "accounts", "stream"])
+    if kind == "input":
+        words = draw.choice([[], ["show", "ascii87"], ["convert", "ascii87", "bcd87"]])
+        return Case(words, {}, [(draw_spelled(draw, built_in("ascii87")) + behind)[:len(behind)]])
+    if kind == "table":
+        return Case(["check", "table.json"], {"table.json": (document(draw, draw_table(draw)) + behind)[:len(behind)]})
+    files = {"accounts.json": json.dumps({"accounts": draw_accounts(draw)}).encode()}
+    if kind == "accounts":
+        return Case(["run", "ascii87", "accounts.json", "ascii4"], {"accounts.json": (files["accounts.json"] + behind)[:len(behind)]})
+    return Case(["run", "ascii87", "accounts.json", "binary2"], files, [frame("binary2", draw.randbytes(65_535))] * draw.choice([16, 17]))
+
+
 def draw_run(draw):
     """A host's day."""
     header, accounts = draw.choice(list(SIZES)), draw_accounts(draw)
@@ -179,11 +195,18 @@ def smaller(case):
 
 
 def smaller_document(text):
-    """A document with one list element less."""
+    """A document without blanks, or with one list element less."""
     try:
         value = value_of(text)
-    except Exception:
+    except NotJson:
         return
+    if len(compact(value)) < len(text):
+        yield compact(value)
     for name, items in value.items() if isinstance(value, dict) else ():
         for at in range(len(items) if isinstance(items, list) else 0):
-            yield json.dumps({**value, name: items[:at] + items[at + 1:]}).encode()
+            yield compact({**value, name: items[:at] + items[at + 1:]})
+
+
+def compact(value):
+    """The JSON of a value, without blanks."""
+    return json.dumps(value, separators=(",", ":")).encode()

@@ -5,6 +5,7 @@ import re
 
 DEEPEST = 127
 TEXTS = re.compile(r'"(?:[^"\\]|\\.)*"', re.DOTALL)
+BRACKETS = re.compile(r"[][{}]")
 U64 = 2 ** 64
 I64 = 2 ** 63
 
@@ -47,8 +48,8 @@ def refuse(name):
 def depth(characters):
     """How deep lists and objects are nested in a text."""
     deepest = open_ones = 0
-    for character in TEXTS.sub("", characters):
-        open_ones += (character in "[{") - (character in "]}")
+    for bracket in BRACKETS.findall(TEXTS.sub("", characters)):
+        open_ones += 1 if bracket in "[{" else -1
         deepest = max(deepest, open_ones)
     return deepest
 
