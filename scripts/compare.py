@@ -29,7 +29,7 @@ from model.command import End, act
 
 WAIT = 60
 SHOWN = 10         # so many failing cases are made smaller and printed
-TRIES = 300        # so often a failing case is tried with less
+REDUCING = 5       # so many seconds a failing case is tried with less
 
 
 # ---- both sides
@@ -100,16 +100,15 @@ def name_of(case):
 
 def reduced(command, case):
     """A case with less that still differs."""
-    tries = 0
-    found = True
+    end = time.monotonic() + REDUCING
+    found = case
     while found:
-        found = False
+        case, found = found, None
         for less in smaller(case):
-            tries += 1
-            if tries > TRIES:
+            if time.monotonic() > end:
                 return case
             if differs(command, less):
-                case, found = less, True
+                found = less
                 break
     return case
 

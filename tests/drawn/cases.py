@@ -42,7 +42,7 @@ def draw_known_table(draw):
     if draw.random() < 0.4:
         name = draw.choice(BUILT_IN)
         return name, {}, document_of(name)
-    table = draw_table(draw) if draw.random() < 0.7 else draw_variant(draw, document_of(draw.choice(BUILT_IN)))
+    table = draw_table(draw) if draw.random() < 0.9 else draw_variant(draw, document_of(draw.choice(BUILT_IN)))
     return "table.json", {"table.json": document(draw, table)}, table
 
 
@@ -156,12 +156,12 @@ def draw_run(draw):
 
 def draw_host_table(draw):
     """A table under which a host can serve, or nearly: codings, lengths and rows that aren't needed differ."""
-    base, rows = document_of(draw.choice(BUILT_IN)), []
+    base, rows, others = document_of(draw.choice(BUILT_IN)), [], draw.choice([0.1, 0.1, 0.3, 0.9])
     for row in base["rows"]:
         number = row["number"]
         if number in NEEDED_FIXED or number in NEEDED_TO:
             rows.append(draw_needed(draw, row))
-        elif draw.random() < 0.9:
+        elif draw.random() < others:
             rows.append(draw_row(draw, number) if draw.random() < 0.3 and number not in GIVEN_BACK else row)
     table = {**base, "mti": draw.choice(["ascii", "bcd"]), "bitmap": draw.choice(["hex", "raw"]), "rows": rows}
     return draw_variant(draw, table) if draw.random() < 0.1 else table

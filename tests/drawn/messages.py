@@ -13,7 +13,8 @@ def draw_message(draw, table):
     if draw.random() < 0.1:
         mti = f"{table.version}{draw.randint(0, 999):03d}"
     numbers = sorted(table.rows)
-    some = draw.sample(numbers, min(len(numbers), draw.choice([0, 1, 2, 4, 8, 126])))
+    count = len(numbers) if draw.random() < 0.03 else draw.choice([0, 1, 2, 4, 8, 16])
+    some = draw.sample(numbers, min(len(numbers), count))
     return Message(mti, {number: draw_value(draw, table.rows[number]) for number in some})
 
 
@@ -21,15 +22,15 @@ def draw_value(draw, row):
     """A value that fits a row."""
     least = row.max if row.is_fixed() and not row.pad else 0
     size = draw.choice([least, row.max, draw.randint(least, row.max), min(row.max, max(least, draw.randint(0, 20)))])
-    if size > 2000 and draw.random() < 0.9:
+    if size > 50 and draw.random() < 0.8:
         size = max(least, size % 50)
     value = draw_characters(draw, row.char_class, size)
     return value if value_fault(row, value) is None else draw_value(draw, row)
 
 
 def draw_characters(draw, char_class, size):
-    """So many characters of a class."""
-    value = bytes(draw.choices(CHARACTERS[char_class], k=size))
+    """So many characters of a class. Long values repeat themselves."""
+    value = (bytes(draw.choices(CHARACTERS[char_class], k=min(size, 50))) * (size // 50 + 1))[:size]
     return draw.choice([b"C", b"D"]) + value[1:] if char_class == "XN" and value else value
 
 

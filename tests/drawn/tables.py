@@ -10,7 +10,7 @@ NUMBERS = [number for number in range(2, 129) if number != 65]
 
 def draw_table(draw):
     """A table of some rows."""
-    numbers = draw.sample(NUMBERS, draw.choice([0, 1, 2, 5, 10, 20, 126]))
+    numbers = draw.sample(NUMBERS, 126 if draw.random() < 0.03 else draw.choice([0, 1, 2, 5, 10, 20]))
     return {"profile": 2, "version": draw.choice([0, 0, 0, 1, 2, 9]), "mti": draw.choice(["ascii", "bcd"]),
             "bitmap": draw.choice(["hex", "raw"]), "rows": [draw_row(draw, number) for number in numbers]}
 

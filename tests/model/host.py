@@ -2,20 +2,22 @@
 from dataclasses import dataclass
 
 from .frames import BadHeader, CutFrame, first_frame, frame
+from .issuer import Issuer
 from .order import Order
 from .packing import pack
 from .reading import read
 from .refused import Refused
 from .response import Answer, respond
+from .table import Table
 from .verdict import SILENT, verdict
 
 
 @dataclass
 class Host:
     """A host, what it has written, and its counts."""
-    table: object
-    header: str
-    issuer: object
+    table: Table
+    header: str            # binary2, ascii4 or bcd2
+    issuer: Issuer
     output: bytes = b""
     frames: int = 0
     answered: int = 0

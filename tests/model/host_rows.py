@@ -14,7 +14,7 @@ def judge_host_rows(table):
     """Refuses a table under which no host can serve: for its version, then for the first element that isn't as needed."""
     if table.version != 0:
         raise Refused("host NotVersion0")
-    for number in sorted(NEEDED_FIXED | NEEDED_TO.keys() | GIVEN_BACK):
+    for number in sorted({*NEEDED_FIXED, *NEEDED_TO, *GIVEN_BACK}):
         row = table.rows.get(number)
         if row is None and number not in GIVEN_BACK:
             raise Refused(f"host NoRow element {number}")

@@ -1,5 +1,5 @@
 """The issuer: accounts, a journal, and the code of each order. It decides each order once."""
-from .journal import Entry, available, entry_of, is_reversed, left
+from .journal import Entry, available, entry_of, first_reversal, left
 from .message_type import is_request
 from .response import Answer
 
@@ -32,7 +32,8 @@ class Issuer:
         """The code of a new order: the first line that holds. It is decided on the entries before it, and never again."""
         if order.act == "reversal":
             return "00"
-        if is_reversed(self.journal, order.key):
+        reversal = first_reversal(self.journal, order.key)
+        if reversal and reversal.leaves == 0:
             return "21"
         account = self.account(order)
         if account is None:

@@ -22,18 +22,15 @@ def entry_of(journal, key):
     return next((entry for entry in journal if entry.order.key == key), None)
 
 
+def first_reversal(journal, key):
+    """The first entered reversal of a key, whenever that came, if one did."""
+    return next((entry.order for entry in journal if entry.order.act == "reversal" and entry.order.names == key), None)
+
+
 def left(journal, order):
-    """What of an order's amount the first entered reversal of its key leaves, whenever that came; all of it where none came."""
-    for entry in journal:
-        if entry.order.act == "reversal" and entry.order.names == order.key:
-            return min(order.amount, entry.order.leaves)
-    return order.amount
-
-
-def is_reversed(journal, key):
-    """Whether the first entered reversal of a key leaves nothing."""
-    first = next((entry.order for entry in journal if entry.order.act == "reversal" and entry.order.names == key), None)
-    return first is not None and first.leaves == 0
+    """What of an order's amount the first reversal of its key leaves; all of it where none came."""
+    reversal = first_reversal(journal, order.key)
+    return min(order.amount, reversal.leaves) if reversal else order.amount
 
 
 def counted(journal, entry):
