@@ -5,8 +5,9 @@
     compare.py COMMAND --seed SEED/NUMBER  draws one case again, and writes it to a folder too where both sides say the same
     compare.py COMMAND --keep FILE         also writes the failing cases as rows, which say what the model says
 
-The output, the fault line and the status have to be the same. Each failing case is made smaller, printed with what both sides say,
-and written to a folder: its words, files and input, and both outputs. The last line is `compare: N cases passed, M failed`.
+The output, the fault line and the status have to be the same. Each failing case is made smaller, printed with what both sides
+say, and written to a folder: its words, files and input, and both outputs. The last line is
+`compare: N cases passed, M failed`.
 docs/TESTING.md says how to read a failing case, and how to keep it.
 """
 import argparse

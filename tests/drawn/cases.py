@@ -11,7 +11,7 @@ from model.table_document import built_in, read_table
 
 from .days import draw_accounts, draw_frames
 from .messages import draw_message, spell
-from .spoiling import damage, spoil_document, spoil_table, spoil_value
+from .spoiling import damage, spoil_accounts, spoil_document, spoil_table, spoil_value
 from .tables import document, draw_pad, draw_row, draw_table, draw_variant
 
 BUILT_IN = ["ascii87", "bcd87"]
@@ -33,8 +33,8 @@ class Case:
 def draw_case(seed):
     """The case of a seed."""
     draw = random.Random(seed)
-    kinds = {draw_run: 40, draw_show: 20, draw_convert: 16, draw_check: 14, draw_echo: 5, draw_accounts_refused: 3, draw_words: 2, draw_limit: 1}
-    return draw.choices(list(kinds), list(kinds.values()))[0](draw)
+    kinds = [draw_run, draw_show, draw_convert, draw_check, draw_echo, draw_accounts_refused, draw_words, draw_limit]
+    return draw.choices(kinds, [40, 20, 16, 14, 5, 3, 2, 1])[0](draw)
 
 
 def draw_known_table(draw):
@@ -79,9 +79,10 @@ def draw_show(draw):
 def draw_convert(draw):
     """A message under another table."""
     name, files, table = draw_known_table(draw)
-    variant = draw.choice([lambda: (draw.choice(BUILT_IN), {}), lambda: ("other.json", {"other.json": document(draw, draw_variant(draw, table))})])
-    other, more = variant()
-    return Case(["convert", name, other], files | more, [draw_spelled(draw, as_table(table))])
+    other = draw.choice([*BUILT_IN, "other.json", "other.json"])
+    if other == "other.json":
+        files[other] = document(draw, draw_variant(draw, table))
+    return Case(["convert", name, other], files, [draw_spelled(draw, as_table(table))])
 
 
 def draw_check(draw):
@@ -118,9 +119,9 @@ def draw_words(draw):
 
 def draw_accounts_refused(draw):
     """A document of accounts, good or not."""
-    value = {"accounts": draw_accounts(draw)}
-    for _ in range(draw.choice([0, 1, 1, 2])):
-        value = spoil_value(draw, value) if isinstance(value, dict) and value else value
+    value = {"accounts": spoil_accounts(draw, draw_accounts(draw))}
+    for _ in range(draw.choice([0, 0, 1, 2])):
+        value = spoil_value(draw, value)
     text = json.dumps(value).encode()
     if draw.random() < 0.3:
         text = spoil_document(draw, text)
@@ -136,10 +137,10 @@ def draw_limit(draw):
         return Case(words, {}, [(draw_spelled(draw, built_in("ascii87")) + behind)[:len(behind)]])
     if kind == "table":
         return Case(["check", "table.json"], {"table.json": (document(draw, draw_table(draw)) + behind)[:len(behind)]})
-    files = {"accounts.json": json.dumps({"accounts": draw_accounts(draw)}).encode()}
+    accounts, words = json.dumps({"accounts": draw_accounts(draw)}).encode(), ["run", "ascii87", "accounts.json", "binary2"]
     if kind == "accounts":
-        return Case(["run", "ascii87", "accounts.json", "ascii4"], {"accounts.json": (files["accounts.json"] + behind)[:len(behind)]})
-    return Case(["run", "ascii87", "accounts.json", "binary2"], files, [frame("binary2", draw.randbytes(65_535))] * draw.choice([16, 17]))
+        return Case(words, {"accounts.json": (accounts + behind)[:len(behind)]})
+    return Case(words, {"accounts.json": accounts}, [frame("binary2", draw.randbytes(65_535))] * draw.choice([16, 17]))
 
 
 def draw_run(draw):
@@ -171,14 +172,18 @@ def draw_needed(draw, row):
     """The row of an element that a host needs, in another coding."""
     number = row["number"]
     if number in NEEDED_FIXED:
-        char_class = draw.choice(sorted(NEEDED_FIXED[number][0]))
-        return {**row, "class": char_class, "coding": draw.choice(["ascii", "bcd"]) if char_class == "N" else "ascii"}
+        return with_class(draw, row, NEEDED_FIXED[number][0])
     classes, sizes = NEEDED_TO[number]
     length = draw.choice(["LL", "LLL"])
     most = min(max(sizes), 99) if length == "LL" else max(sizes)
+    return {**with_class(draw, row, classes), "length": length, "prefix": draw.choice(["ascii", "bcd"]),
+            "max": draw.choice([most, most, max(min(sizes), most - 1)])}
+
+
+def with_class(draw, row, classes):
+    """A row with one of these classes, and a coding for it."""
     char_class = draw.choice(sorted(classes))
-    return {**row, "class": char_class, "coding": draw.choice(["ascii", "bcd"]) if char_class == "N" else "ascii", "length": length,
-            "prefix": draw.choice(["ascii", "bcd"]), "max": draw.choice([most, most, max(min(sizes), most - 1)])}
+    return {**row, "class": char_class, "coding": draw.choice(["ascii", "bcd"]) if char_class == "N" else "ascii"}
 
 
 def smaller(case):

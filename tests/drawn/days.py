@@ -20,6 +20,7 @@ PAYMENTS = ["0100", "0100", "0120", "0200", "0200", "0200", "0220", "0220", "020
 REVERSALS = ["0400", "0420", "0420", "0422"]
 MORE = [5, 12, 13, 14, 22, 33, 35, 37, 41, 42, 48, 52, 55, 60, 70, 90, 95, 102, 128]
 PROCESSES = [b"000000", b"010000", b"200000", b"210000", b"310000", b"400000", b"001000", b"990000"]
+OPENINGS = [0, -50, MOST - 100, MOST, MOST + 1, -MOST, -MOST - 1, 9 * 10 ** 15, -9 * 10 ** 15]
 CURRENCIES = ["840", "978", "usd", "USD"]
 
 
@@ -36,13 +37,13 @@ def draw_accounts(draw):
     """The accounts of a document. Openings are small, or at a limit."""
     numbers = draw.sample(["1", "01", "4111111111111111", "378282246310005", "9" * 19, "0"], draw.choice([0, 1, 1, 1, 2, 4]))
     return [{"pan": number, "currency": draw.choice(CURRENCIES),
-             "opening": draw.choice([0, 5000, 5000, 9000, draw.randint(0, 20_000), -50, MOST - 100, MOST, MOST + 1, -MOST, -MOST - 1,
-                                     9 * 10 ** 15, -9 * 10 ** 15])} for number in numbers]
+             "opening": draw.choice([5000, 9000, draw.randint(0, 20_000), draw.choice(OPENINGS)])} for number in numbers]
 
 
 def draw_pools(draw, accounts):
     """Few keys, so that they come again."""
-    traces, times, acquirers = range(1, draw.choice([3, 6, 20])), (102030405, 9999999999), (12345, draw.choice([0, 99999999999]))
+    traces, times = range(1, draw.choice([3, 6, 20])), (102030405, 102030405, 9999999999)
+    acquirers = (12345, 12345, 12345, draw.choice([0, 99999999999]))
 
     def keys(types, count):
         return [Key(draw.choice(types), draw.choice(traces), draw.choice(times), draw.choice(acquirers)) for _ in range(count)]
@@ -63,7 +64,7 @@ def draw_order(draw, pools):
 def draw_reversal(draw, pools, key):
     """A reversal, whole or but for a part."""
     named = replace(draw.choice(pools.keys), acquirer=key.acquirer)
-    return Order(key, "reversal", names=named, leaves=draw.choice([0, 0, draw_amount(draw, pools)]))
+    return Order(key, "reversal", names=named, leaves=draw.choice([0, 0, 1, 400, draw_amount(draw, pools)]))
 
 
 def draw_payment(draw, pools, key):
@@ -93,7 +94,8 @@ def draw_account(draw, pools):
 def draw_amount(draw, pools):
     """An amount: a small one, a round one, what an account opens with or one more, or the greatest."""
     openings = [abs(account["opening"]) for account in pools.accounts] or [1]
-    amount = draw.choice([1, 100, 1000, 2500, 5000, draw.randint(1, 6000), draw.choice(openings), draw.choice(openings) + 1, MOST])
+    opening = draw.choice(openings)
+    amount = draw.choice([1, 100, 1000, 2500, 5000, draw.randint(1, 6000), opening, opening + 1, MOST])
     return min(max(amount, 1), MOST)
 
 
@@ -144,7 +146,8 @@ def spoil_message(draw, table, message):
 
 def draw_original(draw, digits):
     """An element 90 with another message type, acquirer or institution."""
-    mti = draw.choice([digits[:4], b"%04d" % draw.randint(0, 9999), b"0%d%d%d" % (draw.randint(0, 4), draw.randint(0, 3), draw.randint(0, 6))])
+    near = b"0%d%d%d" % (draw.randint(0, 4), draw.randint(0, 3), draw.randint(0, 6))
+    mti = draw.choice([digits[:4], b"%04d" % draw.randint(0, 9999), near])
     acquirer = draw.choice([digits[20:31], b"0" * 11, b"00000054321"])
     return mti + digits[4:20] + acquirer + draw.choice([digits[31:], b"9" * 11])
 
@@ -161,16 +164,21 @@ def draw_network(draw):
 # ---- frames
 
 def draw_frames(draw, table, header, accounts):
-    """The frames of a day, and an end that may be bad."""
-    pools, bodies, frames = draw_pools(draw, accounts), [], []
+    """The frames of a day, what is then available on each account, and an end that may be bad."""
+    pools, bodies = draw_pools(draw, accounts), []
     for _ in range(draw.choice([0, 1, 5, 20, 40, 60])):
-        body = draw_body(draw, table, pools, bodies)
-        bodies.append(body)
-        if len(body) <= (65_535 if header == "binary2" else 9_999):
-            frames.append(frame(header, body))
+        bodies.append(draw_body(draw, table, pools, bodies))
+    if draw.random() < 0.9:
+        bodies += [spell_known(draw, table, last_inquiry(trace, account)) for trace, account in enumerate(accounts, 900_000)]
+    frames = [frame(header, body) for body in bodies if len(body) <= (65_535 if header == "binary2" else 9_999)]
     if draw.random() < 0.25:
         frames.append(draw_bad_end(draw, header, frames))
     return frames
+
+
+def last_inquiry(trace, account):
+    """An inquiry that shows what a day has left on an account."""
+    return request(Order(Key("0200", trace, 1231235959, 12345), "inquiry", account["pan"].encode(), account["currency"].encode()))
 
 
 def draw_body(draw, table, pools, bodies):
@@ -187,8 +195,9 @@ def draw_body(draw, table, pools, bodies):
     message = draw_request(draw, table, pools)
     if kind == "long":
         long_ones = [number for number, row in table.rows.items() if row.max > 100 and number not in message.elements]
-        message = Message(message.mti, message.elements | {number: draw_characters(draw, table.rows[number].char_class, table.rows[number].max)
-                                                           for number in draw.sample(long_ones, min(len(long_ones), 9))})
+        some = {number: table.rows[number] for number in draw.sample(long_ones, min(len(long_ones), 9))}
+        more = {number: draw_characters(draw, row.char_class, row.max) for number, row in some.items()}
+        message = Message(message.mti, message.elements | more)
     body = spell_known(draw, table, message)
     return damage(draw, body) if kind == "damaged" else body
 
@@ -211,4 +220,5 @@ def draw_bad_end(draw, header, frames):
     if frames and draw.random() < 0.5:
         whole = draw.choice(frames)
         return whole[:draw.randint(1, len(whole))]
-    return draw.choice([b"\n", b"0", b"00", b"008", b"00A2", b"0082", b"\x00Z", b"\xa0\x00", b"-001", b" 123", draw.randbytes(SIZES[header])])
+    ends = [b"\n", b"0", b"00", b"008", b"00A2", b"0082", b"\x00Z", b"\xa0\x00", b"-001", b" 123", draw.randbytes(SIZES[header])]
+    return draw.choice(ends)

@@ -3,6 +3,7 @@ from model.bitmap import written_bitmap
 from model.characters import CLASSES, DIGITS
 from model.message import Message
 from model.part import packed, value_fault, written_body, written_prefix
+from model.showing import ACCOUNT_NUMBER, HIDDEN
 
 CHARACTERS = {name: sorted(characters) for name, characters in CLASSES.items() if characters} | {"XN": sorted(DIGITS)}
 
@@ -14,14 +15,17 @@ def draw_message(draw, table):
         mti = f"{table.version}{draw.randint(0, 999):03d}"
     numbers = sorted(table.rows)
     count = len(numbers) if draw.random() < 0.03 else draw.choice([0, 1, 2, 4, 8, 16])
-    some = draw.sample(numbers, min(len(numbers), count))
-    return Message(mti, {number: draw_value(draw, table.rows[number]) for number in some})
+    some = set(draw.sample(numbers, min(len(numbers), count)))
+    if draw.random() < 0.3:
+        some |= {number for number in (ACCOUNT_NUMBER, *HIDDEN) if number in numbers}
+    return Message(mti, {number: draw_value(draw, table.rows[number]) for number in sorted(some)})
 
 
 def draw_value(draw, row):
     """A value that fits a row."""
     least = row.max if row.is_fixed() and not row.pad else 0
-    size = draw.choice([least, row.max, draw.randint(least, row.max), min(row.max, max(least, draw.randint(0, 20)))])
+    short = draw.choice([1, 12, 13, draw.randint(0, 20)])
+    size = draw.choice([least, row.max, draw.randint(least, row.max), min(row.max, max(least, short))])
     if size > 50 and draw.random() < 0.8:
         size = max(least, size % 50)
     value = draw_characters(draw, row.char_class, size)
@@ -49,14 +53,17 @@ def spell(draw, table, message):
 
 
 def spell_part(draw, row, value):
-    """One of the spellings of an element."""
+    """One of the spellings of an element; rarely with a filler before three digits of length, where none is read."""
     body = written_body(row, value)
     if row.coding == "hex":
         body = any_case(draw, body)
     count = row.max if row.pad else len(value)
     if row.coding == "bcd" and count % 2 and draw.random() < 0.5:
         body = bytes([body[0] | 0xF0]) + body[1:]
-    return written_prefix(row, len(value)) + body
+    prefix = written_prefix(row, len(value))
+    if row.length == "LLL" and row.prefix == "bcd" and draw.random() < 0.01:
+        prefix = bytes([prefix[0] | 0xF0]) + prefix[1:]
+    return prefix + body
 
 
 def any_case(draw, text):

@@ -2,26 +2,33 @@
 import copy
 import re
 
-JUNK = [None, True, False, -1, 0, 1, 3, 65, 100, 128, 129, 255, 256, 999, 1000, 9999, 10000, 65535, 65536, 1.0, 1.5, 10 ** 20, "", "1",
-        "ascii", "ASCII", "bcd", "raw", "hex", "fixed", "LL", "LLL", "LLLL", "N", "n", "ANS", "B", "XN", "none", "left:20", "right:7F",
-        "right:30", "left:3a", "both:20", "left:2", "left:200", "left:2g", "\u00e9", [], {}, [[]], {"pan": "1"}]
-WORDS = ["-0", "1.0", "1e0", "01", "+1", "1e400", "-1", "18446744073709551615", "18446744073709551616", "9223372036854775807",
-         "9223372036854775808", "-9223372036854775808", "-9223372036854775809", "1" * 400, "NaN", "Infinity", "nul", "'1'", "\"1\"",
-         "\"\\u0031\"", "\"\\u00e9\"", "\"\\x\"", "\"\t\"", "[1,]", "{,}", "[" * 126 + "]" * 126, "[" * 128 + "]" * 128]
+JUNK = [
+    None, True, False, -1, 0, 1, 3, 65, 100, 128, 129, 255, 256, 999, 1000, 9999, 10000, 65535, 65536, 1.0, 1.5, 10 ** 20,
+    "", "1", "ascii", "ASCII", "bcd", "raw", "hex", "fixed", "LL", "LLL", "LLLL", "N", "n", "ANS", "B", "XN", "\u00e9",
+    "none", "left:20", "right:7F", "right:30", "left:3a", "both:20", "left:2", "left:200", "left:2g", [], {}, [[]], {"pan": "1"},
+]
+NUMBERS = [
+    "-0", "1.0", "1e0", "01", "+1", "1e400", "-1", "1" * 400, "NaN", "Infinity", "nul", "18446744073709551615",
+    "18446744073709551616", "9223372036854775807", "9223372036854775808", "-9223372036854775808", "-9223372036854775809",
+    "'1'", '"1"', '"\\u0031"', '"\\u00e9"', '"\\x"', '"\t"', "[1,]", "{,}", "[" * 126 + "]" * 126, "[" * 128 + "]" * 128,
+]
+PADS = ["none", "left:1F", "left:20", "right:2f", "right:30", "left:3F", "left:40", "right:7E", "right:7F"]
 
 
 def spoil_value(draw, value):
     """A value with one change somewhere in it: another value, one member less or one more, an element twice or gone."""
     value = copy.deepcopy(value)
     places = list(places_of(value))
+    if not places:
+        return value
     holder, place = draw.choice(places)
     kind = draw.choice(["junk", "junk", "junk", "gone", "more", "twice", "lent"])
     if kind == "junk":
         holder[place] = draw.choice(JUNK)
     if kind == "gone":
         del holder[place]
-    if kind == "more":
-        holder[place] = {**holder[place], draw.choice(["name", "", "prefix"]): draw.choice(JUNK)} if isinstance(holder[place], dict) else [None]
+    if kind == "more" and isinstance(holder[place], dict):
+        holder[place][draw.choice(["name", "", "prefix"])] = draw.choice(JUNK)
     if kind == "twice" and isinstance(holder, list):
         holder.insert(draw.randint(0, len(holder)), copy.deepcopy(holder[place]))
     if kind == "lent":
@@ -33,16 +40,27 @@ def spoil_value(draw, value):
 def spoil_table(draw, table):
     """A document of a table in which a number is at or over a limit, or what goes together doesn't."""
     rows = [dict(row) for row in table["rows"]]
-    if not rows or draw.random() < 0.2:
-        return {**table, draw.choice(["version", "version", "profile"]): draw.choice([0, 1, 2, 3, 8, 9, 10, 255])}
+    if not rows or draw.random() < 0.3:
+        member, values = draw.choice([("version", [0, 1, 2, 3, 8, 9, 10, 255]), ("profile", [0, 1, 1, 2, 3])])
+        return {**table, member: draw.choice(values)}
     row, other = draw.choice(rows), draw.choice(rows)
     member = draw.choice(["number", "max", "max", "coding", "class", "pad", "length"])
     row[member] = draw.choice({"number": [0, 1, 2, 64, 65, 66, 128, 129, 65535, other["number"]],
                                "max": [0, 1, 99, 100, 999, 1000, 9999, 10000], "coding": ["ascii", "bcd", "raw", "hex"],
-                               "class": [other["class"], "N", "Z", "XN", "B"],
-                               "pad": ["none", "left:1F", "left:20", "right:2f", "right:30", "left:3F", "left:40", "right:7E", "right:7F"],
+                               "class": [other["class"], "N", "Z", "XN", "B"], "pad": PADS,
                                "length": ["fixed"] if row["length"] == "fixed" else ["LL", "LLL", "LLLL"]}[member])
     return {**table, "rows": rows}
+
+
+def spoil_accounts(draw, accounts):
+    """Accounts of which one stands twice, or opens with an amount at or over a limit."""
+    accounts = [dict(account) for account in accounts]
+    for account in draw.sample(accounts, min(len(accounts), draw.choice([0, 1, 2]))):
+        account["opening"] = draw.choice([1, -1]) * (9 * 10 ** 15 + draw.choice([0, 1]))
+    if accounts and draw.random() < 0.7:
+        twice = {**draw.choice(accounts), **draw.choice([{"currency": "978"}, {"pan": "1"}, {}])}
+        accounts.insert(draw.randint(0, len(accounts)), twice)
+    return accounts
 
 
 def places_of(value):
@@ -60,13 +78,14 @@ def spoil_document(draw, text):
         numbers = list(re.finditer(rb"(?<=[:, ])\d+", text))
         if numbers:
             found = draw.choice(numbers)
-            return text[:found.start()] + draw.choice(WORDS).encode() + text[found.end():]
+            return text[:found.start()] + draw.choice(NUMBERS).encode() + text[found.end():]
     if kind == "member":
         member = draw.choice(re.findall(rb'"\w+": "?\w+"?', text) or [b'"profile": 2'])
         at = draw.choice([found.end() for found in re.finditer(rb"\{", text)] or [0])
         return text[:at] + member + b"," + text[at:]
     if kind == "ends":
-        return draw.choice([b"", b" ", b"\xef\xbb\xbf", b"\n\t\r ", b"0"]) + text + draw.choice([b"", b"\n", b"0", b"\xff", b"\x00"])
+        before = draw.choice([b"", b" ", b"\xef\xbb\xbf", b"\n\t\r ", b"0"])
+        return before + text + draw.choice([b"", b"\n", b"0", b"\xff", b"\x00"])
     return damage(draw, text)
 
 

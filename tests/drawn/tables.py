@@ -57,11 +57,13 @@ def draw_variant(draw, table):
             row = {**row, "max": max(1, min(MOST[row["length"]], row["max"] + draw.choice([-1, 1, 5])))}
         if kind == "class":
             char_class = draw.choice(list(CLASSES))
-            row = {**with_length(draw, row["number"], char_class, draw_coding(draw, char_class), row["length"]), "max": row["max"]}
+            coding = draw_coding(draw, char_class)
+            row = {**with_length(draw, row["number"], char_class, coding, row["length"]), "max": row["max"]}
         if draw.random() < 0.98:
             rows.append(row)
     version = table["version"] if draw.random() < 0.95 else draw.choice([0, 1, 2, 9])
-    return {**table, "version": version, "mti": draw.choice(["ascii", "bcd"]), "bitmap": draw.choice(["hex", "raw"]), "rows": rows}
+    codings = {"mti": draw.choice(["ascii", "bcd"]), "bitmap": draw.choice(["hex", "raw"])}
+    return {**table, **codings, "version": version, "rows": rows}
 
 
 def document(draw, table):

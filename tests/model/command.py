@@ -36,7 +36,7 @@ class End:
 
 
 def act(words, files, text):
-    """What comes of the command. `words` are behind the program's name, `files` finds the bytes of a path, `text` is the input."""
+    """What comes of the command for the words behind its name, the files by their paths, and the input."""
     try:
         return command_of(words)(files, text)
     except WordsRefused:
@@ -48,8 +48,8 @@ def act(words, files, text):
 
 
 def command_of(words):
-    """The command that the words ask for. They are judged whole before anything is read. No word begins with a dash but `--clear`,
-    which stands once, before the table of `show` or behind it."""
+    """The command that the words ask for. They are judged whole before anything is read. No word begins with a dash but
+    `--clear`, which stands once, before the table of `show` or behind it."""
     clear = words[:1] == ["show"] and words.count("--clear") == 1
     plain = [word for word in words if word != "--clear"] if clear else words
     if any(word.startswith("-") or not is_utf8(word) for word in plain):

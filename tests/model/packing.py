@@ -1,4 +1,7 @@
-"""Packing: from a message to its plain bytes. They have filler nibbles 0, upper case, and a second bitmap only where it is needed."""
+"""Packing: from a message to its plain bytes.
+
+They have filler nibbles 0, hexadecimal digits in upper case, and a second bitmap only where an element is above 64.
+"""
 from .bitmap import written_bitmaps
 from .part import packed, value_fault, written_body, written_prefix
 from .refused import Refused

@@ -56,8 +56,10 @@ def main():
         found = end.status, end.output, end.told
         if found != wanted:
             failed += 1
-            print(f"FAILED {name}", *(f"    {what} is {one!r}, not {other!r}" for what, one, other
-                                      in zip(("the status", "the output", "the fault line"), found, wanted) if one != other), sep="\n")
+            print(f"FAILED {name}")
+            for what, one, other in zip(("the status", "the output", "the fault line"), found, wanted):
+                if one != other:
+                    print(f"    {what} is {one!r}, not {other!r}")
     print(f"{len(rows) + len(EXAMPLES) - len(cases)} rows have a device that fails")
     print(f"model: {len(cases) - failed} rows passed, {failed} failed")
     return 1 if failed or not cases else 0
