@@ -12,7 +12,7 @@ from model.table_document import built_in, read_table
 from .days import draw_accounts, draw_frames
 from .messages import draw_message, spell
 from .spoiling import damage, spoil_accounts, spoil_document, spoil_table, spoil_value
-from .tables import document, draw_pad, draw_row, draw_table, draw_variant
+from .tables import document, draw_row, draw_table, draw_variant
 
 BUILT_IN = ["ascii87", "bcd87"]
 

@@ -11,7 +11,7 @@ One file has one subject. In the order in which a message meets them:
     table            which tables are good, the built-in ones      docs/TABLES.md
     table_document   a document of a table                         docs/TABLES.md
     host_rows        the rows that a host needs                    docs/TABLES.md
-    message_type     the four digits of a message type             docs/ELEMENTS.md
+    message_type     the four digits of a message type             README.md, docs/ORDERS.md
     bitmap           which elements a message has                  docs/ELEMENTS.md
     message          a message                                     docs/ELEMENTS.md
     reading          bytes to a message, piece by piece            docs/FAULTS.md
