@@ -114,6 +114,24 @@ def reduced(command, case):
     return case
 
 
+def tell_failed(command, seed, numbers, kept):
+    """Tells the first failing cases, and the seeds of the others, and keeps those that it tells as rows."""
+    folder, rows = new_folder(), []
+    for number in numbers[:SHOWN]:
+        case = reduced(command, draw_case(f"{seed}/{number}"))
+        tell(command, case, f"FAILED {seed}/{number}", folder / str(number))
+        rows.append(row_of(case, f"drawn: {seed}/{number}"))
+    if numbers[SHOWN:]:
+        print("FAILED too:", *(f"{seed}/{number}" for number in numbers[SHOWN:]))
+    if kept:
+        keep(rows, kept)
+
+
+def new_folder():
+    """A folder for what is told."""
+    return pathlib.Path(tempfile.mkdtemp(prefix="compare-"))
+
+
 def tell(command, case, name, folder):
     """Prints a case and what both sides say, and writes it to a folder."""
     folder.mkdir(parents=True)
@@ -132,7 +150,6 @@ def tell(command, case, name, folder):
         if one != other:
             at = first_difference(one, other) if isinstance(one, bytes) else 0
             print(f"    {what}, the command: {shown(one, at)}\n    {what}, the model:   {shown(other, at)}")
-    return said, wanted
 
 
 def first_difference(one, other):
@@ -195,21 +212,14 @@ def main():
         seed, _, number = given.seed.rpartition("/")
         passed, failed = compare_some(command, seed, [int(number)], float("inf"))
         if passed:
-            tell(command, draw_case(given.seed), given.seed, pathlib.Path(tempfile.mkdtemp(prefix="compare-")) / number)
+            tell(command, draw_case(given.seed), given.seed, new_folder() / number)
     else:
         seed = os.environ.get("SEED") or str(random.SystemRandom().randrange(1_000_000))
         seconds = float(os.environ.get("SECONDS") or 120)
         print(f"SEED={seed} SECONDS={seconds:g}, {os.cpu_count()} workers", flush=True)
         passed, failed = compare_all(command, seed, seconds)
-    folder, rows = pathlib.Path(tempfile.mkdtemp(prefix="compare-")), []
-    for number in failed[:SHOWN]:
-        case = reduced(command, draw_case(f"{seed}/{number}"))
-        tell(command, case, f"FAILED {seed}/{number}", folder / str(number))
-        rows.append(row_of(case, f"drawn: {seed}/{number}"))
-    if failed[SHOWN:]:
-        print("FAILED too:", *(f"{seed}/{number}" for number in failed[SHOWN:]))
-    if given.keep:
-        keep(rows, given.keep)
+    if failed:
+        tell_failed(command, seed, failed, given.keep)
     print(", ".join(f"{count} of {name}" for name, count in sorted(passed.items())))
     print(f"compare: {sum(passed.values())} cases passed, {len(failed)} failed")
     return 1 if failed or not passed else 0

@@ -55,11 +55,11 @@ def spoil_table(draw, table):
 def spoil_accounts(draw, accounts):
     """Accounts of which one stands twice, or opens with an amount at or over a limit."""
     accounts = [dict(account) for account in accounts]
-    for account in draw.sample(accounts, min(len(accounts), draw.choice([0, 1, 2]))):
-        account["opening"] = draw.choice([1, -1]) * (9 * 10 ** 15 + draw.choice([0, 1]))
     if accounts and draw.random() < 0.7:
         twice = {**draw.choice(accounts), **draw.choice([{"currency": "978"}, {"pan": "1"}, {}])}
         accounts.insert(draw.randint(0, len(accounts)), twice)
+    for account in draw.sample(accounts, min(len(accounts), draw.choice([0, 1, 2]))):
+        account["opening"] = draw.choice([1, -1]) * (9 * 10 ** 15 + draw.choice([0, 1]))
     return accounts
 
 
