@@ -24,6 +24,7 @@ pub mod NeverMemory
 pub mod Resumes
 pub mod Feeds
 pub mod Longest
+pub mod Cuts
 pub mod Wires
 pub mod Views
 pub mod StopsNumbers

@@ -18,6 +18,7 @@ pub mod laws;
 mod masking;
 mod message;
 mod packing;
+mod taking;
 mod unpacker;
 mod unpacking;
 mod viewing;

@@ -1,26 +1,23 @@
 //! Reading a message that comes in pieces.
 
-ghost use Rattle.std.specs.Prelude.{ℕ, ◌≡◌, ◌≢◌, ◌≤◌, ◌-◌, ◌++◌, [], take, length, List, IfOk, IfErr, None, Some};
+ghost use Rattle.std.specs.Prelude.{ℕ, ◌≡◌, ◌≢◌, ◌≤◌, ◌++◌, [], length, List, IfOk, IfErr, None, Some};
 ghost use Rattle.iso_table.specs.Layout.{AreGood};
 ghost use Rattle.iso_table.specs.Sizes.{max_bytes};
 ghost use Rattle.iso_wire.specs.Unpacker.{Feeds, IsAfterFeed, StaysStopped, FoundFed, StopsFed};
-ghost use Rattle.iso_wire.specs.Taking.{IsRead, IsBuilt, KeepsTaken, IsReadyAfter};
 ghost use Rattle.iso_wire.specs.declared.fault.UnpackCause.{UnpackCause};
 ghost use Rattle.iso_wire.specs.declared.fault.UnpackCause.TheVariants.{Short, Memory};
 ghost use Rattle.iso_wire.specs.Contents.{Contents};
 ghost use Rattle.iso_wire.specs.Faults.{out_of_memory};
 ghost use Rattle.iso_wire.specs.Reading.{halt, message_at, whole, Unpacks};
 ghost use Rattle.iso_wire.specs.Stops.{Stops};
-ghost use Rattle.iso_wire.specs.ReadingLaws.{IsShort};
-ghost use Rattle.iso_wire.specs.Judging.{IsResumed};
 ghost use Rattle.iso_wire.specs.Spelling.{AreBytes, BeginsWith, BeginsWithNone, IsUnambiguous, Spelling};
 
-use crate::building::build_judged;
 use crate::elements::Elements;
 use crate::fault::{UnpackCause, UnpackFault};
-use crate::judging::{ResumePoint, judge_from};
-use crate::laws::{are_bytes, reads_spellings, stops};
+use crate::judging::ResumePoint;
+use crate::laws::{reads_spellings, stops};
 use crate::message::Message;
+use crate::taking::take;
 use crate::unpacking::read_message;
 use iso_table::Table;
 use std::alloc::Global;
@@ -41,6 +38,8 @@ pub enum Fed {
 #[derive(Drop)]
 pub struct Unpacker<'t> {
     table: &'t Table,
+    // how many bytes a message has at most, counted once
+    most: usize,
     taken: Vec<u8>,
     point: ResumePoint,
     stopped: Option<UnpackFault>,
@@ -55,9 +54,12 @@ impl<'t> Model for Unpacker<'t> {
 
     ghost view = { λ u. record { table = u.table.now; taken = u.taken.items; stopped = u.stopped } };
 
+    ghost use Rattle.std.specs.Prelude.{◌≡◌};
+    ghost use Rattle.iso_table.specs.Sizes.{max_bytes};
     ghost use Rattle.iso_wire.specs.Judging.{IsResumed};
 
-    ghost invariant = { λ u. IsReady u.table.now u.taken.items u.stopped × IsResumed u.table.now u.point u.taken.items };
+    ghost invariant = { λ u. IsReady u.table.now u.taken.items u.stopped
+        × IsResumed u.table.now u.point u.taken.items × (u.most ≡ max_bytes u.table.now) };
 }
 
 /// Shows how many bytes are taken, and none of them.
@@ -68,147 +70,6 @@ impl fmt::Debug for Unpacker<'_> {
             .field("stopped", &self.stopped)
             .finish()
     }
-}
-
-/// Builds the message that was judged good, and says how many of its bytes stand behind the first `before`, which were
-/// taken earlier.
-fn build(
-    alloc: Global,
-    table: &Table,
-    before: usize,
-    bytes: &[u8],
-) -> Result<(Message, usize), UnpackFault>
-    requires within { before ≤ length bytes.now }
-    requires short { IsShort (message_at table.now (take before bytes.now)) }
-    requires read { IsRead (message_at table.now bytes.now) }
-    ensures exact { IsBuilt before result (message_at table.now bytes.now) }
-    ensures room { IfOk result (λ x. x.1 ≤ length bytes.now - before) }
-    ensures good { AreGood table.now.rows }
-{
-    reads_spellings();
-    match build_judged(alloc, table, bytes) {
-        Ok((message, end)) => Ok((message, end - before)),
-        Err(fault) => Err(fault),
-    }
-}
-
-/// Takes the first piece of a message. It is judged where it lies, and kept only if the message isn't whole.
-fn take_first(
-    alloc: Global,
-    table: &Table,
-    taken: &mut Vec<u8>,
-    piece: &[u8],
-) -> (ResumePoint, Result<Fed, UnpackFault>)
-    requires { taken.old.items ≡ [] }
-    ensures exact { Feeds (length taken.old.items) result.1 (message_at table.now (taken.old.items ++ piece.now)) }
-    ensures kept { KeepsTaken taken.old.items taken.new.items piece.now result.1 }
-    ensures resumed { IsResumed table.now result.0 taken.new.items }
-    ensures good { AreGood table.now.rows }
-{
-    // any call on the table tells the proof that its rows are good
-    let _version = table.version();
-    let (reached, read) = judge_from(table, ResumePoint::Type, piece);
-    if let Err(fault) = read {
-        if fault.cause != UnpackCause::Short {
-            return (ResumePoint::Type, Err(fault));
-        }
-        if taken.extend_from_slice(piece).is_err() {
-            return (ResumePoint::Type, Err(UnpackFault::memory()));
-        }
-        return (reached, Ok(Fed::More));
-    }
-    match build(alloc, table, 0, piece) {
-        Ok((message, used)) => (ResumePoint::Type, Ok(Fed::Done { message, used })),
-        Err(fault) => (ResumePoint::Type, Err(fault)),
-    }
-}
-
-/// Takes a further piece behind the bytes that were taken before it: they are judged from the point on.
-fn take_next(
-    alloc: Global,
-    table: &Table,
-    point: ResumePoint,
-    taken: &mut Vec<u8>,
-    piece: &[u8],
-) -> (ResumePoint, Result<Fed, UnpackFault>)
-    requires short { IsShort (message_at table.now taken.old.items) }
-    requires resumed { IsResumed table.now point taken.old.items }
-    ensures exact { Feeds (length taken.old.items) result.1 (message_at table.now (taken.old.items ++ piece.now)) }
-    ensures kept { KeepsTaken taken.old.items taken.new.items piece.now result.1 }
-    ensures resumed { IsResumed table.now result.0 taken.new.items }
-    ensures good { AreGood table.now.rows }
-{
-    // any call on the table tells the proof that its rows are good
-    let _version = table.version();
-    let before = taken.len();
-    if taken.extend_from_slice(piece).is_err() {
-        return (point, Err(UnpackFault::memory()));
-    }
-    let (reached, read) = judge_from(table, point, taken);
-    if let Err(fault) = read {
-        if fault.cause == UnpackCause::Short {
-            return (reached, Ok(Fed::More));
-        }
-        taken.clear();
-        return (ResumePoint::Type, Err(fault));
-    }
-    match build(alloc, table, before, taken) {
-        Ok((message, used)) => {
-            taken.clear();
-            (ResumePoint::Type, Ok(Fed::Done { message, used }))
-        }
-        Err(fault) => {
-            taken.truncate(before);
-            (point, Err(fault))
-        }
-    }
-}
-
-/// What [`take`] does.
-fn take_piece(
-    alloc: Global,
-    table: &Table,
-    point: ResumePoint,
-    taken: &mut Vec<u8>,
-    piece: &[u8],
-) -> (ResumePoint, Result<Fed, UnpackFault>)
-    requires short { IsShort (message_at table.now taken.old.items) }
-    requires resumed { IsResumed table.now point taken.old.items }
-    ensures exact { Feeds (length taken.old.items) result.1 (message_at table.now (taken.old.items ++ piece.now)) }
-    ensures kept { KeepsTaken taken.old.items taken.new.items piece.now result.1 }
-    ensures resumed { IsResumed table.now result.0 taken.new.items }
-    ensures good { AreGood table.now.rows }
-{
-    if taken.is_empty() {
-        take_first(alloc, table, taken, piece)
-    } else {
-        take_next(alloc, table, point, taken, piece)
-    }
-}
-
-/// Takes a piece behind the bytes that were taken before it.
-fn take(
-    alloc: Global,
-    table: &Table,
-    point: ResumePoint,
-    taken: &mut Vec<u8>,
-    piece: &[u8],
-) -> (ResumePoint, Result<Fed, UnpackFault>)
-    requires short { IsShort (message_at table.now taken.old.items) }
-    requires resumed { IsResumed table.now point taken.old.items }
-    ensures exact { Feeds (length taken.old.items) result.1 (message_at table.now (taken.old.items ++ piece.now)) }
-    ensures kept { KeepsTaken taken.old.items taken.new.items piece.now result.1 }
-    ensures resumed { IsResumed table.now result.0 taken.new.items }
-    ensures ready { IsReadyAfter table.now taken.new.items result.1 }
-    ensures found { FoundFed table.now (length taken.old.items) (taken.old.items ++ piece.now) result.1 }
-    ensures stops { StopsFed table.now (taken.old.items ++ piece.now) result.1 }
-    ensures told { (at element : ℕ) (cause : UnpackCause) → Stops table.now (taken.old.items ++ piece.now) at element cause
-        → Feeds (length taken.old.items) result.1 (halt element at cause) }
-{
-    reads_spellings();
-    stops();
-    are_bytes(taken);
-    take_piece(alloc, table, point, taken, piece)
 }
 
 /// The message that the bytes begin with, in the memory that is spare.
@@ -260,6 +121,7 @@ impl<'t> Unpacker<'t> {
     {
         Unpacker {
             table,
+            most: table.max_bytes() as usize,
             taken: Vec::new(alloc),
             point: ResumePoint::Type,
             stopped: None,
@@ -273,7 +135,7 @@ impl<'t> Unpacker<'t> {
     ///
     /// After a message the unpacker stands at the start of the next one. After a fault it holds no bytes, and answers
     /// the fault again until [`Unpacker::reset`]. Where memory ran out no byte of the piece is taken: the same piece
-    /// can be fed again.
+    /// can be fed again. Memory is taken for bytes of the message alone, however long the piece is.
     pub fn feed(&mut self, alloc: Global, piece: &[u8]) -> Result<Fed, UnpackFault>
         // A fault that was answered is answered again, until `reset`.
         ensures stopped { StaysStopped self.old self.new result }
@@ -294,7 +156,14 @@ impl<'t> Unpacker<'t> {
         if let Some(fault) = self.stopped {
             return Err(fault);
         }
-        let (point, fed) = take(alloc, self.table, self.point, &mut self.taken, piece);
+        let (point, fed) = take(
+            alloc,
+            self.table,
+            self.most,
+            self.point,
+            &mut self.taken,
+            piece,
+        );
         self.point = point;
         match fed {
             Ok(fed) => Ok(fed),

@@ -44,7 +44,7 @@ returns-after-ne-clause-told c = λ none at element cause.
     subst (λ (x : Feeding). Stops x.table (x.taken ++ c.args.piece.now) at element cause → Feeds (length x.taken) (Err c.in-Err.fault) (halt element at cause)) c.self.view_is told
 
 pub invariant_of-self-then-ne : goal.invariant_of-self-then-ne
-invariant_of-self-then-ne c = ((search rules, search rules, search rules), search rules)
+invariant_of-self-then-ne c = ((search rules, search rules, search rules), search rules, search rules)
 
 pub returns-after-ne-clause-state : goal.returns-after-ne-clause-state
 returns-after-ne-clause-state c = search rules

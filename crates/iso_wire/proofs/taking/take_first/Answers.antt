@@ -6,7 +6,7 @@ use Rattle.iso_wire.specs.ReadingLaws.{IsShort}
 use Rattle.iso_wire.specs.Judging.{IsResumed}
 use Rattle.iso_wire.proofs.Feeds.{start_short, is_read}
 use Rattle.iso_wire.proofs.Resumes.{at_start, resumed_more, resumed_read, resumed_fault, fault_no_memory}
-use Rattle.iso_wire.proofs.unpacker.take_first.Goals as goal
+use Rattle.iso_wire.proofs.taking.take_first.Goals as goal
 
 pub returns-then-ne-clause-exact : goal.returns-then-ne-clause-exact
 returns-then-ne-clause-exact c =

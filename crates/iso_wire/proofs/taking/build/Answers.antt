@@ -1,7 +1,7 @@
 use Rattle.std.proofs.Common.{ℕ, ap, ◌∙◌, arith}
 use Rattle.iso_wire.specs.Reading.{message_at, whole}
 use Rattle.iso_wire.proofs.Feeds.{goes_behind, ends_within, only_memory}
-use Rattle.iso_wire.proofs.unpacker.build.Goals as goal
+use Rattle.iso_wire.proofs.taking.build.Goals as goal
 
 pub overflow_sub-result : goal.overflow_sub-result
 overflow_sub-result c = goes_behind c.reads_spellings.ensures.exact c.args.table.now c.args.bytes.now c.args.before c.in-Ok.message c.in-Ok.end c.build_judged.ensures.good (λ i. omega (arith, c.type_inv.bytes i)) c.requires.short c.in-Ok.ensures.exact

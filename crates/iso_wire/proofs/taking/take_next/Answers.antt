@@ -9,7 +9,7 @@ use Rattle.iso_wire.specs.Judging.{end_of, Resumes, IsResumed}
 use Rattle.std.proofs.lemmas.List.{take_at, length-append}
 use Rattle.iso_wire.proofs.Feeds.{is_read}
 use Rattle.iso_wire.proofs.Resumes.{resumed_read, resumed_more, resumed_fault, fault_no_memory}
-use Rattle.iso_wire.proofs.unpacker.take_next.Goals as goal
+use Rattle.iso_wire.proofs.taking.take_next.Goals as goal
 
 -- where there was room, the piece is behind the bytes
 grown : (done : Bool) (old piece new : List ℕ) → new ≡ cond done (old ++ piece) old → done ≡ true → new ≡ old ++ piece

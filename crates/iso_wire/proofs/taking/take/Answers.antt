@@ -3,7 +3,7 @@ use Rattle.iso_wire.proofs.Feeds.{found_fed, ready_after}
 use Rattle.iso_wire.proofs.Bytes.{bytes_append}
 use Rattle.iso_wire.proofs.StopsLaws.{fed_stops, stop_is_fed}
 use Rattle.iso_wire.specs.Spelling.{AreBytes}
-use Rattle.iso_wire.proofs.unpacker.take.Goals as goal
+use Rattle.iso_wire.proofs.taking.take.Goals as goal
 
 pub returns-clause-ready : goal.returns-clause-ready
 returns-clause-ready c = ready_after c.args.table.now c.args.taken.now.items c.take_piece.new.taken.items c.args.piece.now c.take_piece.result.1 c.requires.short c.take_piece.ensures.exact c.take_piece.ensures.kept
