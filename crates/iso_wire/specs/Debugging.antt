@@ -1,12 +1,16 @@
 -- What `Debug` writes: of a message what a bystander may read, and of other bytes their count alone.
-use Rattle.std.specs.Prelude.{ℕ, ◌-◌, List, ◌++◌, length, take, drop, replicate, codes}
+use Rattle.std.specs.Prelude.{ℕ, ◌-◌, List, ◌++◌, length, take, drop, replicate, Option, Some, None, codes}
 use Rattle.std.specs.Fmt.{decimal}
 use Rattle.std.specs.List.{flat_map}
 use Rattle.iso_parts.specs.Digits.{four_digits_of}
 use Rattle.iso_parts.specs.declared.digits.Digits.TheVariants.{Ascii}
 use Rattle.iso_wire.specs.Contents.{Contents}
+use Rattle.iso_wire.specs.FaultNames.{unpack_cause_name}
 use Rattle.iso_wire.specs.Masking.{shown_front, shown_end, readable_byte}
 use Rattle.iso_wire.specs.Viewing.{Viewed}
+use Rattle.iso_wire.specs.declared.fault.UnpackCause.{UnpackCause}
+use Rattle.iso_wire.specs.declared.fault.UnpackCause.TheVariants.{UnknownElement}
+use Rattle.iso_wire.specs.declared.fault.UnpackFault.{UnpackFault}
 use Rattle.iso_wire.specs.declared.framing.Framed.{Framed}
 use Rattle.iso_wire.specs.declared.framing.Framed.TheVariants as framed
 
@@ -33,3 +37,17 @@ debug_view v = codes "View { mti: " ++ (four_digits_of Ascii v.mti ++ (codes ", 
 abbrev pub debug_framed : Framed → List ℕ
 debug_framed (framed.Got body used) = codes "Got { body: " ++ (decimal (length body.now) ++ (codes " bytes, used: " ++ (decimal used ++ codes " }")))
 debug_framed framed.More = codes "More"
+
+-- what is wrong with a piece: its name, and the element that has no row
+abbrev pub debug_cause : UnpackCause → List ℕ
+debug_cause (UnknownElement n) = codes "UnknownElement(" ++ (decimal n ++ codes ")")
+debug_cause cause = unpack_cause_name cause
+
+-- where a message stopped: what is wrong, at which element and offset
+abbrev pub debug_stop : Option UnpackFault → List ℕ
+debug_stop None = codes "None"
+debug_stop (Some e) = debug_cause e.cause ++ (codes " at element " ++ (decimal e.element ++ (codes ", offset " ++ decimal e.at)))
+
+-- an unpacker: where the message stopped, and how many bytes it holds
+abbrev pub debug_unpacker : Option UnpackFault → ℕ → List ℕ
+debug_unpacker stopped held = codes "Unpacker { stopped: " ++ (debug_stop stopped ++ (codes ", held: " ++ (decimal held ++ codes " }")))

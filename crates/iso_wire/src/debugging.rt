@@ -5,8 +5,9 @@ ghost use Rattle.std.specs.List.{flat_map};
 ghost use Rattle.iso_parts.specs.Digits.{four_digits_of};
 ghost use Rattle.iso_parts.specs.Mti.{mti_number};
 ghost use Rattle.iso_parts.specs.declared.digits.Digits.TheVariants as digits;
-ghost use Rattle.iso_wire.specs.Debugging.{debug_element};
+ghost use Rattle.iso_wire.specs.Debugging.{debug_element, debug_cause, debug_stop, debug_unpacker};
 
+use crate::fault::{UnpackCause, UnpackFault};
 use crate::iteration::Iter;
 use crate::masking::{masked, write_text};
 use iso_parts::{Mti, four_ascii_digits};
@@ -38,4 +39,50 @@ pub(crate) fn write_elements<W: fmt::Write>(
         write_element(n, value, f)?;
     }
     Ok(())
+}
+
+/// Writes what is wrong with a piece.
+fn write_cause<W: fmt::Write>(cause: UnpackCause, f: &mut fmt::Formatter<W>) -> fmt::Result
+    ensures { WritesOnOk W.write_str_gives f.old result (debug_cause cause) f.new }
+{
+    match cause {
+        UnpackCause::UnknownElement(n) => write!(f, "UnknownElement({n})"),
+        UnpackCause::Short
+        | UnpackCause::BadMti
+        | UnpackCause::WrongVersion
+        | UnpackCause::BadHex
+        | UnpackCause::ThirdBitmap
+        | UnpackCause::Field(_)
+        | UnpackCause::Memory => {
+            let name = cause.name();
+            write!(f, "{name}")
+        }
+    }
+}
+
+/// Writes where a message stopped, if it did.
+fn write_stop<W: fmt::Write>(stopped: Option<UnpackFault>, f: &mut fmt::Formatter<W>) -> fmt::Result
+    ensures { WritesOnOk W.write_str_gives f.old result (debug_stop stopped) f.new }
+{
+    match stopped {
+        None => write!(f, "None"),
+        Some(fault) => {
+            let (at, element) = (fault.at, fault.element);
+            write_cause(fault.cause, f)?;
+            write!(f, " at element {element}, offset {at}")
+        }
+    }
+}
+
+/// Writes where the message of an unpacker stopped, and how many bytes it holds.
+pub(crate) fn write_unpacker<W: fmt::Write>(
+    stopped: Option<UnpackFault>,
+    held: usize,
+    f: &mut fmt::Formatter<W>,
+) -> fmt::Result
+    ensures { WritesOnOk W.write_str_gives f.old result (debug_unpacker stopped held) f.new }
+{
+    write!(f, "Unpacker {{ stopped: ")?;
+    write_stop(stopped, f)?;
+    write!(f, ", held: {held} }}")
 }

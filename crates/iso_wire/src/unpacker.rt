@@ -7,11 +7,13 @@ ghost use Rattle.iso_wire.specs.Unpacker.{Feeds, IsAfterFeed, StaysStopped, Foun
 ghost use Rattle.iso_wire.specs.declared.fault.UnpackCause.{UnpackCause};
 ghost use Rattle.iso_wire.specs.declared.fault.UnpackCause.TheVariants.{Short, Memory};
 ghost use Rattle.iso_wire.specs.Contents.{Contents};
+ghost use Rattle.iso_wire.specs.Debugging.{debug_unpacker};
 ghost use Rattle.iso_wire.specs.Faults.{out_of_memory};
 ghost use Rattle.iso_wire.specs.Reading.{halt, message_at, whole, Unpacks};
 ghost use Rattle.iso_wire.specs.Stops.{Stops};
 ghost use Rattle.iso_wire.specs.Spelling.{AreBytes, BeginsWith, BeginsWithNone, IsUnambiguous, Spelling};
 
+use crate::debugging::write_unpacker;
 use crate::elements::Elements;
 use crate::fault::{UnpackCause, UnpackFault};
 use crate::judging::ResumePoint;
@@ -62,13 +64,12 @@ impl<'t> Model for Unpacker<'t> {
         × IsResumed u.table.now u.point u.taken.items × (u.most ≡ max_bytes u.table.now) };
 }
 
-/// Shows how many bytes are taken, and none of them.
+/// Shows where the message stopped, and how many bytes are taken, but none of them.
 impl fmt::Debug for Unpacker<'_> {
+    ghost debug_output = { λ u. Some (debug_unpacker u.stopped (length u.taken)) };
+
     fn fmt<W: fmt::Write>(&self, f: &mut fmt::Formatter<W>) -> fmt::Result {
-        f.debug_struct("Unpacker")
-            .field("held", &self.taken.len())
-            .field("stopped", &self.stopped)
-            .finish()
+        write_unpacker(self.stopped, self.taken.len(), f)
     }
 }
 
