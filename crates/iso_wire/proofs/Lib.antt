@@ -1,5 +1,6 @@
 pub mod Bytes
 pub mod Orders
+pub mod LookUps
 pub mod Buffers
 pub mod Ranks
 pub mod Changes

@@ -1,6 +1,7 @@
 pub mod Contents
 pub mod Decimal
 pub mod Elements
+pub mod LookUps
 pub mod Ends
 pub mod Numbers
 pub mod Spelling

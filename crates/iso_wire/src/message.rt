@@ -11,6 +11,7 @@ ghost use Rattle.iso_wire.specs.Debugging.{debug_message};
 ghost use Rattle.iso_wire.specs.Decimal.{decimal, number_at};
 ghost use Rattle.iso_wire.specs.Elements.{value_in, has, IsBelow, put, without};
 ghost use Rattle.iso_wire.specs.Ends.{IsSame};
+ghost use Rattle.iso_wire.specs.LookUps.{ChangesAlone};
 ghost use Rattle.iso_wire.specs.Equality.{same_contents, same_contents_equiv};
 ghost use Rattle.std.specs.Cmp.{partial_equiv_from_equiv};
 
@@ -182,6 +183,9 @@ impl Message {
     /// Puts a value at its number, in place of the one that was there.
     pub fn set(&mut self, n: u8, value: &[u8]) -> Result<(), SetFault>
         ensures ok { OnOk result (self.new ≡ record self.old { elements = put n value.now self.old.elements }) }
+        // `get` gives that value then, and of every other element what it gave before.
+        ensures alone { OnOk result
+            (ChangesAlone n (Some value.now) self.old.elements self.new.elements) }
         ensures bad_number { is_element n ≡ false → result ≡ Err (SetFault.BadNumber n) }
         ensures memory { is_element n ≡ true → IsOkUnless result SetFault.Memory }
         ensures unchanged { OnErr result (self.new ≡ self.old) }
@@ -223,6 +227,8 @@ impl Message {
     pub fn unset(&mut self, n: u8) -> bool
         ensures found { result ≡ has self.old.elements n }
         ensures left { self.new ≡ record self.old { elements = without n self.old.elements } }
+        // `get` gives none of it then, and of every other element what it gave before.
+        ensures alone { ChangesAlone n None self.old.elements self.new.elements }
     {
         self.elements.remove(n)
     }
