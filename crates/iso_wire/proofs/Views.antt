@@ -13,6 +13,7 @@ use Rattle.iso_parts.specs.declared.prefix.Length.{Length}
 use Rattle.iso_parts.specs.declared.prefix.Length.TheVariants as lengths
 use Rattle.iso_table.specs.Layout.{Layout, row_at, AreGood}
 use Rattle.iso_wire.specs.declared.fault.UnpackFault.{UnpackFault}
+use Rattle.std.specs.Borrow.{Bor}
 use Rattle.std.specs.Prelude.{IfOk, IfErr, IsErr, IsErrAnd}
 use Rattle.iso_wire.specs.declared.fault.UnpackCause.TheVariants.{Short, Memory}
 use Rattle.iso_wire.specs.Contents.{Contents}
@@ -108,47 +109,47 @@ module _ (laws : PartLaws) where
 
 -- ---- the whole message
 
-abbrev as_view : Layout → List ℕ → ℕ → ℕ → Values × ℕ → Result Viewed UnpackFault
-as_view t b mti at read = Ok (record { mti = mti; used = read.1; wires = read.0; starts = starts_of t.rows at read.0; bytes = b })
+abbrev as_view : Layout → Bor (List ℕ) → ℕ → ℕ → Values × ℕ → Result Viewed UnpackFault
+as_view t b mti at read = Ok (record { mti = mti; used = read.1; wires = read.0; starts = starts_of t.rows at read.0; bytes = b.now; address = b.ref_ptr })
 
 abbrev as_message : ℕ → Values × ℕ → Result (Contents × ℕ) UnpackFault
 as_message mti read = whole (record { mti = mti; elements = read.0 }) read.1
 
-by_elements : (t : Layout) (b : List ℕ) (mti at : ℕ) (x w : Result (Values × ℕ) UnpackFault) → Agrees t.rows at (drop at b) x w → Views t b (w >>= as_view t b mti at) (x >>= as_message mti)
+by_elements : (t : Layout) (b : Bor (List ℕ)) (mti at : ℕ) (x w : Result (Values × ℕ) UnpackFault) → Agrees t.rows at (drop at b.now) x w → Views t b.now (w >>= as_view t b mti at) (x >>= as_message mti)
 by_elements t b mti at (Err e) (Err f) same = ap Err (sym same)
 by_elements t b mti at (Err e) (Ok w) never = absurd never
 by_elements t b mti at (Ok x) (Err f) never = absurd never
 by_elements t b mti at (Ok x) (Ok w) same =
     let used : ℕ = same.0 in
-    let place : drop at (take w.1 b) ≡ take used (drop at b) = ap (λ (k : ℕ). drop at (take k b)) same.2 ∙ drop-take at used b in
+    let place : drop at (take w.1 b.now) ≡ take used (drop at b.now) = ap (λ (k : ℕ). drop at (take k b.now)) same.2 ∙ drop-take at used b.now in
     (x.0, at, ap (λ (k : ℕ). whole (record { mti = mti; elements = x.0 }) k) (same.1 ∙ sym same.2), subst (Wired t.rows x.0 w.0) (sym place) same.4, omega (arith, same.2), refl)
 
 abbrev message_behind : Layout → List ℕ → ℕ → ℕ × ℕ × ℕ → Result (Contents × ℕ) UnpackFault
 message_behind t b mti w = elements_at t.rows (numbers_in w.0 w.1) (mti_size t.mti + w.2) (drop (mti_size t.mti + w.2) b) >>= as_message mti
 
-abbrev view_behind : Layout → List ℕ → ℕ → ℕ × ℕ × ℕ → Result Viewed UnpackFault
-view_behind t b mti w = wires_at t.rows (numbers_in w.0 w.1) (mti_size t.mti + w.2) (drop (mti_size t.mti + w.2) b) >>= as_view t b mti (mti_size t.mti + w.2)
+abbrev view_behind : Layout → Bor (List ℕ) → ℕ → ℕ × ℕ × ℕ → Result Viewed UnpackFault
+view_behind t b mti w = wires_at t.rows (numbers_in w.0 w.1) (mti_size t.mti + w.2) (drop (mti_size t.mti + w.2) b.now) >>= as_view t b mti (mti_size t.mti + w.2)
 
 module _ (laws : PartLaws) where
-  by_words : (t : Layout) (b : List ℕ) (mti : ℕ) (r : Result (ℕ × ℕ × ℕ) UnpackFault) → AreGood t.rows → AreBytes b → Views t b (r >>= view_behind t b mti) (r >>= message_behind t b mti)
+  by_words : (t : Layout) (b : Bor (List ℕ)) (mti : ℕ) (r : Result (ℕ × ℕ × ℕ) UnpackFault) → AreGood t.rows → AreBytes b.now → Views t b.now (r >>= view_behind t b mti) (r >>= message_behind t b.now mti)
   by_words t b mti (Err e) good fits = refl
   by_words t b mti (Ok w) good fits =
       let at = mti_size t.mti + w.2 in
       let ns = numbers_in w.0 w.1 in
-      by_elements t b mti at (elements_at t.rows ns at (drop at b)) (wires_at t.rows ns at (drop at b)) (agrees laws t.rows ns at (drop at b) good (bytes_drop at b fits))
+      by_elements t b mti at (elements_at t.rows ns at (drop at b.now)) (wires_at t.rows ns at (drop at b.now)) (agrees laws t.rows ns at (drop at b.now) good (bytes_drop at b.now fits))
 
-  by_type : (t : Layout) (b : List ℕ) (r : Result ℕ UnpackFault) → AreGood t.rows → AreBytes b
-      → Views t b (r >>= λ mti. words_at t (mti_size t.mti) (drop (mti_size t.mti) b) >>= view_behind t b mti) (r >>= λ mti. words_at t (mti_size t.mti) (drop (mti_size t.mti) b) >>= message_behind t b mti)
+  by_type : (t : Layout) (b : Bor (List ℕ)) (r : Result ℕ UnpackFault) → AreGood t.rows → AreBytes b.now
+      → Views t b.now (r >>= λ mti. words_at t (mti_size t.mti) (drop (mti_size t.mti) b.now) >>= view_behind t b mti) (r >>= λ mti. words_at t (mti_size t.mti) (drop (mti_size t.mti) b.now) >>= message_behind t b.now mti)
   by_type t b (Err e) good fits = refl
-  by_type t b (Ok mti) good fits = by_words t b mti (words_at t (mti_size t.mti) (drop (mti_size t.mti) b)) good fits
+  by_type t b (Ok mti) good fits = by_words t b mti (words_at t (mti_size t.mti) (drop (mti_size t.mti) b.now)) good fits
 
-  pub is_view : (t : Layout) (b : List ℕ) → AreGood t.rows → AreBytes b → Views t b (view_at t b) (message_at t b)
+  pub is_view : (t : Layout) (b : Bor (List ℕ)) → AreGood t.rows → AreBytes b.now → Views t b.now (view_at t b) (message_at t b.now)
   unfolding message_at
-  is_view t b good fits = by_type t b (type_at t b) good fits
+  is_view t b good fits = by_type t b (type_at t b.now) good fits
 
   -- what is read of a message without its values views that message
-  pub views_as : (t : Layout) (b : List ℕ) (r : Result Viewed UnpackFault) → AreGood t.rows → AreBytes b → view_at t b ≡ r → Views t b r (message_at t b)
-  views_as t b r good fits is = subst (λ (v : Result Viewed UnpackFault). Views t b v (message_at t b)) is (is_view t b good fits)
+  pub views_as : (t : Layout) (b : Bor (List ℕ)) (r : Result Viewed UnpackFault) → AreGood t.rows → AreBytes b.now → view_at t b ≡ r → Views t b.now r (message_at t b.now)
+  views_as t b r good fits is = subst (λ (v : Result Viewed UnpackFault). Views t b.now v (message_at t b.now)) is (is_view t b good fits)
 
 -- a fault that is handed on is the one that reading gave
 pub handed_on : (r : Result Viewed UnpackFault) (e : UnpackFault) (read : Result Viewed UnpackFault) → read ≡ Err e → IsErr r → IsErrAnd r (λ f. f ≡ e) → read ≡ r

@@ -1,6 +1,7 @@
 -- Where the bodies of a message lie in its bytes, and reading them.
 -- Inner: bodies and proofs cite it, and no public clause does.
 use Rattle.std.specs.Prelude.{◌≡◌, ℕ, ◌+◌, ◌-◌, ◌*◌, ◌≤◌, List, [], ◌∷◌, take, drop, map, Option, Result, Ok, Err}
+use Rattle.std.specs.Borrow.{Bor}
 use Rattle.std.specs.List.{slice_index_or}
 use Rattle.iso_parts.specs.declared.spec.FieldSpec.{FieldSpec}
 use Rattle.iso_parts.specs.Spec.{longest_value}
@@ -39,10 +40,10 @@ abbrev pub starts_in : Bodies → List ℕ → List (ℕ × ℕ)
 starts_in bodies ns = map (start_of bodies) ns
 
 -- the message of an outline, with its bodies in the bytes
-abbrev pub viewed_of : Outline → List ℕ → Bodies → Viewed
+abbrev pub viewed_of : Outline → Bor (List ℕ) → Bodies → Viewed
 viewed_of outline b bodies =
     let ns = members outline.numbers in
-    record { mti = mti_number outline.mti; used = outline.used; wires = wires_in b bodies ns; starts = starts_in bodies ns; bytes = b }
+    record { mti = mti_number outline.mti; used = outline.used; wires = wires_in b.now bodies ns; starts = starts_in bodies ns; bytes = b.now; address = b.ref_ptr }
 
 -- the body with a number lies within so many bytes
 abbrev pub IsBodyWithin : ℕ → Bodies → ℕ → Type 0
@@ -72,12 +73,12 @@ wires_at rows (n ∷ ns) at b = do
   Ok ((n, wire_at (row_at rows n) b first.1) ∷ others.0, others.1)
 
 -- the message that the bytes begin with
-abbrev pub view_at : Layout → List ℕ → Result Viewed UnpackFault
+abbrev pub view_at : Layout → Bor (List ℕ) → Result Viewed UnpackFault
 view_at t b = do
-  mti ← type_at t b
-  words ← words_at t (mti_size t.mti) (drop (mti_size t.mti) b)
-  read ← wires_at t.rows (numbers_in words.0 words.1) (mti_size t.mti + words.2) (drop (mti_size t.mti + words.2) b)
-  Ok (record { mti = mti; used = read.1; wires = read.0; starts = starts_of t.rows (mti_size t.mti + words.2) read.0; bytes = b })
+  mti ← type_at t b.now
+  words ← words_at t (mti_size t.mti) (drop (mti_size t.mti) b.now)
+  read ← wires_at t.rows (numbers_in words.0 words.1) (mti_size t.mti + words.2) (drop (mti_size t.mti + words.2) b.now)
+  Ok (record { mti = mti; used = read.1; wires = read.0; starts = starts_of t.rows (mti_size t.mti + words.2) read.0; bytes = b.now; address = b.ref_ptr })
 
 -- a part was judged as reading does, without its value: where its body begins, and how many bytes it takes
 abbrev pub JudgesWire : Option FieldSpec → Result (ℕ × ℕ) UnpackFault → Result (List ℕ × ℕ) UnpackFault → Type 0
@@ -94,6 +95,6 @@ abbrev pub BeginsThere : List (Option FieldSpec) → ℕ → List ℕ → Bodies
 BeginsThere rows at b bodies ns = starts_in bodies ns ≡ starts_of rows at (wires_in b bodies ns)
 
 -- an outline is of the message that reading gives, and its bodies lie there
-abbrev pub Outlines : List ℕ → Bodies → Result Outline UnpackFault → Result Viewed UnpackFault → Type 0
+abbrev pub Outlines : Bor (List ℕ) → Bodies → Result Outline UnpackFault → Result Viewed UnpackFault → Type 0
 Outlines b bodies (Ok outline) read = read ≡ Ok (viewed_of outline b bodies)
 Outlines b bodies (Err e) read = read ≡ Err e

@@ -1,5 +1,6 @@
 -- A message that is left where it lies: its type, its length, the bodies of its elements, and where each begins.
 use Rattle.std.specs.Prelude.{◌≡◌, ℕ, ◌+◌, ◌-◌, ◌≤◌, List, [], ◌∷◌, ◌++◌, length, take, drop, Option, Some, None, Result, Ok, Err}
+use Rattle.std.specs.Borrow.{Bor}
 use Rattle.iso_parts.specs.Reading.{prefix_size}
 use Rattle.iso_parts.specs.declared.spec.FieldSpec.{FieldSpec}
 use Rattle.iso_parts.specs.Part.{Body, prefix}
@@ -11,13 +12,14 @@ use Rattle.iso_wire.specs.Spelling.{Spelling}
 use Rattle.iso_table.specs.Layout.{Layout, row_at}
 
 -- the type, how many bytes the message takes, the body of each element, as it lies there, the offset where each of them
--- begins, and the bytes that it all lies in
+-- begins, the bytes that it all lies in, and their address: their block of memory, and the offset in it
 pub record Viewed : Type 0 where
   pub mti : ℕ
   pub used : ℕ
   pub wires : List (ℕ × List ℕ)
   pub starts : List (ℕ × ℕ)
   pub bytes : List ℕ
+  pub address : ℕ × ℕ
 
 -- ---- where a body lies
 
@@ -25,6 +27,11 @@ pub record Viewed : Type 0 where
 abbrev pub LiesAt : Viewed → ℕ → ℕ → ℕ → Type 0
 LiesAt v n start end =
     (start ≤ end) × (end ≤ v.used) × (value_in v.wires n ≡ Some (take (end - start) (drop start v.bytes))) × (value_in v.starts n ≡ Some start)
+
+-- the slice is the body of an element in its place: it isn't a copy, but begins in the very bytes, where the body begins
+abbrev pub IsBodyInPlace : Viewed → ℕ → Bor (List ℕ) → Type 0
+IsBodyInPlace v n body =
+    (start : ℕ) × LiesAt v n start (start + length body.now) × (value_in v.wires n ≡ Some body.now) × (body.ref_ptr ≡ (v.address.0, v.address.1 + start))
 
 -- how many bytes of a part stand before its body
 abbrev pub front_of : Option FieldSpec → ℕ

@@ -1,13 +1,14 @@
 //! A message that lies in the caller's bytes, and where the bodies of its elements lie.
 
-ghost use Rattle.std.specs.Prelude.{◌≡◌, ℕ, ◌+◌, ◌*◌, ◌≤◌, List, drop, length, IfOk, OnOk, MatchOption, None, Some};
+ghost use Rattle.std.specs.Borrow.{Bor};
+ghost use Rattle.std.specs.Prelude.{◌≡◌, ℕ, ◌+◌, ◌*◌, ◌≤◌, List, drop, length, IfOk, IfSome, OnOk, MatchOption, None, Some};
 ghost use Rattle.iso_parts.specs.Mti.{mti_number};
 ghost use Rattle.iso_table.specs.Layout.{row_at, AreGood};
 ghost use Rattle.iso_wire.specs.Elements.{value_in};
 ghost use Rattle.iso_wire.specs.Reading.{value_at};
 ghost use Rattle.iso_parts.specs.Numbers.{members};
 ghost use Rattle.iso_wire.specs.Bodies.{longest_part, AreWithin, BeginsThere, viewed_of, wires_at, view_at, JudgesWire, FindsBodies, Outlines};
-ghost use Rattle.iso_wire.specs.Viewing.{LiesAt};
+ghost use Rattle.iso_wire.specs.Viewing.{LiesAt, IsBodyInPlace};
 ghost use Rattle.iso_wire.specs.Debugging.{debug_view};
 
 use crate::debugging::write_type;
@@ -111,7 +112,7 @@ pub(crate) fn outline_of(
     bytes: &[u8],
     bodies: &mut Bodies,
 ) -> Result<Outline, UnpackFault>
-    ensures exact { Outlines bytes.now bodies.new result (view_at table.now bytes.now) }
+    ensures exact { Outlines bytes.entry bodies.new result (view_at table.now bytes.entry) }
     ensures within { IfOk result (λ o. (o.used ≤ length bytes.now) × AreWithin o.used bodies.new (members o.numbers)) }
     ensures good { AreGood table.now.rows }
 {
@@ -127,8 +128,8 @@ pub(crate) fn outline_of(
 /// Where the body of an element lies, if its number is there.
 fn place_of(outline: &Outline, bodies: &Bodies, n: u8) -> Option<Range<usize>>
     requires within { AreWithin outline.now.used bodies.now (members outline.now.numbers) }
-    ensures { MatchOption result ((b : List ℕ) → value_in (viewed_of outline.now b bodies.now).wires n ≡ None)
-        (λ r. (b : List ℕ) → LiesAt (viewed_of outline.now b bodies.now) n r.start r.end) }
+    ensures { MatchOption result ((b : Bor (List ℕ)) → value_in (viewed_of outline.now b bodies.now).wires n ≡ None)
+        (λ r. (b : Bor (List ℕ)) → LiesAt (viewed_of outline.now b bodies.now) n r.start r.end) }
 {
     if outline.numbers.has(n) {
         let start = bodies.starts[n as usize] as usize;
@@ -155,7 +156,7 @@ impl<'a> Model for View<'a> {
 
     ghost Value = { Viewed };
 
-    ghost view = { λ v. viewed_of v.outline v.bytes.now v.bodies };
+    ghost view = { λ v. viewed_of v.outline v.bytes v.bodies };
 
     ghost invariant = { λ v. (v.outline.used ≤ length v.bytes.now) × AreWithin v.outline.used v.bodies (members v.outline.numbers) };
 }
@@ -198,8 +199,10 @@ impl<'a> View<'a> {
     /// The body of an element as it lies there, behind its length and with its padding, if the message has it. Takes
     /// no memory.
     pub fn wire(&self, n: u8) -> Option<&'a [u8]>
-        ensures { MatchOption result (value_in self.now.wires n ≡ None)
+        ensures body { MatchOption result (value_in self.now.wires n ≡ None)
             (λ v. value_in self.now.wires n ≡ Some v.now) }
+        // It is no copy, but lies in the caller's bytes, where `place` says.
+        ensures in_place { IfSome result (λ v. IsBodyInPlace self.now n v) }
     {
         let place = place_of(&self.outline, &self.bodies, n)?;
         Some(&self.bytes[place])

@@ -19,6 +19,7 @@ use iso_table::Table;
 fn view_of<'a>(table: &Table, bytes: &'a [u8]) -> Result<View<'a>, UnpackFault>
     ensures exact { Views table.now bytes.now result (message_at table.now bytes.now) }
     ensures bytes { IfOk result (λ v. v.bytes ≡ bytes.now) }
+    ensures address { IfOk result (λ v. v.address ≡ bytes.entry.ref_ptr) }
     ensures fits { AreBytes bytes.now }
     ensures good { AreGood table.now.rows }
 {
@@ -37,8 +38,10 @@ fn view_of<'a>(table: &Table, bytes: &'a [u8]) -> Result<View<'a>, UnpackFault>
 pub fn view<'a>(table: &Table, bytes: &'a [u8]) -> Result<View<'a>, UnpackFault>
     // What is viewed is spelled by the first bytes, and its bodies are those of that spelling.
     ensures found { IfOk result (λ v. IsViewed table.now v bytes.now) }
-    // The bodies lie in the bytes that are given.
+    // The bodies lie in the bytes that are given,
     ensures bytes { IfOk result (λ v. v.bytes ≡ bytes.now) }
+    // and those are the caller's own, not a copy.
+    ensures address { IfOk result (λ v. v.address ≡ bytes.entry.ref_ptr) }
     // What the first bytes spell is viewed.
     ensures only { ViewsSpelled table.now bytes.now result }
     // The bodies are those of the message that reading gives. Which fault it is, and where;

@@ -12,12 +12,12 @@ returns-then-has c =
     let size = body_size_at bodies c.args.n in
     let is = sym c.has.ensures.has ∙ c.if-has.true in
     let whole : size ≡ start + size - start = omega arith in
-    λ b. let body = set_body numbers b bodies c.args.n c.has.ensures.numbers is in (
+    λ b. let body = set_body numbers b.now bodies c.args.n c.has.ensures.numbers is in (
       omega arith,
       set_within numbers c.args.outline.now.used bodies c.args.n c.has.ensures.numbers is c.requires.within,
-      body ∙ ap (λ (k : ℕ). Some (take k (drop start b))) whole,
-      start_there b bodies (members numbers) _ c.args.n body,
+      body ∙ ap (λ (k : ℕ). Some (take k (drop start b.now))) whole,
+      start_there b.now bodies (members numbers) _ c.args.n body,
     )
 
 pub returns-else-has : goal.returns-else-has
-returns-else-has c = λ b. set_absent c.args.outline.now.numbers b c.args.bodies.now c.args.n (sym c.has.ensures.has ∙ c.if-has.false)
+returns-else-has c = λ b. set_absent c.args.outline.now.numbers b.now c.args.bodies.now c.args.n (sym c.has.ensures.has ∙ c.if-has.false)
