@@ -48,8 +48,6 @@ def by_command(command, case, folder):
         file.write(case.text)
         file.seek(0)
         run = subprocess.run([command, *case.words], stdin=file, capture_output=True, cwd=folder, env={}, timeout=WAIT)
-    for name in case.files:
-        (folder / name).unlink()
     return End(run.returncode, run.stdout, run.stderr)
 
 
@@ -67,19 +65,17 @@ def differs(command, case):
 def compare_some(command, seed, numbers, end):
     """Compares case after case until the time is over: how many passed of each command, and the numbers of those that failed."""
     passed, failed = collections.Counter(), []
-    with tempfile.TemporaryDirectory() as folder:
-        for number in numbers:
-            if time.monotonic() > end:
-                break
+    for number in numbers:
+        if time.monotonic() > end:
+            break
+        try:
             case = draw_case(f"{seed}/{number}")
-            try:
-                same = by_command(command, case, pathlib.Path(folder)) == by_model(case)
-            except subprocess.TimeoutExpired:
-                same = False
-            if same:
-                passed[name_of(case)] += 1
-            else:
+            if differs(command, case):
                 failed.append(number)
+            else:
+                passed[name_of(case)] += 1
+        except Exception as fault:
+            raise RuntimeError(f"case {seed}/{number}") from fault
     return passed, failed
 
 
@@ -120,7 +116,10 @@ def tell_failed(command, seed, numbers, kept):
     for number in numbers[:SHOWN]:
         case = reduced(command, draw_case(f"{seed}/{number}"))
         tell(command, case, f"FAILED {seed}/{number}", folder / str(number))
-        rows.append(row_of(case, f"drawn: {seed}/{number}"))
+        try:
+            rows.append(row_of(case, f"drawn: {seed}/{number}"))
+        except ValueError as fault:
+            print(f"    it can't be kept: {fault}")
     if numbers[SHOWN:]:
         print("FAILED too:", *(f"{seed}/{number}" for number in numbers[SHOWN:]))
     if kept:
@@ -140,8 +139,7 @@ def tell(command, case, name, folder):
     except subprocess.TimeoutExpired:
         said = End(-1, told=b"it doesn't end\n")
     wanted = by_model(case)
-    texts = {**case.files, "input": case.text, "command.output": said.output, "model.output": wanted.output}
-    for file, text in texts.items():
+    for file, text in {"input": case.text, "command.output": said.output, "model.output": wanted.output}.items():
         (folder / file).write_bytes(text)
     (folder / "words").write_text("".join(f"{word}\n" for word in case.words), errors="surrogateescape")
     print(f"{name}: {' '.join(map(repr, case.words)) or 'no words'}, in {folder}")
