@@ -34,7 +34,7 @@ def draw_case(seed):
     """The case of a seed."""
     draw = random.Random(seed)
     kinds = [draw_run, draw_show, draw_convert, draw_check, draw_echo, draw_accounts_refused, draw_words, draw_limit]
-    return draw.choices(kinds, [40, 20, 16, 14, 5, 3, 2, 1])[0](draw)
+    return draw.choices(kinds, [40, 20, 16, 14, 5, 5, 2, 1])[0](draw)
 
 
 def draw_known_table(draw):
