@@ -2,8 +2,8 @@
 
 use iso_fakes::check;
 use iso_parts::{BitmapCause, BitmapFault, FieldFault, SpecFault};
-use iso_table::{HostTableFault, TableFault};
-use iso_wire::{FrameFault, PackFault, SetFault, UnpackCause};
+use iso_table::{HostTableFault, NoMemory, TableFault};
+use iso_wire::{FrameFault, PackFault, SetFault, UnpackCause, UnpackFault};
 use std::alloc::Global;
 use std::fmt::{Debug, Display};
 use std::test::*;
@@ -35,165 +35,270 @@ enum Numbered {
     Host(HostTableFault),
     Set(SetFault),
     Pack(PackFault),
+    /// Of element 2 at 20.
     Unpack(UnpackCause),
     Frame(FrameFault),
 }
 
 use Numbered::{Field, Frame, Host, Map, Pack, Row, Set, Table, Unpack};
 
-/// A fault, its number, and what is shown of it, where that is tested.
-const NUMBERS: &[(&str, Numbered, u8, Option<&str>)] = &[
+/// A fault, its number, and what is shown of it.
+const NUMBERS: &[(&str, Numbered, u8, &str)] = &[
     (
         "wrong length",
         Field(FieldFault::WrongLength),
         1,
-        Some("wrong length"),
+        "wrong length",
     ),
     (
         "a character isn't in the class",
         Field(FieldFault::NotInClass),
         2,
-        Some("a character isn't in the class"),
+        "a character isn't in the class",
     ),
     (
         "the pad byte stands at the value's end",
         Field(FieldFault::PadEnd),
         3,
-        Some("the pad byte stands at the value's end"),
+        "the pad byte stands at the value's end",
     ),
     (
         "the length isn't of digits",
         Field(FieldFault::BadLengthDigits),
         4,
-        Some("the length isn't of digits"),
+        "the length isn't of digits",
     ),
     (
         "the length is above the maximum",
         Field(FieldFault::LengthOver),
         5,
-        Some("the length is above the maximum"),
+        "the length is above the maximum",
     ),
     (
         "the filler is neither 0 nor F",
         Field(FieldFault::BadFiller),
         6,
-        Some("the filler is neither 0 nor F"),
+        "the filler is neither 0 nor F",
     ),
     (
         "the body isn't of hexadecimal digits",
         Field(FieldFault::BadHex),
         7,
-        Some("the body isn't of hexadecimal digits"),
+        "the body isn't of hexadecimal digits",
     ),
     (
         "memory ran out",
         Field(FieldFault::Memory),
         8,
-        Some("memory ran out"),
+        "memory ran out",
     ),
     (
         "the maximum is out of range",
         Row(SpecFault::BadMax),
         1,
-        Some("the maximum is out of range"),
+        "the maximum is out of range",
     ),
     (
         "the coding doesn't go with the class",
         Row(SpecFault::CodingClass),
         2,
-        Some("the coding doesn't go with the class"),
+        "the coding doesn't go with the class",
     ),
     (
         "padding isn't allowed here",
         Row(SpecFault::PadNotAllowed),
         3,
-        Some("padding isn't allowed here"),
+        "padding isn't allowed here",
     ),
     (
         "bitmap at 8: a byte is no hexadecimal digit",
         Map(BitmapCause::BadHex),
         1,
-        Some("bitmap at 8: a byte is no hexadecimal digit"),
+        "bitmap at 8: a byte is no hexadecimal digit",
     ),
     (
         "bitmap at 8: a third bitmap",
         Map(BitmapCause::ThirdBitmap),
         2,
-        Some("bitmap at 8: a third bitmap"),
+        "bitmap at 8: a third bitmap",
     ),
-    ("NotJson", Table(TableFault::NotJson), 1, None),
-    ("Shape", Table(TableFault::Shape), 2, None),
-    ("BadVersion", Table(TableFault::BadVersion), 3, None),
-    ("BadNumber", Table(TableFault::BadNumber(65)), 4, None),
-    ("Twice", Table(TableFault::Twice(2)), 5, None),
-    ("BadMax", Table(TableFault::BadMax(2)), 6, None),
-    ("CodingClass", Table(TableFault::CodingClass(2)), 7, None),
+    (
+        "NotJson",
+        Table(TableFault::NotJson),
+        1,
+        "the text is no JSON",
+    ),
+    (
+        "Shape",
+        Table(TableFault::Shape),
+        2,
+        "a member is missing, unknown or of another kind",
+    ),
+    (
+        "BadVersion",
+        Table(TableFault::BadVersion),
+        3,
+        "the version is none of 0, 1, 2 and 9",
+    ),
+    (
+        "BadNumber",
+        Table(TableFault::BadNumber(65)),
+        4,
+        "there is no element 65",
+    ),
+    (
+        "Twice",
+        Table(TableFault::Twice(2)),
+        5,
+        "element 2 has two rows",
+    ),
+    (
+        "BadMax",
+        Table(TableFault::BadMax(2)),
+        6,
+        "element 2 has a maximum that its length cannot tell",
+    ),
+    (
+        "CodingClass",
+        Table(TableFault::CodingClass(2)),
+        7,
+        "element 2 has a coding that its class does not take",
+    ),
     (
         "PadNotAllowed",
         Table(TableFault::PadNotAllowed(2)),
         8,
-        None,
+        "element 2 has a padding that it may not have",
     ),
-    ("Profile", Table(TableFault::Profile), 9, None),
-    ("Memory", Table(TableFault::Memory), 10, None),
+    (
+        "Profile",
+        Table(TableFault::Profile),
+        9,
+        "the profile is neither 1 nor 2",
+    ),
+    ("Memory", Table(TableFault::Memory), 10, "memory ran out"),
     (
         "host NotVersion0",
         Host(HostTableFault::NotVersion0),
         1,
-        None,
+        "the version isn't 0",
     ),
-    ("host NoRow", Host(HostTableFault::NoRow(2)), 2, None),
-    ("host RowShape", Host(HostTableFault::RowShape(54)), 3, None),
     (
-        "a row twice",
-        Table(TableFault::Twice(41)),
-        5,
-        Some("element 41 has two rows"),
+        "host NoRow",
+        Host(HostTableFault::NoRow(2)),
+        2,
+        "element 2 has no row",
     ),
-    ("set BadNumber", Set(SetFault::BadNumber(65)), 1, None),
-    ("set Memory", Set(SetFault::Memory), 2, None),
-    ("pack WrongVersion", Pack(PackFault::WrongVersion), 1, None),
-    ("pack NoRow", Pack(PackFault::NoRow(41)), 2, None),
+    (
+        "host RowShape",
+        Host(HostTableFault::RowShape(54)),
+        3,
+        "the row of element 54 has another shape",
+    ),
+    (
+        "set BadNumber",
+        Set(SetFault::BadNumber(65)),
+        1,
+        "no element has the number 65",
+    ),
+    ("set Memory", Set(SetFault::Memory), 2, "memory ran out"),
+    (
+        "pack WrongVersion",
+        Pack(PackFault::WrongVersion),
+        1,
+        "the message type is of another version",
+    ),
+    (
+        "pack NoRow",
+        Pack(PackFault::NoRow(41)),
+        2,
+        "element 41 has no row",
+    ),
     (
         "pack WrongLength",
         Pack(PackFault::WrongLength(41)),
         3,
-        None,
+        "element 41 has a wrong length",
     ),
-    ("pack NotInClass", Pack(PackFault::NotInClass(41)), 4, None),
-    ("pack PadEnd", Pack(PackFault::PadEnd(41)), 5, None),
-    ("pack Memory", Pack(PackFault::Memory), 6, None),
-    ("unpack Short", Unpack(UnpackCause::Short), 1, None),
-    ("unpack BadMti", Unpack(UnpackCause::BadMti), 2, None),
+    (
+        "pack NotInClass",
+        Pack(PackFault::NotInClass(41)),
+        4,
+        "element 41 has a character that isn't in its class",
+    ),
+    (
+        "pack PadEnd",
+        Pack(PackFault::PadEnd(41)),
+        5,
+        "element 41 has the pad byte at its end",
+    ),
+    ("pack Memory", Pack(PackFault::Memory), 6, "memory ran out"),
+    (
+        "unpack Short",
+        Unpack(UnpackCause::Short),
+        1,
+        "element 2 at 20: the bytes end too early",
+    ),
+    (
+        "unpack BadMti",
+        Unpack(UnpackCause::BadMti),
+        2,
+        "element 2 at 20: the message type isn't of digits",
+    ),
     (
         "unpack WrongVersion",
         Unpack(UnpackCause::WrongVersion),
         3,
-        None,
+        "element 2 at 20: the message type is of another version",
     ),
-    ("unpack BadHex", Unpack(UnpackCause::BadHex), 4, None),
+    (
+        "unpack BadHex",
+        Unpack(UnpackCause::BadHex),
+        4,
+        "element 2 at 20: the bitmap isn't of hexadecimal digits",
+    ),
     (
         "unpack ThirdBitmap",
         Unpack(UnpackCause::ThirdBitmap),
         5,
-        None,
+        "element 2 at 20: a third bitmap",
     ),
     (
         "unpack UnknownElement",
         Unpack(UnpackCause::UnknownElement(66)),
         6,
-        None,
+        "element 2 at 20: element 66 has no row",
     ),
     (
         "unpack Field",
         Unpack(UnpackCause::Field(FieldFault::BadFiller)),
         7,
-        None,
+        "element 2 at 20: the filler is neither 0 nor F",
     ),
-    ("unpack Memory", Unpack(UnpackCause::Memory), 8, None),
-    ("frame TooLong", Frame(FrameFault::TooLong), 1, None),
-    ("frame BadDigits", Frame(FrameFault::BadDigits), 2, None),
-    ("frame Memory", Frame(FrameFault::Memory), 3, None),
+    (
+        "unpack Memory",
+        Unpack(UnpackCause::Memory),
+        8,
+        "element 2 at 20: memory ran out",
+    ),
+    (
+        "frame TooLong",
+        Frame(FrameFault::TooLong),
+        1,
+        "the body is too long for its header",
+    ),
+    (
+        "frame BadDigits",
+        Frame(FrameFault::BadDigits),
+        2,
+        "the header isn't of digits",
+    ),
+    (
+        "frame Memory",
+        Frame(FrameFault::Memory),
+        3,
+        "memory ran out",
+    ),
 ];
 
 /// The fault's number.
@@ -225,23 +330,31 @@ fn is_told(alloc: Global, numbered: &Numbered, text: &str) -> bool {
             text,
         ),
         Table(fault) => is_shown(alloc, fault, text),
-        _ => false,
+        Host(fault) => is_shown(alloc, fault, text),
+        Set(fault) => is_shown(alloc, fault, text),
+        Pack(fault) => is_shown(alloc, fault, text),
+        Unpack(cause) => is_shown(
+            alloc,
+            &UnpackFault {
+                at: 20,
+                element: 2,
+                cause: *cause,
+            },
+            text,
+        ),
+        Frame(fault) => is_shown(alloc, fault, text),
     }
 }
 
 /// Whether that is the fault's number, and what is shown of it.
-fn is_numbered(alloc: Global, numbered: &Numbered, number: u8, text: Option<&str>) -> bool {
-    number_of(numbered) == number
-        && match text {
-            Some(text) => is_told(alloc, numbered, text),
-            None => true,
-        }
+fn is_numbered(alloc: Global, numbered: &Numbered, number: u8, text: &str) -> bool {
+    number_of(numbered) == number && is_told(alloc, numbered, text)
 }
 
 #[test]
-fn faults_have_numbers(rt: HostRuntime) -> Result<(), Fail> {
+fn faults_have_numbers_and_texts(rt: HostRuntime) -> Result<(), Fail> {
     for (name, numbered, number, text) in NUMBERS {
         check(is_numbered(rt.alloc(), numbered, *number, *text), *name)?;
     }
-    Ok(())
+    check(is_shown(rt.alloc(), &NoMemory, "memory ran out"), "no memory")
 }
