@@ -9,7 +9,8 @@
 # make library  proves the library for C and what it stands on, and builds it: crates/iso_c/out/libiso_c.a
 # make check   proves what changed since the last check
 # make prove   the whole gate: every proof, must-fail edit, test and program, from nothing; RT_JOBS=2 for fewer checks side by side
-# make memory  each call that can want memory, and each command, with each of its growths refused in turn
+# make memory  each call that can want memory, and each command, with each of its growths refused in turn, by the quick run
+# make compare  what the command does with messages made by chance, and what the model says: SECONDS=120; builds the command
 # make loopback  how long a round trip on a port takes, and the memory of a host over many connections: ROUNDS=1000 for fewer
 # make bench   how fast the streams, the codec and the issuer are: ORDERS=2000 SIZES="100 1000" for fewer orders
 # The last two print tables. Where ORDERS, SIZES and ROUNDS are as below, they write them to docs/SPEED.md too.
@@ -41,7 +42,7 @@ ifeq ($(ROUNDS),$(ALL_ROUNDS))
 LOOPBACK_PAGE := docs/SPEED.md
 endif
 
-.PHONY: run test build library day replay connections rows schedule check prove memory bench loopback
+.PHONY: run test build library day replay connections rows schedule check prove memory compare bench loopback
 
 run:
 	@if $(MAKE) --silent --no-print-directory --question $(COMMAND); then \
@@ -97,8 +98,10 @@ prove:
 	RT_JOBS=$(RT_JOBS) rt ci
 
 memory:
-	@scripts/memory.sh calls
-	@scripts/memory.sh command
+	@scripts/memory.sh
+
+compare: $(COMMAND)
+	@python3 scripts/compare.py $(COMMAND)
 
 bench: $(COMMAND) $(BENCH)
 	@ORDERS=$(ORDERS) bench/figures.sh bench "$(BENCH_PAGE)" bench/turns.sh $(SIZES)

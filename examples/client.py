@@ -4,9 +4,11 @@
 client.py COMMAND starts `COMMAND serve ascii87 accounts.json HEADER PORT COUNT`, connects COUNT times, and compares each
 answer, each line of the host and its status. It ends with status 0 only if all are as they should be.
 
-For a host that somebody else starts: client.py --write-case CASE HEADER writes its words and what it must write on its
-output, client.py --follow-case CASE HEADER waits for it, connects, and compares the answers.
+For a host that somebody else starts: client.py --follow-case CASE HEADER writes its words and what it must write on its
+output, waits for it, connects, and compares the answers.
 """
+import contextlib
+import os
 import random
 import select
 import socket
@@ -216,14 +218,17 @@ LONG = [
 HOSTS = {"ascii4": DAY, "binary2": LONG}
 
 
-def free_port():
-    with socket.socket() as bound:
-        bound.bind(("127.0.0.1", 0))
-        return bound.getsockname()[1]
+@contextlib.contextmanager
+def held_port():
+    """A free port, which the system gives to nobody else meanwhile. A host can listen there."""
+    with socket.socket() as held:
+        held.setsockopt(socket.SOL_SOCKET, socket.SO_REUSEADDR, 1)
+        held.bind(("127.0.0.1", 0))
+        yield held.getsockname()[1]
 
 
-def host_words(header):
-    return ["serve", "ascii87", "accounts.json", header, str(free_port()), str(len(HOSTS[header]))]
+def host_words(header, port):
+    return ["serve", "ascii87", "accounts.json", header, str(port), str(len(HOSTS[header]))]
 
 
 def connect(header, port, wait):
@@ -246,10 +251,10 @@ def check_ends(header, told):
 
 def serve(command, header):
     """Starts a host, and connects to it."""
-    words = host_words(header)
-    with subprocess.Popen(command + words, stdin=subprocess.DEVNULL, stdout=subprocess.PIPE, stderr=subprocess.STDOUT) as host:
+    with held_port() as port, subprocess.Popen(command + host_words(header, port), stdin=subprocess.DEVNULL, stdout=subprocess.PIPE,
+                                               stderr=subprocess.STDOUT) as host:
         try:
-            connect(header, int(words[4]), WAIT)
+            connect(header, port, WAIT)
             told, _ = host.communicate(timeout=WAIT)
         finally:
             host.kill()
@@ -258,24 +263,24 @@ def serve(command, header):
         raise AssertionError(f"the host ended with status {host.returncode}")
 
 
-def write_case(case, header):
-    """The words of a host, one a line, and what it must write on its output."""
+def write_case(case, header, port):
+    """What a host must write on its output, and last its words, one a line."""
     lines = [ends[0] for _, _, ends in HOSTS[header] if ends[0].startswith("frames=")]
-    for name, text in ((case, []), (case + ".args", host_words(header)), (case + ".stdout", lines)):
+    for name, text in ((case, []), (case + ".stdout", lines), (case + ".words", host_words(header, port))):
         with open(name, "w", encoding="ascii") as file:
             file.writelines(line + "\n" for line in text)
+    os.rename(case + ".words", case + ".args")
 
 
 def follow_case(case, header):
-    """Connects to the host of a case, which may take its time to start."""
-    with open(case + ".args", encoding="ascii") as file:
-        connect(header, int(file.read().split()[4]), 900)
+    """Writes the case of a host, and connects to it. The host may take its time to start."""
+    with held_port() as port:
+        write_case(case, header, port)
+        connect(header, port, 900)
 
 
 def main(words):
-    if len(words) == 3 and words[0] == "--write-case":
-        write_case(words[1], words[2])
-    elif len(words) == 3 and words[0] == "--follow-case":
+    if len(words) == 3 and words[0] == "--follow-case":
         follow_case(words[1], words[2])
     elif words:
         for header in HOSTS:

@@ -2,7 +2,7 @@
 # Runs the examples of a folder over the library for C, and compares what they write with examples/expected: decode.c on hex dumps,
 # also under valgrind and as another compiler makes it, and convert.py; c-calls.c, which compares what each call gives; and
 # c-refusals.c, which refuses memory to each call. What needs a program that isn't installed is left out, and all of it where the
-# library isn't built (make library). Prints each run that failed, and a line of counts: c-examples.sh FOLDER
+# library isn't built (make library): a line says so. Prints each run that failed, and a line of counts: c-examples.sh FOLDER
 set -u
 cd "$(dirname "$0")/.." || exit 1
 
@@ -29,8 +29,12 @@ run() {
     fi
 }
 
+# PROGRAM: whether it is installed; a line says so if it isn't
 has() {
-    command -v "$1" > /dev/null
+    command -v "$1" > /dev/null || {
+        echo "LEFT OUT runs of $examples: there is no program $1"
+        return 1
+    }
 }
 
 # COMPILER SOURCE PROGRAM OPTION ..: the program as that compiler makes it, with all warnings as errors
@@ -77,6 +81,6 @@ if [ -f "$library" ] && make --silent --no-print-directory --question library; t
         run convert.py ctypes 0 /dev/null python3 "$examples/convert.py" "$folder/librumpadol.so"
     fi
 else
-    echo "$examples: left out, since make library has not built the library" >&2
+    echo "LEFT OUT the runs of $examples: make library has not built the library"
 fi
 echo "$examples: $passed runs passed, $failed failed"

@@ -1,36 +1,58 @@
 #!/bin/sh
 # Refuses to each call that can want memory one of its growths after the other, by the quick run, without proving anything.
-# A program is built once and run many times. In each run the allocation at one fixed count is refused, and the run makes and
-# drops some allocations first: one fewer each time, so that the refusal goes through the whole program, growth by growth.
-# The last line is the judgement.
-# memory.sh calls: the calls of the libraries, by the program iso_memory
-# memory.sh command: the commands of iso_cli
+# A program is run many times. In each run the allocation at one fixed count is refused, and the run makes and drops some
+# allocations first: one fewer each time, so that the refusal goes through the whole program, growth by growth. The runs are
+# dealt to some parts, which are made side by side; each part builds the program once. The last line is the judgement.
+# memory.sh calls [PARTS]: the calls of the libraries, by the program iso_memory
+# memory.sh command [PARTS]: the commands of iso_cli
+# memory.sh: both side by side, with a part for each core of this machine
 set -u
 cd "$(dirname "$0")/.." || exit 1
 top=$PWD
 
-# the count of the allocation that is refused: each program makes fewer
-count=460
-
 folder=$(mktemp -d)
-trap 'rm -rf "$folder"' EXIT
+started=
+trap 'kill $started 2> /dev/null; rm -rf "$folder"' EXIT
 trap 'exit 1' HUP INT TERM
+
+if [ $# -eq 0 ]; then
+    parts=$((($(nproc) + 1) / 2))
+    for what in calls command; do
+        sh "$top/scripts/memory.sh" "$what" "$parts" > "$folder/$what" 2>&1 &
+        started="$started $!"
+    done
+    failed=0
+    for one in $started; do
+        wait "$one" || failed=1
+    done
+    started=
+    cat "$folder/calls" "$folder/command"
+    exit "$failed"
+fi
+
+# the count of the allocation that is refused: each program makes fewer
+count=600
+
+parts=${2:-$(nproc)}
 cases=$folder/cases
 mkdir "$cases"
 
 # the words that a program is given take fewer allocations than these
 words=20
 
-# one row a call and run: each is answered in all runs but those in which a growth of it, or of what it is lent, was refused
+# how each run ended, and then one row a call and run: each call is answered in all runs but those in which a growth of it, or
+# of what it is lent, was refused
 judge_calls='
     function judge() {
         if (run == "" || rows == 0 && run > count - words) return
         if (runs == 0) whole = rows
-        if (refusals > 1 || wrongs > 0 || rows != whole) { bad++; print "BAD run " run ": " rows " rows, " refusals " refusals, " wrongs " wrong" }
+        if (refusals > 1 || wrongs > 0 || rows != whole || !(run in done)) { bad++; print "BAD run " run ": " rows " rows, " refusals " refusals, " wrongs " wrong" }
         if (refusals == 0) silent[run] = 1
         if (refusals > 0 && (seen == 0 || run < lowest)) { lowest = run; seen = 1 }
         runs++
     }
+    /^case=b/ { made++; if (/ run=ended status=0 /) done[substr($1, 7) + 0] = 1 }
+    FILENAME ~ /\.faults$/ { next }
     /^== b/ { judge(); run = substr($2, 2) + 0; refusals = 0; wrongs = 0; rows = 0; next }
     {
         rows++
@@ -44,6 +66,7 @@ judge_calls='
         judge()
         for (run in silent) if (run + 0 > lowest) { bad++; print "BAD run " run ": a refusal was not told" }
         if (seen == 0 || lowest == 0) { bad++; print "BAD: the program makes more allocations than that" }
+        if (made != count) { bad++; print "BAD: " made + 0 " runs were made, not " count }
         for (at = 2; at in order; at++) {
             name = order[at]
             short = substr(name, index(name, " ") + 1)
@@ -81,12 +104,25 @@ judge_command='
             growths += refused[name]
             if (refused[name] == 0 || lowest[name] != first[name]) { bad++; print "BAD " name ": it makes more allocations" }
         }
+        if (runs != wanted) { bad++; print "BAD: " runs + 0 " runs were made, not " wanted }
         print "the command: " runs + 0 " runs, " growths + 0 " growths refused, " bad + 0 " bad"
     }'
 
-# the program of a folder in each of its cases
+# the program of a folder in each of its cases, which are dealt to the parts
 try() {
-    (cd "$1" && shift && rt try --cases "$cases" --fail-alloc "$count" "$@") > "$folder/told" 2> "$folder/faults"
+    wanted=$(find "$cases" -name '*.args' | wc -l)
+    part=0
+    for words_of in "$cases"/*.args; do
+        mkdir -p "$folder/part$part"
+        mv "${words_of%.args}" "${words_of%.args}".* "$folder/part$part"
+        part=$(((part + 1) % parts))
+    done
+    for part in "$folder"/part*; do
+        (cd "$1" && shift && exec rt try --cases "$part" --fail-alloc "$count" "$@") > "$part.told" 2> "$part.faults" < /dev/null &
+        started="$started $!"
+    done
+    wait
+    started=
 }
 
 calls() {
@@ -97,7 +133,7 @@ calls() {
         burns=$((burns + 1))
     done
     try crates/iso_memory
-    awk -v count="$count" -v words="$words" "$judge_calls" "$folder/told"
+    awk -v count="$count" -v words="$words" "$judge_calls" "$folder"/part*.faults "$folder"/part*.told
 }
 
 # MOST NAME INPUT OUTPUT WORD ..: a command that makes fewer allocations than MOST
@@ -143,11 +179,12 @@ commands() {
     runs_of 160 day "$examples/day.txt" "$examples/expected/day" run ascii87 accounts.json ascii4
     line='frames=1 answered=1 silent=0 unreadable=0'
     printf '%s\n%s\n' "$line" "$line" > "$folder/peers"
+    # this host listens at a port that is free, whatever its words say
     runs_of 120 peers /dev/null "$folder/peers" serve ascii87 accounts.json ascii4 8583 2
     burning_command
     try "$folder/top/crates/iso_cli" --data "accounts.json=$examples/accounts.json" \
         --data "terminals.json=$top/tables/terminals.json"
-    awk "$judge_command" "$folder/faults"
+    awk -v wanted="$wanted" "$judge_command" "$folder"/part*.faults
 }
 
 case $1 in
@@ -157,6 +194,6 @@ case $1 in
 esac > "$folder/judged"
 cat "$folder/judged"
 grep -q "[1-9][0-9]* growths refused, 0 bad$" "$folder/judged" || {
-    grep -v '^allocations: \|^case=' "$folder/faults" | head -n 40
+    cat "$folder"/part*.faults | grep -v '^allocations: \|^case=' | head -n 40
     exit 1
 }

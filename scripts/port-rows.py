@@ -1,8 +1,9 @@
 #!/usr/bin/env python3
 """Starts the command as a host on a port for each row of crates/iso_cli/rows/port.json, and compares what comes of it.
 
-port-rows.py COMMAND prints each row that fails, with what differs, and as its last line how many passed and failed. A row whose
-own port somebody else has is left out, and a line says so.
+port-rows.py COMMAND prints each row that fails, with what differs, and as its last line how many passed and failed. A row takes a
+free port. Those that test how a port is written have one of their own: such a row waits while somebody else has it, and is left
+out where that doesn't end; a line says so.
 
 The document has "texts", which its rows name; what a text is, rows.py says. A row of "words" has
     "words"              behind the program's name; "@TAKEN" is a port at which this script listens
@@ -273,8 +274,12 @@ def system_says(port):
 
 
 def as_system_lets(row):
-    """The row; or a read that fails, where the system refuses its port; or none, where somebody else has it."""
+    """The row; or a read that fails, where the system refuses its port; or none, where somebody else has it for long."""
     says = system_says(row["serves"][0]) if "serves" in row else None
+    end = time.monotonic() + WAIT
+    while says == errno.EADDRINUSE and time.monotonic() < end:
+        time.sleep(0.1)
+        says = system_says(row["serves"][0])
     if says in (errno.EACCES, errno.EPERM):
         return {"name": row["name"], "words": row["words"], "status": 3, "faults": [FAILED_READ]}
     return None if says == errno.EADDRINUSE else row
@@ -289,6 +294,16 @@ def differences_in_folder(differences_of, command, files, row, texts):
             return differences_of(command, folder, row, texts)
         except (AssertionError, OSError, subprocess.SubprocessError) as fault:
             return [str(fault)]
+
+
+def differences_of_row(differences_of, command, files, row, texts):
+    """What differs in a row, which is played again where somebody took its port once it was found free."""
+    for _ in range(3):
+        differences = differences_in_folder(differences_of, command, files, row, texts)
+        if not differences or "serves" not in row or system_says(row["serves"][0]) != errno.EADDRINUSE:
+            break
+        time.sleep(1)
+    return differences
 
 
 def only_run():
@@ -313,9 +328,9 @@ def main(command):
         for row in document[kind]:
             played = as_system_lets(row)
             if not played:
-                print(f"scripts/port-rows.py: left out, as somebody else has its port: {row['name']}")
+                print(f"LEFT OUT a row of scripts/port-rows.py: somebody else has the port of '{row['name']}'")
                 continue
-            differences = differences_in_folder(differences_of, command, document["files"], played, texts)
+            differences = differences_of_row(differences_of, command, document["files"], played, texts)
             for line in differences:
                 print(f"FAILED scripts/port-rows.py '{row['name']}': {line}")
             failed += bool(differences)

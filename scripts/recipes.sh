@@ -1,9 +1,9 @@
 #!/bin/sh
 # Runs the commands that the pages of a folder show, and compares what they write with what the pages show behind them. A page
 # shows them in blocks of 'console': '$ ' before a command, '> ' before its further lines. Further words behind 'console' are
-# programs that the block needs: where one isn't installed, the block is left out. A page's commands run one after the other in
-# a folder with the repository's tables, examples and bench. The runs of iso_cli are made by COMMAND, or else by the quick run, without
-# proofs. Prints each block that differs, and a line of counts for each page: recipes.sh FOLDER [COMMAND]
+# programs that the block needs: where one isn't installed, the block is left out, and a line says so. A page's commands run one
+# after the other in a folder with the repository's tables, examples and bench. The runs of iso_cli are made by COMMAND, or else by
+# the quick run, without proofs. Prints each block that differs, and a line of counts for each page: recipes.sh FOLDER [COMMAND]
 set -u
 cd "$(dirname "$0")/.." || exit 1
 top=$PWD
@@ -102,10 +102,10 @@ judge_page() {
     passed=0
     failed=0
     for block in "$folder/blocks/$(basename "$1")".*.shown; do
-        [ -f "$block" ] || return
+        [ -f "$block" ] || return 0
         block=${block%.shown}
         if left_out "$block"; then
-            echo "$1: a block is left out, since it needs$(cat "$block.needs")"
+            echo "LEFT OUT a block of $1: it needs$(cat "$block.needs")"
         elif cmp -s "$block.shown" "$block.told"; then
             passed=$((passed + 1))
         else

@@ -1,6 +1,6 @@
 #!/bin/sh
-# Runs every test and every stored run, two crates side by side, without proving anything. The last line is
-# 'N passed, N failed'.
+# Runs every test and every stored run, two crates side by side, without proving anything. What needs a program that isn't here, or
+# a library that isn't built, is left out: the lines before the last one say so again. The last line is 'N passed, N failed'.
 set -u
 cd "$(dirname "$0")/.." || exit 1
 
@@ -8,13 +8,16 @@ folder=$(mktemp -d)
 trap 'rm -rf "$folder"' EXIT
 trap 'exit 1' HUP INT TERM
 
-# a command in each line: what the pages show, the examples in C, the rows of the command, the crates that have tests, and the
-# programs that have a stored run
+# a command in each line: what the pages show, the examples in C, the rows of the command and of the model, the crates that have
+# tests, and the programs that have a stored run
 jobs() {
     echo scripts/recipes.sh docs
     echo scripts/elements.sh docs/ELEMENTS.md
     echo scripts/c-examples.sh examples/c
-    echo scripts/command-rows.py
+    if command -v python3 > /dev/null; then
+        echo python3 scripts/command-rows.py
+        echo python3 tests/model/rows.py
+    fi
     grep -rl --include='*.rt' '^ *#\[test\]' crates/*/src | cut -d/ -f2 | sort -u | sed 's|^|scripts/try-tests.sh |'
     ls crates/*/stdout | cut -d/ -f2 | sed 's|^|scripts/try-runs.sh |'
 }
@@ -46,11 +49,20 @@ tables() {
     echo "tables: $same documents passed, $((2 - same)) failed"
 }
 
+jobs > "$folder/jobs"
 {
+    command -v python3 > /dev/null || echo 'LEFT OUT the rows of the command and of the model: there is no program python3'
     example README.md crates/iso_host_tests/src/host/example.rt
     example examples/pieces.md crates/iso_ledger_tests/src/order/pieces.rt
     tables
-    jobs | xargs -P 2 -I JOB sh -c JOB
+    xargs -P 2 -I {} scripts/counted.sh {} "$folder/ended" < "$folder/jobs"
+    # a job that never came to its end has told nothing
+    touch "$folder/ended"
+    grep -vxF -f "$folder/ended" "$folder/jobs" | while read -r job; do
+        echo "FAILED $job: it didn't come to its end"
+        echo "$(echo "$job" | tr ' ' '-'): 0 passed, 1 failed"
+    done
 } | tee "$folder/told"
+grep '^LEFT OUT ' "$folder/told" | sort -u
 awk '/^[^ ]*: [0-9]* .*passed, [0-9]* failed$/ { passed += $2; failed += $(NF - 1) }
     END { print passed + 0 " passed, " failed + 0 " failed"; exit failed > 0 || passed == 0 }' "$folder/told"

@@ -24,12 +24,14 @@ run() {
     )
 }
 
-# HEADER: a host on a port, and the client that connects to it
+# HEADER: a host on a port that is free, and the client that holds the port, writes the case of the host and connects to it
 serve() {
-    python3 "$examples/client.py" --write-case "$cases/serve-$1" "$1" || return
     python3 "$examples/client.py" --follow-case "$cases/serve-$1" "$1" > "$folder/client-$1" 2>&1 &
     followers="$followers $!"
     clients="$clients $1:$!"
+    while [ ! -f "$cases/serve-$1.args" ] && kill -0 $! 2> /dev/null; do
+        sleep 0.1
+    done
 }
 
 run stdin stdout stored
@@ -43,6 +45,8 @@ if [ "$1" = iso_cli ]; then
     if command -v python3 > /dev/null; then
         serve ascii4
         serve binary2
+    else
+        echo "LEFT OUT the clients of $1: there is no program python3"
     fi
 fi
 if [ "$1" = iso_schedule ]; then

@@ -1,0 +1,52 @@
+#!/bin/sh
+# Installs the programs that the tests, the rows and the pages use and that aren't here: Debian's packages, by apt-get, as root or
+# by sudo. Does nothing where all are here. Names each program that is missing then, and ends with status 1 if one is.
+set -u
+cd "$(dirname "$0")/.." || exit 1
+
+# what the scripts and the examples call, beside what every Debian has, and what the pages name behind 'console'
+programs="make python3 xxd cc clang valgrind $(sed -n 's/^```console//p' docs/*.md)"
+
+missing() {
+    for program in $programs; do
+        command -v "$program" > /dev/null || echo "$program"
+    done | sort -u
+}
+
+# PROGRAM: Debian's packages that have it
+packages() {
+    case $1 in
+        cc) echo gcc libc6-dev ;;
+        clang) echo clang libc6-dev ;;
+        valgrind) echo valgrind libc6-dbg ;;
+        text2pcap) echo wireshark-common ;;
+        *) echo "$1" ;;
+    esac
+}
+
+# WORD ..: apt-get as root
+apt() {
+    set -- env DEBIAN_FRONTEND=noninteractive apt-get -q -y "$@"
+    [ "$(id -u)" -eq 0 ] || set -- sudo -n "$@"
+    "$@"
+}
+
+wanted=$(missing)
+[ -n "$wanted" ] || exit 0
+
+told=$(mktemp) || exit 1
+trap 'rm -f "$told"' EXIT
+trap 'exit 1' HUP INT TERM
+apt update > "$told" 2>&1
+for program in $wanted; do
+    # shellcheck disable=SC2046
+    apt install --no-install-recommends $(packages "$program") >> "$told" 2>&1
+done
+
+wanted=$(missing)
+[ -n "$wanted" ] || exit 0
+tail -n 5 "$told" >&2
+for program in $wanted; do
+    echo "install-tools.sh: there is no program $program, and it can't be installed" >&2
+done
+exit 1
