@@ -3,7 +3,7 @@
 use crate::ended::Ended;
 use crate::known::{ACCOUNTS, balances, completion, debit, issuer, undo};
 use iso_issuer::{Accounts, AccountsFault, Issuer, Refused};
-use iso_order::{Answer, Order};
+use iso_order::{Answer, Order, Pan};
 use std::alloc::Global;
 
 fn reads_json(alloc: Global) -> Ended {
@@ -17,6 +17,36 @@ fn reads_json(alloc: Global) -> Ended {
         Err(_) => false,
     };
     Ended::of(was_refused, is_right)
+}
+
+/// Three accounts of three currencies.
+const THREE_ACCOUNTS: &[u8] = b"{\"accounts\":[\
+{\"currency\":\"840\",\"opening\":5000,\"pan\":\"4111111111111111\"},\
+{\"currency\":\"978\",\"opening\":-700,\"pan\":\"5500000000000004\"},\
+{\"currency\":\"392\",\"opening\":9000000000000000,\"pan\":\"378282246310005\"}]}";
+
+/// Whether the account has that amount.
+fn has_ledger(issuer: &Issuer, digits: &[u8], amount: i64) -> bool {
+    match Pan::from_digits(digits) {
+        Some(pan) => issuer.ledger(pan) == Some(amount),
+        None => false,
+    }
+}
+
+fn reads_three_accounts(alloc: Global) -> Ended {
+    let mut told = Accounts::from_json(alloc, THREE_ACCOUNTS);
+    let was_refused = matches!(&told, Err(AccountsFault::Memory));
+    if was_refused {
+        told = Accounts::from_json(alloc, THREE_ACCOUNTS);
+    }
+    let Ok(accounts) = told else {
+        return Ended::Wrong;
+    };
+    let issuer = Issuer::new(accounts, 1);
+    let are_read = has_ledger(&issuer, b"4111111111111111", 5000)
+        && has_ledger(&issuer, b"5500000000000004", -700)
+        && has_ledger(&issuer, b"378282246310005", 9_000_000_000_000_000);
+    Ended::of(was_refused, are_read)
 }
 
 /// An order, and after it the ledger and what is available.
@@ -143,9 +173,10 @@ fn runs(alloc: Global) -> Ended {
 }
 
 /// These calls by name, and how each ended.
-pub fn rows(alloc: Global) -> [(&'static str, Ended); 4] {
+pub fn rows(alloc: Global) -> [(&'static str, Ended); 5] {
     [
         ("Accounts::from_json", reads_json(alloc)),
+        ("Accounts::from_json", reads_three_accounts(alloc)),
         ("Issuer::handle", handles(alloc)),
         ("Issuer::handle", reverses_early(alloc)),
         ("Issuer::run", runs(alloc)),

@@ -86,8 +86,8 @@ fn serves_frames(alloc: Global, table: &Table, input: &[u8], output: &[u8]) -> E
     Ended::of(true, is_front && is_whole && written.as_slice() == output)
 }
 
-fn serves(alloc: Global) -> Ended {
-    let input = frame_bytes(alloc, &[(b"0082", PURCHASE), (b"0082", PURCHASE)]);
+/// Serves an input of a purchase and its repeat.
+fn serves(alloc: Global, input: Option<Vec<u8>>) -> Ended {
     let output = frame_bytes(alloc, &[(b"0090", GRANTED), (b"0090", GRANTED)]);
     match (Table::ascii87(alloc), input, output) {
         (Ok(table), Some(input), Some(output)) => serves_frames(alloc, &table, &input, &output),
@@ -95,7 +95,34 @@ fn serves(alloc: Global) -> Ended {
     }
 }
 
+/// The header of a frame of 5,092 bytes, and the front of its body: the purchase, whose bitmap has the elements 55 to 59 too.
+const LONG_FRONT: &[u8] =
+    b"5092020072200001000083E016411111111111111100000000000000100001020304050000070512345840";
+
+/// Adds the value of an element: 999 characters behind their length.
+fn add_longest(bytes: &mut Vec<u8>) -> Option<()> {
+    bytes.extend_from_slice(b"999").ok()?;
+    bytes.extend_from_slice(&[b'7'; 999]).ok()
+}
+
+/// The frame of the purchase, and that of its repeat with five of the longest elements, which is longer than what the host
+/// holds at a time.
+fn long_input(alloc: Global) -> Option<Vec<u8>> {
+    let mut bytes = Vec::with_capacity(alloc, 5200).ok()?;
+    bytes.extend_from_slice(b"0082").ok()?;
+    bytes.extend_from_slice(PURCHASE).ok()?;
+    bytes.extend_from_slice(LONG_FRONT).ok()?;
+    for _ in 0..5 {
+        add_longest(&mut bytes)?;
+    }
+    Some(bytes)
+}
+
 /// These calls by name, and how each ended.
-pub fn rows(alloc: Global) -> [(&'static str, Ended); 1] {
-    [("serve", serves(alloc))]
+pub fn rows(alloc: Global) -> [(&'static str, Ended); 2] {
+    let two = frame_bytes(alloc, &[(b"0082", PURCHASE), (b"0082", PURCHASE)]);
+    [
+        ("serve", serves(alloc, two)),
+        ("serve", serves(alloc, long_input(alloc))),
+    ]
 }

@@ -224,11 +224,17 @@ fn feeds(alloc: Global, unpacker: &mut Unpacker<'_>, piece: &[u8]) -> (bool, Opt
     }
 }
 
-fn feeds_two_pieces(alloc: Global) -> Ended {
+/// The purchase, and behind it the front of another message.
+const PURCHASE_AND_MORE: &[u8] =
+    b"0200722000010000800016411111111111111100000000000000100001020304050000070512345840\
+020072200001000080001641111111111111110000000000000010000102030405000008";
+
+/// Feeds the purchase in two pieces, whatever follows it in the second one.
+fn feeds_two_pieces(alloc: Global, bytes: &[u8]) -> Ended {
     let (Ok(table), Some(message)) = (Table::ascii87(alloc), purchase(alloc, 200)) else {
         return Ended::Unready;
     };
-    let (front, rest) = PURCHASE.split_at(30);
+    let (front, rest) = bytes.split_at(30.min(bytes.len()));
     let mut unpacker = Unpacker::new(alloc, &table);
     let (at_first, more) = feeds(alloc, &mut unpacker, front);
     let is_kept = matches!(more, Some(Fed::More)) && unpacker.held() == 30;
@@ -341,7 +347,7 @@ fn opens_a_frame(alloc: Global) -> Ended {
 }
 
 /// These calls by name, and how each ended.
-pub fn rows(alloc: Global) -> [(&'static str, Ended); 18] {
+pub fn rows(alloc: Global) -> [(&'static str, Ended); 19] {
     let long = [b'7'; 300];
     [
         ("Message::set", sets(alloc, 2, &long)),
@@ -357,7 +363,8 @@ pub fn rows(alloc: Global) -> [(&'static str, Ended); 18] {
         ("pack", packs(alloc)),
         ("append_message", appends_a_message(alloc)),
         ("unpack", unpacks(alloc)),
-        ("Unpacker::feed", feeds_two_pieces(alloc)),
+        ("Unpacker::feed", feeds_two_pieces(alloc, PURCHASE)),
+        ("Unpacker::feed", feeds_two_pieces(alloc, PURCHASE_AND_MORE)),
         ("Unpacker::unpack", unpacks_between(alloc)),
         ("frame", frames(alloc)),
         ("append_frame", appends_a_frame(alloc)),

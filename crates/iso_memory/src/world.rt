@@ -4,9 +4,10 @@ ghost use Rattle.std.specs.Prelude.{IfSome};
 ghost use Rattle.iso_acquirer.specs.World.{IsFairEvent};
 
 use crate::ended::Ended;
-use crate::known::{ACQUIRER, SENT, account, balances, issuer};
+use crate::known::{ACQUIRER, SENT, account, balances, issuer, key, money};
 use iso_acquirer::{AcqFault, Acquirer, Event, State, StepFault, World};
 use iso_issuer::Refused;
+use iso_order::{Act, Order, TxKey};
 use std::alloc::Global;
 
 /// The acquirer begins a purchase of 10.00.
@@ -105,6 +106,35 @@ fn steps(alloc: Global) -> Ended {
     Ended::of(was_refused, are_made && both_ends(&world) == wanted)
 }
 
+/// A purchase of 10.00 of another acquirer.
+fn order_of_another() -> Option<Order> {
+    let another = TxKey {
+        acquirer: 777,
+        ..key(200, 9)
+    };
+    Order::new(another, Act::Debit(money(1000)?))
+}
+
+/// No answer comes to a purchase, twice: its reversal is sent, delivered and answered. Then an order of another acquirer
+/// comes.
+fn steps_to_a_reversal(alloc: Global) -> Ended {
+    let (Some(mut world), Some(begin), Some(other)) = (world(alloc), begin(), order_of_another())
+    else {
+        return Ended::Unready;
+    };
+    let (first, was_begun) = steps_one(&mut world, begin);
+    let (second, was_sent) = steps_one(&mut world, Event::Timeout(1));
+    let (third, was_reversed) = steps_one(&mut world, Event::Timeout(1));
+    let (fourth, was_delivered) = steps_one(&mut world, Event::Deliver(2));
+    let (fifth, was_answered) = steps_one(&mut world, Event::Answer(0));
+    let (sixth, was_entered) = steps_one(&mut world, Event::Other(other));
+    let are_sent = was_begun && was_sent && was_reversed;
+    let are_made = are_sent && was_delivered && was_answered && was_entered;
+    let wanted = (Some(State::Reversed), 2, Some((4000, 4000)), 3, 1);
+    let was_refused = first || second || third || fourth || fifth || sixth;
+    Ended::of(was_refused, are_made && both_ends(&world) == wanted)
+}
+
 /// Runs a purchase and its answer: how many events were refused.
 fn run_purchase(world: &mut World, begin: Event) -> u32
     requires { IsFairEvent begin }
@@ -135,10 +165,11 @@ fn runs(alloc: Global) -> Ended {
 }
 
 /// These calls by name, and how each ended.
-pub fn rows(alloc: Global) -> [(&'static str, Ended); 3] {
+pub fn rows(alloc: Global) -> [(&'static str, Ended); 4] {
     [
         ("Acquirer::begin", begins(alloc)),
         ("World::step", steps(alloc)),
+        ("World::step", steps_to_a_reversal(alloc)),
         ("World::run", runs(alloc)),
     ]
 }
