@@ -1,4 +1,4 @@
-//! The numbers of faults, and what those of an issuer tell.
+//! The numbers of faults, and what is told of them.
 use Fault::{Accounts, Acquirer, Refusal, Step};
 use iso_acquirer::{AcqFault, StepFault};
 use iso_fakes::check;
@@ -16,84 +16,104 @@ enum Fault {
     Step(StepFault),
 }
 
-/// Names, faults, the number of each, and the text where that is compared.
-const FAULTS: &[(&str, Fault, u8, Option<&str>)] = &[
+/// Names, faults, the number of each, and its text.
+const FAULTS: &[(&str, Fault, u8, &str)] = &[
     (
         "no JSON",
         Accounts(AccountsFault::NotJson),
         1,
-        Some("the text is no JSON"),
+        "the text is no JSON",
     ),
     (
         "another shape",
         Accounts(AccountsFault::Shape),
         2,
-        Some("a member is missing, unknown or of another kind"),
+        "a member is missing, unknown or of another kind",
     ),
     (
         "an account twice",
         Accounts(AccountsFault::Twice(1)),
         3,
-        Some("account 1 has the number of an earlier one"),
+        "account 1 has the number of an earlier one",
     ),
     (
         "an amount out of range",
         Accounts(AccountsFault::OutOfRange(0)),
         4,
-        Some("account 0 has an opening amount out of range"),
+        "account 0 has an opening amount out of range",
     ),
     (
         "no memory for accounts",
         Accounts(AccountsFault::Memory),
         5,
-        Some("memory ran out"),
+        "memory ran out",
     ),
     (
         "a full journal",
         Refusal(Refused::Full),
         1,
-        Some("the journal is full"),
+        "the journal is full",
     ),
     (
         "no memory for an order",
         Refusal(Refused::Memory),
         2,
-        Some("memory ran out"),
+        "memory ran out",
     ),
     (
         "no more trace numbers",
         Acquirer(AcqFault::NoMoreTrace),
         1,
-        None,
+        "no trace number is left",
     ),
     (
         "no memory for a purchase",
         Acquirer(AcqFault::Memory),
         2,
-        None,
+        "memory ran out",
     ),
-    ("no such purchase", Acquirer(AcqFault::NoSuch), 3, None),
-    ("a closed purchase", Acquirer(AcqFault::Closed), 4, None),
-    ("nothing at that place", Step(StepFault::NoSuch), 1, None),
+    (
+        "no such purchase",
+        Acquirer(AcqFault::NoSuch),
+        3,
+        "no such transaction",
+    ),
+    (
+        "a closed purchase",
+        Acquirer(AcqFault::Closed),
+        4,
+        "the transaction is closed",
+    ),
+    (
+        "nothing at that place",
+        Step(StepFault::NoSuch),
+        1,
+        "no such order or answer",
+    ),
     (
         "the acquirer's own number",
         Step(StepFault::OwnKey),
         2,
-        None,
+        "an order of others has this acquirer's number",
     ),
     (
         "refused by the acquirer",
         Step(StepFault::Acquirer(AcqFault::Closed)),
         3,
-        None,
+        "the acquirer refused",
     ),
     (
         "refused by the issuer",
         Step(StepFault::Issuer(Refused::Full)),
         4,
-        None,
+        "the issuer refused",
     ),
-    ("no memory for an event", Step(StepFault::Memory), 5, None),
+    (
+        "no memory for an event",
+        Step(StepFault::Memory),
+        5,
+        "memory ran out",
+    ),
 ];
 
 /// The number of a fault.
@@ -114,22 +134,19 @@ fn has_text<T: Display + Drop>(alloc: Global, fault: T, text: &str) -> bool {
     }
 }
 
-/// Whether a fault of an issuer is told by that text.
+/// Whether that text tells a fault.
 fn is_told(alloc: Global, fault: Fault, text: &str) -> bool {
     match fault {
         Accounts(fault) => has_text(alloc, fault, text),
         Refusal(fault) => has_text(alloc, fault, text),
-        Acquirer(_) | Step(_) => false,
+        Acquirer(fault) => has_text(alloc, fault, text),
+        Step(fault) => has_text(alloc, fault, text),
     }
 }
 
-/// Whether a fault has that number, and that text where one is compared.
-fn is_fault(alloc: Global, fault: Fault, expected: u8, text: Option<&str>) -> bool {
-    number(fault) == expected
-        && match text {
-            Some(text) => is_told(alloc, fault, text),
-            None => true,
-        }
+/// Whether a fault has that number and that text.
+fn is_fault(alloc: Global, fault: Fault, expected: u8, text: &str) -> bool {
+    number(fault) == expected && is_told(alloc, fault, text)
 }
 
 #[test]
