@@ -1,16 +1,16 @@
 -- Elements of ascending numbers.
-use Rattle.std.proofs.Common.{◌≡◌, ℕ, zero, suc, ◌+◌, ◌<◌, ◌≤◌, Bool, true, false, ◌&&◌, List, [], ◌∷◌, ◌++◌, length, get_or, take, refl, sym, ap, subst, ◌∙◌, append_assoc, add-one, arith}
-use Rattle.std.specs.Prelude.{Option, Some, None, nat_le, ◌==◌}
+use Rattle.std.proofs.Common.{◌≡◌, ℕ, zero, suc, ◌+◌, ◌<◌, ◌≤◌, Bool, true, false, ◌&&◌, List, [], ◌∷◌, ◌++◌, length, get_or, take, drop, refl, sym, ap, subst, ◌∙◌, append_assoc, add-one, arith}
+use Rattle.std.specs.Prelude.{Option, Some, None, nat_le, ◌==◌, Result, Ok, Err, OnErr}
 use Rattle.std.proofs.lemmas.Bool.{and_parts, leb-true, eqb-true}
 use Rattle.std.proofs.lemmas.Bool.Decides.{nat_tests}
-use Rattle.std.proofs.lemmas.List.{append-nil}
-use Rattle.std.proofs.Math.Seq.{take-suc}
+use Rattle.std.proofs.lemmas.List.{append-nil, take-append-drop}
+use Rattle.std.proofs.Math.Seq.{take-suc, take-append_seam}
 use Rattle.iso_wire.specs.Contents.{Contents}
 use Rattle.iso_wire.specs.Elements.{IsBelow, value_in}
 use Rattle.iso_order.specs.Listing.{element_where, elements_from}
 use Rattle.iso_order.specs.Adding.{elements_with_value, are_ascending}
 use Rattle.iso_order.specs.Outcome.{Outcome}
-use Rattle.iso_order.specs.Response.{element, response, response_mti}
+use Rattle.iso_order.specs.Response.{element, response, response_mti, IsBegun}
 
 abbrev Values : Type 0
 Values = List (ℕ × List ℕ)
@@ -59,6 +59,26 @@ pub elements_with_value-more : (value : ℕ → Option (List ℕ)) (ns : List �
 elements_with_value-more value ns i lt =
     rw add-one (ap (elements_with_value value) (take-suc ns i 0 lt) ∙ elements_with_value-push value (take i ns) (get_or ns i 0))
 
+elements_with_value-append : (value : ℕ → Option (List ℕ)) (ns ks : List ℕ) → elements_with_value value (ns ++ ks) ≡ elements_with_value value ns ++ elements_with_value value ks
+elements_with_value-append value [] ks = refl
+elements_with_value-append value (n ∷ ns) ks =
+    ap (λ (es : Values). element_where n (value n) ++ es) (elements_with_value-append value ns ks)
+    ∙ sym (append_assoc (element_where n (value n)) (elements_with_value value ns) (elements_with_value value ks))
+
+-- the elements of the numbers in front are the first of all
+elements_with_value-front : (value : ℕ → Option (List ℕ)) (ns : List ℕ) (i : ℕ) →
+    elements_with_value value (take i ns) ≡ take (length (elements_with_value value (take i ns))) (elements_with_value value ns)
+elements_with_value-front value ns i =
+    let front = elements_with_value value (take i ns) in
+    let all : elements_with_value value ns ≡ front ++ elements_with_value value (drop i ns) =
+    ap (elements_with_value value) (sym (take-append-drop i ns)) ∙ elements_with_value-append value (take i ns) (drop i ns) in
+    sym (ap (take (length front)) all ∙ take-append_seam front (elements_with_value value (drop i ns)))
+
+-- what holds whatever the result is
+pub on-err : {X E P : Type 0} (r : Result X E) → P → OnErr r P
+on-err (Ok x) h = tt
+on-err (Err e) h = h
+
 -- ---- the response
 
 value_in-where : (n k : ℕ) (v : Option (List ℕ)) (es : Values) → (n == k) ≡ false → value_in (element_where n v ++ es) k ≡ value_in es k
@@ -97,3 +117,15 @@ response-each m a n low high = value_in-from (element m a) 2 127 n low (omega ar
 pub response-listed : (m : Contents) (a : Outcome) → response m a ≡ record { mti = response_mti m.mti; elements = elements_with_value (element m a) (2 ∷ 3 ∷ 4 ∷ 7 ∷ 11 ∷ 12 ∷ 13 ∷ 32 ∷ 33 ∷ 37 ∷ 38 ∷ 39 ∷ 41 ∷ 42 ∷ 49 ∷ 54 ∷ 70 ∷ 90 ∷ []) }
 unfolding response
 response-listed m a = refl
+
+-- the elements of some numbers in front, under the type of the response
+pub response-begun : (m : Contents) (a : Outcome) (made : Contents) (i : ℕ)
+    → made ≡ record { mti = response_mti m.mti; elements = elements_with_value (element m a) (take i (2 ∷ 3 ∷ 4 ∷ 7 ∷ 11 ∷ 12 ∷ 13 ∷ 32 ∷ 33 ∷ 37 ∷ 38 ∷ 39 ∷ 41 ∷ 42 ∷ 49 ∷ 54 ∷ 70 ∷ 90 ∷ [])) }
+    → IsBegun made (response m a)
+response-begun m a made i is =
+    let numbers : List ℕ = 2 ∷ 3 ∷ 4 ∷ 7 ∷ 11 ∷ 12 ∷ 13 ∷ 32 ∷ 33 ∷ 37 ∷ 38 ∷ 39 ∷ 41 ∷ 42 ∷ 49 ∷ 54 ∷ 70 ∷ 90 ∷ [] in
+    let count = length (elements_with_value (element m a) (take i numbers)) in (
+      count,
+      is ∙ ap (λ (es : Values). record { mti = response_mti m.mti; elements = es }) (elements_with_value-front (element m a) numbers i)
+          ∙ sym (ap (λ (whole : Contents). record whole { elements = take count whole.elements }) (response-listed m a)),
+    )

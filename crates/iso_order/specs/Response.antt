@@ -1,5 +1,5 @@
 -- The response to a message.
-use Rattle.std.specs.Prelude.{ℕ, ℤ, pos, int_lt, unsigned_abs, ◌+◌, Bool, true, false, ◌==◌, ◌&&◌, ◌||◌, nat_le, nat_lt, if◌then◌else◌, List, ◌∷◌, ◌++◌, Option, Some, None, option_map}
+use Rattle.std.specs.Prelude.{◌≡◌, ℕ, ℤ, pos, int_lt, unsigned_abs, ◌+◌, Bool, true, false, ◌==◌, ◌&&◌, ◌||◌, nat_le, nat_lt, if◌then◌else◌, List, ◌∷◌, ◌++◌, take, Option, Some, None, option_map}
 use Rattle.iso_wire.specs.Contents.{Contents}
 use Rattle.iso_wire.specs.Decimal.{decimal}
 use Rattle.iso_wire.specs.Elements.{value_in}
@@ -58,6 +58,10 @@ element m a n =
 -- the response: of all numbers from 2 to 128, the elements that have a value
 unfoldable pub response : Contents → Outcome → Contents
 response m a = record { mti = response_mti m.mti; elements = elements_from (element m a) 2 127 }
+
+-- a message of the type of the whole, with the first of its elements
+abbrev pub IsBegun : Contents → Contents → Type 0
+IsBegun made whole = (count : ℕ) × (made ≡ record whole { elements = take count whole.elements })
 
 -- ---- what can be shown
 

@@ -1,6 +1,6 @@
 //! The response to a message.
 
-ghost use Rattle.std.specs.Prelude.{◌≡◌, ℕ, ◌≤◌, ◌++◌, ◌∷◌, length, true, false, [], OnOk, IfOk};
+ghost use Rattle.std.specs.Prelude.{◌≡◌, ℕ, ◌≤◌, ◌++◌, ◌∷◌, length, take, true, false, [], OnOk, OnErr, IfOk};
 ghost use Rattle.iso_parts.specs.Numbers.{is_element};
 ghost use Rattle.iso_parts.specs.Mti.{mti_number};
 ghost use Rattle.iso_wire.specs.Decimal.{decimal};
@@ -10,6 +10,7 @@ ghost use Rattle.iso_parts.specs.Mti.{is_answered};
 ghost use Rattle.iso_order.specs.Listing.{element_where};
 ghost use Rattle.iso_order.specs.Adding.{elements_with_value, are_ascending};
 ghost use Rattle.iso_order.specs.Response.{response, response_mti, is_approved, sign, approval, additional, balance, element, is_showable};
+ghost use Rattle.iso_order.specs.Response.{IsBegun};
 ghost use Rattle.iso_order.specs.Adding.{is_responded};
 
 use crate::answer::Answer;
@@ -82,9 +83,10 @@ fn add_approval(
     response: &mut Message,
 ) -> Result<(), AllocError>
     requires { IsBelow 38 response.old.elements }
-    ensures { OnOk result (response.new ≡ record response.old {
+    ensures ok { OnOk result (response.new ≡ record response.old {
       elements = response.old.elements ++ element_where 38 (approval message.now answer.now);
     }) }
+    ensures unchanged { OnErr result (response.new ≡ response.old) }
 {
     if !is_approved(message, answer) {
         return Ok(());
@@ -97,9 +99,10 @@ fn add_approval(
 /// Adds the response code.
 fn add_code(answer: &Answer, response: &mut Message) -> Result<(), AllocError>
     requires { IsBelow 39 response.old.elements }
-    ensures { OnOk result (response.new ≡ record response.old {
+    ensures ok { OnOk result (response.new ≡ record response.old {
       elements = response.old.elements ++ (39, decimal 2 answer.now.code) ∷ [];
     }) }
+    ensures unchanged { OnErr result (response.new ≡ response.old) }
 {
     let mut digits = [0; 2];
     write_decimal(&mut digits, answer.code as u64);
@@ -110,9 +113,10 @@ fn add_code(answer: &Answer, response: &mut Message) -> Result<(), AllocError>
 fn add_balance(message: &Message, answer: &Answer, response: &mut Message) -> Result<(), AllocError>
     requires behind { IsBelow 54 response.old.elements }
     requires shown { is_showable message.now answer.now.shown ≡ true }
-    ensures { OnOk result (response.new ≡ record response.old {
+    ensures ok { OnOk result (response.new ≡ record response.old {
       elements = response.old.elements ++ element_where 54 (balance message.now answer.now);
     }) }
+    ensures unchanged { OnErr result (response.new ≡ response.old) }
 {
     match answer.shown {
         Some(shown) => response.append(54, &additional(text(message, 49), shown)),
@@ -124,9 +128,10 @@ fn add_balance(message: &Message, answer: &Answer, response: &mut Message) -> Re
 fn echo(message: &Message, n: u8, response: &mut Message) -> Result<(), AllocError>
     requires number { is_element n ≡ true }
     requires behind { IsBelow n response.old.elements }
-    ensures { OnOk result (response.new ≡ record response.old {
+    ensures ok { OnOk result (response.new ≡ record response.old {
       elements = response.old.elements ++ element_where n (value_in message.now.elements n);
     }) }
+    ensures unchanged { OnErr result (response.new ≡ response.old) }
 {
     match message.get(n) {
         Some(value) => response.append(n, value),
@@ -142,6 +147,7 @@ fn add(message: &Message, answer: &Answer, n: u8, response: &mut Message) -> Res
     ensures ok { OnOk result (response.new ≡ record response.old {
       elements = response.old.elements ++ element_where n (element message.now answer.now n);
     }) }
+    ensures unchanged { OnErr result (response.new ≡ response.old) }
 {
     match n {
         38 => add_approval(message, answer, response),
@@ -161,9 +167,13 @@ fn add_all(
     requires numbers { are_ascending is_responded 2 numbers.now ≡ true }
     requires empty { response.old.elements ≡ [] }
     requires shown { is_showable message.now answer.now.shown ≡ true }
-    ensures { OnOk result (response.new ≡ record response.old {
+    ensures whole { OnOk result (response.new ≡ record response.old {
       elements = elements_with_value (element message.now answer.now) numbers.now;
     }) }
+    // Where memory runs out, those of some numbers in front are there.
+    ensures begun { OnErr result ((count : ℕ) × (response.new ≡ record response.old {
+      elements = elements_with_value (element message.now answer.now) (take count numbers.now);
+    })) }
 {
     for n in numbers {
         add(message, answer, *n, response)?;
@@ -172,7 +182,8 @@ fn add_all(
 }
 
 /// Makes a message the response to another, as [`respond`] does, in place of what it was. Its memory is kept, and is
-/// enough where it has the room. The other message and the answer are lent to be read, and stay.
+/// enough where it has the room. Where memory runs out, it has the response's type and the first of its elements. The
+/// other message and the answer are lent to be read, and stay.
 pub fn respond_into(message: &Message, answer: &Answer, into: &mut Message) -> Result<(), NoMemory>
     // A request or an advice.
     requires asks { is_answered (function message.now) ≡ true }
@@ -182,6 +193,7 @@ pub fn respond_into(message: &Message, answer: &Answer, into: &mut Message) -> R
     // Element by element.
     ensures each { OnOk result ((n : ℕ) → 2 ≤ n → n ≤ 128
         → value_in into.new.elements n ≡ element message.now answer.now n) }
+    ensures begun { OnErr result (IsBegun into.new (response message.now answer.now)) }
 {
     let mti = response_type(message);
     into.start_over(mti, ANSWERED.len(), USUAL_BYTES)?;

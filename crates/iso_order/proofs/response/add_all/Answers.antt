@@ -3,7 +3,7 @@ use Rattle.iso_wire.specs.Contents.{Contents}
 use Rattle.iso_order.specs.Listing.{element_where}
 use Rattle.iso_order.specs.Response.{element}
 use Rattle.iso_order.specs.Adding.{is_responded}
-use Rattle.iso_order.proofs.Ascending.{are_ascending-each, IsBelow-front, elements_with_value-more}
+use Rattle.iso_order.proofs.Ascending.{are_ascending-each, IsBelow-front, elements_with_value-more, on-err}
 use Rattle.iso_order.proofs.response.add_all.Goals as goal
 
 pub add-requires-clause-number : goal.add-requires-clause-number
@@ -20,3 +20,6 @@ loop-n-preserved c =
     c.in_ok-add.ensures.ok
     ∙ ap (λ (made : Contents). record made { elements = made.elements ++ element_where n (value n) }) c.loop-n.invariant
     ∙ ap (λ (es : List (ℕ × List ℕ)). record c.args.response.now { elements = es }) (sym (elements_with_value-more value c.args.numbers.now c.loop-n.n-index c.loop-n-test.true))
+
+pub returns-in_err-add-clause-begun : goal.returns-in_err-add-clause-begun
+returns-in_err-add-clause-begun c = on-err c.from_residual.result (c.loop-n.n-index, c.in_err-add.ensures.unchanged ∙ c.loop-n.invariant)
