@@ -104,8 +104,8 @@ kept-full limit xs o distinct full new =
     above = omega (arith, ap length (firsts-distinct xs distinct))
 
 -- at the limit an order more changes nothing
-pub kept-at-limit : (limit : ℕ) (xs : List Instruction) (o : Instruction) → HasDistinctKeys xs → length xs ≡ limit → take limit (firsts (xs ++ o ∷ [])) ≡ xs
-kept-at-limit limit xs o distinct full = by_test (is_entered xs o.key) refl
+pub kept_at_limit : (limit : ℕ) (xs : List Instruction) (o : Instruction) → HasDistinctKeys xs → length xs ≡ limit → take limit (firsts (xs ++ o ∷ [])) ≡ xs
+kept_at_limit limit xs o distinct full = by_test (is_entered xs o.key) refl
   where
     by_test : (b : Bool) → is_entered xs o.key ≡ b → take limit (firsts (xs ++ o ∷ [])) ≡ xs
     by_test true known = kept-known limit xs o distinct (omega arith) known
@@ -135,7 +135,7 @@ one-more limit xs o = by_room (cases_lt (length (firsts xs)) limit)
     by_room : (length (firsts xs) < limit) ⊎ (limit ≤ length (firsts xs)) → take limit (firsts (take limit (firsts xs) ++ o ∷ [])) ≡ take limit (firsts (xs ++ o ∷ []))
     by_room (inl below) = roomy limit xs o below (is_entered xs o.key) refl
     by_room (inr full) =
-        kept-at-limit limit (take limit (firsts xs)) o (distinct_taken limit (firsts xs) (distinct_firsts xs)) (length-take-le limit (firsts xs) full)
+        kept_at_limit limit (take limit (firsts xs)) o (distinct_taken limit (firsts xs) (distinct_firsts xs)) (length-take-le limit (firsts xs) full)
         ∙ sym (above limit xs o full (is_entered xs o.key) refl)
 
 few-taken : (limit : ℕ) (xs : List Instruction) → length (take limit xs) ≤ limit
