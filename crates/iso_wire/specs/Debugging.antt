@@ -48,6 +48,6 @@ abbrev pub debug_stop : Option UnpackFault → List ℕ
 debug_stop None = codes "None"
 debug_stop (Some e) = debug_cause e.cause ++ (codes " at element " ++ (decimal e.element ++ (codes ", offset " ++ decimal e.at)))
 
--- an unpacker: where the message stopped, and how many bytes it holds
-abbrev pub debug_unpacker : Option UnpackFault → ℕ → List ℕ
-debug_unpacker stopped held = codes "Unpacker { stopped: " ++ (debug_stop stopped ++ (codes ", held: " ++ (decimal held ++ codes " }")))
+-- an unpacker: how many bytes it holds, and where the message stopped
+abbrev pub debug_unpacker : ℕ → Option UnpackFault → List ℕ
+debug_unpacker held stopped = codes "Unpacker { held: " ++ decimal held ++ codes ", stopped: " ++ debug_stop stopped ++ codes " }"

@@ -74,15 +74,15 @@ fn write_stop<W: fmt::Write>(stopped: Option<UnpackFault>, f: &mut fmt::Formatte
     }
 }
 
-/// Writes where the message of an unpacker stopped, and how many bytes it holds.
+/// Writes how many bytes an unpacker holds, and where the message stopped.
 pub(crate) fn write_unpacker<W: fmt::Write>(
-    stopped: Option<UnpackFault>,
     held: usize,
+    stopped: Option<UnpackFault>,
     f: &mut fmt::Formatter<W>,
 ) -> fmt::Result
-    ensures { WritesOnOk W.write_str_gives f.old result (debug_unpacker stopped held) f.new }
+    ensures { WritesOnOk W.write_str_gives f.old result (debug_unpacker held stopped) f.new }
 {
-    write!(f, "Unpacker {{ stopped: ")?;
+    write!(f, "Unpacker {{ held: {held}, stopped: ")?;
     write_stop(stopped, f)?;
-    write!(f, ", held: {held} }}")
+    write!(f, " }}")
 }

@@ -64,12 +64,12 @@ impl<'t> Model for Unpacker<'t> {
         × IsResumed u.table.now u.point u.taken.items × (u.most ≡ max_bytes u.table.now) };
 }
 
-/// Shows where the message stopped, and how many bytes are taken, but none of them.
+/// Shows how many bytes are taken, and none of them, and where the message stopped.
 impl fmt::Debug for Unpacker<'_> {
-    ghost debug_output = { λ u. Some (debug_unpacker u.stopped (length u.taken)) };
+    ghost debug_output = { λ u. Some (debug_unpacker (length u.taken) u.stopped) };
 
     fn fmt<W: fmt::Write>(&self, f: &mut fmt::Formatter<W>) -> fmt::Result {
-        write_unpacker(self.stopped, self.taken.len(), f)
+        write_unpacker(self.taken.len(), self.stopped, f)
     }
 }
 

@@ -124,7 +124,7 @@ const PRINTS: &[(&str, Print)] = &[
     ("a view", Seen("View { mti: 0200, used: 82 }")),
     (
         "an unpacker",
-        Taken(40, "Unpacker { stopped: None, held: 40 }"),
+        Taken(40, "Unpacker { held: 40, stopped: None }"),
     ),
     ("no whole frame", Frame(Framed::More, "More")),
     (

@@ -4,4 +4,4 @@ use Rattle.iso_wire.proofs.unpacker.UnpackerDebug.fmt.Goals as goal
 pub returns : goal.returns
 returns g c =
     let held : c.len.result ≡ length c.self.inside.taken.items = search rules in
-    rw (← c.self.view_is) (search rules)
+    rw (← c.self.view_is, ← held) (record { writes = c.write_unpacker.ensures })
