@@ -5,6 +5,7 @@ mod ends;
 mod example;
 mod faults;
 mod frames;
+mod long;
 mod serving;
 mod sessions;
 mod streams;
