@@ -9,13 +9,15 @@ use Rattle.iso_wire.specs.Spelling.{AreBytes}
 use Rattle.iso_issuer.specs.Books.{Books}
 use Rattle.iso_host.specs.Intake.{unpacker_holding}
 use Rattle.iso_host.specs.Counts.{Counts}
+use Rattle.iso_host.specs.Answering.{FlushesAll}
 use Rattle.iso_host.specs.Serving.{Served, Reports}
 use Rattle.iso_host.specs.declared.fault.Report.{Report}
 
 -- the frames so far were handled and answered, and no byte behind them was taken
-pub record Going (t : Layout) (h : Header) (unread pending held written : Option (List ℕ)) (old new : Books) (report : Report) : Type 0 where
+pub record Going (t : Layout) (h : Header) (unread pending held written : Option (List ℕ)) (old new : Books) (sent_old sent_new : Counts) (report : Report) : Type 0 where
   pub bodies : List (List ℕ)
   pub served : Served t h unread pending held written old new bodies []
+  pub flushed : FlushesAll sent_old sent_new served.bytes
   pub reports : Reports t report bodies
 
 -- each turn was taken by a read or a write, and moved a byte; none failed

@@ -15,17 +15,17 @@ use Rattle.iso_issuer.specs.Laws.{FirstsGoOn, books_after}
 use Rattle.iso_host.proofs.JournalLemmas.{books_more, books_none}
 use Rattle.iso_host.proofs.OutputLemmas.{frames_more, AllFit_more, output_none, output_more, output_front, front_more}
 use Rattle.iso_host.proofs.Running.{Going, Running}
+use Rattle.iso_host.proofs.StreamLemmas.{flushed_more, flushed_so, waits_behind}
 use Rattle.iso_host.specs.Asking.{message_in, asked_of, count_asked, has_answer, is_silent, is_unreadable}
 use Rattle.iso_host.specs.Counts.{Counts}
 use Rattle.iso_host.specs.Entering.{books_after_bodies}
 use Rattle.iso_host.specs.Handling.{books_after_body}
 use Rattle.iso_host.specs.Output.{IsAnswer, IsOutput}
 use Rattle.iso_host.specs.Reading.{EndsInside}
-use Rattle.iso_host.specs.Serving.{Served, Leaves, Cut, Reports}
+use Rattle.iso_host.specs.Serving.{Served, Leaves, Cut, Reports, IsFlushed, LastWaits, Flushes}
 use Rattle.iso_host.specs.Reporting.{ReportsOneMore, count_with}
-use Rattle.iso_host.specs.Answering.{AnswersPart, AnswersWhole, SpendsOnWrite}
+use Rattle.iso_host.specs.Answering.{AnswersPart, AnswersWhole, FlushesAll, SpendsOnWrite, WritesPart}
 use Rattle.iso_host.specs.Turns.{Spends, TakesTurns}
-use Rattle.iso_host.specs.Writing.{WritesSome}
 use Rattle.iso_host.specs.declared.fault.Report.{Report}
 use Rattle.iso_host.specs.declared.fault.ServeFault.{ServeFault}
 use Rattle.iso_host.specs.declared.fault.ServeFault.TheVariants.{Read, Write, BadHeader, CutFrame, Memory, TooManyTurns}
@@ -53,7 +53,7 @@ no_byte Bcd2 body more fits e = cc
 
 module _ (t : Layout) (h : Header) (unread held : Option (List ℕ)) (old : Books) where
   -- nothing is handled yet
-  pub served_none : books_after old [] ≡ old → (window : List ℕ) → window ≡ [] → Served t h unread (prepend_known window unread) held held old old [] []
+  served_none : books_after old [] ≡ old → (window : List ℕ) → window ≡ [] → Served t h unread (prepend_known window unread) held held old old [] []
   served_none kept window none = record {
     read = subst (λ (w : List ℕ). Consumes unread (prepend_known w unread) []) (sym none) (none_waits unread);
     fit = tt;
@@ -88,9 +88,9 @@ module _ (t : Layout) (h : Header) (unread held : Option (List ℕ)) (old : Book
     answer_more body answer is = subst (λ (b : Books). IsAnswer t h b body answer) served.books is
 
     -- one more body is handled and answered
-    pub served_more : (next after : Option (List ℕ)) (new : Books) (body : List ℕ) → Consumes pending next (frame_of h body) → length body ≤ largest h
-        → AnswersWhole t h mid new (message_in t body) written after → Served t h unread next held after old new (bodies ++ body ∷ []) []
-    served_more next after new body taken fits whole = record {
+    served_more : (next after : Option (List ℕ)) (new : Books) (c1 c2 : Counts) (body : List ℕ) → Consumes pending next (frame_of h body) → length body ≤ largest h
+        → AnswersWhole t h mid new (message_in t body) written after c1 c2 → Served t h unread next held after old new (bodies ++ body ∷ []) []
+    served_more next after new c1 c2 body taken fits whole = record {
       read = read_more next body taken;
       fit = AllFit_more h bodies body served.fit fits;
       books = entered_more new body whole.entered;
@@ -100,28 +100,30 @@ module _ (t : Layout) (h : Header) (unread held : Option (List ℕ)) (old : Book
     }
 
     -- one more body is handled, and of its answer nothing or a part is written
-    stopped_after : (left after : Option (List ℕ)) (window : List ℕ) (new : Books) (body : List ℕ) → Consumes pending (prepend_known window left) (frame_of h body) → length body ≤ largest h
-        → new ≡ books_after_body t mid body → (answer : List ℕ) → IsAnswer t h mid body answer → WritesSome written after answer → Cut t h unread left held after old new
-    stopped_after left after window new body taken fits enters answer is some = (
+    stopped_after : (left after : Option (List ℕ)) (window : List ℕ) (new : Books) (c0 c1 c2 : Counts) (body : List ℕ) → FlushesAll c0 c1 served.bytes
+        → Consumes pending (prepend_known window left) (frame_of h body) → length body ≤ largest h
+        → new ≡ books_after_body t mid body → (answer : List ℕ) → IsAnswer t h mid body answer → WritesPart written after c1 c2 answer → LastWaits t h unread left held after old new c0 c2
+    stopped_after left after window new c0 c1 c2 body flushed taken fits enters answer is some = (
       bodies ++ body ∷ [],
       window,
-      served.bytes ++ take some.0 answer,
+      served.bytes ++ take some.count answer,
       record {
         read = subst (Consumes unread left) (ap (λ (l : List ℕ). l ++ window) (append-nil (frames_of h (bodies ++ body ∷ []))))
             (taken_behind unread left (frames_of h (bodies ++ body ∷ []) ++ []) window (read_more (prepend_known window left) body taken));
         fit = AllFit_more h bodies body served.fit fits;
         books = entered_more new body enters;
-        answers = Appends-trans held written after _ _ served.answers some.2;
+        answers = Appends-trans held written after _ _ served.answers some.appends;
         less = served.bytes;
         less_output = subst (λ l. IsOutput t h old l served.bytes) (sym (front_more bodies body)) served.output;
-        no_less = (take some.0 answer, refl);
+        no_less = (take some.count answer, refl);
         most = served.bytes ++ answer;
         most_output = output_more t h old bodies body served.bytes answer served.output (answer_more body answer is);
         no_more = (
-          drop some.0 answer,
-          ap (λ (l : List ℕ). served.bytes ++ l) (sym (take-append-drop some.0 answer)) ∙ sym (append_assoc served.bytes (take some.0 answer) (drop some.0 answer)),
+          drop some.count answer,
+          ap (λ (l : List ℕ). served.bytes ++ l) (sym (take-append-drop some.count answer)) ∙ sym (append_assoc served.bytes (take some.count answer) (drop some.count answer)),
         );
       },
+      waits_behind c0 c1 c2 served.bytes answer some.count flushed some.within some.waits,
     )
 
     -- it stops before the next body is handled
@@ -146,23 +148,45 @@ module _ (t : Layout) (h : Header) (unread held : Option (List ℕ)) (old : Book
         )
 
     -- answering a body ends the call
-    stopped_answering : (left after : Option (List ℕ)) (window : List ℕ) (new : Books) (body : List ℕ) → Consumes pending (prepend_known window left) (frame_of h body) → length body ≤ largest h
-        → AnswersPart t h mid new (message_in t body) written after → Cut t h unread left held after old new
-    stopped_answering left after window new body taken fits (inl kept) =
+    stopped_answering : (left after : Option (List ℕ)) (window : List ℕ) (new : Books) (c0 c1 c2 : Counts) (body : List ℕ) → FlushesAll c0 c1 served.bytes
+        → Consumes pending (prepend_known window left) (frame_of h body) → length body ≤ largest h
+        → AnswersPart t h mid new (message_in t body) written after c1 c2 → Cut t h unread left held after old new
+    stopped_answering left after window new c0 c1 c2 body flushed taken fits (inl kept) =
         subst (λ (b : Books). Cut t h unread left held after old b) (sym kept.0)
         (subst (λ o. Cut t h unread left held o old mid) (sym kept.1) (stopped_here left window (frame_of h body) taken))
-    stopped_answering left after window new body taken fits (inr some) =
-        stopped_after left after window new body taken fits some.0 some.1.0 some.1.1 some.1.2
+    stopped_answering left after window new c0 c1 c2 body flushed taken fits (inr some) =
+        let waits = stopped_after left after window new c0 c1 c2 body flushed taken fits some.0 some.1.0 some.1.1 some.1.2 in
+        (waits.0, waits.1, waits.2, waits.3)
 
-    pub stop_at : (T : Type 0) (left after : Option (List ℕ)) (window : List ℕ) (new : Books) (c0 c1 : Counts) (before turns : ℕ) (body : List ℕ) (fault : ServeFault)
-        → Consumes pending (prepend_known window left) (frame_of h body) → length body ≤ largest h → AnswersPart t h mid new (message_in t body) written after
-        → SpendsOnWrite {T = T} c0 c1 before turns (Err fault) → Leaves t h unread left held after old new (Err fault)
-    stop_at T left after window new c0 c1 before turns body Read taken fits part spent = absurd spent
-    stop_at T left after window new c0 c1 before turns body BadHeader taken fits part spent = absurd spent
-    stop_at T left after window new c0 c1 before turns body CutFrame taken fits part spent = absurd spent
-    stop_at T left after window new c0 c1 before turns body Write taken fits part spent = stopped_answering left after window new body taken fits part
-    stop_at T left after window new c0 c1 before turns body TooManyTurns taken fits part spent = stopped_answering left after window new body taken fits part
-    stop_at T left after window new c0 c1 before turns body Memory taken fits part spent = stopped_answering left after window new body taken fits part
+    pub stop_at : (T : Type 0) (left after : Option (List ℕ)) (window : List ℕ) (new : Books) (c0 c1 c2 : Counts) (before turns : ℕ) (body : List ℕ) (fault : ServeFault)
+        → FlushesAll c0 c1 served.bytes → Consumes pending (prepend_known window left) (frame_of h body) → length body ≤ largest h
+        → AnswersPart t h mid new (message_in t body) written after c1 c2
+        → SpendsOnWrite {T = T} c1 c2 before turns (Err fault) → Leaves t h unread left held after old new (Err fault)
+    stop_at T left after window new c0 c1 c2 before turns body Read flushed taken fits part spent = absurd spent
+    stop_at T left after window new c0 c1 c2 before turns body BadHeader flushed taken fits part spent = absurd spent
+    stop_at T left after window new c0 c1 c2 before turns body CutFrame flushed taken fits part spent = absurd spent
+    stop_at T left after window new c0 c1 c2 before turns body Write flushed taken fits part spent = stopped_answering left after window new c0 c1 c2 body flushed taken fits part
+    stop_at T left after window new c0 c1 c2 before turns body TooManyTurns flushed taken fits part spent = stopped_answering left after window new c0 c1 c2 body flushed taken fits part
+    stop_at T left after window new c0 c1 c2 before turns body Memory flushed taken fits part spent = stopped_answering left after window new c0 c1 c2 body flushed taken fits part
+
+    -- and what then waits for a flush
+    pub waits_at : (T : Type 0) (left after : Option (List ℕ)) (window : List ℕ) (new : Books) (c0 c1 c2 : Counts) (before turns : ℕ) (body : List ℕ) (fault : ServeFault)
+        → FlushesAll c0 c1 served.bytes → Consumes pending (prepend_known window left) (frame_of h body) → length body ≤ largest h
+        → AnswersPart t h mid new (message_in t body) written after c1 c2
+        → SpendsOnWrite {T = T} c1 c2 before turns (Err fault) → Flushes t h unread left held after old new c0 c2 (Err fault)
+    waits_at T left after window new c0 c1 c2 before turns body Read flushed taken fits part spent = absurd spent
+    waits_at T left after window new c0 c1 c2 before turns body BadHeader flushed taken fits part spent = absurd spent
+    waits_at T left after window new c0 c1 c2 before turns body CutFrame flushed taken fits part spent = absurd spent
+    waits_at T left after window new c0 c1 c2 before turns body Memory flushed taken fits part spent =
+        subst (IsFlushed c0) (sym spent) (flushed_so c0 c1 served.bytes flushed)
+    waits_at T left after window new c0 c1 c2 before turns body Write flushed taken fits (inl kept) spent =
+        absurd (omega (arith, spent, ap (λ (c : Counts). c.failures) kept.2))
+    waits_at T left after window new c0 c1 c2 before turns body Write flushed taken fits (inr some) spent =
+        stopped_after left after window new c0 c1 c2 body flushed taken fits some.0 some.1.0 some.1.1 some.1.2
+    waits_at T left after window new c0 c1 c2 before turns body TooManyTurns flushed taken fits (inl kept) spent =
+        inl (subst (IsFlushed c0) (sym kept.2) (flushed_so c0 c1 served.bytes flushed))
+    waits_at T left after window new c0 c1 c2 before turns body TooManyTurns flushed taken fits (inr some) spent =
+        inr (stopped_after left after window new c0 c1 c2 body flushed taken fits some.0 some.1.0 some.1.1 some.1.2)
 
     -- all frames are handled, and these bytes are read behind them
     served_part : (left : Option (List ℕ)) (window part : List ℕ) → Consumes pending (prepend_known window left) part → Served t h unread left held written old mid bodies (part ++ window)
@@ -230,13 +254,26 @@ reports_more t old new bodies body r s = record {
 
 -- ---- the loop
 
--- the loop goes on behind the frame
-pub going_more : FirstsGoOn → (t : Layout) (h : Header) (unread pending next held written after : Option (List ℕ)) (old mid new : Books) (before report : Report) (body : List ℕ)
-    → Going t h unread pending held written old mid before → Consumes pending next (frame_of h body) → length body ≤ largest h → AnswersWhole t h mid new (message_in t body) written after
-    → ReportsOneMore before report (asked_of t body) → Going t h unread next held after old new report
-going_more go_on t h unread pending next held written after old mid new before report body going taken fits whole reports = record {
+-- the loop begins
+pub going_none : (t : Layout) (h : Header) (unread held : Option (List ℕ)) (old : Books) (sent : Counts) (report : Report) → books_after old [] ≡ old → (window : List ℕ) → window ≡ []
+    → Reports t report [] → Going t h unread (prepend_known window unread) held held old old sent sent report
+unfolding served_none
+going_none t h unread held old sent report kept window none reports = record {
+  bodies = [];
+  served = served_none t h unread held old kept window none;
+  flushed = inr (refl, refl);
+  reports = reports;
+}
+
+-- it goes on behind the frame
+pub going_more : FirstsGoOn → (t : Layout) (h : Header) (unread pending next held written after : Option (List ℕ)) (old mid new : Books) (c0 c1 c2 : Counts) (before report : Report) (body : List ℕ)
+    → Going t h unread pending held written old mid c0 c1 before → Consumes pending next (frame_of h body) → length body ≤ largest h
+    → AnswersWhole t h mid new (message_in t body) written after c1 c2 → ReportsOneMore before report (asked_of t body) → Going t h unread next held after old new c0 c2 report
+unfolding served_more
+going_more go_on t h unread pending next held written after old mid new c0 c1 c2 before report body going taken fits whole reports = record {
   bodies = going.bodies ++ body ∷ [];
-  served = served_more t h unread held old go_on pending written mid going.bodies going.served next after new body taken fits whole;
+  served = served_more t h unread held old go_on pending written mid going.bodies going.served next after new c1 c2 body taken fits whole;
+  flushed = flushed_more c0 c1 c2 going.served.bytes whole.bytes going.flushed whole.flushed;
   reports = reports_more t before report going.bodies body going.reports reports;
 }
 

@@ -1,11 +1,12 @@
 -- What two calls of a stream do together.
-use Rattle.std.proofs.Common.{◌≡◌, ℕ, ◌+◌, ◌-◌, ◌<◌, List, length, take, drop, sym, subst, arith, ap, ◌∙◌, inl, inr, length-drop}
+use Rattle.std.proofs.Common.{◌≡◌, ℕ, ◌+◌, ◌-◌, ◌<◌, ◌≤◌, List, ◌++◌, length, take, drop, sym, subst, arith, ap, ◌∙◌, inl, inr, length-append, length-drop, length-take}
 use Rattle.std.proofs.Math.Seq.{take-add, take-length}
 use Rattle.std.proofs.KnownBytes.{Appends-trans}
 use Rattle.std.specs.declared.option.Option.{Option}
 use Rattle.std.specs.Io.KnownBytes.{Appends}
 use Rattle.iso_host.specs.Counts.{Counts}
-use Rattle.iso_host.specs.Serving.{IsFlushed}
+use Rattle.iso_host.specs.Answering.{FlushesAll}
+use Rattle.iso_host.specs.Serving.{IsFlushed, WaitsBehind}
 use Rattle.iso_host.specs.Turns.{Spends, TakesTurns}
 use Rattle.iso_host.specs.Writing.{Moves}
 
@@ -42,7 +43,23 @@ spends_more old mid new before left n s h k e =
     let failures : new.failures ≡ mid.failures = ap (λ (c : Counts). c.failures) e in
     record { fewer = omega (arith, s.fewer); moved = omega (arith, s.moved); failures = failures ∙ s.failures }
 
+-- ---- flushes
+
 -- flushed at one call and at the next
-pub flushed_more : (old mid new : Counts) → IsFlushed old mid → IsFlushed mid new → IsFlushed old new
-flushed_more old mid new first (inl none) = inl none
-flushed_more old mid new first (inr same) = subst (IsFlushed old) (sym same) first
+pub flushed_more : (old mid new : Counts) (first more : List ℕ) → FlushesAll old mid first → FlushesAll mid new more → FlushesAll old new (first ++ more)
+flushed_more old mid new first more so (inl none) = inl none
+flushed_more old mid new first more (inl none) (inr same) = inl (ap (λ (c : Counts). c.unflushed) same.0 ∙ none)
+flushed_more old mid new first more (inr so) (inr same) = inr (same.0 ∙ so.0, ap (λ (l : List ℕ). l ++ more) so.1 ∙ same.1)
+
+pub flushed_so : (old new : Counts) (bytes : List ℕ) → FlushesAll old new bytes → IsFlushed old new
+flushed_so old new bytes (inl none) = inl none
+flushed_so old new bytes (inr same) = inr same.0
+
+-- the bytes of a call that writes some and flushes none wait
+pub waits_behind : (old mid new : Counts) (less answer : List ℕ) (n : ℕ) → FlushesAll old mid less → n ≤ length answer → new.unflushed ≡ mid.unflushed + n
+    → WaitsBehind old new less (less ++ take n answer)
+waits_behind old mid new less answer n (inl none) k waits = inl (omega (arith, none, waits, k, length-append less (take n answer), length-take n answer))
+waits_behind old mid new less answer n (inr same) k waits =
+    let unflushed : mid.unflushed ≡ old.unflushed = ap (λ (c : Counts). c.unflushed) same.0 in
+    let empty : length less ≡ 0 = ap length same.1 in
+    inr (same.1, omega (arith, unflushed, empty, waits, k, length-append less (take n answer), length-take n answer))

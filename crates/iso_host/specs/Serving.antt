@@ -83,15 +83,27 @@ module _ (t : Layout) (h : Header) (unread left held written : Option (List ℕ)
 abbrev pub IsFlushed : Counts → Counts → Type 0
 IsFlushed old new = (new.unflushed ≡ 0) ⊎ (new ≡ old)
 
--- wherever all answers were written, they were flushed
-abbrev pub Flushes : Counts → Counts → Result Report ServeFault → Type 0
-Flushes old new (Ok report) = IsFlushed old new
-Flushes old new (Err Read) = IsFlushed old new
-Flushes old new (Err BadHeader) = IsFlushed old new
-Flushes old new (Err CutFrame) = IsFlushed old new
-Flushes old new (Err Write) = Unit {0}
-Flushes old new (Err Memory) = Unit {0}
-Flushes old new (Err TooManyTurns) = Unit {0}
+-- of these bytes, those behind the first ones wait for a flush; where there are no first ones, so do earlier bytes
+abbrev pub WaitsBehind : Counts → Counts → List ℕ → List ℕ → Type 0
+WaitsBehind old new less bytes =
+    (length less + new.unflushed ≡ length bytes) ⊎ ((less ≡ []) × (new.unflushed ≡ old.unflushed + length bytes))
+
+module _ (t : Layout) (h : Header) (unread left held written : Option (List ℕ)) (old new : Books) (sent_old sent_new : Counts) where
+  -- all answers but the last were flushed, and what was written of the last one waits for a flush
+  abbrev pub LastWaits : Type 0
+  LastWaits =
+      (bodies : List (List ℕ)) × (rest : List ℕ) × (bytes : List ℕ)
+      × (stopped : Stopped t h unread left held written old new bodies rest bytes) × WaitsBehind sent_old sent_new stopped.less bytes
+
+  -- each answer was flushed before the next body was handled
+  abbrev pub Flushes : Result Report ServeFault → Type 0
+  Flushes (Ok report) = IsFlushed sent_old sent_new
+  Flushes (Err Read) = IsFlushed sent_old sent_new
+  Flushes (Err BadHeader) = IsFlushed sent_old sent_new
+  Flushes (Err CutFrame) = IsFlushed sent_old sent_new
+  Flushes (Err Memory) = IsFlushed sent_old sent_new
+  Flushes (Err Write) = LastWaits
+  Flushes (Err TooManyTurns) = IsFlushed sent_old sent_new ⊎ LastWaits
 
 -- ---- the turns
 

@@ -6,11 +6,10 @@ ghost use Rattle.iso_order.specs.Verdict.{verdict};
 ghost use Rattle.iso_order.specs.declared.verdict.Verdict.{Verdict};
 ghost use Rattle.iso_host.specs.Desk.{IsSameDesk};
 ghost use Rattle.iso_host.specs.Handling.{IsOfKind};
-ghost use Rattle.iso_host.specs.Serving.{Leaves, Cause, Flushes, IsFlushed, WithinTurns};
+ghost use Rattle.iso_host.specs.Serving.{Leaves, Cause, Flushes, WithinTurns};
 ghost use Rattle.iso_host.specs.Reporting.{ReportsOneMore};
-ghost use Rattle.iso_host.specs.Answering.{AnswersInto, SpendsOnWrite};
+ghost use Rattle.iso_host.specs.Answering.{AnswersInto, SpendsOnWrite, WritesBytes};
 ghost use Rattle.iso_host.specs.Turns.{TakesTurns};
-ghost use Rattle.iso_host.specs.Writing.{WritesFront};
 
 use crate::desk::Desk;
 use crate::fault::{Report, ServeFault};
@@ -36,7 +35,7 @@ const NO_FRAMES: Report = Report {
 
 /// Writes the bytes whole, and flushes. Each write takes one of the turns that are left.
 fn write_whole<W: Outlet>(writer: &mut W, bytes: &[u8], left: &mut u64) -> Result<(), ServeFault>
-    ensures written { WritesFront (W.contents writer.old) (W.contents writer.new) bytes.now result }
+    ensures written { WritesBytes (W.contents writer.old) (W.contents writer.new) (W.counts writer.old) (W.counts writer.new) bytes.now result }
     ensures turns { TakesTurns (W.counts writer.old) (W.counts writer.new) left.old left.new }
     ensures spent { SpendsOnWrite (W.counts writer.old) (W.counts writer.new) left.old left.new result }
     ensures flushed { OnOk result ((W.counts writer.new).unflushed ≡ 0) }
@@ -69,10 +68,10 @@ fn answer_message<W: Outlet>(
 ) -> Result<Handled, ServeFault>
     requires ready { IsHostReady desk.old.table }
     requires read { IsSpelled desk.old.table message.now }
-    ensures answered { AnswersInto desk.old.table desk.old.header issuer.old issuer.new message.now (W.contents writer.old) (W.contents writer.new) result }
+    ensures answered { AnswersInto desk.old.table desk.old.header issuer.old issuer.new message.now
+        (W.contents writer.old) (W.contents writer.new) (W.counts writer.old) (W.counts writer.new) result }
     ensures turns { TakesTurns (W.counts writer.old) (W.counts writer.new) left.old left.new }
     ensures spent { SpendsOnWrite (W.counts writer.old) (W.counts writer.new) left.old left.new result }
-    ensures flushed { OnOk result (IsFlushed (W.counts writer.old) (W.counts writer.new)) }
     ensures kind { IfOk result (IsOfKind (option_map verdict message.now)) }
     ensures kept { IsSameDesk desk.old desk.new }
 {
@@ -116,8 +115,8 @@ fn count_frame(report: &mut Report, handled: Handled)
 ///
 /// The table is one that `Table::host_ready` accepts. At `Ok`, `Read`, `BadHeader` and `CutFrame` all whole frames are
 /// handled and answered. At `Write`, `Memory` and `TooManyTurns` what is written lies between the output for all bodies
-/// that were handled but the last and the output for all of them: the last answer may be missing or cut short, though
-/// its order may be entered. Sent again, it gets that answer.
+/// that were handled but the last and the output for all of them: the last answer may be missing, cut short or not
+/// flushed, though its order may be entered. Sent again, it gets that answer.
 pub fn serve<R: Inlet, W: Outlet>(
     alloc: Global,
     table: &Table,
@@ -131,8 +130,9 @@ pub fn serve<R: Inlet, W: Outlet>(
     // What was read, written and entered, by how it ends.
     ensures leaves { Leaves table.now header (R.remaining reader.old) (R.remaining reader.new)
         (W.contents writer.old) (W.contents writer.new) issuer.old issuer.new result }
-    // Each answer is flushed.
-    ensures flushed { Flushes (W.counts writer.old) (W.counts writer.new) result }
+    // Each answer is flushed: where it ends inside one, only what was written of that one waits for a flush.
+    ensures flushed { Flushes table.now header (R.remaining reader.old) (R.remaining reader.new)
+        (W.contents writer.old) (W.contents writer.new) issuer.old issuer.new (W.counts writer.old) (W.counts writer.new) result }
     // However it ends, the reads and writes together are at most `turns`.
     ensures turns { WithinTurns (R.counts reader.old) (R.counts reader.new)
         (W.counts writer.old) (W.counts writer.new) turns }

@@ -1,6 +1,9 @@
-use Rattle.std.proofs.Common.{[], Err, ℕ, refl, ◌∙◌, ap, arith, inr}
+use Rattle.std.proofs.Common.{[], List, Err, ℕ, refl, ◌∙◌, ap, arith, inl}
+use Rattle.std.specs.declared.option.Option.{Option}
 use Rattle.iso_table.specs.Layout.{Layout}
+use Rattle.iso_wire.specs.declared.header.Header.{Header}
 use Rattle.iso_wire.specs.Unpacker.{Feeding}
+use Rattle.iso_issuer.specs.Books.{Books}
 use Rattle.iso_host.specs.Intake.{unpacker_holding}
 use Rattle.iso_host.specs.Answering.{SpendsOnWrite}
 use Rattle.iso_host.specs.Counts.{Counts}
@@ -11,8 +14,8 @@ use Rattle.iso_host.specs.Turns.{TakesTurns}
 use Rattle.iso_host.specs.declared.fault.ServeFault.{ServeFault}
 use Rattle.iso_host.specs.declared.fault.ServeFault.TheVariants.{Read, Write, BadHeader, CutFrame, Memory, TooManyTurns}
 use Rattle.iso_host.proofs.Running.{Running}
-use Rattle.iso_host.proofs.ServeLemmas.{served_none, going_more, running_write, running_read, stop_at, stop_inside, ends_whole}
-use Rattle.iso_host.proofs.StreamLemmas.{flushed_more}
+use Rattle.iso_host.proofs.ServeLemmas.{going_none, going_more, running_write, running_read, stop_at, waits_at, stop_inside, ends_whole}
+use Rattle.iso_host.proofs.StreamLemmas.{flushed_so}
 use Rattle.iso_host.proofs.serving.serve.Goals as goal
 
 -- a read that ends the call
@@ -36,19 +39,20 @@ write_cause reader_old r writer_old w w' turns left left' TooManyTurns so turn e
   record { reader = so.reader; writer = ends.0.failures ∙ so.writer },
   record { calls = omega (arith, so.calls, turn, ends.1); moved = omega (arith, so.calls, so.moved, turn, ends.0.moved, ends.1) },
 )
-write_cause reader_old r writer_old w w' turns left left' Memory so turn ends = record { reader = so.reader; writer = ends.failures ∙ so.writer }
+write_cause reader_old r writer_old w w' turns left left' Memory so turn ends = record { reader = so.reader; writer = ap (λ (k : Counts). k.failures) ends ∙ so.writer }
 write_cause reader_old r writer_old w w' turns left left' Read so turn ends = absurd ends
 write_cause reader_old r writer_old w w' turns left left' BadHeader so turn ends = absurd ends
 write_cause reader_old r writer_old w w' turns left left' CutFrame so turn ends = absurd ends
 
 -- what was flushed so far stays so
-still_flushed : (old new : Counts) (e : ServeFault) → IsFlushed old new → Flushes old new (Err e)
-still_flushed old new Read so = so
-still_flushed old new BadHeader so = so
-still_flushed old new CutFrame so = so
-still_flushed old new Write so = tt
-still_flushed old new Memory so = tt
-still_flushed old new TooManyTurns so = tt
+still_flushed : (t : Layout) (h : Header) (unread left held written : Option (List ℕ)) (books_old books_new : Books) (old new r r' : Counts) (before after : ℕ) (e : ServeFault) → IsFlushed old new
+    → EndsReads r r' before after e → Flushes t h unread left held written books_old books_new old new (Err e)
+still_flushed t h unread left held written books_old books_new old new r r' before after Read so ends = so
+still_flushed t h unread left held written books_old books_new old new r r' before after BadHeader so ends = so
+still_flushed t h unread left held written books_old books_new old new r r' before after CutFrame so ends = so
+still_flushed t h unread left held written books_old books_new old new r r' before after Memory so ends = so
+still_flushed t h unread left held written books_old books_new old new r r' before after TooManyTurns so ends = inl so
+still_flushed t h unread left held written books_old books_new old new r r' before after Write so ends = absurd ends
 
 within : (reader_old r r' writer_old w w' : Counts) (turns left mid left' : ℕ) → Running reader_old r writer_old w turns left → TakesTurns r r' left mid → TakesTurns w w' mid left'
     → WithinTurns reader_old r' writer_old w' turns
@@ -59,13 +63,8 @@ frames-init g c = record {
   held = c.new-intake.ensures;
   table = ap (λ (d : Laid). d.table) c.new-desk.ensures;
   header = ap (λ (d : Laid). d.header) c.new-desk.ensures;
-  going = record {
-    bodies = [];
-    served = served_none _ _ _ _ _ c.enters_nothing.ensures _ c.new-window.ensures;
-    reports = record { frames = refl; answered = refl; silent = refl; unreadable = refl };
-  };
+  going = going_none _ _ _ _ _ _ _ c.enters_nothing.ensures _ c.new-window.ensures (record { frames = refl; answered = refl; silent = refl; unreadable = refl });
   running = record { calls = omega arith; moved = omega arith; reader = refl; writer = refl };
-  flushed = inr refl;
 }
 
 pub returns-in-Err-clause-leaves : goal.returns-in-Err-clause-leaves
@@ -85,7 +84,16 @@ returns-in-Err-answered-clause-leaves g c =
     let table = ap (λ (f : Feeding). f.table) so.held in
     let frame = rw (c.in-Ok-Body.field-0-is, table) at c.in-Ok-Body.ensures.bytes in
     let e = c.in-Err-answered.ensures in
-    stop_at _ _ _ _ _ c.firsts_go_on.ensures _ _ _ _ so.going.served (Unit {0}) _ _ _ _ _ _ _ _ _ c.in-Err-answered.failed frame.1 frame.2
+    stop_at _ _ _ _ _ c.firsts_go_on.ensures _ _ _ _ so.going.served (Unit {0}) _ _ _ _ _ _ _ _ _ frame.0 c.in-Err-answered.failed so.going.flushed frame.1 frame.2
+    (rw (so.table, so.header, frame.3) at e.answered) e.spent
+
+pub returns-in-Err-answered-clause-flushed : goal.returns-in-Err-answered-clause-flushed
+returns-in-Err-answered-clause-flushed g c =
+    let so = c.frames.invariant in
+    let table = ap (λ (f : Feeding). f.table) so.held in
+    let frame = rw (c.in-Ok-Body.field-0-is, table) at c.in-Ok-Body.ensures.bytes in
+    let e = c.in-Err-answered.ensures in
+    waits_at _ _ _ _ _ c.firsts_go_on.ensures _ _ _ _ so.going.served (Unit {0}) _ _ _ _ _ _ _ _ _ frame.0 c.in-Err-answered.failed so.going.flushed frame.1 frame.2
     (rw (so.table, so.header, frame.3) at e.answered) e.spent
 
 pub frames-preserved : goal.frames-preserved
@@ -101,9 +109,8 @@ frames-preserved g c =
       held = read.held ∙ ap (λ (t : Layout). unpacker_holding t []) table;
       table = e.kept.table ∙ so.table;
       header = e.kept.header ∙ so.header;
-      going = going_more c.firsts_go_on.ensures _ _ _ _ _ _ _ _ _ _ _ _ _ _ so.going frame.1 frame.2 (rw (so.table, so.header, frame.3) at e.answered) (rw frame.3 at reports);
+      going = going_more c.firsts_go_on.ensures _ _ _ _ _ _ _ _ _ _ _ _ _ _ _ _ _ so.going frame.1 frame.2 (rw (so.table, so.header, frame.3) at e.answered) (rw frame.3 at reports);
       running = running_write _ _ _ _ _ _ _ _ (running_read _ _ _ _ _ _ _ _ so.running read.turns drawn.spends) e.turns e.spent;
-      flushed = flushed_more _ _ _ so.flushed e.flushed;
     }
 
 pub frames-preserved-in-Some : goal.frames-preserved-in-Some
@@ -119,9 +126,8 @@ frames-preserved-in-Some g c =
       held = c.reuse.ensures ∙ read.held ∙ ap (λ (t : Layout). unpacker_holding t []) table;
       table = e.kept.table ∙ so.table;
       header = e.kept.header ∙ so.header;
-      going = going_more c.firsts_go_on.ensures _ _ _ _ _ _ _ _ _ _ _ _ _ _ so.going frame.1 frame.2 (rw (so.table, so.header, frame.3) at e.answered) (rw frame.3 at reports);
+      going = going_more c.firsts_go_on.ensures _ _ _ _ _ _ _ _ _ _ _ _ _ _ _ _ _ so.going frame.1 frame.2 (rw (so.table, so.header, frame.3) at e.answered) (rw frame.3 at reports);
       running = running_write _ _ _ _ _ _ _ _ (running_read _ _ _ _ _ _ _ _ so.running read.turns drawn.spends) e.turns e.spent;
-      flushed = flushed_more _ _ _ so.flushed e.flushed;
     }
 
 pub returns-in-Err-clause-cause : goal.returns-in-Err-clause-cause
@@ -130,7 +136,8 @@ returns-in-Err-clause-cause g c =
     (g.W.Outlet.counts c.args.writer.now) (g.W.Outlet.counts c.frames.writer) c.args.turns c.frames.left c.read_frame-read.new.left c.in-Err.fault c.frames.invariant.running c.in-Err.ensures.turns c.in-Err.ensures.spent
 
 pub returns-in-Err-clause-flushed : goal.returns-in-Err-clause-flushed
-returns-in-Err-clause-flushed g c = still_flushed (g.W.Outlet.counts c.args.writer.now) (g.W.Outlet.counts c.frames.writer) c.in-Err.fault c.frames.invariant.flushed
+returns-in-Err-clause-flushed g c =
+    still_flushed _ _ _ _ _ _ _ _ _ _ _ _ _ _ c.in-Err.fault (flushed_so _ _ _ c.frames.invariant.going.flushed) c.in-Err.ensures.spent
 
 pub returns-in-Err-clause-turns : goal.returns-in-Err-clause-turns
 returns-in-Err-clause-turns g c =
@@ -143,7 +150,7 @@ returns-in-Ok-End-clause-cause g c =
     record { reader = drawn ∙ c.frames.invariant.running.reader; writer = c.frames.invariant.running.writer }
 
 pub returns-in-Ok-End-clause-flushed : goal.returns-in-Ok-End-clause-flushed
-returns-in-Ok-End-clause-flushed g c = c.frames.invariant.flushed
+returns-in-Ok-End-clause-flushed g c = flushed_so _ _ _ c.frames.invariant.going.flushed
 
 pub returns-in-Ok-End-clause-turns : goal.returns-in-Ok-End-clause-turns
 returns-in-Ok-End-clause-turns g c =

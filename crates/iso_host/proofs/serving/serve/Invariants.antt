@@ -2,7 +2,6 @@ use Rattle.std.proofs.Common.{◌≡◌, ◌+◌, ◌*◌, [], length}
 use Rattle.std.specs.Io.KnownBytes.{prepend_known}
 use Rattle.iso_host.proofs.Running.{Going, Running}
 use Rattle.iso_host.specs.Intake.{unpacker_holding}
-use Rattle.iso_host.specs.Serving.{IsFlushed}
 use Rattle.iso_host.proofs.serving.serve.Given as goal
 
 abbrev pub invariant-frames : goal.invariant-frames
@@ -11,10 +10,9 @@ invariant-frames g l = record {
   table : l.desk.table ≡ l.table;
   header : l.desk.header ≡ l.header;
   going : Going l.table l.header (g.R.Inlet.remaining l.initial.reader) (prepend_known l.window (g.R.Inlet.remaining l.reader)) (g.W.Outlet.contents l.initial.writer)
-      (g.W.Outlet.contents l.writer) l.initial.issuer l.issuer l.report;
+      (g.W.Outlet.contents l.writer) l.initial.issuer l.issuer (g.W.Outlet.counts l.initial.writer) (g.W.Outlet.counts l.writer) l.report;
   running : Running (g.R.Inlet.counts l.initial.reader) (g.R.Inlet.counts l.reader) (g.W.Outlet.counts l.initial.writer)
       (g.W.Outlet.counts l.writer) l.turns l.left;
-  flushed : IsFlushed (g.W.Outlet.counts l.initial.writer) (g.W.Outlet.counts l.writer);
 }
 
 abbrev pub decreases-frames : goal.decreases-frames

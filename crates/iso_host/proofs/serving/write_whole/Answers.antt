@@ -1,4 +1,4 @@
-use Rattle.std.proofs.Common.{◌≡◌, ℕ, List, ◌≤◌, ◌<◌, subst, length, drop, take, ◌-◌, arith, length-drop, ap, ◌∙◌}
+use Rattle.std.proofs.Common.{◌≡◌, ℕ, List, ◌≤◌, ◌<◌, subst, length, drop, take, ◌+◌, ◌-◌, arith, length-drop, ap, ◌∙◌, add_assoc}
 use Rattle.std.proofs.KnownBytes.{Appends-kept}
 use Rattle.std.proofs.lemmas.List.{take_all}
 use Rattle.std.specs.declared.option.Option.{Option}
@@ -22,21 +22,34 @@ loop-at-preserved g c =
       in_range = omega (arith, c.in-Ok.ensures.bound, size);
       written = appends_more _ _ _ _ _ _ c.loop-at.invariant.written c.in-Ok.ensures.bytes;
       turns = turns_more _ _ _ _ _ _ c.loop-at.invariant.spent c.loop-at.invariant.turns turn c.in-Ok.ensures.counts;
+      waits = ap (λ (k : Counts). k.unflushed) c.in-Ok.ensures.counts ∙ ap (λ (n : ℕ). n + c.in-Ok.count) c.loop-at.invariant.waits ∙ add_assoc _ _ _;
       spent = spends_more _ _ _ _ _ _ c.loop-at.invariant.spent turn some c.in-Ok.ensures.counts;
     }
 
 pub returns-in_default-clause-written : goal.returns-in_default-clause-written
 returns-in_default-clause-written g c =
     let so = c.loop-at.invariant in
-    (c.loop-at.at, so.in_range, Appends-kept (g.W.Outlet.contents c.args.writer.now) (g.W.Outlet.contents c.loop-at.writer) (g.W.Outlet.contents c.write.new.self) (take c.loop-at.at c.args.bytes.now) so.written c.in_default.ensures.bytes)
+    record {
+      count = c.loop-at.at;
+      within = so.in_range;
+      appends = Appends-kept (g.W.Outlet.contents c.args.writer.now) (g.W.Outlet.contents c.loop-at.writer) (g.W.Outlet.contents c.write.new.self) (take c.loop-at.at c.args.bytes.now) so.written c.in_default.ensures.bytes;
+      waits = ap (λ (k : Counts). k.unflushed) c.in_default.ensures.counts ∙ so.waits;
+    }
 
 pub returns-in-Err-clause-written : goal.returns-in-Err-clause-written
 returns-in-Err-clause-written g c =
     let so = c.loop-at.invariant in
-    (c.loop-at.at, so.in_range, Appends-kept (g.W.Outlet.contents c.args.writer.now) (g.W.Outlet.contents c.loop-at.writer) (g.W.Outlet.contents c.flush.new.self) (take c.loop-at.at c.args.bytes.now) so.written c.in-Err.ensures.bytes)
+    record {
+      count = c.loop-at.at;
+      within = so.in_range;
+      appends = Appends-kept (g.W.Outlet.contents c.args.writer.now) (g.W.Outlet.contents c.loop-at.writer) (g.W.Outlet.contents c.flush.new.self) (take c.loop-at.at c.args.bytes.now) so.written c.in-Err.ensures.bytes;
+      waits = ap (λ (k : Counts). k.unflushed) c.in-Err.ensures.counts ∙ so.waits;
+    }
 
 pub returns-then-left-eq0-clause-written : goal.returns-then-left-eq0-clause-written
-returns-then-left-eq0-clause-written g c = (c.loop-at.at, c.loop-at.invariant.in_range, c.loop-at.invariant.written)
+returns-then-left-eq0-clause-written g c =
+    let so = c.loop-at.invariant in
+    record { count = c.loop-at.at; within = so.in_range; appends = so.written; waits = so.waits }
 
 pub returns-in-Ok-flush-clause-written : goal.returns-in-Ok-flush-clause-written
 returns-in-Ok-flush-clause-written g c = whole (g.W.Outlet.contents c.args.writer.now) (g.W.Outlet.contents c.loop-at.writer) (g.W.Outlet.contents c.flush.new.self) c.args.bytes.now c.loop-at.at c.loop-at.invariant.written c.loop-at-test.false c.in-Ok-flush.ensures.bytes
