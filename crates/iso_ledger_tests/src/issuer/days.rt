@@ -304,6 +304,25 @@ const WIDE_BALANCES: &[Day] = &[
         )],
     },
     Day {
+        name: "the largest purchase",
+        limit: MOST_ORDERS,
+        accounts: OF_999999999999,
+        steps: &[
+            (
+                "a purchase of all that is there",
+                debit!(200, 7, AMOUNT),
+                granted!(1),
+                (1, 0, 0),
+            ),
+            (
+                "its reversal",
+                REVERSAL,
+                granted!(2),
+                (2, 999_999_999_999, 999_999_999_999),
+            ),
+        ],
+    },
+    Day {
         name: "one more",
         limit: MOST_ORDERS,
         accounts: OF_1000000000000,
