@@ -3,14 +3,14 @@ use Rattle.std.specs.Prelude.{◌≡◌, ℕ, List, Option, IfSome}
 use Rattle.iso_table.specs.HostReady.{IsHostReady}
 use Rattle.iso_issuer.specs.declared.account.Account.{Account}
 use Rattle.iso_issuer.specs.Document.{ListsAccounts}
-use Rattle.iso_cli.specs.declared.prepare.PortHost.{PortHost}
+use Rattle.iso_cli.specs.declared.prepare.Serving.{Serving}
 use Rattle.iso_cli.specs.declared.listening.Listening.{Listening}
 use Rattle.iso_cli.specs.Listening.{AsksServe}
 use Rattle.iso_cli.specs.Run.{fresh_books}
 use Rattle.iso_cli.specs.Tables.{IsNamed}
 
 -- the host is what these words name, with an empty journal
-pub record Prepares (words : List (List ℕ)) (file : List ℕ → Option (List ℕ)) (host : PortHost) : Type 0 where
+pub record Prepares (words : List (List ℕ)) (file : List ℕ → Option (List ℕ)) (host : Serving) : Type 0 where
   pub asked : Listening
   pub asks : AsksServe words asked
   pub header : host.header ≡ asked.header

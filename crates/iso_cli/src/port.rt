@@ -4,7 +4,7 @@ ghost use Rattle.std.specs.Prelude.{◌≡◌, ◌≤◌, map};
 ghost use Rattle.iso_cli.specs.Listening.{AsksNoServe};
 
 use crate::connections::serve_connections;
-use crate::prepare::{PortHost, prepare};
+use crate::prepare::{Serving, prepare};
 use crate::source::Source;
 use crate::stop::{Stop, tell};
 use iso_host::Outlet;
@@ -23,7 +23,7 @@ pub fn serve_port<
     // With status 2, the words name no host.
     ensures words { result ≡ 2 → AsksNoServe (map (λ w. w.now) words.now) }
 {
-    let PortHost {
+    let Serving {
         table,
         header,
         mut issuer,

@@ -18,7 +18,7 @@ use std::alloc::Global;
 
 /// A host on a port, before the port is bound.
 #[derive(Drop)]
-pub struct PortHost {
+pub struct Serving {
     /// The table that messages are read and written under. A host can serve under it.
     pub table: Table,
     /// How a frame counts its body.
@@ -32,14 +32,14 @@ pub struct PortHost {
 }
 
 /// The host that the words name. The table is read before the accounts.
-fn host_named<S: Source>(alloc: Global, words: &[&str], source: &S) -> Result<PortHost, Stop>
+fn host_named<S: Source>(alloc: Global, words: &[&str], source: &S) -> Result<Serving, Stop>
     ensures prepared { IfOk result (Prepares (map (λ w. w.now) words.now) (S.file source.now)) }
     ensures words { IfErr result (λ stop. stop ≡ Stop.Words → AsksNoServe (map (λ w. w.now) words.now)) }
 {
     let asked = parse_serve(alloc, words)?;
     let table = host_table(alloc, source, asked.table)?;
     let accounts = accounts_at(alloc, source, asked.accounts)?;
-    Ok(PortHost {
+    Ok(Serving {
         table,
         header: asked.header,
         issuer: Issuer::new(accounts, MOST_ENTRIES),
@@ -56,7 +56,7 @@ pub fn prepare<S: Source, F: Outlet>(
     words: &[&str],
     source: &S,
     faults: &mut F,
-) -> Result<PortHost, u8>
+) -> Result<Serving, u8>
     // What the words spell: the table and the accounts that they name, with an empty journal, the port and the count.
     ensures prepared { IfOk result (Prepares (map (λ w. w.now) words.now) (S.file source.now)) }
     ensures status { IfErr result (λ status. (1 ≤ status) × (status ≤ 3)) }
