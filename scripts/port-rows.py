@@ -15,6 +15,7 @@ A row of "hosts" has
     "accepts that fail"  so many behind them, none by default: the system then gives the host no descriptor
     "entered"            how many orders it has entered then: one more peer sends another purchase, and the answer has the number.
                          A row without it has no such peer
+    "refused at"         another address of this machine, at which the host that waits for that peer isn't reached
 A peer has "sent", in segments of "segment" bytes; and "answered", which is all that it gets, or null where nobody looks; or "gone",
 true where it closes before it is answered. Each row may have
     "output takes"       so many bytes, before a write to the output fails
@@ -189,6 +190,15 @@ def differences_of_number(port, header, entered, texts):
     wanted = text_of(["@SECOND_GRANTED_AS", f"{entered + 1:06}", "@APPROVED"], texts)
     return difference("the other purchase is answered", ask(port, framed(header, text_of("@SECOND", texts))), framed(header, wanted))
 
+
+def be_refused(address, port):
+    """Raises where a host, which waits for a peer, is reached at another address."""
+    try:
+        socket.create_connection((address, port), timeout=WAIT).close()
+    except ConnectionRefusedError:
+        return
+    raise AssertionError(f"the host is reached at {address}")
+
 # ---- accepts that fail
 
 def is_blocked(host, size):
@@ -238,6 +248,8 @@ def differences_of_host(command, folder, row, texts):
             differences = differences_of_peers(host, port, peers, texts)
             told = fail_accepts(host, fails) if fails else b""
             more_output = b""
+            if "refused at" in row:
+                be_refused(row["refused at"], port)
             if "entered" in row:
                 differences += differences_of_number(port, header, row["entered"], texts)
                 more_output = text_of("@ONE_ANSWERED", texts)
