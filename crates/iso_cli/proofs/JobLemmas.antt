@@ -1,12 +1,15 @@
 -- What the words ask is one job.
-use Rattle.std.proofs.Common.{◌≡◌, inl, inr, ℕ, Bool, true, false, IsTrue, List, [], ◌∷◌, Option, Result, Err, refl, ap, subst, sym, ◌∙◌}
+use Rattle.std.proofs.Common.{◌≡◌, inl, inr, ℕ, Bool, true, false, IsTrue, List, [], ◌∷◌, Option, Some, None, IfSome, IsSomeAnd, Result, Err, refl, ap, subst, sym, ◌∙◌}
 use Rattle.std.specs.Borrow.{Bor}
 use Rattle.std.specs.Io.KnownBytes.{Appends}
 use Rattle.std.specs.Prelude.{codes}
+use Rattle.iso_host.specs.Counts.{Counts}
+use Rattle.iso_host.specs.Serving.{TookTurns}
 use Rattle.iso_host.specs.declared.fault.Report.{Report}
 use Rattle.iso_wire.specs.declared.header.Header.{Header}
 use Rattle.iso_wire.specs.declared.header.Header.TheVariants.{Binary2, Ascii4, Bcd2}
 use Rattle.iso_cli.specs.Check.{ChecksAsked, ChecksOver}
+use Rattle.iso_cli.specs.Connections.{report_text}
 use Rattle.iso_cli.specs.Convert.{ConvertsAsked, ConvertsOver}
 use Rattle.iso_cli.specs.Echo.{EchoesOver}
 use Rattle.iso_cli.specs.Jobs.{DoesJob, DoesAsked, Performs, StopsJob, StopsAsked}
@@ -14,9 +17,10 @@ use Rattle.iso_cli.specs.Refused.{ConvertStops, EchoStops, IsRefused, NamesNone,
 use Rattle.iso_cli.specs.Run.{RunsAsked, RunsOver}
 use Rattle.iso_cli.specs.Show.{ShowsAsked, ShowsOver}
 use Rattle.iso_cli.specs.Stop.{line_of, status_of, stop_of_words}
+use Rattle.iso_cli.specs.Turns.{RunTookTurns, most_turns}
 use Rattle.iso_cli.specs.Words.{Asks, AsksNothing, AsksShow, header_name, is_name}
 use Rattle.iso_cli.specs.declared.stop.Stop.{Stop}
-use Rattle.iso_cli.specs.declared.stop.Stop.TheVariants.{Words}
+use Rattle.iso_cli.specs.declared.stop.Stop.TheVariants.{TooManyTurns, Words}
 use Rattle.iso_cli.specs.declared.words.Job.{Job}
 use Rattle.iso_cli.specs.declared.words.Job.TheVariants.{Echo, Check, Show, Convert, Run}
 use Rattle.iso_cli.specs.declared.words.WordsFault.{WordsFault}
@@ -25,33 +29,45 @@ use Rattle.iso_cli.proofs.RefusedLemmas.{same_convert, same_show, words_stop}
 
 -- ---- by a job that the words ask
 
-module _ (words : List (List ℕ)) (file : List ℕ → Option (List ℕ)) (input old new : Option (List ℕ)) where
-  -- what such a job does
-  pub done : (found job : Job) → Asks words found → found ≡ job → DoesJob job file input old new → DoesAsked words file input old new
-  done found job asks is does = record { job = job; asked = subst (λ (j : Job). Asks words j) is asks; does = does }
+-- what such a job does
+pub done : (words : List (List ℕ)) (file : List ℕ → Option (List ℕ)) (input old new : Option (List ℕ)) (report : Option Report) (found job : Job)
+    → Asks words found → found ≡ job → DoesJob job file input old new report → DoesAsked words file input old new report
+done words file input old new report found job asks is does = record { job = job; asked = subst (λ (j : Job). Asks words j) is asks; does = does }
 
+-- all turns of a host on a stream were taken
+pub took_turns : (words : List (List ℕ)) (found : Job) (table accounts : Bor (List ℕ)) (header : Header) (input_old input_new output_old output_new : Counts)
+    → Asks words found → found ≡ Run table accounts header → TookTurns input_old input_new output_old output_new most_turns
+    → RunTookTurns words input_old input_new output_old output_new
+took_turns words found table accounts header input_old input_new output_old output_new asks is took =
+    let asked = subst (λ (j : Job). Asks words j) is asks in
+    (table.now, accounts.now, header, asked.2, took)
+
+module _ (words : List (List ℕ)) (file : List ℕ → Option (List ℕ)) (input old new : Option (List ℕ)) (input_old input_new output_old output_new : Counts) where
   -- and what stops it, which isn't that the words ask nothing
   pub stopped : (r : Result (Option Report) Stop) (stop : Stop) (found job : Job) → (x : Stop) × (r ≡ Err x) × (x ≡ stop) → Asks words found → found ≡ job
-      → (stop ≡ Words → ⊥) → (status_of stop ≡ 1 → StopsJob job file input stop)
-      → Performs words file input old new r
-  stopped r stop found job (x, err, same) asks is other stops =
-      subst (λ (y : Result (Option Report) Stop). Performs words file input old new y) (sym (err ∙ ap Err same)) record {
+      → (stop ≡ Words → ⊥) → (status_of stop ≡ 1 → StopsJob job file input stop) → (stop ≡ TooManyTurns → RunTookTurns words input_old input_new output_old output_new)
+      → Performs words file input old new input_old input_new output_old output_new r
+  stopped r stop found job (x, err, same) asks is other stops turns =
+      subst (λ (y : Result (Option Report) Stop). Performs words file input old new input_old input_new output_old output_new y) (sym (err ∙ ap Err same)) record {
         nothing = λ w. absurd (other w);
         refused = λ one. record { job = job; asked = subst (λ (j : Job). Asks words j) is asks; stops = stops one };
+        turns = turns;
       }
 
   -- no job is stopped where the words are refused
   pub unasked : (r : Result (Option Report) Stop) (fault : WordsFault) → (x : Stop) × (r ≡ Err x) × (x ≡ stop_of_words fault)
-      → (fault ≡ fault_of.Refused → AsksNothing words) → Performs words file input old new r
+      → (fault ≡ fault_of.Refused → AsksNothing words) → Performs words file input old new input_old input_new output_old output_new r
   unasked r fault_of.Refused (x, err, same) none =
-      subst (λ (y : Result (Option Report) Stop). Performs words file input old new y) (sym (err ∙ ap Err same)) record {
+      subst (λ (y : Result (Option Report) Stop). Performs words file input old new input_old input_new output_old output_new y) (sym (err ∙ ap Err same)) record {
         nothing = λ w. none refl;
         refused = λ one. absurd (words_stop fault_of.Refused x same (ap status_of same ∙ one));
+        turns = λ is. cc;
       }
   unasked r fault_of.Memory (x, err, same) none =
-      subst (λ (y : Result (Option Report) Stop). Performs words file input old new y) (sym (err ∙ ap Err same)) record {
+      subst (λ (y : Result (Option Report) Stop). Performs words file input old new input_old input_new output_old output_new y) (sym (err ∙ ap Err same)) record {
         nothing = λ w. cc;
         refused = λ one. absurd (words_stop fault_of.Memory x same (ap status_of same ∙ one));
+        turns = λ is. cc;
       }
 
 -- ---- by the words: the job is the one that they ask
@@ -144,21 +160,27 @@ module _ (words : List (List ℕ)) (P : Job → Type 0) where
   by_show Q f t true name (inr is) (Run table accounts header) asks p = cc (asks.2)
 
 -- so what was done is what they ask
-module _ (words : List (List ℕ)) (file : List ℕ → Option (List ℕ)) (input old new : Option (List ℕ)) (d : DoesAsked words file input old new) where
+module _ (words : List (List ℕ)) (file : List ℕ → Option (List ℕ)) (input old new : Option (List ℕ)) (report : Option Report) (d : DoesAsked words file input old new report) where
   pub echoes : words ≡ [] → EchoesOver input old new
-  echoes none = by_none words (λ j. DoesJob j file input old new) (EchoesOver input old new) (λ p. p) none d.job d.asked d.does
+  echoes none = by_none words (λ j. DoesJob j file input old new report) (EchoesOver input old new) (λ p. p) none d.job d.asked d.does
 
   pub checks : ChecksAsked words file old new
-  checks = λ t named is. by_check words (λ j. DoesJob j file input old new) (λ t. ChecksOver file t old new) (λ table p. p) t is d.job d.asked d.does
+  checks = λ t named is. by_check words (λ j. DoesJob j file input old new report) (λ t. ChecksOver file t old new) (λ table p. p) t is d.job d.asked d.does
 
   pub shows : ShowsAsked words file input old new
-  shows = λ t b named is. by_show words (λ j. DoesJob j file input old new) (λ t b. ShowsOver file t b input old new) (λ table clear p. p) t b named is d.job d.asked d.does
+  shows = λ t b named is. by_show words (λ j. DoesJob j file input old new report) (λ t b. ShowsOver file t b input old new) (λ table clear p. p) t b named is d.job d.asked d.does
 
   pub converts : ConvertsAsked words file input old new
-  converts = λ a b is. by_convert words (λ j. DoesJob j file input old new) (λ a b. ConvertsOver file a b input old new) (λ from to p. p) a b is d.job d.asked d.does
+  converts = λ a b is. by_convert words (λ j. DoesJob j file input old new report) (λ a b. ConvertsOver file a b input old new) (λ from to p. p) a b is d.job d.asked d.does
 
-  pub runs : RunsAsked words file input old new
-  runs = λ a b h is. by_run words (λ j. DoesJob j file input old new) (λ a b h. RunsOver file a b h input old new) (λ table accounts h p. p) a b h is d.job d.asked d.does
+  pub runs : (held written : Option (List ℕ)) → IfSome report (λ r. Appends held written (report_text r)) → RunsAsked words file input old new held written
+  runs held written told = λ a b h is. reported a b h held written report told
+      (by_run words (λ j. DoesJob j file input old new report) (λ a b h. IsSomeAnd report (RunsOver file a b h input old new)) (λ table accounts h p. p) a b h is d.job d.asked d.does)
+    where
+      reported : (a b : List ℕ) (h : Header) (held written : Option (List ℕ)) (known : Option Report) → IfSome known (λ r. Appends held written (report_text r))
+          → IsSomeAnd known (RunsOver file a b h input old new) → (r : Report) × RunsOver file a b h input old new r × Appends held written (report_text r)
+      reported a b h held written None tells p = absurd p
+      reported a b h held written (Some r) tells p = (r, p, tells)
 
 -- and likewise what stopped it
 module _ (words : List (List ℕ)) (file : List ℕ → Option (List ℕ)) (input held written : Option (List ℕ)) (stop : Stop) where

@@ -1,17 +1,20 @@
 -- Which stop a fault is.
-use Rattle.std.proofs.Common.{◌≡◌, ◌≢◌, inl, inr, ℕ, Bool, true, false, IsTrue, List, [], ◌∷◌, Option, IfSome, IfErr, OnOk, Result, Ok, Err, ap, subst, sym, ◌∙◌, arith}
+use Rattle.std.proofs.Common.{◌≡◌, ◌≢◌, inl, inr, ℕ, Bool, true, false, IsTrue, List, [], ◌∷◌, Option, IfSome, IfErr, OnOk, Result, Ok, Err, refl, ap, subst, sym, ◌∙◌, arith}
 use Rattle.std.specs.Prelude.{codes}
 use Rattle.std.specs.Io.KnownBytes.{Appends}
 use Rattle.iso_host.specs.Counts.{Counts}
+use Rattle.iso_host.specs.declared.fault.Report.{Report}
 use Rattle.iso_table.specs.Document.{IsNotJson, IsDocumentFault}
 use Rattle.iso_table.specs.declared.fault.TableFault.{TableFault}
 use Rattle.iso_table.specs.declared.fault.TableFault.TheVariants.{NotJson, Shape, BadVersion, BadNumber, Twice, BadMax, CodingClass, PadNotAllowed, Profile, Memory}
 use Rattle.iso_cli.specs.Stop.{status_of, line_of, stop_of_table, stop_of_words}
-use Rattle.iso_cli.specs.Tells.{TellsLineOf}
+use Rattle.iso_cli.specs.Connections.{report_text}
+use Rattle.iso_cli.specs.Tells.{Tells, TellsLineOf, TellsReport}
+use Rattle.iso_cli.specs.Turns.{HasFailed, RunTookTurns}
 use Rattle.iso_cli.specs.Refused.{HoldsNone}
 use Rattle.iso_cli.specs.Words.{AsksShow, is_name}
 use Rattle.iso_cli.specs.declared.stop.Stop.{Stop}
-use Rattle.iso_cli.specs.declared.stop.Stop.TheVariants.{Words, Write}
+use Rattle.iso_cli.specs.declared.stop.Stop.TheVariants.{Memory as NoMemory, TooManyTurns, Words, Write}
 use Rattle.iso_cli.specs.declared.words.WordsFault.{WordsFault}
 use Rattle.iso_cli.specs.declared.words.WordsFault.TheVariants as words
 use Rattle.iso_cli.proofs.StreamingLemmas.{known_all}
@@ -47,6 +50,33 @@ told_whole held written old new stop given (inl (inr untold)) one = absurd (omeg
 told_whole held written old new stop given (inr (inl told)) one = absurd (omega (arith, told.given_is, one))
 told_whole held written old new stop given (inr (inr untold)) one = absurd (omega (arith, untold.status, one))
 
+-- where status 0 was given, the line of a report was told whole
+pub report_whole : (held written : Option (List ℕ)) (old new : Counts) (report : Report) (given : ℕ) → TellsReport held written old new report given → given ≡ 0
+    → Appends held written (report_text report)
+report_whole held written old new report given (inl (inl told)) zero = told.whole
+report_whole held written old new report given (inl (inr untold)) zero = absurd (omega (arith, untold.status, zero))
+report_whole held written old new report given (inr (inl told)) zero = absurd (omega (arith, told.given_is, zero))
+report_whole held written old new report given (inr (inr untold)) zero = absurd (omega (arith, untold.status, zero))
+
+-- and where status 3 was, one of what failed, or the fault stream did
+module _ (words : List (List ℕ)) (input_old input_new output_old output_new : Counts) (held written : Option (List ℕ)) (old new : Counts) where
+  no_memory : Tells held written old new NoMemory 3 → HasFailed words input_old input_new output_old output_new held written old new
+  no_memory (inl told) = inl record { stop = NoMemory; status = refl; line = told.whole; turns = λ is. cc }
+  no_memory (inr untold) = inr untold.failures
+
+  pub told_failure : (stop : Stop) (given : ℕ) → TellsLineOf held written old new stop (status_of stop) given → given ≡ 3
+      → (stop ≡ TooManyTurns → RunTookTurns words input_old input_new output_old output_new)
+      → HasFailed words input_old input_new output_old output_new held written old new
+  told_failure stop given (inl (inl told)) three turns = inl record { stop = stop; status = sym told.given_is ∙ three; line = told.whole; turns = turns }
+  told_failure stop given (inl (inr untold)) three turns = inr untold.failures
+  told_failure stop given (inr told) three turns = no_memory (subst (λ n. Tells held written old new NoMemory n) three told)
+
+  pub report_failure : (report : Report) (given : ℕ) → TellsReport held written old new report given → given ≡ 3
+      → HasFailed words input_old input_new output_old output_new held written old new
+  report_failure report given (inl (inl told)) three = absurd (omega (arith, told.given_is, three))
+  report_failure report given (inl (inr untold)) three = inr untold.failures
+  report_failure report given (inr told) three = no_memory (subst (λ n. Tells held written old new NoMemory n) three told)
+
 -- the words' own faults have another status
 pub words_stop : (fault : WordsFault) (stop : Stop) → stop ≡ stop_of_words fault → status_of stop ≡ 1 → ⊥
 words_stop words.Refused stop is one = absurd (omega (arith, one, ap status_of is))
@@ -57,15 +87,22 @@ pub write_stops : {X : Type 0} (r : Result X Stop) (P : Stop → Type 0) → IfE
 write_stops (Ok x) P failed = tt
 write_stops (Err stop) P failed = λ one. absurd (omega (arith, one, ap status_of failed))
 
--- which is no stop of words
+-- which is no stop of words, and none of turns
 pub write_words : {X : Type 0} (r : Result X Stop) → IfErr r (λ stop. stop ≡ Write) → IfErr r (λ stop. stop ≢ Words)
 write_words (Ok x) failed = tt
 write_words (Err stop) failed = λ is. cc
 
--- a stop that is handed on is none of words where the first isn't, and nothing was done
+pub write_turns : {X : Type 0} (r : Result X Stop) → IfErr r (λ stop. stop ≡ Write) → IfErr r (λ stop. stop ≢ TooManyTurns)
+write_turns (Ok x) failed = tt
+write_turns (Err stop) failed = λ is. cc
+
+-- a stop that is handed on is none of words, or of turns, where the first isn't, and nothing was done
 module _ {X : Type 0} (r : Result X Stop) (e : Stop) (p : (x : Stop) × (r ≡ Err x) × (x ≡ e)) where
   pub handed_words : e ≢ Words → IfErr r (λ stop. stop ≢ Words)
   handed_words other = rw (p.1, p.2) other
+
+  pub handed_turns : e ≢ TooManyTurns → IfErr r (λ stop. stop ≢ TooManyTurns)
+  handed_turns other = rw (p.1, p.2) other
 
   pub handed_ok : (P : Type 0) → OnOk r P
   handed_ok P = rw (p.1) tt

@@ -5,7 +5,12 @@ use Rattle.std.proofs.KnownBytes.{Consumes-trans}
 use Rattle.std.specs.Io.KnownBytes.{Consumes, IsAtEnd}
 use Rattle.iso_host.specs.Counts.{Counts}
 use Rattle.iso_cli.specs.Source.{read_of}
-use Rattle.iso_cli.specs.Streaming.{Gave}
+use Rattle.iso_cli.specs.Stop.{stop_of_input}
+use Rattle.iso_cli.specs.Streaming.{Gave, ReadCause}
+use Rattle.iso_cli.specs.Turns.{most_reads}
+use Rattle.iso_cli.specs.declared.stop.Stop.TheVariants.{TooManyTurns}
+use Rattle.iso_cli.specs.declared.streaming.InputFault.{InputFault}
+use Rattle.iso_cli.specs.declared.streaming.InputFault.TheVariants as input
 use Rattle.iso_cli.proofs.SourceLemmas.{read_of-short}
 
 -- what was consumed to the end is all that there was
@@ -57,3 +62,10 @@ read_long (Some all) None c old bytes first next long = absurd first
 read_long (Some all) (Some rest) None old bytes first next long = absurd next
 read_long (Some all) (Some rest) (Some end) old bytes first next long =
     omega (arith, long, ap length first, ap length next, length-append old rest, length-append bytes end)
+
+-- the most reads suffice: each of them would have given a byte, which are more than an input may have
+pub reads_suffice : (old new : Counts) (fault : InputFault) → ReadCause {A = ℕ} old new most_reads (Err fault) → stop_of_input fault ≡ TooManyTurns → ⊥
+reads_suffice old new input.Read cause is = cc
+reads_suffice old new input.TooLong cause is = cc
+reads_suffice old new input.Memory cause is = cc
+reads_suffice old new input.TooManyTurns cause is = omega (arith, cause.2, cause.3)

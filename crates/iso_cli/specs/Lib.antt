@@ -17,4 +17,5 @@ pub mod Streaming
 pub mod Subcommands
 pub mod Tables
 pub mod Tells
+pub mod Turns
 pub mod Words

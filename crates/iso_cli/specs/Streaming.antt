@@ -10,11 +10,12 @@ pub record Gave (old new : Counts) (count : ℕ) : Type 0 where
   pub failures : new.failures ≡ old.failures
 
 -- which fault comes when: `Read` only where the last read failed, and any other answer only where none did;
--- `TooLong` only where more bytes came than an input may have, and `TooManyTurns` only where all reads are spent
+-- `TooLong` only where more bytes came than an input may have, and `TooManyTurns` only where all reads are spent, and each of
+-- them gave a byte
 abbrev pub ReadCause : {A : Type 0} → Counts → Counts → ℕ → Result (Vec ℕ A) InputFault → Type 0
 ReadCause old new turns (Ok bytes) = Gave old new (vec_len bytes) × (new.calls ≤ old.calls + turns)
 ReadCause old new turns (Err Read) = new.failures ≡ old.failures + 1
 ReadCause old new turns (Err TooLong) = (new.failures ≡ old.failures) × (old.moved + 1048576 < new.moved)
 ReadCause old new turns (Err TooManyTurns) =
-    (new.failures ≡ old.failures) × (new.calls ≡ old.calls + turns) × (new.moved ≤ old.moved + 1048576)
+    (new.failures ≡ old.failures) × (new.calls ≡ old.calls + turns) × (new.moved ≤ old.moved + 1048576) × (old.moved + turns ≤ new.moved)
 ReadCause old new turns (Err Memory) = (new.failures ≡ old.failures) × (new.moved ≤ old.moved + 1048576)

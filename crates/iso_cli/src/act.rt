@@ -8,6 +8,7 @@ ghost use Rattle.iso_cli.specs.Jobs.{Performs};
 ghost use Rattle.iso_cli.specs.Run.{RunsAsked};
 ghost use Rattle.iso_cli.specs.Show.{ShowsAsked};
 ghost use Rattle.iso_cli.specs.Tells.{TellsEnding};
+ghost use Rattle.iso_cli.specs.Turns.{HasFailed};
 ghost use Rattle.iso_cli.specs.Words.{AsksNothing};
 ghost use Rattle.iso_cli.specs.Refused.{IsRefused};
 
@@ -32,7 +33,8 @@ fn perform<S: Source, I: Inlet, O: Outlet>(
     output: &mut O,
 ) -> Result<Option<Report>, Stop>
     ensures { Performs (map (λ w. w.now) words.now) (S.file source.now)
-        (I.remaining input.old) (O.contents output.old) (O.contents output.new) result }
+        (I.remaining input.old) (O.contents output.old) (O.contents output.new)
+        (I.counts input.old) (I.counts input.new) (O.counts output.old) (O.counts output.new) result }
 {
     match parse(alloc, words)? {
         Job::Echo => echo(alloc, input, output)?,
@@ -71,15 +73,22 @@ pub fn act<S: Source, I: Inlet, O: Outlet, F: Outlet>(
     // `convert`: the plain spelling under the second table of what the input spells under the first.
     ensures convert { result ≡ 0 → ConvertsAsked (map (λ w. w.now) words.now) (S.file source.now)
         (I.remaining input.old) (O.contents output.old) (O.contents output.new) }
-    // `run`: the output for the bodies of the whole input, for the accounts of the document, with an empty journal.
+    // `run`: the output for the bodies of the whole input, for the accounts of the document, with an empty journal; and on the fault
+    // stream the line of the report, which counts these bodies by kind.
     ensures run { result ≡ 0 → RunsAsked (map (λ w. w.now) words.now) (S.file source.now)
-        (I.remaining input.old) (O.contents output.old) (O.contents output.new) }
+        (I.remaining input.old) (O.contents output.old) (O.contents output.new)
+        (F.contents faults.old) (F.contents faults.new) }
     // With status 1, of each command but `run`: the line of the first thing that is refused, be it the document of a table, an
     // input that is too long, or what the input holds.
     ensures refused { result ≡ 1 → IsRefused (map (λ w. w.now) words.now) (S.file source.now)
         (I.remaining input.old) (F.contents faults.old) (F.contents faults.new) }
     // With status 2, the words are no command line.
     ensures words { result ≡ 2 → AsksNothing (map (λ w. w.now) words.now) }
+    // With status 3, the line of what failed is told, or the fault stream failed. `failed: TooManyTurns` comes of `run` alone,
+    // after exactly 100,000,000 reads and writes. The 2,000,000 reads of a whole input always suffice.
+    ensures failed { result ≡ 3 → HasFailed (map (λ w. w.now) words.now)
+        (I.counts input.old) (I.counts input.new) (O.counts output.old) (O.counts output.new)
+        (F.contents faults.old) (F.contents faults.new) (F.counts faults.old) (F.counts faults.new) }
     ensures status { result ≤ 3 }
     // The fault stream has nothing more, the report of `run`, or the line of a stop, and the status is that of what was told.
     ensures told { TellsEnding (F.contents faults.old) (F.contents faults.new) (F.counts faults.old) (F.counts faults.new) result }

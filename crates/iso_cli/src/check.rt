@@ -4,7 +4,7 @@ ghost use Rattle.std.specs.Prelude.{◌≡◌, ◌≢◌, IfErr, IfOk, OnOk, str
 ghost use Rattle.iso_cli.specs.Check.{ChecksOver, table_line};
 ghost use Rattle.iso_cli.specs.Stop.{status_of};
 ghost use Rattle.iso_cli.specs.Refused.{NamesNone};
-ghost use Rattle.iso_cli.specs.declared.stop.Stop.TheVariants.{Words};
+ghost use Rattle.iso_cli.specs.declared.stop.Stop.TheVariants.{TooManyTurns, Words};
 
 use crate::source::Source;
 use crate::stop::Stop;
@@ -32,6 +32,7 @@ pub fn check<S: Source, O: Outlet>(
     ensures line { OnOk result (ChecksOver (S.file source.now) table.now (O.contents output.old) (O.contents output.new)) }
     ensures stop { IfErr result (λ stop. status_of stop ≡ 1 → NamesNone (S.file source.now) table.now stop) }
     ensures words { IfErr result (λ stop. stop ≢ Words) }
+    ensures turns { IfErr result (λ stop. stop ≢ TooManyTurns) }
 {
     let table = table_named(alloc, source, table)?;
     let line = line_of(alloc, &table)?;

@@ -3,17 +3,38 @@
 ghost use Rattle.iso_table.specs.HostReady.{IsHostReady};
 ghost use Rattle.iso_cli.specs.Connections.{Serves};
 ghost use Rattle.iso_cli.specs.OneConnection.{IsConnection, TellsConnectionEnd};
+ghost use Rattle.iso_cli.specs.Turns.{most_turns};
+ghost use Rattle.iso_host.specs.Serving.{Cause, WithinTurns};
 
 use crate::report::write_report;
 use crate::run::MOST_TURNS;
 use crate::stop::{Stop, tell, tell_as};
 use iso_host::laws::one_journal;
-use iso_host::{Outlet, Report, ServeFault, Std, serve};
+use iso_host::{Inlet, Outlet, Report, ServeFault, Std, serve};
 use iso_issuer::Issuer;
 use iso_table::Table;
 use iso_wire::Header;
 use std::alloc::Global;
 use std::net::{TcpListener, TcpStream};
+
+/// Answers the frames of one connection by its two directions, in at most 100,000,000 reads and writes.
+fn serve_directions<R: Inlet, W: Outlet>(
+    alloc: Global,
+    table: &Table,
+    header: Header,
+    issuer: &mut Issuer,
+    reader: &mut R,
+    writer: &mut W,
+) -> Result<Report, ServeFault>
+    requires { IsHostReady table.now }
+    ensures connection { IsConnection table.now issuer.old issuer.new result }
+    ensures within { WithinTurns (R.counts reader.old) (R.counts reader.new)
+        (W.counts writer.old) (W.counts writer.new) most_turns }
+    ensures cause { Cause (R.counts reader.old) (R.counts reader.new)
+        (W.counts writer.old) (W.counts writer.new) most_turns result }
+{
+    serve(alloc, table, header, issuer, reader, writer, MOST_TURNS)
+}
 
 /// Answers the frames of one connection until its peer closes its writing side, or until a fault. Then it is closed.
 fn serve_peer(
@@ -29,14 +50,13 @@ fn serve_peer(
     // An answer then leaves at once, though the one before it may not have arrived. Where the system refuses this,
     // answers only come later.
     let _ = peer.set_nodelay(true);
-    serve(
+    serve_directions(
         alloc,
         table,
         header,
         issuer,
         &mut Std::new(&peer),
         &mut Std::new(&peer),
-        MOST_TURNS,
     )
 }
 

@@ -5,7 +5,7 @@ ghost use Rattle.iso_wire.specs.Reading.{message_at};
 ghost use Rattle.iso_wire.specs.Spelling.{Converts};
 ghost use Rattle.iso_cli.specs.Convert.{ConvertsOver};
 ghost use Rattle.iso_cli.specs.Stop.{status_of};
-ghost use Rattle.iso_cli.specs.declared.stop.Stop.TheVariants.{Memory, Words};
+ghost use Rattle.iso_cli.specs.declared.stop.Stop.TheVariants.{Memory, TooManyTurns, Words};
 ghost use Rattle.iso_cli.specs.Refused.{ConvertStops, rewrite_stop};
 
 use crate::source::Source;
@@ -22,6 +22,7 @@ fn converted_bytes(alloc: Global, from: &Table, to: &Table, bytes: &[u8]) -> Res
     ensures packed { IfOk result (λ packed. Converts from.now to.now bytes.now packed.items) }
     ensures stop { IfErr result (λ stop. stop ≢ Memory → rewrite_stop to.now bytes.now (message_at from.now bytes.now) ≡ Some stop) }
     ensures words { IfErr result (λ stop. stop ≢ Words) }
+    ensures turns { IfErr result (λ stop. stop ≢ TooManyTurns) }
 {
     let (message, used) = unpack(alloc, from, bytes)?;
     if used < bytes.len() {
@@ -44,6 +45,7 @@ pub fn convert<S: Source, I: Inlet, O: Outlet>(
     ensures stop { IfErr result (λ stop. status_of stop ≡ 1
         → ConvertStops (S.file source.now) from.now to.now (I.remaining input.old) stop) }
     ensures words { IfErr result (λ stop. stop ≢ Words) }
+    ensures turns { IfErr result (λ stop. stop ≢ TooManyTurns) }
 {
     let from = table_named(alloc, source, from)?;
     let to = table_named(alloc, source, to)?;

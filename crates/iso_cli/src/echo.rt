@@ -5,7 +5,7 @@ ghost use Rattle.iso_wire.specs.Reading.{message_at};
 ghost use Rattle.iso_order.specs.Verdict.{verdict};
 ghost use Rattle.iso_cli.specs.Echo.{Answers, Echoes, EchoesOver, answer_line};
 ghost use Rattle.iso_cli.specs.Stop.{status_of};
-ghost use Rattle.iso_cli.specs.declared.stop.Stop.TheVariants.{Memory, Words};
+ghost use Rattle.iso_cli.specs.declared.stop.Stop.TheVariants.{Memory, TooManyTurns, Words};
 ghost use Rattle.iso_cli.specs.Refused.{EchoStops, echo_stop, reply_stop};
 
 use crate::describe::shown_lines;
@@ -22,6 +22,7 @@ fn answer_bytes(alloc: Global, table: &Table, message: &Message) -> Result<Vec<u
     ensures answer { IfOk result (λ answer. Answers table.now message.now answer.items) }
     ensures stop { IfErr result (λ stop. stop ≢ Memory → reply_stop table.now message.now (verdict message.now) ≡ Some stop) }
     ensures words { IfErr result (λ stop. stop ≢ Words) }
+    ensures turns { IfErr result (λ stop. stop ≢ TooManyTurns) }
 {
     let Verdict::Reply(code) = order_of(message) else {
         return Ok(Vec::from_slice(alloc, b"none")?);
@@ -44,6 +45,7 @@ fn echo_text(alloc: Global, table: &Table, bytes: &[u8]) -> Result<Vec<u8>, Stop
     ensures text { IfOk result (λ text. Echoes table.now bytes.now text.items) }
     ensures stop { IfErr result (λ stop. stop ≢ Memory → echo_stop table.now (message_at table.now bytes.now) ≡ Some stop) }
     ensures words { IfErr result (λ stop. stop ≢ Words) }
+    ensures turns { IfErr result (λ stop. stop ≢ TooManyTurns) }
 {
     let (message, used) = unpack(alloc, table, bytes)?;
     let mut text = shown_lines(alloc, table, &message, used, bytes.len(), false)?;
@@ -58,6 +60,7 @@ pub fn echo<I: Inlet, O: Outlet>(alloc: Global, input: &mut I, output: &mut O) -
     ensures text { OnOk result (EchoesOver (I.remaining input.old) (O.contents output.old) (O.contents output.new)) }
     ensures stop { IfErr result (λ stop. status_of stop ≡ 1 → EchoStops (I.remaining input.old) stop) }
     ensures words { IfErr result (λ stop. stop ≢ Words) }
+    ensures turns { IfErr result (λ stop. stop ≢ TooManyTurns) }
 {
     let bytes = read_input(alloc, input)?;
     let table = Table::ascii87(alloc)?;

@@ -1,11 +1,13 @@
 //! The issuer host on a stream: frames in, the frames of their responses out.
 
-ghost use Rattle.std.specs.Prelude.{◌≡◌, ◌≢◌, IfErr, IfOk, IfSome, OnOk};
+ghost use Rattle.std.specs.Prelude.{◌≡◌, ◌≢◌, IfErr, IfOk, IfSome};
 ghost use Rattle.iso_issuer.specs.Document.{ListsAccounts};
+ghost use Rattle.iso_host.specs.Serving.{TookTurns, WithinTurns};
 ghost use Rattle.iso_table.specs.HostReady.{IsHostReady};
 ghost use Rattle.iso_cli.specs.Run.{RunsOver};
 ghost use Rattle.iso_cli.specs.Tables.{IsNamed};
-ghost use Rattle.iso_cli.specs.declared.stop.Stop.TheVariants.{Words};
+ghost use Rattle.iso_cli.specs.Turns.{most_turns};
+ghost use Rattle.iso_cli.specs.declared.stop.Stop.TheVariants.{TooManyTurns, Words};
 
 use crate::documents::document_at;
 use crate::source::Source;
@@ -25,6 +27,7 @@ pub fn host_table<S: Source>(alloc: Global, source: &S, word: &str) -> Result<Ta
     ensures named { IfOk result (IsNamed (S.file source.now) word.now) }
     ensures ready { IfOk result IsHostReady }
     ensures words { IfErr result (λ stop. stop ≢ Words) }
+    ensures turns { IfErr result (λ stop. stop ≢ TooManyTurns) }
 {
     let table = table_named(alloc, source, word)?;
     table.host_ready()?;
@@ -35,6 +38,7 @@ pub fn host_table<S: Source>(alloc: Global, source: &S, word: &str) -> Result<Ta
 pub fn accounts_at<S: Source>(alloc: Global, source: &S, path: &str) -> Result<Accounts, Stop>
     ensures accounts { IfOk result (λ accounts. IfSome (S.file source.now path.now) (λ text. ListsAccounts text accounts)) }
     ensures words { IfErr result (λ stop. stop ≢ Words) }
+    ensures turns { IfErr result (λ stop. stop ≢ TooManyTurns) }
 {
     let text = document_at(alloc, source, path)?;
     Ok(Accounts::from_json(alloc, &text)?)
@@ -50,9 +54,14 @@ pub fn run<S: Source, I: Inlet, O: Outlet>(
     input: &mut I,
     output: &mut O,
 ) -> Result<Report, Stop>
-    ensures output { OnOk result (RunsOver (S.file source.now) table.now accounts.now header
+    ensures output { IfOk result (RunsOver (S.file source.now) table.now accounts.now header
         (I.remaining input.old) (O.contents output.old) (O.contents output.new)) }
     ensures words { IfErr result (λ stop. stop ≢ Words) }
+    // However it ends, the reads and writes together are at most 100,000,000. They are too many only after so many.
+    ensures within { WithinTurns (I.counts input.old) (I.counts input.new)
+        (O.counts output.old) (O.counts output.new) most_turns }
+    ensures turns { IfErr result (λ stop. stop ≡ TooManyTurns → TookTurns (I.counts input.old) (I.counts input.new)
+        (O.counts output.old) (O.counts output.new) most_turns) }
 {
     let table = host_table(alloc, source, table)?;
     let accounts = accounts_at(alloc, source, accounts)?;

@@ -4,7 +4,7 @@ ghost use Rattle.std.specs.Prelude.{◌≡◌, ◌≢◌, IfErr, IfOk, OnOk, Som
 ghost use Rattle.iso_wire.specs.Reading.{message_at};
 ghost use Rattle.iso_cli.specs.Show.{Shows, ShowsOver};
 ghost use Rattle.iso_cli.specs.Stop.{status_of};
-ghost use Rattle.iso_cli.specs.declared.stop.Stop.TheVariants.{Memory, Words};
+ghost use Rattle.iso_cli.specs.declared.stop.Stop.TheVariants.{Memory, TooManyTurns, Words};
 ghost use Rattle.iso_cli.specs.Refused.{ShowStops, read_stop};
 
 use crate::describe::shown_lines;
@@ -22,6 +22,7 @@ fn first_lines(alloc: Global, table: &Table, clear: bool, bytes: &[u8]) -> Resul
     ensures lines { IfOk result (λ lines. Shows table.now clear bytes.now lines.items) }
     ensures stop { IfErr result (λ stop. stop ≢ Memory → read_stop (message_at table.now bytes.now) ≡ Some stop) }
     ensures words { IfErr result (λ stop. stop ≢ Words) }
+    ensures turns { IfErr result (λ stop. stop ≢ TooManyTurns) }
 {
     let (message, used) = unpack(alloc, table, bytes)?;
     Ok(shown_lines(alloc, table, &message, used, bytes.len(), clear)?)
@@ -40,6 +41,7 @@ pub fn show<S: Source, I: Inlet, O: Outlet>(
         (I.remaining input.old) (O.contents output.old) (O.contents output.new)) }
     ensures stop { IfErr result (λ stop. status_of stop ≡ 1 → ShowStops (S.file source.now) table.now (I.remaining input.old) stop) }
     ensures words { IfErr result (λ stop. stop ≢ Words) }
+    ensures turns { IfErr result (λ stop. stop ≢ TooManyTurns) }
 {
     let table = table_named(alloc, source, table)?;
     let bytes = read_input(alloc, input)?;

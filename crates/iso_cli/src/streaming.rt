@@ -1,10 +1,11 @@
 //! A whole input.
-ghost use Rattle.std.specs.Prelude.{◌≡◌, ◌≢◌, ◌≤◌, ◌<◌, IfErr, IfOk, IfSome, OnOk, IsErrOf, vec_len, length};
+ghost use Rattle.std.specs.Prelude.{◌≡◌, ◌≢◌, ◌+◌, ◌≤◌, ◌<◌, IfErr, IfOk, IfSome, OnOk, IsErrOf, vec_len, length};
 ghost use Rattle.std.specs.Io.KnownBytes.{Appends, Consumes, IsAtEnd};
 ghost use Rattle.iso_cli.specs.Stop.{status_of};
 ghost use Rattle.iso_cli.specs.Streaming.{ReadCause};
 ghost use Rattle.iso_cli.specs.Refused.{IsTooLong};
-ghost use Rattle.iso_cli.specs.declared.stop.Stop.TheVariants.{Words, Write};
+ghost use Rattle.iso_cli.specs.Turns.{most_reads};
+ghost use Rattle.iso_cli.specs.declared.stop.Stop.TheVariants.{TooManyTurns, Words, Write};
 
 use crate::source::MOST_BYTES;
 use crate::stop::Stop;
@@ -33,6 +34,7 @@ pub fn read_all<I: Inlet>(alloc: Global, input: &mut I, turns: u32) -> Result<Ve
     ensures bound { IfOk result (λ bytes. vec_len bytes ≤ 1048576) }
     ensures too_long { IsErrOf result InputFault.TooLong → IfSome (I.remaining input.old) (λ all. 1048576 < length all) }
     ensures cause { ReadCause (I.counts input.old) (I.counts input.new) turns result }
+    ensures reads { (I.counts input.new).calls ≤ (I.counts input.old).calls + turns }
 {
     let mut bytes = Vec::new(alloc);
     let mut chunk = [0u8; 4096];
@@ -59,8 +61,12 @@ const MOST_READS: u32 = 2_000_000;
 /// Reads the command's input to its end.
 pub fn read_input<I: Inlet>(alloc: Global, input: &mut I) -> Result<Vec<u8>, Stop>
     ensures bytes { IfOk result (λ bytes. IfSome (I.remaining input.old) (λ all. all ≡ bytes.items)) }
+    ensures bound { IfOk result (λ bytes. vec_len bytes ≤ 1048576) }
     ensures stop { IfErr result (λ stop. status_of stop ≡ 1 → IsTooLong (I.remaining input.old) stop) }
     ensures words { IfErr result (λ stop. stop ≢ Words) }
+    // It takes at most 2,000,000 reads. They always suffice: each but the last gives a byte, and more bytes are too long.
+    ensures reads { (I.counts input.new).calls ≤ (I.counts input.old).calls + most_reads }
+    ensures turns { IfErr result (λ stop. stop ≢ TooManyTurns) }
 {
     match read_all(alloc, input, MOST_READS) {
         Ok(bytes) => Ok(bytes),

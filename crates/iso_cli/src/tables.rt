@@ -5,7 +5,7 @@ ghost use Rattle.iso_table.specs.Document.{IsTableOf};
 ghost use Rattle.iso_cli.specs.Stop.{status_of};
 ghost use Rattle.iso_cli.specs.Tables.{IsNamed};
 ghost use Rattle.iso_cli.specs.Refused.{HoldsNone, NamesNone};
-ghost use Rattle.iso_cli.specs.declared.stop.Stop.TheVariants.{Words};
+ghost use Rattle.iso_cli.specs.declared.stop.Stop.TheVariants.{TooManyTurns, Words};
 
 use crate::documents::document_at;
 use crate::source::Source;
@@ -18,6 +18,7 @@ fn table_at<S: Source>(alloc: Global, source: &S, path: &str) -> Result<Table, S
     ensures ok { IfOk result (λ table. IfSome (S.file source.now path.now) (λ text. IsTableOf text table)) }
     ensures stop { IfErr result (λ stop. status_of stop ≡ 1 → IfSome (S.file source.now path.now) (λ held. HoldsNone held stop)) }
     ensures words { IfErr result (λ stop. stop ≢ Words) }
+    ensures turns { IfErr result (λ stop. stop ≢ TooManyTurns) }
 {
     let text = document_at(alloc, source, path)?;
     Ok(Table::from_json(alloc, &text)?)
@@ -28,6 +29,7 @@ pub fn table_named<S: Source>(alloc: Global, source: &S, word: &str) -> Result<T
     ensures ok { IfOk result (IsNamed (S.file source.now) word.now) }
     ensures stop { IfErr result (λ stop. status_of stop ≡ 1 → NamesNone (S.file source.now) word.now stop) }
     ensures words { IfErr result (λ stop. stop ≢ Words) }
+    ensures turns { IfErr result (λ stop. stop ≢ TooManyTurns) }
 {
     if word == "ascii87" {
         return Ok(Table::ascii87(alloc)?);

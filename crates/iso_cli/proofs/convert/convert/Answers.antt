@@ -4,7 +4,7 @@ use Rattle.std.specs.Io.KnownBytes.{Appends}
 use Rattle.iso_table.specs.Layout.{Layout}
 use Rattle.iso_cli.specs.Tables.{IsNamed}
 use Rattle.iso_wire.specs.Spelling.{Converts}
-use Rattle.iso_cli.proofs.RefusedLemmas.{handed_ok, handed_words, write_stops, write_words}
+use Rattle.iso_cli.proofs.RefusedLemmas.{handed_ok, handed_turns, handed_words, write_stops, write_turns, write_words}
 use Rattle.iso_cli.proofs.StreamingLemmas.{known_all, where_ok}
 use Rattle.iso_cli.proofs.convert.convert.Goals as goal
 
@@ -46,11 +46,17 @@ returns-clause-stop g c = write_stops c.write_output.result _ c.write_output.ens
 pub returns-in_err-from-clause-words : goal.returns-in_err-from-clause-words
 returns-in_err-from-clause-words g c = handed_words _ _ (err_from_is_err_and c.from_residual.result c.from_residual.ensures.1) c.in_err-from.ensures.words
 
+pub returns-in_err-from-clause-turns : goal.returns-in_err-from-clause-turns
+returns-in_err-from-clause-turns g c = handed_turns _ _ (err_from_is_err_and c.from_residual.result c.from_residual.ensures.1) c.in_err-from.ensures.turns
+
 pub returns-in_err-from-clause-packed : goal.returns-in_err-from-clause-packed
 returns-in_err-from-clause-packed g c = handed_ok _ _ (err_from_is_err_and c.from_residual.result c.from_residual.ensures.1) _
 
 pub returns-in_err-to-clause-words : goal.returns-in_err-to-clause-words
 returns-in_err-to-clause-words g c = handed_words _ _ (err_from_is_err_and c.from_residual-in_err-to.result c.from_residual-in_err-to.ensures.1) c.in_err-to.ensures.words
+
+pub returns-in_err-to-clause-turns : goal.returns-in_err-to-clause-turns
+returns-in_err-to-clause-turns g c = handed_turns _ _ (err_from_is_err_and c.from_residual-in_err-to.result c.from_residual-in_err-to.ensures.1) c.in_err-to.ensures.turns
 
 pub returns-in_err-to-clause-packed : goal.returns-in_err-to-clause-packed
 returns-in_err-to-clause-packed g c = handed_ok _ _ (err_from_is_err_and c.from_residual-in_err-to.result c.from_residual-in_err-to.ensures.1) _
@@ -58,14 +64,23 @@ returns-in_err-to-clause-packed g c = handed_ok _ _ (err_from_is_err_and c.from_
 pub returns-in_err-bytes-clause-words : goal.returns-in_err-bytes-clause-words
 returns-in_err-bytes-clause-words g c = handed_words _ _ (err_from_is_err_and c.from_residual-in_err-bytes.result c.from_residual-in_err-bytes.ensures.1) c.in_err-bytes.ensures.words
 
+pub returns-in_err-bytes-clause-turns : goal.returns-in_err-bytes-clause-turns
+returns-in_err-bytes-clause-turns g c = handed_turns _ _ (err_from_is_err_and c.from_residual-in_err-bytes.result c.from_residual-in_err-bytes.ensures.1) c.in_err-bytes.ensures.turns
+
 pub returns-in_err-bytes-clause-packed : goal.returns-in_err-bytes-clause-packed
 returns-in_err-bytes-clause-packed g c = handed_ok _ _ (err_from_is_err_and c.from_residual-in_err-bytes.result c.from_residual-in_err-bytes.ensures.1) _
 
 pub returns-in_err-packed-clause-words : goal.returns-in_err-packed-clause-words
 returns-in_err-packed-clause-words g c = handed_words _ _ (err_from_is_err_and c.from_residual-in_err-packed.result c.from_residual-in_err-packed.ensures.1) c.in_err-packed.ensures.words
 
+pub returns-in_err-packed-clause-turns : goal.returns-in_err-packed-clause-turns
+returns-in_err-packed-clause-turns g c = handed_turns _ _ (err_from_is_err_and c.from_residual-in_err-packed.result c.from_residual-in_err-packed.ensures.1) c.in_err-packed.ensures.turns
+
 pub returns-in_err-packed-clause-packed : goal.returns-in_err-packed-clause-packed
 returns-in_err-packed-clause-packed g c = handed_ok _ _ (err_from_is_err_and c.from_residual-in_err-packed.result c.from_residual-in_err-packed.ensures.1) _
 
 pub returns-clause-words : goal.returns-clause-words
 returns-clause-words g c = write_words c.write_output.result c.write_output.ensures.stop
+
+pub returns-clause-turns : goal.returns-clause-turns
+returns-clause-turns g c = write_turns c.write_output.result c.write_output.ensures.stop

@@ -19,4 +19,4 @@ returns-in-Ok-clause-output g c =
     let whole : Leaves table c.args.header unread left held written (fresh_books accounts) c.serve.new.issuer (Ok c.in-Ok.report) =
     subst (λ (b : Books). Leaves table c.args.header unread left held written b c.serve.new.issuer (Ok c.in-Ok.report)) c.new-issuer.ensures c.in-Ok.ensures.leaves in
     runs_over (g.S.Source.file c.args.source.now) c.args.table.now c.args.accounts.now table accounts c.args.header unread left held written
-    c.serve.new.issuer whole.0 whole.1 c.in_ok-table.ensures.named c.in_ok-table.ensures.ready c.in_ok-accounts.ensures.accounts whole.2 whole.4.0 whole.4.1
+    c.serve.new.issuer c.in-Ok.report whole.0 whole.1 c.in_ok-table.ensures.named c.in_ok-table.ensures.ready c.in_ok-accounts.ensures.accounts whole.2 whole.4.0 whole.4.1 whole.4.2

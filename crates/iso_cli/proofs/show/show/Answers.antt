@@ -4,7 +4,7 @@ use Rattle.std.specs.Io.KnownBytes.{Appends}
 use Rattle.iso_table.specs.Layout.{Layout}
 use Rattle.iso_cli.specs.Tables.{IsNamed}
 use Rattle.iso_cli.specs.Show.{Shows}
-use Rattle.iso_cli.proofs.RefusedLemmas.{handed_ok, handed_words, write_stops, write_words}
+use Rattle.iso_cli.proofs.RefusedLemmas.{handed_ok, handed_turns, handed_words, write_stops, write_turns, write_words}
 use Rattle.iso_cli.proofs.StreamingLemmas.{known_all, where_ok}
 use Rattle.iso_cli.proofs.show.show.Goals as goal
 
@@ -40,11 +40,17 @@ returns-clause-stop g c = write_stops c.write_output.result _ c.write_output.ens
 pub returns-in_err-table-clause-words : goal.returns-in_err-table-clause-words
 returns-in_err-table-clause-words g c = handed_words _ _ (err_from_is_err_and c.from_residual.result c.from_residual.ensures.1) c.in_err-table.ensures.words
 
+pub returns-in_err-table-clause-turns : goal.returns-in_err-table-clause-turns
+returns-in_err-table-clause-turns g c = handed_turns _ _ (err_from_is_err_and c.from_residual.result c.from_residual.ensures.1) c.in_err-table.ensures.turns
+
 pub returns-in_err-table-clause-lines : goal.returns-in_err-table-clause-lines
 returns-in_err-table-clause-lines g c = handed_ok _ _ (err_from_is_err_and c.from_residual.result c.from_residual.ensures.1) _
 
 pub returns-in_err-bytes-clause-words : goal.returns-in_err-bytes-clause-words
 returns-in_err-bytes-clause-words g c = handed_words _ _ (err_from_is_err_and c.from_residual-in_err-bytes.result c.from_residual-in_err-bytes.ensures.1) c.in_err-bytes.ensures.words
+
+pub returns-in_err-bytes-clause-turns : goal.returns-in_err-bytes-clause-turns
+returns-in_err-bytes-clause-turns g c = handed_turns _ _ (err_from_is_err_and c.from_residual-in_err-bytes.result c.from_residual-in_err-bytes.ensures.1) c.in_err-bytes.ensures.turns
 
 pub returns-in_err-bytes-clause-lines : goal.returns-in_err-bytes-clause-lines
 returns-in_err-bytes-clause-lines g c = handed_ok _ _ (err_from_is_err_and c.from_residual-in_err-bytes.result c.from_residual-in_err-bytes.ensures.1) _
@@ -52,8 +58,14 @@ returns-in_err-bytes-clause-lines g c = handed_ok _ _ (err_from_is_err_and c.fro
 pub returns-in_err-lines-clause-words : goal.returns-in_err-lines-clause-words
 returns-in_err-lines-clause-words g c = handed_words _ _ (err_from_is_err_and c.from_residual-in_err-lines.result c.from_residual-in_err-lines.ensures.1) c.in_err-lines.ensures.words
 
+pub returns-in_err-lines-clause-turns : goal.returns-in_err-lines-clause-turns
+returns-in_err-lines-clause-turns g c = handed_turns _ _ (err_from_is_err_and c.from_residual-in_err-lines.result c.from_residual-in_err-lines.ensures.1) c.in_err-lines.ensures.turns
+
 pub returns-in_err-lines-clause-lines : goal.returns-in_err-lines-clause-lines
 returns-in_err-lines-clause-lines g c = handed_ok _ _ (err_from_is_err_and c.from_residual-in_err-lines.result c.from_residual-in_err-lines.ensures.1) _
 
 pub returns-clause-words : goal.returns-clause-words
 returns-clause-words g c = write_words c.write_output.result c.write_output.ensures.stop
+
+pub returns-clause-turns : goal.returns-clause-turns
+returns-clause-turns g c = write_turns c.write_output.result c.write_output.ensures.stop

@@ -14,6 +14,7 @@ loop-preserved g c =
     record {
       consumed = read_more _ _ _ _ _ _ _ kept.consumed read.bytes.0 c.extend_from_slice.ensures.items went;
       bound = omega (arith, more, kept.bound, c.if-count-len.false, c.len.ensures);
+      each = omega (arith, more, kept.each, c.if-count-eq0.false);
       gave = gave_more _ _ _ _ _ _ kept.gave read.counts more;
       calls = omega (arith, calls, kept.calls);
     }
@@ -29,4 +30,5 @@ returns-then-count-len g c =
       bound = tt;
       too_long = λ is. read_long _ _ _ _ _ kept.consumed read.bytes.0 (omega (arith, read.bound.1, c.loop.bytes.ok, c.if-count-len.true, c.len.ensures));
       cause = (gave.failures, omega (arith, gave.moved, c.if-count-len.true, c.len.ensures));
+      reads = omega (arith, ap (λ (x : Counts). x.calls) read.counts, kept.calls, c.loop-test.true);
     }

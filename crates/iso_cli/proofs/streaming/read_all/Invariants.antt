@@ -8,5 +8,6 @@ invariant-loop g l = record {
   consumed : Consumes (g.I.Inlet.remaining l.initial.input) (g.I.Inlet.remaining l.input) l.bytes.items;
   bound : vec_len l.bytes ≤ 1048576;
   gave : Gave (g.I.Inlet.counts l.initial.input) (g.I.Inlet.counts l.input) (vec_len l.bytes);
+  each : l.counter ≤ vec_len l.bytes;
   calls : (g.I.Inlet.counts l.input).calls ≡ (g.I.Inlet.counts l.initial.input).calls + l.counter;
 }
