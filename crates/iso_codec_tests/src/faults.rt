@@ -356,5 +356,8 @@ fn faults_have_numbers_and_texts(rt: HostRuntime) -> Result<(), Fail> {
     for (name, numbered, number, text) in NUMBERS {
         check(is_numbered(rt.alloc(), numbered, *number, *text), *name)?;
     }
-    check(is_shown(rt.alloc(), &NoMemory, "memory ran out"), "no memory")
+    check(
+        is_shown(rt.alloc(), &NoMemory, "memory ran out"),
+        "no memory",
+    )
 }
