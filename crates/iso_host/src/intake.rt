@@ -51,6 +51,7 @@ fn whole_message(
 
 /// Feeds the next bytes of a body to the unpacker. Once they tell what the body is, the unpacker stands at the start of
 /// a message again.
+#[inline(always)]
 fn feed_piece(
     alloc: Global,
     unpacker: &mut Unpacker<'_>,

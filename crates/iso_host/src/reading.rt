@@ -92,7 +92,6 @@ fn read_header<R: Inlet>(
 }
 
 /// Passes over the next bytes, so many of them.
-#[inline(always)]
 fn pass_over<R: Inlet>(
     count: usize,
     window: &mut Window,
