@@ -84,6 +84,7 @@ macro_rules! shows {
     };
 }
 
+mod balances;
 mod days;
 mod documents;
 mod holds;
