@@ -51,7 +51,6 @@ fn whole_message(
 
 /// Feeds the next bytes of a body to the unpacker. Once they tell what the body is, the unpacker stands at the start of
 /// a message again.
-#[inline(always)]
 fn feed_piece(
     alloc: Global,
     unpacker: &mut Unpacker<'_>,
@@ -134,7 +133,6 @@ impl<'t> Intake<'t> {
 
     /// Takes the next bytes of a body. Once they tell what the body is, the intake stands at the start of a message
     /// again.
-    #[inline(always)]
     pub fn feed(&mut self, piece: &[u8], is_last: bool) -> Result<Progress, NoMemory>
         requires none { self.old.stopped ≡ None }
         requires bytes { AreBytes self.old.taken }

@@ -2,7 +2,6 @@
 
 ghost use Rattle.std.specs.Prelude.{◌≡◌, ℕ, ◌≤◌, ◌-◌, ◌++◌, [], take, length, IfOk};
 ghost use Rattle.iso_table.specs.Layout.{AreGood};
-ghost use Rattle.iso_table.specs.Sizes.{max_bytes};
 ghost use Rattle.iso_wire.specs.Unpacker.{Feeds, FoundFed, StopsFed};
 ghost use Rattle.iso_wire.specs.Taking.{IsRead, IsBuilt, KeepsTaken, IsReadyAfter};
 ghost use Rattle.iso_wire.specs.declared.fault.UnpackCause.{UnpackCause};
@@ -46,13 +45,15 @@ fn build(
 fn take_first(
     alloc: Global,
     table: &Table,
+    point: &mut ResumePoint,
     taken: &mut Vec<u8>,
     piece: &[u8],
-) -> (ResumePoint, Result<Fed, UnpackFault>)
-    requires { taken.old.items ≡ [] }
-    ensures exact { Feeds (length taken.old.items) result.1 (message_at table.now (taken.old.items ++ piece.now)) }
-    ensures kept { KeepsTaken taken.old.items taken.new.items piece.now result.1 }
-    ensures resumed { IsResumed table.now result.0 taken.new.items }
+) -> Result<Fed, UnpackFault>
+    requires empty { taken.old.items ≡ [] }
+    requires resumed { IsResumed table.now point.old taken.old.items }
+    ensures exact { Feeds (length taken.old.items) result (message_at table.now (taken.old.items ++ piece.now)) }
+    ensures kept { KeepsTaken taken.old.items taken.new.items piece.now result }
+    ensures resumed { IsResumed table.now point.new taken.new.items }
     ensures good { AreGood table.now.rows }
 {
     // any call on the table tells the proof that its rows are good
@@ -60,143 +61,176 @@ fn take_first(
     let (reached, read) = judge_from(table, ResumePoint::Type, piece);
     if let Err(fault) = read {
         if fault.cause != UnpackCause::Short {
-            return (ResumePoint::Type, Err(fault));
+            return Err(fault);
         }
         if taken.extend_from_slice(piece).is_err() {
-            return (ResumePoint::Type, Err(UnpackFault::memory()));
+            return Err(UnpackFault::memory());
         }
-        return (reached, Ok(Fed::More));
+        *point = reached;
+        return Ok(Fed::More);
     }
     match build(alloc, table, 0, piece) {
-        Ok((message, used)) => (ResumePoint::Type, Ok(Fed::Done { message, used })),
-        Err(fault) => (ResumePoint::Type, Err(fault)),
+        Ok((message, used)) => Ok(Fed::Done { message, used }),
+        Err(fault) => Err(fault),
     }
 }
 
 /// Takes a further piece behind the bytes that were taken before it: they are judged from the point on.
+#[inline(always)]
 fn take_next(
     alloc: Global,
     table: &Table,
-    point: ResumePoint,
+    point: &mut ResumePoint,
     taken: &mut Vec<u8>,
     piece: &[u8],
-) -> (ResumePoint, Result<Fed, UnpackFault>)
+) -> Result<Fed, UnpackFault>
     requires short { IsShort (message_at table.now taken.old.items) }
-    requires resumed { IsResumed table.now point taken.old.items }
-    ensures exact { Feeds (length taken.old.items) result.1 (message_at table.now (taken.old.items ++ piece.now)) }
-    ensures kept { KeepsTaken taken.old.items taken.new.items piece.now result.1 }
-    ensures resumed { IsResumed table.now result.0 taken.new.items }
+    requires resumed { IsResumed table.now point.old taken.old.items }
+    ensures exact { Feeds (length taken.old.items) result (message_at table.now (taken.old.items ++ piece.now)) }
+    ensures kept { KeepsTaken taken.old.items taken.new.items piece.now result }
+    ensures resumed { IsResumed table.now point.new taken.new.items }
     ensures good { AreGood table.now.rows }
 {
     // any call on the table tells the proof that its rows are good
     let _version = table.version();
     let before = taken.len();
     if taken.extend_from_slice(piece).is_err() {
-        return (point, Err(UnpackFault::memory()));
+        return Err(UnpackFault::memory());
     }
-    let (reached, read) = judge_from(table, point, taken);
+    let (reached, read) = judge_from(table, *point, taken);
     if let Err(fault) = read {
         if fault.cause == UnpackCause::Short {
-            return (reached, Ok(Fed::More));
+            *point = reached;
+            return Ok(Fed::More);
         }
         taken.clear();
-        return (ResumePoint::Type, Err(fault));
+        *point = ResumePoint::Type;
+        return Err(fault);
     }
     match build(alloc, table, before, taken) {
         Ok((message, used)) => {
             taken.clear();
-            (ResumePoint::Type, Ok(Fed::Done { message, used }))
+            *point = ResumePoint::Type;
+            Ok(Fed::Done { message, used })
         }
         Err(fault) => {
             taken.truncate(before);
-            (point, Err(fault))
+            Err(fault)
         }
     }
 }
 
-/// The first bytes, at most so many.
-fn first_bytes(most: usize, bytes: &[u8]) -> &[u8]
-    ensures { result.now ≡ take most bytes.now }
-{
-    if bytes.len() <= most {
-        bytes
-    } else {
-        &bytes[..most]
-    }
-}
-
-/// Takes a further piece as [`take_next`] does, but at most as many of its bytes as a message can have behind those that
-/// were taken: a piece that is longer wants no memory for what follows the message.
-fn take_front(
+/// Takes a further piece for which there isn't room behind the bytes that were taken before it. Each part of it fills the
+/// room that is there, and is judged before more is taken: so room is taken for bytes of the message alone.
+#[cold]
+fn take_parts(
     alloc: Global,
     table: &Table,
-    most: usize,
-    point: ResumePoint,
+    point: &mut ResumePoint,
     taken: &mut Vec<u8>,
     piece: &[u8],
-) -> (ResumePoint, Result<Fed, UnpackFault>)
-    requires most { most ≡ max_bytes table.now }
+) -> Result<Fed, UnpackFault>
     requires short { IsShort (message_at table.now taken.old.items) }
-    requires resumed { IsResumed table.now point taken.old.items }
-    ensures exact { Feeds (length taken.old.items) result.1 (message_at table.now (taken.old.items ++ piece.now)) }
-    ensures kept { KeepsTaken taken.old.items taken.new.items piece.now result.1 }
-    ensures resumed { IsResumed table.now result.0 taken.new.items }
+    requires resumed { IsResumed table.now point.old taken.old.items }
+    ensures exact { Feeds (length taken.old.items) result (message_at table.now (taken.old.items ++ piece.now)) }
+    ensures kept { KeepsTaken taken.old.items taken.new.items piece.now result }
+    ensures resumed { IsResumed table.now point.new taken.new.items }
     ensures good { AreGood table.now.rows }
 {
     reads_spellings();
-    iso_parts::laws::parts();
     are_bytes(taken);
-    let front = first_bytes(most.saturating_sub(taken.len()), piece);
-    take_next(alloc, table, point, taken, front)
+    let start = *point;
+    let held = taken.len();
+    let room = (taken.capacity() - held).max(1);
+    if piece.len() <= room {
+        return take_next(alloc, table, point, taken, piece);
+    }
+    let (front, rest) = piece.split_at(room);
+    match take_next(alloc, table, point, taken, front) {
+        Ok(Fed::More) => match take_parts(alloc, table, point, taken, rest) {
+            Ok(Fed::More) => Ok(Fed::More),
+            Ok(Fed::Done { message, used }) => {
+                let used = room + used;
+                Ok(Fed::Done { message, used })
+            }
+            Err(fault) => {
+                if fault.cause == UnpackCause::Memory {
+                    taken.truncate(held);
+                    *point = start;
+                }
+                Err(fault)
+            }
+        },
+        Ok(Fed::Done { message, used }) => Ok(Fed::Done { message, used }),
+        Err(fault) => Err(fault),
+    }
+}
+
+/// Takes a further piece behind the bytes that were taken before it.
+fn take_further(
+    alloc: Global,
+    table: &Table,
+    point: &mut ResumePoint,
+    taken: &mut Vec<u8>,
+    piece: &[u8],
+) -> Result<Fed, UnpackFault>
+    requires short { IsShort (message_at table.now taken.old.items) }
+    requires resumed { IsResumed table.now point.old taken.old.items }
+    ensures exact { Feeds (length taken.old.items) result (message_at table.now (taken.old.items ++ piece.now)) }
+    ensures kept { KeepsTaken taken.old.items taken.new.items piece.now result }
+    ensures resumed { IsResumed table.now point.new taken.new.items }
+    ensures good { AreGood table.now.rows }
+{
+    if piece.len() <= taken.capacity() - taken.len() {
+        take_next(alloc, table, point, taken, piece)
+    } else {
+        take_parts(alloc, table, point, taken, piece)
+    }
 }
 
 /// What [`take`] does.
 fn take_piece(
     alloc: Global,
     table: &Table,
-    most: usize,
-    point: ResumePoint,
+    point: &mut ResumePoint,
     taken: &mut Vec<u8>,
     piece: &[u8],
-) -> (ResumePoint, Result<Fed, UnpackFault>)
-    requires most { most ≡ max_bytes table.now }
+) -> Result<Fed, UnpackFault>
     requires short { IsShort (message_at table.now taken.old.items) }
-    requires resumed { IsResumed table.now point taken.old.items }
-    ensures exact { Feeds (length taken.old.items) result.1 (message_at table.now (taken.old.items ++ piece.now)) }
-    ensures kept { KeepsTaken taken.old.items taken.new.items piece.now result.1 }
-    ensures resumed { IsResumed table.now result.0 taken.new.items }
+    requires resumed { IsResumed table.now point.old taken.old.items }
+    ensures exact { Feeds (length taken.old.items) result (message_at table.now (taken.old.items ++ piece.now)) }
+    ensures kept { KeepsTaken taken.old.items taken.new.items piece.now result }
+    ensures resumed { IsResumed table.now point.new taken.new.items }
     ensures good { AreGood table.now.rows }
 {
     if taken.is_empty() {
-        take_first(alloc, table, taken, piece)
+        take_first(alloc, table, point, taken, piece)
     } else {
-        take_front(alloc, table, most, point, taken, piece)
+        take_further(alloc, table, point, taken, piece)
     }
 }
 
-/// Takes a piece behind the bytes that were taken before it. A message has at most `most` bytes under the table.
+/// Takes a piece behind the bytes that were taken before it, which are judged up to the point.
 pub(crate) fn take(
     alloc: Global,
     table: &Table,
-    most: usize,
-    point: ResumePoint,
+    point: &mut ResumePoint,
     taken: &mut Vec<u8>,
     piece: &[u8],
-) -> (ResumePoint, Result<Fed, UnpackFault>)
-    requires most { most ≡ max_bytes table.now }
+) -> Result<Fed, UnpackFault>
     requires short { IsShort (message_at table.now taken.old.items) }
-    requires resumed { IsResumed table.now point taken.old.items }
-    ensures exact { Feeds (length taken.old.items) result.1 (message_at table.now (taken.old.items ++ piece.now)) }
-    ensures kept { KeepsTaken taken.old.items taken.new.items piece.now result.1 }
-    ensures resumed { IsResumed table.now result.0 taken.new.items }
-    ensures ready { IsReadyAfter table.now taken.new.items result.1 }
-    ensures found { FoundFed table.now (length taken.old.items) (taken.old.items ++ piece.now) result.1 }
-    ensures stops { StopsFed table.now (taken.old.items ++ piece.now) result.1 }
+    requires resumed { IsResumed table.now point.old taken.old.items }
+    ensures exact { Feeds (length taken.old.items) result (message_at table.now (taken.old.items ++ piece.now)) }
+    ensures kept { KeepsTaken taken.old.items taken.new.items piece.now result }
+    ensures resumed { IsResumed table.now point.new taken.new.items }
+    ensures ready { IsReadyAfter table.now taken.new.items result }
+    ensures found { FoundFed table.now (length taken.old.items) (taken.old.items ++ piece.now) result }
+    ensures stops { StopsFed table.now (taken.old.items ++ piece.now) result }
     ensures told { (at element : ℕ) (cause : UnpackCause) → Stops table.now (taken.old.items ++ piece.now) at element cause
-        → Feeds (length taken.old.items) result.1 (halt element at cause) }
+        → Feeds (length taken.old.items) result (halt element at cause) }
 {
     reads_spellings();
     stops();
     are_bytes(taken);
-    take_piece(alloc, table, most, point, taken, piece)
+    take_piece(alloc, table, point, taken, piece)
 }

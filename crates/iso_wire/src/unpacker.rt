@@ -40,8 +40,6 @@ pub enum Fed {
 #[derive(Drop)]
 pub struct Unpacker<'t> {
     table: &'t Table,
-    // how many bytes a message has at most, counted once
-    most: usize,
     taken: Vec<u8>,
     point: ResumePoint,
     stopped: Option<UnpackFault>,
@@ -51,17 +49,14 @@ pub struct Unpacker<'t> {
 impl<'t> Model for Unpacker<'t> {
     ghost use Rattle.iso_wire.specs.Unpacker.{Feeding};
     ghost use Rattle.iso_wire.specs.Taking.{IsReady};
+    ghost use Rattle.iso_wire.specs.Judging.{IsResumed};
 
     ghost Value = { Feeding };
 
     ghost view = { λ u. record { table = u.table.now; taken = u.taken.items; stopped = u.stopped } };
 
-    ghost use Rattle.std.specs.Prelude.{◌≡◌};
-    ghost use Rattle.iso_table.specs.Sizes.{max_bytes};
-    ghost use Rattle.iso_wire.specs.Judging.{IsResumed};
-
     ghost invariant = { λ u. IsReady u.table.now u.taken.items u.stopped
-        × IsResumed u.table.now u.point u.taken.items × (u.most ≡ max_bytes u.table.now) };
+        × IsResumed u.table.now u.point u.taken.items };
 }
 
 /// Shows how many bytes are taken, and none of them, and where the message stopped.
@@ -122,7 +117,6 @@ impl<'t> Unpacker<'t> {
     {
         Unpacker {
             table,
-            most: table.max_bytes() as usize,
             taken: Vec::new(alloc),
             point: ResumePoint::Type,
             stopped: None,
@@ -157,16 +151,7 @@ impl<'t> Unpacker<'t> {
         if let Some(fault) = self.stopped {
             return Err(fault);
         }
-        let (point, fed) = take(
-            alloc,
-            self.table,
-            self.most,
-            self.point,
-            &mut self.taken,
-            piece,
-        );
-        self.point = point;
-        match fed {
+        match take(alloc, self.table, &mut self.point, &mut self.taken, piece) {
             Ok(fed) => Ok(fed),
             Err(fault) => {
                 if fault.cause != UnpackCause::Memory {

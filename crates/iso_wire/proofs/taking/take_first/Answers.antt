@@ -12,7 +12,7 @@ pub returns-then-ne-clause-exact : goal.returns-then-ne-clause-exact
 returns-then-ne-clause-exact c =
     let t = c.args.table.now in
     let piece : List ℕ = c.args.piece.now in
-    let all : c.args.taken.now.items ++ piece ≡ piece = ap (λ (l : List ℕ). l ++ piece) c.requires in
+    let all : c.args.taken.now.items ++ piece ≡ piece = ap (λ (l : List ℕ). l ++ piece) c.requires.empty in
     let read = resumed_read t points.Type c.judge_from-reached.result.0 [] piece c.judge_from-reached.result.1 (at_start t []) c.judge_from-reached.ensures in
     let fault = ap (message_at t) all ∙ resumed_fault t piece c.in-Err.fault (read ∙ c.in-Err.is) in
     let other : c.in-Err.fault.cause ≡ Short → ⊥ = search rules in
@@ -22,7 +22,7 @@ pub returns-in-Err-clause-exact : goal.returns-in-Err-clause-exact
 returns-in-Err-clause-exact c =
     let t = c.args.table.now in
     let piece : List ℕ = c.args.piece.now in
-    let all : c.args.taken.now.items ++ piece ≡ piece = ap (λ (l : List ℕ). l ++ piece) c.requires in
+    let all : c.args.taken.now.items ++ piece ≡ piece = ap (λ (l : List ℕ). l ++ piece) c.requires.empty in
     let read = resumed_read t points.Type c.judge_from-reached.result.0 [] piece c.judge_from-reached.result.1 (at_start t []) c.judge_from-reached.ensures in
     let fault = ap (message_at t) all ∙ resumed_fault t piece c.in-Err.fault (read ∙ c.in-Err.is) in
     let short : c.in-Err.fault.cause ≡ Short = search rules in
@@ -38,23 +38,11 @@ build-requires-clause-read c =
     let read = resumed_read t points.Type c.judge_from-reached.result.0 [] piece c.judge_from-reached.result.1 (at_start t []) c.judge_from-reached.ensures in
     is_read (message_at t piece) c.in_default.field-0 (read ∙ c.in_default.is)
 
-pub returns-then-ne-clause-resumed : goal.returns-then-ne-clause-resumed
-returns-then-ne-clause-resumed c = at_start c.args.table.now c.args.taken.now.items
-
-pub returns-then-is_err-clause-resumed : goal.returns-then-is_err-clause-resumed
-returns-then-is_err-clause-resumed c = at_start c.args.table.now c.extend_from_slice.new.self.items
-
-pub returns-in-Ok-clause-resumed : goal.returns-in-Ok-clause-resumed
-returns-in-Ok-clause-resumed c = at_start c.args.table.now c.args.taken.now.items
-
-pub returns-in-Err-build-clause-resumed : goal.returns-in-Err-build-clause-resumed
-returns-in-Err-build-clause-resumed c = at_start c.args.table.now c.args.taken.now.items
-
 pub returns-in-Err-clause-resumed : goal.returns-in-Err-clause-resumed
 returns-in-Err-clause-resumed c =
     let t = c.args.table.now in
     let piece : List ℕ = c.args.piece.now in
     let put : c.extend_from_slice.new.self.items ≡ c.args.taken.now.items ++ piece = rw c.if-is_err.ensures.negation at c.extend_from_slice.ensures.items in
-    let more = put ∙ ap (λ (l : List ℕ). l ++ piece) c.requires in
+    let more = put ∙ ap (λ (l : List ℕ). l ++ piece) c.requires.empty in
     let reached = c.judge_from-reached.result.0 in
     subst (λ (l : List ℕ). IsResumed t reached l) (sym more) (resumed_more t points.Type reached [] piece c.judge_from-reached.result.1 (at_start t []) c.judge_from-reached.ensures)

@@ -23,8 +23,8 @@ returns-then-eq-clause-exact c =
     let all : c.deref.result.now ≡ old ++ piece = c.deref.ensures.value ∙ grown (is_ok c.extend_from_slice.result) old piece c.extend_from_slice.new.self.items c.extend_from_slice.ensures.items c.if-is_err.ensures.negation in
     let reached = c.judge_from-reached.result.0 in
     let read = c.judge_from-reached.result.1 in
-    let resumes = subst (λ (l : List ℕ). Resumes t c.args.point l reached read) all c.judge_from-reached.ensures in
-    let fault = resumed_fault t (old ++ piece) c.in-Err.fault (resumed_read t c.args.point reached old piece read c.requires.resumed resumes ∙ c.in-Err.is) in
+    let resumes = subst (λ (l : List ℕ). Resumes t c.args.point.now l reached read) all c.judge_from-reached.ensures in
+    let fault = resumed_fault t (old ++ piece) c.in-Err.fault (resumed_read t c.args.point.now reached old piece read c.requires.resumed resumes ∙ c.in-Err.is) in
     let short : c.in-Err.fault.cause ≡ Short = search rules in
     subst IsShort (sym fault) short
 
@@ -36,8 +36,8 @@ returns-in-Err-clause-exact c =
     let all : c.deref.result.now ≡ old ++ piece = c.deref.ensures.value ∙ grown (is_ok c.extend_from_slice.result) old piece c.extend_from_slice.new.self.items c.extend_from_slice.ensures.items c.if-is_err.ensures.negation in
     let reached = c.judge_from-reached.result.0 in
     let read = c.judge_from-reached.result.1 in
-    let resumes = subst (λ (l : List ℕ). Resumes t c.args.point l reached read) all c.judge_from-reached.ensures in
-    let fault = resumed_fault t (old ++ piece) c.in-Err.fault (resumed_read t c.args.point reached old piece read c.requires.resumed resumes ∙ c.in-Err.is) in
+    let resumes = subst (λ (l : List ℕ). Resumes t c.args.point.now l reached read) all c.judge_from-reached.ensures in
+    let fault = resumed_fault t (old ++ piece) c.in-Err.fault (resumed_read t c.args.point.now reached old piece read c.requires.resumed resumes ∙ c.in-Err.is) in
     let other : c.in-Err.fault.cause ≡ Short → ⊥ = search rules in
     ((λ memory. absurd (fault_no_memory t (old ++ piece) c.in-Err.fault fault memory), λ _. fault), other)
 
@@ -49,8 +49,8 @@ returns-in-Err-clause-kept c =
     let all : c.deref.result.now ≡ old ++ piece = c.deref.ensures.value ∙ grown (is_ok c.extend_from_slice.result) old piece c.extend_from_slice.new.self.items c.extend_from_slice.ensures.items c.if-is_err.ensures.negation in
     let reached = c.judge_from-reached.result.0 in
     let read = c.judge_from-reached.result.1 in
-    let resumes = subst (λ (l : List ℕ). Resumes t c.args.point l reached read) all c.judge_from-reached.ensures in
-    let fault = resumed_fault t (old ++ piece) c.in-Err.fault (resumed_read t c.args.point reached old piece read c.requires.resumed resumes ∙ c.in-Err.is) in
+    let resumes = subst (λ (l : List ℕ). Resumes t c.args.point.now l reached read) all c.judge_from-reached.ensures in
+    let fault = resumed_fault t (old ++ piece) c.in-Err.fault (resumed_read t c.args.point.now reached old piece read c.requires.resumed resumes ∙ c.in-Err.is) in
     (λ memory. absurd (fault_no_memory t (old ++ piece) c.in-Err.fault fault memory), λ _. c.clear.ensures.items)
 
 pub build-requires-clause-read : goal.build-requires-clause-read
@@ -62,8 +62,8 @@ build-requires-clause-read c =
     let again : c.deref-2.result.now ≡ old ++ piece = c.deref-2.ensures.value ∙ grown (is_ok c.extend_from_slice.result) old piece c.extend_from_slice.new.self.items c.extend_from_slice.ensures.items c.if-is_err.ensures.negation in
     let reached = c.judge_from-reached.result.0 in
     let answer = c.judge_from-reached.result.1 in
-    let resumes = subst (λ (l : List ℕ). Resumes t c.args.point l reached answer) all c.judge_from-reached.ensures in
-    let read = resumed_read t c.args.point reached old piece answer c.requires.resumed resumes in
+    let resumes = subst (λ (l : List ℕ). Resumes t c.args.point.now l reached answer) all c.judge_from-reached.ensures in
+    let read = resumed_read t c.args.point.now reached old piece answer c.requires.resumed resumes in
     is_read (message_at t c.deref-2.result.now) c.in_default.field-0 (ap (λ (l : List ℕ). end_of (message_at t l)) again ∙ read ∙ c.in_default.is)
 
 pub returns-in-Err-build-clause-kept : goal.returns-in-Err-build-clause-kept
@@ -87,7 +87,7 @@ returns-in-Err-build-clause-resumed c =
     let all : c.extend_from_slice.new.self.items ≡ old ++ piece = grown (is_ok c.extend_from_slice.result) old piece c.extend_from_slice.new.self.items c.extend_from_slice.ensures.items c.if-is_err.ensures.negation in
     let back : c.truncate.new.self.items ≡ old =
     cut ∙ ap (λ (l : List ℕ). take c.len-before.result l) all ∙ take_at old piece c.len-before.result before in
-    subst (λ (l : List ℕ). IsResumed c.args.table.now c.args.point l) (sym back) c.requires.resumed
+    subst (λ (l : List ℕ). IsResumed c.args.table.now c.args.point.now l) (sym back) c.requires.resumed
 
 pub returns-then-eq-clause-kept : goal.returns-then-eq-clause-kept
 returns-then-eq-clause-kept c =
@@ -134,5 +134,5 @@ returns-then-eq-clause-resumed c =
     let more : c.extend_from_slice.new.self.items ≡ old ++ piece = grown (is_ok c.extend_from_slice.result) old piece c.extend_from_slice.new.self.items c.extend_from_slice.ensures.items c.if-is_err.ensures.negation in
     let reached = c.judge_from-reached.result.0 in
     let read = c.judge_from-reached.result.1 in
-    let resumes = subst (λ (l : List ℕ). Resumes t c.args.point l reached read) (c.deref.ensures.value ∙ more) c.judge_from-reached.ensures in
-    subst (λ (l : List ℕ). IsResumed t reached l) (sym more) (resumed_more t c.args.point reached old piece read c.requires.resumed resumes)
+    let resumes = subst (λ (l : List ℕ). Resumes t c.args.point.now l reached read) (c.deref.ensures.value ∙ more) c.judge_from-reached.ensures in
+    subst (λ (l : List ℕ). IsResumed t reached l) (sym more) (resumed_more t c.args.point.now reached old piece read c.requires.resumed resumes)
