@@ -28,3 +28,4 @@ pub mod NumberLaws
 pub mod WalkLaws
 pub mod CountLaws
 pub mod Nibbles
+pub mod MtiTexts

@@ -1,4 +1,5 @@
 pub mod Mti
+pub mod MtiText
 pub mod Class
 pub mod Spec
 pub mod Bitmap

@@ -3,6 +3,8 @@ mod EditionLemmas
 mod MemberLemmas
 mod DocumentLemmas
 mod WritingLemmas
+mod DraftLemmas
+mod Equality
 mod RoundTrip
 mod SameTable
 mod HostLemmas

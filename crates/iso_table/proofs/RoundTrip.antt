@@ -1,5 +1,5 @@
 -- What a table's document stands for is the table.
-use Rattle.std.proofs.Common.{◌≡◌, ℕ, zero, suc, ◌+◌, ◌*◌, ◌<◌, ◌≤◌, Bool, true, false, nat_le, IsTrue, List, [], ◌∷◌, length, max, Option, Some, None, Ok, option_map, refl, sym, ap, subst, ◌∙◌, arith}
+use Rattle.std.proofs.Common.{◌≡◌, ℕ, zero, suc, ◌+◌, ◌*◌, ◌<◌, ◌≤◌, Bool, true, false, nat_le, List, [], ◌∷◌, length, max, Option, Some, None, Ok, option_map, refl, ap, ◌∙◌, arith}
 use Rattle.std.specs.Prelude.{◌&&◌, codes}
 use Rattle.std.proofs.Math.Nat.{max-le}
 use Rattle.std.proofs.lemmas.Bool.Decides.{nat_tests}
@@ -7,7 +7,6 @@ use Rattle.hex.specs.Hex.{encode_upper, upper_digits, IsBytes}
 use Rattle.hex.proofs.HexLemmas.{decode_of-encode_upper, length-encode_with, decode_sized-twice}
 use Rattle.serde_json.specs.Data.{Data, number, unsigned, string, object, member, depth, items_depth}
 use Rattle.serde_json.specs.Written.{has_float, items_have_float}
-use Rattle.iso_parts.specs.Numbers.{is_element}
 use Rattle.iso_parts.specs.declared.class.CharClass.{CharClass}
 use Rattle.iso_parts.specs.declared.class.CharClass.TheVariants.{N, A, AN, ANS, Z, ZD, XN, B}
 use Rattle.iso_parts.specs.declared.encoding.Coding.{Coding}
@@ -25,9 +24,10 @@ use Rattle.iso_parts.specs.Spec.{IsGood, limit, is_pad_byte, is_good_pad, is_pad
 use Rattle.iso_table.specs.declared.draft.Row.{Row}
 use Rattle.iso_table.specs.declared.reading.Profile.TheVariants.{Two}
 use Rattle.iso_table.specs.Layout.{Layout, IsAccepted, row_at, is_version}
-use Rattle.iso_table.specs.Accepted.{DraftContents, Accepted, Holds, AreRows, OtherNumbers, HasEachOnce, row_of}
+use Rattle.iso_table.specs.Accepted.{DraftContents, Holds}
+use Rattle.iso_table.specs.Rows.{rows_from, draft_of}
 use Rattle.iso_table.specs.Document.{◌>>=◌, class_name, class_named, coding_name, coding_named, digits_name, digits_named, bitmap_name, bitmap_named, length_name, pad_name, pad_named, byte_by, byte_of, up_to, whole_at, digits_at, class_in, coding_in, length_in, pad_in, spec_in, document_row, rows_in, bitmap_in, list_in, with_rows, members_in, or_shape, draft_in, table_in, prefix_named, prefix_members, row_object, row_data, rows_data, document}
-use Rattle.iso_table.proofs.RowLemmas.{row_of_here, row_of_after}
+use Rattle.iso_table.proofs.DraftLemmas.{draft_accepted, draft_held}
 use Rattle.iso_table.proofs.DocumentLemmas.{table_found}
 
 -- ---- names
@@ -132,14 +132,7 @@ row_again n s h g =
     ap (λ (x : Option ℕ). x >>= (λ m. spec_in Two (row_data n s) >>= (λ spec. Some (record { number = m; spec = spec })))) (up_to_low 65535 n h)
     ∙ ap (λ (x : Option FieldSpec). x >>= (λ spec. Some (record { number = n; spec = spec }))) (spec_again n s g)
 
--- the rows from number n on, as a list
-rows_list : ℕ → List (Option FieldSpec) → List Row
-rows_list n [] = []
-rows_list n (None ∷ rs) = rows_list (n + 1) rs
-rows_list n (Some s ∷ rs) = record { number = n; spec = s } ∷ rows_list (n + 1) rs
-
-rows_again : (n : ℕ) (rs : List (Option FieldSpec)) → n + length rs ≤ 65535 → ((k : ℕ) (s : FieldSpec) → row_at rs k ≡ Some s → IsGood s) → rows_in Two (rows_data n rs) ≡ Some (rows_list n rs)
-unfolding rows_list
+rows_again : (n : ℕ) (rs : List (Option FieldSpec)) → n + length rs ≤ 65535 → ((k : ℕ) (s : FieldSpec) → row_at rs k ≡ Some s → IsGood s) → rows_in Two (rows_data n rs) ≡ Some (rows_from n rs)
 rows_again n [] h g = refl
 rows_again n (None ∷ rs) h g = rows_again (n + 1) rs (omega arith) (λ k s e. g (suc k) s e)
 rows_again n (Some s ∷ rs) h g =
@@ -147,9 +140,6 @@ rows_again n (Some s ∷ rs) h g =
     ∙ ap (option_map (λ rows. record { number = n; spec = s } ∷ rows)) (rows_again (n + 1) rs (omega arith) (λ k t e. g (suc k) t e))
 
 -- ---- the whole document
-
-contents_of : Layout → DraftContents
-contents_of t = record { version = t.version; mti = t.mti; bitmap = t.bitmap; rows = rows_list 0 t.rows }
 
 low_version : (v : ℕ) → is_version v ≡ true → v ≤ 255
 low_version v h = grind (arith, nat_tests)
@@ -163,9 +153,8 @@ draft_by d c whole a b e f =
     ∙ ap (λ (x : Option BitmapCoding). x >>= (λ bitmap. with_rows c.version c.mti bitmap (list_in Two d))) e
     ∙ ap (with_rows c.version c.mti c.bitmap) f)
 
-draft_again : (t : Layout) → IsAccepted t → draft_in (document t) ≡ Ok (contents_of t)
-unfolding contents_of
-draft_again t a = draft_by (document t) (contents_of t) refl
+draft_again : (t : Layout) → IsAccepted t → draft_in (document t) ≡ Ok (draft_of t)
+draft_again t a = draft_by (document t) (draft_of t) refl
     (up_to_low 255 t.version (low_version t.version a.version))
     (digits_again t.mti)
     (bitmap_again t.bitmap)
@@ -173,56 +162,8 @@ draft_again t a = draft_by (document t) (contents_of t) refl
 
 -- ---- the document's rows are accepted
 
-index_suc : (n k : ℕ) → n + 1 + k ≡ n + suc k
-index_suc n k = omega arith
-
-are_rows : (n : ℕ) (rs : List (Option FieldSpec)) → ((k : ℕ) (s : FieldSpec) → row_at rs k ≡ Some s → IsTrue (is_element (n + k)) × IsGood s) → AreRows (rows_list n rs)
-unfolding rows_list
-are_rows n [] g = tt
-are_rows n (None ∷ rs) g = are_rows (n + 1) rs (λ k s e. subst (λ (m : ℕ). IsTrue (is_element m) × IsGood s) (sym (index_suc n k)) (g (suc k) s e))
-are_rows n (Some s ∷ rs) g =
-    let here = g zero s refl in
-    let same : n + 0 ≡ n = omega arith in
-    (subst (λ (m : ℕ). IsTrue (is_element m)) same here.0, here.1, are_rows (n + 1) rs (λ k t e. subst (λ (m : ℕ). IsTrue (is_element m) × IsGood t) (sym (index_suc n k)) (g (suc k) t e)))
-
-others : (r : Row) (n : ℕ) (rs : List (Option FieldSpec)) → r.number < n → OtherNumbers r (rows_list n rs)
-unfolding rows_list
-others r n [] h = tt
-others r n (None ∷ rs) h = others r (n + 1) rs (omega arith)
-others r n (Some s ∷ rs) h = ((λ e. omega arith), others r (n + 1) rs (omega arith))
-
-each_once : (n : ℕ) (rs : List (Option FieldSpec)) → HasEachOnce (rows_list n rs)
-unfolding rows_list
-each_once n [] = tt
-each_once n (None ∷ rs) = each_once (n + 1) rs
-each_once n (Some s ∷ rs) = (others (record { number = n; spec = s }) (n + 1) rs (omega arith), each_once (n + 1) rs)
-
-none_below : (n k : ℕ) (rs : List (Option FieldSpec)) → k < n → row_of (rows_list n rs) k ≡ None
-unfolding rows_list
-none_below n k [] h = refl
-none_below n k (None ∷ rs) h = none_below (n + 1) k rs (omega arith)
-none_below n k (Some s ∷ rs) h = row_of_after (record { number = n; spec = s }) (rows_list (n + 1) rs) k (λ e. omega arith) ∙ none_below (n + 1) k rs (omega arith)
-
-holds_at : (n : ℕ) (rs : List (Option FieldSpec)) (k : ℕ) → row_at rs k ≡ row_of (rows_list n rs) (n + k)
-unfolding rows_list
-holds_at n [] k = refl
-holds_at n (None ∷ rs) zero = sym (none_below (n + 1) (n + 0) rs (omega arith))
-holds_at n (None ∷ rs) (suc k) = holds_at (n + 1) rs k ∙ ap (row_of (rows_list (n + 1) rs)) (index_suc n k)
-holds_at n (Some s ∷ rs) zero = sym (row_of_here (record { number = n; spec = s }) (rows_list (n + 1) rs) (n + 0) (omega arith))
-holds_at n (Some s ∷ rs) (suc k) = holds_at (n + 1) rs k ∙ ap (row_of (rows_list (n + 1) rs)) (index_suc n k) ∙ sym (row_of_after (record { number = n; spec = s }) (rows_list (n + 1) rs) (n + suc k) (λ e. omega arith))
-
-zero_on : (k : ℕ) → 0 + k ≡ k
-zero_on k = omega arith
-
 pub found_again : (t : Layout) → IsAccepted t → (c : DraftContents) × (table_in (document t) ≡ Ok c) × Holds t c
-unfolding contents_of
-found_again t a =
-    let rows = are_rows 0 t.rows (λ k s e. subst (λ (m : ℕ). IsTrue (is_element m) × IsGood s) (sym (zero_on k)) (a.numbers k s e, a.good k s e)) in
-    let good : Accepted (contents_of t) = record { version = a.version; rows = rows; once = each_once 0 t.rows } in (
-      contents_of t,
-      table_found (document t) (contents_of t) (draft_again t a) good,
-      record { version = refl; mti = refl; bitmap = refl; rows = λ n. holds_at 0 t.rows n ∙ ap (row_of (rows_list 0 t.rows)) (zero_on n) },
-    )
+found_again t a = (draft_of t, table_found (document t) (draft_of t) (draft_again t a) (draft_accepted t a), draft_held t)
 
 -- ---- the document nests little, and has no float
 

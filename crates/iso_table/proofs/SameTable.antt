@@ -16,16 +16,16 @@ same_rows [] (y ∷ ys) e h = absurd (omega arith)
 same_rows (x ∷ xs) [] e h = absurd (omega arith)
 same_rows (x ∷ xs) (y ∷ ys) e h = ap₂ (λ (r : Option FieldSpec) (rs : List (Option FieldSpec)). r ∷ rs) (h zero) (same_rows xs ys (omega arith) (λ n. h (suc n)))
 
-same_layout : (t u : Layout) → t.version ≡ u.version → t.mti ≡ u.mti → t.bitmap ≡ u.bitmap → t.rows ≡ u.rows → t ≡ u
-same_layout t u a b c d =
+pub equal_layout : (t u : Layout) → t.version ≡ u.version → t.mti ≡ u.mti → t.bitmap ≡ u.bitmap → t.rows ≡ u.rows → t ≡ u
+equal_layout t u a b c d =
     ap (λ (v : ℕ). record { version = v; mti = t.mti; bitmap = t.bitmap; rows = t.rows }) a
     ∙ ap (λ (m : Digits). record { version = u.version; mti = m; bitmap = t.bitmap; rows = t.rows }) b
     ∙ ap (λ (m : BitmapCoding). record { version = u.version; mti = u.mti; bitmap = m; rows = t.rows }) c
     ∙ ap (λ (rs : List (Option FieldSpec)). record { version = u.version; mti = u.mti; bitmap = u.bitmap; rows = rs }) d
 
-same_table : (c : DraftContents) (t u : Layout) → IsAccepted t → IsAccepted u → Holds t c → Holds u c → t ≡ u
+pub same_table : (c : DraftContents) (t u : Layout) → IsAccepted t → IsAccepted u → Holds t c → Holds u c → t ≡ u
 same_table c t u a b h k =
-    same_layout t u (h.version ∙ sym k.version) (h.mti ∙ sym k.mti) (h.bitmap ∙ sym k.bitmap)
+    equal_layout t u (h.version ∙ sym k.version) (h.mti ∙ sym k.mti) (h.bitmap ∙ sym k.bitmap)
     (same_rows t.rows u.rows (a.places ∙ sym b.places) (λ n. h.rows n ∙ sym (k.rows n)))
 
 one_table : (text : List ℕ) (t u : Layout) → IsAccepted t → IsAccepted u → IsTableOf text t → IsTableOf text u → t ≡ u

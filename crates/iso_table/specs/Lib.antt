@@ -1,5 +1,7 @@
 pub mod Layout
 pub mod Accepted
+pub mod Rows
+pub mod Equality
 pub mod Sizes
 pub mod Edition87
 pub mod Members

@@ -1,6 +1,11 @@
 //! A table as it is handed in, before it is checked.
 
+ghost use Rattle.std.specs.Prelude.{◌≡◌, IfOk};
+
+use crate::fault::NoMemory;
+use crate::iteration::Rows;
 use iso_parts::{BitmapCoding, Digits, FieldSpec};
+use std::alloc::Global;
 
 /// The row of one element.
 #[derive(Clone, Copy, Debug, PartialEq, Eq)]
@@ -23,4 +28,18 @@ pub struct Draft {
     pub bitmap: BitmapCoding,
     /// The rows, in any order.
     pub rows: Vec<Row>,
+}
+
+/// The rows of a table as a draft has them. Room for `count` of them is reserved first.
+pub(crate) fn copies_of(alloc: Global, count: usize, rows: Rows<'_>) -> Result<Vec<Row>, NoMemory>
+    ensures { IfOk result (λ copies. copies.items ≡ rows.entry) }
+{
+    let mut copies = Vec::with_capacity(alloc, count)?;
+    for (number, spec) in rows {
+        copies.push(Row {
+            number: u16::from(number),
+            spec: *spec,
+        })?;
+    }
+    Ok(copies)
 }

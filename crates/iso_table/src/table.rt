@@ -1,7 +1,7 @@
 //! A table that was accepted.
 
 ghost use Rattle.std.specs.Prelude.{◌≡◌, ◌≢◌, ◌+◌, ◌↔◌};
-ghost use Rattle.std.specs.Prelude.{ℕ, length, is_some, count_by, sum_by, IfOk, IfErr, IsErrOf, IsOk, MatchResult, Some};
+ghost use Rattle.std.specs.Prelude.{ℕ, length, is_some, count_by, sum_by, IfOk, IfErr, IsErrOf, IsOk, IsTrue, MatchResult, Some};
 ghost use Rattle.std.specs.Option.{option_copied};
 ghost use Rattle.iso_table.specs.declared.fault.TableFault.TheVariants.{NotJson, Memory};
 ghost use Rattle.iso_parts.specs.Bitmap.{contains};
@@ -12,17 +12,21 @@ ghost use Rattle.serde_json.specs.Written.{compact_text};
 ghost use Rattle.iso_table.specs.Edition87.{IsEdition87};
 ghost use Rattle.iso_table.specs.HostReady.{IsHostReady, host_fault};
 ghost use Rattle.iso_table.specs.Sizes.{max_bytes};
+ghost use Rattle.iso_table.specs.Rows.{rows_of, draft_of};
+ghost use Rattle.iso_table.specs.Equality.{same_layout, same_layout_equiv};
+ghost use Rattle.std.specs.Cmp.{partial_equiv_from_equiv};
 
-use crate::draft::Draft;
+use crate::draft::{Draft, copies_of};
 use crate::edition87::{bitmap87, places87};
 use crate::fault::{HostTableFault, NoMemory, TableFault};
 use crate::host_ready::host_rows_fault;
+use crate::iteration::Rows;
 use crate::placing::{is_version, known_in, places_of, row_at};
 use crate::reading::{draft_in, value_of};
 use crate::sizes::places_bytes;
 use crate::writing::document;
 use iso_parts::{Bitmap, BitmapCoding, Digits, FieldSpec};
-use std::alloc::Global;
+use std::alloc::{AllocError, Global};
 use std::marker::Model;
 
 /// How the messages of a network are written. Its version is 0, 1, 2 or 9, and each row is good and of
@@ -43,6 +47,41 @@ impl Model for Table {
     ghost view = { λ t. record { version = t.version; mti = t.mti; bitmap = t.bitmap; rows = t.rows.items } };
 
     ghost invariant = { λ t. IsAccepted (record { version = t.version; mti = t.mti; bitmap = t.bitmap; rows = t.rows.items }) };
+}
+
+/// An equal table, in memory of its own. Where memory ran out, nothing is left behind.
+impl Clone for Table {
+    ghost is_clone = { λ t copy. copy ≡ t };
+
+    fn clone(&self) -> Result<Table, AllocError> {
+        let alloc = *self.rows.allocator();
+        Ok(Table {
+            version: self.version,
+            mti: self.mti,
+            bitmap: self.bitmap,
+            rows: Vec::from_slice(alloc, &self.rows)?,
+            known: self.known,
+        })
+    }
+}
+
+/// The same version, the same codings and the same rows. Takes no memory.
+impl PartialEq for Table {
+    ghost eq = { same_layout };
+
+    ghost laws = { partial_equiv_from_equiv same_layout_equiv };
+
+    fn eq(&self, other: &Table) -> bool
+        ensures same { result ≡ same_layout self.now other.now }
+        ensures equal { IsTrue result ↔ (self.now ≡ other.now) }
+    {
+        (self.version == other.version && self.mti == other.mti)
+            && (self.bitmap == other.bitmap && self.rows.as_slice() == other.rows.as_slice())
+    }
+}
+
+impl Eq for Table {
+    ghost laws = { same_layout_equiv };
 }
 
 impl Table {
@@ -183,6 +222,29 @@ impl Table {
         ensures { result ≡ count_by is_some self.now.rows }
     {
         self.rows.iter().filter(|place| place.is_some()).count()
+    }
+
+    /// The rows, in ascending order. Takes no memory.
+    pub fn iter(&self) -> Rows<'_>
+        ensures { result ≡ rows_of self.now }
+    {
+        Rows::of(&self.rows)
+    }
+
+    /// A draft that says what the table says, its rows in ascending order: checked again it gives an equal table. The
+    /// table stays as it is, also where memory ran out.
+    pub fn to_draft(&self, alloc: Global) -> Result<Draft, NoMemory>
+        ensures contents { IfOk result (λ draft. contents draft ≡ draft_of self.now) }
+        // It is accepted, and no other table can be made of it.
+        ensures accepted { IfOk result (λ draft. Accepted (contents draft) × Holds self.now (contents draft)) }
+        ensures again { IfOk result (λ draft. (t : Layout) → IsAccepted t → Holds t (contents draft) → t ≡ self.now) }
+    {
+        Ok(Draft {
+            version: self.version,
+            mti: self.mti,
+            bitmap: self.bitmap,
+            rows: copies_of(alloc, self.rows(), self.iter())?,
+        })
     }
 
     /// How many bytes a message has at most: its type, both bitmaps and the longest field of every
