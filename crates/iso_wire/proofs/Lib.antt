@@ -35,3 +35,5 @@ pub mod StopsParts
 pub mod StopsReading
 pub mod StopsLaws
 pub mod Decimals
+pub mod Walks
+pub mod ViewedValues

@@ -43,7 +43,7 @@ record IsBody (rows : List (Option FieldSpec)) (n : ℕ) (b v : List ℕ) (used 
   pub body : Body row v (wire_at (row_at rows n) b used)
   pub part : take used b ≡ prefix row.length (length v) ++ wire_at (row_at rows n) b used
 
-length-prefix : (k : Length) (n : ℕ) → length (prefix k n) ≡ prefix_size k
+pub length-prefix : (k : Length) (n : ℕ) → length (prefix k n) ≡ prefix_size k
 length-prefix lengths.Fixed n = refl
 length-prefix (lengths.LL digits.Ascii) n = refl
 length-prefix (lengths.LL digits.Bcd) n = refl

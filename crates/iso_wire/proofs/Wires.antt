@@ -71,7 +71,7 @@ ascend_by : (is : Bool) (set : ℕ → Bool) (count n : ℕ) → set n ≡ is �
 ascend_by true set count n is whole rest = subst (Ascends n) (sym (one_more set count n is)) (omega arith, omega arith, rest)
 ascend_by false set count n is whole rest = subst (Ascends n) (sym (no_more set count n is)) (ascends_from n (n + 1) (numbers set count (n + 1)) (omega arith) rest)
 
-numbers_ascend : (set : ℕ → Bool) (count n : ℕ) → n + count ≡ 129 → Ascends n (numbers set count n)
+pub numbers_ascend : (set : ℕ → Bool) (count n : ℕ) → n + count ≡ 129 → Ascends n (numbers set count n)
 numbers_ascend set zero n whole = subst (Ascends n) (sym (no_numbers set n)) tt
 numbers_ascend set (suc count) n whole = ascend_by (set n) set count n refl whole (numbers_ascend set count (n + 1) (omega arith))
 

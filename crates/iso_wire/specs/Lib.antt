@@ -23,6 +23,9 @@ pub mod FaultNumbers
 pub mod Masking
 pub mod Debugging
 pub mod StopsLaws
+pub mod Pieces
+pub mod Walking
+pub mod FirstBad
 pub mod Equality
 pub mod Describing
 pub mod DigitWords

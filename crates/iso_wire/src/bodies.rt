@@ -1,22 +1,28 @@
 //! A message that lies in the caller's bytes, and where the bodies of its elements lie.
 
 ghost use Rattle.std.specs.Borrow.{Bor};
-ghost use Rattle.std.specs.Prelude.{◌≡◌, ℕ, ◌+◌, ◌*◌, ◌≤◌, List, drop, length, IfOk, IfSome, OnOk, MatchOption, None, Some};
+ghost use Rattle.std.specs.Prelude.{◌≡◌, ℕ, ◌+◌, ◌*◌, ◌≤◌, List, drop, length, IfOk, IfErr, IfSome, OnOk, MatchOption, None, Some};
 ghost use Rattle.iso_parts.specs.Mti.{mti_number};
 ghost use Rattle.iso_table.specs.Layout.{row_at, AreGood};
 ghost use Rattle.iso_wire.specs.Elements.{value_in};
 ghost use Rattle.iso_wire.specs.Reading.{value_at};
 ghost use Rattle.iso_parts.specs.Numbers.{members};
 ghost use Rattle.iso_wire.specs.Bodies.{longest_part, AreWithin, BeginsThere, viewed_of, wires_at, view_at, JudgesWire, FindsBodies, Outlines};
-ghost use Rattle.iso_wire.specs.Viewing.{LiesAt, IsBodyInPlace};
+ghost use Rattle.iso_wire.specs.Contents.{Contents};
+ghost use Rattle.iso_wire.specs.Faults.{out_of_memory};
+ghost use Rattle.iso_wire.specs.Spelling.{BeginsWith};
+ghost use Rattle.iso_wire.specs.Viewing.{front_of, LiesAt, IsBodyInPlace, IsViewed};
 ghost use Rattle.iso_wire.specs.Debugging.{debug_view};
 
 use crate::debugging::write_type;
 use crate::fault::{UnpackCause, UnpackFault};
 use crate::front::{type_of, words_of};
-use crate::unpacking::fault_place;
+use crate::laws::{are_bytes, reads_spellings};
+use crate::unpacking::{fault_place, read_value};
+use crate::view_iteration::ViewIter;
 use iso_parts::{Bitmap, Judged, Mti, PLACES, judge_field};
 use iso_table::Table;
+use std::alloc::Global;
 use std::fmt;
 use std::marker::Model;
 use std::ops::Range;
@@ -140,6 +146,17 @@ fn place_of(outline: &Outline, bodies: &Bodies, n: u8) -> Option<Range<usize>>
     }
 }
 
+/// How many bytes of a part of element `n` stand before its body.
+fn front_of(table: &Table, n: u8) -> usize
+    ensures front { result ≡ front_of (row_at table.now.rows n) }
+    ensures good { AreGood table.now.rows }
+{
+    match table.row(n) {
+        Some(row) => row.length.prefix_size(),
+        None => 0,
+    }
+}
+
 /// A message that lies in the caller's bytes. It tells where the body of each element lies, and copies none.
 #[derive(Drop)]
 pub struct View<'a> {
@@ -206,5 +223,37 @@ impl<'a> View<'a> {
     {
         let place = place_of(&self.outline, &self.bodies, n)?;
         Some(&self.bytes[place])
+    }
+
+    /// The elements of the message in ascending order: each by its number and its body as it lies there, behind its
+    /// length and with its padding. Takes no memory.
+    pub fn iter(&self) -> ViewIter<'_, 'a>
+        ensures { result ≡ self.now.wires }
+    {
+        ViewIter::of(self.outline.numbers, &self.bodies, self.bytes)
+    }
+
+    /// The value of an element, if the message has it. The table is the one that the message was viewed under; another
+    /// one reads something else there, or gives its fault.
+    pub fn value(&self, alloc: Global, table: &Table, n: u8) -> Result<Option<Vec<u8>>, UnpackFault>
+        // It is the value that the message has, which `unpack` reads of the bytes,
+        ensures value { (m : Contents) (size : ℕ) → IsViewed table.now self.now self.now.bytes → BeginsWith table.now m size self.now.bytes
+            → IfOk result (λ got. MatchOption got (value_in m.elements n ≡ None) (λ v. value_in m.elements n ≡ Some v.items)) }
+        // and is always given, unless memory runs out.
+        ensures memory { IsViewed table.now self.now self.now.bytes → IfErr result (λ e. e ≡ out_of_memory) }
+    {
+        reads_spellings();
+        iso_parts::laws::parts();
+        are_bytes(self.bytes);
+        let front = front_of(table, n);
+        let Some(place) = place_of(&self.outline, &self.bodies, n) else {
+            return Ok(None);
+        };
+        let at = place.start.saturating_sub(front);
+        let mut value = Vec::new(alloc);
+        match read_value(table, n, at, self.bytes, &mut value) {
+            Ok(_) => Ok(Some(value)),
+            Err(fault) => Err(fault),
+        }
     }
 }

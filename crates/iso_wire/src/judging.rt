@@ -43,7 +43,7 @@ struct JudgingStop {
 }
 
 /// Where the body of `count` characters ends, which begins at `at`.
-fn body_end(
+pub fn body_end(
     row: &FieldSpec,
     n: u8,
     count: u16,

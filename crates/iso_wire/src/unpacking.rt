@@ -37,7 +37,7 @@ pub(crate) fn fault_place(fault: FieldFault, front: usize) -> usize
 }
 
 /// Appends the value of element `n`, whose part begins at `at`, and gives how many bytes the part takes.
-fn read_value(
+pub(crate) fn read_value(
     table: &Table,
     n: u8,
     at: usize,
