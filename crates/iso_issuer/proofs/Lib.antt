@@ -17,6 +17,7 @@ pub mod Stored
 pub mod Seen
 pub mod Sums
 pub mod Summed
+pub mod Holding
 pub mod Room
 pub mod Runs
 mod Documents

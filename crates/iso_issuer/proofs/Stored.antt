@@ -181,3 +181,9 @@ taken-back os cs s t index place z are last put i = ap (λ b. cond b None (tree.
 pub on-err : {X E P : Type 0} (r : Result X E) → P → OnErr r P
 on-err (Ok x) h = tt
 on-err (Err e) h = h
+
+-- the orders of the entries are those that are stored
+pub orders-entries : (n : ℕ) (os : List Instruction) (cs : List ℕ) (s : BTreeMap ℕ ℤ) → length cs ≡ length os → map (λ (e : Entry). e.order) (entries_from n os cs s) ≡ os
+orders-entries n [] cs s e = refl
+orders-entries n (o ∷ os) [] s e = absurd (omega (arith, e))
+orders-entries n (o ∷ os) (c ∷ cs) s e = ap (λ (l : List Instruction). o ∷ l) (orders-entries (n + 1) os cs s (omega (arith, e)))

@@ -1,6 +1,6 @@
 -- Balances that are sums over the journal.
 use Rattle.std.proofs.Common.{◌≡◌, ℕ, Bool, true, false, cond, arith, refl, ap, sym, ◌∙◌, List, [], ◌∷◌, ◌++◌}
-use Rattle.std.specs.Prelude.{map, Option, Some, None, option_map, ◌&&◌, ℤ, pos, ◌+ℤ◌, ◌-ℤ◌}
+use Rattle.std.specs.Prelude.{map, Option, Some, None, option_map, ◌&&◌, ℤ, pos, unsigned_abs, ◌+ℤ◌, ◌-ℤ◌}
 use Rattle.std.proofs.lemmas.Int.{ints}
 use Rattle.iso_order.specs.Pan.{AccountNumber}
 use Rattle.iso_order.specs.Order.{same_pan}
@@ -14,10 +14,10 @@ use Rattle.iso_issuer.specs.declared.effect.Side.TheVariants.{Credited, Debited,
 use Rattle.iso_issuer.specs.Effect.{effect_of, same_side}
 use Rattle.iso_issuer.specs.Journal.{weight, HasDistinctKeys}
 use Rattle.iso_issuer.specs.Found.{weight_at, effect_at, reversed_by, released_by}
-use Rattle.iso_issuer.specs.Balance.{ledger, available}
+use Rattle.iso_issuer.specs.Balance.{total, ledger, available, balance_on}
 use Rattle.iso_issuer.specs.Posting.{ledger_share, available_share, balance_by_weights, ledger_grown, available_grown, on_ledger, on_available}
 use Rattle.iso_issuer.specs.Balances.{accounts_of, balance_with, balance_at, opening_balance, balance_after}
-use Rattle.iso_issuer.specs.Index.{balance_on, AreSums, IsSummed}
+use Rattle.iso_issuer.specs.Index.{AreSums, IsSummed}
 use Rattle.iso_issuer.specs.declared.change.Change.{Change}
 use Rattle.iso_issuer.proofs.Places.{found-map}
 use Rattle.iso_issuer.proofs.Room.{near-opened}
@@ -51,6 +51,19 @@ available-of entries balances pan sums =
     each (Some a) = refl
 
 -- ---- at first, and after one entry more
+
+-- what is held on a number: its ledger less what is available
+pub held-of : (entries : List Entry) (balances : List Balance) (pan : AccountNumber) → AreSums entries balances →
+    option_map (λ b. unsigned_abs (b.ledger -ℤ b.available)) (balance_at balances pan) ≡ option_map (λ a. total Held a.pan entries) (account_of (accounts_of balances) pan)
+held-of entries balances pan sums =
+    ap (option_map (λ (b : Balance). unsigned_abs (b.ledger -ℤ b.available))) (balance-of entries balances pan sums) ∙ each (account_of (accounts_of balances) pan)
+  where
+    less : (z : ℤ) (n : ℕ) → z -ℤ (z -ℤ pos n) ≡ pos n
+    less z n = omega (arith, ints)
+
+    each : (o : Option Account) → option_map (λ (b : Balance). unsigned_abs (b.ledger -ℤ b.available)) (option_map (balance_on entries) o) ≡ option_map (λ (a : Account). total Held a.pan entries) o
+    each None = refl
+    each (Some a) = ap (λ z. Some (unsigned_abs z)) (less (ledger entries a) (total Held a.pan entries))
 
 opened_is : (a : Account) → balance_on [] a ≡ opening_balance a
 opened_is a =

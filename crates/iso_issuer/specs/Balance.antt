@@ -2,6 +2,7 @@
 use Rattle.std.specs.Prelude.{ℕ, ℤ, pos, ◌+ℤ◌, ◌-ℤ◌, List, sum_by, Option, if◌then◌else◌}
 use Rattle.iso_order.specs.Pan.{AccountNumber}
 use Rattle.iso_issuer.specs.declared.account.Account.{Account}
+use Rattle.iso_issuer.specs.declared.balances.Balance.{Balance}
 use Rattle.iso_issuer.specs.declared.effect.Effect.{Effect}
 use Rattle.iso_issuer.specs.declared.effect.Side.{Side}
 use Rattle.iso_issuer.specs.declared.effect.Side.TheVariants.{Credited, Debited, Held}
@@ -24,3 +25,7 @@ ledger journal a = a.opening +ℤ pos (total Credited a.pan journal) -ℤ pos (t
 -- the ledger, less what is held
 abbrev pub available : List Entry → Account → ℤ
 available journal a = ledger journal a -ℤ pos (total Held a.pan journal)
+
+-- the account with both
+abbrev pub balance_on : List Entry → Account → Balance
+balance_on journal a = record { account = a; ledger = ledger journal a; available = available journal a }

@@ -1,5 +1,5 @@
 -- How an order is answered. Which case gets which code is our own rule.
-use Rattle.std.specs.Prelude.{ℕ, Bool, List, [], ◌∷◌, ◌++◌, ◌==◌, ◌&&◌, ◌||◌, ◌+◌, length, Option, Some, None, option_map, if◌then◌else◌, ℤ, pos, int_lt, true, nat_le, nat_lt, unsigned_abs}
+use Rattle.std.specs.Prelude.{ℕ, Bool, List, [], ◌∷◌, ◌++◌, ◌==◌, ◌&&◌, ◌+◌, length, Option, Some, None, option_map, if◌then◌else◌, ℤ, pos, int_lt, true, nat_le, nat_lt, unsigned_abs}
 use Rattle.iso_order.specs.declared.key.TxKey.{TxKey}
 use Rattle.iso_order.specs.declared.act.Act.{Act}
 use Rattle.iso_order.specs.declared.act.Act.TheVariants.{Debit, Credit, Inquiry, Undo, Complete}

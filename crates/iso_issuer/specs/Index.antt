@@ -21,7 +21,7 @@ use Rattle.iso_issuer.specs.declared.effect.Effect.{Effect}
 use Rattle.iso_issuer.specs.declared.effect.Hold.{Hold}
 use Rattle.iso_order.specs.declared.act.Act.{Act}
 use Rattle.iso_order.specs.declared.act.Act.TheVariants.{Debit, Credit, Inquiry, Undo, Complete}
-use Rattle.iso_issuer.specs.Balance.{ledger, available}
+use Rattle.iso_issuer.specs.Balance.{balance_on}
 use Rattle.iso_issuer.specs.Balances.{accounts_of, IsNear}
 
 -- ---- keys
@@ -142,10 +142,6 @@ abbrev pub AreAccountPlaces : BTreeMap AccountNumber ℕ → List Account → Ty
 AreAccountPlaces places accounts = (pan : AccountNumber) → tree.get pan_cmp places pan ≡ account_place accounts pan
 
 -- ---- sums
-
--- what is on an account after these entries
-abbrev pub balance_on : List Entry → Account → Balance
-balance_on entries a = record { account = a; ledger = ledger entries a; available = available entries a }
 
 -- each balance is that of its account after these entries
 abbrev pub AreSums : List Entry → List Balance → Type 0

@@ -5,6 +5,7 @@ pub mod Effect
 pub mod Journal
 pub mod Balance
 pub mod Balances
+pub mod Holds
 pub mod Posting
 pub mod Decision
 pub mod Books

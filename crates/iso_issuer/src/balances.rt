@@ -1,6 +1,6 @@
 //! What is on each account.
 
-ghost use Rattle.std.specs.Prelude.{◌≡◌, ◌++◌, ◌∷◌, [], None, OnOk, OnErr, All, map, option_map};
+ghost use Rattle.std.specs.Prelude.{◌≡◌, ◌++◌, ◌∷◌, [], None, OnOk, OnErr, All, map, option_map, unsigned_abs, ◌-ℤ◌};
 ghost use Rattle.iso_issuer.specs.Index.{account_place};
 ghost use Rattle.iso_issuer.specs.Balances.{accounts_of, balance_with, balance_at, opening_balance, balance_after, IsNear};
 
@@ -75,6 +75,15 @@ fn balance_with(change: Change, balance: Balance) -> Balance
     }
 }
 
+impl Balance {
+    /// What is held, in minor units: the ledger less what is available.
+    pub fn held(&self) -> u64
+        ensures { result ≡ unsigned_abs (self.now.ledger -ℤ self.now.available) }
+    {
+        self.ledger.abs_diff(self.available)
+    }
+}
+
 impl Balances {
     /// No account.
     pub fn new(alloc: Global) -> Balances
@@ -96,6 +105,13 @@ impl Balances {
         self.places.insert(account.pan, self.rows.len())?;
         let _ = self.rows.push(opening_balance(account));
         Ok(())
+    }
+
+    /// The balances, in the order in which their accounts were opened.
+    pub fn rows(&self) -> &[Balance]
+        ensures { result.now ≡ self.now }
+    {
+        &self.rows
     }
 
     /// The place of a number, where it has an account.

@@ -8,7 +8,8 @@ ghost use Rattle.iso_issuer.specs.Found.{IsBalanceFor};
 ghost use Rattle.iso_issuer.specs.Balances.{accounts_of};
 ghost use Rattle.iso_issuer.specs.Effect.{effect_of};
 ghost use Rattle.iso_issuer.specs.Journal.{left_at, undone_key};
-ghost use Rattle.iso_issuer.specs.Index.{AreSums, balance_on};
+ghost use Rattle.iso_issuer.specs.Balance.{balance_on};
+ghost use Rattle.iso_issuer.specs.Index.{AreSums};
 ghost use Rattle.iso_issuer.specs.Decision.{is_wide, amount_code, account_code, code_of, shown_by, new_answer, repeat_answer};
 ghost use Rattle.iso_order.specs.Order.{money_of};
 

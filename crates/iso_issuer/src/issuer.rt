@@ -1,19 +1,22 @@
 //! The issuer.
 
 ghost use Rattle.std.specs.Prelude.{◌≡◌, ◌≢◌, ◌≤◌, ◌<◌, ◌↔◌, ◌++◌, ◌∷◌, []};
-ghost use Rattle.std.specs.Prelude.{IsTrue, true, false, length, take, IfOk, OnOk, OnErr, IfErr, IsOk, option_map};
+ghost use Rattle.std.specs.Prelude.{IsTrue, true, false, length, map, sum_by, take, slice_get, IfOk, OnOk, OnErr, IfErr, IsOk, option_map};
 ghost use Rattle.iso_issuer.specs.declared.fault.Refused.TheVariants.{Memory};
 ghost use Rattle.iso_issuer.specs.Account.{account_of};
 ghost use Rattle.iso_issuer.specs.Journal.{firsts, is_entered, HasDistinctKeys};
-ghost use Rattle.iso_issuer.specs.Balance.{ledger, available};
+ghost use Rattle.iso_issuer.specs.Balance.{total, ledger, available, balance_on};
+ghost use Rattle.iso_issuer.specs.declared.effect.Side.TheVariants.{Held};
+ghost use Rattle.iso_issuer.specs.Holds.{open_holds};
 ghost use Rattle.iso_issuer.specs.Decision.{new_answer, answer_for};
 ghost use Rattle.iso_issuer.specs.Books.{journal, is_full, IsFullFor, IsRoomFor, IsRun, answered_of};
 ghost use Rattle.iso_issuer.specs.Decision.{is_shown_for};
 
 use crate::accounts::Accounts;
-use crate::balances::Balances;
+use crate::balances::{Balance, Balances};
 use crate::decision::{balance_for, new_answer, place_in, repeat_answer};
 use crate::fault::Refused;
+use crate::holds::{OpenHold, open_holds};
 use crate::journal::{Entry, Journal};
 use crate::posting::post_all;
 use iso_order::{Answer, NoMemory, Order, Pan, TxKey};
@@ -24,8 +27,8 @@ use std::marker::Model;
 pub const MOST_ENTRIES: u32 = 999_999;
 
 /// An issuer: its accounts with what is on them, and the journal of the orders that were entered. No
-/// call looks through the journal or the accounts: what it needs is found by key and by number, and
-/// the balances are kept up to date.
+/// call but `open_holds` looks through the journal or the accounts: what it needs is found by key and
+/// by number, and the balances are kept up to date.
 #[derive(Drop)]
 pub struct Issuer {
     limit: u32,
@@ -158,6 +161,30 @@ impl Issuer {
         Some(self.balances.get(pan)?.available)
     }
 
+    /// What is held on an account, in minor units, where there is such an account. Takes no memory.
+    pub fn held(&self, pan: Pan) -> Option<u64>
+        ensures { result ≡ option_map (λ a. total Held a.pan (journal self.now)) (account_of self.now.accounts pan) }
+    {
+        Some(self.balances.get(pan)?.held())
+    }
+
+    /// What is on each account, in the order in which the accounts were listed. Takes no memory.
+    pub fn balances(&self) -> &[Balance]
+        ensures { result.now ≡ map (balance_on (journal self.now)) self.now.accounts }
+    {
+        self.balances.rows()
+    }
+
+    /// The holds that are open on an account, in the order of entry: those that were granted, and that
+    /// are neither reversed in full nor completed, each with what it still holds. Goes through the whole journal.
+    pub fn open_holds(&self, alloc: Global, pan: Pan) -> Result<Vec<OpenHold>, NoMemory>
+        ensures holds { IfOk result (λ holds. holds.items ≡ open_holds (journal self.now) pan) }
+        // Together they hold what is held on the account.
+        ensures held { IfOk result (λ holds. sum_by (λ h. h.amount) holds.items ≡ total Held pan (journal self.now)) }
+    {
+        open_holds(&self.journal, alloc, pan)
+    }
+
     /// Whether an order of that key would be refused as `Full`: its key is new, and the journal is at its limit. Takes no
     /// memory.
     pub fn is_full_for(&self, key: &TxKey) -> bool
@@ -167,6 +194,27 @@ impl Issuer {
             Some(_) => false,
             None => self.journal.len() >= self.limit as usize,
         }
+    }
+
+    /// The orders that were entered, in the order in which they were: no two of one key. Takes no memory.
+    pub fn orders(&self) -> &[Order]
+        ensures { result.now ≡ self.now.orders }
+    {
+        self.journal.orders()
+    }
+
+    /// The answer that the order at a place of `orders` was given, from 0 on, where there is one. Takes no memory.
+    pub fn answer_of_entry(&self, i: usize) -> Option<Answer>
+        ensures { result ≡ option_map (λ e. e.answer) (slice_get (journal self.now) i) }
+    {
+        Some(self.journal.entry(i)?.answer)
+    }
+
+    /// The most orders that the journal takes. Takes no memory.
+    pub fn limit(&self) -> u32
+        ensures { result ≡ self.now.limit }
+    {
+        self.limit
     }
 
     /// How many orders were entered: no two of one key, and at most as many as the limit. Takes no memory.

@@ -5,11 +5,11 @@ ghost use Rattle.iso_issuer.specs.Effect.{is_key, effect_of};
 ghost use Rattle.iso_issuer.specs.Found.{touched_at, is_of_earlier, weight_in, IsFoundFor};
 ghost use Rattle.iso_issuer.specs.declared.journal.Entry.{Entry};
 ghost use Rattle.std.specs.Prelude.{◌≡◌, ◌≤◌, ◌<◌, ◌+◌, ◌==◌, ◌++◌, ◌∷◌, [], if◌then◌else◌};
-ghost use Rattle.std.specs.Prelude.{ℕ, List, is_some, true, false, map, None, OnOk, OnErr, length};
+ghost use Rattle.std.specs.Prelude.{ℕ, List, is_some, true, false, map, Some, None, OnOk, OnErr, length, slice_get};
 ghost use Rattle.std.specs.BTreeMap as tree;
 ghost use Rattle.std.specs.Ordering.{nat_cmp};
 ghost use Rattle.iso_issuer.specs.Index.{added_by, dropped_of, dropped_by};
-ghost use Rattle.iso_issuer.specs.Journal.{entry_at, undone_key, left_at, is_nothing, smaller_of, is_counted_with, is_completed, is_ended, weight};
+ghost use Rattle.iso_issuer.specs.Journal.{entry_at, undone_key, left_at, is_nothing, smaller_of, is_counted_with, is_completed, is_ended, is_standing, weight};
 ghost use Rattle.iso_issuer.specs.Journal.{HasDistinctKeys};
 ghost use Rattle.iso_issuer.specs.Found.{reversed_by, ended_key, released_by};
 
@@ -176,19 +176,47 @@ impl Journal {
         self.orders.len()
     }
 
+    /// The orders of the entries, in their order.
+    pub fn orders(&self) -> &[Order]
+        ensures { result.now ≡ map (λ e. e.order) self.now }
+    {
+        &self.orders
+    }
+
+    /// The entry at a place, from 0 on, that has one.
+    pub fn at(&self, place: usize) -> Entry
+        requires { place < length self.now }
+        ensures { slice_get self.now place ≡ Some result }
+    {
+        let order = self.orders[place];
+        let number = place as u32;
+        Entry {
+            order,
+            answer: Answer {
+                code: self.codes[place],
+                seq: number + 1,
+                shown: self.shown.get(&number).copied(),
+            },
+        }
+    }
+
+    /// The entry at a place, from 0 on, where there is one.
+    pub fn entry(&self, place: usize) -> Option<Entry>
+        ensures { result ≡ slice_get self.now place }
+    {
+        if place < self.orders.len() {
+            Some(self.at(place))
+        } else {
+            None
+        }
+    }
+
     /// The entry of a key, where there is one.
     pub fn get(&self, key: TxKey) -> Option<Entry>
         ensures { result ≡ entry_at self.now key }
     {
         let place = self.index.place(key)?;
-        Some(Entry {
-            order: self.orders[place as usize],
-            answer: Answer {
-                code: self.codes[place as usize],
-                seq: place + 1,
-                shown: self.shown.get(&place).copied(),
-            },
-        })
+        Some(self.at(place as usize))
     }
 
     /// What the first reversal of this key leaves, where there is one.
@@ -218,6 +246,15 @@ impl Journal {
         }
     }
 
+    /// Whether an entry stands. What the first reversal of it leaves is handed in.
+    pub fn is_standing(&self, entry: &Entry, left: Option<u64>) -> bool
+        requires { is_some (effect_of entry.now.order) ≡ true → left ≡ left_at self.now entry.now.order.key }
+        ensures { result ≡ is_standing self.now entry.now }
+    {
+        let effect = effect_of(entry.order);
+        is_counted_with(left, entry) && !self.is_ended(entry.order.key(), &effect)
+    }
+
     /// What is left of the amount of an entry that stands, else 0. What the first reversal of it leaves
     /// is handed in.
     pub fn weight(&self, entry: &Entry, left: Option<u64>) -> u64
@@ -225,9 +262,8 @@ impl Journal {
         ensures value { result ≡ weight self.now entry.now }
         ensures small { result ≤ most_amount }
     {
-        let effect = effect_of(entry.order);
-        if is_counted_with(left, entry) && !self.is_ended(entry.order.key(), &effect) {
-            smaller_of(effect_amount(effect), left)
+        if self.is_standing(entry, left) {
+            smaller_of(effect_amount(effect_of(entry.order)), left)
         } else {
             0
         }

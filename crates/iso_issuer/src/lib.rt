@@ -10,12 +10,17 @@ mod document;
 mod effect;
 mod fault;
 mod found;
+mod holds;
 mod index;
 mod issuer;
 mod journal;
 pub mod laws;
 mod posting;
 
+pub use account::Account;
 pub use accounts::Accounts;
+pub use balances::Balance;
 pub use fault::{AccountsFault, Refused};
+pub use holds::OpenHold;
 pub use issuer::{Issuer, MOST_ENTRIES};
+pub use journal::Entry;

@@ -5,7 +5,7 @@ use Rattle.iso_issuer.specs.Account.{account_of}
 use Rattle.iso_issuer.specs.Journal.{is_reversed, is_nothing, left_at}
 use Rattle.iso_issuer.specs.Decision.{money_code, account_code}
 use Rattle.iso_issuer.specs.Balances.{accounts_of}
-use Rattle.iso_issuer.specs.Index.{balance_on}
+use Rattle.iso_issuer.specs.Balance.{balance_on}
 use Rattle.iso_issuer.proofs.Seen.{money-kept}
 use Rattle.iso_issuer.proofs.Summed.{balance-of}
 use Rattle.iso_issuer.proofs.decision.code_of.Goals as goal

@@ -1,8 +1,8 @@
 use Rattle.std.proofs.Common.{◌≡◌, ap, sym, ◌∙◌, Bool, true, false, ℕ}
-use Rattle.std.specs.Prelude.{is_some, not, ◌&&◌, nat_le, length, map, Some, None}
+use Rattle.std.specs.Prelude.{is_some, not, ◌&&◌, nat_le, length, map}
 use Rattle.std.proofs.lemmas.List.{length-map}
 use Rattle.iso_issuer.specs.declared.journal.Entry.{Entry}
-use Rattle.iso_issuer.specs.Journal.{entry_at, is_entered}
+use Rattle.iso_issuer.specs.Journal.{is_entered}
 use Rattle.iso_issuer.proofs.Entries.{entered-found}
 use Rattle.iso_issuer.proofs.issuer.Issuer.is_full_for.Goals as goal
 
