@@ -1,0 +1,4 @@
+pub mod Kinds
+pub mod Complaints
+pub mod Changes
+pub mod RowText
