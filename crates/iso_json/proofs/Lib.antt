@@ -1,0 +1,10 @@
+pub mod Pieces
+pub mod Escapes
+pub mod EntryLemmas
+pub mod NameLemmas
+pub mod Printable
+pub mod Ready
+pub mod Printing
+pub mod Returning
+pub mod Encodes
+pub mod Readings

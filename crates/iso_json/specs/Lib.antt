@@ -1,0 +1,5 @@
+pub mod Written
+pub mod Texts
+pub mod Said
+pub mod RoundTrip
+pub mod Encoded
