@@ -14,6 +14,7 @@ macro_rules! zero_filled {
 
 mod bitmaps;
 mod judgements;
+mod texts;
 mod values;
 
 use bitmaps::{FACTS, SetFact, check_sets, is_fact};

@@ -9,6 +9,7 @@ use std::alloc::{AllocError, Global};
 use std::test::*;
 
 mod cases;
+mod copies;
 mod edition87;
 mod members;
 

@@ -31,6 +31,7 @@ mod masks;
 mod messages;
 mod pieces;
 mod stops;
+mod walks;
 
 const ECHO: &[u8] = b"0800822000000000000004000000000000000102030405000001301";
 
