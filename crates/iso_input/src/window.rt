@@ -1,0 +1,76 @@
+//! An input that is read block by block.
+
+ghost use Rattle.std.specs.Prelude.{◌≡◌, ◌≢◌, ◌≤◌, ◌++◌, ℕ, List, [], length, drop, false, IfOk, IfErr, IfSome, OnErr, option_map};
+ghost use Rattle.std.specs.Io.KnownBytes.{Keeps};
+ghost use Rattle.iso_input.specs.Window.{Grows};
+
+use crate::held::Held;
+use crate::input_fault::InputFault;
+use std::alloc::Global;
+use std::io::Read;
+use std::marker::Model;
+
+/// An input that is read block by block, and those of its bytes that are held. A contract sees the held bytes, and all that
+/// are held or still to come, where those are known. A read that the system interrupts is made again, up to 1,000 times.
+#[derive(Drop)]
+pub struct Window<R: Read> {
+    held: Held,
+    input: R,
+}
+
+impl<R: Read> Model for Window<R> {
+    ghost use Rattle.std.specs.Prelude.{slice_range};
+    ghost use Rattle.std.specs.Io.KnownBytes.{prepend_known};
+    ghost use Rattle.iso_input.specs.Window.{Ahead};
+
+    ghost Value = { Ahead };
+
+    ghost view = { λ w. record {
+      held = slice_range w.held.block.items w.held.start w.held.end;
+      ahead = prepend_known (slice_range w.held.block.items w.held.start w.held.end) (R.remaining w.input);
+    } };
+}
+
+impl<R: Read + Drop> Window<R> {
+    /// A window that holds nothing yet. Takes no memory, and reads nothing.
+    pub fn new(alloc: Global, input: R) -> Window<R>
+        ensures held { result.held ≡ [] }
+        ensures ahead { result.ahead ≡ R.remaining input }
+    {
+        Window {
+            held: Held::new(alloc),
+            input,
+        }
+    }
+
+    /// The bytes that are held.
+    pub fn held(&self) -> &[u8]
+        ensures held { result.now ≡ self.now.held }
+        // They are the first ones of all that are still to be had.
+        ensures front { IfSome self.now.ahead (λ all. (rest : List ℕ) × (all ≡ result.now ++ rest)) }
+    {
+        self.held.bytes()
+    }
+
+    /// Reads a block more, of at most 65,536 bytes, behind the held ones; false where the input has ended. On a fault the
+    /// held bytes are as before, and nothing of the input is lost.
+    pub fn read_more(&mut self) -> Result<bool, InputFault>
+        ensures grown { IfOk result (Grows self.old.held self.new.held) }
+        ensures kept { Keeps self.old.ahead self.new.ahead }
+        ensures end { IfOk result (λ more. more ≡ false → IfSome self.new.ahead (λ all. all ≡ self.new.held)) }
+        ensures fault { IfErr result (λ e. e ≢ InputFault.TooLong) }
+        ensures unchanged { OnErr result (self.new.held ≡ self.old.held) }
+    {
+        let count = self.held.read_more(&mut self.input)?;
+        Ok(count > 0)
+    }
+
+    /// Lets the first held bytes go. Takes no memory.
+    pub fn drop_front(&mut self, count: usize)
+        requires { count ≤ length self.old.held }
+        ensures held { self.new.held ≡ drop count self.old.held }
+        ensures ahead { self.new.ahead ≡ option_map (drop count) self.old.ahead }
+    {
+        self.held.drop_front(count);
+    }
+}
