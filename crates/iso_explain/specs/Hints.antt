@@ -8,7 +8,9 @@ use Rattle.iso_parts.specs.declared.digits.Digits.{Digits}
 use Rattle.iso_parts.specs.declared.digits.Digits.TheVariants as digits
 use Rattle.iso_table.specs.Layout.{Layout}
 use Rattle.iso_wire.specs.Framing.{FrameReading, got, more, bad, frame_at}
+use Rattle.iso_wire.specs.Contents.{Contents}
 use Rattle.iso_wire.specs.Reading.{message_at}
+use Rattle.iso_wire.specs.declared.fault.UnpackFault.{UnpackFault}
 use Rattle.iso_wire.specs.declared.header.Header.{Header}
 use Rattle.iso_wire.specs.declared.header.Header.TheVariants as headers
 use Rattle.iso_explain.specs.declared.hinting.Hint.{Hint}
@@ -20,15 +22,24 @@ use Rattle.iso_explain.specs.declared.hinting.Hint.TheVariants as hints
 abbrev pub reads : Layout → List ℕ → Bool
 reads t b = is_ok (message_at t b)
 
--- a frame takes so many bytes
-abbrev pub takes : FrameReading → ℕ → Bool
-takes (got body used) size = used == size
-takes more size = false
-takes bad size = false
+-- a message takes so many bytes
+abbrev pub takes_all : Result (Contents × ℕ) UnpackFault → ℕ → Bool
+takes_all (Ok read) size = read.1 == size
+takes_all (Err e) size = false
 
--- the bytes are one frame: the header counts exactly the rest
-abbrev pub is_framed : Header → List ℕ → Bool
-is_framed h b = takes (frame_at h b) (length b)
+-- the bytes are one message, and no byte more
+abbrev pub fills : Layout → List ℕ → Bool
+fills t b = takes_all (message_at t b) (length b)
+
+-- a frame takes so many bytes, or its body is a message
+abbrev pub counts_what_follows : Layout → FrameReading → ℕ → Bool
+counts_what_follows t (got body used) size = used == size || fills t body
+counts_what_follows t more size = false
+counts_what_follows t bad size = false
+
+-- the bytes are one frame: the header counts exactly the rest; or they begin with the frame of a message
+abbrev pub is_framed : Layout → Header → List ℕ → Bool
+is_framed t h b = counts_what_follows t (frame_at h b) (length b)
 
 -- the bytes that hexadecimal digits stand for begin with a message
 abbrev pub reads_decoded : Layout → Result (List ℕ) FromHexError → Bool
@@ -64,9 +75,9 @@ begins_tpdu (b ∷ bs) = b == 96
 -- ---- when each mistake is likely
 
 abbrev pub is_likely : Layout → List ℕ → Hint → Bool
-is_likely t b (hints.Framed h) = is_framed h b
-is_likely t b hints.Behind2 = reads t (drop 2 b) && not (is_framed headers.Binary2 b) && not (is_framed headers.Bcd2 b)
-is_likely t b hints.Behind4 = reads t (drop 4 b) && not (is_framed headers.Ascii4 b)
+is_likely t b (hints.Framed h) = is_framed t h b
+is_likely t b hints.Behind2 = fills t (drop 2 b) && not (is_framed t headers.Binary2 b) && not (is_framed t headers.Bcd2 b)
+is_likely t b hints.Behind4 = fills t (drop 4 b) && not (is_framed t headers.Ascii4 b)
 is_likely t b hints.Tpdu = begins_tpdu b && reads t (drop 5 b)
 is_likely t b hints.HexText = is_hex_text t b
 is_likely t b hints.TextUnderBcd = is_bcd t.mti && has_type digits.Ascii t.version b
@@ -79,6 +90,10 @@ all_hints =
     hints.Framed headers.Binary2 ∷ hints.Framed headers.Ascii4 ∷ hints.Framed headers.Bcd2 ∷ hints.Behind2 ∷ hints.Behind4 ∷ hints.Tpdu ∷ hints.HexText
     ∷ hints.TextUnderBcd ∷ hints.BcdUnderText ∷ hints.Edition 0 ∷ hints.Edition 1 ∷ hints.Edition 2 ∷ []
 
+-- the likely ones of these
+abbrev pub likely_of : Layout → List ℕ → List Hint → List Hint
+likely_of t b of = filter (is_likely t b) of
+
 -- the likely ones
 abbrev pub likely : Layout → List ℕ → List Hint
-likely t b = filter (is_likely t b) all_hints
+likely t b = likely_of t b all_hints

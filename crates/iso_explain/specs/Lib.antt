@@ -1,3 +1,4 @@
 pub mod Outcomes
 pub mod Seen
 pub mod Hints
+pub mod NamedLines

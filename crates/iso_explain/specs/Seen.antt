@@ -1,5 +1,7 @@
 -- What may be shown of an element.
-use Rattle.std.specs.Prelude.{◌≡◌, ℕ, ◌==◌, ◌||◌, ◌&&◌, not, Bool, true, false, if◌then◌else◌, List, length, Option, Some, None, option_map}
+use Rattle.std.specs.Prelude.{◌≡◌, ℕ, ◌==◌, ◌||◌, ◌&&◌, not, Bool, true, false, if◌then◌else◌, List, ◌++◌, length, replicate, Option, Some, None, option_map}
+use Rattle.iso_parts.specs.declared.class.CharClass.{CharClass}
+use Rattle.iso_wire.specs.Describing.{clear_text}
 use Rattle.iso_wire.specs.Masking.{is_secret, Masks}
 use Rattle.iso_wire.specs.declared.masking.Shown.{Shown}
 use Rattle.iso_explain.specs.declared.seen.Seen as seen
@@ -28,3 +30,7 @@ pub record Sees (is_clear : Bool) (n : ℕ) (b v : List ℕ) (s : seen.Seen) : T
   pub body : option_map (λ shown. shown.now) s.body ≡ seen_body is_clear n b
   pub size : s.size ≡ length b
   pub value : ShowsValue is_clear n v s.value
+
+-- what is shown as text, with a star for each byte that is hidden
+abbrev pub shown_as : CharClass → Shown → List ℕ
+shown_as class shown = clear_text class shown.front.now ++ (replicate shown.hidden 42 ++ clear_text class shown.end.now)

@@ -132,6 +132,10 @@ fn push_fault(
     push_number(piece.start, out)?;
     out.extend_from_slice(b": ")?;
     out.extend_from_slice(sentence(cause).as_bytes())?;
+    if let UnpackCause::UnknownElement(element) = cause {
+        out.extend_from_slice(b", that of element ")?;
+        push_number(usize::from(element), out)?;
+    }
     out.extend_from_slice(b"\n")
 }
 

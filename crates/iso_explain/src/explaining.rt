@@ -1,8 +1,8 @@
 //! The explanation of a message.
 
-ghost use Rattle.std.specs.Prelude.{◌≡◌, ◌++◌, ℕ, List, IfOk, OnOk, OnErr};
-ghost use Rattle.iso_wire.specs.Reading.{message_at};
-ghost use Rattle.iso_explain.specs.Outcomes.{outcome_in};
+ghost use Rattle.std.specs.Prelude.{◌≡◌, IfOk, OnOk, OnErr};
+ghost use Rattle.iso_parts.specs.Buffers.{Keeps};
+ghost use Rattle.iso_explain.specs.Outcomes.{IsOutcome};
 
 use crate::bad::push_bad;
 use crate::lines::{push_bitmap, push_element, push_type};
@@ -91,9 +91,9 @@ pub fn append_explanation(
     out: &mut Vec<u8>,
 ) -> Result<Outcome, NoMemory>
     // The outcome is what `unpack` answers.
-    ensures outcome { IfOk result (λ outcome. outcome ≡ outcome_in (message_at table.now bytes.now)) }
+    ensures outcome { IfOk result (IsOutcome table.now bytes.now) }
     // What was there stays in front.
-    ensures appended { OnOk result ((text : List ℕ) × (out.new.items ≡ out.old.items ++ text)) }
+    ensures appended { OnOk result (Keeps out.old.items out.new.items) }
     ensures unchanged { OnErr result (out.new.items ≡ out.old.items) }
 {
     let page = Page {

@@ -1,7 +1,8 @@
 //! Likely mistakes behind bytes that aren't the message that their table wants.
 
 ghost use Rattle.std.specs.Prelude.{◌≡◌, not, drop, filter, IfOk};
-ghost use Rattle.iso_explain.specs.Hints.{reads, is_framed, is_blank, is_hex_text, has_type, is_bcd, begins_tpdu, is_likely, likely};
+ghost use Rattle.iso_explain.specs.Hints.{reads, fills, is_framed, is_blank, is_hex_text, has_type};
+ghost use Rattle.iso_explain.specs.Hints.{is_bcd, begins_tpdu, is_likely, likely, likely_of};
 
 use hex::FromHexError;
 use iso_parts::{Digits, four_digits_in};
@@ -12,11 +13,11 @@ use std::alloc::{AllocError, Global};
 /// A likely mistake.
 #[derive(Clone, Copy, Debug, PartialEq, Eq)]
 pub enum Hint {
-    /// A frame's header stands in front: it counts exactly the bytes behind it.
+    /// A frame's header stands in front: it counts exactly the bytes behind it, or a body that is a message.
     Framed(Header),
-    /// A message reads behind two bytes, which count something else.
+    /// The bytes behind the first two are a message, and those two count something else.
     Behind2,
-    /// A message reads behind four bytes, which count something else.
+    /// The bytes behind the first four are a message, and those four count something else.
     Behind4,
     /// A TPDU of five bytes stands in front, and a message reads behind it.
     Tpdu,
@@ -56,6 +57,24 @@ fn reads(table: &Table, bytes: &[u8]) -> bool
     }
 }
 
+/// Whether the bytes are one message, and no byte more.
+fn fills(table: &Table, bytes: &[u8]) -> bool
+    ensures { result ≡ fills table.now bytes.now }
+{
+    match view(table, bytes) {
+        Ok(message) => message.used() == bytes.len(),
+        Err(_) => false,
+    }
+}
+
+/// Whether the bytes behind the first ones, so many of them, are one message.
+fn fills_behind(table: &Table, count: usize, bytes: &[u8]) -> bool
+    ensures { result ≡ fills table.now (drop count bytes.now) }
+{
+    let (_, rest) = bytes.split_at(count.min(bytes.len()));
+    fills(table, rest)
+}
+
 /// Whether a message stands behind so many bytes.
 fn reads_behind(table: &Table, count: usize, bytes: &[u8]) -> bool
     ensures { result ≡ reads table.now (drop count bytes.now) }
@@ -64,12 +83,12 @@ fn reads_behind(table: &Table, count: usize, bytes: &[u8]) -> bool
     reads(table, rest)
 }
 
-/// Whether the bytes are one frame.
-fn is_framed(header: Header, bytes: &[u8]) -> bool
-    ensures { result ≡ is_framed header bytes.now }
+/// Whether the bytes are one frame, or begin with the frame of a message.
+fn is_framed(table: &Table, header: Header, bytes: &[u8]) -> bool
+    ensures { result ≡ is_framed table.now header bytes.now }
 {
     match unframe(header, bytes) {
-        Ok(Framed::Got { used, .. }) => used == bytes.len(),
+        Ok(Framed::Got { body, used }) => used == bytes.len() || fills(table, body),
         Ok(Framed::More) | Err(_) => false,
     }
 }
@@ -143,13 +162,15 @@ impl Hint {
         ensures { IfOk result (λ is. is ≡ is_likely table.now bytes.now self) }
     {
         Ok(match self {
-            Hint::Framed(header) => is_framed(header, bytes),
+            Hint::Framed(header) => is_framed(table, header, bytes),
             Hint::Behind2 => {
-                reads_behind(table, 2, bytes)
-                    && !is_framed(Header::Binary2, bytes)
-                    && !is_framed(Header::Bcd2, bytes)
+                fills_behind(table, 2, bytes)
+                    && !is_framed(table, Header::Binary2, bytes)
+                    && !is_framed(table, Header::Bcd2, bytes)
             }
-            Hint::Behind4 => reads_behind(table, 4, bytes) && !is_framed(Header::Ascii4, bytes),
+            Hint::Behind4 => {
+                fills_behind(table, 4, bytes) && !is_framed(table, Header::Ascii4, bytes)
+            }
             Hint::Tpdu => begins_tpdu(bytes) && reads_behind(table, 5, bytes),
             Hint::HexText => is_hex_text(alloc, table, bytes)?,
             Hint::TextUnderBcd => {
@@ -168,18 +189,16 @@ impl Hint {
     pub fn sentence(self) -> &'static str {
         match self {
             Hint::Framed(Header::Binary2) => {
-                "the first 2 bytes count exactly the rest: a frame's header (--frames binary2)"
+                "the first 2 bytes count what follows: a frame's header (--frames binary2)"
             }
             Hint::Framed(Header::Ascii4) => {
-                "the first 4 digits count exactly the rest: a frame's header (--frames ascii4)"
+                "the first 4 digits count what follows: a frame's header (--frames ascii4)"
             }
             Hint::Framed(Header::Bcd2) => {
-                "the first 2 bytes count in BCD exactly the rest: a frame's header (--frames bcd2)"
+                "the first 2 bytes count in BCD what follows: a frame's header (--frames bcd2)"
             }
-            Hint::Behind2 =>
-                "behind the first 2 bytes a message reads (--frames binary2 or --skip 2)",
-            Hint::Behind4 =>
-                "behind the first 4 bytes a message reads (--frames ascii4 or --skip 4)",
+            Hint::Behind2 => "behind the first 2 bytes stands a message (--skip 2)",
+            Hint::Behind4 => "behind the first 4 bytes stands a message (--skip 4)",
             Hint::Tpdu => "a TPDU of 5 bytes stands in front of a message (--skip 5)",
             Hint::HexText => "the bytes are hexadecimal digits of a message (--hex)",
             Hint::TextUnderBcd =>
@@ -200,7 +219,7 @@ fn likely_of(
     bytes: &[u8],
     hints: &[Hint],
 ) -> Result<Vec<Hint>, AllocError>
-    ensures { IfOk result (λ found. found.items ≡ filter (is_likely table.now bytes.now) hints.now) }
+    ensures { IfOk result (λ found. found.items ≡ likely_of table.now bytes.now hints.now) }
 {
     let mut found = Vec::new(alloc);
     for hint in hints {

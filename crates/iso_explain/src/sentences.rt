@@ -3,8 +3,8 @@
 use iso_parts::{BitmapCoding, CharClass, Coding, Digits, FieldFault, FieldSpec, Length};
 use iso_wire::UnpackCause;
 
-/// What a fault means.
-pub(crate) fn sentence(cause: UnpackCause) -> &'static str {
+/// What a fault means, in a clause of a sentence.
+pub fn sentence(cause: UnpackCause) -> &'static str {
     match cause {
         UnpackCause::Short => "the bytes end inside this piece",
         UnpackCause::BadMti => "the message type isn't four digits",
@@ -32,7 +32,7 @@ fn field_sentence(fault: FieldFault) -> &'static str {
 }
 
 /// What usually causes a fault.
-pub(crate) fn usual_cause(cause: UnpackCause) -> &'static str {
+pub fn usual_cause(cause: UnpackCause) -> &'static str {
     match cause {
         UnpackCause::Short => "a cut input, a length too great, a bit too many",
         UnpackCause::BadMti => "another table, or a frame's header before the message",

@@ -2,6 +2,8 @@
 
 ghost use Rattle.std.specs.Prelude.{◌≡◌, ◌++◌, replicate, decimal, OnOk};
 ghost use Rattle.hex.specs.Hex.{encode_upper};
+ghost use Rattle.iso_wire.specs.Describing.{clear_text};
+ghost use Rattle.iso_explain.specs.Seen.{shown_as};
 
 use iso_parts::{CharClass, hex_digit};
 use iso_wire::Shown;
@@ -44,7 +46,9 @@ pub(crate) fn pad(width: usize, start: usize, out: &mut Vec<u8>) -> Result<(), A
 }
 
 /// Appends bytes as a row of the class shows them.
-fn push_text(class: CharClass, bytes: &[u8], out: &mut Vec<u8>) -> Result<(), AllocError> {
+fn push_text(class: CharClass, bytes: &[u8], out: &mut Vec<u8>) -> Result<(), AllocError>
+    ensures { OnOk result (out.new.items ≡ out.old.items ++ clear_text class bytes.now) }
+{
     match class {
         CharClass::B => push_hex(bytes, out),
         CharClass::N
@@ -62,7 +66,9 @@ pub(crate) fn push_shown(
     class: CharClass,
     shown: Shown,
     out: &mut Vec<u8>,
-) -> Result<(), AllocError> {
+) -> Result<(), AllocError>
+    ensures { OnOk result (out.new.items ≡ out.old.items ++ shown_as class shown.entry) }
+{
     push_text(class, shown.front, out)?;
     push_each(b'*', shown.hidden, out)?;
     push_text(class, shown.end, out)

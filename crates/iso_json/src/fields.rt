@@ -102,6 +102,14 @@ fn without_prefix(key: &[u8]) -> &[u8] {
     }
 }
 
+/// What stands before the first tab. Behind it stands the name of an element.
+fn before_tab(value: &[u8]) -> &[u8] {
+    match value.iter().position(|b| *b == b'\t') {
+        Some(at) => &value[..at],
+        None => value,
+    }
+}
+
 /// What a line says.
 fn said_by(line: &[u8]) -> Said<'_> {
     if is_end(line) {
@@ -109,7 +117,7 @@ fn said_by(line: &[u8]) -> Said<'_> {
     }
     match around_equals(line) {
         Some((b"MTI", text)) => Said::Type(text),
-        Some((key, value)) => Said::Element(without_prefix(key), value),
+        Some((key, value)) => Said::Element(without_prefix(key), before_tab(value)),
         None => Said::Unknown,
     }
 }
@@ -263,8 +271,8 @@ fn read_lines(
 
 /// The message of field lines: `MTI=` and four digits, perhaps with the words that a description has for them; and for each
 /// element a line of `DE`, its number, `=` and its value. The `DE` and leading zeros of the number may be left out. A value
-/// of class `B` is text of hexadecimal digits, any other its characters. A line that is empty or begins with `USED=` ends the
-/// message.
+/// of class `B` is text of hexadecimal digits, any other its characters. What stands behind a tab is the element's name, and
+/// isn't read. A line that is empty or begins with `USED=` ends the message.
 ///
 /// Else all that is wrong, each with its line: first the type, and then line by line what [`read_json`] tells of an element,
 /// a line that is none of these, a second type, and anything behind the end. Nothing is dropped silently.

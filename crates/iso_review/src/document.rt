@@ -49,7 +49,11 @@ fn no_json(text: &[u8], error: &Error) -> Complaint
     ensures { result.place ≡ nowhere }
 {
     let (line, column) = (error.line(), error.column());
-    let byte = byte_at(text, line, column);
+    let byte = if error.is_eof() {
+        None
+    } else {
+        byte_at(text, line, column)
+    };
     Complaint {
         place: Place::DOCUMENT,
         finding: Finding {
