@@ -1,0 +1,59 @@
+-- Inputs that are worked on.
+use Rattle.std.specs.Prelude.{◌≡◌, ◌⊎◌, ℕ, ◌<◌, Bool, true, false, if◌then◌else◌, List, [], length, Option, Some, None, Ok, Err}
+use Rattle.std.specs.Io.KnownBytes.{Appends}
+use Rattle.iso_wire.specs.declared.header.Header.{Header}
+use Rattle.iso_input.specs.Dump.{hex_bytes}
+use Rattle.iso_input.specs.declared.fault.HexFault.{HexFault}
+use Rattle.iso_jobs.specs.Work.{Tells, WorksOn}
+use Rattle.iso_jobs.specs.declared.form.Form.{Form}
+use Rattle.iso_jobs.specs.declared.opening.Opened.{Opened}
+use Rattle.iso_jobs.specs.declared.opening.Opened.TheVariants as opened
+use Rattle.iso_jobs.specs.declared.work.Work.{Work}
+
+-- ---- what an input has
+
+-- the most bytes, or characters of hexadecimal text, of an input that is read whole
+abbrev pub most_of : Form → ℕ
+most_of form = if form.is_hex then 16777216 else 1048576
+
+abbrev pub HasBytesBy : Bool → List ℕ → List ℕ → Type 0
+HasBytesBy true all bytes = hex_bytes all ≡ Ok bytes
+HasBytesBy false all bytes = bytes ≡ all
+
+-- the bytes that the input has, or that its digits stand for
+abbrev pub HasBytes : Form → List ℕ → List ℕ → Type 0
+HasBytes form all bytes = HasBytesBy form.is_hex all bytes
+
+-- the text stands for no bytes
+abbrev pub IsNoHex : List ℕ → Type 0
+IsNoHex text = (e : HexFault) × (hex_bytes text ≡ Err e)
+
+-- the input is too long to be read whole, or its digits stand for no bytes
+abbrev pub IsNotRead : Form → List ℕ → Type 0
+IsNotRead form all = (most_of form < length all) ⊎ ((form.is_hex ≡ true) × IsNoHex all)
+
+-- what was read of a text
+abbrev pub IsDecoded : List ℕ → Opened → Type 0
+IsDecoded text (opened.Bytes bytes) = hex_bytes text ≡ Ok bytes.items
+IsDecoded text (opened.Refused trouble) = IsNoHex text
+
+-- what was read of an input
+abbrev pub Opens : Form → List ℕ → Opened → Type 0
+Opens form all (opened.Bytes bytes) = HasBytes form all bytes.items
+Opens form all (opened.Refused trouble) = IsNotRead form all
+
+-- ---- what is done
+
+-- the output grows by what is told of the one message that bytes are, or of each body of their frames
+abbrev pub WorksOnBy : Option Header → Work → Form → List ℕ → Option (List ℕ) → Option (List ℕ) → Bool → Type 0
+WorksOnBy None w form bytes old new good = (text : List ℕ) × Tells w form bytes (good, text) × Appends old new text
+WorksOnBy (Some h) w form bytes old new good = WorksOn w form h bytes old new good
+
+abbrev pub WorksOnBytes : Work → Form → List ℕ → Option (List ℕ) → Option (List ℕ) → Bool → Type 0
+WorksOnBytes w form bytes old new good = WorksOnBy form.header w form bytes old new good
+
+-- so it does for the bytes that the input has; or nothing is written, since it isn't read
+abbrev pub WorksOnInput : Work → Form → List ℕ → Option (List ℕ) → Option (List ℕ) → Bool → Type 0
+WorksOnInput w form all old new good =
+    ((bytes : List ℕ) × HasBytes form all bytes × WorksOnBytes w form bytes old new good)
+    ⊎ (IsNotRead form all × (good ≡ false) × Appends old new [])

@@ -1,0 +1,9 @@
+pub mod Complaints
+pub mod Whole
+pub mod Written
+pub mod Telling
+pub mod Work
+pub mod Frames
+pub mod Inputs
+pub mod Making
+pub mod Encoding

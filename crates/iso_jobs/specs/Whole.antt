@@ -1,0 +1,23 @@
+-- Bytes that are one message.
+use Rattle.std.specs.Prelude.{ℕ, List}
+use Rattle.iso_table.specs.Layout.{Layout}
+use Rattle.iso_wire.specs.Contents.{Contents}
+use Rattle.iso_wire.specs.Spelling.{Spelling}
+use Rattle.iso_wire.specs.declared.fault.UnpackFault.{UnpackFault}
+use Rattle.iso_wire.specs.declared.fault.UnpackCause.{UnpackCause}
+use Rattle.iso_wire.specs.declared.fault.UnpackCause.TheVariants as causes
+use Rattle.iso_jobs.specs.declared.refusal.Refusal.{Refusal}
+use Rattle.iso_jobs.specs.declared.refusal.Refusal.TheVariants as refusals
+use Rattle.iso_jobs.specs.declared.refusal.Trouble.TheVariants as troubles
+
+-- the bytes spell no message
+abbrev pub IsNoMessage : Layout → List ℕ → Type 0
+IsNoMessage t b = (m : Contents) → Spelling t m b → ⊥
+
+abbrev pub refusal_by : UnpackFault → UnpackCause → Refusal
+refusal_by e causes.Memory = refusals.Memory
+refusal_by e cause = refusals.Refused (troubles.Unpack e)
+
+-- want of memory, or what is wrong with the bytes
+abbrev pub refusal_of : UnpackFault → Refusal
+refusal_of e = refusal_by e e.cause

@@ -1,0 +1,126 @@
+//! One body of an input, and what is told of it.
+
+ghost use Rattle.std.specs.Prelude.{◌≡◌, ◌++◌, ℕ, List, OnOk, IfOk, is_none};
+ghost use Rattle.iso_jobs.specs.Work.{TellsBehind, TellsBody, TellsNone, Tells};
+
+use crate::form::Form;
+use crate::place::Place;
+use crate::refusal::{Refusal, Trouble};
+use crate::telling::{convert, explain, explain_json, tell_json, tell_lines};
+use crate::texts::append_object;
+use crate::whole::behind_skipped;
+use crate::work::Work;
+use std::alloc::{AllocError, Global};
+
+/// What is done, with messages in which form, of which input.
+#[derive(Clone, Copy)]
+pub(crate) struct Job<'a> {
+    pub(crate) alloc: Global,
+    pub(crate) work: Work<'a>,
+    pub(crate) form: Form,
+    /// The name of the input.
+    pub(crate) input: &'a str,
+    /// How many bytes the input has, where its progress is to be told.
+    pub(crate) total: Option<u64>,
+}
+
+impl<'a> Job<'a> {
+    /// The input as a whole.
+    pub(crate) fn whole(&self) -> Place<'a> {
+        Place {
+            input: self.input,
+            frame: None,
+        }
+    }
+
+    /// Where the body with this number in its stream stands.
+    pub(crate) fn place(&self, number: u64) -> Place<'a> {
+        Place {
+            input: self.input,
+            frame: if self.form.header.is_some() {
+                Some(number)
+            } else {
+                None
+            },
+        }
+    }
+}
+
+/// Appends what is told of the message that the bytes are, behind those that were skipped.
+fn tell_behind(
+    job: Job,
+    number: u64,
+    front: &[u8],
+    bytes: &[u8],
+    out: &mut Vec<u8>,
+) -> Result<(), Refusal>
+    ensures { TellsBehind job.entry.work job.entry.form front.now bytes.now out.old.items out.new.items result }
+{
+    let (alloc, form) = (job.alloc, job.form);
+    let is_framed = form.header.is_some();
+    match job.work {
+        Work::Lines {
+            table,
+            names,
+            is_clear,
+        } => tell_lines(alloc, table, names, is_clear, is_framed, bytes, out),
+        Work::Json { table, is_clear } => tell_json(alloc, table, is_clear, bytes, out),
+        Work::Explain {
+            table,
+            names,
+            style,
+        } => {
+            let frame = if is_framed { Some(number) } else { None };
+            explain(alloc, table, names, style, frame, bytes, out)
+        }
+        Work::ExplainJson {
+            table,
+            names,
+            is_clear,
+        } => explain_json(alloc, table, names, is_clear, bytes, out),
+        Work::Convert { from, to } => convert(alloc, from, to, form, front, bytes, out),
+    }
+}
+
+/// Appends what is told of a body.
+fn tell_body(job: Job, number: u64, body: &[u8], out: &mut Vec<u8>) -> Result<(), Refusal>
+    ensures { TellsBody job.entry.work job.entry.form body.now out.old.items out.new.items result }
+{
+    let (front, bytes) = behind_skipped(job.form.skip, body)?;
+    tell_behind(job, number, front, bytes, out)
+}
+
+/// Appends what stands for a body that is refused: in a stream of JSON an object, else nothing.
+pub(crate) fn tell_refused(
+    job: Job,
+    number: u64,
+    trouble: Trouble,
+    out: &mut Vec<u8>,
+) -> Result<(), AllocError>
+    ensures { OnOk result ((text : List ℕ) × TellsNone job.entry.work job.entry.form text × (out.new.items ≡ out.old.items ++ text)) }
+{
+    match (job.work, job.form.header) {
+        (Work::Json { .. }, Some(_)) => append_object(job.alloc, number, trouble, out),
+        _ => Ok(()),
+    }
+}
+
+/// Appends what is told of a body, the one with this number in its stream, and tells what is wrong with it, if anything is.
+pub(crate) fn tell(
+    job: Job,
+    number: u64,
+    body: &[u8],
+    out: &mut Vec<u8>,
+) -> Result<Option<Trouble>, AllocError>
+    ensures { IfOk result (λ trouble. (text : List ℕ) × Tells job.entry.work job.entry.form body.now (is_none trouble, text)
+        × (out.new.items ≡ out.old.items ++ text)) }
+{
+    match tell_body(job, number, body, out) {
+        Ok(()) => Ok(None),
+        Err(Refusal::Refused(trouble)) => {
+            tell_refused(job, number, trouble, out)?;
+            Ok(Some(trouble))
+        }
+        Err(Refusal::Memory) => Err(AllocError),
+    }
+}
