@@ -1,0 +1,234 @@
+//! What the words of a command line ask.
+
+use crate::documents::STANDARD_INPUT;
+use clap::ArgMatches;
+use iso_wire::Header;
+use std::alloc::{AllocError, Global};
+
+/// The words about messages that are read or written under one table.
+#[derive(Clone, Copy, Debug)]
+pub struct MessageWords<'a> {
+    /// The table's name or path.
+    pub table: &'a str,
+    /// The path of what is read; `-` is standard input.
+    pub input: &'a str,
+    /// Whether bytes are in hexadecimal digits.
+    pub is_hex: bool,
+    /// The header of frames, where messages stand in frames.
+    pub header: Option<Header>,
+    /// How many bytes stand before the type of each message.
+    pub skip: u16,
+    /// Whether all values are shown in full.
+    pub is_clear: bool,
+    /// Whether JSON is written.
+    pub is_json: bool,
+    /// The path of a network's own names.
+    pub names: Option<&'a str>,
+}
+
+/// The words about messages that are written under another table.
+#[derive(Clone, Copy, Debug)]
+pub struct ConvertWords<'a> {
+    /// The name or path of the table that they are read by.
+    pub from: &'a str,
+    /// The name or path of the table that they are written by.
+    pub to: &'a str,
+    /// The path of what is read; `-` is standard input.
+    pub input: &'a str,
+    /// Whether bytes are in hexadecimal digits.
+    pub is_hex: bool,
+    /// The header of frames, where messages stand in frames.
+    pub header: Option<Header>,
+    /// How many bytes stand before the type of each message.
+    pub skip: u16,
+}
+
+/// The words about a table that is made from another one.
+#[derive(Debug, Drop)]
+pub struct NewWords<'a> {
+    /// The name or path of the table to begin with.
+    pub from: &'a str,
+    /// The elements whose rows are left out.
+    pub drops: Vec<u16>,
+    /// The rows that are set, each as a text.
+    pub rows: Vec<&'a str>,
+}
+
+/// What is asked about tables.
+#[derive(Debug, Drop)]
+pub enum TableJob<'a> {
+    /// `check TABLE`
+    Check(&'a str),
+    /// `show TABLE [--names FILE]`
+    Show(&'a str, Option<&'a str>),
+    /// `list`
+    List,
+    /// `new [--from TABLE] [--set ROW].. [--drop N]..`
+    New(NewWords<'a>),
+    /// `diff A B`
+    Diff(&'a str, &'a str),
+}
+
+/// What is asked about messages.
+#[derive(Clone, Copy, Debug)]
+pub enum MessageJob<'a> {
+    /// `explain TABLE [INPUT]`
+    Explain(MessageWords<'a>),
+    /// `decode TABLE [INPUT]`
+    Decode(MessageWords<'a>),
+    /// `encode TABLE [INPUT]`
+    Encode(MessageWords<'a>),
+    /// `convert FROM TO [INPUT]`
+    Convert(ConvertWords<'a>),
+}
+
+/// What the words ask.
+#[derive(Debug, Drop)]
+pub enum Job<'a> {
+    /// About messages.
+    Messages(MessageJob<'a>),
+    /// About tables.
+    Tables(TableJob<'a>),
+}
+
+impl<'a> MessageJob<'a> {
+    /// The path of what is read; `-` is standard input.
+    pub fn input(&self) -> &'a str {
+        match self {
+            MessageJob::Explain(words) | MessageJob::Decode(words) | MessageJob::Encode(words) =>
+                words.input,
+            MessageJob::Convert(words) => words.input,
+        }
+    }
+}
+
+impl<'a> Job<'a> {
+    /// Whether standard input is read.
+    pub fn reads_input(&self) -> bool {
+        match self {
+            Job::Messages(job) => job.input() == STANDARD_INPUT,
+            Job::Tables(TableJob::Check(table) | TableJob::Show(table, _)) => *table
+                == STANDARD_INPUT,
+            Job::Tables(TableJob::New(words)) => words.from == STANDARD_INPUT,
+            Job::Tables(TableJob::Diff(first, second)) => {
+                *first == STANDARD_INPUT || *second == STANDARD_INPUT
+            }
+            Job::Tables(TableJob::List) => false,
+        }
+    }
+}
+
+/// The text of an argument that must be given or has a default.
+fn text_of<'a>(matches: &ArgMatches<'a>, id: &str) -> &'a str {
+    matches.get_str(id).unwrap_or("")
+}
+
+/// The header of frames that is given, if one is.
+fn header_of(matches: &ArgMatches<'_>) -> Option<Header> {
+    match matches.get_str("frames")? {
+        "binary2" => Some(Header::Binary2),
+        "ascii4" => Some(Header::Ascii4),
+        _ => Some(Header::Bcd2),
+    }
+}
+
+/// How many bytes are skipped.
+fn skip_of(matches: &ArgMatches<'_>) -> u16 {
+    matches.get_one::<u16>("skip").unwrap_or(0)
+}
+
+fn message_words<'a>(matches: &ArgMatches<'a>) -> MessageWords<'a> {
+    MessageWords {
+        table: text_of(matches, "table"),
+        input: text_of(matches, "input"),
+        is_hex: matches.get_flag("hex"),
+        header: header_of(matches),
+        skip: skip_of(matches),
+        is_clear: matches.get_flag("clear"),
+        is_json: matches.get_flag("json"),
+        names: matches.get_str("names"),
+    }
+}
+
+fn convert_words<'a>(matches: &ArgMatches<'a>) -> ConvertWords<'a> {
+    ConvertWords {
+        from: text_of(matches, "from"),
+        to: text_of(matches, "to"),
+        input: text_of(matches, "input"),
+        is_hex: matches.get_flag("hex"),
+        header: header_of(matches),
+        skip: skip_of(matches),
+    }
+}
+
+/// The elements whose rows are left out.
+fn drops_of(alloc: Global, matches: &ArgMatches<'_>) -> Result<Vec<u16>, AllocError> {
+    let mut drops = Vec::new(alloc);
+    if let Some(numbers) = matches.get_many::<u16>("drop") {
+        for number in numbers {
+            if let Ok(number) = number {
+                drops.push(number)?;
+            }
+        }
+    }
+    Ok(drops)
+}
+
+/// The rows that are set.
+fn rows_of<'a>(alloc: Global, matches: &ArgMatches<'a>) -> Result<Vec<&'a str>, AllocError> {
+    let rows = matches.get_strs("set").unwrap_or(&[]);
+    Vec::from_slice(alloc, rows)
+}
+
+fn new_words<'a>(alloc: Global, matches: &ArgMatches<'a>) -> Result<NewWords<'a>, AllocError> {
+    Ok(NewWords {
+        from: text_of(matches, "from"),
+        drops: drops_of(alloc, matches)?,
+        rows: rows_of(alloc, matches)?,
+    })
+}
+
+/// What a subcommand of `table` asks.
+fn table_job<'a>(
+    alloc: Global,
+    name: &str,
+    matches: &ArgMatches<'a>,
+) -> Result<Option<TableJob<'a>>, AllocError> {
+    Ok(match name {
+        "check" => Some(TableJob::Check(text_of(matches, "table"))),
+        "show" => Some(TableJob::Show(text_of(matches, "table"), matches.get_str("names"))),
+        "list" => Some(TableJob::List),
+        "new" => Some(TableJob::New(new_words(alloc, matches)?)),
+        "diff" => Some(TableJob::Diff(text_of(matches, "first"), text_of(matches, "second"))),
+        _ => None,
+    })
+}
+
+/// What `table` asks.
+fn tables_asked<'a>(
+    alloc: Global,
+    matches: &ArgMatches<'a>,
+) -> Result<Option<Job<'a>>, AllocError> {
+    let Some((name, inner)) = matches.subcommand() else {
+        return Ok(None);
+    };
+    match table_job(alloc, name, inner)? {
+        Some(job) => Ok(Some(Job::Tables(job))),
+        None => Ok(None),
+    }
+}
+
+/// What the words ask that `clap` let pass. `None` is for a subcommand that the program doesn't have, so it never comes.
+pub fn job_of<'a>(alloc: Global, matches: &ArgMatches<'a>) -> Result<Option<Job<'a>>, AllocError> {
+    let Some((name, inner)) = matches.subcommand() else {
+        return Ok(None);
+    };
+    match name {
+        "explain" => Ok(Some(Job::Messages(MessageJob::Explain(message_words(inner))))),
+        "decode" => Ok(Some(Job::Messages(MessageJob::Decode(message_words(inner))))),
+        "encode" => Ok(Some(Job::Messages(MessageJob::Encode(message_words(inner))))),
+        "convert" => Ok(Some(Job::Messages(MessageJob::Convert(convert_words(inner))))),
+        "table" => tables_asked(alloc, inner),
+        _ => Ok(None),
+    }
+}
