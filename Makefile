@@ -1,16 +1,16 @@
 # make run     the echo test of examples/echo.txt, by the built command or else by the quick run
 # make test    every test and every stored run, without proofs; the last line is 'N passed, N failed'
-# make build   proves the command and what it stands on, and builds it: crates/iso_cli/out/iso_cli
-# make day     the frames of examples/day.txt through an issuer host, and each answer; builds the command
+# make build   proves both programs and what they stand on, and builds them: crates/rumpadol/out/rumpadol, crates/iso_cli/out/iso_cli
+# make day     the frames of examples/day.txt through an issuer host, and each answer; builds both programs
 # make replay  a host that is killed and started again on the frames that were kept; builds the command
 # make connections  an acquirer whose answers get lost, and peers that misbehave, at a host on a port; builds the command
-# make rows    the rows of the command, and of its host on a port, at the built command; builds the command
+# make rows    the rows of both programs, and of the host on a port, at the built programs; builds them
 # make schedule  an acquirer whose answers get lost, and what both ends hold: SCHEDULE=examples/lost-answers.txt
 # make library  proves the library for C and what it stands on, and builds it: crates/iso_c/out/libiso_c.a
 # make check   proves what changed since the last check
 # make prove   the whole gate: every proof, must-fail edit, test and program, from nothing; RT_JOBS=2 for fewer checks side by side
 # make memory  each call that can want memory, and each command, with each of its growths refused in turn, by the quick run
-# make compare  what the command does with messages made by chance, and what the model says: SECONDS=120; builds the command
+# make compare  what both programs do with messages made by chance, and what the model says: SECONDS=120; builds them
 # make loopback  how long a round trip on a port takes, and the memory of a host over many connections: ROUNDS=1000 for fewer
 # make bench   how fast the streams, the codec and the issuer are: ORDERS=2000 SIZES="100 1000" for fewer orders
 # The last two print tables. Where ORDERS, SIZES and ROUNDS are as below, they write them to docs/SPEED.md too.
@@ -20,6 +20,7 @@ $(error the Rattle toolchain is missing: no program rt on the PATH)
 endif
 
 COMMAND := crates/iso_cli/out/iso_cli
+RUMPADOL := crates/rumpadol/out/rumpadol
 BENCH := crates/iso_bench/out/iso_bench
 LIBRARY := crates/iso_c/out/libiso_c.a
 ANSWERS := crates/iso_cli/out/answers.txt
@@ -54,13 +55,13 @@ run:
 test:
 	@scripts/test.sh
 
-build: $(COMMAND)
+build: $(COMMAND) $(RUMPADOL)
 
 library: $(LIBRARY)
 
-day: $(COMMAND)
+day: $(COMMAND) $(RUMPADOL)
 	@$(COMMAND) run ascii87 examples/accounts.json ascii4 < examples/day.txt > $(ANSWERS)
-	@examples/show-answers.sh $(COMMAND) ascii87 ascii4 $(ANSWERS)
+	@$(RUMPADOL) decode ascii87 --frames ascii4 $(ANSWERS)
 
 replay: $(COMMAND)
 	@examples/replay.sh $(COMMAND)
@@ -68,15 +69,20 @@ replay: $(COMMAND)
 connections: $(COMMAND)
 	@cd examples && python3 client.py ../$(COMMAND)
 
-rows: $(COMMAND)
+rows: $(COMMAND) $(RUMPADOL)
 	@python3 scripts/command-rows.py $(COMMAND)
 	@python3 scripts/port-rows.py $(COMMAND)
+	@python3 scripts/command-rows.py --program rumpadol $(RUMPADOL)
 
 schedule:
 	@scripts/quick-run.sh iso_schedule $(SCHEDULE)
 
 $(COMMAND): $(SOURCES)
 	cd crates/iso_cli && rt run < ../../examples/echo.txt > /dev/null
+	@touch $@
+
+$(RUMPADOL): $(SOURCES)
+	cd crates/rumpadol && rt run -- --version > /dev/null
 	@touch $@
 
 $(LIBRARY): $(CODEC)
@@ -100,10 +106,10 @@ prove:
 memory:
 	@scripts/memory.sh
 
-compare: $(COMMAND)
-	@python3 scripts/compare.py $(COMMAND)
+compare: $(COMMAND) $(RUMPADOL)
+	@python3 scripts/compare.py $(COMMAND) $(RUMPADOL)
 
-bench: $(COMMAND) $(BENCH)
+bench: $(COMMAND) $(RUMPADOL) $(BENCH)
 	@ORDERS=$(ORDERS) bench/figures.sh bench "$(BENCH_PAGE)" bench/turns.sh $(SIZES)
 
 loopback: $(COMMAND)

@@ -2,6 +2,7 @@
 """Makes the figures of docs/SPEED.md out of the lines that the scripts beside it print.
 
     page.py bench TOLD [PAGE]       TOLD is a file of what turns.sh printed
+    page.py readers TOLD [PAGE]     TOLD is a file of what readers.py printed
     page.py loopback TOLD [PAGE]    TOLD is a file of what loopback.sh printed
 
 Prints each table. In PAGE all that stands between the comments <!-- NAME --> and <!-- end --> is replaced by the one of that
@@ -31,6 +32,11 @@ STREAMS = {
 }
 MESSAGES = {82: "82 bytes, 7 elements", 30096: "30,096 bytes, 30 elements"}
 ORDERS = {"new": "new purchase", "repeat": "repeat", "reversal": "reversal"}
+READERS = {
+    "lines": ("`decode`, as lines", "`tshark -T fields`"),
+    "json": ("`decode --json`", "`tshark -T json`"),
+    "explain": ("`explain`", "`tshark -V`"),
+}
 ROUND_TRIPS = {
     "bytes": "86 bytes, to a program that only sends back what it reads",
     "test": "an echo test",
@@ -158,6 +164,23 @@ def loopback(figures):
     ])
 
 
+def readers(figures):
+    def row(job):
+        mine, other, few = [f"{job} {by}" for by in ("by rumpadol", "by tshark", "of few by rumpadol")]
+        rates = [figures.of(name, "frames") / figures.of(name, "seconds") for name in (mine, other)]
+        peaks = [f"{figures.of(name, 'peak_kilobytes') / 1024:.1f} MiB" for name in (few, mine, other)]
+        return [READERS[job][0], f"{rates[0]:,.0f}", READERS[job][1], f"{rates[1]:,.0f}", f"{rates[0] / rates[1]:.1f}", *peaks]
+
+    few, many = [figures.of(f"lines {by}", "frames") for by in ("of few by rumpadol", "by rumpadol")]
+    head = ["Job", "Frames a second", "Beside it", "Its frames a second", "Times as fast", f"Memory over {few:,.0f} frames",
+            f"Over {many:,.0f}", "`tshark`'s"]
+    turns = figures.turns("lines by rumpadol", "seconds")
+    return "\n\n".join([
+        prose(f"Machine: {machine()}. {many:,.0f} frames; each time is the middle one of {turns} turns."),
+        table(head, *[row(job) for job in READERS]),
+    ])
+
+
 def drawn(figures):
     kinds = [kind for kind in STREAMS if kind != "full"]
     full = figures.of("full frame", "instructions")
@@ -168,7 +191,9 @@ def drawn(figures):
 
 
 SECTIONS = {
-    "bench": {"method": method, "codec": codec, "streams": streams, "counted": counted, "orders": orders, "growth": growth},
+    "bench": {"method": method, "codec": codec, "streams": streams, "counted": counted, "orders": orders, "growth": growth,
+              "readers": readers},
+    "readers": {"readers": readers},
     "loopback": {"loopback": loopback},
 }
 

@@ -1,13 +1,14 @@
 #!/usr/bin/env python3
-"""Runs the command on each row of crates/iso_cli/rows, and compares what comes of it with what the row says.
+"""Runs a program on each row of its crate's folder rows, and compares what comes of it with what the row says.
 
-command-rows.py COMMAND runs every row on that built program. command-rows.py runs those that need no device of their own, by one
-quick run, without proofs. Either prints each row that fails, with what differs, and as its last line how many passed and failed.
+command-rows.py COMMAND runs every row of iso_cli on that built program. command-rows.py runs those that need no device of their
+own, by one quick run, without proofs. With --program NAME before them either takes the rows and the program of that crate. Either
+prints each row that fails, with what differs, and as its last line how many passed and failed.
 
 A document in that folder has "rows", and may have "each", with members that each row has unless it gives others, and "texts",
 which its rows may name. A row has a "name" and
     "words"         behind the program's name, none by default
-    "called"        the program's name, null where it gets not even that
+    "called"        the program's name, that of the crate by default, null where it gets not even that
     "files"         the texts of files in the folder where it runs
     "stdin"         "folder": the input is a folder, of which each read fails
     "input"         what it reads, nothing by default
@@ -38,7 +39,7 @@ import termios
 import threading
 import time
 
-from rows import CRATE, DOCUMENTS, TOP, encoded, read, text_of
+from rows import TOP, encoded, read, text_of
 
 WAIT = 60
 
@@ -49,10 +50,10 @@ ROW = {"name": None, "words": [], "called": "iso_cli", "files": {}, "stdin": Non
 DEVICES = ["stdin", "input pieces", "input fails", "output takes", "faults take"]
 
 
-def whole_row(given, document):
+def whole_row(given, document, program="iso_cli"):
     """The row with all its members, in bytes."""
     texts = document["texts"]
-    row = {**ROW, **document.get("each", {}), **given}
+    row = {**ROW, "called": program, **document.get("each", {}), **given}
     if row.keys() != ROW.keys():
         raise ValueError(f"{given['name']}: what is {sorted(row.keys() - ROW.keys())}?")
     row["files"] = {encoded(name): text_of(value, texts) for name, value in {**document["files"], **row["files"]}.items()}
@@ -62,13 +63,13 @@ def whole_row(given, document):
     return row
 
 
-def all_rows():
-    """The rows of all documents, each named by its document too."""
+def all_rows(program="iso_cli"):
+    """The rows of all documents of a program, each named by its document too."""
     rows = []
-    for path in sorted(DOCUMENTS.glob("*.json")):
+    for path in sorted((TOP / "crates" / program / "rows").glob("*.json")):
         document = read(path)
         for given in document.get("rows", []):
-            row = whole_row(given, document)
+            row = whole_row(given, document, program)
             row["name"] = f"{path.relative_to(TOP)}: {row['name']}"
             rows.append(row)
     return rows
@@ -191,13 +192,13 @@ def run_rows(command, rows):
 
 # ---- the quick run
 
-def is_quick(row):
+def is_quick(row, program):
     """Whether the quick run can give the program all that: no device, and only words that stand in a line of text."""
     try:
         lines = [word.decode() for word in row["words"]]
     except UnicodeDecodeError:
         return False
-    return (row["called"] == ROW["called"] and all(row[name] == ROW[name] for name in DEVICES)
+    return (row["called"] == program and all(row[name] == ROW[name] for name in DEVICES)
             and not any("\n" in line or line == "{}" for line in lines))
 
 
@@ -207,7 +208,8 @@ def quick_name(name, text):
 
 
 def write_cases(rows, cases, data):
-    """Writes a case for each row, and the files that their words name."""
+    """Writes a case for each row, and the files that their words name. Gives, for each row, the names that its files got."""
+    given = []
     for number, row in enumerate(rows):
         names = {name: quick_name(name, text) for name, text in row["files"].items() if name in row["words"]}
         for name, quick in names.items():
@@ -215,6 +217,15 @@ def write_cases(rows, cases, data):
         (cases / f"row{number}").write_bytes(row["input"])
         if row["words"]:
             (cases / f"row{number}.args").write_bytes(b"".join(names.get(word, word) + b"\n" for word in row["words"]))
+        given.append(names)
+    return given
+
+
+def with_own_names(text, names):
+    """What was told, with the files' own names in it."""
+    for name, quick in names.items():
+        text = text.replace(quick, name)
+    return text
 
 
 def shown(output):
@@ -222,31 +233,32 @@ def shown(output):
     return output if not output or output.endswith(b"\n") else output + b"\n"
 
 
-def end_of(number, told, faults):
+def end_of(number, told, faults, names):
     """The status, the output and the fault lines of a case, out of what the quick run told."""
     line, fault_lines = faults.get(number, (b"the quick run has no such case", b""))
     status = re.search(rb" run=ended status=(\d+) ", line)
     if not status:
         return f"{line.decode()} {fault_lines.decode(errors='replace')}"
-    return int(status[1]), told.get(number, b""), fault_lines
+    return int(status[1]), with_own_names(told.get(number, b""), names), with_own_names(fault_lines, names)
 
 
-def try_rows(rows):
-    """What comes of each row in one quick run."""
+def try_rows(rows, program):
+    """What comes of each row in one quick run of the program."""
     with tempfile.TemporaryDirectory() as folder:
         cases, data = pathlib.Path(folder, "cases"), pathlib.Path(folder, "data")
         cases.mkdir()
         data.mkdir()
-        write_cases(rows, cases, data)
+        names = write_cases(rows, cases, data)
         shared = [word for path in data.iterdir() for word in ("--data", f"{path.name}={path}")]
-        run = subprocess.run(["rt", "try", "--cases", cases, *shared], cwd=CRATE, stdin=subprocess.DEVNULL, capture_output=True)
+        run = subprocess.run(["rt", "try", "--cases", cases, *shared], cwd=TOP / "crates" / program,
+                             stdin=subprocess.DEVNULL, capture_output=True)
     parts = re.split(rb"^== row(\d+)\n", run.stdout, flags=re.MULTILINE)
     told = {int(number): text for number, text in zip(parts[1::2], parts[2::2])}
     parts = re.split(rb"^(case=row(\d+) .*)\n", run.stderr, flags=re.MULTILINE)
     faults = {int(number): (line, text) for text, line, number in zip(parts[::3], parts[1::3], parts[2::3])}
     if not faults:
         sys.stdout.write(run.stderr.decode(errors="replace"))
-    ends = [end_of(number, told, faults) for number in range(len(rows))]
+    ends = [end_of(number, told, faults, names[number]) for number in range(len(rows))]
     return [(end[0], row["output"], end[2]) if isinstance(end, tuple) and end[1] == shown(row["output"]) else end
             for row, end in zip(rows, ends)]
 
@@ -263,10 +275,13 @@ def differences(row, end):
 
 
 def main(words):
-    rows = all_rows()
+    program = "iso_cli"
+    if words[:1] == ["--program"] and len(words) > 1:
+        program, words = words[1], words[2:]
+    rows = all_rows(program)
     if not words:
-        rows = [row for row in rows if is_quick(row)]
-        ends = try_rows(rows)
+        rows = [row for row in rows if is_quick(row, program)]
+        ends = try_rows(rows, program)
     elif len(words) == 1 and os.access(words[0], os.X_OK):
         ends = run_rows(os.path.abspath(words[0]), rows)
     else:

@@ -5,7 +5,7 @@ set -u
 cd "$(dirname "$0")/.." || exit 1
 
 # what the scripts and the examples call, beside what every Debian has, and what the pages name behind 'console'
-programs="make python3 xxd cc clang valgrind $(sed -n 's/^```console//p' docs/*.md)"
+programs="make python3 xxd cc clang valgrind $(sed -n 's/^```console//p' README.md docs/*.md)"
 
 missing() {
     for program in $programs; do

@@ -1,9 +1,10 @@
 #!/bin/sh
-# Runs the commands that the pages of a folder show, and compares what they write with what the pages show behind them. A page
-# shows them in blocks of 'console': '$ ' before a command, '> ' before its further lines. Further words behind 'console' are
+# Runs the commands that README.md and the pages of a folder show, and compares what they write with what the pages show behind them.
+# A page shows them in blocks of 'console': '$ ' before a command, '> ' before its further lines. Further words behind 'console' are
 # programs that the block needs: where one isn't installed, the block is left out, and a line says so. A page's commands run one
-# after the other in a folder with the repository's tables, examples and bench. The runs of iso_cli are made by COMMAND, or else by
-# the quick run, without proofs. Prints each block that differs, and a line of counts for each page: recipes.sh FOLDER [COMMAND]
+# after the other in a folder with the repository's tables, examples and bench. The runs of iso_cli and rumpadol are made by the built
+# programs that are given, or else by the quick run, without proofs. Prints each block that differs, and a line of counts for each
+# page: recipes.sh FOLDER [ISO_CLI RUMPADOL]
 set -u
 cd "$(dirname "$0")/.." || exit 1
 top=$PWD
@@ -11,14 +12,21 @@ top=$PWD
 folder=$(mktemp -d)
 trap 'rm -rf "$folder"' EXIT
 trap 'exit 1' HUP INT TERM
-mkdir "$folder/bin" "$folder/blocks" "$folder/data" "$folder/wanted" "$folder/made"
+mkdir "$folder/bin" "$folder/blocks"
 
-if [ $# -gt 1 ]; then
-    ln -s "$(realpath "$2")" "$folder/bin/iso_cli"
-else
-    printf '#!/bin/sh\nexec sh "%s/scripts/kept-run.sh" "%s" "$@"\n' "$top" "$folder" > "$folder/bin/iso_cli"
-    chmod +x "$folder/bin/iso_cli"
-fi
+# PROGRAM [BUILT]: puts it on the PATH of the blocks
+put_on_path() {
+    if [ $# -gt 1 ]; then
+        ln -s "$(realpath "$2")" "$folder/bin/$1"
+        return
+    fi
+    mkdir "$folder/$1" "$folder/$1/data" "$folder/$1/wanted" "$folder/$1/made"
+    printf '#!/bin/sh\nexec sh "%s/scripts/kept-run.sh" "%s" "$@"\n' "$top" "$folder/$1" > "$folder/bin/$1"
+    chmod +x "$folder/bin/$1"
+}
+
+put_on_path iso_cli ${2:+"$2"}
+put_on_path rumpadol ${3:+"$3"}
 
 # PAGE: writes each of its blocks to a file, and what the block needs to another
 split_page() {
@@ -62,30 +70,38 @@ run_blocks() {
     done
 }
 
-# NAME FROM COUNT: keeps these bytes of what the quick run told as the output of a run. It puts a newline behind an output that
-# has none; so it always does behind messages and frames, which end in none here.
-keep_output() {
-    count=$3
-    case $(head -n 1 "$folder/wanted/$1.args") in
-        convert | run) [ "$count" -eq 0 ] || count=$((count - 1)) ;;
+# RUNS NAME: whether the output of a run is bytes, which end in no newline here
+is_bytes() {
+    case $(head -n 1 "$1/wanted/$2.args") in
+        convert | run | encode) ! grep -qxF -e '--hex' "$1/wanted/$2.args" ;;
+        *) return 1 ;;
     esac
-    tail -c +"$(($2 + 1))" "$folder/told" | head -c "$count" > "$folder/made/$1.output"
 }
 
-# has the quick run make the runs that are wanted: one build, and all of them
+# RUNS NAME FROM COUNT: keeps these bytes of what the quick run told as the output of a run. It puts a newline behind an output that
+# has none; so it always does behind messages and frames.
+keep_output() {
+    count=$4
+    if is_bytes "$1" "$2"; then [ "$count" -eq 0 ] || count=$((count - 1)); fi
+    tail -c +"$(($3 + 1))" "$1/told" | head -c "$count" > "$1/made/$2.output"
+}
+
+# PROGRAM: has the quick run make the runs that are wanted of it: one build, and all of them
 make_runs() {
+    runs=$folder/$1 program=$1
+    [ -n "$(ls "$runs/wanted" 2> /dev/null)" ] || return 0
     set --
-    for file in "$folder"/data/*; do
+    for file in "$runs"/data/*; do
         [ ! -f "$file" ] || set -- "$@" --data "$(basename "$file")=$file"
     done
-    (cd crates/iso_cli && rt try --cases "$folder/wanted" "$@") > "$folder/told" 2> "$folder/faults"
-    LC_ALL=C grep -abo '^== [0-9a-f]\{16\}$' "$folder/told" \
-        | awk -F '[: ]' -v end="$(wc -c < "$folder/told")" '
+    (cd "crates/$program" && rt try --cases "$runs/wanted" "$@") > "$runs/told" 2> "$runs/faults"
+    LC_ALL=C grep -abo '^== [0-9a-f]\{16\}$' "$runs/told" \
+        | awk -F '[: ]' -v end="$(wc -c < "$runs/told")" '
             name != "" { print name, from, $1 - from }
             { name = $3; from = $1 + 20 }
             END { if (name != "") print name, from, end - from }' \
-        | while read -r name from count; do keep_output "$name" "$from" "$count"; done
-    awk -v made="$folder/made" '
+        | while read -r name from count; do keep_output "$runs" "$name" "$from" "$count"; done
+    awk -v made="$runs/made" '
         /^case=[^ ]* run=ended status=[0-9]* / {
             name = made "/" substr($1, 6)
             printf "%s", said > (name ".faults")
@@ -94,7 +110,24 @@ make_runs() {
             said = ""
             next
         }
-        { said = said $0 "\n" }' "$folder/faults"
+        { said = said $0 "\n" }' "$runs/faults"
+}
+
+# whether a run is wanted
+is_wanted() {
+    for wanted in "$folder"/*/wanted/*.args; do
+        [ ! -f "$wanted" ] || return 0
+    done
+    return 1
+}
+
+# whether all runs that are wanted were made; where one wasn't, tells what the quick run told
+all_made() {
+    for wanted in "$folder"/*/wanted/*.args; do
+        [ -f "$wanted" ] || continue
+        runs=$(dirname "$(dirname "$wanted")")
+        [ -f "$runs/made/$(basename "$wanted" .args).status" ] || { cat "$runs/faults"; return 1; }
+    done
 }
 
 # PAGE: tells which of its blocks differ, and how many don't
@@ -117,16 +150,16 @@ judge_page() {
     echo "$1: $passed blocks passed, $failed failed"
 }
 
-for page in "$1"/*.md; do split_page "$page"; done
+for page in README.md "$1"/*.md; do split_page "$page"; done
 run_blocks
 round=0
-while [ -n "$(ls "$folder/wanted")" ] && [ "$round" -lt 4 ]; do
+while is_wanted && [ "$round" -lt 6 ]; do
     round=$((round + 1))
-    make_runs
-    for wanted in "$folder"/wanted/*.args; do
-        [ -f "$folder/made/$(basename "$wanted" .args).status" ] || { cat "$folder/faults"; break 2; }
-    done
-    rm -f "$folder"/wanted/*
+    make_runs iso_cli &
+    make_runs rumpadol &
+    wait
+    all_made || break
+    rm -f "$folder"/*/wanted/*
     run_blocks
 done
-for page in "$1"/*.md; do judge_page "$page"; done
+for page in README.md "$1"/*.md; do judge_page "$page"; done

@@ -1,4 +1,4 @@
-"""The documents of crates/iso_cli/rows, and the bytes that their texts stand for.
+"""The documents of a program's rows, in the folder rows of its crate, and the bytes that their texts stand for.
 
 A text is a string, in which each character is one byte, from U+0000 to U+00FF; or "@NAME", a text of that name; or an object,
 which is its JSON without blanks; or [TEXT, TIMES]; or a list of texts, end to end. The files and the texts of shared.json are
@@ -29,6 +29,6 @@ def text_of(value, texts):
 
 def read(path):
     """A document, with the files and the texts that all of them share."""
-    shared = json.loads((DOCUMENTS / "shared.json").read_text())
+    shared = json.loads((path.parent / "shared.json").read_text())
     document = json.loads(path.read_text())
     return {**document, **{name: {**shared[name], **document.get(name, {})} for name in ("files", "texts")}}

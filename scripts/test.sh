@@ -1,6 +1,7 @@
 #!/bin/sh
-# Runs every test and every stored run, two crates side by side, without proving anything. What needs a program that isn't here, or
-# a library that isn't built, is left out: the lines before the last one say so again. The last line is 'N passed, N failed'.
+# Runs every test and every stored run, two crates side by side, without proving anything: the programs by the quick run, or as they
+# were built. What needs a program that isn't here, or a library that isn't built, is left out: the lines before the last one say so
+# again. The last line is 'N passed, N failed'.
 set -u
 cd "$(dirname "$0")/.." || exit 1
 
@@ -8,14 +9,23 @@ folder=$(mktemp -d)
 trap 'rm -rf "$folder"' EXIT
 trap 'exit 1' HUP INT TERM
 
-# a command in each line: what the pages show, the examples in C, the rows of the command and of the model, the crates that have
+# a command in each line: what the pages show, the examples in C, the rows of both programs and of the model, the crates that have
 # tests, and the programs that have a stored run
 jobs() {
-    echo scripts/recipes.sh docs
+    if [ -x crates/iso_cli/out/iso_cli ] && [ -x crates/rumpadol/out/rumpadol ]; then
+        echo scripts/recipes.sh docs crates/iso_cli/out/iso_cli crates/rumpadol/out/rumpadol
+    else
+        echo scripts/recipes.sh docs
+    fi
     echo scripts/elements.sh docs/ELEMENTS.md
     echo scripts/c-examples.sh examples/c
     if command -v python3 > /dev/null; then
         echo python3 scripts/command-rows.py
+        if [ -x crates/rumpadol/out/rumpadol ]; then
+            echo python3 scripts/command-rows.py --program rumpadol crates/rumpadol/out/rumpadol
+        else
+            echo python3 scripts/command-rows.py --program rumpadol
+        fi
         echo python3 tests/model/rows.py
     fi
     grep -rl --include='*.rt' '^ *#\[test\]' crates/*/src | cut -d/ -f2 | sort -u | sed 's|^|scripts/try-tests.sh |'
@@ -51,7 +61,7 @@ tables() {
 
 jobs > "$folder/jobs"
 {
-    command -v python3 > /dev/null || echo 'LEFT OUT the rows of the command and of the model: there is no program python3'
+    command -v python3 > /dev/null || echo 'LEFT OUT the rows of both programs and of the model: there is no program python3'
     example README.md crates/iso_host_tests/src/host/example.rt
     example examples/pieces.md crates/iso_ledger_tests/src/order/pieces.rt
     tables

@@ -34,7 +34,11 @@ serve() {
     done
 }
 
-run stdin stdout stored
+if [ -f args ]; then
+    run stdin stdout stored $(cat args)
+else
+    run stdin stdout stored
+fi
 if [ "$1" = iso_cli ]; then
     run "$examples/echo.txt" "$examples/expected/echo" echo
     run "$examples/payment.txt" "$examples/expected/show" show show ascii87

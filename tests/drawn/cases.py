@@ -1,12 +1,16 @@
 """The cases: words, files and an input. Each is a function of its seed."""
 import json
 import random
-from dataclasses import dataclass, field
+from dataclasses import dataclass, field, replace
 
 from model.command import LONGEST_INPUT
 from model.frames import SIZES, frame
 from model.host_rows import GIVEN_BACK, NEEDED_FIXED, NEEDED_TO
 from model.json_text import NotJson, value_of
+from model.packing import pack
+from model.refused import Refused
+from model.showing import ACCOUNT_NUMBER, HIDDEN
+from model.streams import message_in
 from model.table_document import built_in, read_table
 
 from .days import draw_accounts, draw_frames
@@ -19,10 +23,13 @@ BUILT_IN = ["ascii87", "bcd87"]
 
 @dataclass
 class Case:
-    """What the command is given. The input is in parts, which are left out one by one where a failing case is made smaller."""
+    """What a program is given. The input is in parts, which are left out one by one where a failing case is made smaller. `then` is
+    the words of a second run of it, on what the first one wrote."""
     words: list
     files: dict = field(default_factory=dict)
     parts: list = field(default_factory=list)
+    program: str = "iso_cli"
+    then: list = field(default_factory=list)
 
     @property
     def text(self):
@@ -33,8 +40,8 @@ class Case:
 def draw_case(seed):
     """The case of a seed."""
     draw = random.Random(seed)
-    kinds = [draw_run, draw_show, draw_convert, draw_check, draw_echo, draw_accounts_refused, draw_words, draw_limit]
-    return draw.choices(kinds, [40, 20, 16, 14, 5, 5, 2, 1])[0](draw)
+    kinds = [draw_run, draw_show, draw_convert, draw_check, draw_echo, draw_accounts_refused, draw_words, draw_limit, draw_stream]
+    return draw.choices(kinds, [40, 20, 16, 14, 5, 5, 2, 1, 40])[0](draw)
 
 
 def draw_known_table(draw):
@@ -155,6 +162,34 @@ def draw_run(draw):
     return Case(["run", name, "accounts.json", header], files, frames)
 
 
+def draw_stream(draw):
+    """Frames for rumpadol, in any spelling of their messages: as JSON, from there back to bytes, or as plain bytes."""
+    name, files, table = draw_known_table(draw)
+    table, header = as_table(table), draw.choice(list(SIZES))
+    bodies = [spell(draw, table, draw_message(draw, table)) for _ in range(draw.choice([0, 1, 2, 5, 20]))]
+    frames = [frame(header, body) for body in bodies if is_framed(table, header, body)]
+    decode, encode = ["decode", name, "--json", "--clear", "--frames", header], ["encode", name, "--frames", header]
+    words, then = draw.choice([(decode, encode), (decode, encode), (decode, []), (["decode", name, "--json", "--frames", header], []),
+                               (["convert", name, name, "--frames", header], [])])
+    return Case(words, files, frames, "rumpadol", then)
+
+
+def is_framed(table, header, body):
+    """Whether a body is a message that comes back: a frame can count it and the plain one, and no value has a star where one masks."""
+    most = 65_535 if header == "binary2" else 9_999
+    try:
+        message = message_in(table, body)
+        size = max(len(body), len(pack(table, message)))
+    except Refused:
+        return False
+    return size <= most and not any(has_star(table.rows[number], value) for number, value in message.elements.items())
+
+
+def has_star(row, value):
+    """Whether a value has a star as text, in an element that is shown with stars. It is taken for masked."""
+    return row.number in (ACCOUNT_NUMBER, *HIDDEN) and row.char_class != "B" and b"*" in value
+
+
 def draw_host_table(draw):
     """A table under which a host can serve, or nearly: codings, lengths and rows that aren't needed differ."""
     base, rows, others = document_of(draw.choice(BUILT_IN)), [], draw.choice([0.1, 0.1, 0.3, 0.9])
@@ -192,11 +227,11 @@ def smaller(case):
     step = size
     while step >= 1:
         for at in range(0, size, step):
-            yield Case(case.words, case.files, case.parts[:at] + case.parts[at + step:])
+            yield replace(case, parts=case.parts[:at] + case.parts[at + step:])
         step //= 2
     for name, text in case.files.items():
         for less in smaller_document(text):
-            yield Case(case.words, {**case.files, name: less}, case.parts)
+            yield replace(case, files={**case.files, name: less})
 
 
 def smaller_document(text):
