@@ -44,13 +44,21 @@ pub fn append_fields(
     Ok(())
 }
 
+/// The line without the carriage return that some systems end it with.
+fn without_return(line: &[u8]) -> &[u8] {
+    match line {
+        [front @ .., b'\r'] => front,
+        _ => line,
+    }
+}
+
 /// The first line without its end, and what stands behind it.
 fn first_line(text: &[u8]) -> (&[u8], &[u8])
     ensures shorter { 0 < length text.now → length result.1.now < length text.now }
 {
     match text.iter().position(|b| *b == b'\n') {
-        Some(at) => (&text[..at], &text[at + 1..]),
-        None => (text, &text[text.len()..]),
+        Some(at) => (without_return(&text[..at]), &text[at + 1..]),
+        None => (without_return(text), &text[text.len()..]),
     }
 }
 
