@@ -37,3 +37,4 @@ pub mod StopsLaws
 pub mod Decimals
 pub mod Walks
 pub mod ViewedValues
+pub mod Unpacked

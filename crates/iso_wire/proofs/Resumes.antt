@@ -338,6 +338,17 @@ resumed_read t from to old piece r so_far found =
     let nothing : (old ++ piece) ++ [] ≡ old ++ piece = append-nil (old ++ piece) in
     so_far.1 piece ∙ ap (ends_from t from) (sym nothing) ∙ found.goes_on [] ∙ ap (ends_from t to) nothing ∙ found.read
 
+-- what the bytes give that end at the point
+pub resumed_here : (t : Layout) (from to : ResumePoint) (b : List ℕ) (r : Result ℕ UnpackFault) → IsResumed t from b → Resumes t from b to r → end_of (message_at t b) ≡ r
+resumed_here t from to b r so_far found =
+    let nothing : b ++ [] ≡ b = append-nil b in
+    ap (ends_from t points.Type) (sym nothing) ∙ so_far.1 [] ∙ found.goes_on [] ∙ ap (ends_from t to) nothing ∙ found.read
+
+-- bytes that are too short have no end
+pub short_has_no_end : (r : Result (Contents × ℕ) UnpackFault) (end : ℕ) → IsShort r → end_of r ≡ Ok end → ⊥
+short_has_no_end (Ok x) end short is = short
+short_has_no_end (Err e) end short is = absurd cc
+
 fault_of : (r : Result (Contents × ℕ) UnpackFault) (e : UnpackFault) → end_of r ≡ Err e → r ≡ Err e
 fault_of (Ok x) e is = absurd cc
 fault_of (Err f) e is = let same : f ≡ e = cc in ap Err same

@@ -29,3 +29,4 @@ pub mod FirstBad
 pub mod Equality
 pub mod Describing
 pub mod DigitWords
+pub mod Unpacking

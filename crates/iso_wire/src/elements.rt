@@ -121,8 +121,9 @@ impl Elements {
         })
     }
 
-    /// Drops all elements and makes room for some. The memory that was there is kept, and is enough where it has the room.
-    pub fn start_over(&mut self, elements: usize, bytes: usize) -> Result<(), AllocError>
+    /// Drops all elements. The memory that was there is kept.
+    #[inline(always)]
+    pub fn clear(&mut self)
         ensures whole { IsWhole self.new }
         ensures numbered { IsNumbered self.new }
         ensures empty { IsMadeOf self.new [] [] }
@@ -130,6 +131,15 @@ impl Elements {
         self.values.clear();
         self.ends.clear();
         self.numbers = Bitmap::new();
+    }
+
+    /// Drops all elements and makes room for some. The memory that was there is kept, and is enough where it has the room.
+    pub fn start_over(&mut self, elements: usize, bytes: usize) -> Result<(), AllocError>
+        ensures whole { IsWhole self.new }
+        ensures numbered { IsNumbered self.new }
+        ensures empty { IsMadeOf self.new [] [] }
+    {
+        self.clear();
         self.values.reserve(bytes)?;
         self.ends.reserve(elements)?;
         Ok(())

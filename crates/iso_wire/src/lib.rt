@@ -41,6 +41,6 @@ pub use message::Message;
 pub use packing::{append_message, pack};
 pub use pieces::{Piece, PieceKind, Pieces, pieces_of};
 pub use unpacker::{Fed, Unpacker};
-pub use unpacking::unpack;
+pub use unpacking::{unpack, unpack_into};
 pub use view_iteration::ViewIter;
 pub use viewing::view;

@@ -12,15 +12,20 @@ ghost use Rattle.iso_wire.specs.Decimal.{decimal, number_at};
 ghost use Rattle.iso_wire.specs.Elements.{value_in, has, IsBelow, put, without};
 ghost use Rattle.iso_wire.specs.Ends.{IsSame};
 ghost use Rattle.iso_wire.specs.LookUps.{ChangesAlone};
+ghost use Rattle.iso_table.specs.Layout.{AreGood};
+ghost use Rattle.iso_wire.specs.Reading.{message_at, Unpacks};
+ghost use Rattle.iso_wire.specs.Unpacking.{read_into};
 ghost use Rattle.iso_wire.specs.Equality.{same_contents, same_contents_equiv};
 ghost use Rattle.std.specs.Cmp.{partial_equiv_from_equiv};
 
 use crate::debugging::{write_elements, write_type};
 use crate::decimal::{number_in, write_decimal};
 use crate::elements::Elements;
-use crate::fault::SetFault;
+use crate::fault::{SetFault, UnpackFault};
 use crate::iteration::Iter;
+use crate::unpacking::read_message;
 use iso_parts::{Bitmap, Mti, is_element};
+use iso_table::Table;
 use std::alloc::{AllocError, Global};
 use std::fmt;
 use std::marker::Model;
@@ -147,6 +152,25 @@ impl Message {
         ensures { result ≡ record { mti = mti_number mti; elements = views elements } }
     {
         Message { mti, elements }
+    }
+
+    /// Reads the message that the bytes begin with, in place of what it was and in the memory that it has, where that is
+    /// enough, and gives how many bytes it takes. After a fault it has its type and no elements.
+    pub(crate) fn read(&mut self, table: &Table, bytes: &[u8]) -> Result<usize, UnpackFault>
+        ensures exact { Unpacks (read_into self.new result) (message_at table.now bytes.now) }
+        ensures emptied { OnErr result (self.new ≡ record self.old { elements = [] }) }
+        ensures good { AreGood table.now.rows }
+    {
+        match read_message(table, bytes, &mut self.elements) {
+            Ok((mti, end)) => {
+                self.mti = mti;
+                Ok(end)
+            }
+            Err(fault) => {
+                self.elements.clear();
+                Err(fault)
+            }
+        }
     }
 
     /// The elements alone, whose memory can hold others.

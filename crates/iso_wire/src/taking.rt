@@ -1,10 +1,11 @@
 //! Taking a piece of a message behind those that were taken before it.
 
-ghost use Rattle.std.specs.Prelude.{◌≡◌, ℕ, ◌≤◌, ◌-◌, ◌++◌, [], take, length, IfOk};
+ghost use Rattle.std.specs.Prelude.{◌≡◌, ℕ, ◌≤◌, ◌-◌, ◌++◌, [], take, length, IfOk, Err};
 ghost use Rattle.iso_table.specs.Layout.{AreGood};
 ghost use Rattle.iso_wire.specs.Unpacker.{Feeds, FoundFed, StopsFed};
 ghost use Rattle.iso_wire.specs.Taking.{IsRead, IsBuilt, KeepsTaken, IsReadyAfter};
 ghost use Rattle.iso_wire.specs.declared.fault.UnpackCause.{UnpackCause};
+ghost use Rattle.iso_wire.specs.declared.fault.UnpackCause.TheVariants.{Short};
 ghost use Rattle.iso_wire.specs.Reading.{halt, message_at};
 ghost use Rattle.iso_wire.specs.Stops.{Stops};
 ghost use Rattle.iso_wire.specs.ReadingLaws.{IsShort};
@@ -233,4 +234,22 @@ pub(crate) fn take(
     stops();
     are_bytes(taken);
     take_piece(alloc, table, point, taken, piece)
+}
+
+/// The fault at which bytes end that are too short for a message, and that are judged up to the point.
+pub(crate) fn missing(table: &Table, point: ResumePoint, taken: &[u8]) -> UnpackFault
+    requires short { IsShort (message_at table.now taken.now) }
+    requires resumed { IsResumed table.now point taken.now }
+    ensures exact { message_at table.now taken.now ≡ Err result }
+    ensures short { result.cause ≡ Short }
+    ensures stops { Stops table.now taken.now result.at result.element Short }
+{
+    stops();
+    // any call on the table tells the proof that its rows are good
+    let _version = table.version();
+    let (_, read) = judge_from(table, point, taken);
+    let Err(fault) = read else {
+        unreachable!();
+    };
+    fault
 }

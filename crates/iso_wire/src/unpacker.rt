@@ -1,10 +1,11 @@
 //! Reading a message that comes in pieces.
 
-ghost use Rattle.std.specs.Prelude.{ℕ, ◌≡◌, ◌≢◌, ◌≤◌, ◌++◌, [], length, List, IfOk, IfErr, None, Some};
+ghost use Rattle.std.specs.Prelude.{ℕ, ◌≡◌, ◌≢◌, ◌≤◌, ◌++◌, [], length, List, IfOk, IfErr, None, Some, Err};
 ghost use Rattle.iso_table.specs.Layout.{AreGood};
 ghost use Rattle.iso_table.specs.Sizes.{max_bytes};
 ghost use Rattle.iso_wire.specs.Unpacker.{Feeds, IsAfterFeed, StaysStopped, FoundFed, StopsFed};
 ghost use Rattle.iso_wire.specs.declared.fault.UnpackCause.{UnpackCause};
+ghost use Rattle.iso_wire.specs.declared.fault.UnpackFault.{UnpackFault};
 ghost use Rattle.iso_wire.specs.declared.fault.UnpackCause.TheVariants.{Short, Memory};
 ghost use Rattle.iso_wire.specs.Contents.{Contents};
 ghost use Rattle.iso_wire.specs.Debugging.{debug_unpacker};
@@ -19,7 +20,7 @@ use crate::fault::{UnpackCause, UnpackFault};
 use crate::judging::ResumePoint;
 use crate::laws::{reads_spellings, stops};
 use crate::message::Message;
-use crate::taking::take;
+use crate::taking::{missing, take};
 use crate::unpacking::read_message;
 use iso_table::Table;
 use std::alloc::Global;
@@ -69,7 +70,7 @@ impl fmt::Debug for Unpacker<'_> {
 }
 
 /// The message that the bytes begin with, in the memory that is spare.
-fn unpack_into(
+fn unpack_spare(
     alloc: Global,
     table: &Table,
     spare: &mut Elements,
@@ -105,7 +106,7 @@ fn unpack_whole(
 {
     reads_spellings();
     stops();
-    unpack_into(alloc, table, spare, bytes)
+    unpack_spare(alloc, table, spare, bytes)
 }
 
 impl<'t> Unpacker<'t> {
@@ -208,6 +209,25 @@ impl<'t> Unpacker<'t> {
     {
         iso_parts::laws::parts();
         self.taken.len()
+    }
+
+    /// The fault that ends the message if no further byte comes: what the function `unpack` answers of the bytes taken
+    /// alone, with the element and the offset of the piece that isn't whole. A fault that was answered is that fault, until
+    /// [`Unpacker::reset`]. Takes no memory.
+    pub fn missing(&self) -> UnpackFault
+        // What `unpack` reads of the bytes taken is this fault,
+        ensures exact { self.now.stopped ≡ None → message_at self.now.table self.now.taken ≡ Err result }
+        // they are too short,
+        ensures short { self.now.stopped ≡ None → result.cause ≡ Short }
+        // and it tells where they stop.
+        ensures stops { self.now.stopped ≡ None → Stops self.now.table self.now.taken result.at result.element Short }
+        // A fault that was answered is told again.
+        ensures stopped { (fault : UnpackFault) → self.now.stopped ≡ Some fault → result ≡ fault }
+    {
+        if let Some(fault) = self.stopped {
+            return fault;
+        }
+        missing(self.table, self.point, &self.taken)
     }
 
     /// Drops what is taken, and any fault: the unpacker stands at the start of a message. Takes no memory.

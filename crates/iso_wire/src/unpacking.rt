@@ -1,7 +1,7 @@
 //! Reading a message.
 
 ghost use Rattle.std.specs.Prelude.{◌≡◌, ◌≢◌, ℕ, ◌+◌, ◌≤◌, ◌<◌, ◌++◌, ◌∷◌, List};
-ghost use Rattle.std.specs.Prelude.{length, drop, IfOk, IfErr, OnOk};
+ghost use Rattle.std.specs.Prelude.{length, drop, [], IfOk, IfErr, OnOk, OnErr};
 ghost use Rattle.iso_wire.specs.declared.fault.UnpackCause.{UnpackCause};
 ghost use Rattle.iso_wire.specs.declared.fault.UnpackCause.TheVariants.{Short, Memory};
 ghost use Rattle.iso_wire.specs.Contents.{Contents};
@@ -14,6 +14,7 @@ ghost use Rattle.iso_wire.specs.Reading.{Gives, fault_place, value_at, elements_
 ghost use Rattle.iso_wire.specs.Reading.{message_at, Unpacks, whole};
 ghost use Rattle.iso_wire.specs.Spelling.{Spelling, AreBytes, BeginsWith, BeginsWithNone, IsUnambiguous};
 ghost use Rattle.iso_wire.specs.Stops.{Stops};
+ghost use Rattle.iso_wire.specs.Unpacking.{IsUnpacked, read_into};
 ghost use Rattle.iso_parts.specs.Bitmap.{contains, AreElements};
 ghost use Rattle.iso_parts.specs.Numbers.{members};
 
@@ -191,4 +192,17 @@ pub fn unpack(alloc: Global, table: &Table, bytes: &[u8]) -> Result<(Message, us
     reads_spellings();
     stops();
     message_of(alloc, table, bytes)
+}
+
+/// Reads the message that the bytes begin with, as [`unpack`] does, in place of what `into` was and in the memory that it
+/// has, where that is enough, and says how many bytes it takes.
+pub fn unpack_into(table: &Table, bytes: &[u8], into: &mut Message) -> Result<usize, UnpackFault>
+    // What `into` is then is what `unpack` gives, and a fault is its fault.
+    ensures unpacked { IsUnpacked table.now bytes.now (read_into into.new result) }
+    // After a fault `into` has its type and no elements.
+    ensures emptied { OnErr result (into.new ≡ record into.old { elements = [] }) }
+{
+    reads_spellings();
+    stops();
+    into.read(table, bytes)
 }
