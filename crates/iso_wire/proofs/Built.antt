@@ -13,6 +13,7 @@ use Rattle.iso_parts.specs.Mti.{mti_size}
 use Rattle.iso_wire.specs.Reading.{◌>>=◌, type_at, words_at, answer, value_by, value_at, elements_at, message_at, whole, IsFaultOf}
 use Rattle.iso_wire.proofs.Loop.{with_front}
 use Rattle.iso_wire.proofs.Orders.{Values}
+use Rattle.iso_wire.proofs.Readings.{behind_maps, behind_type, message_is}
 
 -- ---- an element
 
@@ -51,22 +52,12 @@ first_read rows front old ns n at b total is so_far read =
 abbrev made : ℕ → Values → Contents
 made mti es = record { mti = mti; elements = es }
 
-abbrev behind_words : Layout → List ℕ → ℕ → ℕ × ℕ × ℕ → Result (Contents × ℕ) UnpackFault
-behind_words t b mti w = elements_at t.rows (numbers_in w.0 w.1) (mti_size t.mti + w.2) (drop (mti_size t.mti + w.2) b) >>= λ read. whole (made mti read.0) read.1
-
-abbrev behind_type : Layout → List ℕ → ℕ → Result (Contents × ℕ) UnpackFault
-behind_type t b mti = words_at t (mti_size t.mti) (drop (mti_size t.mti) b) >>= behind_words t b mti
-
-message_is : (t : Layout) (b : List ℕ) → message_at t b ≡ type_at t b >>= behind_type t b
-unfolding message_at
-message_is t b = refl
-
 -- where it is read, so are its elements, behind its type and its bitmaps
 pub elements_read : (t : Layout) (b : List ℕ) (mti : ℕ) (w : ℕ × ℕ × ℕ) → type_at t b ≡ Ok mti → words_at t (mti_size t.mti) (drop (mti_size t.mti) b) ≡ Ok w → IsRead (message_at t b)
     → IsRead (elements_at t.rows (numbers_in w.0 w.1) (mti_size t.mti + w.2) (drop (mti_size t.mti + w.2) b))
 elements_read t b mti w type words read =
     let one : IsRead (behind_type t b mti) = subst IsRead (message_is t b ∙ ap (λ r. r >>= behind_type t b) type) read in
-    let two : IsRead (behind_words t b mti w) = subst IsRead (ap (λ r. r >>= behind_words t b mti) words) one in
+    let two : IsRead (behind_maps t b mti w) = subst IsRead (ap (λ r. r >>= behind_maps t b mti) words) one in
     bind_read (elements_at t.rows (numbers_in w.0 w.1) (mti_size t.mti + w.2) (drop (mti_size t.mti + w.2) b)) (λ x. whole (made mti x.0) x.1) two
 
 -- ---- what each piece gives the message
@@ -74,16 +65,16 @@ elements_read t b mti w type words read =
 pub message_built : (t : Layout) (b : List ℕ) (mti : ℕ) (w : ℕ × ℕ × ℕ) (es : Values) (end : ℕ) → type_at t b ≡ Ok mti → words_at t (mti_size t.mti) (drop (mti_size t.mti) b) ≡ Ok w
     → elements_at t.rows (numbers_in w.0 w.1) (mti_size t.mti + w.2) (drop (mti_size t.mti + w.2) b) ≡ Ok (es, end) → message_at t b ≡ whole (record { mti = mti; elements = es }) end
 message_built t b mti w es end type words elements =
-    message_is t b ∙ ap (λ r. r >>= behind_type t b) type ∙ ap (λ r. r >>= behind_words t b mti) words ∙ ap (λ r. r >>= λ x. whole (made mti x.0) x.1) elements
+    message_is t b ∙ ap (λ r. r >>= behind_type t b) type ∙ ap (λ r. r >>= behind_maps t b mti) words ∙ ap (λ r. r >>= λ x. whole (made mti x.0) x.1) elements
 
 pub type_fault : (t : Layout) (b : List ℕ) (e : UnpackFault) → IsFaultOf e (type_at t b) → IsFaultOf e (message_at t b)
 type_fault t b e f = (f.0, λ other. message_is t b ∙ ap (λ r. r >>= behind_type t b) (f.1 other))
 
 pub words_fault : (t : Layout) (b : List ℕ) (mti : ℕ) (e : UnpackFault) → type_at t b ≡ Ok mti → words_at t (mti_size t.mti) (drop (mti_size t.mti) b) ≡ Err e → e.cause ≢ Memory → IsFaultOf e (message_at t b)
 words_fault t b mti e type words other =
-    (λ memory. absurd (other memory), λ _. message_is t b ∙ ap (λ r. r >>= behind_type t b) type ∙ ap (λ r. r >>= behind_words t b mti) words)
+    (λ memory. absurd (other memory), λ _. message_is t b ∙ ap (λ r. r >>= behind_type t b) type ∙ ap (λ r. r >>= behind_maps t b mti) words)
 
 pub elements_fault : (t : Layout) (b : List ℕ) (mti : ℕ) (w : ℕ × ℕ × ℕ) (e : UnpackFault) → type_at t b ≡ Ok mti → words_at t (mti_size t.mti) (drop (mti_size t.mti) b) ≡ Ok w
     → IsFaultOf e (elements_at t.rows (numbers_in w.0 w.1) (mti_size t.mti + w.2) (drop (mti_size t.mti + w.2) b)) → IsFaultOf e (message_at t b)
 elements_fault t b mti w e type words f =
-    (f.0, λ other. message_is t b ∙ ap (λ r. r >>= behind_type t b) type ∙ ap (λ r. r >>= behind_words t b mti) words ∙ ap (λ r. r >>= λ x. whole (made mti x.0) x.1) (f.1 other))
+    (f.0, λ other. message_is t b ∙ ap (λ r. r >>= behind_type t b) type ∙ ap (λ r. r >>= behind_maps t b mti) words ∙ ap (λ r. r >>= λ x. whole (made mti x.0) x.1) (f.1 other))

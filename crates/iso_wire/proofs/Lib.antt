@@ -35,6 +35,10 @@ pub mod StopsParts
 pub mod StopsReading
 pub mod StopsLaws
 pub mod Decimals
+pub mod Readings
+pub mod WalkPlaces
+pub mod WalkFronts
+pub mod WalkBodies
 pub mod Walks
 pub mod ViewedValues
 pub mod Unpacked

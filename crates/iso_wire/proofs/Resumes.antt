@@ -2,7 +2,7 @@
 use Rattle.std.proofs.Common.{◌≡◌, ◌≢◌, ℕ, ◌+◌, ◌≤◌, Bool, true, false, cond, ltb, List, [], ◌∷◌, ◌++◌, length, take, drop, Option, Some, None, Result, Ok, Err, refl, sym, ap, subst, ◌∙◌, append_assoc, arith}
 use Rattle.std.proofs.lemmas.Bool.{cond-true, cond-false, ltb-true, ltb-false, lt-ltb, le-ltb}
 use Rattle.std.proofs.lemmas.List.{drop-append-le, take-append-le, drop-drop, length-append, length-drop, append-nil}
-use Rattle.iso_parts.specs.Judging.{count_at, size_at, some_count, some_size}
+use Rattle.iso_parts.specs.Judging.{count_at, size_at, some_size}
 use Rattle.iso_parts.specs.declared.fault.FieldFault.{FieldFault}
 use Rattle.iso_parts.specs.declared.fault.FieldFault.TheVariants.{WrongLength, NotInClass, PadEnd, BadLengthDigits, LengthOver, BadFiller, BadHex, Memory}
 use Rattle.iso_parts.specs.declared.spec.FieldSpec.{FieldSpec}
@@ -27,6 +27,7 @@ use Rattle.iso_wire.specs.Judging.{end_of, end_of_elements, end_by, body_end, bo
 use Rattle.iso_wire.proofs.Endings.{Stays, type_stays, primary_stays, secondary_stays}
 use Rattle.iso_wire.proofs.NeverMemory.{NeverMemory, message}
 use Rattle.iso_wire.proofs.Orders.{Values}
+use Rattle.iso_wire.proofs.Readings.{behind_type, message_is, count_by, lacks_by, fails_by, end_is, size_by}
 
 -- what is good stays, whatever follows
 stays_ok : {A : Type 0} (r r' : Result A UnpackFault) (x : A) → r ≡ Ok x → Stays r r' → r' ≡ Ok x
@@ -48,11 +49,6 @@ pub parts_end : (rows : List (Option FieldSpec)) (old : List ℕ) (at : ℕ) (b 
 parts_end rows old at b none = ap (λ (l : List ℕ). end_of_elements rows l at b) none
 
 -- a length that is whole tells the same count, whatever follows
-count_by : (t : Bool) (r : Result ℕ FieldFault) (n : ℕ) → cond t (Ok None) (some_count r) ≡ Ok (Some n) → (t ≡ false) × (r ≡ Ok n)
-count_by true r n e = absurd cc
-count_by false (Ok m) n e = let same : m ≡ n = cc in (refl, ap Ok same)
-count_by false (Err f) n e = absurd cc
-
 record Counted (s : FieldSpec) (b : List ℕ) (n : ℕ) : Type 0 where
   pub room : prefix_size s.length ≤ length b
   pub read : prefix_of s (take (prefix_size s.length) b) ≡ Ok n
@@ -146,11 +142,6 @@ module _ (laws : PartLaws) where
       ap (λ (l : List ℕ). end_of_elements rows l at (b ++ x)) is ∙ body_read rows s n count at ns (b ++ x) row more
 
   -- a bad length is the fault
-  fails_by : (t : Bool) (r : Result ℕ FieldFault) (e : FieldFault) → cond t (Ok None) (some_count r) ≡ Err e → (t ≡ false) × (r ≡ Err e)
-  fails_by true r e is = absurd cc
-  fails_by false (Ok m) e is = absurd cc
-  fails_by false (Err f) e is = let same : f ≡ e = cc in (refl, ap Err same)
-
   pub length_ends : (rows : List (Option FieldSpec)) (s : FieldSpec) (old ns : List ℕ) (n at : ℕ) (b : List ℕ) (e : FieldFault) → old ≡ n ∷ ns → row_at rows n ≡ Some s → count_at s (drop at b) ≡ Err e → end_of_elements rows old at b ≡ refused n at e
   length_ends rows s old ns n at b e is row bad =
       let front = prefix_size s.length in
@@ -164,11 +155,6 @@ module _ (laws : PartLaws) where
       ∙ ap (λ (k : ℕ). refused n k e) none
 
 -- bytes that end inside a length
-lacks_by : (t : Bool) (r : Result ℕ FieldFault) → cond t (Ok None) (some_count r) ≡ Ok None → t ≡ true
-lacks_by true r is = refl
-lacks_by false (Ok m) is = absurd cc
-lacks_by false (Err f) is = absurd cc
-
 abbrev short : ℕ → ℕ → Result ℕ UnpackFault
 short n at = halt n at Short
 
@@ -190,20 +176,11 @@ no_row_ends rows old ns n at b is none =
 
 -- ---- the body of an element
 
-end_is : (n at end : ℕ) (r : Result (Option ℕ) FieldFault) → end_by n at r ≡ Ok end → (size : ℕ) × (r ≡ Ok (Some size)) × (at + size ≡ end)
-end_is n at end (Ok (Some size)) e = (size, refl, cc)
-end_is n at end (Ok None) e = absurd cc
-end_is n at end (Err f) e = absurd cc
-
-size_by : (t : Bool) (size n : ℕ) (r : Result (List ℕ) FieldFault) → cond t (Ok None) (some_size size r) ≡ Ok (Some n) → t ≡ false
-size_by true size n r e = absurd cc
-size_by false size n r e = refl
-
 size_stays : (s : FieldSpec) (count size : ℕ) (b x : List ℕ) → size_at s count b ≡ Ok (Some size) → size_at s count (b ++ x) ≡ Ok (Some size)
 size_stays s count size b x is =
     let n = body_size s.coding count in
     let r = λ (l : List ℕ). body_of s count (take n l) in
-    let long = size_by (ltb (length b) n) n size (r b) is in
+    let long = (size_by (ltb (length b) n) (r b) n size is).0 in
     let room : n ≤ length b = ltb-false (length b) n long in
     cond-false (ltb (length (b ++ x)) n) (Ok None) (some_size n (r (b ++ x))) (le-ltb (length (b ++ x)) n (omega (arith, length-append b x)))
     ∙ ap (λ (l : List ℕ). some_size n (body_of s count l)) (take-append-le n b x room)
@@ -250,13 +227,6 @@ end_made mti (Err e) = refl
 end_words : (mti : ℕ) (r : Result (ℕ × ℕ × ℕ) UnpackFault) (f : ℕ × ℕ × ℕ → Result (Values × ℕ) UnpackFault) → end_of (r >>= λ w. f w >>= λ read. whole (made mti read.0) read.1) ≡ r >>= λ w. end_of (f w)
 end_words mti (Ok w) f = end_made mti (f w)
 end_words mti (Err e) f = refl
-
-abbrev behind_type : Layout → List ℕ → ℕ → Result (Contents × ℕ) UnpackFault
-behind_type t b mti = words_at t (mti_size t.mti) (drop (mti_size t.mti) b) >>= λ w. elements_at t.rows (numbers_in w.0 w.1) (mti_size t.mti + w.2) (drop (mti_size t.mti + w.2) b) >>= λ read. whole (made mti read.0) read.1
-
-message_is : (t : Layout) (b : List ℕ) → message_at t b ≡ type_at t b >>= behind_type t b
-unfolding message_at
-message_is t b = refl
 
 pub type_goes_on : (t : Layout) (b : List ℕ) (mti : ℕ) → type_at t b ≡ Ok mti → GoesOn t points.Type points.Primary b
 type_goes_on t b mti read = λ x.

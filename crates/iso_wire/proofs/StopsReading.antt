@@ -15,7 +15,7 @@ use Rattle.iso_wire.specs.declared.fault.UnpackCause.{UnpackCause}
 use Rattle.iso_wire.specs.Contents.{Contents}
 use Rattle.iso_parts.specs.Numbers.{numbers_in}
 use Rattle.iso_parts.specs.Mti.{mti_size}
-use Rattle.iso_wire.specs.Reading.{◌>>=◌, halt, type_at, primary_at, secondary_at, words_by, words_at, value_by, value_at, elements_at, message_at, whole}
+use Rattle.iso_wire.specs.Reading.{◌>>=◌, halt, type_at, primary_at, secondary_at, words_by, words_at, value_by, value_at, elements_at, message_at}
 use Rattle.iso_wire.specs.Spelling.{AreBytes}
 use Rattle.iso_wire.specs.Stops.{Piece, type, primary, secondary, count, body, owner, IsOwnType, below, IsBefore, CallFor, Halts, Stops}
 use Rattle.iso_wire.specs.StopsLaws.{StopsAsRead}
@@ -23,6 +23,7 @@ use Rattle.iso_wire.proofs.Bytes.{bytes_take, bytes_drop}
 use Rattle.iso_wire.proofs.Messages.{type_again}
 use Rattle.iso_wire.proofs.NumberLaws.{numbers_agree}
 use Rattle.iso_wire.proofs.Orders.{numbers_of, Values}
+use Rattle.iso_wire.proofs.Readings.{made, words, behind_maps, behind_type, message_is}
 use Rattle.iso_wire.proofs.Sets.{made_from_set, numbers_from_set}
 use Rattle.iso_wire.proofs.StopsHalted.{primary_is_halted, secondary_is_halted, first_of_two_read, good_maps_read, primary_taken, all_rows}
 use Rattle.iso_wire.proofs.StopsMaps.{fault_is, fault_at, HaltsAs, TypeTaken, type_halts, type_taken, type_is_halted, primary_halts, secondary_halts}
@@ -32,22 +33,6 @@ use Rattle.iso_wire.proofs.Types.{length-four_digits_of}
 use Rattle.iso_wire.proofs.WordLaws.{words_taken}
 
 -- ---- the readings, one after another
-
-abbrev made : ℕ → Values × ℕ → Result (Contents × ℕ) UnpackFault
-made mti read = whole (record { mti = mti; elements = read.0 }) read.1
-
-abbrev words : ℕ → ℕ → ℕ → Result (ℕ × ℕ × ℕ) UnpackFault
-words first second size = Ok (first, second, size)
-
-abbrev behind_maps : Layout → List ℕ → ℕ → ℕ × ℕ × ℕ → Result (Contents × ℕ) UnpackFault
-behind_maps t b mti w = elements_at t.rows (numbers_in w.0 w.1) (mti_size t.mti + w.2) (drop (mti_size t.mti + w.2) b) >>= made mti
-
-abbrev behind_type : Layout → List ℕ → ℕ → Result (Contents × ℕ) UnpackFault
-behind_type t b mti = words_at t (mti_size t.mti) (drop (mti_size t.mti) b) >>= behind_maps t b mti
-
-message_is : (t : Layout) (b : List ℕ) → message_at t b ≡ type_at t b >>= behind_type t b
-unfolding message_at
-message_is t b = refl
 
 at_type : (t : Layout) (b : List ℕ) (e : UnpackFault) → type_at t b ≡ Err e → message_at t b ≡ Err e
 at_type t b e h = message_is t b ∙ ap (λ r. r >>= behind_type t b) h

@@ -1,6 +1,7 @@
 use Rattle.std.proofs.Common.{Err, Ok, sym}
 use Rattle.iso_wire.specs.declared.judging.ResumePoint.TheVariants as points
-use Rattle.iso_wire.proofs.Walks.{body_passes, body_fails, body_under_row}
+use Rattle.iso_wire.proofs.WalkBodies.{body_passes, body_fails}
+use Rattle.iso_wire.proofs.Walks.{body_under_row}
 use Rattle.iso_wire.proofs.pieces.pass_body.Goals as goal
 
 pub body_end-requires-clause-good : goal.body_end-requires-clause-good

@@ -4,7 +4,8 @@ use Rattle.iso_wire.specs.declared.fault.UnpackFault.{UnpackFault}
 use Rattle.iso_wire.specs.declared.judging.ResumePoint.TheVariants as points
 use Rattle.iso_wire.specs.Walking.{Passes}
 use Rattle.iso_wire.specs.Stops.{count}
-use Rattle.iso_wire.proofs.Walks.{length_passes, length_lacks, length_fails, length_under_row}
+use Rattle.iso_wire.proofs.WalkFronts.{length_passes, length_lacks, length_fails}
+use Rattle.iso_wire.proofs.Walks.{length_under_row}
 use Rattle.iso_wire.proofs.pieces.pass_length.Goals as goal
 
 pub returns-in-Ok-Some : goal.returns-in-Ok-Some

@@ -1,6 +1,6 @@
 use Rattle.std.proofs.Common.{◌≡◌, sym, rules}
 use Rattle.iso_parts.specs.Mti.{mti_size}
-use Rattle.iso_wire.proofs.Walks.{primary_passes, primary_fails}
+use Rattle.iso_wire.proofs.WalkFronts.{primary_passes, primary_fails}
 use Rattle.iso_wire.proofs.pieces.pass_primary.Goals as goal
 
 pub returns-in-Ok : goal.returns-in-Ok

@@ -1,7 +1,7 @@
 use Rattle.std.proofs.Common.{◌≡◌, ◌+◌, sym, rules, arith}
 use Rattle.iso_parts.specs.Bitmap.{map_size}
 use Rattle.iso_parts.specs.Mti.{mti_size}
-use Rattle.iso_wire.proofs.Walks.{second_map_passes, secondary_fails}
+use Rattle.iso_wire.proofs.WalkFronts.{second_map_passes, secondary_fails}
 use Rattle.iso_wire.proofs.pieces.pass_secondary.Goals as goal
 
 pub returns-in-Ok : goal.returns-in-Ok

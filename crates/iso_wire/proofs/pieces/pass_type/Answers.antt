@@ -1,5 +1,5 @@
 use Rattle.iso_parts.specs.Mti.{mti_number}
-use Rattle.iso_wire.proofs.Walks.{type_passes, type_fails}
+use Rattle.iso_wire.proofs.WalkFronts.{type_passes, type_fails}
 use Rattle.iso_wire.proofs.pieces.pass_type.Goals as goal
 
 pub returns-in-Ok : goal.returns-in-Ok

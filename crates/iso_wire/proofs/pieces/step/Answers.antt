@@ -1,5 +1,6 @@
 use Rattle.std.proofs.Common.{◌≤◌, ◌+◌, length, subst, ap, sym}
-use Rattle.iso_wire.proofs.Walks.{steps, reached_stands}
+use Rattle.iso_wire.proofs.WalkPlaces.{reached_stands}
+use Rattle.iso_wire.proofs.Walks.{steps}
 use Rattle.iso_wire.proofs.pieces.step.Goals as goal
 
 pub returns-in_err-span : goal.returns-in_err-span
