@@ -1,10 +1,11 @@
 //! The transaction that a message names (element 90, original data elements).
 
-ghost use Rattle.std.specs.Prelude.{◌≡◌, ◌≤◌, ◌++◌, List, Bool, Some, None, true, IfSome, IfOk, IfErr, OnOk, if◌then◌else◌};
+ghost use Rattle.std.specs.Prelude.{◌≡◌, ◌≤◌, ◌++◌, List, Bool, Some, true, is_some, IfSome, IfOk, IfErr, OnOk};
 ghost use Rattle.iso_order.specs.Fields.{class, function, text, key_of, is_original, is_hold, is_completion, hold_of};
 ghost use Rattle.iso_order.specs.Key.{class_digit, function_digit, is_valid_key};
 ghost use Rattle.iso_order.specs.Order.{is_hold_for};
-ghost use Rattle.iso_order.specs.Original.{named_original};
+ghost use Rattle.iso_order.specs.Original.{IsNamedIn};
+ghost use Rattle.iso_parts.specs.Mti.{mti_number};
 ghost use Rattle.iso_wire.specs.Decimal.{are_digits};
 ghost use Rattle.iso_order.specs.Verdict.{first_of, completion_lines};
 ghost use Rattle.iso_order.specs.declared.verdict.Verdict.{Verdict};
@@ -12,13 +13,14 @@ ghost use Rattle.iso_order.specs.declared.verdict.Verdict.TheVariants.{Reply};
 
 use crate::fields::{base_of, has, number_from, text, type_in};
 use crate::key::TxKey;
+use iso_parts::Mti;
 use iso_wire::{Message, are_digits};
 
 /// What element 90 tells of the transaction.
 #[derive(Clone, Copy)]
 pub(crate) struct Original {
     /// Its message type.
-    pub mti: u16,
+    pub mti: Mti,
     /// Its key, under the acquirer of the message that names it.
     pub key: TxKey,
     /// Whether it names that acquirer, or none.
@@ -28,7 +30,8 @@ pub(crate) struct Original {
 /// The transaction that element 90 names, where it has its 42 digits.
 pub(crate) fn original_of(message: &Message, key: &TxKey) -> Option<Original>
     requires { key.now ≡ key_of message.now }
-    ensures value { result ≡ (if are_digits 42 42 (text message.now 90) then Some (named_original message.now) else None) }
+    ensures some { is_some result ≡ are_digits 42 42 (text message.now 90) }
+    ensures named { IfSome result (IsNamedIn message.now) }
     ensures stan { IfSome result (λ o. o.key.stan ≤ 999999) }
     ensures sent { IfSome result (λ o. o.key.sent ≤ 9999999999) }
 {
@@ -45,27 +48,27 @@ pub(crate) fn original_of(message: &Message, key: &TxKey) -> Option<Original>
         acquirer: key.acquirer,
     };
     Some(Original {
-        mti: mti.number(),
+        mti,
         key: named,
         is_own: acquirer == 0 || acquirer == key.acquirer,
     })
 }
 
-/// Whether the number is the type of a message that can be reversed.
-pub(crate) fn is_original(mti: u16) -> bool
-    ensures { result ≡ is_original mti }
+/// Whether it is the type of a message that can be reversed.
+pub(crate) fn is_original(mti: Mti) -> bool
+    ensures { result ≡ is_original (mti_number mti) }
 {
-    mti / 1000 == 0
-        && matches!(mti / 100 % 10, 1 | 2)
-        && matches!(mti / 10 % 10, 0 | 2)
-        && mti % 10 <= 5
+    mti.version == 0
+        && matches!(mti.class, 1 | 2)
+        && matches!(mti.function, 0 | 2)
+        && mti.origin <= 5
 }
 
-/// Whether the number is the type of a message that can be completed: it holds an amount.
-fn is_hold(mti: u16) -> bool
-    ensures { result ≡ is_hold mti }
+/// Whether it is the type of a message that can be completed: it holds an amount.
+fn is_hold(mti: Mti) -> bool
+    ensures { result ≡ is_hold (mti_number mti) }
 {
-    is_original(mti) && mti / 100 % 10 == 1
+    is_original(mti) && mti.class == 1
 }
 
 /// Whether it is an advice of class 2 that names another transaction.

@@ -1,25 +1,15 @@
 use Rattle.std.proofs.Common.{◌≡◌, ◌≢◌, ℕ, Bool, true, false, List, length, refl, sym, ap, ◌∙◌, ◌&&◌, arith, eq-eqb, length-take}
-use Rattle.std.specs.Prelude.{Some, None, ◌==◌, ◌||◌, nat_le, if◌then◌else◌}
+use Rattle.std.specs.Prelude.{◌==◌, ◌||◌, nat_le}
 use Rattle.std.specs.List.{list_all}
 use Rattle.std.proofs.lemmas.Bool.{and_parts}
 use Rattle.iso_parts.specs.Class.{is_digit}
 use Rattle.iso_wire.specs.Contents.{Contents}
 use Rattle.iso_wire.specs.Decimal.{are_digits, number}
 use Rattle.iso_order.specs.declared.key.TxKey.{TxKey}
-use Rattle.iso_order.specs.Fields.{text, base_of, number_from, original_mti, original_stan, original_sent, original_acquirer, is_own}
-use Rattle.iso_order.specs.Original.{named_original}
+use Rattle.iso_order.specs.Fields.{text, base_of, number_from, original_mti, original_stan, original_sent, original_acquirer, original_of}
 use Rattle.iso_order.proofs.Digits.{list_all-take, are_digits-least}
 use Rattle.iso_order.proofs.Table.{is_other}
 use Rattle.iso_order.proofs.original.original_of.Goals as goal
-
--- what element 90 tells, part by part
-original_as : (m : Contents) (mti base stan sent acquirer : ℕ) (own : Bool) → are_digits 42 42 (text m 90) ≡ true → mti ≡ original_mti m → base ≡ base_of (original_mti m) → stan ≡ original_stan m
-    → sent ≡ original_sent m → acquirer ≡ number (text m 32) → own ≡ is_own m
-    → Some (record { mti = mti; key = record { base = base; stan = stan; sent = sent; acquirer = acquirer }; is_own = own }) ≡ (if are_digits 42 42 (text m 90) then Some (named_original m) else None)
-original_as m mti base stan sent acquirer own h a b c d e f = rw (h, a, b, c, d, e, f) refl
-
-none_as : (m : Contents) → are_digits 42 42 (text m 90) ≡ false → None ≡ (if are_digits 42 42 (text m 90) then Some (named_original m) else None)
-none_as m h = rw h refl
 
 -- no acquirer is named
 own_none : (x y k : ℕ) → x ≡ y → x ≡ 0 → (x == 0) ≡ (y == 0 || y == k)
@@ -35,32 +25,50 @@ own_some x y a k same some key =
 digits_of : (l : List ℕ) → are_digits 42 42 l ≡ true → list_all is_digit l ≡ true
 digits_of l h = (and_parts (nat_le 42 (length l) && nat_le (length l) 42) (list_all is_digit l) h).1
 
-pub returns-then-not-are_digits-clause-value : goal.returns-then-not-are_digits-clause-value
-returns-then-not-are_digits-clause-value c = none_as c.args.message.now (rw c.text-data.ensures at (sym c.are_digits.ensures ∙ c.if-not-are_digits.true))
+-- the digits are those of the element
+some_as : (m : Contents) (l : List ℕ) → l ≡ text m 90 → are_digits 42 42 l ≡ true → true ≡ are_digits 42 42 (text m 90)
+some_as m l told h = sym (ap (are_digits 42 42) (sym told) ∙ h)
 
-pub returns-then-acquirer-eq0-clause-value : goal.returns-then-acquirer-eq0-clause-value
-returns-then-acquirer-eq0-clause-value c =
+pub returns-then-not-are_digits-clause-some : goal.returns-then-not-are_digits-clause-some
+returns-then-not-are_digits-clause-some c = sym (ap (are_digits 42 42) (sym c.text-data.ensures) ∙ sym c.are_digits.ensures ∙ c.if-not-are_digits.true)
+
+pub returns-then-acquirer-eq0-clause-some : goal.returns-then-acquirer-eq0-clause-some
+returns-then-acquirer-eq0-clause-some c = some_as c.args.message.now c.text-data.result.now c.text-data.ensures (sym c.are_digits.ensures ∙ c.if-not-are_digits.false)
+
+pub returns-else-acquirer-eq0-clause-some : goal.returns-else-acquirer-eq0-clause-some
+returns-else-acquirer-eq0-clause-some c = some_as c.args.message.now c.text-data.result.now c.text-data.ensures (sym c.are_digits.ensures ∙ c.if-not-are_digits.false)
+
+-- a key of those parts
+key_as : (m : Contents) (base stan sent acquirer : ℕ) → base ≡ base_of (original_mti m) → stan ≡ original_stan m → sent ≡ original_sent m → acquirer ≡ number (text m 32)
+    → ◌≡◌ {A = TxKey} (record { base = base; stan = stan; sent = sent; acquirer = acquirer }) (original_of m)
+key_as m base stan sent acquirer a b c d = rw (a, b, c, d) refl
+
+pub returns-then-acquirer-eq0-clause-named : goal.returns-then-acquirer-eq0-clause-named
+returns-then-acquirer-eq0-clause-named c =
     let m = c.args.message.now in
     let told = c.text-data.ensures in
-    let digits : are_digits 42 42 c.text-data.result.now ≡ true = sym c.are_digits.ensures ∙ c.if-not-are_digits.false in
     let mti = c.type_in-mti.ensures ∙ ap (number_from 0 4) told in
-    let own : (c.number_from-acquirer.result == 0) ≡ is_own m = own_none c.number_from-acquirer.result (original_acquirer m) (number (text m 32)) (c.number_from-acquirer.ensures.value ∙ ap (number_from 20 11) told) c.if-acquirer-eq0.true in
-    original_as m c.number.result c.base_of.result c.number_from.result c.number_from-2.result c.args.key.now.acquirer (c.number_from-acquirer.result == 0)
-    (ap (are_digits 42 42) (sym told) ∙ digits) (c.number.ensures ∙ mti) (c.base_of.ensures ∙ ap base_of mti) (c.number_from.ensures.value ∙ ap (number_from 4 6) told) (c.number_from-2.ensures.value ∙ ap (number_from 10 10) told)
-    (ap (λ (k : TxKey). k.acquirer) c.requires) own
+    let read = c.number_from-acquirer.ensures.value ∙ ap (number_from 20 11) told in
+    record {
+      mti = mti;
+      key = key_as m c.base_of.result c.number_from.result c.number_from-2.result c.args.key.now.acquirer (c.base_of.ensures ∙ ap base_of mti)
+          (c.number_from.ensures.value ∙ ap (number_from 4 6) told) (c.number_from-2.ensures.value ∙ ap (number_from 10 10) told) (ap (λ (k : TxKey). k.acquirer) c.requires);
+      own = own_none c.number_from-acquirer.result (original_acquirer m) (number (text m 32)) read c.if-acquirer-eq0.true;
+    }
 
-pub returns-else-acquirer-eq0-clause-value : goal.returns-else-acquirer-eq0-clause-value
-returns-else-acquirer-eq0-clause-value c =
+pub returns-else-acquirer-eq0-clause-named : goal.returns-else-acquirer-eq0-clause-named
+returns-else-acquirer-eq0-clause-named c =
     let m = c.args.message.now in
     let told = c.text-data.ensures in
-    let digits : are_digits 42 42 c.text-data.result.now ≡ true = sym c.are_digits.ensures ∙ c.if-not-are_digits.false in
     let mti = c.type_in-mti.ensures ∙ ap (number_from 0 4) told in
-    let key = ap (λ (k : TxKey). k.acquirer) c.requires in
-    let own : (c.number_from-acquirer.result == c.args.key.now.acquirer) ≡ is_own m =
-    own_some c.number_from-acquirer.result (original_acquirer m) c.args.key.now.acquirer (number (text m 32)) (c.number_from-acquirer.ensures.value ∙ ap (number_from 20 11) told) c.if-acquirer-eq0.false key in
-    original_as m c.number.result c.base_of.result c.number_from.result c.number_from-2.result c.args.key.now.acquirer (c.number_from-acquirer.result == c.args.key.now.acquirer)
-    (ap (are_digits 42 42) (sym told) ∙ digits) (c.number.ensures ∙ mti) (c.base_of.ensures ∙ ap base_of mti) (c.number_from.ensures.value ∙ ap (number_from 4 6) told) (c.number_from-2.ensures.value ∙ ap (number_from 10 10) told)
-    key own
+    let read = c.number_from-acquirer.ensures.value ∙ ap (number_from 20 11) told in
+    let acquirer = ap (λ (k : TxKey). k.acquirer) c.requires in
+    record {
+      mti = mti;
+      key = key_as m c.base_of.result c.number_from.result c.number_from-2.result c.args.key.now.acquirer (c.base_of.ensures ∙ ap base_of mti)
+          (c.number_from.ensures.value ∙ ap (number_from 4 6) told) (c.number_from-2.ensures.value ∙ ap (number_from 10 10) told) acquirer;
+      own = own_some c.number_from-acquirer.result (original_acquirer m) c.args.key.now.acquirer (number (text m 32)) read c.if-acquirer-eq0.false acquirer;
+    }
 
 pub number_from-requires-clause-digits : goal.number_from-requires-clause-digits
 number_from-requires-clause-digits c = digits_of c.text-data.result.now (sym c.are_digits.ensures ∙ c.if-not-are_digits.false)
