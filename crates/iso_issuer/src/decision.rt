@@ -6,17 +6,17 @@ ghost use Rattle.iso_issuer.specs.declared.balances.Balance.{Balance};
 ghost use Rattle.iso_issuer.specs.declared.journal.Entry.{Entry};
 ghost use Rattle.iso_issuer.specs.Found.{IsBalanceFor};
 ghost use Rattle.iso_issuer.specs.Balances.{accounts_of};
-ghost use Rattle.iso_issuer.specs.Effect.{effect_of};
+ghost use Rattle.iso_issuer.specs.Effect.{effect_of, effect_amount};
 ghost use Rattle.iso_issuer.specs.Journal.{left_at, undone_key};
 ghost use Rattle.iso_issuer.specs.Balance.{balance_on};
 ghost use Rattle.iso_issuer.specs.Index.{AreSums};
 ghost use Rattle.iso_issuer.specs.Decision.{is_wide, amount_code, account_code, code_of, shown_by, new_answer, repeat_answer};
-ghost use Rattle.iso_order.specs.Order.{money_of};
+ghost use Rattle.iso_order.specs.Order.{money_of, most_amount};
 
 use crate::balances::{Balance, Balances, PlacedBalance};
-use crate::effect::effect_of;
+use crate::effect::Effect;
 use crate::journal::{Entry, Journal, is_nothing, smaller_of};
-use iso_order::{Act, Answer, MOST_AMOUNT, Money, Order};
+use iso_order::{Act, Answer, MOST_AMOUNT, Money, Order, TxKey};
 
 /// Whether an amount has more than twelve digits.
 fn is_wide(amount: i64) -> bool
@@ -26,16 +26,17 @@ fn is_wide(amount: i64) -> bool
 }
 
 /// The code on an account that is there and has the currency.
-fn amount_code(order: Order, balance: Balance, left: Option<u64>) -> u8
-    ensures value { (entries : List Entry) → (a : Account) → balance ≡ balance_on entries a → left ≡ left_at entries order.key
-        → result ≡ amount_code entries order.key (effect_of order) a }
+fn amount_code(key: &TxKey, effect: &Option<Effect>, balance: &Balance, left: Option<u64>) -> u8
+    requires { effect_amount effect.now ≤ most_amount }
+    ensures value { (entries : List Entry) → (a : Account) → balance.now ≡ balance_on entries a
+        → left ≡ left_at entries key.now → result ≡ amount_code entries key.now effect.now a }
     ensures small { result ≤ 99 }
 {
-    match effect_of(order) {
+    match effect {
         None => { if is_wide(balance.available) { 96 } else { 0 } }
         Some(effect) => {
             if effect.side.is_drawn()
-                && order.key().function() == 0
+                && key.function() == 0
                 && balance.available < smaller_of(effect.amount, left) as i64
             {
                 51
@@ -46,16 +47,27 @@ fn amount_code(order: Order, balance: Balance, left: Option<u64>) -> u8
     }
 }
 
-fn account_code(order: Order, money: Money, balance: Option<Balance>, left: Option<u64>) -> u8
-    ensures value { (entries : List Entry) → (account : Option Account) → balance ≡ option_map (balance_on entries) account
-        → left ≡ left_at entries order.key → result ≡ account_code entries order money account }
+/// The code on the account that was looked up.
+fn account_code(
+    order: &Order,
+    effect: &Option<Effect>,
+    money: &Money,
+    placed: &Option<PlacedBalance>,
+    left: Option<u64>,
+) -> u8
+    requires effect { effect.now ≡ effect_of order.now }
+    requires amount { effect_amount effect.now ≤ most_amount }
+    ensures value { (entries : List Entry) → (account : Option Account)
+        → option_map (λ p. p.balance) placed.now ≡ option_map (balance_on entries) account
+        → left ≡ left_at entries order.now.key
+        → result ≡ account_code entries order.now money.now account }
     ensures small { result ≤ 99 }
 {
-    match balance {
+    match placed {
         None => 14,
-        Some(balance) => {
-            if balance.account.currency == money.currency {
-                amount_code(order, balance, left)
+        Some(placed) => {
+            if placed.balance.account.currency == money.currency {
+                amount_code(&order.key(), effect, &placed.balance, left)
             } else {
                 12
             }
@@ -64,21 +76,11 @@ fn account_code(order: Order, money: Money, balance: Option<Balance>, left: Opti
 }
 
 /// What is on the account that an order is about, and the place of that account.
-pub fn balance_for(balances: &Balances, order: Order) -> Option<PlacedBalance>
-    ensures { IsBalanceFor balances.now order result }
+pub fn balance_for(balances: &Balances, order: &Order) -> Option<PlacedBalance>
+    ensures { IsBalanceFor balances.now order.now result }
 {
     match order.act().money() {
         Some(money) => balances.find(money.pan),
-        None => None,
-    }
-}
-
-/// The balance alone.
-fn balance_in(placed: &Option<PlacedBalance>) -> Option<Balance>
-    ensures { result ≡ option_map (λ p. p.balance) placed.now }
-{
-    match placed {
-        Some(placed) => Some(placed.balance),
         None => None,
     }
 }
@@ -94,9 +96,18 @@ pub fn place_in(placed: &Option<PlacedBalance>) -> Option<usize>
 }
 
 /// The code of a new order, of whose key the first reversal leaves so much.
-fn code_of(placed: &Option<PlacedBalance>, order: Order, left: Option<u64>) -> u8
-    ensures value { (entries : List Entry) → (balances : List Balance) → AreSums entries balances → IsBalanceFor balances order placed.now
-        → (undone_key order.act ≡ None → left ≡ left_at entries order.key) → result ≡ code_of (accounts_of balances) entries order }
+fn code_of(
+    placed: &Option<PlacedBalance>,
+    order: &Order,
+    effect: &Option<Effect>,
+    left: Option<u64>,
+) -> u8
+    requires effect { effect.now ≡ effect_of order.now }
+    requires amount { effect_amount effect.now ≤ most_amount }
+    ensures value { (entries : List Entry) → (balances : List Balance) → AreSums entries balances
+        → IsBalanceFor balances order.now placed.now
+        → (undone_key order.now.act ≡ None → left ≡ left_at entries order.now.key)
+        → result ≡ code_of (accounts_of balances) entries order.now }
     ensures small { result ≤ 99 }
 {
     match order.act().money() {
@@ -105,19 +116,30 @@ fn code_of(placed: &Option<PlacedBalance>, order: Order, left: Option<u64>) -> u
             if is_nothing(left) {
                 21
             } else {
-                account_code(order, money, balance_in(placed), left)
+                account_code(order, effect, &money, placed, left)
             }
         }
     }
 }
 
+/// What is available on the account that was looked up.
+fn available_in(placed: &Option<PlacedBalance>) -> Option<i64>
+    ensures { result ≡ option_map (λ p. p.balance.available) placed.now }
+{
+    match placed {
+        Some(placed) => Some(placed.balance.available),
+        None => None,
+    }
+}
+
 /// What an order of code 0 shows.
-fn shown_by(placed: &Option<PlacedBalance>, order: Order) -> Option<i64>
-    ensures { (entries : List Entry) → (balances : List Balance) → AreSums entries balances → IsBalanceFor balances order placed.now
-        → result ≡ shown_by (accounts_of balances) entries order.act }
+fn shown_by(placed: &Option<PlacedBalance>, order: &Order) -> Option<i64>
+    ensures { (entries : List Entry) → (balances : List Balance) → AreSums entries balances
+        → IsBalanceFor balances order.now placed.now
+        → result ≡ shown_by (accounts_of balances) entries order.now.act }
 {
     match order.act() {
-        Act::Inquiry(_) => Some(balance_in(placed)?.available),
+        Act::Inquiry(_) => available_in(placed),
         Act::Debit(_) | Act::Credit(_) | Act::Undo { .. } | Act::Complete { .. } => None,
     }
 }
@@ -126,15 +148,19 @@ fn shown_by(placed: &Option<PlacedBalance>, order: Order) -> Option<i64>
 pub fn new_answer(
     journal: &Journal,
     placed: &Option<PlacedBalance>,
-    order: Order,
+    order: &Order,
+    effect: &Option<Effect>,
     left: Option<u64>,
 ) -> Answer
     requires few { length journal.now < 999999 }
-    requires left { undone_key order.act ≡ None → left ≡ left_at journal.now order.key }
-    ensures { (balances : List Balance) → AreSums journal.now balances → IsBalanceFor balances order placed.now
-        → result ≡ new_answer (accounts_of balances) journal.now order }
+    requires effect { effect.now ≡ effect_of order.now }
+    requires amount { effect_amount effect.now ≤ most_amount }
+    requires left { undone_key order.now.act ≡ None → left ≡ left_at journal.now order.now.key }
+    ensures { (balances : List Balance) → AreSums journal.now balances
+        → IsBalanceFor balances order.now placed.now
+        → result ≡ new_answer (accounts_of balances) journal.now order.now }
 {
-    let code = code_of(placed, order, left);
+    let code = code_of(placed, order, effect, left);
     Answer {
         code,
         seq: journal.len() as u32 + 1,

@@ -41,8 +41,8 @@ pub struct Hold {
 }
 
 /// The hold that an effect ends.
-pub fn hold_by(effect: Option<Effect>) -> Option<Hold>
-    ensures { result ≡ hold_by effect }
+pub fn hold_by(effect: &Option<Effect>) -> Option<Hold>
+    ensures { result ≡ hold_by effect.now }
 {
     match effect {
         Some(effect) => match effect.ends {
@@ -80,8 +80,8 @@ impl Side {
 }
 
 /// The key of the hold that an effect ends.
-pub fn ended_by(effect: Option<Effect>) -> Option<TxKey>
-    ensures { result ≡ ended_by effect }
+pub fn ended_by(effect: &Option<Effect>) -> Option<TxKey>
+    ensures { result ≡ ended_by effect.now }
 {
     match effect {
         Some(effect) => effect.ends,
@@ -90,9 +90,8 @@ pub fn ended_by(effect: Option<Effect>) -> Option<TxKey>
 }
 
 /// The amount of an effect.
-pub fn effect_amount(effect: Option<Effect>) -> u64
-    ensures value { result ≡ effect_amount effect }
-    ensures small { IfSome effect (λ f. result ≤ f.amount) }
+pub fn effect_amount(effect: &Option<Effect>) -> u64
+    ensures { result ≡ effect_amount effect.now }
 {
     match effect {
         Some(effect) => effect.amount,
@@ -101,12 +100,13 @@ pub fn effect_amount(effect: Option<Effect>) -> u64
 }
 
 /// What an order does to its account, where it does anything.
-pub fn effect_of(order: Order) -> Option<Effect>
-    ensures value { result ≡ effect_of order }
-    ensures small { IfSome result (λ f. f.amount ≤ most_amount) }
-    ensures own { IfSome result (λ f. undone_key order.act ≡ None) }
+pub fn effect_of(order: &Order) -> Option<Effect>
+    ensures value { result ≡ effect_of order.now }
+    ensures small { effect_amount result ≤ most_amount }
+    ensures own { IfSome result (λ f. undone_key order.now.act ≡ None) }
     // What ends a hold is of class 2, and a hold of class 1.
-    ensures ends { (q : TxKey) → is_key (ended_by result) q ≡ true → (class_digit q ≡ 1) × (class_digit order.key ≡ 2) }
+    ensures ends { (q : TxKey) → is_key (ended_by result) q ≡ true
+        → (class_digit q ≡ 1) × (class_digit order.now.key ≡ 2) }
 {
     match order.act() {
         Act::Debit(money) => Some(Effect {

@@ -37,8 +37,9 @@ fn open_hold(journal: &Journal, entry: Entry, pan: Pan) -> Option<OpenHold>
     ensures { result ≡ (if is_open journal.now pan entry then Some (hold_now journal.now entry) else None) }
 {
     let left = journal.left_at(entry.order.key());
-    if journal.is_standing(&entry, left) && is_held_on(pan, &effect_of(entry.order)) {
-        let amount = journal.weight(&entry, left);
+    let effect = effect_of(&entry.order);
+    if journal.is_standing(&entry, &effect, left) && is_held_on(pan, &effect) {
+        let amount = journal.weight(&entry, &effect, left);
         Some(OpenHold { entry, amount })
     } else {
         None

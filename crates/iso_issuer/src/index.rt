@@ -56,9 +56,10 @@ fn release(counts: &mut BTreeMap<Hold, u64>, hold: Hold)
 }
 
 /// Keeps what a reversal leaves of the key that it names, where it is the first to name it.
-fn keep_left(lefts: &mut BTreeMap<TxKey, u64>, order: Order) -> Result<(), AllocError>
+fn keep_left(lefts: &mut BTreeMap<TxKey, u64>, order: &Order) -> Result<(), AllocError>
     ensures ok { OnOk result ((key : TxKey) → tree.get key_cmp lefts.new key
-        ≡ option_or (tree.get key_cmp lefts.old key) (if is_key (undone_key order.act) key then Some (left_by order.act) else None)) }
+        ≡ option_or (tree.get key_cmp lefts.old key)
+        (if is_key (undone_key order.now.act) key then Some (left_by order.now.act) else None)) }
     ensures unchanged { OnErr result ((key : TxKey) → tree.get key_cmp lefts.new key ≡ tree.get key_cmp lefts.old key) }
 {
     match order.act() {
@@ -77,15 +78,16 @@ fn keep_left(lefts: &mut BTreeMap<TxKey, u64>, order: Order) -> Result<(), Alloc
 fn keep(
     lefts: &mut BTreeMap<TxKey, u64>,
     counts: &mut BTreeMap<Hold, u64>,
-    order: Order,
+    order: &Order,
     added: Option<Hold>,
     dropped: Option<Hold>,
 ) -> Result<(), AllocError>
-    requires apart { IfSome added (λ h. (undone_key order.act ≡ None) × (dropped ≡ None)) }
+    requires apart { IfSome added (λ h. (undone_key order.now.act ≡ None) × (dropped ≡ None)) }
     requires few { IfSome added (λ h. hold_count counts.old h.key h.pan < 1000000) }
     requires counted { IfSome dropped (λ h. 1 ≤ hold_count counts.old h.key h.pan) }
     ensures lefts { OnOk result ((key : TxKey) → tree.get key_cmp lefts.new key
-        ≡ option_or (tree.get key_cmp lefts.old key) (if is_key (undone_key order.act) key then Some (left_by order.act) else None)) }
+        ≡ option_or (tree.get key_cmp lefts.old key)
+        (if is_key (undone_key order.now.act) key then Some (left_by order.now.act) else None)) }
     ensures counts { OnOk result ((key : TxKey) → (pan : AccountNumber) → hold_count counts.new key pan
         ≡ hold_count counts.old key pan - mark_at dropped key pan + mark_at added key pan) }
     ensures lefts_kept { OnErr result ((key : TxKey) → tree.get key_cmp lefts.new key ≡ tree.get key_cmp lefts.old key) }
@@ -140,18 +142,19 @@ impl Index {
     pub fn add(
         &mut self,
         place: u32,
-        order: Order,
+        order: &Order,
         added: Option<Hold>,
         dropped: Option<Hold>,
     ) -> Result<(), AllocError>
-        requires new { tree.get key_cmp self.old.places order.key ≡ None }
-        requires apart { IfSome added (λ h. (undone_key order.act ≡ None) × (dropped ≡ None)) }
+        requires new { tree.get key_cmp self.old.places order.now.key ≡ None }
+        requires apart { IfSome added (λ h. (undone_key order.now.act ≡ None) × (dropped ≡ None)) }
         requires few { IfSome added (λ h. hold_count self.old.counts h.key h.pan < 1000000) }
         requires counted { IfSome dropped (λ h. 1 ≤ hold_count self.old.counts h.key h.pan) }
         ensures places { OnOk result ((key : TxKey) → tree.get key_cmp self.new.places key
-            ≡ (if same_key order.key key then Some place else tree.get key_cmp self.old.places key)) }
+            ≡ (if same_key order.now.key key then Some place else tree.get key_cmp self.old.places key)) }
         ensures lefts { OnOk result ((key : TxKey) → tree.get key_cmp self.new.lefts key
-            ≡ option_or (tree.get key_cmp self.old.lefts key) (if is_key (undone_key order.act) key then Some (left_by order.act) else None)) }
+            ≡ option_or (tree.get key_cmp self.old.lefts key)
+            (if is_key (undone_key order.now.act) key then Some (left_by order.now.act) else None)) }
         ensures counts { OnOk result ((key : TxKey) → (pan : AccountNumber) → hold_count self.new.counts key pan
             ≡ hold_count self.old.counts key pan - mark_at dropped key pan + mark_at added key pan) }
         ensures unchanged { OnErr result (AnswersAlike self.new self.old) }

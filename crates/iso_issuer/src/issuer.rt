@@ -15,6 +15,7 @@ ghost use Rattle.iso_issuer.specs.Decision.{is_shown_for};
 use crate::accounts::Accounts;
 use crate::balances::{Balance, Balances};
 use crate::decision::{balance_for, new_answer, place_in, repeat_answer};
+use crate::effect::effect_of;
 use crate::fault::Refused;
 use crate::holds::{OpenHold, open_holds};
 use crate::journal::{Entry, Journal};
@@ -68,23 +69,30 @@ impl Issuer {
     }
 
     /// Decides and enters an order of a new key, where there is room.
-    fn enter(&mut self, order: Order) -> Result<Answer, Refused>
-        requires new { is_entered self.old.orders order.key ≡ false }
+    fn enter(&mut self, order: &Order) -> Result<Answer, Refused>
+        requires new { is_entered self.old.orders order.now.key ≡ false }
         requires below { length self.old.orders < self.old.limit }
-        ensures answer { IfOk result (λ answer. answer ≡ new_answer self.old.accounts (journal self.old) order) }
-        ensures entered { OnOk result (self.new ≡ record self.old { orders = self.old.orders ++ order ∷ [] }) }
+        ensures answer { IfOk result (λ answer.
+            answer ≡ new_answer self.old.accounts (journal self.old) order.now) }
+        ensures entered { OnOk result
+            (self.new ≡ record self.old { orders = self.old.orders ++ order.now ∷ [] }) }
         ensures memory { IfErr result (λ e. e ≡ Memory) }
         ensures unchanged { OnErr result (self.new ≡ self.old) }
     {
-        let found = self.journal.find(order);
+        let effect = effect_of(order);
+        let found = self.journal.find(order, &effect);
         let placed = balance_for(&self.balances, order);
-        let answer = new_answer(&self.journal, &placed, order, found.left);
-        self.journal.enter(order, answer, &found)?;
-        let entry = Entry { order, answer };
+        let answer = new_answer(&self.journal, &placed, order, &effect, found.left);
+        self.journal.enter(order, &effect, answer, &found)?;
+        let entry = Entry {
+            order: *order,
+            answer,
+        };
         post_all(
             &self.journal,
             &mut self.balances,
-            entry,
+            &entry,
+            &effect,
             place_in(&placed),
             &found,
         );
@@ -119,7 +127,7 @@ impl Issuer {
                 if self.journal.len() >= self.limit as usize {
                     return Err(Refused::Full);
                 }
-                self.enter(order)
+                self.enter(&order)
             }
         }
     }

@@ -1,11 +1,11 @@
 //! The journal: the orders that were entered, each with the answer that it was given.
 
 ghost use Rattle.iso_order.specs.Order.{most_amount};
-ghost use Rattle.iso_issuer.specs.Effect.{is_key, effect_of};
+ghost use Rattle.iso_issuer.specs.Effect.{is_key, effect_of, effect_amount};
 ghost use Rattle.iso_issuer.specs.Found.{touched_at, is_of_earlier, weight_in, IsFoundFor};
 ghost use Rattle.iso_issuer.specs.declared.journal.Entry.{Entry};
 ghost use Rattle.std.specs.Prelude.{◌≡◌, ◌≤◌, ◌<◌, ◌+◌, ◌==◌, ◌++◌, ◌∷◌, [], if◌then◌else◌};
-ghost use Rattle.std.specs.Prelude.{ℕ, List, is_some, true, false, map, Some, None, OnOk, OnErr, length, slice_get};
+ghost use Rattle.std.specs.Prelude.{ℕ, List, is_some, true, false, map, Some, None, IfSome, OnOk, OnErr, length, slice_get};
 ghost use Rattle.std.specs.BTreeMap as tree;
 ghost use Rattle.std.specs.Ordering.{nat_cmp};
 ghost use Rattle.iso_issuer.specs.Index.{added_by, dropped_of, dropped_by};
@@ -52,8 +52,8 @@ impl Model for Journal {
 }
 
 /// The key that a reversal names.
-fn undone_key(order: Order) -> Option<TxKey>
-    ensures { result ≡ undone_key order.act }
+fn undone_key(order: &Order) -> Option<TxKey>
+    ensures { result ≡ undone_key order.now.act }
 {
     match order.act() {
         Act::Undo { original, .. } => Some(original),
@@ -62,8 +62,8 @@ fn undone_key(order: Order) -> Option<TxKey>
 }
 
 /// Whether an order may reverse an entry or end a hold.
-fn is_of_earlier(order: Order) -> bool
-    ensures { result ≡ is_of_earlier order.act }
+fn is_of_earlier(order: &Order) -> bool
+    ensures { result ≡ is_of_earlier order.now.act }
 {
     match order.act() {
         Act::Undo { .. } | Act::Complete { .. } => true,
@@ -92,11 +92,12 @@ pub fn smaller_of(amount: u64, left: Option<u64>) -> u64
     }
 }
 
-/// Whether an entry counts of which so much is left.
-fn is_counted_with(left: Option<u64>, entry: &Entry) -> bool
+/// Whether an entry counts of which so much is left, whose order has this effect.
+fn is_counted_with(left: Option<u64>, entry: &Entry, effect: &Option<Effect>) -> bool
+    requires { effect.now ≡ effect_of entry.now.order }
     ensures { result ≡ is_counted_with left entry.now }
 {
-    effect_of(entry.order).is_some() && entry.answer.code == 0 && !is_nothing(left)
+    effect.is_some() && entry.answer.code == 0 && !is_nothing(left)
 }
 
 /// The hold that an entry no longer completes, after a reversal that leaves so much.
@@ -106,8 +107,9 @@ fn dropped_of(before: Option<u64>, left: u64, reversed: &Entry) -> Option<Hold>
     match before {
         Some(_) => None,
         None => {
-            if is_counted_with(None, reversed) && left == 0 {
-                hold_by(effect_of(reversed.order))
+            let effect = effect_of(&reversed.order);
+            if is_counted_with(None, reversed, &effect) && left == 0 {
+                hold_by(&effect)
             } else {
                 None
             }
@@ -115,13 +117,16 @@ fn dropped_of(before: Option<u64>, left: u64, reversed: &Entry) -> Option<Hold>
     }
 }
 
-/// The hold that an entry completes of which so much is left.
-fn added_by(left: Option<u64>, entry: &Entry) -> Option<Hold>
-    ensures { (es : List Entry) → (undone_key entry.now.order.act ≡ None → left ≡ left_at es entry.now.order.key) → result ≡ added_by es entry.now }
+/// The hold that an entry completes of which so much is left, whose order has this effect.
+fn added_by(left: Option<u64>, entry: &Entry, effect: &Option<Effect>) -> Option<Hold>
+    requires { effect.now ≡ effect_of entry.now.order }
+    ensures { (es : List Entry)
+        → (undone_key entry.now.order.act ≡ None → left ≡ left_at es entry.now.order.key)
+        → result ≡ added_by es entry.now }
 {
-    match hold_by(effect_of(entry.order)) {
+    match hold_by(effect) {
         Some(hold) => {
-            if is_counted_with(left, entry) {
+            if is_counted_with(left, entry, effect) {
                 Some(hold)
             } else {
                 None
@@ -132,8 +137,9 @@ fn added_by(left: Option<u64>, entry: &Entry) -> Option<Hold>
 }
 
 /// The hold that an order lets the entry that it reverses no longer complete.
-fn dropped_by(order: Order, reversed: &Option<Touched>) -> Option<Hold>
-    ensures { (es : List Entry) → reversed.now ≡ touched_at es (reversed_by es order) → result ≡ dropped_by es order.act }
+fn dropped_by(order: &Order, reversed: &Option<Touched>) -> Option<Hold>
+    ensures { (es : List Entry) → reversed.now ≡ touched_at es (reversed_by es order.now)
+        → result ≡ dropped_by es order.now.act }
 {
     match order.act() {
         Act::Undo { left, .. } => match reversed {
@@ -246,24 +252,28 @@ impl Journal {
         }
     }
 
-    /// Whether an entry stands. What the first reversal of it leaves is handed in.
-    pub fn is_standing(&self, entry: &Entry, left: Option<u64>) -> bool
-        requires { is_some (effect_of entry.now.order) ≡ true → left ≡ left_at self.now entry.now.order.key }
+    /// Whether an entry stands. What its order does is handed in, and what the first reversal of it leaves.
+    pub fn is_standing(&self, entry: &Entry, effect: &Option<Effect>, left: Option<u64>) -> bool
+        requires effect { effect.now ≡ effect_of entry.now.order }
+        requires left { is_some (effect_of entry.now.order) ≡ true
+            → left ≡ left_at self.now entry.now.order.key }
         ensures { result ≡ is_standing self.now entry.now }
     {
-        let effect = effect_of(entry.order);
-        is_counted_with(left, entry) && !self.is_ended(entry.order.key(), &effect)
+        is_counted_with(left, entry, effect) && !self.is_ended(entry.order.key(), effect)
     }
 
-    /// What is left of the amount of an entry that stands, else 0. What the first reversal of it leaves
-    /// is handed in.
-    pub fn weight(&self, entry: &Entry, left: Option<u64>) -> u64
-        requires { is_some (effect_of entry.now.order) ≡ true → left ≡ left_at self.now entry.now.order.key }
+    /// What is left of the amount of an entry that stands, else 0. What its order does is handed in, and
+    /// what the first reversal of it leaves.
+    pub fn weight(&self, entry: &Entry, effect: &Option<Effect>, left: Option<u64>) -> u64
+        requires effect { effect.now ≡ effect_of entry.now.order }
+        requires amount { effect_amount effect.now ≤ most_amount }
+        requires left { is_some (effect_of entry.now.order) ≡ true
+            → left ≡ left_at self.now entry.now.order.key }
         ensures value { result ≡ weight self.now entry.now }
         ensures small { result ≤ most_amount }
     {
-        if self.is_standing(entry, left) {
-            smaller_of(effect_amount(effect_of(entry.order)), left)
+        if self.is_standing(entry, effect, left) {
+            smaller_of(effect_amount(effect), left)
         } else {
             0
         }
@@ -277,7 +287,8 @@ impl Journal {
         match entry {
             Some(entry) => {
                 let left = self.left_at(entry.order.key());
-                let weight = self.weight(&entry, left);
+                let effect = effect_of(&entry.order);
+                let weight = self.weight(&entry, &effect, left);
                 Some(Touched {
                     entry,
                     left,
@@ -289,8 +300,8 @@ impl Journal {
     }
 
     /// The entry that an order reverses, where there is one.
-    fn reversed_by(&self, order: Order) -> Option<Entry>
-        ensures { result ≡ reversed_by self.now order }
+    fn reversed_by(&self, order: &Order) -> Option<Entry>
+        ensures { result ≡ reversed_by self.now order.now }
     {
         match undone_key(order) {
             Some(original) => self.get(original),
@@ -299,35 +310,51 @@ impl Journal {
     }
 
     /// The key of the hold that an order ends, or that it gives back by reversing what ended it.
-    fn ended_key(&self, order: Order, reversed: &Option<Entry>) -> Option<TxKey>
-        requires { reversed.now ≡ reversed_by self.now order }
-        ensures value { result ≡ ended_key self.now order }
-        ensures apart { (q : TxKey) → is_key result q ≡ true → is_key (undone_key order.act) q ≡ false }
+    fn ended_key(
+        &self,
+        order: &Order,
+        effect: &Option<Effect>,
+        reversed: &Option<Entry>,
+    ) -> Option<TxKey>
+        requires effect { effect.now ≡ effect_of order.now }
+        requires kept { IfSome effect.now (λ f. undone_key order.now.act ≡ None) }
+        requires reversed { reversed.now ≡ reversed_by self.now order.now }
+        ensures value { result ≡ ended_key self.now order.now }
+        ensures apart { (q : TxKey) → is_key result q ≡ true
+            → is_key (undone_key order.now.act) q ≡ false }
     {
-        match ended_by(effect_of(order)) {
+        match ended_by(effect) {
             Some(hold) => Some(hold),
             None => match reversed {
-                Some(reversed) => ended_by(effect_of(reversed.order)),
+                Some(reversed) => ended_by(&effect_of(&reversed.order)),
                 None => None,
             },
         }
     }
 
     /// That hold, where it is there.
-    fn released_by(&self, order: Order, reversed: &Option<Entry>) -> Option<Entry>
-        requires { reversed.now ≡ reversed_by self.now order }
-        ensures value { result ≡ released_by self.now order }
-        ensures apart { (q : TxKey) → is_key (ended_key self.now order) q ≡ true → is_key (undone_key order.act) q ≡ false }
+    fn released_by(
+        &self,
+        order: &Order,
+        effect: &Option<Effect>,
+        reversed: &Option<Entry>,
+    ) -> Option<Entry>
+        requires effect { effect.now ≡ effect_of order.now }
+        requires kept { IfSome effect.now (λ f. undone_key order.now.act ≡ None) }
+        requires reversed { reversed.now ≡ reversed_by self.now order.now }
+        ensures value { result ≡ released_by self.now order.now }
+        ensures apart { (q : TxKey) → is_key (ended_key self.now order.now) q ≡ true
+            → is_key (undone_key order.now.act) q ≡ false }
     {
-        match self.ended_key(order, reversed) {
+        match self.ended_key(order, effect, reversed) {
             Some(hold) => self.get(hold),
             None => None,
         }
     }
 
     /// What the first reversal of the key of an order leaves, unless the order is a reversal.
-    fn own_left(&self, order: Order) -> Option<u64>
-        ensures { undone_key order.act ≡ None → result ≡ left_at self.now order.key }
+    fn own_left(&self, order: &Order) -> Option<u64>
+        ensures { undone_key order.now.act ≡ None → result ≡ left_at self.now order.now.key }
     {
         match undone_key(order) {
             Some(_) => None,
@@ -335,12 +362,15 @@ impl Journal {
         }
     }
 
-    /// What an order finds.
-    pub fn find(&self, order: Order) -> Found
-        ensures found { IsFoundFor self.now order result }
+    /// What an order finds, which has this effect.
+    pub fn find(&self, order: &Order, effect: &Option<Effect>) -> Found
+        requires effect { effect.now ≡ effect_of order.now }
+        requires kept { IfSome effect.now (λ f. undone_key order.now.act ≡ None) }
+        ensures found { IsFoundFor self.now order.now result }
         ensures reversed { weight_in result.reversed ≤ most_amount }
         ensures released { weight_in result.released ≤ most_amount }
-        ensures apart { (q : TxKey) → is_key (ended_key self.now order) q ≡ true → is_key (undone_key order.act) q ≡ false }
+        ensures apart { (q : TxKey) → is_key (ended_key self.now order.now) q ≡ true
+            → is_key (undone_key order.now.act) q ≡ false }
     {
         if !is_of_earlier(order) {
             return Found {
@@ -350,7 +380,7 @@ impl Journal {
             };
         }
         let reversed = self.reversed_by(order);
-        let released = self.released_by(order, &reversed);
+        let released = self.released_by(order, effect, &reversed);
         Found {
             left: self.own_left(order),
             reversed: self.touched_at(reversed),
@@ -358,19 +388,30 @@ impl Journal {
         }
     }
 
-    /// Enters an order of a new key with its answer. Where there is no memory for it, whatever the call
-    /// added is taken away again.
-    pub fn enter(&mut self, order: Order, answer: Answer, found: &Found) -> Result<(), AllocError>
-        requires found { IsFoundFor self.old order found.now }
-        requires new { entry_at self.old order.key ≡ None }
+    /// Enters an order of a new key, which has this effect, with its answer. Where there is no memory for
+    /// it, whatever the call added is taken away again.
+    pub fn enter(
+        &mut self,
+        order: &Order,
+        effect: &Option<Effect>,
+        answer: Answer,
+        found: &Found,
+    ) -> Result<(), AllocError>
+        requires effect { effect.now ≡ effect_of order.now }
+        requires found { IsFoundFor self.old order.now found.now }
+        requires new { entry_at self.old order.now.key ≡ None }
         requires distinct { HasDistinctKeys (map (λ e. e.order) self.old) }
         requires few { length self.old < 999999 }
         requires seq { answer.seq ≡ length self.old + 1 }
-        ensures ok { OnOk result (self.new ≡ self.old ++ record { order = order; answer = answer } ∷ []) }
+        ensures ok { OnOk result
+            (self.new ≡ self.old ++ record { order = order.now; answer = answer } ∷ []) }
         ensures unchanged { OnErr result (self.new ≡ self.old) }
     {
-        let entry = Entry { order, answer };
-        let added = added_by(found.left, &entry);
+        let entry = Entry {
+            order: *order,
+            answer,
+        };
+        let added = added_by(found.left, &entry, effect);
         let dropped = dropped_by(order, &found.reversed);
         self.orders.reserve(1)?;
         self.codes.reserve(1)?;
@@ -378,7 +419,7 @@ impl Journal {
         show(&mut self.shown, place, answer.shown)?;
         match self.index.add(place, order, added, dropped) {
             Ok(()) => {
-                let _ = self.orders.push(order);
+                let _ = self.orders.push(*order);
                 let _ = self.codes.push(answer.code);
                 Ok(())
             }

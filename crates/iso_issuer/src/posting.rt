@@ -4,7 +4,7 @@ ghost use Rattle.std.specs.Prelude.{◌≡◌, ◌≤◌, ◌+◌, ℕ, ◌-ℤ�
 ghost use Rattle.std.specs.Option.{option_or};
 ghost use Rattle.iso_order.specs.Order.{most_amount};
 ghost use Rattle.iso_order.specs.Pan.{AccountNumber};
-ghost use Rattle.iso_issuer.specs.Effect.{effect_of};
+ghost use Rattle.iso_issuer.specs.Effect.{effect_of, effect_amount};
 ghost use Rattle.iso_issuer.specs.declared.found.Touched.{Touched};
 ghost use Rattle.iso_issuer.specs.Journal.{left_at, weight};
 ghost use Rattle.iso_issuer.specs.Found.{effect_at, weight_at};
@@ -24,11 +24,11 @@ use crate::journal::{Entry, Journal};
 use iso_order::{Act, Order};
 
 /// What an effect does to its account when its weight grows by an amount, or shrinks by one.
-fn change_by(effect: Effect, grown: i64) -> Change
+fn change_by(effect: &Effect, grown: i64) -> Change
     requires { IsAmount grown }
-    ensures pan { result.pan ≡ effect.pan }
-    ensures ledger { result.ledger ≡ ledger_grown effect.side grown }
-    ensures available { result.available ≡ available_grown effect.side grown }
+    ensures pan { result.pan ≡ effect.now.pan }
+    ensures ledger { result.ledger ≡ ledger_grown effect.now.side grown }
+    ensures available { result.available ≡ available_grown effect.now.side grown }
 {
     match effect.side {
         Side::Credited => Change {
@@ -49,39 +49,49 @@ fn change_by(effect: Effect, grown: i64) -> Change
     }
 }
 
-/// What it does to the account of an entry that its weight goes from one amount to another.
-fn change_of(entry: Entry, before: u64, after: u64) -> Option<Change>
+/// What it does to the account of an effect that the weight goes from one amount to another.
+fn change_of(effect: &Option<Effect>, before: u64, after: u64) -> Option<Change>
     requires before { before ≤ most_amount }
     requires after { after ≤ most_amount }
-    ensures pan { option_map (λ c. c.pan) result ≡ option_map (λ f. f.pan) (effect_of entry.order) }
+    ensures pan { option_map (λ c. c.pan) result ≡ option_map (λ f. f.pan) effect.now }
     ensures ledger { (pan : AccountNumber) → on_ledger result pan
-        ≡ ledger_share pan (effect_of entry.order) after -ℤ ledger_share pan (effect_of entry.order) before }
+        ≡ ledger_share pan effect.now after -ℤ ledger_share pan effect.now before }
     ensures available { (pan : AccountNumber) → on_available result pan
-        ≡ available_share pan (effect_of entry.order) after -ℤ available_share pan (effect_of entry.order) before }
+        ≡ available_share pan effect.now after -ℤ available_share pan effect.now before }
 {
-    let effect = effect_of(entry.order)?;
-    Some(change_by(effect, after as i64 - before as i64))
+    match effect {
+        Some(effect) => Some(change_by(effect, after as i64 - before as i64)),
+        None => None,
+    }
 }
 
-/// Posts what the weight of an entry changed, where the place of its account is known.
-fn post_at(balances: &mut Balances, entry: Entry, before: u64, after: u64, place: Option<usize>)
+/// Posts what the weight of an effect changed, where the place of its account is known.
+fn post_at(
+    balances: &mut Balances,
+    effect: &Option<Effect>,
+    before: u64,
+    after: u64,
+    place: Option<usize>,
+)
     requires near { All (IsNear 2999999) balances.old }
     requires before { before ≤ most_amount }
     requires after { after ≤ most_amount }
-    requires place { (f : Effect) → effect_of entry.order ≡ Some f → place ≡ account_place (accounts_of balances.old) f.pan }
-    ensures moved { balances.new ≡ map (balance_by_weights (effect_of entry.order) before after) balances.old }
+    requires place { (f : Effect) → effect.now ≡ Some f
+        → place ≡ account_place (accounts_of balances.old) f.pan }
+    ensures moved { balances.new ≡ map (balance_by_weights effect.now before after) balances.old }
     ensures near { (n : ℕ) → All (IsNear n) balances.old → All (IsNear (n + 1)) balances.new }
 {
-    if let Some(change) = change_of(entry, before, after) {
+    if let Some(change) = change_of(effect, before, after) {
         balances.post(change, place);
     }
 }
 
-/// The place of the account of an entry, where there is one.
-fn place_for(balances: &Balances, entry: Entry) -> Option<usize>
-    ensures { (f : Effect) → effect_of entry.order ≡ Some f → result ≡ account_place (accounts_of balances.now) f.pan }
+/// The place of the account of an effect, where there is one.
+fn place_for(balances: &Balances, effect: &Option<Effect>) -> Option<usize>
+    ensures { (f : Effect) → effect.now ≡ Some f
+        → result ≡ account_place (accounts_of balances.now) f.pan }
 {
-    match effect_of(entry.order) {
+    match effect {
         Some(effect) => balances.place(effect.pan),
         None => None,
     }
@@ -103,15 +113,16 @@ fn post_touched(
     ensures near { (n : ℕ) → All (IsNear n) balances.old → All (IsNear (n + 1)) balances.new }
 {
     if let Some(touched) = touched {
-        let after = journal.weight(&touched.entry, touched.left.or(left_now));
-        let place = place_for(balances, touched.entry);
-        post_at(balances, touched.entry, touched.weight, after, place);
+        let effect = effect_of(&touched.entry.order);
+        let after = journal.weight(&touched.entry, &effect, touched.left.or(left_now));
+        let place = place_for(balances, &effect);
+        post_at(balances, &effect, touched.weight, after, place);
     }
 }
 
 /// What an order leaves of the entry that it reverses.
-fn amount_left(order: Order) -> Option<u64>
-    ensures { result ≡ amount_left order.act }
+fn amount_left(order: &Order) -> Option<u64>
+    ensures { result ≡ amount_left order.now.act }
 {
     match order.act() {
         Act::Undo { left, .. } => Some(left),
@@ -119,18 +130,23 @@ fn amount_left(order: Order) -> Option<u64>
     }
 }
 
-/// Brings the balances up to date with an entry that was added, whose account has this place, with the
-/// entry that it reverses, and with the hold that it ends or gives back, as both were found before.
+/// Brings the balances up to date with an entry that was added, whose order has this effect and whose
+/// account this place, with the entry that it reverses, and with the hold that it ends or gives back,
+/// as both were found before.
 pub fn post_all(
     journal: &Journal,
     balances: &mut Balances,
-    entry: Entry,
+    entry: &Entry,
+    effect: &Option<Effect>,
     place: Option<usize>,
     found: &Found,
 )
-    requires place { (f : Effect) → effect_of entry.order ≡ Some f → place ≡ account_place (accounts_of balances.old) f.pan }
+    requires effect { effect.now ≡ effect_of entry.now.order }
+    requires amount { effect_amount effect.now ≤ most_amount }
+    requires place { (f : Effect) → effect.now ≡ Some f
+        → place ≡ account_place (accounts_of balances.old) f.pan }
     requires near { All (IsNear 2999997) balances.old }
-    requires found { WasFoundFor journal.now entry.order found.now }
+    requires found { WasFoundFor journal.now entry.now.order found.now }
     requires reversed { weight_in found.now.reversed ≤ most_amount }
     requires released { weight_in found.now.released ≤ most_amount }
     ensures moved { balances.new
@@ -138,11 +154,16 @@ pub fn post_all(
         (weight_at journal.now (entry_in found.now.released)))
         (map (balance_by_weights (effect_at (entry_in found.now.reversed)) (weight_in found.now.reversed)
         (weight_at journal.now (entry_in found.now.reversed)))
-        (map (balance_by_weights (effect_of entry.order) 0 (weight journal.now entry)) balances.old)) }
+        (map (balance_by_weights (effect_of entry.now.order) 0 (weight journal.now entry.now)) balances.old)) }
     ensures near { (n : ℕ) → All (IsNear n) balances.old → All (IsNear (n + 3)) balances.new }
 {
-    let own = journal.weight(&entry, found.left);
-    post_at(balances, entry, 0, own, place);
-    post_touched(journal, balances, &found.reversed, amount_left(entry.order));
+    let own = journal.weight(entry, effect, found.left);
+    post_at(balances, effect, 0, own, place);
+    post_touched(
+        journal,
+        balances,
+        &found.reversed,
+        amount_left(&entry.order),
+    );
     post_touched(journal, balances, &found.released, None);
 }

@@ -5,4 +5,4 @@ use Rattle.iso_issuer.proofs.journal.dropped_by.Goals as goal
 pub returns-in-Some : goal.returns-in-Some
 returns-in-Some c = λ es found.
     c.dropped_of.ensures
-    ∙ dropped-touched es c.args.order c.in-Undo.original c.in-Undo.left c.in-Some.reversed (sym c.in-Undo.ensures.value) (sym c.in-Some.is ∙ found)
+    ∙ dropped-touched es c.args.order.now c.in-Undo.original c.in-Undo.left c.in-Some.reversed (sym c.in-Undo.ensures.value) (sym c.in-Some.is ∙ found)

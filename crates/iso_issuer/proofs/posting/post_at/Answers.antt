@@ -1,6 +1,5 @@
 use Rattle.std.proofs.Common.{◌∙◌}
 use Rattle.iso_issuer.specs.Balances.{accounts_of}
-use Rattle.iso_issuer.specs.Effect.{effect_of}
 use Rattle.iso_issuer.specs.Index.{account_place}
 use Rattle.iso_issuer.proofs.Room.{near-posted}
 use Rattle.iso_issuer.proofs.Summed.{posted-moved, kept-moved}
@@ -9,12 +8,12 @@ use Rattle.iso_issuer.proofs.posting.post_at.Goals as goal
 
 pub post-requires-clause-place : goal.post-requires-clause-place
 post-requires-clause-place c =
-    place-told (effect_of c.args.entry.order) c.in-Some.change.pan c.args.place (account_place (accounts_of c.args.balances.now)) c.in-Some.ensures.pan c.requires.place
+    place-told c.args.effect.now c.in-Some.change.pan c.args.place (account_place (accounts_of c.args.balances.now)) c.in-Some.ensures.pan c.requires.place
 
 pub returns-in-Some-clause-moved : goal.returns-in-Some-clause-moved
 returns-in-Some-clause-moved c =
     let e = c.in-Some.ensures in
-    c.post.ensures ∙ posted-moved c.in-Some.change (effect_of c.args.entry.order) c.args.before c.args.after e.ledger e.available c.args.balances.now
+    c.post.ensures ∙ posted-moved c.in-Some.change c.args.effect.now c.args.before c.args.after e.ledger e.available c.args.balances.now
 
 pub returns-in-Some-clause-near : goal.returns-in-Some-clause-near
 returns-in-Some-clause-near c = λ n near.
@@ -23,4 +22,4 @@ returns-in-Some-clause-near c = λ n near.
 pub returns-in_default-clause-moved : goal.returns-in_default-clause-moved
 returns-in_default-clause-moved c =
     let e = c.in_default.ensures in
-    kept-moved (effect_of c.args.entry.order) c.args.before c.args.after e.ledger e.available c.args.balances.now
+    kept-moved c.args.effect.now c.args.before c.args.after e.ledger e.available c.args.balances.now

@@ -9,7 +9,7 @@ pub returns-in-Err-clause-unchanged : goal.returns-in-Err-clause-unchanged
 returns-in-Err-clause-unchanged c = record {
   places = λ q.
       rw (c.remove.ensures.updates.0 q, c.in_ok-insert.ensures.updates.0 q, c.key-key.ensures.value)
-      (place-back c.args.self.now.places c.args.order.key q _ c.requires.new);
+      (place-back c.args.self.now.places c.args.order.now.key q _ c.requires.new);
   lefts = λ q. c.in-Err.ensures.lefts_kept q;
   counts = λ q pan. c.in-Err.ensures.counts_kept q pan;
 }
@@ -30,7 +30,7 @@ returns-in_err-insert-clause-unchanged c =
 
 pub returns-in-Ok-clause-places : goal.returns-in-Ok-clause-places
 returns-in-Ok-clause-places c = λ q.
-    rw (c.in_ok-insert.ensures.updates.0 q, c.key-key.ensures.value) (ap (λ t. cond t (Some c.args.place) (tree.get key_cmp c.args.self.now.places q)) (key_tied c.args.order.key q))
+    rw (c.in_ok-insert.ensures.updates.0 q, c.key-key.ensures.value) (ap (λ t. cond t (Some c.args.place) (tree.get key_cmp c.args.self.now.places q)) (key_tied c.args.order.now.key q))
 
 pub returns-in-Ok-clause-lefts : goal.returns-in-Ok-clause-lefts
 returns-in-Ok-clause-lefts c = c.in-Ok.ensures.lefts

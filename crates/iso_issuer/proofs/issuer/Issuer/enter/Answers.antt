@@ -21,24 +21,24 @@ pub enter-requires-clause-new : goal.enter-requires-clause-new
 enter-requires-clause-new c =
     let es = c.self.inside.journal in
     let told = rw (← c.self.view_is) at c.requires.new in
-    is_none-of (entry_at es c.args.order.key) (sym (entered-found es c.args.order.key) ∙ told)
+    is_none-of (entry_at es c.args.order.now.key) (sym (entered-found es c.args.order.now.key) ∙ told)
 
 pub post_all-requires-clause-place : goal.post_all-requires-clause-place
 post_all-requires-clause-place c = λ f told.
-    let e = effect-money c.args.order.key c.args.order.act f told in
+    let e = effect-money c.args.order.now.key c.args.order.now.act f (sym c.effect_of-effect.ensures.value ∙ told) in
     c.place_in.ensures ∙ c.balance_for-placed.ensures.place e.0 e.1 ∙ ap (account_place (accounts_of c.self.inside.balances)) e.2
 
 pub post_all-requires-clause-found : goal.post_all-requires-clause-found
 post_all-requires-clause-found c =
     let es = c.self.inside.journal in
-    let entry : Entry = record { order = c.args.order; answer = c.new_answer-answer.result } in
+    let entry : Entry = record { order = c.args.order.now; answer = c.new_answer-answer.result } in
     rw (c.in_ok-enter.ensures.ok) (found-entered es entry c.find-found.result c.find-found.ensures.found c.find-found.ensures.apart)
 
 pub invariant_of-self-2 : goal.invariant_of-self-2
 invariant_of-self-2 c =
     let es = c.self.inside.journal in
     let balances = c.self.inside.balances in
-    let o = c.args.order in
+    let o = c.args.order.now in
     let entry : Entry = record { order = o; answer = c.new_answer-answer.result } in
     let answer : c.new_answer-answer.result ≡ new_answer (accounts_of balances) es o = c.new_answer-answer.ensures balances c.self.invariant.1.sums c.balance_for-placed.ensures in
     let told = rw (← c.self.view_is) at c.requires.new in
@@ -60,12 +60,12 @@ invariant_of-self-2 c =
 pub returns-clause-entered : goal.returns-clause-entered
 returns-clause-entered c =
     let es = c.self.inside.journal in
-    let o = c.args.order in
+    let o = c.args.order.now in
     let balances = c.self.inside.balances in
-    let entry : Entry = record { order = c.args.order; answer = c.new_answer-answer.result } in
+    let entry : Entry = record { order = c.args.order.now; answer = c.new_answer-answer.result } in
     let books : List Account → List Instruction → Books = λ accounts orders. record { accounts = accounts; limit = c.self.inside.limit; orders = orders } in
     let after : c.enter.new.self ≡ es ++ entry ∷ [] = c.in_ok-enter.ensures.ok in
-    let orders : map (λ (e : Entry). e.order) c.enter.new.self ≡ map (λ (e : Entry). e.order) es ++ c.args.order ∷ [] =
+    let orders : map (λ (e : Entry). e.order) c.enter.new.self ≡ map (λ (e : Entry). e.order) es ++ c.args.order.now ∷ [] =
     ap (map (λ (e : Entry). e.order)) after ∙ map-append (λ (e : Entry). e.order) es (entry ∷ []) in
     let is : c.post_all.new.balances ≡ map (settled es entry) balances =
     (rw (after, c.find-found.ensures.found.reversed, c.find-found.ensures.found.released, entry-touched es (reversed_by es o), entry-touched es (released_by es o), weight-touched es (reversed_by es o), weight-touched es (released_by es o)) at c.post_all.ensures.moved) ∙ settled-thrice es entry balances in

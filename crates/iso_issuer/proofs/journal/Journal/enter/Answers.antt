@@ -20,7 +20,7 @@ pub add-requires-clause-new : goal.add-requires-clause-new
 add-requires-clause-new c =
     let i = c.self.inside in
     let es = entries_from 0 i.orders.items i.codes.items i.shown in
-    c.self.invariant.indexed.places c.args.order.key ∙ place_of-none es c.args.order.key (rw c.self.view_is c.requires.new)
+    c.self.invariant.indexed.places c.args.order.now.key ∙ place_of-none es c.args.order.now.key (rw c.self.view_is c.requires.new)
 
 pub add-requires-clause-few : goal.add-requires-clause-few
 add-requires-clause-few c =
@@ -32,7 +32,7 @@ pub add-requires-clause-counted : goal.add-requires-clause-counted
 add-requires-clause-counted c =
     let i = c.self.inside in
     let es = entries_from 0 i.orders.items i.codes.items i.shown in
-    let entry : Entry = record { order = c.args.order; answer = c.args.answer } in
+    let entry : Entry = record { order = c.args.order.now; answer = c.args.answer } in
     counted-dropped es entry c.dropped_by-dropped.result i.index.counts c.self.invariant.indexed.counts (c.dropped_by-dropped.ensures es (rw c.self.view_is c.requires.found.reversed))
 
 pub returns-in_err-show-clause-unchanged : goal.returns-in_err-show-clause-unchanged
@@ -57,9 +57,9 @@ invariant_of-self-in-Ok c =
     let os = i.orders.items in
     let cs = i.codes.items in
     let es = entries_from 0 os cs i.shown in
-    let entry : Entry = record { order = c.args.order; answer = c.args.answer } in
+    let entry : Entry = record { order = c.args.order.now; answer = c.args.answer } in
     let count : c.len.result ≡ length os = grind (arith, common_steps) in
-    let orders : c.push.new.self.items ≡ os ++ c.args.order ∷ [] = grind (arith, common_steps) in
+    let orders : c.push.new.self.items ≡ os ++ c.args.order.now ∷ [] = grind (arith, common_steps) in
     let kept : c.push-in-Ok.new.self.items ≡ cs ++ c.answer.inside.code ∷ [] = grind (arith, common_steps) in
     let codes : c.push-in-Ok.new.self.items ≡ cs ++ c.args.answer.code ∷ [] = rw (← c.answer.view_is) kept in
     let is : IsIndexOf c.add.new.self (es ++ entry ∷ []) =
@@ -68,7 +68,7 @@ invariant_of-self-in-Ok c =
     (λ q pan.
     c.in-Ok.ensures.counts q pan
     ∙ ap (λ h. hold_count i.index.counts q pan - mark_at h q pan + mark_at c.added_by-added.result q pan) (c.dropped_by-dropped.ensures es (rw c.self.view_is c.requires.found.reversed))
-    ∙ ap (λ h. hold_count i.index.counts q pan - mark_at (dropped_by es c.args.order.act) q pan + mark_at h q pan) (c.added_by-added.ensures es (rw c.self.view_is c.requires.found.own))) in
+    ∙ ap (λ h. hold_count i.index.counts q pan - mark_at (dropped_by es c.args.order.now.act) q pan + mark_at h q pan) (c.added_by-added.ensures es (rw c.self.view_is c.requires.found.own))) in
     let entries : length es ≡ length os = length-entries 0 os cs i.shown c.self.invariant.coded in
     let few : length es < 999999 = rw c.self.view_is c.requires.few in
     let below : length os < 999999 = omega (arith, few, entries) in
@@ -77,7 +77,7 @@ invariant_of-self-in-Ok c =
     let put : IsPut (length os) c.args.answer.shown i.shown c.show.new.shown =
     rw (← c.answer.view_is) (λ at. c.in_ok-show.ensures.ok at ∙ ap (λ p. cond (at == p) c.answer.inside.shown (tree.get nat_cmp i.shown at)) count) in
     let small : c.args.answer.code ≤ 99 = rw (← c.answer.view_is) c.answer.invariant.0 in
-    rw (orders, codes) (stored-entered os cs i.shown c.show.new.shown i.index c.add.new.self c.args.order c.args.answer c.self.invariant below small seq put is)
+    rw (orders, codes) (stored-entered os cs i.shown c.show.new.shown i.index c.add.new.self c.args.order.now c.args.answer c.self.invariant below small seq put is)
 
 pub returns-in-Ok-clause-ok : goal.returns-in-Ok-clause-ok
 returns-in-Ok-clause-ok c =
@@ -86,14 +86,14 @@ returns-in-Ok-clause-ok c =
     let cs = i.codes.items in
     let es = entries_from 0 os cs i.shown in
     let count : c.len.result ≡ length os = grind (arith, common_steps) in
-    let orders : c.push.new.self.items ≡ os ++ c.args.order ∷ [] = grind (arith, common_steps) in
+    let orders : c.push.new.self.items ≡ os ++ c.args.order.now ∷ [] = grind (arith, common_steps) in
     let kept : c.push-in-Ok.new.self.items ≡ cs ++ c.answer.inside.code ∷ [] = grind (arith, common_steps) in
     let codes : c.push-in-Ok.new.self.items ≡ cs ++ c.args.answer.code ∷ [] = rw (← c.answer.view_is) kept in
     let next : c.args.answer.seq ≡ length es + 1 = rw c.self.view_is c.requires.seq in
     let seq : c.args.answer.seq ≡ length os + 1 = omega (arith, next, length-entries 0 os cs i.shown c.self.invariant.coded) in
     let put : IsPut (length os) c.args.answer.shown i.shown c.show.new.shown =
     rw (← c.answer.view_is) (λ at. c.in_ok-show.ensures.ok at ∙ ap (λ p. cond (at == p) c.answer.inside.shown (tree.get nat_cmp i.shown at)) count) in
-    rw (orders, codes, ← c.self.view_is) (entries-entered os cs i.shown c.show.new.shown c.args.order c.args.answer c.self.invariant.coded seq put)
+    rw (orders, codes, ← c.self.view_is) (entries-entered os cs i.shown c.show.new.shown c.args.order.now c.args.answer c.self.invariant.coded seq put)
 
 pub returns-in-Err-clause-unchanged : goal.returns-in-Err-clause-unchanged
 returns-in-Err-clause-unchanged c =
