@@ -13,6 +13,7 @@ ghost use Rattle.iso_wire.specs.Faults.{out_of_memory};
 ghost use Rattle.iso_wire.specs.Reading.{halt, message_at, whole, Unpacks};
 ghost use Rattle.iso_wire.specs.Stops.{Stops};
 ghost use Rattle.iso_wire.specs.Spelling.{AreBytes, BeginsWith, BeginsWithNone, IsUnambiguous, Spelling};
+ghost use Rattle.iso_wire.specs.Unpacking.{read_into};
 
 use crate::debugging::write_unpacker;
 use crate::elements::Elements;
@@ -82,6 +83,23 @@ fn unpack_spare(
     let (mti, end) = read_message(table, bytes, spare)?;
     let elements = mem::replace(spare, Elements::new(alloc));
     Ok((Message::from_elements(mti, elements), end))
+}
+
+/// Reads the message that the bytes taken and then the piece begin with, in place of what `into` was. What is taken stays.
+fn read_through(
+    table: &Table,
+    taken: &mut Vec<u8>,
+    piece: &[u8],
+    into: &mut Message,
+) -> Result<usize, UnpackFault>
+    ensures exact { Unpacks (read_into into.new result) (message_at table.now (taken.old.items ++ piece.now)) }
+    ensures kept { taken.new.items ≡ taken.old.items }
+{
+    let before = taken.len();
+    taken.extend_from_slice(piece)?;
+    let read = into.read(table, taken);
+    taken.truncate(before);
+    read
 }
 
 /// What [`Unpacker::unpack`] does.
@@ -199,6 +217,18 @@ impl<'t> Unpacker<'t> {
         ensures { self.new ≡ self.old }
     {
         self.spare = message.into_elements();
+    }
+
+    /// Reads the message that the bytes taken and then the piece begin with, as the function `unpack` does of all of them,
+    /// in place of what `into` was, and gives how many of all those bytes it takes. Nothing of the piece is taken, and
+    /// what was taken before stays, after a fault too: so a caller that can't use the message yet can come again.
+    pub fn read_through(&mut self, piece: &[u8], into: &mut Message) -> Result<usize, UnpackFault>
+        // What `into` is then is what `unpack` reads of the bytes taken and then the piece, unless memory runs out.
+        ensures exact { Unpacks (read_into into.new result) (message_at self.old.table (self.old.taken ++ piece.now)) }
+        // What `feed` has taken stays, and so does its fault.
+        ensures kept { self.new ≡ self.old }
+    {
+        read_through(self.table, &mut self.taken, piece, into)
     }
 
     /// How many bytes of the current message are taken. Takes no memory.
