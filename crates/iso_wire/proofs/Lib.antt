@@ -20,6 +20,7 @@ pub mod PlainLaws
 pub mod Endings
 pub mod FrameHeaders
 pub mod FrameSplits
+mod Fronts
 pub mod FrameFronts
 pub mod NeverMemory
 pub mod Resumes

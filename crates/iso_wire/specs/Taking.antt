@@ -1,6 +1,6 @@
 -- The bytes that an unpacker takes: what a piece leaves of them, and what is built of them.
 -- Inner: bodies and proofs cite it, and no public clause does.
-use Rattle.std.specs.Prelude.{◌≡◌, ◌≢◌, ℕ, ◌+◌, ◌≤◌, List, [], ◌++◌, length, Option, Some, None, Result, Ok, Err}
+use Rattle.std.specs.Prelude.{◌≡◌, ◌≢◌, ◌⊎◌, ℕ, ◌+◌, ◌≤◌, List, [], ◌++◌, length, take, Option, Some, None, Result, Ok, Err}
 use Rattle.iso_wire.specs.declared.fault.UnpackFault.{UnpackFault}
 use Rattle.iso_wire.specs.declared.fault.UnpackCause.TheVariants.{Short, Memory}
 use Rattle.iso_wire.specs.declared.unpacker.Fed.{Fed}
@@ -10,6 +10,8 @@ use Rattle.iso_wire.specs.Faults.{out_of_memory}
 use Rattle.iso_wire.specs.Reading.{message_at, whole}
 use Rattle.iso_wire.specs.ReadingLaws.{IsShort}
 use Rattle.iso_table.specs.Layout.{Layout}
+use Rattle.iso_wire.specs.declared.judging.ResumePoint.{ResumePoint}
+use Rattle.iso_wire.specs.Judging.{IsResumed}
 
 -- what stands between two calls: a fault other than want of memory, and then nothing is taken; or a message's unfinished front
 abbrev pub IsReady : Layout → List ℕ → Option UnpackFault → Type 0
@@ -36,3 +38,11 @@ IsRead (Err e) = ⊥
 abbrev pub IsBuilt : ℕ → Result (Contents × ℕ) UnpackFault → Result (Contents × ℕ) UnpackFault → Type 0
 IsBuilt before (Ok x) read = read ≡ whole x.0 (before + x.1)
 IsBuilt before (Err e) read = e ≡ out_of_memory
+
+-- a piece, or its first bytes, so many
+abbrev pub IsFront : ℕ → List ℕ → List ℕ → Type 0
+IsFront n piece front = (front ≡ piece) ⊎ (front ≡ take n piece)
+
+-- bytes whose first ones are judged up to this point
+abbrev pub ResumesIn : Layout → ResumePoint → List ℕ → Type 0
+ResumesIn t point bytes = (old : List ℕ) × (piece : List ℕ) × (bytes ≡ old ++ piece) × IsResumed t point old

@@ -1,10 +1,11 @@
 //! Building a message that was judged good, without judging it again.
 
 ghost use Rattle.std.specs.Prelude.{◌≡◌, ◌+◌, ◌≤◌, ◌∷◌, ℕ, List, drop, length, IfOk, OnOk};
+ghost use Rattle.iso_wire.specs.Elements.{IsAscending};
 ghost use Rattle.iso_table.specs.Layout.{AreGood};
 ghost use Rattle.iso_wire.specs.Ends.{views, Awaits, IsWhole, IsNumbered};
 ghost use Rattle.iso_wire.specs.Taking.{IsRead};
-ghost use Rattle.iso_wire.specs.Appending.{AppendsElement};
+ghost use Rattle.iso_wire.specs.Appending.{ReadsInto, AppendsElement};
 ghost use Rattle.iso_wire.specs.Reading.{Gives, Unpacks, value_at, elements_at, message_at};
 ghost use Rattle.iso_parts.specs.Bitmap.{contains, AreElements};
 ghost use Rattle.iso_parts.specs.Numbers.{members};
@@ -14,7 +15,7 @@ use crate::fault::UnpackFault;
 use crate::front::{type_of, words_of};
 use crate::message::Message;
 use crate::unpacking::values_room;
-use iso_parts::{Bitmap, decode_judged};
+use iso_parts::{Bitmap, Mti, decode_judged};
 use iso_table::Table;
 use std::alloc::Global;
 
@@ -43,35 +44,59 @@ fn append_element(
     Ok(used)
 }
 
-/// The elements with these numbers, whose parts begin at `start`, and the offset behind them.
-fn elements_of(
-    alloc: Global,
+/// Builds the elements with these numbers, whose parts begin at `start`, in place of the ones that were there, and gives
+/// the offset behind them. The room for them is taken once.
+fn build_elements(
     table: &Table,
     numbers: Bitmap,
     start: usize,
     bytes: &[u8],
-) -> Result<(Elements, usize), UnpackFault>
+    elements: &mut Elements,
+) -> Result<usize, UnpackFault>
     requires within { start ≤ length bytes.now }
     requires elements { AreElements (contains numbers) }
     requires read { IsRead (elements_at table.now.rows (members numbers) start (drop start bytes.now)) }
-    ensures exact { Gives (λ x. (views x.0, x.1)) result (elements_at table.now.rows (members numbers) start (drop start bytes.now)) }
-    ensures whole { IfOk result (λ x. IsWhole x.0) }
-    ensures numbered { IfOk result (λ x. IsNumbered x.0) }
+    ensures exact { Gives (λ end. (views elements.new, end)) result (elements_at table.now.rows (members numbers) start (drop start bytes.now)) }
+    ensures whole { OnOk result (IsWhole elements.new) }
+    ensures numbered { OnOk result (IsNumbered elements.new) }
 {
     let count = numbers.count();
-    let mut elements = Elements::with_room(alloc, count, values_room(count, bytes.len() - start))?;
+    elements.start_over(count, values_room(count, bytes.len() - start))?;
     elements.numbers = numbers;
     let mut rest = numbers;
     let mut at = start;
     while let Some(n) = rest.take_first() {
-        let used = append_element(table, n, at, bytes, &mut elements)?;
+        let used = append_element(table, n, at, bytes, elements)?;
         at += used;
     }
-    Ok((elements, at))
+    Ok(at)
+}
+
+/// Builds the message that the bytes begin with: its type, its elements in place of the ones that were there, and how
+/// many bytes it takes. The caller has judged it good.
+#[tactic(auto, unfolding(crate::specs::Reading::message_at))]
+pub(crate) fn build_into(
+    table: &Table,
+    bytes: &[u8],
+    elements: &mut Elements,
+) -> Result<(Mti, usize), UnpackFault>
+    requires read { IsRead (message_at table.now bytes.now) }
+    ensures exact { ReadsInto (views elements.new) result (message_at table.now bytes.now) }
+    ensures whole { OnOk result (IsWhole elements.new) }
+    ensures ascending { OnOk result (IsAscending 2 (views elements.new)) }
+    ensures numbered { OnOk result (IsNumbered elements.new) }
+    ensures good { AreGood table.now.rows }
+{
+    let mti = type_of(table, bytes)?;
+    let size = table.mti().mti_size();
+    let (_, rest) = bytes.split_at(size);
+    let (primary, secondary, used) = words_of(table, size, rest)?;
+    let numbers = Bitmap::from_words(primary, secondary);
+    let end = build_elements(table, numbers, size + used, bytes, elements)?;
+    Ok((mti, end))
 }
 
 /// The message that the bytes begin with, and how many bytes it takes. The caller has judged it good.
-#[tactic(auto, unfolding(crate::specs::Reading::message_at))]
 pub(crate) fn build_judged(
     alloc: Global,
     table: &Table,
@@ -81,11 +106,7 @@ pub(crate) fn build_judged(
     ensures exact { Unpacks result (message_at table.now bytes.now) }
     ensures good { AreGood table.now.rows }
 {
-    let mti = type_of(table, bytes)?;
-    let size = table.mti().mti_size();
-    let (_, rest) = bytes.split_at(size);
-    let (primary, secondary, used) = words_of(table, size, rest)?;
-    let numbers = Bitmap::from_words(primary, secondary);
-    let (elements, end) = elements_of(alloc, table, numbers, size + used, bytes)?;
+    let mut elements = Elements::new(alloc);
+    let (mti, end) = build_into(table, bytes, &mut elements)?;
     Ok((Message::from_elements(mti, elements), end))
 }

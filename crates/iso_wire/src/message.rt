@@ -15,9 +15,11 @@ ghost use Rattle.iso_wire.specs.LookUps.{ChangesAlone};
 ghost use Rattle.iso_table.specs.Layout.{AreGood};
 ghost use Rattle.iso_wire.specs.Reading.{message_at, Unpacks};
 ghost use Rattle.iso_wire.specs.Unpacking.{read_into};
+ghost use Rattle.iso_wire.specs.Taking.{IsRead};
 ghost use Rattle.iso_wire.specs.Equality.{same_contents, same_contents_equiv};
 ghost use Rattle.std.specs.Cmp.{partial_equiv_from_equiv};
 
+use crate::building::build_into;
 use crate::debugging::{write_elements, write_type};
 use crate::decimal::{number_in, write_decimal};
 use crate::elements::Elements;
@@ -171,6 +173,31 @@ impl Message {
                 Err(fault)
             }
         }
+    }
+
+    /// Builds the message that the bytes begin with, as [`Message::read`] reads it. The caller has judged it good.
+    pub(crate) fn build(&mut self, table: &Table, bytes: &[u8]) -> Result<usize, UnpackFault>
+        requires read { IsRead (message_at table.now bytes.now) }
+        ensures exact { Unpacks (read_into self.new result) (message_at table.now bytes.now) }
+        ensures emptied { OnErr result (self.new ≡ record self.old { elements = [] }) }
+    {
+        match build_into(table, bytes, &mut self.elements) {
+            Ok((built, end)) => {
+                self.mti = built;
+                Ok(end)
+            }
+            Err(fault) => {
+                self.elements.clear();
+                Err(fault)
+            }
+        }
+    }
+
+    /// Makes it a message with its type and no elements. Its memory is kept.
+    pub(crate) fn empty(&mut self)
+        ensures { self.new ≡ record self.old { elements = [] } }
+    {
+        self.elements.clear();
     }
 
     /// The elements alone, whose memory can hold others.

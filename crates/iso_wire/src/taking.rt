@@ -2,11 +2,13 @@
 
 ghost use Rattle.std.specs.Prelude.{◌≡◌, ℕ, ◌≤◌, ◌-◌, ◌++◌, [], take, length, IfOk, Err};
 ghost use Rattle.iso_table.specs.Layout.{AreGood};
+ghost use Rattle.iso_table.specs.Sizes.{max_bytes};
+ghost use Rattle.iso_wire.specs.Unpacking.{read_into};
 ghost use Rattle.iso_wire.specs.Unpacker.{Feeds, FoundFed, StopsFed};
-ghost use Rattle.iso_wire.specs.Taking.{IsRead, IsBuilt, KeepsTaken, IsReadyAfter};
+ghost use Rattle.iso_wire.specs.Taking.{IsRead, IsBuilt, IsFront, KeepsTaken, IsReadyAfter, ResumesIn};
 ghost use Rattle.iso_wire.specs.declared.fault.UnpackCause.{UnpackCause};
 ghost use Rattle.iso_wire.specs.declared.fault.UnpackCause.TheVariants.{Short};
-ghost use Rattle.iso_wire.specs.Reading.{halt, message_at};
+ghost use Rattle.iso_wire.specs.Reading.{halt, message_at, Unpacks};
 ghost use Rattle.iso_wire.specs.Stops.{Stops};
 ghost use Rattle.iso_wire.specs.ReadingLaws.{IsShort};
 ghost use Rattle.iso_wire.specs.Judging.{IsResumed};
@@ -252,4 +254,71 @@ pub(crate) fn missing(table: &Table, point: ResumePoint, taken: &[u8]) -> Unpack
         unreachable!();
     };
     fault
+}
+
+/// The bytes of a piece that can belong to the message, behind so many that are taken: all of them, where there is room for
+/// them; else no more than the longest message has.
+fn front_of<'p>(table: &Table, before: usize, room: usize, piece: &'p [u8]) -> &'p [u8]
+    requires { before ≤ max_bytes table.now }
+    ensures { IsFront (max_bytes table.now - before) piece.now result.now }
+{
+    if piece.len() <= room {
+        return piece;
+    }
+    let longest = table.max_bytes() - before as u64;
+    if piece.len() as u64 <= longest {
+        piece
+    } else {
+        &piece[..longest as usize]
+    }
+}
+
+/// Reads the message that the bytes begin with in place of what `into` was. Their first ones are judged up to the point.
+fn read_on(
+    table: &Table,
+    point: ResumePoint,
+    bytes: &[u8],
+    into: &mut Message,
+) -> Result<usize, UnpackFault>
+    requires { ResumesIn table.now point bytes.now }
+    ensures exact { Unpacks (read_into into.new result) (message_at table.now bytes.now) }
+{
+    let (_, judged) = judge_from(table, point, bytes);
+    match judged {
+        Ok(_) => into.build(table, bytes),
+        Err(fault) => {
+            into.empty();
+            Err(fault)
+        }
+    }
+}
+
+/// Reads the message that the bytes taken, which are judged up to the point, and then the piece begin with, in place of
+/// what `into` was. What is taken stays.
+pub(crate) fn read_through(
+    table: &Table,
+    point: ResumePoint,
+    taken: &mut Vec<u8>,
+    piece: &[u8],
+    into: &mut Message,
+) -> Result<usize, UnpackFault>
+    requires resumed { IsResumed table.now point taken.old.items }
+    requires small { length taken.old.items ≤ max_bytes table.now }
+    ensures exact { Unpacks (read_into into.new result) (message_at table.now (taken.old.items ++ piece.now)) }
+    ensures kept { taken.new.items ≡ taken.old.items }
+{
+    // the laws of parts and of what is read, for the prover
+    iso_parts::laws::parts();
+    reads_spellings();
+    // any call on the table tells the proof that its rows are good
+    let _version = table.version();
+    let already = taken.len();
+    let front = front_of(table, already, taken.capacity() - already, piece);
+    if taken.extend_from_slice(front).is_err() {
+        return Err(UnpackFault::memory());
+    }
+    are_bytes(taken);
+    let read = read_on(table, point, taken, into);
+    taken.truncate(already);
+    read
 }

@@ -21,7 +21,7 @@ use crate::fault::{UnpackCause, UnpackFault};
 use crate::judging::ResumePoint;
 use crate::laws::{reads_spellings, stops};
 use crate::message::Message;
-use crate::taking::{missing, take};
+use crate::taking::{missing, read_through, take};
 use crate::unpacking::read_message;
 use iso_table::Table;
 use std::alloc::Global;
@@ -83,23 +83,6 @@ fn unpack_spare(
     let (mti, end) = read_message(table, bytes, spare)?;
     let elements = mem::replace(spare, Elements::new(alloc));
     Ok((Message::from_elements(mti, elements), end))
-}
-
-/// Reads the message that the bytes taken and then the piece begin with, in place of what `into` was. What is taken stays.
-fn read_through(
-    table: &Table,
-    taken: &mut Vec<u8>,
-    piece: &[u8],
-    into: &mut Message,
-) -> Result<usize, UnpackFault>
-    ensures exact { Unpacks (read_into into.new result) (message_at table.now (taken.old.items ++ piece.now)) }
-    ensures kept { taken.new.items ≡ taken.old.items }
-{
-    let before = taken.len();
-    taken.extend_from_slice(piece)?;
-    let read = into.read(table, taken);
-    taken.truncate(before);
-    read
 }
 
 /// What [`Unpacker::unpack`] does.
@@ -228,7 +211,9 @@ impl<'t> Unpacker<'t> {
         // What `feed` has taken stays, and so does its fault.
         ensures kept { self.new ≡ self.old }
     {
-        read_through(self.table, &mut self.taken, piece, into)
+        // the laws of parts, by which what is taken is no longer than the longest message, for the prover
+        iso_parts::laws::parts();
+        read_through(self.table, self.point, &mut self.taken, piece, into)
     }
 
     /// How many bytes of the current message are taken. Takes no memory.

@@ -8,12 +8,9 @@ use Rattle.iso_wire.specs.Faults.{out_of_memory}
 use Rattle.iso_wire.specs.Judging.{end_of, Resumes, IsResumed}
 use Rattle.std.proofs.lemmas.List.{take_at, length-append}
 use Rattle.iso_wire.proofs.Feeds.{is_read}
+use Rattle.iso_wire.proofs.Fronts.{grown}
 use Rattle.iso_wire.proofs.Resumes.{resumed_read, resumed_more, resumed_fault, fault_no_memory}
 use Rattle.iso_wire.proofs.taking.take_next.Goals as goal
-
--- where there was room, the piece is behind the bytes
-grown : (done : Bool) (old piece new : List ℕ) → new ≡ cond done (old ++ piece) old → done ≡ true → new ≡ old ++ piece
-grown done old piece new is had = is ∙ ap (λ b. cond b (old ++ piece) old) had
 
 pub returns-then-eq-clause-exact : goal.returns-then-eq-clause-exact
 returns-then-eq-clause-exact c =

@@ -3,7 +3,7 @@ use Rattle.iso_wire.specs.Ends.{views, Awaits}
 use Rattle.iso_wire.specs.Reading.{elements_at}
 use Rattle.iso_parts.specs.Numbers.{members}
 use Rattle.iso_wire.proofs.Loop.{with_front}
-use Rattle.iso_wire.proofs.building.elements_of.Given as goal
+use Rattle.iso_wire.proofs.building.build_elements.Given as goal
 
 abbrev pub invariant-loop-n : goal.invariant-loop-n
 invariant-loop-n l = record {

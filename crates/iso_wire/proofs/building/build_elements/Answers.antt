@@ -8,7 +8,7 @@ use Rattle.iso_wire.proofs.ElementLaws.{numbers_read}
 use Rattle.iso_wire.proofs.Appends.{awaits_none}
 use Rattle.iso_wire.proofs.Loop.{goes_on, is_done}
 use Rattle.iso_wire.proofs.Numbered.{numbered_members}
-use Rattle.iso_wire.proofs.building.elements_of.Goals as goal
+use Rattle.iso_wire.proofs.building.build_elements.Goals as goal
 
 pub loop-n-preserved : goal.loop-n-preserved
 loop-n-preserved c =
@@ -22,11 +22,6 @@ loop-n-preserved c =
       numbers = c.in_ok-used.ensures.kept ∙ c.loop-n.invariant.numbers;
       awaits = c.in_ok-used.ensures.awaits (members c.take_first.new.self) (subst (λ l. Awaits c.loop-n.elements l) c.in-Some.ensures c.loop-n.invariant.awaits);
     })
-
-pub append_element-requires-clause-read : goal.append_element-requires-clause-read
-append_element-requires-clause-read c =
-    let at = c.loop-n.at in
-    first_read c.args.table.now.rows (views c.loop-n.elements) (members c.loop-n.rest) (members c.take_first.new.self) c.in-Some.n at (drop at c.args.bytes.now) _ c.in-Some.ensures c.loop-n.invariant.read c.requires.read
 
 pub returns-clause-numbered : goal.returns-clause-numbered
 returns-clause-numbered c =
@@ -42,3 +37,13 @@ append_element-requires-clause-awaits c = (members c.take_first.new.self, subst 
 
 pub returns-clause-whole : goal.returns-clause-whole
 returns-clause-whole c = awaits_none c.loop-n.elements (subst (λ l. Awaits c.loop-n.elements l) c.in_default.ensures.0 c.loop-n.invariant.awaits)
+
+pub returns-clause-exact : goal.returns-clause-exact
+returns-clause-exact c =
+    is_done c.args.table.now.rows (views c.loop-n.elements) (members c.loop-n.rest) c.loop-n.at (drop c.loop-n.at c.args.bytes.now) _
+    c.in_default.ensures.0 c.loop-n.invariant.read
+
+pub append_element-requires-clause-read : goal.append_element-requires-clause-read
+append_element-requires-clause-read c =
+    let at = c.loop-n.at in
+    first_read c.args.table.now.rows (views c.loop-n.elements) (members c.loop-n.rest) (members c.take_first.new.self) c.in-Some.n at (drop at c.args.bytes.now) _ c.in-Some.ensures c.loop-n.invariant.read c.requires.read
