@@ -8,8 +8,9 @@
 
 mod log;
 mod making;
+mod piece;
 mod recovery;
 
 pub use log::{LogError, MOST_RECORDS, RECORD, RecordLog, is_whole};
 pub use making::make;
-pub use recovery::recover;
+pub use recovery::{Found, recover};

@@ -32,6 +32,17 @@ pub fn is_whole(bytes: &[u8]) -> bool
     bytes.iter().all(|byte| *byte != 0)
 }
 
+/// Refuses a disk that may leave other bytes of a torn write than the old ones and those that were written.
+pub(crate) fn test_mixing<D: Disk>(disk: &D) -> Result<(), LogError>
+    ensures mixes { OnOk result (IsTrue (D.is_mixing disk.now)) }
+{
+    if disk.mixes() {
+        Ok(())
+    } else {
+        Err(LogError::Unfit)
+    }
+}
+
 /// A log over a disk: so many records, and then slots of zeros.
 #[derive(Drop)]
 pub struct RecordLog<D: Disk> {
@@ -66,9 +77,7 @@ impl<D: Disk> RecordLog<D> {
             return Err(LogError::Full);
         }
         // the contract of a sync does not say that the disk goes on as one that mixes
-        if !self.disk.mixes() {
-            return Err(LogError::Unfit);
-        }
+        test_mixing(&self.disk)?;
         if !self.disk.may_be_used() {
             return Err(LogError::Disk);
         }
