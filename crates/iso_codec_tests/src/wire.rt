@@ -185,7 +185,21 @@ fn refused_piece(alloc: Global, table: &Table, bytes: &[u8]) -> Option<UnpackFau
     Unpacker::new(alloc, table).feed(alloc, bytes).err()
 }
 
-/// Whether `unpack`, `view` and `feed` all tell that fault, but that `feed` wants more where the bytes are short.
+/// What `unpack_into` refuses in them.
+fn refused_into(alloc: Global, table: &Table, bytes: &[u8]) -> Option<UnpackFault> {
+    let mut into = message(alloc, 1, &[])?;
+    unpack_into(table, bytes, &mut into).err()
+}
+
+/// What an unpacker that was fed them tells of a message that ends there.
+fn missing_behind(alloc: Global, table: &Table, bytes: &[u8]) -> UnpackFault {
+    let mut unpacker = Unpacker::new(alloc, table);
+    let _fed = unpacker.feed(alloc, bytes);
+    unpacker.missing()
+}
+
+/// Whether `unpack`, `unpack_into`, `view` and `feed` all tell that fault, but that `feed` wants more where the bytes are
+/// short, and tells the fault if no more comes.
 fn are_refused(alloc: Global, table: &Table, bytes: &[u8], fault: UnpackFault) -> bool {
     let told = Some(fault);
     let fed = if fault.cause == UnpackCause::Short {
@@ -194,8 +208,10 @@ fn are_refused(alloc: Global, table: &Table, bytes: &[u8], fault: UnpackFault) -
         told
     };
     refused_whole(alloc, table, bytes) == told
+        && refused_into(alloc, table, bytes) == told
         && refused_view(table, bytes) == told
         && refused_piece(alloc, table, bytes) == fed
+        && missing_behind(alloc, table, bytes) == fault
 }
 
 /// Where each piece of a message begins, with its element.

@@ -1,5 +1,5 @@
 -- Bytes of a piece that can't belong to the message change nothing.
-use Rattle.std.proofs.Common.{◌≡◌, ℕ, Bool, true, cond, Result, ◌+◌, ◌-◌, ◌≤◌, List, ◌++◌, length, take, drop, ◌⊎◌, inl, inr, sym, ap, ◌∙◌, subst, append_assoc, take-append-drop, arith}
+use Rattle.std.proofs.Common.{◌≡◌, ℕ, Bool, true, cond, Result, ◌+◌, ◌-◌, ◌≤◌, List, ◌++◌, length, take, drop, inl, inr, sym, ap, ◌∙◌, subst, append_assoc, take-append-drop, arith}
 use Rattle.std.proofs.lemmas.Bool.{cases_lt}
 use Rattle.std.proofs.lemmas.List.{length-append, length-take-le, take_all}
 use Rattle.iso_parts.specs.PartLaws.{PartLaws}

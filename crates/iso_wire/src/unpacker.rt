@@ -1,19 +1,16 @@
 //! Reading a message that comes in pieces.
 
-ghost use Rattle.std.specs.Prelude.{ℕ, ◌≡◌, ◌≢◌, ◌≤◌, ◌++◌, [], length, List, IfOk, IfErr, None, Some, Err};
+ghost use Rattle.std.specs.Prelude.{ℕ, ◌≡◌, ◌≤◌, ◌++◌, [], length, None, Some, Err};
 ghost use Rattle.iso_table.specs.Layout.{AreGood};
 ghost use Rattle.iso_table.specs.Sizes.{max_bytes};
 ghost use Rattle.iso_wire.specs.Unpacker.{Feeds, IsAfterFeed, StaysStopped, FoundFed, StopsFed};
 ghost use Rattle.iso_wire.specs.declared.fault.UnpackCause.{UnpackCause};
 ghost use Rattle.iso_wire.specs.declared.fault.UnpackFault.{UnpackFault};
-ghost use Rattle.iso_wire.specs.declared.fault.UnpackCause.TheVariants.{Short, Memory};
-ghost use Rattle.iso_wire.specs.Contents.{Contents};
+ghost use Rattle.iso_wire.specs.declared.fault.UnpackCause.TheVariants.{Short};
 ghost use Rattle.iso_wire.specs.Debugging.{debug_unpacker};
-ghost use Rattle.iso_wire.specs.Faults.{out_of_memory};
-ghost use Rattle.iso_wire.specs.Reading.{halt, message_at, whole, Unpacks};
+ghost use Rattle.iso_wire.specs.Reading.{halt, message_at, Unpacks};
 ghost use Rattle.iso_wire.specs.Stops.{Stops};
-ghost use Rattle.iso_wire.specs.Spelling.{AreBytes, BeginsWith, BeginsWithNone, IsUnambiguous, Spelling};
-ghost use Rattle.iso_wire.specs.Unpacking.{read_into};
+ghost use Rattle.iso_wire.specs.Unpacking.{IsUnpacked, read_into};
 
 use crate::debugging::write_unpacker;
 use crate::elements::Elements;
@@ -92,18 +89,7 @@ fn unpack_whole(
     spare: &mut Elements,
     bytes: &[u8],
 ) -> Result<(Message, usize), UnpackFault>
-    ensures found { IfOk result (λ x. BeginsWith table.now x.0 x.1 bytes.now) }
-    ensures only { (m : Contents) (front rest : List ℕ) → Spelling table.now m front → bytes.now ≡ front ++ rest
-        → Unpacks result (whole m (length front)) }
-    ensures exact { Unpacks result (message_at table.now bytes.now) }
-    ensures memory { IfErr result (λ e. e.cause ≡ Memory → e ≡ out_of_memory) }
-    ensures stops { IfErr result (λ e. e.cause ≢ Memory → Stops table.now bytes.now e.at e.element e.cause) }
-    ensures told { (at element : ℕ) (cause : UnpackCause) → Stops table.now bytes.now at element cause
-        → Unpacks result (halt element at cause) }
-    ensures refused { IfErr result (λ e. e.cause ≢ Memory → BeginsWithNone table.now bytes.now) }
-    ensures settled { IfErr result (λ e. e.cause ≢ Memory → e.cause ≢ Short
-        → (more : List ℕ) → AreBytes more → BeginsWithNone table.now (bytes.now ++ more)) }
-    ensures one { IsUnambiguous table.now }
+    ensures { IsUnpacked table.now bytes.now result }
 {
     reads_spellings();
     stops();
@@ -167,27 +153,8 @@ impl<'t> Unpacker<'t> {
     /// Reads the message that the bytes begin with, as the function `unpack` does, into the memory that was given back,
     /// where it is enough. What `feed` has taken stays. After a fault the memory is kept for the next message.
     pub fn unpack(&mut self, alloc: Global, bytes: &[u8]) -> Result<(Message, usize), UnpackFault>
-        // What is read is spelled by the first bytes.
-        ensures found { IfOk result (λ x. BeginsWith self.old.table x.0 x.1 bytes.now) }
-        // What the first bytes spell is read, unless memory runs out.
-        ensures only { (m : Contents) (front rest : List ℕ) → Spelling self.old.table m front → bytes.now ≡ front ++ rest
-            → Unpacks result (whole m (length front)) }
-        // Which fault it is, and where, unless memory ran out,
-        ensures exact { Unpacks result (message_at self.old.table bytes.now) }
-        // and then it tells no place.
-        ensures memory { IfErr result (λ e. e.cause ≡ Memory → e ≡ out_of_memory) }
-        // A fault tells where the bytes stop, by their whole pieces, and why,
-        ensures stops { IfErr result (λ e. e.cause ≢ Memory → Stops self.old.table bytes.now e.at e.element e.cause) }
-        // and where they stop is told, unless memory runs out.
-        ensures told { (at element : ℕ) (cause : UnpackCause) → Stops self.old.table bytes.now at element cause
-            → Unpacks result (halt element at cause) }
-        // A fault comes only where the bytes begin with no spelling,
-        ensures refused { IfErr result (λ e. e.cause ≢ Memory → BeginsWithNone self.old.table bytes.now) }
-        // and where a whole piece is bad, no continuation begins with one either.
-        ensures settled { IfErr result (λ e. e.cause ≢ Memory → e.cause ≢ Short → (more : List ℕ) → AreBytes more
-            → BeginsWithNone self.old.table (bytes.now ++ more)) }
-        // No spelling begins with another, and no bytes spell two messages.
-        ensures one { IsUnambiguous self.old.table }
+        // What is read is spelled by the first bytes, and what they spell is read. A fault tells where the bytes stop, and why.
+        ensures unpacked { IsUnpacked self.old.table bytes.now result }
         // What `feed` has taken stays, and so does its fault.
         ensures kept { self.new ≡ self.old }
     {

@@ -1,19 +1,11 @@
 //! Reading a message.
 
-ghost use Rattle.std.specs.Prelude.{◌≡◌, ◌≢◌, ℕ, ◌+◌, ◌≤◌, ◌<◌, ◌++◌, ◌∷◌, List};
-ghost use Rattle.std.specs.Prelude.{length, drop, [], IfOk, IfErr, OnOk, OnErr};
-ghost use Rattle.iso_wire.specs.declared.fault.UnpackCause.{UnpackCause};
-ghost use Rattle.iso_wire.specs.declared.fault.UnpackCause.TheVariants.{Short, Memory};
-ghost use Rattle.iso_wire.specs.Contents.{Contents};
+ghost use Rattle.std.specs.Prelude.{◌≡◌, ℕ, ◌+◌, ◌≤◌, ◌∷◌, [], List, length, drop, IfOk, OnOk, OnErr};
 ghost use Rattle.iso_wire.specs.Elements.{IsAscending};
 ghost use Rattle.iso_wire.specs.Ends.{views, Awaits, IsWhole, IsNumbered};
-ghost use Rattle.iso_wire.specs.Faults.{out_of_memory};
 ghost use Rattle.iso_table.specs.Layout.{AreGood};
 ghost use Rattle.iso_wire.specs.Appending.{ReadsInto, AppendsPart, AppendsElement};
-ghost use Rattle.iso_wire.specs.Reading.{Gives, fault_place, value_at, elements_at, halt};
-ghost use Rattle.iso_wire.specs.Reading.{message_at, Unpacks, whole};
-ghost use Rattle.iso_wire.specs.Spelling.{Spelling, AreBytes, BeginsWith, BeginsWithNone, IsUnambiguous};
-ghost use Rattle.iso_wire.specs.Stops.{Stops};
+ghost use Rattle.iso_wire.specs.Reading.{Gives, Unpacks, fault_place, value_at, elements_at, message_at};
 ghost use Rattle.iso_wire.specs.Unpacking.{IsUnpacked, read_into};
 ghost use Rattle.iso_parts.specs.Bitmap.{contains, AreElements};
 ghost use Rattle.iso_parts.specs.Numbers.{members};
@@ -167,27 +159,8 @@ pub(crate) fn message_of(
 /// its length and its body. Each piece is judged when it is whole, and the first one that is not good or not whole
 /// is the fault.
 pub fn unpack(alloc: Global, table: &Table, bytes: &[u8]) -> Result<(Message, usize), UnpackFault>
-    // What is read is spelled by the first bytes.
-    ensures found { IfOk result (λ x. BeginsWith table.now x.0 x.1 bytes.now) }
-    // What the first bytes spell is read, unless memory runs out.
-    ensures only { (m : Contents) (front rest : List ℕ) → Spelling table.now m front → bytes.now ≡ front ++ rest
-        → Unpacks result (whole m (length front)) }
-    // Which fault it is, and where, unless memory ran out,
-    ensures exact { Unpacks result (message_at table.now bytes.now) }
-    // and then it tells no place.
-    ensures memory { IfErr result (λ e. e.cause ≡ Memory → e ≡ out_of_memory) }
-    // A fault tells where the bytes stop, by their whole pieces, and why,
-    ensures stops { IfErr result (λ e. e.cause ≢ Memory → Stops table.now bytes.now e.at e.element e.cause) }
-    // and where they stop is told, unless memory runs out.
-    ensures told { (at element : ℕ) (cause : UnpackCause) → Stops table.now bytes.now at element cause
-        → Unpacks result (halt element at cause) }
-    // A fault comes only where the bytes begin with no spelling,
-    ensures refused { IfErr result (λ e. e.cause ≢ Memory → BeginsWithNone table.now bytes.now) }
-    // and where a whole piece is bad, no continuation begins with one either.
-    ensures settled { IfErr result (λ e. e.cause ≢ Memory → e.cause ≢ Short
-        → (more : List ℕ) → AreBytes more → BeginsWithNone table.now (bytes.now ++ more)) }
-    // No spelling begins with another, and no bytes spell two messages.
-    ensures one { IsUnambiguous table.now }
+    // What is read is spelled by the first bytes, and what they spell is read. A fault tells where the bytes stop, and why.
+    ensures { IsUnpacked table.now bytes.now result }
 {
     reads_spellings();
     stops();

@@ -254,6 +254,12 @@ fn is_read(alloc: Global, table: &Table, case: &Case, out: &mut Vec<u8>) -> bool
     }
 }
 
+/// Whether a case is read in place of the message that was there.
+fn is_read_into(table: &Table, case: &Case, into: &mut Message) -> bool {
+    unpack_into(table, case.bytes, into).ok() == Some(case.used)
+        && is_message(into, case.mti, case.elements)
+}
+
 /// Whether a message whose elements were set is written.
 fn is_made(alloc: Global, table: &Table, case: &Case, out: &mut Vec<u8>) -> bool {
     match message(alloc, case.mti, case.elements) {
@@ -309,10 +315,14 @@ fn is_case(alloc: Global, table: &Table, case: &Case, out: &mut Vec<u8>) -> bool
 
 /// That each case is so.
 fn check_cases(alloc: Global, out: &mut Vec<u8>) -> Result<(), Fail> {
+    let Some(mut into) = message(alloc, 1, &[(128, b"another")]) else {
+        return Err(Fail::new(format_args!("a message")));
+    };
     for (under, known) in CASES {
         let table = table_of(alloc, *under)?;
         let case = case_of(*known);
-        check(is_case(alloc, &table, &case, out), case.name)?;
+        let is_read = is_read_into(&table, &case, &mut into);
+        check(is_read && is_case(alloc, &table, &case, out), case.name)?;
     }
     Ok(())
 }

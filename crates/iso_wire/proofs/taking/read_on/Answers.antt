@@ -1,5 +1,4 @@
-use Rattle.std.proofs.Common.{◌≡◌, List, ℕ, Err, Ok, subst, ap, ◌∙◌}
-use Rattle.iso_wire.specs.Judging.{end_of, Resumes}
+use Rattle.std.proofs.Common.{◌≡◌, Err, ◌∙◌}
 use Rattle.iso_wire.specs.Reading.{message_at}
 use Rattle.iso_wire.proofs.Feeds.{is_read}
 use Rattle.iso_wire.proofs.Fronts.{resumed_in}
