@@ -2,7 +2,8 @@
 
 ghost use Rattle.iso_order.specs.Pan.{AccountNumber};
 ghost use Rattle.iso_issuer.specs.Effect.{is_key};
-ghost use Rattle.std.specs.Prelude.{◌≡◌, ◌≤◌, ◌<◌, ◌+◌, ◌-◌, IfSome, Some, None, [], if◌then◌else◌, OnOk, OnErr};
+ghost use Rattle.std.specs.Prelude.{◌≡◌, ◌≤◌, ◌<◌, ◌+◌, ◌-◌, IfSome, Some, None, [], if◌then◌else◌, OnOk, OnErr, IfOk, is_some, true};
+ghost use Rattle.std.specs.Ordering.{is_eq};
 ghost use Rattle.std.specs.BTreeMap as tree;
 ghost use Rattle.std.specs.Option.{option_or};
 ghost use Rattle.iso_order.specs.Key.{same_key};
@@ -103,6 +104,17 @@ fn keep(
     Ok(())
 }
 
+/// Gives a key the place again that it had.
+fn put_back(places: &mut BTreeMap<TxKey, u32>, key: &TxKey, place: u32)
+    requires { is_some (tree.get key_cmp places.old key.now) ≡ true }
+    ensures { (q : TxKey) → tree.get key_cmp places.new q
+        ≡ (if is_eq (key_cmp key.now q) then Some place else tree.get key_cmp places.old q) }
+{
+    if let Some(known) = places.get_mut(key) {
+        *known = place;
+    }
+}
+
 impl Index {
     /// The index of no entry. Takes no memory.
     pub fn new(alloc: Global) -> Index
@@ -136,37 +148,54 @@ impl Index {
         hold_count(&self.counts, hold)
     }
 
-    /// Adds what an order of a new key changes: its place, what it leaves of the key that it names, and
-    /// the hold that one more or one fewer entry completes. All of it, or nothing where there is no
-    /// memory for it.
-    pub fn add(
+    /// Gives a new key its place. Where the key has a place, it keeps it, and that place is told.
+    pub fn claim(&mut self, key: &TxKey, place: u32) -> Result<Option<u32>, AllocError>
+        ensures known { IfOk result (λ known. known ≡ tree.get key_cmp self.old.places key.now) }
+        ensures claimed { IfOk result (λ known. known ≡ None → (q : TxKey) →
+            tree.get key_cmp self.new.places q
+            ≡ (if same_key key.now q then Some place else tree.get key_cmp self.old.places q)) }
+        ensures kept { IfOk result (λ known. is_some known ≡ true → AnswersAlike self.new self.old) }
+        ensures unchanged { OnErr result (AnswersAlike self.new self.old) }
+        ensures lefts { self.new.lefts ≡ self.old.lefts }
+        ensures counts { self.new.counts ≡ self.old.counts }
+    {
+        if let Some(known) = self.places.insert(*key, place)? {
+            put_back(&mut self.places, key, known);
+            return Ok(Some(known));
+        }
+        Ok(None)
+    }
+
+    /// Takes the place of a key away again.
+    pub fn give_up(&mut self, key: &TxKey)
+        ensures places { (q : TxKey) → tree.get key_cmp self.new.places q
+            ≡ (if is_eq (key_cmp key.now q) then None else tree.get key_cmp self.old.places q) }
+        ensures lefts { self.new.lefts ≡ self.old.lefts }
+        ensures counts { self.new.counts ≡ self.old.counts }
+    {
+        self.places.remove(key);
+    }
+
+    /// Keeps what an order leaves of the key that it names, and the hold that one more or one fewer entry
+    /// completes. All of it, or nothing where there is no memory for it.
+    pub fn keep(
         &mut self,
-        place: u32,
         order: &Order,
         added: Option<Hold>,
         dropped: Option<Hold>,
     ) -> Result<(), AllocError>
-        requires new { tree.get key_cmp self.old.places order.now.key ≡ None }
         requires apart { IfSome added (λ h. (undone_key order.now.act ≡ None) × (dropped ≡ None)) }
         requires few { IfSome added (λ h. hold_count self.old.counts h.key h.pan < 1000000) }
         requires counted { IfSome dropped (λ h. 1 ≤ hold_count self.old.counts h.key h.pan) }
-        ensures places { OnOk result ((key : TxKey) → tree.get key_cmp self.new.places key
-            ≡ (if same_key order.now.key key then Some place else tree.get key_cmp self.old.places key)) }
+        ensures places { self.new.places ≡ self.old.places }
         ensures lefts { OnOk result ((key : TxKey) → tree.get key_cmp self.new.lefts key
             ≡ option_or (tree.get key_cmp self.old.lefts key)
             (if is_key (undone_key order.now.act) key then Some (left_by order.now.act) else None)) }
         ensures counts { OnOk result ((key : TxKey) → (pan : AccountNumber) → hold_count self.new.counts key pan
             ≡ hold_count self.old.counts key pan - mark_at dropped key pan + mark_at added key pan) }
-        ensures unchanged { OnErr result (AnswersAlike self.new self.old) }
+        ensures lefts_kept { OnErr result ((key : TxKey) → tree.get key_cmp self.new.lefts key ≡ tree.get key_cmp self.old.lefts key) }
+        ensures counts_kept { OnErr result ((key : TxKey) → (pan : AccountNumber) → hold_count self.new.counts key pan ≡ hold_count self.old.counts key pan) }
     {
-        let key = order.key();
-        self.places.insert(key, place)?;
-        match keep(&mut self.lefts, &mut self.counts, order, added, dropped) {
-            Ok(()) => Ok(()),
-            Err(fault) => {
-                self.places.remove(&key);
-                Err(fault)
-            }
-        }
+        keep(&mut self.lefts, &mut self.counts, order, added, dropped)
     }
 }

@@ -4,12 +4,14 @@ ghost use Rattle.iso_order.specs.Order.{most_amount};
 ghost use Rattle.iso_issuer.specs.Effect.{is_key, effect_of, effect_amount};
 ghost use Rattle.iso_issuer.specs.Found.{touched_at, is_of_earlier, weight_in, IsFoundFor};
 ghost use Rattle.iso_issuer.specs.declared.journal.Entry.{Entry};
-ghost use Rattle.std.specs.Prelude.{◌≡◌, ◌≤◌, ◌<◌, ◌+◌, ◌==◌, ◌++◌, ◌∷◌, [], if◌then◌else◌};
-ghost use Rattle.std.specs.Prelude.{ℕ, List, is_some, true, false, map, Some, None, IfSome, OnOk, OnErr, length, slice_get};
+ghost use Rattle.iso_order.specs.Pan.{AccountNumber};
+ghost use Rattle.std.specs.Prelude.{◌≡◌, ◌≤◌, ◌<◌, ◌+◌, ◌-◌, ◌==◌, ◌++◌, ◌∷◌, [], if◌then◌else◌};
+ghost use Rattle.std.specs.Prelude.{ℕ, List, is_some, true, false, map, Some, None, IfSome, IfOk, OnOk, OnErr, length, slice_get};
 ghost use Rattle.std.specs.BTreeMap as tree;
 ghost use Rattle.std.specs.Ordering.{nat_cmp};
-ghost use Rattle.iso_issuer.specs.Index.{added_by, dropped_of, dropped_by};
-ghost use Rattle.iso_issuer.specs.Journal.{entry_at, undone_key, left_at, is_nothing, smaller_of, is_counted_with, is_completed, is_ended, is_standing, weight};
+ghost use Rattle.std.specs.Option.{option_or};
+ghost use Rattle.iso_issuer.specs.Index.{added_by, dropped_of, dropped_by, key_cmp, hold_count, mark_at};
+ghost use Rattle.iso_issuer.specs.Journal.{entry_at, undone_key, left_by, left_at, is_nothing, smaller_of, is_counted_with, is_completed, is_ended, is_standing, weight};
 ghost use Rattle.iso_issuer.specs.Journal.{HasDistinctKeys};
 ghost use Rattle.iso_issuer.specs.Found.{reversed_by, ended_key, released_by};
 
@@ -160,6 +162,57 @@ fn show(shown: &mut BTreeMap<u32, i64>, place: u32, balance: Option<i64>) -> Res
         shown.insert(place, balance)?;
     }
     Ok(())
+}
+
+/// Stores an order and its answer behind the others, and what the order leaves and completes. Where there is
+/// no memory for it, nothing changes.
+fn store(
+    orders: &mut Vec<Order>,
+    codes: &mut Vec<u8>,
+    shown: &mut BTreeMap<u32, i64>,
+    index: &mut Index,
+    entry: Entry,
+    added: Option<Hold>,
+    dropped: Option<Hold>,
+) -> Result<(), AllocError>
+    requires free { tree.get nat_cmp shown.old (length orders.old.items) ≡ None }
+    requires room { length orders.old.items < 999999 }
+    requires apart { IfSome added (λ h. (undone_key entry.order.act ≡ None) × (dropped ≡ None)) }
+    requires few { IfSome added (λ h. hold_count index.old.counts h.key h.pan < 1000000) }
+    requires counted { IfSome dropped (λ h. 1 ≤ hold_count index.old.counts h.key h.pan) }
+    // A response code has two digits.
+    ensures code { entry.answer.code ≤ 99 }
+    ensures orders { OnOk result (orders.new.items ≡ orders.old.items ++ entry.order ∷ []) }
+    ensures codes { OnOk result (codes.new.items ≡ codes.old.items ++ entry.answer.code ∷ []) }
+    ensures shown { OnOk result ((at : ℕ) → tree.get nat_cmp shown.new at
+        ≡ (if at == length orders.old.items then entry.answer.shown else tree.get nat_cmp shown.old at)) }
+    ensures places { index.new.places ≡ index.old.places }
+    ensures lefts { OnOk result ((key : TxKey) → tree.get key_cmp index.new.lefts key
+        ≡ option_or (tree.get key_cmp index.old.lefts key)
+        (if is_key (undone_key entry.order.act) key then Some (left_by entry.order.act) else None)) }
+    ensures counts { OnOk result ((key : TxKey) → (pan : AccountNumber) → hold_count index.new.counts key pan
+        ≡ hold_count index.old.counts key pan - mark_at dropped key pan + mark_at added key pan) }
+    ensures orders_kept { OnErr result (orders.new.items ≡ orders.old.items) }
+    ensures codes_kept { OnErr result (codes.new.items ≡ codes.old.items) }
+    ensures shown_kept { OnErr result ((at : ℕ) → tree.get nat_cmp shown.new at ≡ tree.get nat_cmp shown.old at) }
+    ensures lefts_kept { OnErr result ((key : TxKey) → tree.get key_cmp index.new.lefts key ≡ tree.get key_cmp index.old.lefts key) }
+    ensures counts_kept { OnErr result ((key : TxKey) → (pan : AccountNumber) → hold_count index.new.counts key pan ≡ hold_count index.old.counts key pan) }
+{
+    orders.reserve(1)?;
+    codes.reserve(1)?;
+    let place = orders.len() as u32;
+    show(shown, place, entry.answer.shown)?;
+    match index.keep(&entry.order, added, dropped) {
+        Ok(()) => {
+            let _ = orders.push(entry.order);
+            let _ = codes.push(entry.answer.code);
+            Ok(())
+        }
+        Err(fault) => {
+            shown.remove(&place);
+            Err(fault)
+        }
+    }
 }
 
 impl Journal {
@@ -388,23 +441,24 @@ impl Journal {
         }
     }
 
-    /// Enters an order of a new key, which has this effect, with its answer. Where there is no memory for
-    /// it, whatever the call added is taken away again.
+    /// Enters an order of a new key, which has this effect, with its answer, and tells whether the key was
+    /// new. Where it wasn't, or there is no memory for it, whatever the call added is taken away again.
     pub fn enter(
         &mut self,
         order: &Order,
         effect: &Option<Effect>,
         answer: Answer,
         found: &Found,
-    ) -> Result<(), AllocError>
+    ) -> Result<bool, AllocError>
         requires effect { effect.now ≡ effect_of order.now }
         requires found { IsFoundFor self.old order.now found.now }
-        requires new { entry_at self.old order.now.key ≡ None }
         requires distinct { HasDistinctKeys (map (λ e. e.order) self.old) }
         requires few { length self.old < 999999 }
         requires seq { answer.seq ≡ length self.old + 1 }
-        ensures ok { OnOk result
-            (self.new ≡ self.old ++ record { order = order.now; answer = answer } ∷ []) }
+        ensures new { IfOk result (λ new. new ≡ true → entry_at self.old order.now.key ≡ None) }
+        ensures entered { IfOk result (λ new. new ≡ true
+            → self.new ≡ self.old ++ record { order = order.now; answer = answer } ∷ []) }
+        ensures kept { IfOk result (λ new. new ≡ false → self.new ≡ self.old) }
         ensures unchanged { OnErr result (self.new ≡ self.old) }
     {
         let entry = Entry {
@@ -413,18 +467,24 @@ impl Journal {
         };
         let added = added_by(found.left, &entry, effect);
         let dropped = dropped_by(order, &found.reversed);
-        self.orders.reserve(1)?;
-        self.codes.reserve(1)?;
+        let key = order.key();
         let place = self.orders.len() as u32;
-        show(&mut self.shown, place, answer.shown)?;
-        match self.index.add(place, order, added, dropped) {
-            Ok(()) => {
-                let _ = self.orders.push(*order);
-                let _ = self.codes.push(answer.code);
-                Ok(())
-            }
+        match self.index.claim(&key, place)? {
+            Some(_) => return Ok(false),
+            None => {}
+        }
+        match store(
+            &mut self.orders,
+            &mut self.codes,
+            &mut self.shown,
+            &mut self.index,
+            entry,
+            added,
+            dropped,
+        ) {
+            Ok(()) => Ok(true),
             Err(fault) => {
-                self.shown.remove(&place);
+                self.index.give_up(&key);
                 Err(fault)
             }
         }

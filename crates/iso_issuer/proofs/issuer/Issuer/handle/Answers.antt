@@ -1,121 +1,33 @@
-use Rattle.std.proofs.Common.{◌≡◌, refl, ap, sym, ◌∙◌, arith, ◌++◌, [], ◌∷◌, rules}
-use Rattle.std.specs.Prelude.{is_some, Some, None, map, List}
-use Rattle.std.proofs.lemmas.Grind.{common_steps}
-use Rattle.std.proofs.lemmas.List.{length-map}
-use Rattle.iso_order.specs.Outcome.{Outcome}
-use Rattle.iso_issuer.specs.declared.journal.Entry.{Entry}
+use Rattle.std.proofs.Common.{◌≡◌, refl, ap, sym, subst, ◌++◌, [], ◌∷◌, List}
+use Rattle.std.specs.Prelude.{Result, Ok, Err, OnOk, take}
+use Rattle.iso_order.specs.Order.{Instruction}
 use Rattle.iso_issuer.specs.Books.{Books}
-use Rattle.iso_issuer.specs.Decision.{answer_for, answer_by, journal_of, is_shown_for}
-use Rattle.iso_issuer.specs.Journal.{firsts, entry_at}
-use Rattle.iso_issuer.specs.Balances.{accounts_of}
-use Rattle.iso_issuer.proofs.Firsts.{firsts-known, firsts-new, firsts-distinct}
-use Rattle.iso_issuer.proofs.Kept.{kept-known, kept-new, kept-full, granted}
-use Rattle.iso_issuer.proofs.Shown.{answer-shown}
-use Rattle.iso_issuer.proofs.Entries.{entered-found, never, full-new, full-known}
+use Rattle.iso_issuer.specs.Journal.{firsts}
 use Rattle.iso_issuer.proofs.issuer.Issuer.handle.Goals as goal
 
-pub returns-then-len-self-clause-full : goal.returns-then-len-self-clause-full
-returns-then-len-self-clause-full c =
-    let found : entry_at c.self.inside.journal c.args.order.key ≡ None = sym (c.in-None.ensures ∙ ap (entry_at c.self.inside.journal) c.key.ensures.value) in
-    let books : Books = record { accounts = accounts_of c.self.inside.balances; limit = c.self.inside.limit; orders = map (λ (e : Entry). e.order) c.self.inside.journal } in
-    let full = full-new books c.args.order.key (entered-found c.self.inside.journal c.args.order.key ∙ ap is_some found)
-    (omega (arith, length-map c.self.inside.journal (λ (e : Entry). e.order), c.if-len-self.true, c.len.ensures)) in
-    rw (← c.self.view_is) ((λ e. full), (λ h. refl))
+-- books whose orders are these are the books with these orders
+books_with_own : (now old : Books) (orders : Books → List Instruction) → now ≡ old → orders now ≡ now.orders → now ≡ record old { orders = orders old }
+books_with_own now old orders same is =
+    subst (λ (b : Books). now ≡ record b { orders = orders b }) same (ap (λ (xs : List Instruction). record now { orders = xs }) (sym is))
 
-pub returns-then-len-self-clause-repeat : goal.returns-then-len-self-clause-repeat
-returns-then-len-self-clause-repeat c =
-    let found : entry_at c.self.inside.journal c.args.order.key ≡ None = sym (c.in-None.ensures ∙ ap (entry_at c.self.inside.journal) c.key.ensures.value) in
-    rw (← c.self.view_is) (λ h. absurd (never _ (entered-found c.self.inside.journal c.args.order.key ∙ ap is_some found) h))
-
-pub enter-requires-clause-new : goal.enter-requires-clause-new
-enter-requires-clause-new c =
-    let found : entry_at c.self.inside.journal c.args.order.key ≡ None = sym (c.in-None.ensures ∙ ap (entry_at c.self.inside.journal) c.key.ensures.value) in
-    rw (← c.self.view_is) (entered-found c.self.inside.journal c.args.order.key ∙ ap is_some found)
-
-pub returns-in-Some-clause-full : goal.returns-in-Some-clause-full
-returns-in-Some-clause-full c =
-    let found : entry_at c.self.inside.journal c.args.order.key ≡ Some c.in-Some.entry = sym (c.in-Some.ensures ∙ ap (entry_at c.self.inside.journal) c.key.ensures.value) in
-    let books : Books = record { accounts = accounts_of c.self.inside.balances; limit = c.self.inside.limit; orders = map (λ (e : Entry). e.order) c.self.inside.journal } in
-    let known = full-known books c.args.order.key (entered-found c.self.inside.journal c.args.order.key ∙ ap is_some found) in
-    rw (← c.self.view_is) ((λ e. cc), (λ h. absurd (known h)))
+-- what follows where the result is right
+on-ok : {X E P Q : Type 0} (r : Result X E) → (P → Q) → OnOk r P → OnOk r Q
+on-ok (Ok x) f h = f h
+on-ok (Err e) f h = tt
 
 pub returns-in-Some-clause-entered : goal.returns-in-Some-clause-entered
-returns-in-Some-clause-entered c =
-    let found : entry_at c.self.inside.journal c.args.order.key ≡ Some c.in-Some.entry = sym (c.in-Some.ensures ∙ ap (entry_at c.self.inside.journal) c.key.ensures.value) in
-    let orders = map (λ (e : Entry). e.order) c.self.inside.journal in
-    let same : firsts (orders ++ c.args.order ∷ []) ≡ orders =
-    firsts-known orders c.args.order (entered-found c.self.inside.journal c.args.order.key ∙ ap is_some found)
-    ∙ firsts-distinct orders c.self.invariant.0.distinct in
-    rw (← c.self.view_is) (ap (λ xs. record { accounts = accounts_of c.self.inside.balances; limit = c.self.inside.limit; orders = xs }) (sym same))
-
-pub returns-else-len-self-clause-repeat : goal.returns-else-len-self-clause-repeat
-returns-else-len-self-clause-repeat c =
-    let found : entry_at c.self.inside.journal c.args.order.key ≡ None = sym (c.in-None.ensures ∙ ap (entry_at c.self.inside.journal) c.key.ensures.value) in
-    rw (← c.self.view_is) (λ h. absurd (never _ (entered-found c.self.inside.journal c.args.order.key ∙ ap is_some found) h))
-
-pub returns-else-len-self-clause-entered : goal.returns-else-len-self-clause-entered
-returns-else-len-self-clause-entered c =
-    let found : entry_at c.self.inside.journal c.args.order.key ≡ None = sym (c.in-None.ensures ∙ ap (entry_at c.self.inside.journal) c.key.ensures.value) in
-    let orders = map (λ (e : Entry). e.order) c.self.inside.journal in
-    let same : firsts (c.args.self.now.orders ++ c.args.order ∷ []) ≡ c.args.self.now.orders ++ c.args.order ∷ [] =
-    rw (← c.self.view_is)
-    (firsts-new orders c.args.order (entered-found c.self.inside.journal c.args.order.key ∙ ap is_some found)
-    ∙ ap (λ xs. xs ++ c.args.order ∷ []) (firsts-distinct orders c.self.invariant.0.distinct)) in
-    rw same c.enter.ensures.entered
-
-pub returns-else-len-self-clause-memory : goal.returns-else-len-self-clause-memory
-returns-else-len-self-clause-memory c = λ memory.
-    let found : entry_at c.self.inside.journal c.args.order.key ≡ None = sym (c.in-None.ensures ∙ ap (entry_at c.self.inside.journal) c.key.ensures.value) in
-    rw (← c.self.view_is)
-    record {
-      below = omega (arith, length-map c.self.inside.journal (λ (e : Entry). e.order));
-      new = entered-found c.self.inside.journal c.args.order.key ∙ ap is_some found;
-    }
-
-pub returns-in-Some-clause-shown : goal.returns-in-Some-clause-shown
-returns-in-Some-clause-shown c =
-    let es = c.self.inside.journal in
-    let accounts = accounts_of c.self.inside.balances in
-    let orders = map (λ (e : Entry). e.order) es in
-    let found : entry_at es c.args.order.key ≡ Some c.in-Some.entry = sym (c.in-Some.ensures ∙ ap (entry_at es) c.key.ensures.value) in
-    let answer : c.repeat_answer.result ≡ answer_for accounts (journal_of accounts orders) c.args.order =
-    c.repeat_answer.ensures ∙ sym (ap (answer_by accounts es c.args.order) found) ∙ ap (λ (j : List Entry). answer_for accounts j c.args.order) c.self.invariant.0.decided in
-    ap (λ (a : Outcome). is_shown_for c.args.order.act a.shown) answer ∙ answer-shown accounts orders c.args.order
+returns-in-Some-clause-entered c = c.in-Some.ensures.entered refl
 
 pub returns-in-Some-clause-kept : goal.returns-in-Some-clause-kept
-returns-in-Some-clause-kept c = λ other.
-    let found : entry_at c.self.inside.journal c.args.order.key ≡ Some c.in-Some.entry = sym (c.in-Some.ensures ∙ ap (entry_at c.self.inside.journal) c.key.ensures.value) in
-    let orders = map (λ (e : Entry). e.order) c.self.inside.journal in
-    let same = kept-known c.self.inside.limit orders c.args.order c.self.invariant.0.distinct (omega (arith, c.self.invariant.0.few, length-map c.self.inside.journal (λ (e : Entry). e.order)))
-    (entered-found c.self.inside.journal c.args.order.key ∙ ap is_some found) in
-    rw (← c.self.view_is) (ap (λ xs. record { accounts = accounts_of c.self.inside.balances; limit = c.self.inside.limit; orders = xs }) (sym same))
+returns-in-Some-clause-kept c = λ other. c.in-Some.ensures.kept refl
 
-pub returns-then-len-self-clause-kept : goal.returns-then-len-self-clause-kept
-returns-then-len-self-clause-kept c = λ other.
-    let found : entry_at c.self.inside.journal c.args.order.key ≡ None = sym (c.in-None.ensures ∙ ap (entry_at c.self.inside.journal) c.key.ensures.value) in
-    let orders = map (λ (e : Entry). e.order) c.self.inside.journal in
-    let same = kept-full c.self.inside.limit orders c.args.order c.self.invariant.0.distinct
-    (omega (arith, c.self.invariant.0.few, length-map c.self.inside.journal (λ (e : Entry). e.order), c.if-len-self.true, c.len.ensures))
-    (entered-found c.self.inside.journal c.args.order.key ∙ ap is_some found) in
-    rw (← c.self.view_is) (ap (λ xs. record { accounts = accounts_of c.self.inside.balances; limit = c.self.inside.limit; orders = xs }) (sym same))
+pub returns-in-None-clause-entered : goal.returns-in-None-clause-entered
+returns-in-None-clause-entered c =
+    on-ok c.answer_known.result
+    (books_with_own c.enter_in_room.new.self c.args.self.now (λ (b : Books). firsts (b.orders ++ c.args.order ∷ [])) (c.in-None.ensures.unchanged refl))
+    c.answer_known.ensures.entered
 
-pub returns-else-len-self-clause-kept : goal.returns-else-len-self-clause-kept
-returns-else-len-self-clause-kept c = λ other.
-    let found : entry_at c.self.inside.journal c.args.order.key ≡ None = sym (c.in-None.ensures ∙ ap (entry_at c.self.inside.journal) c.key.ensures.value) in
-    let orders = map (λ (e : Entry). e.order) c.self.inside.journal in
-    let same = kept-new c.self.inside.limit orders c.args.order c.self.invariant.0.distinct
-    (omega (arith, length-map c.self.inside.journal (λ (e : Entry). e.order)))
-    (entered-found c.self.inside.journal c.args.order.key ∙ ap is_some found) in
-    rw (← c.self.view_is)
-    (rw (← c.self.view_is) at (granted c.enter.result other c.enter.ensures.memory c.enter.ensures.entered)
-    ∙ ap (λ xs. record { accounts = accounts_of c.self.inside.balances; limit = c.self.inside.limit; orders = xs }) (sym same))
-
--- wrong edits turn these: they are refused sooner where the goals have answers
-pub returns-in-Some-clause-answer : goal.returns-in-Some-clause-answer
-returns-in-Some-clause-answer c = search rules
-
-pub returns-else-len-self-clause-answer : goal.returns-else-len-self-clause-answer
-returns-else-len-self-clause-answer c = search rules
-
-pub returns-else-len-self-clause-full : goal.returns-else-len-self-clause-full
-returns-else-len-self-clause-full c = grind (arith, common_steps)
+pub returns-in-None-clause-kept : goal.returns-in-None-clause-kept
+returns-in-None-clause-kept c = λ other.
+    books_with_own c.enter_in_room.new.self c.args.self.now (λ (b : Books). take b.limit (firsts (b.orders ++ c.args.order ∷ []))) (c.in-None.ensures.unchanged refl)
+    (c.answer_known.ensures.kept other)
