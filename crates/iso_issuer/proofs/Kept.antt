@@ -1,11 +1,14 @@
 -- The first orders of each key, up to a limit.
 use Rattle.std.proofs.Common.{◌≡◌, ℕ, ◌<◌, ◌≤◌, Bool, true, false, cond, not, List, [], ◌∷◌, ◌++◌, length, take, zero, suc, sym, refl, arith, ap, ◌∙◌, append_assoc, append-nil, length-append, inl, inr, ◌⊎◌}
-use Rattle.std.specs.Prelude.{◌||◌, filter}
+use Rattle.std.specs.Prelude.{◌≢◌, ◌||◌, filter, Result, Ok, Err, OnOk, IfErr}
 use Rattle.std.proofs.lemmas.Bool.{cases_lt}
 use Rattle.std.proofs.lemmas.List.{take_all, take-append-le, length-take-le}
 use Rattle.iso_order.specs.declared.key.TxKey.{TxKey}
 use Rattle.iso_order.specs.Key.{same_key}
 use Rattle.iso_order.specs.Order.{Instruction}
+use Rattle.iso_order.specs.Outcome.{Outcome}
+use Rattle.iso_issuer.specs.declared.fault.Refused.{Refused}
+use Rattle.iso_issuer.specs.declared.fault.Refused.TheVariants.{Memory}
 use Rattle.iso_issuer.specs.Journal.{firsts, is_entered, HasDistinctKeys}
 use Rattle.iso_issuer.proofs.Firsts.{is_other, neither, firsts-new, firsts-known, firsts-distinct}
 use Rattle.iso_issuer.proofs.Keys.{same_key_is}
@@ -154,3 +157,8 @@ firsts-go-on limit earlier (o ∷ later) =
     ∙ ap (λ (l : List Instruction). take limit (firsts (l ++ later))) (one-more limit earlier o)
     ∙ firsts-go-on limit (earlier ++ o ∷ []) later
     ∙ ap (λ (l : List Instruction). take limit (firsts l)) (append_assoc earlier (o ∷ []) later)
+
+-- what is not refused for want of memory, by a call that refuses for nothing else, is granted
+pub granted : {P : Type 0} (answer : Result Outcome Refused) → answer ≢ Err Memory → IfErr answer (λ e. e ≡ Memory) → OnOk answer P → P
+granted (Ok a) other memory ok = ok
+granted (Err e) other memory ok = absurd (other (ap Err memory))

@@ -1,6 +1,7 @@
 pub mod Keys
 pub mod Places
 pub mod ByKey
+pub mod Claims
 pub mod Changes
 pub mod Firsts
 mod Kept

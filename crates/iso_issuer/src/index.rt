@@ -2,13 +2,14 @@
 
 ghost use Rattle.iso_order.specs.Pan.{AccountNumber};
 ghost use Rattle.iso_issuer.specs.Effect.{is_key};
-ghost use Rattle.std.specs.Prelude.{◌≡◌, ◌≤◌, ◌<◌, ◌+◌, ◌-◌, IfSome, Some, None, [], if◌then◌else◌, OnOk, OnErr, IfOk, is_some, true};
+ghost use Rattle.std.specs.Prelude.{◌≡◌, ◌≤◌, ◌<◌, ◌+◌, ◌-◌, IfSome, Some, None, [], if◌then◌else◌, OnOk, OnErr, IfOk, is_some, true, List, length};
 ghost use Rattle.std.specs.Ordering.{is_eq};
 ghost use Rattle.std.specs.BTreeMap as tree;
 ghost use Rattle.std.specs.Option.{option_or};
 ghost use Rattle.iso_order.specs.Key.{same_key};
-ghost use Rattle.iso_issuer.specs.Index.{key_cmp, hold_count, mark_at, IsIndexOf, AnswersAlike};
-ghost use Rattle.iso_issuer.specs.Journal.{undone_key, left_by};
+ghost use Rattle.iso_issuer.specs.Index.{key_cmp, hold_count, mark_at, IsIndexOf, cleared, place_of};
+ghost use Rattle.iso_issuer.specs.Journal.{undone_key, left_by, entry_at};
+ghost use Rattle.iso_issuer.specs.declared.journal.Entry.{Entry};
 
 use crate::effect::Hold;
 use iso_order::{Act, Order, TxKey};
@@ -16,12 +17,13 @@ use std::alloc::{AllocError, Global};
 use std::collections::BTreeMap;
 
 /// The place of each key in the journal, what the first reversal of each key leaves, and how many
-/// entries that count complete each hold.
+/// entries that count complete each hold. A new key can claim the next place, before its order is entered.
 #[derive(Drop)]
 pub struct Index {
     places: BTreeMap<TxKey, u32>,
     lefts: BTreeMap<TxKey, u64>,
     counts: BTreeMap<Hold, u64>,
+    claimed: Option<TxKey>,
 }
 
 /// How many entries complete a hold.
@@ -115,6 +117,25 @@ fn put_back(places: &mut BTreeMap<TxKey, u32>, key: &TxKey, place: u32)
     }
 }
 
+/// Takes the place of the claimed key away.
+fn clear(places: &mut BTreeMap<TxKey, u32>, claimed: &Option<TxKey>)
+    ensures { (q : TxKey) → tree.get key_cmp places.new q ≡ cleared claimed.now q (tree.get key_cmp places.old q) }
+{
+    if let Some(key) = claimed {
+        places.remove(key);
+    }
+}
+
+/// Whether it is the claimed key.
+fn is_claimed(claimed: &Option<TxKey>, key: &TxKey) -> bool
+    ensures { result ≡ is_key claimed.now key.now }
+{
+    match claimed {
+        Some(claimed) => claimed.is_same(key),
+        None => false,
+    }
+}
+
 impl Index {
     /// The index of no entry. Takes no memory.
     pub fn new(alloc: Global) -> Index
@@ -124,6 +145,7 @@ impl Index {
             places: BTreeMap::new(alloc),
             lefts: BTreeMap::new(alloc),
             counts: BTreeMap::new(alloc),
+            claimed: None,
         }
     }
 
@@ -148,36 +170,40 @@ impl Index {
         hold_count(&self.counts, hold)
     }
 
-    /// Gives a new key its place. Where the key has a place, it keeps it, and that place is told.
-    pub fn claim(&mut self, key: &TxKey, place: u32) -> Result<Option<u32>, AllocError>
-        ensures known { IfOk result (λ known. known ≡ tree.get key_cmp self.old.places key.now) }
-        ensures claimed { IfOk result (λ known. known ≡ None → (q : TxKey) →
-            tree.get key_cmp self.new.places q
-            ≡ (if same_key key.now q then Some place else tree.get key_cmp self.old.places q)) }
-        ensures kept { IfOk result (λ known. is_some known ≡ true → AnswersAlike self.new self.old) }
-        ensures unchanged { OnErr result (AnswersAlike self.new self.old) }
-        ensures lefts { self.new.lefts ≡ self.old.lefts }
-        ensures counts { self.new.counts ≡ self.old.counts }
+    /// Gives a new key the next place, which no other key claims any longer. Where the key has a place, that is
+    /// told.
+    pub fn claim(&mut self, key: &TxKey, next: u32) -> Result<Option<u32>, AllocError>
+        ensures kept { (es : List Entry) → IsIndexOf self.old es → next ≡ length es → IsIndexOf self.new es }
+        ensures known { IfOk result (λ known. (es : List Entry) → IsIndexOf self.old es
+            → known ≡ place_of es key.now) }
+        ensures claimed { IfOk result (λ known. known ≡ None → self.new.claimed ≡ Some key.now) }
+        ensures new { OnErr result ((es : List Entry) → IsIndexOf self.old es → place_of es key.now ≡ None) }
     {
-        if let Some(known) = self.places.insert(*key, place)? {
+        clear(&mut self.places, &self.claimed);
+        self.claimed = None;
+        if let Some(known) = self.places.insert(*key, next)? {
             put_back(&mut self.places, key, known);
             return Ok(Some(known));
         }
+        self.claimed = Some(*key);
         Ok(None)
     }
 
-    /// Takes the place of a key away again.
-    pub fn give_up(&mut self, key: &TxKey)
-        ensures places { (q : TxKey) → tree.get key_cmp self.new.places q
-            ≡ (if is_eq (key_cmp key.now q) then None else tree.get key_cmp self.old.places q) }
-        ensures lefts { self.new.lefts ≡ self.old.lefts }
-        ensures counts { self.new.counts ≡ self.old.counts }
+    /// As `claim`, unless the key claims the next place already.
+    pub fn secure(&mut self, key: &TxKey, next: u32) -> Result<(), AllocError>
+        ensures kept { (es : List Entry) → IsIndexOf self.old es → next ≡ length es → IsIndexOf self.new es }
+        ensures claimed { OnOk result ((es : List Entry) → IsIndexOf self.old es
+            → entry_at es key.now ≡ None → self.new.claimed ≡ Some key.now) }
     {
-        self.places.remove(key);
+        if is_claimed(&self.claimed, key) {
+            return Ok(());
+        }
+        self.claim(key, next)?;
+        Ok(())
     }
 
     /// Keeps what an order leaves of the key that it names, and the hold that one more or one fewer entry
-    /// completes. All of it, or nothing where there is no memory for it.
+    /// completes. All of it, or nothing where there is no memory for it. No key claims a place then.
     pub fn keep(
         &mut self,
         order: &Order,
@@ -188,6 +214,8 @@ impl Index {
         requires few { IfSome added (λ h. hold_count self.old.counts h.key h.pan < 1000000) }
         requires counted { IfSome dropped (λ h. 1 ≤ hold_count self.old.counts h.key h.pan) }
         ensures places { self.new.places ≡ self.old.places }
+        ensures settled { OnOk result (self.new.claimed ≡ None) }
+        ensures claimed { OnErr result (self.new.claimed ≡ self.old.claimed) }
         ensures lefts { OnOk result ((key : TxKey) → tree.get key_cmp self.new.lefts key
             ≡ option_or (tree.get key_cmp self.old.lefts key)
             (if is_key (undone_key order.now.act) key then Some (left_by order.now.act) else None)) }
@@ -196,6 +224,8 @@ impl Index {
         ensures lefts_kept { OnErr result ((key : TxKey) → tree.get key_cmp self.new.lefts key ≡ tree.get key_cmp self.old.lefts key) }
         ensures counts_kept { OnErr result ((key : TxKey) → (pan : AccountNumber) → hold_count self.new.counts key pan ≡ hold_count self.old.counts key pan) }
     {
-        keep(&mut self.lefts, &mut self.counts, order, added, dropped)
+        keep(&mut self.lefts, &mut self.counts, order, added, dropped)?;
+        self.claimed = None;
+        Ok(())
     }
 }

@@ -2,7 +2,7 @@
 
 ghost use Rattle.std.specs.Prelude.{◌≡◌, ◌≢◌, ◌≤◌, ◌<◌, ◌↔◌, ◌++◌, ◌∷◌, []};
 ghost use Rattle.std.specs.Prelude.{IsTrue, true, false, length, map, sum_by, take, slice_get, is_some, IfSome, IfOk, OnOk, OnErr, IfErr, IsOk, option_map};
-ghost use Rattle.iso_issuer.specs.declared.fault.Refused.TheVariants.{Memory};
+ghost use Rattle.iso_issuer.specs.declared.fault.Refused.TheVariants.{Full, Memory};
 ghost use Rattle.iso_issuer.specs.Account.{account_of};
 ghost use Rattle.iso_issuer.specs.Journal.{firsts, is_entered, HasDistinctKeys};
 ghost use Rattle.iso_issuer.specs.Balance.{total, ledger, available, balance_on};
@@ -68,24 +68,22 @@ impl Issuer {
         }
     }
 
-    /// Decides and enters an order, where its key is new and there is memory for it. Else nothing changes.
-    fn enter(&mut self, order: &Order) -> Option<Answer>
-        requires { length self.old.orders < self.old.limit }
-        ensures new { is_some result ≡ true → is_entered self.old.orders order.now.key ≡ false }
-        ensures answer { IfSome result (λ answer.
+    /// Decides and enters an order of a new key, where there is room.
+    fn enter(&mut self, order: &Order) -> Result<Answer, Refused>
+        requires new { is_entered self.old.orders order.now.key ≡ false }
+        requires below { length self.old.orders < self.old.limit }
+        ensures answer { IfOk result (λ answer.
             answer ≡ new_answer self.old.accounts (journal self.old) order.now) }
-        ensures entered { is_some result ≡ true
-            → self.new ≡ record self.old { orders = self.old.orders ++ order.now ∷ [] } }
-        ensures unchanged { is_some result ≡ false → self.new ≡ self.old }
+        ensures entered { OnOk result
+            (self.new ≡ record self.old { orders = self.old.orders ++ order.now ∷ [] }) }
+        ensures memory { IfErr result (λ e. e ≡ Memory) }
+        ensures unchanged { OnErr result (self.new ≡ self.old) }
     {
         let effect = effect_of(order);
         let found = self.journal.find(order, &effect);
         let placed = balance_for(&self.balances, order);
         let answer = new_answer(&self.journal, &placed, order, &effect, found.left);
-        match self.journal.enter(order, &effect, answer, &found) {
-            Ok(true) => {}
-            Ok(false) | Err(_) => return None,
-        }
+        self.journal.enter(order, &effect, answer, &found)?;
         let entry = Entry {
             order: *order,
             answer,
@@ -98,53 +96,23 @@ impl Issuer {
             place_in(&placed),
             &found,
         );
-        Some(answer)
+        Ok(answer)
     }
 
-    /// Decides and enters an order, where its key is new, and there are room and memory for it. Else
-    /// nothing changes.
-    fn enter_in_room(&mut self, order: &Order) -> Option<Answer>
-        ensures new { is_some result ≡ true → is_entered self.old.orders order.now.key ≡ false }
-        ensures below { is_some result ≡ true → length self.old.orders < self.old.limit }
-        ensures decided { IfSome result (λ answer.
-            answer ≡ new_answer self.old.accounts (journal self.old) order.now) }
-        ensures answer { IfSome result (λ answer.
-            answer ≡ answer_for self.old.accounts (journal self.old) order.now) }
-        ensures entered { is_some result ≡ true
-            → self.new ≡ record self.old { orders = firsts (self.old.orders ++ order.now ∷ []) } }
-        ensures kept { is_some result ≡ true → self.new ≡ record self.old {
-          orders = take self.old.limit (firsts (self.old.orders ++ order.now ∷ []));
-        } }
-        ensures unchanged { is_some result ≡ false → self.new ≡ self.old }
-    {
-        if self.journal.len() < self.limit as usize {
-            self.enter(order)
-        } else {
-            None
-        }
-    }
-
-    /// The answer to an order that could not be entered: the first answer again or 94 where its key is
-    /// known, else what it is refused for.
-    fn answer_known(&self, order: Order) -> Result<Answer, Refused>
+    /// Answers an order where the journal is at its limit: a repeat gets the first answer again.
+    fn answer_full(&self, order: Order) -> Result<Answer, Refused>
+        requires { length self.now.orders ≡ self.now.limit }
         ensures repeat { IsTrue (is_entered self.now.orders order.key) → IsOk result }
         ensures answer { IfOk result (λ answer. answer ≡ answer_for self.now.accounts (journal self.now) order) }
-        ensures known { OnOk result (is_entered self.now.orders order.key ≡ true) }
-        ensures entered { OnOk result (firsts (self.now.orders ++ order ∷ []) ≡ self.now.orders) }
-        ensures kept { result ≢ Err Refused.Memory
-            → take self.now.limit (firsts (self.now.orders ++ order ∷ [])) ≡ self.now.orders }
         ensures shown { IfOk result (λ answer. is_shown_for order.act answer.shown ≡ true) }
+        ensures entered { OnOk result (firsts (self.now.orders ++ order ∷ []) ≡ self.now.orders) }
+        ensures kept { take self.now.limit (firsts (self.now.orders ++ order ∷ [])) ≡ self.now.orders }
         ensures full { (result ≡ Err Refused.Full) ↔ IsFullFor self.now order.key }
-        ensures memory { result ≡ Err Refused.Memory → IsRoomFor self.now order.key }
+        ensures refused { IfErr result (λ e. e ≡ Full) }
     {
         match self.journal.get(order.key()) {
             Some(entry) => Ok(repeat_answer(entry, order)),
-            None => {
-                if self.journal.len() >= self.limit as usize {
-                    return Err(Refused::Full);
-                }
-                Err(Refused::Memory)
-            }
+            None => Err(Refused::Full),
         }
     }
 
@@ -170,9 +138,13 @@ impl Issuer {
         ensures memory { result ≡ Err Refused.Memory → IsRoomFor self.old order.key }
         ensures unchanged { OnErr result (self.new ≡ self.old) }
     {
-        match self.enter_in_room(&order) {
-            Some(answer) => Ok(answer),
-            None => self.answer_known(order),
+        if self.journal.len() >= self.limit as usize {
+            return self.answer_full(order);
+        }
+        match self.journal.claim(&order.key()) {
+            Ok(Some(entry)) => Ok(repeat_answer(entry, order)),
+            Ok(None) => self.enter(&order),
+            Err(_) => Err(Refused::Memory),
         }
     }
 

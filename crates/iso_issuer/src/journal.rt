@@ -187,6 +187,8 @@ fn store(
     ensures shown { OnOk result ((at : ℕ) → tree.get nat_cmp shown.new at
         ≡ (if at == length orders.old.items then entry.answer.shown else tree.get nat_cmp shown.old at)) }
     ensures places { index.new.places ≡ index.old.places }
+    ensures settled { OnOk result (index.new.claimed ≡ None) }
+    ensures claimed { OnErr result (index.new.claimed ≡ index.old.claimed) }
     ensures lefts { OnOk result ((key : TxKey) → tree.get key_cmp index.new.lefts key
         ≡ option_or (tree.get key_cmp index.old.lefts key)
         (if is_key (undone_key entry.order.act) key then Some (left_by entry.order.act) else None)) }
@@ -275,7 +277,20 @@ impl Journal {
         ensures { result ≡ entry_at self.now key }
     {
         let place = self.index.place(key)?;
-        Some(self.at(place as usize))
+        self.entry(place as usize)
+    }
+
+    /// The entry of a key, where there is one. A new key claims the next place, before its order is entered.
+    pub fn claim(&mut self, key: &TxKey) -> Result<Option<Entry>, AllocError>
+        ensures same { self.new ≡ self.old }
+        ensures entry { IfOk result (λ entry. entry ≡ entry_at self.old key.now) }
+        ensures new { OnErr result (entry_at self.old key.now ≡ None) }
+    {
+        let next = self.orders.len() as u32;
+        match self.index.claim(key, next)? {
+            Some(place) => Ok(self.entry(place as usize)),
+            None => Ok(None),
+        }
     }
 
     /// What the first reversal of this key leaves, where there is one.
@@ -441,24 +456,23 @@ impl Journal {
         }
     }
 
-    /// Enters an order of a new key, which has this effect, with its answer, and tells whether the key was
-    /// new. Where it wasn't, or there is no memory for it, whatever the call added is taken away again.
+    /// Enters an order of a new key, which has this effect, with its answer. Where there is no memory for
+    /// it, whatever the call added is taken away again.
     pub fn enter(
         &mut self,
         order: &Order,
         effect: &Option<Effect>,
         answer: Answer,
         found: &Found,
-    ) -> Result<bool, AllocError>
+    ) -> Result<(), AllocError>
         requires effect { effect.now ≡ effect_of order.now }
         requires found { IsFoundFor self.old order.now found.now }
+        requires new { entry_at self.old order.now.key ≡ None }
         requires distinct { HasDistinctKeys (map (λ e. e.order) self.old) }
         requires few { length self.old < 999999 }
         requires seq { answer.seq ≡ length self.old + 1 }
-        ensures new { IfOk result (λ new. new ≡ true → entry_at self.old order.now.key ≡ None) }
-        ensures entered { IfOk result (λ new. new ≡ true
-            → self.new ≡ self.old ++ record { order = order.now; answer = answer } ∷ []) }
-        ensures kept { IfOk result (λ new. new ≡ false → self.new ≡ self.old) }
+        ensures ok { OnOk result
+            (self.new ≡ self.old ++ record { order = order.now; answer = answer } ∷ []) }
         ensures unchanged { OnErr result (self.new ≡ self.old) }
     {
         let entry = Entry {
@@ -467,13 +481,9 @@ impl Journal {
         };
         let added = added_by(found.left, &entry, effect);
         let dropped = dropped_by(order, &found.reversed);
-        let key = order.key();
-        let place = self.orders.len() as u32;
-        match self.index.claim(&key, place)? {
-            Some(_) => return Ok(false),
-            None => {}
-        }
-        match store(
+        let next = self.orders.len() as u32;
+        self.index.secure(&order.key(), next)?;
+        store(
             &mut self.orders,
             &mut self.codes,
             &mut self.shown,
@@ -481,12 +491,7 @@ impl Journal {
             entry,
             added,
             dropped,
-        ) {
-            Ok(()) => Ok(true),
-            Err(fault) => {
-                self.index.give_up(&key);
-                Err(fault)
-            }
-        }
+        )?;
+        Ok(())
     }
 }

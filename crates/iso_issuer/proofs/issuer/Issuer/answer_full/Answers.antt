@@ -11,34 +11,29 @@ use Rattle.iso_issuer.proofs.Firsts.{firsts-known, firsts-distinct}
 use Rattle.iso_issuer.proofs.Kept.{kept-known, kept-full}
 use Rattle.iso_issuer.proofs.Shown.{answer-shown}
 use Rattle.iso_issuer.proofs.Entries.{entered-found, never, full-new, full-known}
-use Rattle.iso_issuer.proofs.issuer.Issuer.answer_known.Goals as goal
+use Rattle.iso_issuer.proofs.issuer.Issuer.answer_full.Goals as goal
 
-pub returns-then-len-self-clause-full : goal.returns-then-len-self-clause-full
-returns-then-len-self-clause-full c =
+pub returns-in-None-clause-full : goal.returns-in-None-clause-full
+returns-in-None-clause-full c =
     let found : entry_at c.self.inside.journal c.args.order.key ≡ None = sym (c.in-None.ensures ∙ ap (entry_at c.self.inside.journal) c.key.ensures.value) in
     let books : Books = record { accounts = accounts_of c.self.inside.balances; limit = c.self.inside.limit; orders = map (λ (e : Entry). e.order) c.self.inside.journal } in
     let full = full-new books c.args.order.key (entered-found c.self.inside.journal c.args.order.key ∙ ap is_some found)
-    (omega (arith, length-map c.self.inside.journal (λ (e : Entry). e.order), c.if-len-self.true, c.len.ensures)) in
+    (omega (arith, rw (← c.self.view_is) at c.requires)) in
     rw (← c.self.view_is) ((λ e. full), (λ h. refl))
 
-pub returns-then-len-self-clause-repeat : goal.returns-then-len-self-clause-repeat
-returns-then-len-self-clause-repeat c =
+pub returns-in-None-clause-repeat : goal.returns-in-None-clause-repeat
+returns-in-None-clause-repeat c =
     let found : entry_at c.self.inside.journal c.args.order.key ≡ None = sym (c.in-None.ensures ∙ ap (entry_at c.self.inside.journal) c.key.ensures.value) in
     rw (← c.self.view_is) (λ h. absurd (never _ (entered-found c.self.inside.journal c.args.order.key ∙ ap is_some found) h))
 
-pub returns-then-len-self-clause-kept : goal.returns-then-len-self-clause-kept
-returns-then-len-self-clause-kept c = λ other.
+pub returns-in-None-clause-kept : goal.returns-in-None-clause-kept
+returns-in-None-clause-kept c =
     let found : entry_at c.self.inside.journal c.args.order.key ≡ None = sym (c.in-None.ensures ∙ ap (entry_at c.self.inside.journal) c.key.ensures.value) in
     let orders = map (λ (e : Entry). e.order) c.self.inside.journal in
     rw (← c.self.view_is)
     (kept-full c.self.inside.limit orders c.args.order c.self.invariant.0.distinct
-    (omega (arith, c.self.invariant.0.few, length-map c.self.inside.journal (λ (e : Entry). e.order), c.if-len-self.true, c.len.ensures))
+    (omega (arith, rw (← c.self.view_is) at c.requires))
     (entered-found c.self.inside.journal c.args.order.key ∙ ap is_some found))
-
-pub returns-in-Some-clause-known : goal.returns-in-Some-clause-known
-returns-in-Some-clause-known c =
-    let found : entry_at c.self.inside.journal c.args.order.key ≡ Some c.in-Some.entry = sym (c.in-Some.ensures ∙ ap (entry_at c.self.inside.journal) c.key.ensures.value) in
-    rw (← c.self.view_is) (entered-found c.self.inside.journal c.args.order.key ∙ ap is_some found)
 
 pub returns-in-Some-clause-full : goal.returns-in-Some-clause-full
 returns-in-Some-clause-full c =
@@ -56,7 +51,7 @@ returns-in-Some-clause-entered c =
     ∙ firsts-distinct orders c.self.invariant.0.distinct)
 
 pub returns-in-Some-clause-kept : goal.returns-in-Some-clause-kept
-returns-in-Some-clause-kept c = λ other.
+returns-in-Some-clause-kept c =
     let found : entry_at c.self.inside.journal c.args.order.key ≡ Some c.in-Some.entry = sym (c.in-Some.ensures ∙ ap (entry_at c.self.inside.journal) c.key.ensures.value) in
     let orders = map (λ (e : Entry). e.order) c.self.inside.journal in
     rw (← c.self.view_is)
@@ -72,20 +67,3 @@ returns-in-Some-clause-shown c =
     let answer : c.repeat_answer.result ≡ answer_for accounts (journal_of accounts orders) c.args.order =
     c.repeat_answer.ensures ∙ sym (ap (answer_by accounts es c.args.order) found) ∙ ap (λ (j : List Entry). answer_for accounts j c.args.order) c.self.invariant.0.decided in
     ap (λ (a : Outcome). is_shown_for c.args.order.act a.shown) answer ∙ answer-shown accounts orders c.args.order
-
-pub returns-else-len-self-clause-repeat : goal.returns-else-len-self-clause-repeat
-returns-else-len-self-clause-repeat c =
-    let found : entry_at c.self.inside.journal c.args.order.key ≡ None = sym (c.in-None.ensures ∙ ap (entry_at c.self.inside.journal) c.key.ensures.value) in
-    rw (← c.self.view_is) (λ h. absurd (never _ (entered-found c.self.inside.journal c.args.order.key ∙ ap is_some found) h))
-
-pub returns-else-len-self-clause-kept : goal.returns-else-len-self-clause-kept
-returns-else-len-self-clause-kept c = λ other. absurd (other refl)
-
-pub returns-else-len-self-clause-memory : goal.returns-else-len-self-clause-memory
-returns-else-len-self-clause-memory c = λ memory.
-    let found : entry_at c.self.inside.journal c.args.order.key ≡ None = sym (c.in-None.ensures ∙ ap (entry_at c.self.inside.journal) c.key.ensures.value) in
-    rw (← c.self.view_is)
-    record {
-      below = omega (arith, length-map c.self.inside.journal (λ (e : Entry). e.order), c.if-len-self.false, c.len.ensures);
-      new = entered-found c.self.inside.journal c.args.order.key ∙ ap is_some found;
-    }
