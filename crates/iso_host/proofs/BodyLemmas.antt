@@ -28,7 +28,7 @@ takes_all size (Ok x) m e = by_test (eqb x.1 size) refl e
 takes_all size (Err f) m e = cc
 
 -- and then the message is there
-is_there : (size : ℕ) (m : Contents) → whole_by size (whole m size) ≡ Some m
+pub is_there : (size : ℕ) (m : Contents) → whole_by size (whole m size) ≡ Some m
 is_there size m = ap (λ (b : Bool). cond b (Some m) None) (eq-eqb size size refl)
 
 pub bodies_spelled : ReadsSpellings → BodiesAreSpellings

@@ -1,9 +1,9 @@
 -- Room for a header, and a body behind it.
-use Rattle.std.proofs.Common.{◌≡◌, ℕ, ◌≤◌, List, [], ◌++◌, length, drop, replicate, ap, ◌∙◌, arith}
-use Rattle.std.proofs.lemmas.List.{drop_at, length-replicate}
+use Rattle.std.proofs.Common.{◌≡◌, ℕ, ◌≤◌, List, [], ◌++◌, length, take, drop, replicate, sym, ap, ◌∙◌, arith, append_assoc}
+use Rattle.std.proofs.lemmas.List.{take_at, drop_at, length-replicate}
 use Rattle.iso_wire.specs.declared.header.Header.{Header}
 use Rattle.iso_wire.specs.declared.header.Header.TheVariants.{Binary2, Ascii4, Bcd2}
-use Rattle.iso_wire.specs.Framing.{header_size, largest}
+use Rattle.iso_wire.specs.Framing.{header_size, largest, frame_of}
 
 -- each header can count 9,999 bytes
 pub short_fits : (h : Header) (n : ℕ) → n ≤ 9999 → n ≤ largest h
@@ -16,3 +16,14 @@ pub behind_room : (h : Header) (none room all body : List ℕ) → none ≡ [] �
 behind_room h none room all body empty first second =
     let front : room ≡ replicate (header_size h) 0 = first ∙ ap (λ (l : List ℕ). l ++ replicate (header_size h) 0) empty in
     ap (drop (header_size h)) second ∙ drop_at room body (header_size h) (ap length front ∙ length-replicate (header_size h) 0)
+
+-- a body behind room for a header, behind other bytes, becomes a frame behind them
+pub closed_behind : (h : Header) (old room all plain closed : List ℕ) (start : ℕ) → start ≡ length old → room ≡ old ++ replicate (header_size h) 0 → all ≡ room ++ plain
+    → closed ≡ take start all ++ frame_of h (drop (header_size h) (drop start all)) → closed ≡ old ++ frame_of h plain
+closed_behind h old room all plain closed start at first second closes =
+    let zeros = replicate (header_size h) 0 in
+    let behind : all ≡ old ++ (zeros ++ plain) = second ∙ ap (λ (l : List ℕ). l ++ plain) first ∙ append_assoc old zeros plain in
+    let front : take start all ≡ old = ap (take start) behind ∙ take_at old (zeros ++ plain) start (sym at) in
+    let rest : drop start all ≡ zeros ++ plain = ap (drop start) behind ∙ drop_at old (zeros ++ plain) start (sym at) in
+    let body : drop (header_size h) (drop start all) ≡ plain = ap (drop (header_size h)) rest ∙ drop_at zeros plain (header_size h) (length-replicate (header_size h) 0) in
+    closes ∙ ap (λ (l : List ℕ). l ++ frame_of h (drop (header_size h) (drop start all))) front ∙ ap (λ (l : List ℕ). old ++ frame_of h l) body

@@ -1,10 +1,14 @@
+mod AnswerLemmas
 mod BodyLemmas
 mod FrameLemmas
+mod GatherLemmas
 mod JournalLemmas
 mod OutputLemmas
+mod PeerLemmas
 mod PieceLemmas
 mod Running
 mod ServeLemmas
+mod ShareLemmas
 mod StreamLemmas
 mod Walks
 mod WindowLemmas

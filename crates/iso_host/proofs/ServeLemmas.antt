@@ -46,7 +46,7 @@ none_waits None = tt
 none_waits (Some x) = refl
 
 -- no frame begins where there is no byte
-no_byte : (h : Header) → NoFrame h []
+pub no_byte : (h : Header) → NoFrame h []
 no_byte Binary2 body more fits e = cc
 no_byte Ascii4 body more fits e = cc
 no_byte Bcd2 body more fits e = cc

@@ -31,7 +31,7 @@ pub enum Handled {
 }
 
 /// Has the issuer answer an order: 96 where its journal is full.
-fn answer_order(issuer: &mut Issuer, order: Order) -> Result<Answer, NoMemory>
+pub fn answer_order(issuer: &mut Issuer, order: Order) -> Result<Answer, NoMemory>
     ensures answer { IfOk result (λ answer. answer ≡ outcome_for issuer.old order) }
     ensures shown { IfOk result (λ answer. is_shown_for order.act answer.shown ≡ true) }
     ensures entered { OnOk result (issuer.new ≡ books_after issuer.old (order ∷ [])) }

@@ -3,6 +3,7 @@
 ghost use Rattle.iso_host.specs.Asking.{BodiesAreSpellings};
 ghost use Rattle.iso_host.specs.Entering.{BodiesGoOn, StaysWithout};
 ghost use Rattle.iso_host.specs.Output.{OutputOnce};
+ghost use Rattle.iso_host.specs.Sharing.{PeerAlone, PeersShare};
 
 use crate::handling::enters_nothing;
 use iso_issuer::Issuer;
@@ -29,6 +30,21 @@ pub fn one_output()
 pub fn one_journal(issuer: &Issuer)
     ensures none { StaysWithout issuer.now }
     ensures more { BodiesGoOn }
+{
+    firsts_go_on();
+    enters_nothing(issuer);
+}
+
+/// Peers share a host: however the bytes of each are cut into pieces, whichever comes when, whatever the table and the
+/// header of each, and wherever memory runs out, the journal is that of the bodies in the order in which they were
+/// entered, and out of each peer come the answers to its own bodies, each at the books after all bodies that were entered
+/// before it. Out of a peer alone comes the output of its stream.
+///
+/// The calls are those of `Peer::take` that took something or wanted memory, of any number of peers, each before its first
+/// byte when the first of the calls is made. A peer that is dropped in the middle of a frame has no further call.
+pub fn peers_share(issuer: &Issuer)
+    ensures share { PeersShare issuer.now }
+    ensures alone { PeerAlone issuer.now }
 {
     firsts_go_on();
     enters_nothing(issuer);

@@ -10,21 +10,33 @@
 //! - `laws`: what a body asks is what it spells, bodies have one output, and one journal goes on over several streams.
 #![tactic(auto)]
 
+mod answering;
 mod counting;
 mod desk;
 mod fault;
+mod gathering;
+mod handled;
 mod handling;
+mod host;
 mod intake;
 pub mod laws;
+mod link;
+mod peer;
 mod reading;
+mod seen;
 mod serving;
 mod standard;
 mod streams;
+mod taking;
 mod window;
 mod writing;
 
 pub use counting::{Call, Tally};
 pub use fault::{Report, ServeFault};
+pub use handled::{BodyFault, Handled};
+pub use host::Host;
+pub use link::{HostTable, Link};
+pub use peer::{Peer, PeerFault, Taken};
 pub use serving::serve;
 pub use standard::Std;
 pub use streams::{Failed, Inlet, Outlet};

@@ -1,0 +1,81 @@
+-- A body that is answered, or not.
+use Rattle.std.proofs.Common.{◌≡◌, ℕ, ◌<◌, List, [], ◌∷◌, ◌++◌, length, inr, Option, Some, None, Result, Ok, Err, refl, sym, ap, subst, append-nil, ◌∙◌, cond, eqb, Bool, true, false, arith}
+use Rattle.std.specs.Prelude.{option_map, IfOk}
+use Rattle.std.proofs.lemmas.Bool.{eqb-true}
+use Rattle.iso_table.specs.Layout.{Layout}
+use Rattle.iso_wire.specs.declared.fault.UnpackFault.{UnpackFault}
+use Rattle.iso_wire.specs.declared.header.Header.{Header}
+use Rattle.iso_wire.specs.Contents.{Contents}
+use Rattle.iso_wire.specs.Reading.{message_at, whole}
+use Rattle.iso_order.specs.Order.{Instruction}
+use Rattle.iso_order.specs.Outcome.{Outcome}
+use Rattle.iso_order.specs.Response.{response}
+use Rattle.iso_order.specs.Verdict.{verdict}
+use Rattle.iso_order.specs.declared.verdict.Verdict.{Verdict}
+use Rattle.iso_order.specs.declared.verdict.Verdict.TheVariants as asks
+use Rattle.iso_issuer.specs.Books.{Books}
+use Rattle.iso_issuer.specs.Laws.{books_after}
+use Rattle.iso_host.specs.Asking.{message_in, orders_in, whole_by}
+use Rattle.iso_host.specs.Output.{IsAnswerTo, IsFramed, outcome_for, outcome_of, response_with}
+use Rattle.iso_host.specs.Hosting.{AnswersMessage, Answers, IsBodyFault, IsHandled, IsHandledBy}
+use Rattle.iso_host.specs.Handling.{EntersOrKeeps}
+use Rattle.iso_host.specs.declared.handled.BodyFault.{BodyFault}
+use Rattle.iso_host.specs.declared.handled.BodyFault.TheVariants.{Stops, Behind}
+use Rattle.iso_host.specs.declared.handled.Handled.{Handled}
+use Rattle.iso_host.specs.declared.handled.Handled.TheVariants as handled
+
+-- where there is no message
+pub answers_none : (t : Layout) (h : Header) (books : Books) (message : Option Contents) (out : List ℕ) → message ≡ None → books_after books [] ≡ books → AnswersMessage t h books books message out out
+unfolding IsAnswerTo
+answers_none t h books message out none kept =
+    subst (λ (m : Option Contents). AnswersMessage t h books books m out out) (sym none) (sym kept, ([], refl, sym (append-nil out)))
+
+-- the message that the whole body is
+pub answers_some : (t : Layout) (h : Header) (old new : Books) (body : List ℕ) (m : Contents) (out grown : List ℕ) → message_in t body ≡ Some m → AnswersMessage t h old new (Some m) out grown → Answers t h old new body out grown
+answers_some t h old new body m out grown is answers = subst (λ (o : Option Contents). AnswersMessage t h old new o out grown) (sym is) answers
+
+pub enters_some : (t : Layout) (h : Header) (old new : Books) (body : List ℕ) (m : Contents) → message_in t body ≡ Some m → EntersOrKeeps t h old new (Some m) → EntersOrKeeps t h old new (message_in t body)
+enters_some t h old new body m is enters = subst (EntersOrKeeps t h old new) (sym is) enters
+
+pub handled_some : (t : Layout) (books : Books) (body : List ℕ) (m : Contents) (handled : Handled) → message_in t body ≡ Some m → IsHandledBy books (verdict m) handled → IsHandled t books body handled
+unfolding IsHandled
+handled_some t books body m (handled.Unreadable fault) is told = absurd told
+handled_some t books body m handled.Silent is told = ap (option_map verdict) is ∙ ap Some told
+handled_some t books body m (handled.Replied code) is told = ap (option_map verdict) is ∙ ap Some told
+handled_some t books body m (handled.Ordered key code seq) is (o, told, key_is, code_is, seq_is) = (o, ap (option_map verdict) is ∙ ap Some told, key_is, code_is, seq_is)
+
+pub handled_none : (t : Layout) (books : Books) (body : List ℕ) (fault : BodyFault) → IsBodyFault t body fault → IsHandled t books body (handled.Unreadable fault)
+unfolding IsHandled
+handled_none t books body fault is = is
+
+-- a body with a fault is no message
+pub no_message : (t : Layout) (body : List ℕ) (fault : BodyFault) → IsBodyFault t body fault → message_in t body ≡ None
+unfolding message_in
+no_message t body (Stops e) is = ap (whole_by (length body)) is
+no_message t body (Behind end) ((m, is), before) = ap (whole_by (length body)) is ∙ by_test (eqb end (length body)) refl
+  where
+    by_test : (b : Bool) → eqb end (length body) ≡ b → cond b (Some m) None ≡ None
+    by_test true same = absurd (omega (arith, before, eqb-true end (length body) same))
+    by_test false same = refl
+
+-- a message that gets no answer
+pub answers_silent : (t : Layout) (h : Header) (books : Books) (m : Contents) (out : List ℕ) → verdict m ≡ asks.Silent → books_after books [] ≡ books → AnswersMessage t h books books (Some m) out out
+unfolding IsAnswerTo
+answers_silent t h books m out silent kept = (
+  sym kept ∙ ap (λ (v : Verdict). books_after books (orders_in (Some v))) (sym silent),
+  ([], subst (λ (v : Verdict). IsFramed t h (response_with m (outcome_of books v)) []) (sym silent) refl, sym (append-nil out)),
+)
+
+-- what came of a body whose message was answered
+pub handled_body : (E : Type 0) (t : Layout) (books : Books) (body : List ℕ) (m : Contents) (result : Result Handled E) → message_in t body ≡ Some m → IfOk result (IsHandledBy books (verdict m)) → IfOk result (IsHandled t books body)
+handled_body E t books body m (Ok handled) is told = handled_some t books body m handled is told
+handled_body E t books body m (Err e) is told = told
+
+-- an order was entered, and has an answer
+pub enters_order : (t : Layout) (h : Header) (old new : Books) (m : Contents) (o : Instruction) (answer : Outcome) → verdict m ≡ asks.Order o → answer ≡ outcome_for old o → new ≡ books_after old (o ∷ [])
+    → (bytes : List ℕ) × IsFramed t h (Some (response m answer)) bytes → EntersOrKeeps t h old new (Some m)
+unfolding IsAnswerTo
+enters_order t h old new m o answer asked same entered (bytes, framed) = inr (
+  entered ∙ ap (λ (v : Verdict). books_after old (orders_in (Some v))) (sym asked),
+  (bytes, subst (λ (v : Verdict). IsFramed t h (response_with m (outcome_of old v)) bytes) (sym asked) (subst (λ (a : Outcome). IsFramed t h (Some (response m a)) bytes) same framed)),
+)

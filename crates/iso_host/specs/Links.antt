@@ -1,0 +1,8 @@
+-- What one side of a line has agreed on with a host.
+use Rattle.iso_table.specs.Layout.{Layout}
+use Rattle.iso_wire.specs.declared.header.Header.{Header}
+
+-- the table of its messages, and the header of its frames
+pub record Agreed : Type 0 where
+  pub table : Layout
+  pub header : Header

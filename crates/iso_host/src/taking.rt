@@ -1,0 +1,249 @@
+//! One step of a peer: bytes that come are taken, up to the end of a frame.
+ghost use Rattle.std.specs.Prelude.{◌≡◌, ◌<◌, ◌≤◌, ◌++◌, [], length, IfOk, IfErr, OnOk, OnErr};
+ghost use Rattle.iso_table.specs.HostReady.{IsHostReady};
+ghost use Rattle.iso_host.specs.Asking.{message_in};
+ghost use Rattle.iso_host.specs.Beginning.{head_of, held_of, IsBegun, IsInBody, IsInHeader};
+ghost use Rattle.iso_host.specs.Handling.{EntersOrKeeps};
+ghost use Rattle.iso_host.specs.Hosting.{Answers, IsHandled};
+ghost use Rattle.iso_host.specs.Peers.{Takes, Refuses};
+
+use crate::answering::{Rooms, answer_body, answer_request};
+use crate::gathering::Gathering;
+use crate::handled::Handled;
+use crate::handling::enters_nothing;
+use crate::peer::{PeerFault, Taken};
+use iso_issuer::Issuer;
+use iso_order::NoMemory;
+use iso_table::Table;
+use iso_wire::laws::splits_once;
+use iso_wire::{Header, body_length};
+
+/// The frame that has begun: the bytes of its header that came, so many, and how many of its body are still to come.
+#[derive(Clone, Copy)]
+pub struct Begun {
+    pub head: [u8; 4],
+    pub count: usize,
+    pub left: usize,
+}
+
+/// No frame has begun.
+pub const NOT_BEGUN: Begun = Begun {
+    head: [0; 4],
+    count: 0,
+    left: 0,
+};
+
+/// Takes one byte of a header. Where it ends the frame of an empty body, that is answered.
+#[cold]
+fn take_header_byte(
+    table: &Table,
+    header: Header,
+    begun: &mut Begun,
+    issuer: &mut Issuer,
+    rooms: &mut Rooms,
+    bytes: &[u8],
+    out: &mut Vec<u8>,
+) -> Result<Taken, PeerFault>
+    requires ready { IsHostReady table.now }
+    requires between { begun.old.left ≡ 0 }
+    requires outside { IsInHeader header begun.old [] }
+    ensures took { IfOk result (Takes table.now header (head_of begun.old) (head_of begun.new) issuer.old issuer.new
+        bytes.now out.old.items out.new.items) }
+    ensures refused { IfErr result (Refuses table.now header (head_of begun.old) issuer.old issuer.new bytes.now) }
+    ensures begun { IsBegun header begun.new [] }
+    ensures held { OnErr result (begun.new ≡ begun.old) }
+    ensures unchanged { OnErr result (out.new.items ≡ out.old.items) }
+{
+    // the laws that a header and fewer bytes than it counts need more, and that a bad one stays so, for the prover
+    splits_once();
+    if bytes.is_empty() {
+        return Ok(Taken {
+            used: 0,
+            handled: None,
+        });
+    }
+    let mut head = begun.head;
+    head[begun.count] = bytes[0];
+    let count = begun.count + 1;
+    let told = body_length(header, &head[..count]);
+    match told {
+        Err(_) => Err(PeerFault::BadHeader),
+        Ok(Some(0)) => match answer_body(table, header, issuer, rooms, &[], out) {
+            Err(_) => Err(PeerFault::Memory),
+            Ok(handled) => {
+                begun.count = 0;
+                Ok(Taken {
+                    used: 1,
+                    handled: Some(handled),
+                })
+            }
+        },
+        Ok(length) => {
+            *begun = Begun {
+                head,
+                count,
+                left: length.unwrap_or(0),
+            };
+            Ok(Taken {
+                used: 1,
+                handled: None,
+            })
+        }
+    }
+}
+
+/// Takes bytes between two frames: a whole frame is answered where it lies.
+#[inline(always)]
+fn take_first(
+    table: &Table,
+    header: Header,
+    begun: &mut Begun,
+    issuer: &mut Issuer,
+    rooms: &mut Rooms,
+    bytes: &[u8],
+    out: &mut Vec<u8>,
+) -> Result<Taken, PeerFault>
+    requires ready { IsHostReady table.now }
+    requires between { begun.old.left ≡ 0 }
+    requires none { begun.old.count ≡ 0 }
+    ensures took { IfOk result (Takes table.now header (head_of begun.old) (head_of begun.new) issuer.old issuer.new
+        bytes.now out.old.items out.new.items) }
+    ensures refused { IfErr result (Refuses table.now header (head_of begun.old) issuer.old issuer.new bytes.now) }
+    ensures begun { IsBegun header begun.new [] }
+    ensures held { OnErr result (begun.new ≡ begun.old) }
+    ensures unchanged { OnErr result (out.new.items ≡ out.old.items) }
+{
+    match body_length(header, bytes) {
+        Err(_) => Err(PeerFault::BadHeader),
+        Ok(Some(length)) if length <= bytes.len() - header.size() => {
+            let (_, rest) = bytes.split_at(header.size());
+            match answer_body(table, header, issuer, rooms, &rest[..length], out) {
+                Err(_) => Err(PeerFault::Memory),
+                Ok(handled) => Ok(Taken {
+                    used: header.size() + length,
+                    handled: Some(handled),
+                }),
+            }
+        }
+        Ok(_) => take_header_byte(table, header, begun, issuer, rooms, bytes, out),
+    }
+}
+
+/// Answers the body whose last bytes are these.
+fn answer_last(
+    table: &Table,
+    header: Header,
+    gathering: &mut Gathering<'_>,
+    issuer: &mut Issuer,
+    rooms: &mut Rooms,
+    piece: &[u8],
+    out: &mut Vec<u8>,
+) -> Result<Handled, NoMemory>
+    requires ready { IsHostReady table.now }
+    requires same { gathering.old.table ≡ table.now }
+    requires some { 0 < length piece.now }
+    requires few { length gathering.old.part ≤ 65535 }
+    ensures answered { OnOk result (Answers table.now header issuer.old issuer.new (gathering.old.part ++ piece.now)
+        out.old.items out.new.items) }
+    ensures handled { IfOk result (IsHandled table.now issuer.old (gathering.old.part ++ piece.now)) }
+    ensures memory { OnErr result (EntersOrKeeps table.now header issuer.old issuer.new
+        (message_in table.now (gathering.old.part ++ piece.now))) }
+    ensures unchanged { OnErr result (out.new.items ≡ out.old.items) }
+    ensures kept { gathering.new ≡ gathering.old }
+{
+    // the law that without an order the books stay as they are, for the prover
+    enters_nothing(issuer);
+    match gathering.read(piece, &mut rooms.request) {
+        Err(fault) => Err(fault),
+        Ok(Some(fault)) => Ok(Handled::Unreadable(fault)),
+        Ok(None) => answer_request(table, header, issuer, rooms, out),
+    }
+}
+
+/// Takes bytes of a body, and answers it where they are its last.
+fn take_body(
+    table: &Table,
+    header: Header,
+    begun: &mut Begun,
+    gathering: &mut Gathering<'_>,
+    issuer: &mut Issuer,
+    rooms: &mut Rooms,
+    bytes: &[u8],
+    out: &mut Vec<u8>,
+) -> Result<Taken, PeerFault>
+    requires ready { IsHostReady table.now }
+    requires same { gathering.old.table ≡ table.now }
+    requires more { 0 < begun.old.left }
+    requires inside { IsInBody header begun.old gathering.old.part }
+    ensures took { IfOk result (Takes table.now header (held_of begun.old gathering.old.part) (held_of begun.new gathering.new.part)
+        issuer.old issuer.new bytes.now out.old.items out.new.items) }
+    ensures refused { IfErr result (Refuses table.now header (held_of begun.old gathering.old.part) issuer.old issuer.new bytes.now) }
+    ensures begun { IsBegun header begun.new gathering.new.part }
+    ensures held { OnErr result (begun.new ≡ begun.old) }
+    ensures gathered { OnErr result (gathering.new.part ≡ gathering.old.part) }
+    ensures unchanged { OnErr result (out.new.items ≡ out.old.items) }
+    ensures table { gathering.new.table ≡ gathering.old.table }
+{
+    // the law that a header and fewer bytes than it counts need more, for the prover
+    splits_once();
+    let left = begun.left;
+    if bytes.len() < left {
+        return match gathering.gather(bytes) {
+            Err(_) => Err(PeerFault::Memory),
+            Ok(()) => {
+                begun.left = left - bytes.len();
+                Ok(Taken {
+                    used: bytes.len(),
+                    handled: None,
+                })
+            }
+        };
+    }
+    match answer_last(table, header, gathering, issuer, rooms, &bytes[..left], out) {
+        Err(_) => Err(PeerFault::Memory),
+        Ok(handled) => {
+            gathering.clear();
+            begun.count = 0;
+            begun.left = 0;
+            Ok(Taken {
+                used: left,
+                handled: Some(handled),
+            })
+        }
+    }
+}
+
+/// Takes bytes, from the front on, up to the end of a frame, and answers its body.
+#[inline(always)]
+pub fn take_bytes(
+    table: &Table,
+    header: Header,
+    begun: &mut Begun,
+    gathering: &mut Gathering<'_>,
+    issuer: &mut Issuer,
+    rooms: &mut Rooms,
+    bytes: &[u8],
+    out: &mut Vec<u8>,
+) -> Result<Taken, PeerFault>
+    requires ready { IsHostReady table.now }
+    requires same { gathering.old.table ≡ table.now }
+    requires begun { IsBegun header begun.old gathering.old.part }
+    ensures took { IfOk result (Takes table.now header (held_of begun.old gathering.old.part) (held_of begun.new gathering.new.part)
+        issuer.old issuer.new bytes.now out.old.items out.new.items) }
+    ensures refused { IfErr result (Refuses table.now header (held_of begun.old gathering.old.part) issuer.old issuer.new bytes.now) }
+    ensures begun { IsBegun header begun.new gathering.new.part }
+    ensures held { OnErr result (begun.new ≡ begun.old) }
+    ensures gathered { OnErr result (gathering.new.part ≡ gathering.old.part) }
+    ensures unchanged { OnErr result (out.new.items ≡ out.old.items) }
+    ensures table { gathering.new.table ≡ gathering.old.table }
+{
+    if begun.left > 0 {
+        return take_body(
+            table, header, begun, gathering, issuer, rooms, bytes, out,
+        );
+    }
+    if begun.count > 0 {
+        return take_header_byte(table, header, begun, issuer, rooms, bytes, out);
+    }
+    take_first(table, header, begun, issuer, rooms, bytes, out)
+}
