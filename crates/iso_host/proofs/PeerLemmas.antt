@@ -1,18 +1,20 @@
 -- Bytes behind those that a peer holds.
-use Rattle.std.proofs.Common.{◌≡◌, ◌≢◌, ℕ, zero, suc, ◌+◌, ◌-◌, ◌<◌, ◌≤◌, Bool, true, false, leb, ◌&&◌, List, [], ◌∷◌, ◌++◌, length, take, drop, set, Some, None, inl, inr, refl, sym, subst, ap, ◌∙◌, arith, length-append, length-take, length-drop, append_assoc, append-nil}
+use Rattle.std.proofs.Common.{◌≡◌, ◌≢◌, ℕ, zero, suc, ◌+◌, ◌-◌, ◌<◌, ◌≤◌, Bool, true, false, eqb, leb, ◌&&◌, List, [], ◌∷◌, ◌++◌, length, take, drop, slice_index_or, Some, None, inl, inr, refl, sym, subst, ap, ◌∙◌, arith, length-append, length-take, length-drop, append_assoc, append-nil, take-append-drop}
 use Rattle.std.proofs.Math.Seq.{take-add, take-length}
-use Rattle.std.proofs.lemmas.Bool.{leb-true}
+use Rattle.std.proofs.lemmas.Bool.{eqb-true, eq-eqb, leb-true}
 use Rattle.iso_table.specs.Layout.{Layout}
 use Rattle.iso_wire.specs.declared.header.Header.{Header}
 use Rattle.iso_wire.specs.declared.header.Header.TheVariants.{Binary2, Ascii4, Bcd2}
-use Rattle.iso_wire.specs.Framing.{header_of, header_size, frame_of, largest, NeedsMore, is_bad_header}
+use Rattle.iso_wire.specs.Framing.{header_of, header_size, frame_of, largest, NeedsMore, is_bad_header, BadStays}
 use Rattle.iso_issuer.specs.Books.{Books}
 use Rattle.iso_host.specs.Asking.{message_in}
+use Rattle.iso_host.specs.Beginning.{head_of, held_of, IsBegun, IsInBody, IsInHeader}
 use Rattle.iso_host.specs.Handling.{EntersOrKeeps}
 use Rattle.iso_host.specs.Hosting.{Answers, IsHandled}
 use Rattle.iso_host.specs.Peers.{Refuses, Takes}
 use Rattle.iso_host.specs.declared.handled.Handled.{Handled}
 use Rattle.iso_host.specs.declared.peer.PeerFault.TheVariants.{Memory}
+use Rattle.iso_host.specs.declared.taking.Begun.{Begun}
 
 -- ---- headers
 
@@ -78,13 +80,8 @@ module _ (h : Header) (bytes : List ℕ) (n : ℕ) (header : take (header_size h
   refuses_front t held old new none (inr enters) =
       let body = take n (drop (header_size h) bytes) in
       let joined : held ++ bytes ≡ frame_of h body ++ drop (header_size h + n) bytes =
-      ap (λ (l : List ℕ). l ++ bytes) none ∙ sym (take_drop (header_size h + n) bytes) ∙ ap (λ (l : List ℕ). l ++ drop (header_size h + n) bytes) whole_frame in
+      ap (λ (l : List ℕ). l ++ bytes) none ∙ sym (take-append-drop (header_size h + n) bytes) ∙ ap (λ (l : List ℕ). l ++ drop (header_size h + n) bytes) whole_frame in
       inr (body, drop (header_size h + n) bytes, joined, omega (arith, body_size, fits), enters)
-    where
-      take_drop : (k : ℕ) (l : List ℕ) → take k l ++ drop k l ≡ l
-      take_drop zero l = refl
-      take_drop (suc k) [] = refl
-      take_drop (suc k) (x ∷ l) = ap (λ (r : List ℕ). x ∷ r) (take_drop k l)
 
 -- ---- a frame that ends behind held bytes
 
@@ -93,26 +90,81 @@ pub refuses_behind : (t : Layout) (h : Header) (held : List ℕ) (old new : Book
 refuses_behind t h held old new bytes body more is fits (inl kept) = inl kept
 refuses_behind t h held old new bytes body more is fits (inr enters) = inr (body, more, is, fits, enters)
 
--- one more byte behind the first ones
-put_next : (l : List ℕ) (n b : ℕ) → n < length l → take (suc n) (set l n b) ≡ take n l ++ (b ∷ [])
-put_next [] n b h = absurd (omega arith)
-put_next (x ∷ l) zero b h = refl
-put_next (x ∷ l) (suc n) b h = ap (λ (t : List ℕ). x ∷ t) (put_next l n b (omega arith))
-
 take_all : (k : ℕ) (l : List ℕ) → length l ≤ k → take k l ≡ l
 take_all zero [] few = refl
 take_all zero (x ∷ l) few = absurd (omega arith)
 take_all (suc k) [] few = refl
 take_all (suc k) (x ∷ l) few = ap (λ (r : List ℕ). x ∷ r) (take_all k l (omega arith))
 
+pub first_of : (l : List ℕ) → length l ≢ 0 → l ≡ slice_index_or l 0 0 ∷ drop 1 l
+first_of [] some = absurd (some refl)
+first_of (x ∷ l) some = refl
+
 -- the byte that ends the frame of an empty body
-pub ends_empty : (h : Header) (head bytes : List ℕ) (count byte : ℕ) → count < length head → count < header_size h → bytes ≡ byte ∷ drop 1 bytes
-    → take (header_size h) (take (count + 1) (set head count byte)) ≡ header_of h 0 → take count head ++ bytes ≡ frame_of h [] ++ drop 1 bytes
-ends_empty h head bytes count byte room short first header =
+pub ends_empty : (h : Header) (held head bytes : List ℕ) (byte n : ℕ) → head ≡ held ++ (byte ∷ []) → length held < header_size h → bytes ≡ byte ∷ drop 1 bytes
+    → take (header_size h) head ≡ header_of h n → n ≡ 0 → held ++ bytes ≡ frame_of h [] ++ drop 1 bytes
+ends_empty h held head bytes byte n front short first header none =
     let rest = drop 1 bytes in
-    let one : count + 1 ≡ suc count = omega arith in
-    let front : take (count + 1) (set head count byte) ≡ take count head ++ (byte ∷ []) = ap (λ (k : ℕ). take k (set head count byte)) one ∙ put_next head count byte room in
-    let few : length (take (count + 1) (set head count byte)) ≤ header_size h = omega (arith, short, length-take (count + 1) (set head count byte)) in
-    let whole : take count head ++ (byte ∷ []) ≡ header_of h 0 = sym front ∙ sym (take_all (header_size h) (take (count + 1) (set head count byte)) few) ∙ header in
-    ap (λ (l : List ℕ). take count head ++ l) first ∙ sym (append_assoc (take count head) (byte ∷ []) rest)
+    let few : length head ≤ header_size h = omega (arith, short, ap length front, length-append held (byte ∷ [])) in
+    let whole : held ++ (byte ∷ []) ≡ header_of h 0 = sym front ∙ sym (take_all (header_size h) head few) ∙ header ∙ ap (header_of h) none in
+    ap (λ (l : List ℕ). held ++ l) first ∙ sym (append_assoc held (byte ∷ []) rest)
     ∙ ap (λ (l : List ℕ). l ++ rest) (whole ∙ sym (append-nil (header_of h 0)))
+
+-- the byte that shows that a header isn't of digits
+pub bad_behind : BadStays → (h : Header) (held head bytes : List ℕ) (byte : ℕ) → head ≡ held ++ (byte ∷ []) → bytes ≡ byte ∷ drop 1 bytes → is_bad_header h head ≡ true → is_bad_header h (held ++ bytes) ≡ true
+bad_behind stays h held head bytes byte front first bad =
+    let joined : head ++ drop 1 bytes ≡ held ++ bytes =
+    ap (λ (l : List ℕ). l ++ drop 1 bytes) front ∙ append_assoc held (byte ∷ []) (drop 1 bytes) ∙ ap (λ (l : List ℕ). held ++ l) (sym first) in
+    subst (λ (l : List ℕ). is_bad_header h l ≡ true) joined (stays h head (drop 1 bytes) bad)
+
+-- bytes that end a body behind its first ones
+pub refuses_body : (t : Layout) (h : Header) (b : Begun) (part : List ℕ) (old new : Books) (bytes : List ℕ) → IsInBody h b part → b.left ≤ length bytes → EntersOrKeeps t h old new (message_in t (part ++ take b.left bytes))
+    → Refuses t h (held_of b part) old new bytes Memory
+refuses_body t h b part old new bytes inside room enters =
+    let piece = take b.left bytes in
+    let rest = drop b.left bytes in
+    let size : length (part ++ piece) ≡ length part + b.left = omega (arith, length-append part piece, length-take b.left bytes, room) in
+    let joined : held_of b part ++ bytes ≡ frame_of h (part ++ piece) ++ rest =
+    ap (λ (l : List ℕ). held_of b part ++ l) (sym (take-append-drop b.left bytes)) ∙ append_assoc (head_of b) part (piece ++ rest)
+    ∙ ap (λ (l : List ℕ). head_of b ++ l) (sym (append_assoc part piece rest)) ∙ sym (append_assoc (head_of b) (part ++ piece) rest)
+    ∙ ap (λ (l : List ℕ). (l ++ (part ++ piece)) ++ rest) (inside.head ∙ ap (header_of h) (sym size)) in
+    refuses_behind t h (held_of b part) old new bytes (part ++ piece) rest joined (omega (arith, size, inside.fits)) enters
+
+-- ---- between two frames
+
+size_most : (h : Header) → header_size h ≤ 4
+size_most Binary2 = omega arith
+size_most Ascii4 = omega arith
+size_most Bcd2 = omega arith
+
+pub head_few : (h : Header) (b : Begun) (part : List ℕ) → IsBegun h b part → b.count ≤ 4
+head_few h b part begun = by_left b.left refl
+  where
+    by_left : (n : ℕ) → b.left ≡ n → b.count ≤ 4
+    by_left zero none = omega (arith, (begun.outside none).short, size_most h)
+    by_left (suc n) some = omega (arith, (begun.inside (omega (arith, some))).size, size_most h)
+
+pub none_of : (l : List ℕ) → length l ≡ 0 → l ≡ []
+none_of [] e = refl
+none_of (x ∷ l) e = absurd (omega arith)
+
+pub between : (h : Header) (b : Begun) (part : List ℕ) (n : ℕ) → IsBegun h b part → n ≡ length (head_of b) → (eqb n 0 ≡ true → held_of b part ≡ []) × (held_of b part ≡ [] → eqb n 0 ≡ true)
+between h b part n begun same = (
+  λ is. by_left b.left refl (eqb-true n 0 is),
+  λ none. eq-eqb n 0 (omega (arith, same, ap length none, length-append (head_of b) part)),
+)
+  where
+    by_left : (k : ℕ) → b.left ≡ k → n ≡ 0 → held_of b part ≡ []
+    by_left zero none is = ap (λ (l : List ℕ). head_of b ++ l) (begun.outside none).none ∙ append-nil (head_of b) ∙ none_of (head_of b) (omega (arith, same, is))
+    by_left (suc k) some is =
+        let inside = begun.inside (omega (arith, some)) in
+        absurd (omega (arith, same, is, ap length inside.head, header_long h (length part + b.left), size_least h))
+
+-- ---- no byte
+
+pub takes_none : (t : Layout) (h : Header) (b : Begun) (books : Books) (bytes out : List ℕ) → IsInHeader h b [] → bytes ≡ [] → Takes t h (head_of b) (head_of b) books books bytes out out (record { used = 0; handled = None })
+takes_none t h b books bytes out header none = record {
+  within = omega arith;
+  piece = (sym (append-nil (head_of b)), short_needs h (head_of b) (omega (arith, header.short, length-take b.count b.head)), refl, refl);
+  some = λ there _. there none;
+}

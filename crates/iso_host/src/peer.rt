@@ -6,7 +6,7 @@ use crate::gathering::Gathering;
 use crate::handled::Handled;
 use crate::host::Host;
 use crate::link::Link;
-use crate::taking::{Begun, NOT_BEGUN, take_bytes};
+use crate::taking::{Begun, NOT_BEGUN, head_len, take_bytes};
 use iso_table::Table;
 use iso_wire::Header;
 use iso_wire::laws::splits_once;
@@ -76,7 +76,7 @@ impl<'l> Peer<'l> {
     pub fn may_end(&self) -> bool
         ensures { (result ≡ true) ↔ (self.now.held ≡ []) }
     {
-        self.begun.count == 0
+        head_len(&self.begun) == 0
     }
 
     /// Takes bytes of the peer, from the front on, up to the end of a frame: one at least, where there is one, though maybe

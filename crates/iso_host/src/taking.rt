@@ -1,5 +1,5 @@
 //! One step of a peer: bytes that come are taken, up to the end of a frame.
-ghost use Rattle.std.specs.Prelude.{◌≡◌, ◌<◌, ◌≤◌, ◌++◌, [], length, IfOk, IfErr, OnOk, OnErr};
+ghost use Rattle.std.specs.Prelude.{◌≡◌, ◌+◌, ◌<◌, ◌≤◌, ◌∷◌, ◌++◌, [], length, take, IfOk, IfErr, OnOk, OnErr};
 ghost use Rattle.iso_table.specs.HostReady.{IsHostReady};
 ghost use Rattle.iso_host.specs.Asking.{message_in};
 ghost use Rattle.iso_host.specs.Beginning.{head_of, held_of, IsBegun, IsInBody, IsInHeader};
@@ -33,6 +33,24 @@ pub const NOT_BEGUN: Begun = Begun {
     left: 0,
 };
 
+/// How many bytes of a header came.
+pub fn head_len(begun: &Begun) -> usize
+    requires { begun.now.count ≤ 4 }
+    ensures { result ≡ length (head_of begun.now) }
+{
+    begun.count
+}
+
+/// The bytes of a header that came, and then one more.
+fn head_with(begun: &Begun, byte: u8) -> [u8; 4]
+    requires { begun.now.count < 4 }
+    ensures { take (begun.now.count + 1) result ≡ head_of begun.now ++ byte ∷ [] }
+{
+    let mut head = begun.head;
+    head[begun.count] = byte;
+    head
+}
+
 /// Takes one byte of a header. Where it ends the frame of an empty body, that is answered.
 #[cold]
 fn take_header_byte(
@@ -62,13 +80,19 @@ fn take_header_byte(
             handled: None,
         });
     }
-    let mut head = begun.head;
-    head[begun.count] = bytes[0];
+    let head = head_with(begun, bytes[0]);
     let count = begun.count + 1;
     let told = body_length(header, &head[..count]);
     match told {
         Err(_) => Err(PeerFault::BadHeader),
-        Ok(Some(0)) => match answer_body(table, header, issuer, rooms, &[], out) {
+        Ok(Some(length)) if length == 0 => match answer_body(
+            table,
+            header,
+            issuer,
+            rooms,
+            &[],
+            out,
+        ) {
             Err(_) => Err(PeerFault::Memory),
             Ok(handled) => {
                 begun.count = 0;
@@ -238,9 +262,7 @@ pub fn take_bytes(
     ensures table { gathering.new.table ≡ gathering.old.table }
 {
     if begun.left > 0 {
-        return take_body(
-            table, header, begun, gathering, issuer, rooms, bytes, out,
-        );
+        return take_body(table, header, begun, gathering, issuer, rooms, bytes, out);
     }
     if begun.count > 0 {
         return take_header_byte(table, header, begun, issuer, rooms, bytes, out);
