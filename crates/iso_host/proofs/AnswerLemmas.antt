@@ -15,7 +15,7 @@ use Rattle.iso_order.specs.declared.verdict.Verdict.{Verdict}
 use Rattle.iso_order.specs.declared.verdict.Verdict.TheVariants as asks
 use Rattle.iso_issuer.specs.Books.{Books}
 use Rattle.iso_issuer.specs.Laws.{books_after}
-use Rattle.iso_host.specs.Asking.{message_in, orders_in, whole_by}
+use Rattle.iso_host.specs.Asking.{asked_of, message_in, orders_in, whole_by}
 use Rattle.iso_host.specs.Output.{IsAnswerTo, IsFramed, outcome_for, outcome_of, response_with}
 use Rattle.iso_host.specs.Hosting.{AnswersMessage, Answers, IsBodyFault, IsHandled, IsHandledBy}
 use Rattle.iso_host.specs.Handling.{EntersOrKeeps}
@@ -79,3 +79,8 @@ enters_order t h old new m o answer asked same entered (bytes, framed) = inr (
   entered ∙ ap (λ (v : Verdict). books_after old (orders_in (Some v))) (sym asked),
   (bytes, subst (λ (v : Verdict). IsFramed t h (response_with m (outcome_of old v)) bytes) (sym asked) (subst (λ (a : Outcome). IsFramed t h (Some (response m a)) bytes) same framed)),
 )
+
+-- an unreadable body asks nothing
+pub asks_nothing : (t : Layout) (books : Books) (body : List ℕ) (fault : BodyFault) → IsHandled t books body (handled.Unreadable fault) → asked_of t body ≡ None
+unfolding IsHandled
+asks_nothing t books body fault is = ap (option_map verdict) (no_message t body fault is)

@@ -3,9 +3,9 @@ mod BodyLemmas
 mod FrameLemmas
 mod GatherLemmas
 mod JournalLemmas
+mod NextLemmas
 mod OutputLemmas
 mod PeerLemmas
-mod PieceLemmas
 mod Running
 mod ServeLemmas
 mod ShareLemmas

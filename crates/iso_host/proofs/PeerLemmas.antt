@@ -168,3 +168,10 @@ takes_none t h b books bytes out header none = record {
   piece = (sym (append-nil (head_of b)), short_needs h (head_of b) (omega (arith, header.short, length-take b.count b.head)), refl, refl);
   some = λ there _. there none;
 }
+
+-- no frame has begun
+pub not_begun : (h : Header) (b : Begun) (part : List ℕ) → b.count ≡ 0 → b.left ≡ 0 → part ≡ [] → IsBegun h b part
+not_begun h b part first second none = record {
+  outside = λ _. record { none = none; short = omega (arith, first, size_least h) };
+  inside = λ more. absurd (omega (arith, second, more));
+}

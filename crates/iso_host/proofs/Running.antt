@@ -1,13 +1,9 @@
 -- What holds between two frames of a call of `serve`.
-use Rattle.std.proofs.Common.{◌≡◌, ℕ, ◌+◌, ◌≤◌, List, [], length}
-use Rattle.std.specs.Io.KnownBytes.{Consumes}
+use Rattle.std.proofs.Common.{◌≡◌, ℕ, ◌+◌, ◌≤◌, List, []}
 use Rattle.std.specs.declared.option.Option.{Option}
 use Rattle.iso_table.specs.Layout.{Layout}
 use Rattle.iso_wire.specs.declared.header.Header.{Header}
-use Rattle.iso_wire.specs.Unpacker.{Feeding}
-use Rattle.iso_wire.specs.Spelling.{AreBytes}
 use Rattle.iso_issuer.specs.Books.{Books}
-use Rattle.iso_host.specs.Intake.{unpacker_holding}
 use Rattle.iso_host.specs.Counts.{Counts}
 use Rattle.iso_host.specs.Answering.{FlushesAll}
 use Rattle.iso_host.specs.Serving.{Served, Reports}
@@ -26,16 +22,3 @@ pub record Running (reader_old r writer_old w : Counts) (turns left : ℕ) : Typ
   pub moved : r.calls + w.calls + (reader_old.moved + writer_old.moved) ≤ reader_old.calls + writer_old.calls + (r.moved + w.moved)
   pub reader : r.failures ≡ reader_old.failures
   pub writer : w.failures ≡ writer_old.failures
-
--- the bytes that were taken, where so many more are wanted of so many
-pub record SoFar (old new : Option (List ℕ)) (wanted size : ℕ) : Type 0 where
-  pub part : List ℕ
-  pub taken : Consumes old new part
-  pub sum : length part + wanted ≡ size
-
--- and the unpacker holds them
-pub record BodySoFar (t : Layout) (unpacker : Feeding) (old new : Option (List ℕ)) (wanted size : ℕ) : Type 0 where
-  pub holds : unpacker ≡ unpacker_holding t unpacker.taken
-  pub bytes : AreBytes unpacker.taken
-  pub taken : Consumes old new unpacker.taken
-  pub sum : length unpacker.taken + wanted ≡ size

@@ -4,7 +4,7 @@ use Rattle.std.proofs.lemmas.List.Sums.{sum_by-append}
 use Rattle.std.proofs.KnownBytes.{Appends-trans, Appends-nil, Consumes-trans}
 use Rattle.std.specs.declared.option.Option.{Option}
 use Rattle.std.specs.Io.Iter.{u64_saturate}
-use Rattle.std.specs.Io.KnownBytes.{Consumes, Keeps, IsAtEnd, prepend_known}
+use Rattle.std.specs.Io.KnownBytes.{Appends, Consumes, Keeps, IsAtEnd, prepend_known}
 use Rattle.iso_table.specs.Layout.{Layout}
 use Rattle.iso_wire.specs.declared.header.Header.{Header}
 use Rattle.iso_wire.specs.declared.header.Header.TheVariants.{Binary2, Ascii4, Bcd2}
@@ -21,6 +21,8 @@ use Rattle.iso_host.specs.Counts.{Counts}
 use Rattle.iso_host.specs.Entering.{books_after_bodies}
 use Rattle.iso_host.specs.Handling.{books_after_body}
 use Rattle.iso_host.specs.Output.{IsAnswer, IsOutput}
+use Rattle.iso_host.specs.Hosting.{Answers}
+use Rattle.iso_host.specs.NextFrame.{EndsBefore}
 use Rattle.iso_host.specs.Reading.{EndsInside}
 use Rattle.iso_host.specs.Serving.{Served, Leaves, Cut, Reports, IsFlushed, LastWaits, Flushes}
 use Rattle.iso_host.specs.Reporting.{ReportsOneMore, count_with}
@@ -220,6 +222,36 @@ module _ (t : Layout) (h : Header) (unread held : Option (List ℕ)) (old : Book
     stop_inside bad stays left window Memory (part, taken) = stopped_here left window part taken
     stop_inside bad stays left window Write ends = absurd ends
 
+    -- the next frame doesn't come to its end, or its body isn't answered
+    pub stop_before : BadIsNoFrame → BadStays → (left : Option (List ℕ)) (window : List ℕ) (new : Books) (fault : ServeFault)
+        → EndsBefore t h pending (prepend_known window left) window left mid new fault → Leaves t h unread left held written old new (Err fault)
+    stop_before bad stays left window new Read ends = subst (λ (b : Books). Leaves t h unread left held written old b (Err Read)) (sym ends.1) (stop_inside bad stays left window Read ends.0)
+    stop_before bad stays left window new CutFrame ends = subst (λ (b : Books). Leaves t h unread left held written old b (Err CutFrame)) (sym ends.1) (stop_inside bad stays left window CutFrame ends.0)
+    stop_before bad stays left window new TooManyTurns ends = subst (λ (b : Books). Leaves t h unread left held written old b (Err TooManyTurns)) (sym ends.1) (stop_inside bad stays left window TooManyTurns ends.0)
+    stop_before bad stays left window new BadHeader (part, taken, is_bad, kept) =
+        subst (λ (b : Books). Leaves t h unread left held written old b (Err BadHeader)) (sym kept)
+        (bodies, part ++ window, served_part left window part taken, bad h (part ++ window) is_bad, is_bad)
+    stop_before bad stays left window new Memory (part, taken, inl kept) =
+        subst (λ (b : Books). Leaves t h unread left held written old b (Err Memory)) (sym kept) (stopped_here left window part taken)
+    stop_before bad stays left window new Memory (part, taken, inr (body, more, is, fits, enters)) = (
+      bodies ++ body ∷ [],
+      more,
+      served.bytes,
+      record {
+        read = subst (Consumes unread left) (ap (λ (l : List ℕ). frames_of h bodies ++ l) is ∙ sym (frames_more h bodies body more)) (read_part left window part taken);
+        fit = AllFit_more h bodies body served.fit fits;
+        books = entered_more new body enters.0;
+        answers = served.answers;
+        less = served.bytes;
+        less_output = subst (λ l. IsOutput t h old l served.bytes) (sym (front_more bodies body)) served.output;
+        no_less = ([], sym (append-nil served.bytes));
+        most = served.bytes ++ enters.1.0;
+        most_output = output_more t h old bodies body served.bytes enters.1.0 served.output (answer_more body enters.1.0 enters.1.1);
+        no_more = (enters.1.0, refl);
+      },
+    )
+    stop_before bad stays left window new Write ends = absurd ends
+
     -- the input ends between two frames
     pub ends_whole : (left : Option (List ℕ)) (window : List ℕ) (report : Report) → Keeps pending (prepend_known window left) → window ≡ [] → IsAtEnd left → Reports t report bodies
         → Leaves t h unread left held written old mid (Ok report)
@@ -292,3 +324,25 @@ running_read reader_old r r' writer_old w turns left left' running takes spends 
   reader = spends.failures ∙ running.reader;
   writer = running.writer;
 }
+
+-- ---- one answer
+
+-- it was written, from an empty buffer
+pub written_whole : (t : Layout) (h : Header) (mid new : Books) (body out grown : List ℕ) (written after : Option (List ℕ)) (c1 c2 : Counts) → out ≡ [] → Answers t h mid new body out grown
+    → Appends written after grown → FlushesAll c1 c2 grown → AnswersWhole t h mid new (message_in t body) written after c1 c2
+written_whole t h mid new body out grown written after c1 c2 none (entered, (bytes, answer, grows)) appends flushed =
+    let is : grown ≡ bytes = grows ∙ ap (λ (l : List ℕ). l ++ bytes) none in
+    record {
+      entered = entered;
+      bytes = bytes;
+      answer = answer;
+      appends = subst (Appends written after) is appends;
+      flushed = subst (FlushesAll c1 c2) is flushed;
+    }
+
+-- or in part
+pub written_part : (t : Layout) (h : Header) (mid new : Books) (body out grown : List ℕ) (written after : Option (List ℕ)) (c1 c2 : Counts) → out ≡ [] → Answers t h mid new body out grown
+    → WritesPart written after c1 c2 grown → AnswersPart t h mid new (message_in t body) written after c1 c2
+written_part t h mid new body out grown written after c1 c2 none (entered, (bytes, answer, grows)) part =
+    let is : grown ≡ bytes = grows ∙ ap (λ (l : List ℕ). l ++ bytes) none in
+    inr (entered, (bytes, answer, subst (WritesPart written after c1 c2) is part))

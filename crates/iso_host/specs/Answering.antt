@@ -55,7 +55,3 @@ module _ (t : Layout) (h : Header) (books_old books_new : Books) (message : Opti
     pub answer : IsAnswerTo t h books_old message bytes
     pub appends : Appends held written bytes
     pub flushed : FlushesAll old new bytes
-
-  abbrev pub AnswersInto : {T : Type 0} → Result T ServeFault → Type 0
-  AnswersInto (Ok x) = AnswersWhole
-  AnswersInto (Err e) = AnswersPart

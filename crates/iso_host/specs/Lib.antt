@@ -3,14 +3,13 @@ pub mod Asking
 pub mod Beginning
 pub mod Counting
 pub mod Counts
-pub mod Desk
 pub mod Entering
 pub mod FaultNumbers
 pub mod Gathering
 pub mod Handling
 pub mod Hosting
-pub mod Intake
 pub mod Links
+pub mod NextFrame
 pub mod Output
 pub mod Peers
 pub mod Reading

@@ -1,5 +1,5 @@
 //! One body: its message, what that asks, and the frame of the response behind the bytes of a buffer.
-ghost use Rattle.std.specs.Prelude.{◌≡◌, ◌≤◌, ◌+◌, ◌++◌, take, drop, ℕ, List, length, true, IfOk, OnOk, OnErr, Some, None};
+ghost use Rattle.std.specs.Prelude.{◌≡◌, ◌≤◌, ◌+◌, [], ◌∷◌, ◌++◌, take, drop, ℕ, List, length, true, IfOk, OnOk, OnErr, Some, None};
 ghost use Rattle.iso_table.specs.HostReady.{IsHostReady};
 ghost use Rattle.iso_wire.specs.Framing.{header_size, largest, frame_of};
 ghost use Rattle.iso_wire.specs.Refusal.{message_refusal};
@@ -8,17 +8,19 @@ ghost use Rattle.iso_order.specs.Fields.{function};
 ghost use Rattle.iso_order.specs.Response.{response, is_showable};
 ghost use Rattle.iso_order.specs.Verdict.{verdict};
 ghost use Rattle.iso_parts.specs.Mti.{is_answered};
+ghost use Rattle.iso_issuer.specs.Laws.{books_after};
+ghost use Rattle.iso_issuer.specs.Decision.{is_shown_for};
 ghost use Rattle.iso_host.specs.Asking.{message_in};
 ghost use Rattle.iso_host.specs.Handling.{EntersOrKeeps};
-ghost use Rattle.iso_host.specs.Output.{IsFramed};
+ghost use Rattle.iso_host.specs.Output.{IsFramed, outcome_for};
 ghost use Rattle.iso_host.specs.Gathering.{ReadsBody};
 ghost use Rattle.iso_host.specs.Hosting.{Answers, AnswersMessage, GrowsBy, IsHandled, IsHandledBy};
 
 use crate::handled::{BodyFault, Handled};
-use crate::handling::{answer_order, enters_nothing};
-use iso_issuer::Issuer;
+use iso_issuer::laws::firsts_stay;
+use iso_issuer::{Issuer, Refused};
 use iso_order::laws::{responses_are_short, responses_are_well_formed, responses_fit};
-use iso_order::{Answer, NoMemory, Verdict, order_of, respond_into};
+use iso_order::{Answer, NoMemory, Order, Verdict, order_of, respond_into};
 use iso_parts::Mti;
 use iso_table::Table;
 use iso_wire::laws::{are_bytes, reads_spellings, spelled_once, well_formed};
@@ -131,6 +133,32 @@ fn append_answer(
     responses_are_short();
     respond_into(&rooms.request, answer, &mut rooms.response)?;
     append_response(table, header, &rooms.response, out)
+}
+
+/// Has the issuer answer an order: 96 where its journal is full.
+fn answer_order(issuer: &mut Issuer, order: Order) -> Result<Answer, NoMemory>
+    ensures answer { IfOk result (λ answer. answer ≡ outcome_for issuer.old order) }
+    ensures shown { IfOk result (λ answer. is_shown_for order.act answer.shown ≡ true) }
+    ensures entered { OnOk result (issuer.new ≡ books_after issuer.old (order ∷ [])) }
+    ensures unchanged { OnErr result (issuer.new ≡ issuer.old) }
+{
+    // any call on the issuer tells the proof what holds of every issuer
+    let _entries = issuer.len();
+    match issuer.handle(order) {
+        Ok(answer) => Ok(answer),
+        Err(Refused::Full) => Ok(Answer::only(96)),
+        Err(Refused::Memory) => Err(NoMemory),
+    }
+}
+
+/// Where no order comes, the books stay as they are. Does nothing: it tells that to the prover.
+pub fn enters_nothing(issuer: &Issuer)
+    ensures { books_after issuer.now [] ≡ issuer.now }
+{
+    // the law that first orders are kept as they are, for the prover
+    firsts_stay();
+    // any call on the issuer tells the proof what holds of every issuer
+    let _entries = issuer.len();
 }
 
 /// Answers the message that was read: enters the order that it asks, and appends the frame of the response. After an

@@ -5,7 +5,7 @@ ghost use Rattle.iso_host.specs.Entering.{BodiesGoOn, StaysWithout};
 ghost use Rattle.iso_host.specs.Output.{OutputOnce};
 ghost use Rattle.iso_host.specs.Sharing.{PeerAlone, PeersShare};
 
-use crate::handling::enters_nothing;
+use crate::answering::enters_nothing;
 use iso_issuer::Issuer;
 use iso_issuer::laws::firsts_go_on;
 use iso_wire::laws::{reads_spellings, spelled_once};

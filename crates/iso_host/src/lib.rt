@@ -12,17 +12,14 @@
 
 mod answering;
 mod counting;
-mod desk;
 mod fault;
 mod gathering;
 mod handled;
-mod handling;
 mod host;
-mod intake;
 pub mod laws;
 mod link;
+mod next_frame;
 mod peer;
-mod reading;
 mod seen;
 mod serving;
 mod standard;

@@ -1,28 +1,28 @@
 //! The engine: frames from a reader, and the frames of their responses to a writer.
-ghost use Rattle.std.specs.Prelude.{◌≡◌, IfOk, OnOk, Option, option_map};
+ghost use Rattle.std.specs.Prelude.{◌≡◌, ℕ, List, OnOk};
 ghost use Rattle.iso_table.specs.HostReady.{IsHostReady};
-ghost use Rattle.iso_host.specs.Intake.{IsSpelled};
-ghost use Rattle.iso_order.specs.Verdict.{verdict};
-ghost use Rattle.iso_order.specs.declared.verdict.Verdict.{Verdict};
-ghost use Rattle.iso_host.specs.Desk.{IsSameDesk};
-ghost use Rattle.iso_host.specs.Handling.{IsOfKind};
+ghost use Rattle.iso_table.specs.Layout.{Layout};
+ghost use Rattle.iso_issuer.specs.Books.{Books};
+ghost use Rattle.iso_host.specs.Asking.{asked_of};
+ghost use Rattle.iso_host.specs.Hosting.{IsHandled};
 ghost use Rattle.iso_host.specs.Serving.{Leaves, Cause, Flushes, WithinTurns};
 ghost use Rattle.iso_host.specs.Reporting.{ReportsOneMore};
-ghost use Rattle.iso_host.specs.Answering.{AnswersInto, SpendsOnWrite, WritesBytes};
+ghost use Rattle.iso_host.specs.Answering.{FlushesAll, SpendsOnWrite, WritesBytes};
 ghost use Rattle.iso_host.specs.Turns.{TakesTurns};
 
-use crate::desk::Desk;
+use crate::answering::{enters_nothing, no_rooms};
 use crate::fault::{Report, ServeFault};
-use crate::handling::{Handled, enters_nothing, handle_message};
-use crate::intake::Intake;
-use crate::reading::{Next, read_frame};
+use crate::gathering::Gathering;
+use crate::handled::Handled;
+use crate::next_frame::{Line, next_frame};
 use crate::streams::{Inlet, Outlet};
+use crate::taking::NOT_BEGUN;
 use crate::window::Window;
 use iso_issuer::Issuer;
 use iso_issuer::laws::firsts_go_on;
 use iso_table::Table;
+use iso_wire::Header;
 use iso_wire::laws::splits_once;
-use iso_wire::{Header, Message};
 use std::alloc::Global;
 
 /// The report before the first frame.
@@ -57,51 +57,35 @@ fn write_whole<W: Outlet>(writer: &mut W, bytes: &[u8], left: &mut u64) -> Resul
     }
 }
 
-/// Handles the message that a body is, or none, writes its answer, and tells what came of it. After `Memory` nothing was
-/// written.
-fn answer_message<W: Outlet>(
-    issuer: &mut Issuer,
-    message: &Option<Message>,
-    desk: &mut Desk<'_>,
-    writer: &mut W,
-    left: &mut u64,
-) -> Result<Handled, ServeFault>
-    requires ready { IsHostReady desk.old.table }
-    requires read { IsSpelled desk.old.table message.now }
-    ensures answered { AnswersInto desk.old.table desk.old.header issuer.old issuer.new message.now
-        (W.contents writer.old) (W.contents writer.new) (W.counts writer.old) (W.counts writer.new) result }
+/// Writes the answer to a body, and flushes; an empty one is none, and the writer isn't called.
+#[inline(always)]
+fn write_answer<W: Outlet>(writer: &mut W, answer: &[u8], left: &mut u64) -> Result<(), ServeFault>
+    ensures written { WritesBytes (W.contents writer.old) (W.contents writer.new) (W.counts writer.old) (W.counts writer.new) answer.now result }
     ensures turns { TakesTurns (W.counts writer.old) (W.counts writer.new) left.old left.new }
     ensures spent { SpendsOnWrite (W.counts writer.old) (W.counts writer.new) left.old left.new result }
-    ensures kind { IfOk result (IsOfKind (option_map verdict message.now)) }
-    ensures kept { IsSameDesk desk.old desk.new }
+    ensures flushed { OnOk result (FlushesAll (W.counts writer.old) (W.counts writer.new) answer.now) }
 {
-    let Ok(handled) = handle_message(issuer, message, desk) else {
-        return Err(ServeFault::Memory);
-    };
-    match handled {
-        Handled::Unreadable | Handled::Silent => {}
-        Handled::Answered => {
-            if let Err(fault) = write_whole(writer, desk.frame(), left) {
-                return Err(fault);
-            }
-        }
+    if answer.is_empty() {
+        return Ok(());
     }
-    Ok(handled)
+    write_whole(writer, answer, left)
 }
 
 /// Counts a frame by what came of its body.
-fn count_frame(report: &mut Report, handled: Handled)
-    ensures { (asked : Option Verdict) → IsOfKind asked handled → ReportsOneMore report.old report.new asked }
+#[tactic(auto, unfolding(crate::specs::Hosting::IsHandled))]
+fn count_frame(report: &mut Report, handled: &Handled)
+    ensures { (t : Layout) (books : Books) (body : List ℕ) → IsHandled t books body handled.now
+        → ReportsOneMore report.old report.new (asked_of t body) }
 {
     report.frames = report.frames.saturating_add(1);
     match handled {
-        Handled::Unreadable => {
+        Handled::Unreadable(_) => {
             report.unreadable = report.unreadable.saturating_add(1);
         }
         Handled::Silent => {
             report.silent = report.silent.saturating_add(1);
         }
-        Handled::Answered => {
+        Handled::Replied { .. } | Handled::Ordered { .. } => {
             report.answered = report.answered.saturating_add(1);
         }
     }
@@ -148,23 +132,36 @@ pub fn serve<R: Inlet, W: Outlet>(
     let mut left = turns;
     let mut report = NO_FRAMES;
     let mut window = Window::new();
-    let mut intake = Intake::new(alloc, table);
-    let mut desk = Desk::new(alloc, table, header);
+    let mut line = Line {
+        begun: NOT_BEGUN,
+        gathering: Gathering::new(alloc, table),
+        rooms: no_rooms(alloc),
+        out: Vec::new(alloc),
+    };
     'frames: loop {
-        let read = read_frame(header, &mut intake, &mut window, reader, &mut left);
-        let message = match read {
+        line.out.clear();
+        let read = next_frame(
+            table,
+            header,
+            &mut line,
+            issuer,
+            &mut window,
+            reader,
+            &mut left,
+        );
+        let next = match read {
             Err(fault) => return Err(fault),
-            Ok(Next::End) => return Ok(report),
-            Ok(Next::Body(message)) => message,
+            Ok(next) => next,
         };
-        let answered = answer_message(issuer, &message, &mut desk, writer, &mut left);
-        let handled = match answered {
+        let handled = match next {
+            None => return Ok(report),
+            Some(handled) => handled,
+        };
+        let written = write_answer(writer, &line.out, &mut left);
+        match written {
             Err(failed) => return Err(failed),
-            Ok(handled) => handled,
-        };
-        count_frame(&mut report, handled);
-        if let Some(message) = message {
-            intake.reuse(message);
+            Ok(()) => {}
         }
+        count_frame(&mut report, &handled);
     }
 }

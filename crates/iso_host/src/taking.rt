@@ -7,10 +7,9 @@ ghost use Rattle.iso_host.specs.Handling.{EntersOrKeeps};
 ghost use Rattle.iso_host.specs.Hosting.{Answers, IsHandled};
 ghost use Rattle.iso_host.specs.Peers.{Takes, Refuses};
 
-use crate::answering::{Rooms, answer_body, answer_request};
+use crate::answering::{Rooms, answer_body, answer_request, enters_nothing};
 use crate::gathering::Gathering;
 use crate::handled::Handled;
-use crate::handling::enters_nothing;
 use crate::peer::{PeerFault, Taken};
 use iso_issuer::Issuer;
 use iso_order::NoMemory;

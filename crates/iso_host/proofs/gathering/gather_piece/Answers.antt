@@ -1,6 +1,5 @@
-use Rattle.std.proofs.Common.{List, ℕ, sym, subst, Option}
+use Rattle.std.proofs.Common.{List, ℕ, sym, subst}
 use Rattle.iso_host.specs.Gathering.{IsGathered}
-use Rattle.iso_host.specs.declared.handled.BodyFault.{BodyFault}
 use Rattle.iso_host.proofs.GatherLemmas.{more_fed}
 use Rattle.iso_host.proofs.gathering.gather_piece.Goals as goal
 

@@ -1,20 +1,19 @@
-use Rattle.std.proofs.Common.{[], List, Err, ℕ, refl, ◌∙◌, ap, arith, inl}
+use Rattle.std.proofs.Common.{[], List, Ok, Err, ℕ, refl, sym, subst, ◌∙◌, ap, arith, inl}
 use Rattle.std.specs.declared.option.Option.{Option}
 use Rattle.iso_table.specs.Layout.{Layout}
 use Rattle.iso_wire.specs.declared.header.Header.{Header}
-use Rattle.iso_wire.specs.Unpacker.{Feeding}
 use Rattle.iso_issuer.specs.Books.{Books}
-use Rattle.iso_host.specs.Intake.{unpacker_holding}
 use Rattle.iso_host.specs.Answering.{SpendsOnWrite}
 use Rattle.iso_host.specs.Counts.{Counts}
-use Rattle.iso_host.specs.Desk.{Laid}
 use Rattle.iso_host.specs.Reading.{EndsReads}
-use Rattle.iso_host.specs.Serving.{Cause, Flushes, IsFlushed, WithinTurns}
+use Rattle.iso_host.specs.Serving.{Cause, Flushes, Leaves, IsFlushed, WithinTurns}
 use Rattle.iso_host.specs.Turns.{TakesTurns}
 use Rattle.iso_host.specs.declared.fault.ServeFault.{ServeFault}
 use Rattle.iso_host.specs.declared.fault.ServeFault.TheVariants.{Read, Write, BadHeader, CutFrame, Memory, TooManyTurns}
+use Rattle.iso_host.specs.Gathering.{Gathered}
+use Rattle.iso_host.proofs.PeerLemmas.{not_begun}
 use Rattle.iso_host.proofs.Running.{Running}
-use Rattle.iso_host.proofs.ServeLemmas.{going_none, going_more, running_write, running_read, stop_at, waits_at, stop_inside, ends_whole}
+use Rattle.iso_host.proofs.ServeLemmas.{going_none, going_more, running_write, running_read, stop_at, waits_at, stop_before, ends_whole, written_part, written_whole}
 use Rattle.iso_host.proofs.StreamLemmas.{flushed_so}
 use Rattle.iso_host.proofs.serving.serve.Goals as goal
 
@@ -60,9 +59,9 @@ within reader_old r r' writer_old w w' turns left mid left' so turn next = omega
 
 pub frames-init : goal.frames-init
 frames-init g c = record {
-  held = c.new-intake.ensures;
-  table = ap (λ (d : Laid). d.table) c.new-desk.ensures;
-  header = ap (λ (d : Laid). d.header) c.new-desk.ensures;
+  same = ap (λ (x : Gathered). x.table) c.new.ensures;
+  begun = not_begun c.args.header _ c.new.result.part refl refl (ap (λ (x : Gathered). x.part) c.new.ensures);
+  none = ap (λ (x : Gathered). x.part) c.new.ensures;
   going = going_none _ _ _ _ _ _ _ c.enters_nothing.ensures _ c.new-window.ensures (record { frames = refl; answered = refl; silent = refl; unreadable = refl });
   running = record { calls = omega arith; moved = omega arith; reader = refl; writer = refl };
 }
@@ -70,70 +69,56 @@ frames-init g c = record {
 pub returns-in-Err-clause-leaves : goal.returns-in-Err-clause-leaves
 returns-in-Err-clause-leaves g c =
     let laws = c.splits_once.ensures in
-    stop_inside _ _ _ _ _ c.firsts_go_on.ensures _ _ _ _ c.frames.invariant.going.served laws.bad laws.stays _ _ c.in-Err.fault c.in-Err.ensures.bytes
+    stop_before _ _ _ _ _ c.firsts_go_on.ensures _ _ _ _ c.frames.invariant.going.served laws.bad laws.stays _ _ _ c.in-Err.fault c.in-Err.ensures.bytes
 
-pub returns-in-Ok-End-clause-leaves : goal.returns-in-Ok-End-clause-leaves
-returns-in-Ok-End-clause-leaves g c =
+pub returns-in-None-clause-leaves : goal.returns-in-None-clause-leaves
+returns-in-None-clause-leaves g c =
     let going = c.frames.invariant.going in
-    let end = rw c.in-Ok-End.field-0-is at c.in-Ok-End.ensures.bytes in
-    ends_whole _ _ _ _ _ c.firsts_go_on.ensures _ _ _ _ going.served _ _ _ end.0 end.1 end.2 going.reports
+    let end = rw c.in-None.is at c.in-Ok.ensures.bytes in
+    subst (λ (b : Books). Leaves c.args.table.now c.args.header (g.R.Inlet.remaining c.args.reader.now) (g.R.Inlet.remaining c.next_frame-read.new.reader) (g.W.Outlet.contents c.args.writer.now) (g.W.Outlet.contents c.frames.writer)
+    c.args.issuer.now b (Ok c.frames.report)) (sym end.3)
+    (ends_whole _ _ _ _ _ c.firsts_go_on.ensures _ _ _ _ going.served _ _ _ end.0 end.1 end.2 going.reports)
 
-pub returns-in-Err-answered-clause-leaves : goal.returns-in-Err-answered-clause-leaves
-returns-in-Err-answered-clause-leaves g c =
+pub returns-in-Err-written-clause-leaves : goal.returns-in-Err-written-clause-leaves
+returns-in-Err-written-clause-leaves g c =
     let so = c.frames.invariant in
-    let table = ap (λ (f : Feeding). f.table) so.held in
-    let frame = rw (c.in-Ok-Body.field-0-is, table) at c.in-Ok-Body.ensures.bytes in
-    let e = c.in-Err-answered.ensures in
-    stop_at _ _ _ _ _ c.firsts_go_on.ensures _ _ _ _ so.going.served (Unit {0}) _ _ _ _ _ _ _ _ _ frame.0 c.in-Err-answered.failed so.going.flushed frame.1 frame.2
-    (rw (so.table, so.header, frame.3) at e.answered) e.spent
+    let frame = rw c.in-Some.is at c.in-Ok.ensures.bytes in
+    let e = c.in-Err-written.ensures in
+    let part = rw c.deref.ensures.value at e.written in
+    stop_at _ _ _ _ _ c.firsts_go_on.ensures _ _ _ _ so.going.served (Unit {0}) _ _ _ _ _ _ _ _ _ frame.0 c.in-Err-written.failed so.going.flushed frame.1 frame.2
+    (written_part _ _ _ _ _ _ _ _ _ _ _ c.clear.ensures.items frame.3 part) e.spent
 
-pub returns-in-Err-answered-clause-flushed : goal.returns-in-Err-answered-clause-flushed
-returns-in-Err-answered-clause-flushed g c =
+pub returns-in-Err-written-clause-flushed : goal.returns-in-Err-written-clause-flushed
+returns-in-Err-written-clause-flushed g c =
     let so = c.frames.invariant in
-    let table = ap (λ (f : Feeding). f.table) so.held in
-    let frame = rw (c.in-Ok-Body.field-0-is, table) at c.in-Ok-Body.ensures.bytes in
-    let e = c.in-Err-answered.ensures in
-    waits_at _ _ _ _ _ c.firsts_go_on.ensures _ _ _ _ so.going.served (Unit {0}) _ _ _ _ _ _ _ _ _ frame.0 c.in-Err-answered.failed so.going.flushed frame.1 frame.2
-    (rw (so.table, so.header, frame.3) at e.answered) e.spent
+    let frame = rw c.in-Some.is at c.in-Ok.ensures.bytes in
+    let e = c.in-Err-written.ensures in
+    let part = rw c.deref.ensures.value at e.written in
+    waits_at _ _ _ _ _ c.firsts_go_on.ensures _ _ _ _ so.going.served (Unit {0}) _ _ _ _ _ _ _ _ _ frame.0 c.in-Err-written.failed so.going.flushed frame.1 frame.2
+    (written_part _ _ _ _ _ _ _ _ _ _ _ c.clear.ensures.items frame.3 part) e.spent
 
 pub frames-preserved : goal.frames-preserved
 frames-preserved g c =
     let so = c.frames.invariant in
-    let table = ap (λ (f : Feeding). f.table) so.held in
-    let read = c.in-Ok-Body.ensures in
-    let frame = rw (c.in-Ok-Body.field-0-is, table) at read.bytes in
-    let drawn = rw c.in-Ok-Body.field-0-is at read.spent in
-    let e = c.in-Ok.ensures in
-    let reports = c.count_frame.ensures _ e.kind in
+    let next = c.in-Ok.ensures in
+    let frame = rw c.in-Some.is at next.bytes in
+    let drawn = rw c.in-Some.is at next.spent in
+    let e = c.in-Ok-written.ensures in
+    let appends = rw c.deref.ensures.value at e.written in
+    let flushed = rw c.deref.ensures.value at e.flushed in
     record {
-      held = read.held ∙ ap (λ (t : Layout). unpacker_holding t []) table;
-      table = e.kept.table ∙ so.table;
-      header = e.kept.header ∙ so.header;
-      going = going_more c.firsts_go_on.ensures _ _ _ _ _ _ _ _ _ _ _ _ _ _ _ _ _ so.going frame.1 frame.2 (rw (so.table, so.header, frame.3) at e.answered) (rw frame.3 at reports);
-      running = running_write _ _ _ _ _ _ _ _ (running_read _ _ _ _ _ _ _ _ so.running read.turns drawn.spends) e.turns e.spent;
-    }
-
-pub frames-preserved-in-Some : goal.frames-preserved-in-Some
-frames-preserved-in-Some g c =
-    let so = c.frames.invariant in
-    let table = ap (λ (f : Feeding). f.table) so.held in
-    let read = c.in-Ok-Body.ensures in
-    let frame = rw (c.in-Ok-Body.field-0-is, table) at read.bytes in
-    let drawn = rw c.in-Ok-Body.field-0-is at read.spent in
-    let e = c.in-Ok.ensures in
-    let reports = c.count_frame.ensures _ e.kind in
-    record {
-      held = c.reuse.ensures ∙ read.held ∙ ap (λ (t : Layout). unpacker_holding t []) table;
-      table = e.kept.table ∙ so.table;
-      header = e.kept.header ∙ so.header;
-      going = going_more c.firsts_go_on.ensures _ _ _ _ _ _ _ _ _ _ _ _ _ _ _ _ _ so.going frame.1 frame.2 (rw (so.table, so.header, frame.3) at e.answered) (rw frame.3 at reports);
-      running = running_write _ _ _ _ _ _ _ _ (running_read _ _ _ _ _ _ _ _ so.running read.turns drawn.spends) e.turns e.spent;
+      same = next.same;
+      begun = next.begun;
+      none = next.none;
+      going = going_more c.firsts_go_on.ensures _ _ _ _ _ _ _ _ _ _ _ _ _ _ _ _ _ so.going frame.1 frame.2
+          (written_whole _ _ _ _ _ _ _ _ _ _ _ c.clear.ensures.items frame.3 appends flushed) (c.count_frame.ensures c.args.table.now c.frames.issuer frame.0 frame.4);
+      running = running_write _ _ _ _ _ _ _ _ (running_read _ _ _ _ _ _ _ _ so.running next.turns drawn.spends) e.turns e.spent;
     }
 
 pub returns-in-Err-clause-cause : goal.returns-in-Err-clause-cause
 returns-in-Err-clause-cause g c =
-    read_cause (g.R.Inlet.counts c.args.reader.now) (g.R.Inlet.counts c.frames.reader) (g.R.Inlet.counts c.read_frame-read.new.reader)
-    (g.W.Outlet.counts c.args.writer.now) (g.W.Outlet.counts c.frames.writer) c.args.turns c.frames.left c.read_frame-read.new.left c.in-Err.fault c.frames.invariant.running c.in-Err.ensures.turns c.in-Err.ensures.spent
+    read_cause (g.R.Inlet.counts c.args.reader.now) (g.R.Inlet.counts c.frames.reader) (g.R.Inlet.counts c.next_frame-read.new.reader)
+    (g.W.Outlet.counts c.args.writer.now) (g.W.Outlet.counts c.frames.writer) c.args.turns c.frames.left c.next_frame-read.new.left c.in-Err.fault c.frames.invariant.running c.in-Err.ensures.turns c.in-Err.ensures.spent
 
 pub returns-in-Err-clause-flushed : goal.returns-in-Err-clause-flushed
 returns-in-Err-clause-flushed g c =
@@ -141,31 +126,31 @@ returns-in-Err-clause-flushed g c =
 
 pub returns-in-Err-clause-turns : goal.returns-in-Err-clause-turns
 returns-in-Err-clause-turns g c =
-    within (g.R.Inlet.counts c.args.reader.now) (g.R.Inlet.counts c.frames.reader) (g.R.Inlet.counts c.read_frame-read.new.reader)
-    (g.W.Outlet.counts c.args.writer.now) (g.W.Outlet.counts c.frames.writer) (g.W.Outlet.counts c.frames.writer) c.args.turns c.frames.left c.read_frame-read.new.left c.read_frame-read.new.left c.frames.invariant.running c.in-Err.ensures.turns refl
+    within (g.R.Inlet.counts c.args.reader.now) (g.R.Inlet.counts c.frames.reader) (g.R.Inlet.counts c.next_frame-read.new.reader)
+    (g.W.Outlet.counts c.args.writer.now) (g.W.Outlet.counts c.frames.writer) (g.W.Outlet.counts c.frames.writer) c.args.turns c.frames.left c.next_frame-read.new.left c.next_frame-read.new.left c.frames.invariant.running c.in-Err.ensures.turns refl
 
-pub returns-in-Ok-End-clause-cause : goal.returns-in-Ok-End-clause-cause
-returns-in-Ok-End-clause-cause g c =
-    let drawn = rw c.in-Ok-End.field-0-is at c.in-Ok-End.ensures.spent in
+pub returns-in-None-clause-cause : goal.returns-in-None-clause-cause
+returns-in-None-clause-cause g c =
+    let drawn = rw c.in-None.is at c.in-Ok.ensures.spent in
     record { reader = drawn ∙ c.frames.invariant.running.reader; writer = c.frames.invariant.running.writer }
 
-pub returns-in-Ok-End-clause-flushed : goal.returns-in-Ok-End-clause-flushed
-returns-in-Ok-End-clause-flushed g c = flushed_so _ _ _ c.frames.invariant.going.flushed
+pub returns-in-None-clause-flushed : goal.returns-in-None-clause-flushed
+returns-in-None-clause-flushed g c = flushed_so _ _ _ c.frames.invariant.going.flushed
 
-pub returns-in-Ok-End-clause-turns : goal.returns-in-Ok-End-clause-turns
-returns-in-Ok-End-clause-turns g c =
-    within (g.R.Inlet.counts c.args.reader.now) (g.R.Inlet.counts c.frames.reader) (g.R.Inlet.counts c.read_frame-read.new.reader)
-    (g.W.Outlet.counts c.args.writer.now) (g.W.Outlet.counts c.frames.writer) (g.W.Outlet.counts c.frames.writer) c.args.turns c.frames.left c.read_frame-read.new.left c.read_frame-read.new.left c.frames.invariant.running c.in-Ok-End.ensures.turns refl
+pub returns-in-None-clause-turns : goal.returns-in-None-clause-turns
+returns-in-None-clause-turns g c =
+    within (g.R.Inlet.counts c.args.reader.now) (g.R.Inlet.counts c.frames.reader) (g.R.Inlet.counts c.next_frame-read.new.reader)
+    (g.W.Outlet.counts c.args.writer.now) (g.W.Outlet.counts c.frames.writer) (g.W.Outlet.counts c.frames.writer) c.args.turns c.frames.left c.next_frame-read.new.left c.next_frame-read.new.left c.frames.invariant.running c.in-Ok.ensures.turns refl
 
-pub returns-in-Err-answered-clause-cause : goal.returns-in-Err-answered-clause-cause
-returns-in-Err-answered-clause-cause g c =
-    let read = c.in-Ok-Body.ensures in
-    let drawn = rw c.in-Ok-Body.field-0-is at read.spent in
-    write_cause (g.R.Inlet.counts c.args.reader.now) (g.R.Inlet.counts c.read_frame-read.new.reader)
-    (g.W.Outlet.counts c.args.writer.now) (g.W.Outlet.counts c.frames.writer) (g.W.Outlet.counts c.answer_message-answered.new.writer) c.args.turns c.read_frame-read.new.left c.answer_message-answered.new.left c.in-Err-answered.failed
-    (running_read _ _ _ _ _ _ _ _ c.frames.invariant.running read.turns drawn.spends) c.in-Err-answered.ensures.turns c.in-Err-answered.ensures.spent
+pub returns-in-Err-written-clause-cause : goal.returns-in-Err-written-clause-cause
+returns-in-Err-written-clause-cause g c =
+    let next = c.in-Ok.ensures in
+    let drawn = rw c.in-Some.is at next.spent in
+    write_cause (g.R.Inlet.counts c.args.reader.now) (g.R.Inlet.counts c.next_frame-read.new.reader)
+    (g.W.Outlet.counts c.args.writer.now) (g.W.Outlet.counts c.frames.writer) (g.W.Outlet.counts c.write_answer-written.new.writer) c.args.turns c.next_frame-read.new.left c.write_answer-written.new.left c.in-Err-written.failed
+    (running_read _ _ _ _ _ _ _ _ c.frames.invariant.running next.turns drawn.spends) c.in-Err-written.ensures.turns c.in-Err-written.ensures.spent
 
-pub returns-in-Err-answered-clause-turns : goal.returns-in-Err-answered-clause-turns
-returns-in-Err-answered-clause-turns g c =
-    within (g.R.Inlet.counts c.args.reader.now) (g.R.Inlet.counts c.frames.reader) (g.R.Inlet.counts c.read_frame-read.new.reader)
-    (g.W.Outlet.counts c.args.writer.now) (g.W.Outlet.counts c.frames.writer) (g.W.Outlet.counts c.answer_message-answered.new.writer) c.args.turns c.frames.left c.read_frame-read.new.left c.answer_message-answered.new.left c.frames.invariant.running c.in-Ok-Body.ensures.turns c.in-Err-answered.ensures.turns
+pub returns-in-Err-written-clause-turns : goal.returns-in-Err-written-clause-turns
+returns-in-Err-written-clause-turns g c =
+    within (g.R.Inlet.counts c.args.reader.now) (g.R.Inlet.counts c.frames.reader) (g.R.Inlet.counts c.next_frame-read.new.reader)
+    (g.W.Outlet.counts c.args.writer.now) (g.W.Outlet.counts c.frames.writer) (g.W.Outlet.counts c.write_answer-written.new.writer) c.args.turns c.frames.left c.next_frame-read.new.left c.write_answer-written.new.left c.frames.invariant.running c.in-Ok.ensures.turns c.in-Err-written.ensures.turns

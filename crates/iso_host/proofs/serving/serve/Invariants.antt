@@ -1,14 +1,14 @@
 use Rattle.std.proofs.Common.{◌≡◌, ◌+◌, ◌*◌, [], length}
 use Rattle.std.specs.Io.KnownBytes.{prepend_known}
 use Rattle.iso_host.proofs.Running.{Going, Running}
-use Rattle.iso_host.specs.Intake.{unpacker_holding}
+use Rattle.iso_host.specs.Beginning.{held_of, IsBegun}
 use Rattle.iso_host.proofs.serving.serve.Given as goal
 
 abbrev pub invariant-frames : goal.invariant-frames
 invariant-frames g l = record {
-  held : l.intake ≡ unpacker_holding l.table [];
-  table : l.desk.table ≡ l.table;
-  header : l.desk.header ≡ l.header;
+  same : l.line.gathering.table ≡ l.table;
+  begun : IsBegun l.header l.line.begun l.line.gathering.part;
+  none : held_of l.line.begun l.line.gathering.part ≡ [];
   going : Going l.table l.header (g.R.Inlet.remaining l.initial.reader) (prepend_known l.window (g.R.Inlet.remaining l.reader)) (g.W.Outlet.contents l.initial.writer)
       (g.W.Outlet.contents l.writer) l.initial.issuer l.issuer (g.W.Outlet.counts l.initial.writer) (g.W.Outlet.counts l.writer) l.report;
   running : Running (g.R.Inlet.counts l.initial.reader) (g.R.Inlet.counts l.reader) (g.W.Outlet.counts l.initial.writer)

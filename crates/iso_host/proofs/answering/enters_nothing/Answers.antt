@@ -1,7 +1,7 @@
 use Rattle.std.proofs.Common.{List, take, ap, ◌∙◌, append-nil}
 use Rattle.iso_order.specs.Order.{Instruction}
 use Rattle.iso_issuer.specs.Journal.{firsts}
-use Rattle.iso_host.proofs.handling.enters_nothing.Goals as goal
+use Rattle.iso_host.proofs.answering.enters_nothing.Goals as goal
 
 pub returns : goal.returns
 returns c =
