@@ -63,11 +63,14 @@ impl<D: Disk> RecordLog<D> {
         ensures slots { self.new.slots ≡ self.old.slots }
         ensures clean { D.is_clean self.new.disk ≡ D.is_clean self.old.disk }
         ensures synced { self.new.synced ≡ self.old.synced }
-        ensures log { OnOk result (IsLog D.seen D.may_leave D.is_usable self.old → IsLog D.seen D.may_leave D.is_usable self.new) }
-        ensures records { OnOk result (IsLog D.seen D.may_leave D.is_usable self.old → records_of (D.seen self.new.disk)
+        ensures log { OnOk result (IsLog D.seen D.may_leave D.is_usable self.old
+            → IsLog D.seen D.may_leave D.is_usable self.new) }
+        ensures records { OnOk result (IsLog D.seen D.may_leave D.is_usable self.old
+            → records_of (D.seen self.new.disk)
             ≡ records_of (D.seen self.old.disk) ++ bytes.now ∷ []) }
         // However it ends, a crash leaves the synced records, and of those behind them some from the front.
-        ensures crash { IsLog D.seen D.may_leave D.is_usable self.old → LeavesRecords (D.may_leave self.new.disk) self.old.synced
+        ensures crash { IsLog D.seen D.may_leave D.is_usable self.old
+            → LeavesRecords (D.may_leave self.new.disk) self.old.synced
             (records_of (D.seen self.old.disk) ++ bytes.now ∷ []) }
     {
         if self.count >= self.slots {
@@ -92,10 +95,14 @@ impl<D: Disk> RecordLog<D> {
     pub fn sync(&mut self) -> Result<(), LogError>
         ensures slots { self.new.slots ≡ self.old.slots }
         ensures clean { D.is_clean self.new.disk ≡ D.is_clean self.old.disk }
-        ensures log { OnOk result (IsLog D.seen D.may_leave D.is_usable self.old → IsLog D.seen D.may_leave D.is_usable self.new) }
-        ensures synced { OnOk result (IsLog D.seen D.may_leave D.is_usable self.old → self.new.synced ≡ length (records_of (D.seen self.new.disk))) }
-        ensures records { OnOk result (records_of (D.seen self.new.disk) ≡ records_of (D.seen self.old.disk)) }
-        ensures crash { IsLog D.seen D.may_leave D.is_usable self.old → LeavesRecords (D.may_leave self.new.disk) self.old.synced
+        ensures log { OnOk result (IsLog D.seen D.may_leave D.is_usable self.old
+            → IsLog D.seen D.may_leave D.is_usable self.new) }
+        ensures synced { OnOk result (IsLog D.seen D.may_leave D.is_usable self.old
+            → self.new.synced ≡ length (records_of (D.seen self.new.disk))) }
+        ensures records { OnOk result (records_of (D.seen self.new.disk)
+            ≡ records_of (D.seen self.old.disk)) }
+        ensures crash { IsLog D.seen D.may_leave D.is_usable self.old
+            → LeavesRecords (D.may_leave self.new.disk) self.old.synced
             (records_of (D.seen self.old.disk)) }
     {
         if !self.disk.may_be_used() {

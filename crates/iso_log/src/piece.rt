@@ -51,7 +51,8 @@ pub(crate) fn whole_until<D: Disk>(
     requires small { 128 * (place + count) < 2 ^ 63 }
     ensures least { IfOk result (λ end. place ≤ end) }
     ensures within { IfOk result (λ end. end ≤ place + count) }
-    ensures first { IfOk result (λ end. IsTrue (D.is_clean disk.new) → IsFirst place (place + count) end (D.seen disk.old)) }
+    ensures first { IfOk result (λ end. IsTrue (D.is_clean disk.new)
+        → IsFirst place (place + count) end (D.seen disk.old)) }
     ensures usable { IsTrue (D.is_usable disk.new) }
     ensures clean { IsTrue (D.is_clean disk.new) → IsTrue (D.is_clean disk.old) }
     ensures seen { D.seen disk.new ≡ D.seen disk.old }
@@ -73,7 +74,8 @@ pub(crate) fn write_zeros<D: Disk>(disk: &mut D, place: usize, count: usize) -> 
     requires small { 128 * (place + count) < 2 ^ 63 }
     ensures written { OnOk result (Holds (D.seen disk.new) (128 * place) (replicate (128 * count) 0)) }
     ensures others { Torn (128 * place) (128 * count) (D.seen disk.old) (D.seen disk.new) }
-    ensures mixed { IsTrue (D.is_mixing disk.old) → Follows (Mixed (128 * place) (replicate (128 * count) 0)) (D.may_leave disk.old) (D.may_leave disk.new) }
+    ensures mixed { IsTrue (D.is_mixing disk.old)
+        → Follows (Mixed (128 * place) (replicate (128 * count) 0)) (D.may_leave disk.old) (D.may_leave disk.new) }
     ensures crash { Follows (Torn (128 * place) (128 * count)) (D.may_leave disk.old) (D.may_leave disk.new) }
     ensures usable { IsTrue (D.is_usable disk.new) }
     ensures clean { D.is_clean disk.new ≡ D.is_clean disk.old }
@@ -90,7 +92,8 @@ fn are_zeros<D: Disk>(disk: &mut D, place: usize, count: usize) -> Result<bool, 
     requires some { 1 ≤ count }
     requires most { count ≤ 64 }
     requires small { 128 * (place + count) < 2 ^ 63 }
-    ensures zeros { IfOk result (λ b. b ≡ true → IsTrue (D.is_clean disk.new) → Holds (D.seen disk.old) (128 * place) (replicate (128 * count) 0)) }
+    ensures zeros { IfOk result (λ b. b ≡ true → IsTrue (D.is_clean disk.new)
+        → Holds (D.seen disk.old) (128 * place) (replicate (128 * count) 0)) }
     ensures usable { IsTrue (D.is_usable disk.new) }
     ensures clean { IsTrue (D.is_clean disk.new) → IsTrue (D.is_clean disk.old) }
     ensures seen { D.seen disk.new ≡ D.seen disk.old }
@@ -110,7 +113,8 @@ pub(crate) fn clear_slots<D: Disk>(disk: &mut D, place: usize, count: usize) -> 
     requires some { 1 ≤ count }
     requires most { count ≤ 64 }
     requires small { 128 * (place + count) < 2 ^ 63 }
-    ensures written { OnOk result (IsTrue (D.is_clean disk.new) → Holds (D.seen disk.new) (128 * place) (replicate (128 * count) 0)) }
+    ensures written { OnOk result (IsTrue (D.is_clean disk.new)
+        → Holds (D.seen disk.new) (128 * place) (replicate (128 * count) 0)) }
     ensures others { Torn (128 * place) (128 * count) (D.seen disk.old) (D.seen disk.new) }
     ensures mixed { Follows (Mixed (128 * place) (replicate (128 * count) 0)) (D.may_leave disk.old) (D.may_leave disk.new) }
     ensures usable { IsTrue (D.is_usable disk.new) }
@@ -134,7 +138,9 @@ pub(crate) fn rewrite_slots<D: Disk>(
     requires most { count ≤ 64 }
     requires small { 128 * (place + count) < 2 ^ 63 }
     ensures same { OnOk result (IsTrue (D.is_clean disk.new) → D.seen disk.new ≡ D.seen disk.old) }
-    ensures left { IsTrue (D.is_clean disk.new) → Only (D.seen disk.old) (D.may_leave disk.old) → Only (D.seen disk.old) (D.may_leave disk.new) }
+    ensures left { IsTrue (D.is_clean disk.new)
+        → Only (D.seen disk.old) (D.may_leave disk.old)
+        → Only (D.seen disk.old) (D.may_leave disk.new) }
     ensures usable { IsTrue (D.is_usable disk.new) }
     ensures clean { IsTrue (D.is_clean disk.new) → IsTrue (D.is_clean disk.old) }
 {
