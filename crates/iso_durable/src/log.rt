@@ -1,0 +1,50 @@
+//! A log of orders, as an issuer sees it.
+ghost use Rattle.std.specs.Prelude.{◌≡◌, ◌++◌, [], ◌∷◌, List, OnOk};
+ghost use Rattle.iso_order.specs.Order.{Instruction};
+ghost use Rattle.iso_durable.specs.Front.{LeavesFront};
+
+use iso_order::{Answer, Order};
+
+/// The log failed. Nothing more may be asked of it until it is opened again.
+#[derive(Clone, Copy, Debug, PartialEq, Eq, Drop)]
+pub struct LogFailed;
+
+/// A log of orders. A crash keeps the orders that are synced, and of those behind them some from the front: it may cut
+/// them off anywhere, and what is torn counts as not there.
+pub trait Log {
+    /// It was opened well and no call has failed since. A premise, and no test: no code can tell whether the disk lied
+    /// when the log was opened.
+    ghost is_ready: { Self → Type 0 };
+
+    /// The orders that each crash keeps.
+    ghost synced: { Self → List Instruction };
+
+    /// The orders behind them, which wait for a sync.
+    ghost pending: { Self → List Instruction };
+
+    /// The orders that a start may find after a crash at this moment.
+    ghost may_leave: { Self → List Instruction → Type 0 };
+
+    /// Adds an order with its answer, which then waits for a sync.
+    fn append(&mut self, order: Order, answer: Answer) -> Result<(), LogFailed>
+        ensures ready { OnOk result (is_ready self.old → is_ready self.new) }
+        ensures synced { OnOk result (is_ready self.old → synced self.new ≡ synced self.old) }
+        ensures pending { OnOk result (is_ready self.old
+            → pending self.new ≡ pending self.old ++ order ∷ []) }
+        // however it ends
+        ensures crash { is_ready self.old
+            → LeavesFront (may_leave self.new) (synced self.old) (pending self.old ++ order ∷ []) };
+
+    /// After it, each crash keeps all orders.
+    fn sync(&mut self) -> Result<(), LogFailed>
+        ensures ready { OnOk result (is_ready self.old → is_ready self.new) }
+        ensures synced { OnOk result (is_ready self.old
+            → synced self.new ≡ synced self.old ++ pending self.old) }
+        ensures none { OnOk result (is_ready self.old → pending self.new ≡ []) }
+        // however it ends
+        ensures crash { is_ready self.old
+            → LeavesFront (may_leave self.new) (synced self.old) (pending self.old) };
+
+    /// A log that is ready leaves its synced orders, and of those behind them some from the front.
+    ghost leaves_front: { (log : Self) → is_ready log → LeavesFront (may_leave log) (synced log) (pending log) };
+}
