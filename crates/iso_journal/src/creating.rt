@@ -1,0 +1,26 @@
+//! A new journal.
+ghost use Rattle.std.specs.Prelude.{◌≡◌, [], IfOk, IsTrue};
+ghost use Rattle.iso_journal.specs.Orders.{IsReady, synced_orders, pending_orders};
+
+use crate::journal::JournalLog;
+use iso_log::{LogError, make};
+use iso_record::{Heading, heading_bytes};
+use sqlite_disk::Disk;
+
+/// Makes a journal in an empty file, with room for so many records and its heading in it, all synced. Until it is done,
+/// the file is none: make it under another name, and rename it, so that no half of one can be taken for a journal.
+pub fn create<D: Disk + Drop>(
+    disk: D,
+    heading: &Heading,
+    slots: usize,
+) -> Result<JournalLog<D>, LogError>
+    ensures ready { IfOk result (λ l. IsTrue (D.is_clean l.log.disk)
+        → IsReady D.seen D.may_leave D.is_usable l.log) }
+    ensures synced { IfOk result (λ l. IsTrue (D.is_clean l.log.disk)
+        → synced_orders D.seen l.log ≡ []) }
+    ensures pending { IfOk result (λ l. IsTrue (D.is_clean l.log.disk)
+        → pending_orders D.seen l.log ≡ []) }
+{
+    let log = make(disk, slots, &heading_bytes(heading))?;
+    Ok(JournalLog { log })
+}

@@ -1,0 +1,17 @@
+//! The journal of an issuer in a file of records: each order with the answer that it got, behind a heading.
+//!
+//! - `create`: a new journal in an empty file. `open`: an issuer over the journal in a file, whenever the last host was cut
+//!   off. `OpenError` says why there is none.
+//! - `JournalLog`: the file as a log of orders. `grow` makes room for more.
+#![tactic(auto)]
+
+mod creating;
+mod error;
+mod journal;
+mod opening;
+mod replaying;
+
+pub use creating::create;
+pub use error::OpenError;
+pub use journal::JournalLog;
+pub use opening::open;

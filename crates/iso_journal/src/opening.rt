@@ -1,0 +1,155 @@
+//! Opening a journal.
+ghost use Rattle.std.specs.Prelude.{◌≡◌, ◌≤◌, ◌<◌, ◌*◌, ◌^◌, [], ℕ, List, length, true, IfOk, OnOk, IfErr, IsTrue};
+ghost use Rattle.sqlite_disk.specs.Disk.{Only};
+ghost use Rattle.iso_record.specs.Heading.{heading_bytes};
+ghost use Rattle.iso_log.specs.Slots.{records_of};
+ghost use Rattle.iso_durable.specs.Host.{IsConsistent};
+ghost use Rattle.iso_journal.specs.Orders.{journal_orders, IsReady, synced_orders, pending_orders};
+ghost use Rattle.iso_journal.specs.Written.{IsReplayed};
+ghost use Rattle.iso_journal.specs.Why.{IsWhy, IsOther};
+
+use crate::error::OpenError;
+use crate::journal::JournalLog;
+use crate::replaying::replay_records;
+use iso_durable::DurableIssuer;
+use iso_issuer::{Accounts, Issuer};
+use iso_log::{RECORD, RecordLog, recover};
+use iso_record::{Heading, HeadingFault, heading_fault};
+use sqlite_disk::Disk;
+
+/// An issuer, and what its file has.
+#[derive(Drop)]
+struct Loaded {
+    issuer: Issuer,
+    slots: usize,
+    count: usize,
+}
+
+/// Refuses a file whose first record is not the heading. Changes nothing.
+fn check_heading<D: Disk>(disk: &mut D, heading: &Heading) -> Result<(), OpenError>
+    ensures usable { OnOk result (IsTrue (D.is_usable disk.new)) }
+    ensures fault { IfErr result (λ e. IsTrue (D.is_clean disk.new)
+        → IsOther (heading_bytes heading.now) (D.seen disk.old) e) }
+    ensures clean { IsTrue (D.is_clean disk.new) → IsTrue (D.is_clean disk.old) }
+    ensures seen { D.seen disk.new ≡ D.seen disk.old }
+    ensures crash { (c : List ℕ) → D.may_leave disk.new c → D.may_leave disk.old c }
+{
+    if !disk.may_be_used() {
+        return Err(OpenError::Disk);
+    }
+    let Ok(len) = disk.len() else {
+        return Err(OpenError::Disk);
+    };
+    if len < RECORD {
+        return Err(OpenError::Other(HeadingFault::Format));
+    }
+    let mut first = [0; RECORD];
+    let Ok(()) = disk.read_at(0, &mut first) else {
+        return Err(OpenError::Disk);
+    };
+    match heading_fault(&first, heading) {
+        None => Ok(()),
+        Some(fault) => Err(OpenError::Other(fault)),
+    }
+}
+
+/// As `open`, over a disk that is lent.
+fn load<D: Disk>(
+    disk: &mut D,
+    heading: &Heading,
+    accounts: Accounts,
+    limit: u32,
+    group: usize,
+) -> Result<Loaded, OpenError>
+    requires least { 1 ≤ limit }
+    requires most { limit ≤ 999999 }
+    ensures ready { IfOk result (λ l. IsTrue (D.is_clean disk.new)
+        → Only (D.seen disk.old) (D.may_leave disk.old)
+        → IsReady D.seen D.may_leave D.is_usable (record { disk = disk.new; slots = l.slots; count = l.count; synced = l.count })) }
+    ensures accounts { IfOk result (λ l. l.issuer.accounts ≡ accounts) }
+    ensures limit { IfOk result (λ l. l.issuer.limit ≡ limit) }
+    ensures held { IfOk result (λ l. IsTrue (D.is_clean disk.new)
+        → Only (D.seen disk.old) (D.may_leave disk.old)
+        → l.issuer.orders ≡ journal_orders (records_of (D.seen disk.old))) }
+    ensures written { OnOk result (IsTrue (D.is_clean disk.new)
+        → Only (D.seen disk.old) (D.may_leave disk.old)
+        → IsReplayed accounts limit (records_of (D.seen disk.old))) }
+    ensures records { OnOk result (IsTrue (D.is_clean disk.new)
+        → Only (D.seen disk.old) (D.may_leave disk.old)
+        → records_of (D.seen disk.new) ≡ records_of (D.seen disk.old)) }
+    ensures fault { IfErr result (λ e. IsTrue (D.is_clean disk.new)
+        → Only (D.seen disk.old) (D.may_leave disk.old)
+        → IsWhy accounts limit (heading_bytes heading.now) (D.seen disk.old) e) }
+    ensures any_moment { IsTrue (D.is_clean disk.new)
+        → Only (D.seen disk.old) (D.may_leave disk.old)
+        → (c : List ℕ) → D.may_leave disk.new c → records_of c ≡ records_of (D.seen disk.old) }
+{
+    check_heading(disk, heading)?;
+    let found = recover(disk, group)?;
+    if found.count == 0 {
+        return Err(OpenError::Disk);
+    }
+    let issuer = match replay_records(disk, found.count, accounts, limit) {
+        Ok(issuer) => issuer,
+        Err(error) => return Err(error),
+    };
+    Ok(Loaded {
+        issuer,
+        slots: found.slots,
+        count: found.count,
+    })
+}
+
+/// Opens the journal in a file: cuts off what a crash tore, writes the last `group` records again, syncs, and decides each
+/// order again. Let `group` be as many orders as are ever answered together. An `Err` hands the disk back.
+///
+/// What it says of values has two premises that no code can test: that no wrong answer of the disk was taken as true, and
+/// that after a restart a read gives what is on the disk.
+pub fn open<D: Disk + Drop>(
+    mut disk: D,
+    heading: &Heading,
+    accounts: Accounts,
+    limit: u32,
+    group: usize,
+) -> Result<DurableIssuer<JournalLog<D>>, (OpenError, D)>
+    requires least { 1 ≤ limit }
+    requires most { limit ≤ 999999 }
+    // The issuer has the orders of the file, each record is what a host writes, and nothing waits.
+    ensures consistent { IfOk result (λ host. IsTrue (D.is_clean host.log.log.disk)
+        → Only (D.seen disk) (D.may_leave disk)
+        → IsConsistent (λ l. IsReady D.seen D.may_leave D.is_usable l.log) (λ l. synced_orders D.seen l.log) (λ l. pending_orders D.seen l.log) host) }
+    ensures accounts { IfOk result (λ host. host.issuer.accounts ≡ accounts) }
+    ensures limit { IfOk result (λ host. host.issuer.limit ≡ limit) }
+    ensures held { IfOk result (λ host. IsTrue (D.is_clean host.log.log.disk)
+        → Only (D.seen disk) (D.may_leave disk)
+        → host.issuer.orders ≡ journal_orders (records_of (D.seen disk))) }
+    ensures written { IfOk result (λ host. IsTrue (D.is_clean host.log.log.disk)
+        → Only (D.seen disk) (D.may_leave disk)
+        → IsReplayed accounts limit (records_of (D.seen disk))) }
+    ensures none { IfOk result (λ host. IsTrue (D.is_clean host.log.log.disk)
+        → Only (D.seen disk) (D.may_leave disk)
+        → pending_orders D.seen host.log.log ≡ []) }
+    // Each refusal has its reason, and leaves the records.
+    ensures fault { IfErr result (λ e. IsTrue (D.is_clean e.1)
+        → Only (D.seen disk) (D.may_leave disk)
+        → IsWhy accounts limit (heading_bytes heading.now) (D.seen disk) e.0) }
+    ensures unchanged { IfErr result (λ e. IsTrue (D.is_clean e.1)
+        → Only (D.seen disk) (D.may_leave disk)
+        → (c : List ℕ) → D.may_leave e.1 c → records_of c ≡ records_of (D.seen disk)) }
+{
+    match load(&mut disk, heading, accounts, limit, group) {
+        Ok(loaded) => {
+            let log = RecordLog {
+                disk,
+                slots: loaded.slots,
+                count: loaded.count,
+                synced: loaded.count,
+            };
+            Ok(DurableIssuer {
+                issuer: loaded.issuer,
+                log: JournalLog { log },
+            })
+        }
+        Err(error) => Err((error, disk)),
+    }
+}
