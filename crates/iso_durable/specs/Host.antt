@@ -1,5 +1,5 @@
 -- An issuer over its log.
-use Rattle.std.specs.Prelude.{◌≡◌, ◌++◌, ◌∷◌, [], ℕ, Bool, true, false, List, if◌then◌else◌, nat_le, length}
+use Rattle.std.specs.Prelude.{◌≡◌, ◌++◌, ◌∷◌, [], ℕ, Bool, true, false, List, if◌then◌else◌, nat_le, length, Result, IsOk, is_err}
 use Rattle.iso_order.specs.Order.{Instruction}
 use Rattle.iso_order.specs.Outcome.{Outcome, code_alone}
 use Rattle.iso_issuer.specs.Books.{Books, is_full, journal}
@@ -38,3 +38,8 @@ pub record AnswersOrder (old new : Books) (o : Instruction) (answer : Outcome) (
   pub same : new.accounts ≡ old.accounts
   pub limit : new.limit ≡ old.limit
   pub orders : new.orders ≡ (if is_new then old.orders ++ o ∷ [] else old.orders)
+
+-- it succeeds only where no call failed before, and tells of a failure from then on
+pub record Stops {T E : Type 0} (old new : Bool) (result : Result T E) : Type 0 where
+  pub before : IsOk result → old ≡ false
+  pub after : new ≡ is_err result

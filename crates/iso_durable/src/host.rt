@@ -3,7 +3,7 @@ ghost use Rattle.std.specs.Prelude.{◌≡◌, ◌≤◌, ℕ, List, [], ◌∷�
 ghost use Rattle.iso_order.specs.Order.{Instruction};
 ghost use Rattle.iso_issuer.specs.Books.{Books};
 ghost use Rattle.iso_durable.specs.Durable.{MayLeave, comes, come_all, outcome, outcomes, syncs};
-ghost use Rattle.iso_durable.specs.Host.{state_of, IsConsistent, IsOpened, AnswersOrder, with_new};
+ghost use Rattle.iso_durable.specs.Host.{state_of, IsConsistent, IsOpened, AnswersOrder, Stops, with_new};
 ghost use Rattle.iso_durable.specs.World.{IsStart};
 ghost use Rattle.iso_durable.specs.Front.{LeavesFront};
 
@@ -49,6 +49,8 @@ pub struct DurableIssuer<L: Log> {
     pub issuer: Issuer,
     /// The orders that are kept.
     pub log: L,
+    /// A call failed: nothing is decided any more, until the log is opened again.
+    pub has_failed: bool,
 }
 
 /// Has the issuer answer an order, and tells whether the order is a new entry: 96 where its journal is full.
@@ -101,7 +103,11 @@ impl<L: Log> DurableIssuer<L> {
         ensures log { IfErr result (λ e. e.1 ≡ log) }
     {
         match replay(accounts, limit, orders) {
-            Ok(issuer) => Ok(DurableIssuer { issuer, log }),
+            Ok(issuer) => Ok(DurableIssuer {
+                issuer,
+                log,
+                has_failed: false,
+            }),
             Err(fault) => Err((fault, log)),
         }
     }
@@ -119,10 +125,39 @@ impl<L: Log> DurableIssuer<L> {
         ensures crash { IsConsistent L.is_ready L.synced L.pending self.old
             → (c : List Instruction) → L.may_leave self.new.log c
             → MayLeave (comes (state_of L.synced L.pending self.old) order) c }
+        // After a failure each call fails.
+        ensures stops { Stops self.old.has_failed self.new.has_failed result }
     {
+        if self.has_failed {
+            return Err(Fault::Log);
+        }
+        self.has_failed = true;
         let (answer, is_new) = answer_order(&mut self.issuer, order)?;
         keep(&mut self.log, order, answer, is_new)?;
+        self.has_failed = false;
         Ok(answer)
+    }
+
+    /// Has the log synced: after it, the answers of the orders that came before may be given.
+    pub fn sync(&mut self) -> Result<(), Fault>
+        ensures consistent { OnOk result (IsConsistent L.is_ready L.synced L.pending self.old
+            → IsConsistent L.is_ready L.synced L.pending self.new) }
+        ensures synced { OnOk result (IsConsistent L.is_ready L.synced L.pending self.old
+            → state_of L.synced L.pending self.new
+            ≡ syncs (state_of L.synced L.pending self.old)) }
+        // However it ends, a crash leaves what it may leave before.
+        ensures crash { IsConsistent L.is_ready L.synced L.pending self.old
+            → (c : List Instruction) → L.may_leave self.new.log c
+            → MayLeave (state_of L.synced L.pending self.old) c }
+        ensures stops { Stops self.old.has_failed self.new.has_failed result }
+    {
+        if self.has_failed {
+            return Err(Fault::Log);
+        }
+        self.has_failed = true;
+        self.log.sync()?;
+        self.has_failed = false;
+        Ok(())
     }
 
     /// Answers orders, each after those before it: decides them, adds them to the log, has the log synced, and only then
@@ -138,15 +173,18 @@ impl<L: Log> DurableIssuer<L> {
         // However it ends, a crash leaves what it may leave once some of the orders have come, the first ones.
         ensures crash { IsConsistent L.is_ready L.synced L.pending self.old
             → (c : List Instruction) → L.may_leave self.new.log c
-            → (n : ℕ)
-            × MayLeave (come_all (state_of L.synced L.pending self.old) (take n orders.now)) c }
+            → (n : ℕ) × MayLeave (come_all (state_of L.synced L.pending self.old) (take n orders.now)) c }
+        ensures stops { Stops self.old.has_failed self.new.has_failed result }
     {
         let mut answers = Vec::new(alloc);
         for order in orders {
             let answer = self.decide(*order)?;
-            answers.push(answer)?;
+            let Ok(()) = answers.push(answer) else {
+                self.has_failed = true;
+                return Err(Fault::Memory);
+            };
         }
-        self.log.sync()?;
+        self.sync()?;
         Ok(answers)
     }
 }
