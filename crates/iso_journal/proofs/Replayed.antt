@@ -10,6 +10,7 @@ use Rattle.iso_issuer.specs.declared.account.Account.{Account}
 use Rattle.iso_issuer.specs.Books.{Books, is_full, journal}
 use Rattle.iso_issuer.specs.Journal.{is_entered}
 use Rattle.iso_issuer.specs.Decision.{journal_of, answer_for}
+use Rattle.iso_durable.specs.Durable.{Durable}
 use Rattle.iso_durable.specs.Host.{AnswersOrder, is_taken}
 use Rattle.iso_log.specs.Slots.{slot, records_from, records_of}
 use Rattle.iso_log.specs.Log.{IsFile, IsLog, IsLeft}
@@ -189,3 +190,14 @@ first_other wanted file bytes fault long holds is =
 -- reading leaves what a crash may leave
 pub still_only : (old new : List ℕ) (may_old may_new : List ℕ → Type 0) → new ≡ old → ((c : List ℕ) → may_new c → may_old c) → Only old may_old → Only new may_new
 still_only old new may_old may_new same less only = λ c here. only c (less c here) ∙ sym same
+
+abbrev state : List Account → ℕ → List Instruction → List Instruction → Durable
+state accounts limit synced pending = record { accounts = accounts; limit = limit; synced = synced; pending = pending }
+
+-- a host that was opened, whose orders a crash left
+pub same_state : (a b : List Account) (m n : ℕ) (orders synced pending left : List Instruction) → a ≡ b → m ≡ n → orders ≡ synced ++ pending → pending ≡ [] → orders ≡ left
+    → state a m synced pending ≡ state b n left []
+same_state a b m n orders synced pending left accounts limit all none is =
+    let same : synced ≡ left = sym (append-nil synced) ∙ ap (λ (l : List Instruction). synced ++ l) (sym none) ∙ sym all ∙ is in
+    ap (λ (x : List Account). state x m synced pending) accounts ∙ ap (λ (x : ℕ). state b x synced pending) limit ∙ ap (λ (x : List Instruction). state b n x pending) same
+    ∙ ap (λ (x : List Instruction). state b n left x) none

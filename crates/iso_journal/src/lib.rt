@@ -3,11 +3,13 @@
 //! - `create`: a new journal in an empty file. `open`: an issuer over the journal in a file, whenever the last host was cut
 //!   off. `OpenError` says why there is none.
 //! - `JournalLog`: the file as a log of orders. `grow` makes room for more.
+//! - `laws`: a crash of a host, and the start after it.
 #![tactic(auto)]
 
 mod creating;
 mod error;
 mod journal;
+pub mod laws;
 mod opening;
 mod replaying;
 

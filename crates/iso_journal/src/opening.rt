@@ -148,6 +148,7 @@ pub fn open<D: Disk + Drop>(
             Ok(DurableIssuer {
                 issuer: loaded.issuer,
                 log: JournalLog { log },
+                has_failed: false,
             })
         }
         Err(error) => Err((error, disk)),
