@@ -1,9 +1,10 @@
-//! A purchase is built, written, read, decided and answered.
+//! A purchase is built and written, and a host answers its bytes.
+use iso_host::{Handled, Host, HostTable, Link};
 use iso_issuer::{Accounts, Issuer};
-use iso_order::{Verdict, order_of, respond};
+use iso_order::Pan;
 use iso_parts::Mti;
 use iso_table::Table;
-use iso_wire::{Message, pack, unpack};
+use iso_wire::{Header, Message, pack};
 use std::alloc::Global;
 use std::test::*;
 
@@ -21,38 +22,53 @@ fn purchase(alloc: Global) -> Result<Message, Fail> {
     Ok(message)
 }
 
-/// An issuer of one account.
-fn issuer(alloc: Global) -> Result<Issuer, Fail> {
+/// A host of one account.
+fn host(alloc: Global) -> Result<Host, Fail> {
     let text =
         b"{\"accounts\":[{\"currency\":\"840\",\"opening\":5000,\"pan\":\"4111111111111111\"}]}";
-    Ok(Issuer::new(Accounts::from_json(alloc, text)?, 999_999))
+    let issuer = Issuer::new(Accounts::from_json(alloc, text)?, 999_999);
+    Ok(Host::new(alloc, issuer))
 }
 
-/// Lets the issuer decide what the message asks, and makes the response that tells its answer.
-fn answer(alloc: Global, issuer: &mut Issuer, message: &Message) -> Result<Message, Fail> {
-    let Verdict::Order(order) = order_of(message) else {
-        return Err("the message asks nothing of an issuer")?;
-    };
-    let answer = issuer.handle(order)?;
-    if answer.shown.is_some() {
-        return Err("only an inquiry shows a balance")?;
+/// The 1987 table in ASCII, and lengths of four digits before each message.
+fn link(alloc: Global) -> Result<Link, Fail> {
+    match HostTable::new(Table::ascii87(alloc)?) {
+        Ok(table) => Ok(Link::new(table, Header::Ascii4)),
+        Err(_) => Err("no host can serve under the table")?,
     }
-    Ok(respond(alloc, message, &answer)?)
 }
 
 #[test]
 fn a_purchase(rt: HostRuntime) -> Result<(), Fail> {
     let alloc = rt.alloc();
-    let table = Table::ascii87(alloc)?;
+    let link = link(alloc)?;
+    let mut host = host(alloc)?;
+    let body = pack(alloc, link.table().table(), &purchase(alloc)?)?;
 
-    let bytes = pack(alloc, &table, &purchase(alloc)?)?;
-    let (message, used) = unpack(alloc, &table, &bytes)?;
-    assert_eq!(rt; (used, message.get(11)), (82, Some(b"000007".as_slice())));
-
-    let response = answer(alloc, &mut issuer(alloc)?, &message)?;
-    let bytes = pack(alloc, &table, &response)?;
+    let mut out = Vec::new(alloc);
+    let handled = host.answer(&link, &body, &mut out)?;
+    assert!(rt;
+        matches!(
+            handled,
+            Handled::Ordered {
+                code: 0,
+                seq: 1,
+                ..
+            }
+        )
+    );
     let wanted =
-        b"021072200001060080001641111111111111110000000000000010000102030405000007051234500000100840";
-    assert_eq!(rt; bytes.as_slice(), wanted.as_slice());
+        b"0090021072200001060080001641111111111111110000000000000010000102030405000007051234500000100840";
+    assert_eq!(rt; out.as_slice(), wanted.as_slice());
+
+    // sent again, it gets its first answer, and nothing is posted twice
+    out.clear();
+    host.answer(&link, &body, &mut out)?;
+    assert_eq!(rt; out.as_slice(), wanted.as_slice());
+    let pan = Pan::from_digits(b"4111111111111111").ok_or("no account number")?;
+    assert_eq!(rt;
+        (host.issuer().len(), host.issuer().ledger(pan)),
+        (1, Some(4000))
+    );
     Ok(())
 }
