@@ -16,6 +16,7 @@ mod issuer;
 mod journal;
 pub mod laws;
 mod posting;
+mod storing;
 
 pub use account::Account;
 pub use accounts::Accounts;
