@@ -164,6 +164,7 @@ pub fn enters_nothing(issuer: &Issuer)
 /// Answers the message that was read: enters the order that it asks, and appends the frame of the response. After an
 /// `Err` nothing is appended, and the order may be entered: then the message has an answer, though it wasn't made.
 #[tactic(auto, unfolding(crate::specs::Output::IsAnswerTo))]
+#[inline(always)]
 pub fn answer_request(
     table: &Table,
     header: Header,
@@ -212,6 +213,7 @@ pub fn answer_request(
 
 /// Reads a whole body into the room for it; why not, where it is not one whole message.
 #[tactic(auto, unfolding(crate::specs::Asking::message_in))]
+#[inline(always)]
 fn read_whole(
     table: &Table,
     body: &[u8],
@@ -238,6 +240,7 @@ fn read_whole(
 }
 
 /// Answers a whole body: enters the order that it asks, and appends the frame of the response.
+#[inline(always)]
 pub fn answer_body(
     table: &Table,
     header: Header,

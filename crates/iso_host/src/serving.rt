@@ -73,6 +73,7 @@ fn write_answer<W: Outlet>(writer: &mut W, answer: &[u8], left: &mut u64) -> Res
 
 /// Counts a frame by what came of its body.
 #[tactic(auto, unfolding(crate::specs::Hosting::IsHandled))]
+#[inline(always)]
 fn count_frame(report: &mut Report, handled: &Handled)
     ensures { (t : Layout) (books : Books) (body : List ℕ) → IsHandled t books body handled.now
         → ReportsOneMore report.old report.new (asked_of t body) }

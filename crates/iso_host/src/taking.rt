@@ -51,7 +51,7 @@ fn head_with(begun: &Begun, byte: u8) -> [u8; 4]
 }
 
 /// Takes one byte of a header. Where it ends the frame of an empty body, that is answered.
-#[cold]
+#[inline(never)]
 fn take_header_byte(
     table: &Table,
     header: Header,
@@ -153,6 +153,7 @@ fn take_first(
 }
 
 /// Answers the body whose last bytes are these.
+#[inline(never)]
 fn answer_last(
     table: &Table,
     header: Header,
@@ -184,6 +185,7 @@ fn answer_last(
 }
 
 /// Takes bytes of a body, and answers it where they are its last.
+#[inline(never)]
 fn take_body(
     table: &Table,
     header: Header,

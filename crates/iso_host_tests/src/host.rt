@@ -6,6 +6,7 @@ mod example;
 mod faults;
 mod frames;
 mod long;
+mod peers;
 mod serving;
 mod sessions;
 mod streams;

@@ -16,6 +16,7 @@ mod host;
 mod known;
 mod messages;
 mod orders;
+mod peers;
 mod tables;
 mod without;
 mod world;
@@ -59,5 +60,6 @@ fn main(rt: HostRuntime) -> io::Result<()> {
     tell(&rt, &accounts::rows(alloc))?;
     tell(&rt, &world::rows(alloc))?;
     tell(&rt, &host::rows(alloc))?;
+    tell(&rt, &peers::rows(alloc))?;
     tell(&rt, &without::rows(alloc))
 }
