@@ -1,6 +1,6 @@
 -- A body that is answered, or not.
 use Rattle.std.proofs.Common.{◌≡◌, ℕ, ◌<◌, List, [], ◌∷◌, ◌++◌, length, inr, Option, Some, None, Result, Ok, Err, refl, sym, ap, subst, append-nil, ◌∙◌, cond, eqb, Bool, true, false, arith}
-use Rattle.std.specs.Prelude.{option_map, IfOk}
+use Rattle.std.specs.Prelude.{option_map, OnOk}
 use Rattle.std.proofs.lemmas.Bool.{eqb-true}
 use Rattle.iso_table.specs.Layout.{Layout}
 use Rattle.iso_wire.specs.declared.fault.UnpackFault.{UnpackFault}
@@ -67,9 +67,9 @@ answers_silent t h books m out silent kept = (
 )
 
 -- what came of a body whose message was answered
-pub handled_body : (E : Type 0) (t : Layout) (books : Books) (body : List ℕ) (m : Contents) (result : Result Handled E) → message_in t body ≡ Some m → IfOk result (IsHandledBy books (verdict m)) → IfOk result (IsHandled t books body)
-handled_body E t books body m (Ok handled) is told = handled_some t books body m handled is told
-handled_body E t books body m (Err e) is told = told
+pub handled_body : (X E : Type 0) (t : Layout) (books : Books) (body : List ℕ) (m : Contents) (told : Handled) (result : Result X E) → message_in t body ≡ Some m → OnOk result (IsHandledBy books (verdict m) told) → OnOk result (IsHandled t books body told)
+handled_body X E t books body m told (Ok x) is by_verdict = handled_some t books body m told is by_verdict
+handled_body X E t books body m told (Err e) is by_verdict = by_verdict
 
 -- an order was entered, and has an answer
 pub enters_order : (t : Layout) (h : Header) (old new : Books) (m : Contents) (o : Instruction) (answer : Outcome) → verdict m ≡ asks.Order o → answer ≡ outcome_for old o → new ≡ books_after old (o ∷ [])

@@ -17,6 +17,7 @@ pub mod Reporting
 pub mod Serving
 pub mod Sharing
 pub mod Standard
+pub mod Stepping
 pub mod Streams
 pub mod Turns
 pub mod Writing

@@ -1,6 +1,6 @@
 -- What taking the next frame from a reader leaves, and answering its body.
 -- Inner: bodies and proofs cite it, and no public clause does.
-use Rattle.std.specs.Prelude.{◌≡◌, ℕ, ◌≤◌, ◌<◌, List, [], ◌++◌, length, true, Option, Some, None, Result, Ok, Err}
+use Rattle.std.specs.Prelude.{◌≡◌, ℕ, ◌≤◌, ◌<◌, List, [], ◌++◌, length, Bool, true, false, Option, Result, Ok, Err}
 use Rattle.std.specs.Io.KnownBytes.{Consumes, Keeps, IsAtEnd}
 use Rattle.iso_table.specs.Layout.{Layout}
 use Rattle.iso_wire.specs.declared.header.Header.{Header}
@@ -30,14 +30,14 @@ EndsBefore t h old new window left books after Memory = (part : List ℕ) × Con
 EndsBefore t h old new window left books after Write = ⊥
 
 -- a frame is taken and its body answered; or the input ends before it
-abbrev pub AnswersFrame : Layout → Header → Option (List ℕ) → Option (List ℕ) → List ℕ → Option (List ℕ) → Books → Books → List ℕ → List ℕ → Result (Option Handled) ServeFault → Type 0
-AnswersFrame t h old new window left books after out grown (Ok (Some handled)) =
-    (body : List ℕ) × Consumes old new (frame_of h body) × (length body ≤ largest h) × Answers t h books after body out grown × IsHandled t books body handled
-AnswersFrame t h old new window left books after out grown (Ok None) = Keeps old new × (window ≡ []) × IsAtEnd left × (after ≡ books) × (grown ≡ out)
-AnswersFrame t h old new window left books after out grown (Err e) = EndsBefore t h old new window left books after e
+abbrev pub AnswersFrame : Layout → Header → Option (List ℕ) → Option (List ℕ) → List ℕ → Option (List ℕ) → Books → Books → List ℕ → List ℕ → Handled → Result Bool ServeFault → Type 0
+AnswersFrame t h old new window left books after out grown told (Ok true) =
+    (body : List ℕ) × Consumes old new (frame_of h body) × (length body ≤ largest h) × Answers t h books after body out grown × IsHandled t books body told
+AnswersFrame t h old new window left books after out grown told (Ok false) = Keeps old new × (window ≡ []) × IsAtEnd left × (after ≡ books) × (grown ≡ out)
+AnswersFrame t h old new window left books after out grown told (Err e) = EndsBefore t h old new window left books after e
 
 -- the turns that it takes
-abbrev pub SpendsOnNext : Counts → Counts → ℕ → ℕ → List ℕ → List ℕ → Result (Option Handled) ServeFault → Type 0
-SpendsOnNext old new before left window after (Ok (Some handled)) = TakesReads old new before left window after 1
-SpendsOnNext old new before left window after (Ok None) = new.failures ≡ old.failures
+abbrev pub SpendsOnNext : Counts → Counts → ℕ → ℕ → List ℕ → List ℕ → Result Bool ServeFault → Type 0
+SpendsOnNext old new before left window after (Ok true) = TakesReads old new before left window after 1
+SpendsOnNext old new before left window after (Ok false) = new.failures ≡ old.failures
 SpendsOnNext old new before left window after (Err e) = EndsReads old new before left e

@@ -164,32 +164,38 @@ pub fn enters_nothing(issuer: &Issuer)
 /// Answers the message that was read: enters the order that it asks, and appends the frame of the response. After an
 /// `Err` nothing is appended, and the order may be entered: then the message has an answer, though it wasn't made.
 #[tactic(auto, unfolding(crate::specs::Output::IsAnswerTo))]
-#[inline(always)]
 pub fn answer_request(
     table: &Table,
     header: Header,
     issuer: &mut Issuer,
     rooms: &mut Rooms,
     out: &mut Vec<u8>,
-) -> Result<Handled, NoMemory>
+    told: &mut Handled,
+) -> Result<(), NoMemory>
     requires ready { IsHostReady table.now }
     requires read { (bytes : List ℕ) × Spelling table.now rooms.old.request bytes }
     ensures answered { OnOk result
         (AnswersMessage table.now header issuer.old issuer.new (Some rooms.old.request) out.old.items out.new.items) }
-    ensures handled { IfOk result (IsHandledBy issuer.old (verdict rooms.old.request)) }
+    ensures handled { OnOk result (IsHandledBy issuer.old (verdict rooms.old.request) told.new) }
     ensures memory { OnErr result (EntersOrKeeps table.now header issuer.old issuer.new (Some rooms.old.request)) }
     ensures unchanged { OnErr result (out.new.items ≡ out.old.items) }
 {
     // the law that without an order the books stay as they are, for the prover
     enters_nothing(issuer);
     match order_of(&rooms.request) {
-        Verdict::Silent => Ok(Handled::Silent),
+        Verdict::Silent => {
+            *told = Handled::Silent;
+            Ok(())
+        }
         Verdict::Reply(code) => {
             let answer = Answer::only(code);
             // the law that each response has a frame, for the prover: it has one where none is made, too
             has_frame(table, header, &rooms.request, &answer);
             match append_answer(table, header, rooms, &answer, out) {
-                Ok(()) => Ok(Handled::Replied { code }),
+                Ok(()) => {
+                    *told = Handled::Replied { code };
+                    Ok(())
+                }
                 Err(fault) => Err(fault),
             }
         }
@@ -200,11 +206,14 @@ pub fn answer_request(
             };
             has_frame(table, header, &rooms.request, &answer);
             match append_answer(table, header, rooms, &answer, out) {
-                Ok(()) => Ok(Handled::Ordered {
-                    key: order.key(),
-                    code: answer.code,
-                    seq: answer.seq,
-                }),
+                Ok(()) => {
+                    *told = Handled::Ordered {
+                        key: order.key(),
+                        code: answer.code,
+                        seq: answer.seq,
+                    };
+                    Ok(())
+                }
                 Err(fault) => Err(fault),
             }
         }
@@ -239,7 +248,7 @@ fn read_whole(
     }
 }
 
-/// Answers a whole body: enters the order that it asks, and appends the frame of the response.
+/// Answers a whole body: enters the order that it asks, appends the frame of the response, and tells what came of it.
 #[inline(always)]
 pub fn answer_body(
     table: &Table,
@@ -248,10 +257,11 @@ pub fn answer_body(
     rooms: &mut Rooms,
     body: &[u8],
     out: &mut Vec<u8>,
-) -> Result<Handled, NoMemory>
+    told: &mut Handled,
+) -> Result<(), NoMemory>
     requires ready { IsHostReady table.now }
     ensures answered { OnOk result (Answers table.now header issuer.old issuer.new body.now out.old.items out.new.items) }
-    ensures handled { IfOk result (IsHandled table.now issuer.old body.now) }
+    ensures handled { OnOk result (IsHandled table.now issuer.old body.now told.new) }
     ensures memory { OnErr result (EntersOrKeeps table.now header issuer.old issuer.new (message_in table.now body.now)) }
     ensures unchanged { OnErr result (out.new.items ≡ out.old.items) }
 {
@@ -259,7 +269,10 @@ pub fn answer_body(
     enters_nothing(issuer);
     match read_whole(table, body, &mut rooms.request) {
         Err(fault) => Err(fault),
-        Ok(Some(fault)) => Ok(Handled::Unreadable(fault)),
-        Ok(None) => answer_request(table, header, issuer, rooms, out),
+        Ok(Some(fault)) => {
+            *told = Handled::Unreadable(fault);
+            Ok(())
+        }
+        Ok(None) => answer_request(table, header, issuer, rooms, out, told),
     }
 }

@@ -73,13 +73,20 @@ impl Host {
         ensures unchanged { OnErr result (out.new.items ≡ out.old.items) }
     {
         let table = link.table().table();
-        answer_body(
+        let header = link.header();
+        let mut told = Handled::Silent;
+        let answered = answer_body(
             table,
-            link.header(),
+            header,
             &mut self.issuer,
             &mut self.rooms,
             body,
             out,
-        )
+            &mut told,
+        );
+        match answered {
+            Ok(()) => Ok(told),
+            Err(fault) => Err(fault),
+        }
     }
 }

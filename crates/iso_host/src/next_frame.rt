@@ -44,7 +44,7 @@ fn fill<R: Inlet>(window: &mut Window, reader: &mut R, left: &mut u64) -> Result
     }
 }
 
-/// Takes the next frame of the reader, and answers its body; `None` where the input ends before it.
+/// Takes the next frame of the reader, answers its body, and tells what came of it; not, where the input ends before it.
 #[inline(always)]
 pub fn next_frame<R: Inlet>(
     table: &Table,
@@ -54,14 +54,15 @@ pub fn next_frame<R: Inlet>(
     window: &mut Window,
     reader: &mut R,
     left: &mut u64,
-) -> Result<Option<Handled>, ServeFault>
+    told: &mut Handled,
+) -> Result<bool, ServeFault>
     requires ready { IsHostReady table.now }
     requires same { line.old.gathering.table ≡ table.now }
     requires begun { IsBegun header line.old.begun line.old.gathering.part }
     requires none { held_of line.old.begun line.old.gathering.part ≡ [] }
     ensures bytes { AnswersFrame table.now header (prepend_known window.old (R.remaining reader.old))
         (prepend_known window.new (R.remaining reader.new)) window.new (R.remaining reader.new)
-        issuer.old issuer.new line.old.out.items line.new.out.items result }
+        issuer.old issuer.new line.old.out.items line.new.out.items told.new result }
     ensures turns { TakesTurns (R.counts reader.old) (R.counts reader.new) left.old left.new }
     ensures spent { SpendsOnNext (R.counts reader.old) (R.counts reader.new) left.old left.new window.old window.new result }
     ensures same { line.new.gathering.table ≡ table.now }
@@ -72,7 +73,7 @@ pub fn next_frame<R: Inlet>(
     splits_once();
     'pieces: loop {
         match fill(window, reader, left) {
-            Err(ServeFault::CutFrame) if head_len(&line.begun) == 0 => return Ok(None),
+            Err(ServeFault::CutFrame) if head_len(&line.begun) == 0 => return Ok(false),
             Err(fault) => return Err(fault),
             Ok(()) => {}
         }
@@ -85,16 +86,16 @@ pub fn next_frame<R: Inlet>(
             &mut line.rooms,
             window.bytes(),
             &mut line.out,
+            told,
         );
-        let taken = match took {
+        let step = match took {
             Err(PeerFault::BadHeader) => return Err(ServeFault::BadHeader),
             Err(PeerFault::Memory) => return Err(ServeFault::Memory),
-            Ok(taken) => taken,
+            Ok(step) => step,
         };
-        window.pass(taken.used);
-        match taken.handled {
-            Some(handled) => return Ok(Some(handled)),
-            None => {}
+        window.pass(step.used);
+        if step.ended {
+            return Ok(true);
         }
     }
 }

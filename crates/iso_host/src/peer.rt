@@ -1,12 +1,13 @@
 //! One peer's bytes, as they come: frames cut into pieces of any size.
 ghost use Rattle.std.specs.Prelude.{◌≡◌, ◌↔◌, [], true, IfOk, IfErr, OnErr};
 ghost use Rattle.iso_host.specs.Peers.{Takes, Refuses};
+ghost use Rattle.iso_host.specs.Stepping.{taken_as};
 
 use crate::gathering::Gathering;
 use crate::handled::Handled;
 use crate::host::Host;
 use crate::link::Link;
-use crate::taking::{Begun, NOT_BEGUN, head_len, take_bytes};
+use crate::taking::{Begun, NOT_BEGUN, Step, head_len, take_bytes};
 use iso_table::Table;
 use iso_wire::Header;
 use iso_wire::laws::splits_once;
@@ -32,6 +33,17 @@ pub struct Taken {
     pub used: usize,
     /// What came of the body whose frame they end, if they end one.
     pub handled: Option<Handled>,
+}
+
+/// What a step took, with what came of the body.
+fn taken_by(step: &Step, told: &Handled) -> Taken
+    ensures { result ≡ taken_as step.now told.now }
+{
+    let handled = if step.ended { Some(*told) } else { None };
+    Taken {
+        used: step.used,
+        handled,
+    }
 }
 
 /// One peer of a host: the frame that it has begun. It holds at most the longest message of its table, and of a body that
@@ -103,7 +115,8 @@ impl<'l> Peer<'l> {
         ensures held { OnErr result (self.new.held ≡ self.old.held) }
         ensures unchanged { OnErr result (out.new.items ≡ out.old.items) }
     {
-        take_bytes(
+        let mut told = Handled::Silent;
+        let took = take_bytes(
             self.table,
             self.header,
             &mut self.begun,
@@ -112,6 +125,11 @@ impl<'l> Peer<'l> {
             &mut host.rooms,
             bytes,
             out,
-        )
+            &mut told,
+        );
+        match took {
+            Err(fault) => Err(fault),
+            Ok(step) => Ok(taken_by(&step, &told)),
+        }
     }
 }

@@ -73,7 +73,6 @@ fn write_answer<W: Outlet>(writer: &mut W, answer: &[u8], left: &mut u64) -> Res
 
 /// Counts a frame by what came of its body.
 #[tactic(auto, unfolding(crate::specs::Hosting::IsHandled))]
-#[inline(always)]
 fn count_frame(report: &mut Report, handled: &Handled)
     ensures { (t : Layout) (books : Books) (body : List ℕ) → IsHandled t books body handled.now
         → ReportsOneMore report.old report.new (asked_of t body) }
@@ -139,6 +138,7 @@ pub fn serve<R: Inlet, W: Outlet>(
         rooms: no_rooms(alloc),
         out: Vec::new(alloc),
     };
+    let mut told = Handled::Silent;
     'frames: loop {
         line.out.clear();
         let read = next_frame(
@@ -149,20 +149,20 @@ pub fn serve<R: Inlet, W: Outlet>(
             &mut window,
             reader,
             &mut left,
+            &mut told,
         );
-        let next = match read {
+        let is_taken = match read {
             Err(fault) => return Err(fault),
-            Ok(next) => next,
+            Ok(is_taken) => is_taken,
         };
-        let handled = match next {
-            None => return Ok(report),
-            Some(handled) => handled,
-        };
+        if !is_taken {
+            return Ok(report);
+        }
         let written = write_answer(writer, &line.out, &mut left);
         match written {
             Err(failed) => return Err(failed),
             Ok(()) => {}
         }
-        count_frame(&mut report, &handled);
+        count_frame(&mut report, &told);
     }
 }

@@ -6,11 +6,12 @@ ghost use Rattle.iso_host.specs.Beginning.{head_of, held_of, IsBegun, IsInBody, 
 ghost use Rattle.iso_host.specs.Handling.{EntersOrKeeps};
 ghost use Rattle.iso_host.specs.Hosting.{Answers, IsHandled};
 ghost use Rattle.iso_host.specs.Peers.{Takes, Refuses};
+ghost use Rattle.iso_host.specs.Stepping.{taken_as};
 
 use crate::answering::{Rooms, answer_body, answer_request, enters_nothing};
 use crate::gathering::Gathering;
 use crate::handled::Handled;
-use crate::peer::{PeerFault, Taken};
+use crate::peer::PeerFault;
 use iso_issuer::Issuer;
 use iso_order::NoMemory;
 use iso_table::Table;
@@ -23,6 +24,13 @@ pub struct Begun {
     pub head: [u8; 4],
     pub count: usize,
     pub left: usize,
+}
+
+/// What a step took: how many bytes, and whether they end a frame. What came of its body is told beside it.
+#[derive(Clone, Copy)]
+pub struct Step {
+    pub used: usize,
+    pub ended: bool,
 }
 
 /// No frame has begun.
@@ -51,7 +59,7 @@ fn head_with(begun: &Begun, byte: u8) -> [u8; 4]
 }
 
 /// Takes one byte of a header. Where it ends the frame of an empty body, that is answered.
-#[inline(never)]
+#[cold]
 fn take_header_byte(
     table: &Table,
     header: Header,
@@ -60,12 +68,13 @@ fn take_header_byte(
     rooms: &mut Rooms,
     bytes: &[u8],
     out: &mut Vec<u8>,
-) -> Result<Taken, PeerFault>
+    told: &mut Handled,
+) -> Result<Step, PeerFault>
     requires ready { IsHostReady table.now }
     requires between { begun.old.left ≡ 0 }
     requires outside { IsInHeader header begun.old [] }
-    ensures took { IfOk result (Takes table.now header (head_of begun.old) (head_of begun.new) issuer.old issuer.new
-        bytes.now out.old.items out.new.items) }
+    ensures took { IfOk result (λ step. Takes table.now header (head_of begun.old) (head_of begun.new) issuer.old issuer.new
+        bytes.now out.old.items out.new.items (taken_as step told.new)) }
     ensures refused { IfErr result (Refuses table.now header (head_of begun.old) issuer.old issuer.new bytes.now) }
     ensures begun { IsBegun header begun.new [] }
     ensures held { OnErr result (begun.new ≡ begun.old) }
@@ -74,15 +83,15 @@ fn take_header_byte(
     // the laws that a header and fewer bytes than it counts need more, and that a bad one stays so, for the prover
     splits_once();
     if bytes.is_empty() {
-        return Ok(Taken {
+        return Ok(Step {
             used: 0,
-            handled: None,
+            ended: false,
         });
     }
     let head = head_with(begun, bytes[0]);
     let count = begun.count + 1;
-    let told = body_length(header, &head[..count]);
-    match told {
+    let counted = body_length(header, &head[..count]);
+    match counted {
         Err(_) => Err(PeerFault::BadHeader),
         Ok(Some(length)) if length == 0 => match answer_body(
             table,
@@ -91,13 +100,14 @@ fn take_header_byte(
             rooms,
             &[],
             out,
+            told,
         ) {
             Err(_) => Err(PeerFault::Memory),
-            Ok(handled) => {
+            Ok(()) => {
                 begun.count = 0;
-                Ok(Taken {
+                Ok(Step {
                     used: 1,
-                    handled: Some(handled),
+                    ended: true,
                 })
             }
         },
@@ -107,9 +117,9 @@ fn take_header_byte(
                 count,
                 left: length.unwrap_or(0),
             };
-            Ok(Taken {
+            Ok(Step {
                 used: 1,
-                handled: None,
+                ended: false,
             })
         }
     }
@@ -125,12 +135,13 @@ fn take_first(
     rooms: &mut Rooms,
     bytes: &[u8],
     out: &mut Vec<u8>,
-) -> Result<Taken, PeerFault>
+    told: &mut Handled,
+) -> Result<Step, PeerFault>
     requires ready { IsHostReady table.now }
     requires between { begun.old.left ≡ 0 }
     requires none { begun.old.count ≡ 0 }
-    ensures took { IfOk result (Takes table.now header (head_of begun.old) (head_of begun.new) issuer.old issuer.new
-        bytes.now out.old.items out.new.items) }
+    ensures took { IfOk result (λ step. Takes table.now header (head_of begun.old) (head_of begun.new) issuer.old issuer.new
+        bytes.now out.old.items out.new.items (taken_as step told.new)) }
     ensures refused { IfErr result (Refuses table.now header (head_of begun.old) issuer.old issuer.new bytes.now) }
     ensures begun { IsBegun header begun.new [] }
     ensures held { OnErr result (begun.new ≡ begun.old) }
@@ -140,20 +151,19 @@ fn take_first(
         Err(_) => Err(PeerFault::BadHeader),
         Ok(Some(length)) if length <= bytes.len() - header.size() => {
             let (_, rest) = bytes.split_at(header.size());
-            match answer_body(table, header, issuer, rooms, &rest[..length], out) {
+            match answer_body(table, header, issuer, rooms, &rest[..length], out, told) {
                 Err(_) => Err(PeerFault::Memory),
-                Ok(handled) => Ok(Taken {
+                Ok(()) => Ok(Step {
                     used: header.size() + length,
-                    handled: Some(handled),
+                    ended: true,
                 }),
             }
         }
-        Ok(_) => take_header_byte(table, header, begun, issuer, rooms, bytes, out),
+        Ok(_) => take_header_byte(table, header, begun, issuer, rooms, bytes, out, told),
     }
 }
 
 /// Answers the body whose last bytes are these.
-#[inline(never)]
 fn answer_last(
     table: &Table,
     header: Header,
@@ -162,14 +172,15 @@ fn answer_last(
     rooms: &mut Rooms,
     piece: &[u8],
     out: &mut Vec<u8>,
-) -> Result<Handled, NoMemory>
+    told: &mut Handled,
+) -> Result<(), NoMemory>
     requires ready { IsHostReady table.now }
     requires same { gathering.old.table ≡ table.now }
     requires some { 0 < length piece.now }
     requires few { length gathering.old.part ≤ 65535 }
     ensures answered { OnOk result (Answers table.now header issuer.old issuer.new (gathering.old.part ++ piece.now)
         out.old.items out.new.items) }
-    ensures handled { IfOk result (IsHandled table.now issuer.old (gathering.old.part ++ piece.now)) }
+    ensures handled { OnOk result (IsHandled table.now issuer.old (gathering.old.part ++ piece.now) told.new) }
     ensures memory { OnErr result (EntersOrKeeps table.now header issuer.old issuer.new
         (message_in table.now (gathering.old.part ++ piece.now))) }
     ensures unchanged { OnErr result (out.new.items ≡ out.old.items) }
@@ -179,13 +190,15 @@ fn answer_last(
     enters_nothing(issuer);
     match gathering.read(piece, &mut rooms.request) {
         Err(fault) => Err(fault),
-        Ok(Some(fault)) => Ok(Handled::Unreadable(fault)),
-        Ok(None) => answer_request(table, header, issuer, rooms, out),
+        Ok(Some(fault)) => {
+            *told = Handled::Unreadable(fault);
+            Ok(())
+        }
+        Ok(None) => answer_request(table, header, issuer, rooms, out, told),
     }
 }
 
 /// Takes bytes of a body, and answers it where they are its last.
-#[inline(never)]
 fn take_body(
     table: &Table,
     header: Header,
@@ -195,13 +208,14 @@ fn take_body(
     rooms: &mut Rooms,
     bytes: &[u8],
     out: &mut Vec<u8>,
-) -> Result<Taken, PeerFault>
+    told: &mut Handled,
+) -> Result<Step, PeerFault>
     requires ready { IsHostReady table.now }
     requires same { gathering.old.table ≡ table.now }
     requires more { 0 < begun.old.left }
     requires inside { IsInBody header begun.old gathering.old.part }
-    ensures took { IfOk result (Takes table.now header (held_of begun.old gathering.old.part) (held_of begun.new gathering.new.part)
-        issuer.old issuer.new bytes.now out.old.items out.new.items) }
+    ensures took { IfOk result (λ step. Takes table.now header (held_of begun.old gathering.old.part) (held_of begun.new gathering.new.part)
+        issuer.old issuer.new bytes.now out.old.items out.new.items (taken_as step told.new)) }
     ensures refused { IfErr result (Refuses table.now header (held_of begun.old gathering.old.part) issuer.old issuer.new bytes.now) }
     ensures begun { IsBegun header begun.new gathering.new.part }
     ensures held { OnErr result (begun.new ≡ begun.old) }
@@ -217,22 +231,31 @@ fn take_body(
             Err(_) => Err(PeerFault::Memory),
             Ok(()) => {
                 begun.left = left - bytes.len();
-                Ok(Taken {
+                Ok(Step {
                     used: bytes.len(),
-                    handled: None,
+                    ended: false,
                 })
             }
         };
     }
-    match answer_last(table, header, gathering, issuer, rooms, &bytes[..left], out) {
+    match answer_last(
+        table,
+        header,
+        gathering,
+        issuer,
+        rooms,
+        &bytes[..left],
+        out,
+        told,
+    ) {
         Err(_) => Err(PeerFault::Memory),
-        Ok(handled) => {
+        Ok(()) => {
             gathering.clear();
             begun.count = 0;
             begun.left = 0;
-            Ok(Taken {
+            Ok(Step {
                 used: left,
-                handled: Some(handled),
+                ended: true,
             })
         }
     }
@@ -249,12 +272,13 @@ pub fn take_bytes(
     rooms: &mut Rooms,
     bytes: &[u8],
     out: &mut Vec<u8>,
-) -> Result<Taken, PeerFault>
+    told: &mut Handled,
+) -> Result<Step, PeerFault>
     requires ready { IsHostReady table.now }
     requires same { gathering.old.table ≡ table.now }
     requires begun { IsBegun header begun.old gathering.old.part }
-    ensures took { IfOk result (Takes table.now header (held_of begun.old gathering.old.part) (held_of begun.new gathering.new.part)
-        issuer.old issuer.new bytes.now out.old.items out.new.items) }
+    ensures took { IfOk result (λ step. Takes table.now header (held_of begun.old gathering.old.part) (held_of begun.new gathering.new.part)
+        issuer.old issuer.new bytes.now out.old.items out.new.items (taken_as step told.new)) }
     ensures refused { IfErr result (Refuses table.now header (held_of begun.old gathering.old.part) issuer.old issuer.new bytes.now) }
     ensures begun { IsBegun header begun.new gathering.new.part }
     ensures held { OnErr result (begun.new ≡ begun.old) }
@@ -263,10 +287,12 @@ pub fn take_bytes(
     ensures table { gathering.new.table ≡ gathering.old.table }
 {
     if begun.left > 0 {
-        return take_body(table, header, begun, gathering, issuer, rooms, bytes, out);
+        return take_body(
+            table, header, begun, gathering, issuer, rooms, bytes, out, told,
+        );
     }
     if begun.count > 0 {
-        return take_header_byte(table, header, begun, issuer, rooms, bytes, out);
+        return take_header_byte(table, header, begun, issuer, rooms, bytes, out, told);
     }
-    take_first(table, header, begun, issuer, rooms, bytes, out)
+    take_first(table, header, begun, issuer, rooms, bytes, out, told)
 }

@@ -14,4 +14,4 @@ returns-in-Ok-Some-clause-handled c =
 pub returns-in-Ok-None-clause-handled : goal.returns-in-Ok-None-clause-handled
 returns-in-Ok-None-clause-handled c =
     let read = rw c.in-Ok-None.field-0-is at c.in-Ok-None.ensures in
-    handled_body _ c.args.table.now c.args.issuer.now c.args.body.now c.read_whole.new.request c.answer_request.result read.0 c.answer_request.ensures.handled
+    handled_body _ _ c.args.table.now c.args.issuer.now c.args.body.now c.read_whole.new.request c.answer_request.new.told c.answer_request.result read.0 c.answer_request.ensures.handled

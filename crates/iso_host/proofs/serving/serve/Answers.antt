@@ -71,10 +71,10 @@ returns-in-Err-clause-leaves g c =
     let laws = c.splits_once.ensures in
     stop_before _ _ _ _ _ c.firsts_go_on.ensures _ _ _ _ c.frames.invariant.going.served laws.bad laws.stays _ _ _ c.in-Err.fault c.in-Err.ensures.bytes
 
-pub returns-in-None-clause-leaves : goal.returns-in-None-clause-leaves
-returns-in-None-clause-leaves g c =
+pub returns-then-not-is_taken-clause-leaves : goal.returns-then-not-is_taken-clause-leaves
+returns-then-not-is_taken-clause-leaves g c =
     let going = c.frames.invariant.going in
-    let end = rw c.in-None.is at c.in-Ok.ensures.bytes in
+    let end = rw c.if-not-is_taken.true at c.in-Ok.ensures.bytes in
     subst (λ (b : Books). Leaves c.args.table.now c.args.header (g.R.Inlet.remaining c.args.reader.now) (g.R.Inlet.remaining c.next_frame-read.new.reader) (g.W.Outlet.contents c.args.writer.now) (g.W.Outlet.contents c.frames.writer)
     c.args.issuer.now b (Ok c.frames.report)) (sym end.3)
     (ends_whole _ _ _ _ _ c.firsts_go_on.ensures _ _ _ _ going.served _ _ _ end.0 end.1 end.2 going.reports)
@@ -82,7 +82,7 @@ returns-in-None-clause-leaves g c =
 pub returns-in-Err-written-clause-leaves : goal.returns-in-Err-written-clause-leaves
 returns-in-Err-written-clause-leaves g c =
     let so = c.frames.invariant in
-    let frame = rw c.in-Some.is at c.in-Ok.ensures.bytes in
+    let frame = rw c.if-not-is_taken.false at c.in-Ok.ensures.bytes in
     let e = c.in-Err-written.ensures in
     let part = rw c.deref.ensures.value at e.written in
     stop_at _ _ _ _ _ c.firsts_go_on.ensures _ _ _ _ so.going.served (Unit {0}) _ _ _ _ _ _ _ _ _ frame.0 c.in-Err-written.failed so.going.flushed frame.1 frame.2
@@ -91,7 +91,7 @@ returns-in-Err-written-clause-leaves g c =
 pub returns-in-Err-written-clause-flushed : goal.returns-in-Err-written-clause-flushed
 returns-in-Err-written-clause-flushed g c =
     let so = c.frames.invariant in
-    let frame = rw c.in-Some.is at c.in-Ok.ensures.bytes in
+    let frame = rw c.if-not-is_taken.false at c.in-Ok.ensures.bytes in
     let e = c.in-Err-written.ensures in
     let part = rw c.deref.ensures.value at e.written in
     waits_at _ _ _ _ _ c.firsts_go_on.ensures _ _ _ _ so.going.served (Unit {0}) _ _ _ _ _ _ _ _ _ frame.0 c.in-Err-written.failed so.going.flushed frame.1 frame.2
@@ -101,8 +101,8 @@ pub frames-preserved : goal.frames-preserved
 frames-preserved g c =
     let so = c.frames.invariant in
     let next = c.in-Ok.ensures in
-    let frame = rw c.in-Some.is at next.bytes in
-    let drawn = rw c.in-Some.is at next.spent in
+    let frame = rw c.if-not-is_taken.false at next.bytes in
+    let drawn = rw c.if-not-is_taken.false at next.spent in
     let e = c.in-Ok-written.ensures in
     let appends = rw c.deref.ensures.value at e.written in
     let flushed = rw c.deref.ensures.value at e.flushed in
@@ -129,23 +129,23 @@ returns-in-Err-clause-turns g c =
     within (g.R.Inlet.counts c.args.reader.now) (g.R.Inlet.counts c.frames.reader) (g.R.Inlet.counts c.next_frame-read.new.reader)
     (g.W.Outlet.counts c.args.writer.now) (g.W.Outlet.counts c.frames.writer) (g.W.Outlet.counts c.frames.writer) c.args.turns c.frames.left c.next_frame-read.new.left c.next_frame-read.new.left c.frames.invariant.running c.in-Err.ensures.turns refl
 
-pub returns-in-None-clause-cause : goal.returns-in-None-clause-cause
-returns-in-None-clause-cause g c =
-    let drawn = rw c.in-None.is at c.in-Ok.ensures.spent in
+pub returns-then-not-is_taken-clause-cause : goal.returns-then-not-is_taken-clause-cause
+returns-then-not-is_taken-clause-cause g c =
+    let drawn = rw c.if-not-is_taken.true at c.in-Ok.ensures.spent in
     record { reader = drawn ∙ c.frames.invariant.running.reader; writer = c.frames.invariant.running.writer }
 
-pub returns-in-None-clause-flushed : goal.returns-in-None-clause-flushed
-returns-in-None-clause-flushed g c = flushed_so _ _ _ c.frames.invariant.going.flushed
+pub returns-then-not-is_taken-clause-flushed : goal.returns-then-not-is_taken-clause-flushed
+returns-then-not-is_taken-clause-flushed g c = flushed_so _ _ _ c.frames.invariant.going.flushed
 
-pub returns-in-None-clause-turns : goal.returns-in-None-clause-turns
-returns-in-None-clause-turns g c =
+pub returns-then-not-is_taken-clause-turns : goal.returns-then-not-is_taken-clause-turns
+returns-then-not-is_taken-clause-turns g c =
     within (g.R.Inlet.counts c.args.reader.now) (g.R.Inlet.counts c.frames.reader) (g.R.Inlet.counts c.next_frame-read.new.reader)
     (g.W.Outlet.counts c.args.writer.now) (g.W.Outlet.counts c.frames.writer) (g.W.Outlet.counts c.frames.writer) c.args.turns c.frames.left c.next_frame-read.new.left c.next_frame-read.new.left c.frames.invariant.running c.in-Ok.ensures.turns refl
 
 pub returns-in-Err-written-clause-cause : goal.returns-in-Err-written-clause-cause
 returns-in-Err-written-clause-cause g c =
     let next = c.in-Ok.ensures in
-    let drawn = rw c.in-Some.is at next.spent in
+    let drawn = rw c.if-not-is_taken.false at next.spent in
     write_cause (g.R.Inlet.counts c.args.reader.now) (g.R.Inlet.counts c.next_frame-read.new.reader)
     (g.W.Outlet.counts c.args.writer.now) (g.W.Outlet.counts c.frames.writer) (g.W.Outlet.counts c.write_answer-written.new.writer) c.args.turns c.next_frame-read.new.left c.write_answer-written.new.left c.in-Err-written.failed
     (running_read _ _ _ _ _ _ _ _ c.frames.invariant.running next.turns drawn.spends) c.in-Err-written.ensures.turns c.in-Err-written.ensures.spent

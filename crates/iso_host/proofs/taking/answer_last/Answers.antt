@@ -14,4 +14,4 @@ returns-in-Ok-Some-clause-handled c =
 pub returns-in-Ok-None-clause-handled : goal.returns-in-Ok-None-clause-handled
 returns-in-Ok-None-clause-handled c =
     let read = rw (c.in-Ok-None.field-0-is, c.requires.same) at c.in-Ok-None.ensures.read in
-    handled_body _ c.args.table.now c.args.issuer.now _ c.read.new.request c.answer_request.result read.0 c.answer_request.ensures.handled
+    handled_body _ _ c.args.table.now c.args.issuer.now _ c.read.new.request c.answer_request.new.told c.answer_request.result read.0 c.answer_request.ensures.handled
