@@ -51,3 +51,8 @@ HeadingsAreWhole = (h : Head) → is_whole (heading_bytes h) ≡ true
 -- and those of two headings differ
 abbrev pub HeadingsDiffer : Type 0
 HeadingsDiffer = (a b : Head) → IsHeading a → IsHeading b → heading_bytes a ≡ heading_bytes b → a ≡ b
+
+-- what differs is told: the rules, or else the accounts
+abbrev pub HeadingsAreToldApart : Type 0
+HeadingsAreToldApart =
+    (a b : Head) → IsHeading a → IsHeading b → (a ≡ b → ⊥) → heading_fault (heading_bytes a) (heading_bytes b) ≡ (if a.rules == b.rules then Some Accounts else Some Rules)
