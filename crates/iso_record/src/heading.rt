@@ -97,16 +97,16 @@ fn are_same(first: &[u8; RECORD], second: &[u8; RECORD], at: usize, len: usize) 
 
 /// What a first record tells otherwise than this heading. `None` where it is the heading's record, to the byte. Takes no
 /// memory.
-pub fn heading_fault(record: &[u8; RECORD], heading: &Heading) -> Option<HeadingFault>
-    ensures fault { result ≡ heading_fault record.now (heading_bytes heading.now) }
-    ensures none { result ≡ None → record.now ≡ heading_bytes heading.now }
+pub fn heading_fault(first: &[u8; RECORD], heading: &Heading) -> Option<HeadingFault>
+    ensures fault { result ≡ heading_fault first.now (heading_bytes heading.now) }
+    ensures none { result ≡ None → first.now ≡ heading_bytes heading.now }
 {
     let wanted = heading_bytes(heading);
-    if *record == wanted {
+    if *first == wanted {
         None
-    } else if !are_same(record, &wanted, 0, 28) {
+    } else if !are_same(first, &wanted, 0, 28) {
         Some(HeadingFault::Format)
-    } else if !are_same(record, &wanted, 28, 5) {
+    } else if !are_same(first, &wanted, 28, 5) {
         Some(HeadingFault::Rules)
     } else {
         Some(HeadingFault::Accounts)
