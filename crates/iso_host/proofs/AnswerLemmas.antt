@@ -59,11 +59,12 @@ no_message t body (Behind end) ((m, is), before) = ap (whole_by (length body)) i
     by_test false same = refl
 
 -- a message that gets no answer
-pub answers_silent : (t : Layout) (h : Header) (books : Books) (m : Contents) (out : List ℕ) → verdict m ≡ asks.Silent → books_after books [] ≡ books → AnswersMessage t h books books (Some m) out out
+pub answers_nothing : (t : Layout) (h : Header) (old new : Books) (m : Contents) (answer : Option Outcome) (out : List ℕ) → answer ≡ outcome_of old (verdict m) → answer ≡ None
+    → new ≡ books_after old (orders_in (Some (verdict m))) → AnswersMessage t h old new (Some m) out out
 unfolding IsAnswerTo
-answers_silent t h books m out silent kept = (
-  sym kept ∙ ap (λ (v : Verdict). books_after books (orders_in (Some v))) (sym silent),
-  ([], subst (λ (v : Verdict). IsFramed t h (response_with m (outcome_of books v)) []) (sym silent) refl, sym (append-nil out)),
+answers_nothing t h old new m answer out same none entered = (
+  entered,
+  ([], subst (λ (o : Option Outcome). IsFramed t h (response_with m o) []) (sym none ∙ same) refl, sym (append-nil out)),
 )
 
 -- what came of a body whose message was answered
@@ -71,14 +72,12 @@ pub handled_body : (X E : Type 0) (t : Layout) (books : Books) (body : List ℕ)
 handled_body X E t books body m told (Ok x) is by_verdict = handled_some t books body m told is by_verdict
 handled_body X E t books body m told (Err e) is by_verdict = by_verdict
 
--- an order was entered, and has an answer
-pub enters_order : (t : Layout) (h : Header) (old new : Books) (m : Contents) (o : Instruction) (answer : Outcome) → verdict m ≡ asks.Order o → answer ≡ outcome_for old o → new ≡ books_after old (o ∷ [])
-    → (bytes : List ℕ) × IsFramed t h (Some (response m answer)) bytes → EntersOrKeeps t h old new (Some m)
+-- a message was entered, and has an answer
+pub enters_answered : (t : Layout) (h : Header) (old new : Books) (m : Contents) (given : Outcome) (answer : Option Outcome) → answer ≡ outcome_of old (verdict m) → answer ≡ Some given
+    → new ≡ books_after old (orders_in (Some (verdict m))) → (bytes : List ℕ) × IsFramed t h (Some (response m given)) bytes → EntersOrKeeps t h old new (Some m)
 unfolding IsAnswerTo
-enters_order t h old new m o answer asked same entered (bytes, framed) = inr (
-  entered ∙ ap (λ (v : Verdict). books_after old (orders_in (Some v))) (sym asked),
-  (bytes, subst (λ (v : Verdict). IsFramed t h (response_with m (outcome_of old v)) bytes) (sym asked) (subst (λ (a : Outcome). IsFramed t h (Some (response m a)) bytes) same framed)),
-)
+enters_answered t h old new m given answer same is entered (bytes, framed) =
+    inr (entered, (bytes, subst (λ (o : Option Outcome). IsFramed t h (response_with m o) bytes) (sym is ∙ same) framed))
 
 -- an unreadable body asks nothing
 pub asks_nothing : (t : Layout) (books : Books) (body : List ℕ) (fault : BodyFault) → IsHandled t books body (handled.Unreadable fault) → asked_of t body ≡ None

@@ -1,5 +1,5 @@
 //! One body: its message, what that asks, and the frame of the response behind the bytes of a buffer.
-ghost use Rattle.std.specs.Prelude.{◌≡◌, ◌≤◌, ◌+◌, [], ◌∷◌, ◌++◌, take, drop, ℕ, List, length, true, IfOk, OnOk, OnErr, Some, None};
+ghost use Rattle.std.specs.Prelude.{◌≡◌, ◌≤◌, ◌+◌, [], ◌∷◌, ◌++◌, take, drop, ℕ, List, length, true, IfOk, OnOk, OnErr, IfSome, Some, None};
 ghost use Rattle.iso_table.specs.HostReady.{IsHostReady};
 ghost use Rattle.iso_wire.specs.Framing.{header_size, largest, frame_of};
 ghost use Rattle.iso_wire.specs.Refusal.{message_refusal};
@@ -10,9 +10,9 @@ ghost use Rattle.iso_order.specs.Verdict.{verdict};
 ghost use Rattle.iso_parts.specs.Mti.{is_answered};
 ghost use Rattle.iso_issuer.specs.Laws.{books_after};
 ghost use Rattle.iso_issuer.specs.Decision.{is_shown_for};
-ghost use Rattle.iso_host.specs.Asking.{message_in};
+ghost use Rattle.iso_host.specs.Asking.{message_in, orders_in};
 ghost use Rattle.iso_host.specs.Handling.{EntersOrKeeps};
-ghost use Rattle.iso_host.specs.Output.{IsFramed, outcome_for};
+ghost use Rattle.iso_host.specs.Output.{IsFramed, outcome_for, outcome_of};
 ghost use Rattle.iso_host.specs.Gathering.{ReadsBody};
 ghost use Rattle.iso_host.specs.Hosting.{Answers, AnswersMessage, GrowsBy, IsHandled, IsHandledBy};
 
@@ -113,6 +113,7 @@ fn has_frame(table: &Table, header: Header, message: &Message, answer: &Answer)
 }
 
 /// Appends the frame of the response to the message that was read, which is made in the room for it.
+#[inline(always)]
 fn append_answer(
     table: &Table,
     header: Header,
@@ -161,6 +162,45 @@ pub fn enters_nothing(issuer: &Issuer)
     let _entries = issuer.len();
 }
 
+/// The answer to a message, if it gets one, and what of it a log may tell. An order is entered before it is answered.
+#[inline(always)]
+fn answer_to(
+    issuer: &mut Issuer,
+    message: &Message,
+    told: &mut Handled,
+) -> Result<Option<Answer>, NoMemory>
+    ensures answer { IfOk result (λ answer. answer ≡ outcome_of issuer.old (verdict message.now)) }
+    ensures asks { IfOk result (λ answer. IfSome answer (λ a. is_answered (function message.now) ≡ true)) }
+    ensures shown { IfOk result (λ answer. IfSome answer (λ a. is_showable message.now a.shown ≡ true)) }
+    ensures entered { OnOk result (issuer.new ≡ books_after issuer.old (orders_in (Some (verdict message.now)))) }
+    ensures handled { OnOk result (IsHandledBy issuer.old (verdict message.now) told.new) }
+    ensures unchanged { OnErr result (issuer.new ≡ issuer.old) }
+{
+    // the law that without an order the books stay as they are, for the prover
+    enters_nothing(issuer);
+    match order_of(message) {
+        Verdict::Silent => {
+            *told = Handled::Silent;
+            Ok(None)
+        }
+        Verdict::Reply(code) => {
+            *told = Handled::Replied { code };
+            Ok(Some(Answer::only(code)))
+        }
+        Verdict::Order(order) => match answer_order(issuer, order) {
+            Ok(answer) => {
+                *told = Handled::Ordered {
+                    key: order.key(),
+                    code: answer.code,
+                    seq: answer.seq,
+                };
+                Ok(Some(answer))
+            }
+            Err(fault) => Err(fault),
+        },
+    }
+}
+
 /// Answers the message that was read: enters the order that it asks, and appends the frame of the response. After an
 /// `Err` nothing is appended, and the order may be entered: then the message has an answer, though it wasn't made.
 #[tactic(auto, unfolding(crate::specs::Output::IsAnswerTo))]
@@ -180,43 +220,16 @@ pub fn answer_request(
     ensures memory { OnErr result (EntersOrKeeps table.now header issuer.old issuer.new (Some rooms.old.request)) }
     ensures unchanged { OnErr result (out.new.items ≡ out.old.items) }
 {
-    // the law that without an order the books stay as they are, for the prover
-    enters_nothing(issuer);
-    match order_of(&rooms.request) {
-        Verdict::Silent => {
-            *told = Handled::Silent;
-            Ok(())
-        }
-        Verdict::Reply(code) => {
-            let answer = Answer::only(code);
-            // the law that each response has a frame, for the prover: it has one where none is made, too
-            has_frame(table, header, &rooms.request, &answer);
-            match append_answer(table, header, rooms, &answer, out) {
-                Ok(()) => {
-                    *told = Handled::Replied { code };
-                    Ok(())
-                }
-                Err(fault) => Err(fault),
-            }
-        }
-        Verdict::Order(order) => {
-            let answer = match answer_order(issuer, order) {
-                Ok(answer) => answer,
-                Err(fault) => return Err(fault),
-            };
-            has_frame(table, header, &rooms.request, &answer);
-            match append_answer(table, header, rooms, &answer, out) {
-                Ok(()) => {
-                    *told = Handled::Ordered {
-                        key: order.key(),
-                        code: answer.code,
-                        seq: answer.seq,
-                    };
-                    Ok(())
-                }
-                Err(fault) => Err(fault),
-            }
-        }
+    let answer = match answer_to(issuer, &rooms.request, told) {
+        Ok(Some(answer)) => answer,
+        Ok(None) => return Ok(()),
+        Err(fault) => return Err(fault),
+    };
+    // the law that each response has a frame, for the prover: it has one where none is made, too
+    has_frame(table, header, &rooms.request, &answer);
+    match append_answer(table, header, rooms, &answer, out) {
+        Ok(()) => Ok(()),
+        Err(fault) => Err(fault),
     }
 }
 
