@@ -125,6 +125,21 @@ fn take_header_byte(
     }
 }
 
+/// The same, by its parts: so what a rare call wrote into memory doesn't keep the common case there.
+#[inline(always)]
+fn by_parts(took: Result<Step, PeerFault>) -> Result<Step, PeerFault>
+    ensures { result ≡ took }
+{
+    match took {
+        Ok(step) => Ok(Step {
+            used: step.used,
+            ended: step.ended,
+        }),
+        Err(PeerFault::BadHeader) => Err(PeerFault::BadHeader),
+        Err(PeerFault::Memory) => Err(PeerFault::Memory),
+    }
+}
+
 /// Takes bytes between two frames: a whole frame is answered where it lies.
 #[inline(always)]
 fn take_first(
@@ -159,7 +174,10 @@ fn take_first(
                 }),
             }
         }
-        Ok(_) => take_header_byte(table, header, begun, issuer, rooms, bytes, out, told),
+        Ok(_) => {
+            let took = take_header_byte(table, header, begun, issuer, rooms, bytes, out, told);
+            by_parts(took)
+        }
     }
 }
 
@@ -287,12 +305,14 @@ pub fn take_bytes(
     ensures table { gathering.new.table ≡ gathering.old.table }
 {
     if begun.left > 0 {
-        return take_body(
+        let took = take_body(
             table, header, begun, gathering, issuer, rooms, bytes, out, told,
         );
+        return by_parts(took);
     }
     if begun.count > 0 {
-        return take_header_byte(table, header, begun, issuer, rooms, bytes, out, told);
+        let took = take_header_byte(table, header, begun, issuer, rooms, bytes, out, told);
+        return by_parts(took);
     }
     take_first(table, header, begun, issuer, rooms, bytes, out, told)
 }
