@@ -31,7 +31,7 @@ if [ $# -eq 0 ]; then
 fi
 
 # the count of the allocation that is refused: each program makes fewer
-count=600
+count=700
 
 parts=${2:-$(nproc)}
 cases=$folder/cases
