@@ -57,4 +57,11 @@ impl<'l> Connection<'l> {
         self.waiting.copy_within(count.., 0);
         self.waiting.truncate(left);
     }
+
+    /// The bytes of answers that wait.
+    pub(crate) fn bytes(&self) -> &[u8]
+        ensures { result.now ≡ self.now.waiting }
+    {
+        &self.waiting
+    }
 }

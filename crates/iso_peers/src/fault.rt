@@ -1,12 +1,11 @@
 //! Why a host takes nothing of a peer.
 
-use iso_host::PeerFault;
 use thiserror::Error;
 
 /// Why a host takes nothing of a peer.
 #[derive(Clone, Copy, Debug, PartialEq, Eq, Drop, Error)]
 pub enum TurnFault {
-    /// The log failed, now or before: nothing is taken, kept or handed out any more, until it is opened again.
+    /// The log failed before: nothing is taken, kept or handed out any more, until it is opened again.
     #[error("the log failed")]
     Log,
     /// A frame's header is of digits, and what stands there is not. The peer can't go on.
@@ -15,13 +14,4 @@ pub enum TurnFault {
     /// Memory ran out. The same bytes can come again.
     #[error("memory ran out")]
     Memory,
-}
-
-impl From<PeerFault> for TurnFault {
-    fn from(fault: PeerFault) -> TurnFault {
-        match fault {
-            PeerFault::BadHeader => TurnFault::BadHeader,
-            PeerFault::Memory => TurnFault::Memory,
-        }
-    }
 }
