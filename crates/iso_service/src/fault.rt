@@ -1,4 +1,4 @@
-//! Why a host doesn't start.
+//! Why a host doesn't start, and why it ends.
 
 use crate::device::FileFault;
 use crate::front::FrontFault;
@@ -28,7 +28,7 @@ pub enum StartFault {
 }
 
 impl StartFault {
-    /// Whether what was given is refused, and not a device, the right to it, or memory.
+    /// Whether what was given is refused, and it isn't a device, the right to it, or memory.
     pub fn is_refusal(&self) -> bool {
         match self {
             StartFault::Front(_) | StartFault::Damaged(_) | StartFault::Cut => true,
@@ -36,4 +36,27 @@ impl StartFault {
             StartFault::File(_) | StartFault::NotMade | StartFault::Unfit => false,
         }
     }
+}
+
+/// Why serving ends before the end of the input.
+#[derive(Clone, Copy, Debug, PartialEq, Eq, Drop, Error)]
+pub enum ServiceFault {
+    /// The reader failed.
+    #[error("reading failed")]
+    Read,
+    /// A write or a flush failed.
+    #[error("writing failed")]
+    Write,
+    /// A frame's header is of digits, and what stands there is not.
+    #[error("BadHeader: the header of a frame isn't of digits; usually another header, or a line end between frames")]
+    BadHeader,
+    /// The input ends inside a frame.
+    #[error("CutFrame: the input ends inside a frame; send the whole frame again")]
+    CutFrame,
+    /// Memory ran out.
+    #[error("memory ran out")]
+    Memory,
+    /// The log of the orders failed.
+    #[error("the log failed")]
+    Log,
 }

@@ -2,7 +2,7 @@
 ghost use Rattle.std.specs.Prelude.{◌≡◌};
 ghost use Rattle.std.specs.List.{list_all};
 ghost use Rattle.iso_record.specs.Heading.{heading_bytes};
-ghost use Rattle.iso_service.specs.Front.{is_zero, front_fault};
+ghost use Rattle.iso_service.specs.Front.{is_zero, told, front_fault};
 
 use iso_log::RECORD;
 use iso_record::{Heading, HeadingFault, heading_fault};
@@ -39,7 +39,9 @@ fn are_zeros(bytes: &[u8]) -> bool
 }
 
 /// The fault of a heading, of a file with as many bytes.
-fn heading_told(fault: HeadingFault) -> FrontFault {
+fn heading_told(fault: HeadingFault) -> FrontFault
+    ensures { result ≡ told fault }
+{
     match fault {
         HeadingFault::Format => FrontFault::Foreign,
         HeadingFault::Rules => FrontFault::OtherRules,
@@ -49,7 +51,9 @@ fn heading_told(fault: HeadingFault) -> FrontFault {
 
 /// What the first bytes of a file tell otherwise than a journal under this heading: as many as a heading has, or all, where
 /// it has fewer. Takes no memory.
-pub fn front_fault(front: &[u8], heading: &Heading) -> Option<FrontFault> {
+pub fn front_fault(front: &[u8], heading: &Heading) -> Option<FrontFault>
+    ensures { result ≡ front_fault front.now (heading_bytes heading.now) }
+{
     if front.is_empty() {
         return Some(FrontFault::Empty);
     }

@@ -8,6 +8,7 @@
 //!   why it ends before, and `Report` what came.
 #![tactic(auto)]
 
+mod answering;
 mod counting;
 mod device;
 mod fault;
@@ -15,10 +16,11 @@ mod front;
 mod making;
 mod serving;
 mod starting;
+mod taking;
 
 pub use device::{FileFault, Journals};
-pub use fault::StartFault;
+pub use fault::{ServiceFault, StartFault};
 pub use front::{FrontFault, front_fault};
 pub use making::{FIRST_ROOM, make_journal};
-pub use serving::{BLOCK, ServiceFault, serve_kept};
+pub use serving::{BLOCK, serve_kept};
 pub use starting::{LARGEST_GROUP, RULES, start};

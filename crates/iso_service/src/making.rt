@@ -32,7 +32,7 @@ fn write_journal<J: Journals>(
         Ok(made) => made,
         Err(error) => return Err(not_made(error)),
     };
-    let named = journals.finish(path);
+    let named = journals.finish(path, &made);
     drop(made);
     match named {
         Ok(()) => Ok(()),

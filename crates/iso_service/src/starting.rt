@@ -1,12 +1,16 @@
 //! A host over the journal at a path.
 
+ghost use Rattle.std.specs.Prelude.{◌≡◌, IfOk, IfErr, IfSome};
+ghost use Rattle.iso_record.specs.Heading.{heading_bytes};
+ghost use Rattle.iso_service.specs.Starting.{IsOfDisk, IsStarted, IsWhy};
+
 use crate::device::{FileFault, Journals};
 use crate::fault::StartFault;
-use crate::front::{FrontFault, front_fault};
+use crate::front::front_fault;
 use iso_durable::DurableIssuer;
 use iso_issuer::{Accounts, MOST_ENTRIES};
 use iso_journal::{JournalLog, OpenError, open};
-use iso_record::{Heading, HeadingFault};
+use iso_record::Heading;
 use sqlite_disk::Disk;
 use std::alloc::Global;
 
@@ -18,15 +22,16 @@ pub const RULES: u16 = 1;
 pub const LARGEST_GROUP: usize = 65_536;
 
 /// Why a journal isn't opened, of a disk that is given back.
-fn not_opened<D: Disk>(error: OpenError, disk: &D) -> StartFault {
+fn not_opened<D: Disk>(error: OpenError, disk: &D) -> StartFault
+    ensures { IsOfDisk result }
+{
     match error {
         OpenError::Memory => StartFault::File(FileFault::Memory),
         OpenError::Disk if disk.tally().refused > 0 => StartFault::File(FileFault::Full),
         OpenError::Disk => StartFault::File(FileFault::Device),
         OpenError::Unfit => StartFault::Unfit,
-        OpenError::Other(HeadingFault::Format) => StartFault::Front(FrontFault::Foreign),
-        OpenError::Other(HeadingFault::Rules) => StartFault::Front(FrontFault::OtherRules),
-        OpenError::Other(HeadingFault::Accounts) => StartFault::Front(FrontFault::OtherAccounts),
+        // its heading was right before it was opened, and isn't any more
+        OpenError::Other(_) => StartFault::File(FileFault::Device),
         OpenError::Damaged(place) => StartFault::Damaged(place),
     }
 }
@@ -37,7 +42,9 @@ fn check_front<J: Journals>(
     journals: &J,
     path: &str,
     heading: &Heading,
-) -> Result<(), StartFault> {
+) -> Result<(), StartFault>
+    ensures { IfErr result (λ e. IfSome (J.file journals.now path.now) (λ held. IsWhy (heading_bytes heading.now) held e)) }
+{
     let front = match journals.front(alloc, path, 128) {
         Ok(front) => front,
         Err(fault) => return Err(StartFault::File(fault)),
@@ -56,7 +63,14 @@ pub fn start<J: Journals>(
     path: &str,
     heading: &Heading,
     accounts: Accounts,
-) -> Result<DurableIssuer<JournalLog<J::Disk>>, StartFault> {
+) -> Result<DurableIssuer<JournalLog<J::Disk>>, StartFault>
+    ensures accounts { IfOk result (λ host. host.issuer.accounts ≡ accounts) }
+    ensures limit { IfOk result (λ host. host.issuer.limit ≡ 999999) }
+    // The host has the orders of the file that was opened, each record is what a host writes, and nothing waits.
+    ensures started { IfOk result (λ host. (disk : J.Disk) × IsStarted J.Disk.seen J.Disk.may_leave J.Disk.is_usable J.Disk.is_clean disk host) }
+    // A file that is no journal of these accounts is told as what its first bytes are.
+    ensures fault { IfErr result (λ e. IfSome (J.file journals.now path.now) (λ held. IsWhy (heading_bytes heading.now) held e)) }
+{
     check_front(alloc, journals, path, heading)?;
     let disk = match journals.open(path) {
         Ok(disk) => disk,

@@ -117,7 +117,9 @@ pub fn perform_host<S: Source + Journals, I: Read, O: Write, F: Write>(
         Err(fault) => return Err(no_accounts(alloc, words.accounts, fault)),
     };
     let heading = Heading::of(RULES, &text);
-    if words.is_new && let Err(fault) = make_journal(source, words.journal, &heading) {
+    if words.is_new
+        && let Err(fault) = make_journal(source, words.journal, &heading)
+    {
         return Err(not_started(alloc, words.journal, fault));
     }
     let started = match start(alloc, source, words.journal, &heading, accounts) {

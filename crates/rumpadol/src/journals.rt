@@ -1,6 +1,9 @@
 //! The journals of the system's files.
 
+ghost use Rattle.std.specs.Prelude.{None};
+
 use crate::source::Disk;
+use iso_journal::JournalLog;
 use iso_service::{FileFault, Journals};
 use sqlite_std_file::{File, OpenError, Unknown};
 use std::alloc::{AllocError, Global};
@@ -23,7 +26,8 @@ fn fault_of(error: Error) -> FileFault {
         ErrorKind::IsADirectory => FileFault::Folder,
         ErrorKind::PermissionDenied => FileFault::Denied,
         ErrorKind::ReadOnlyFilesystem => FileFault::ReadOnly,
-        ErrorKind::StorageFull | ErrorKind::QuotaExceeded | ErrorKind::FileTooLarge => FileFault::Full,
+        ErrorKind::StorageFull | ErrorKind::QuotaExceeded | ErrorKind::FileTooLarge =>
+            FileFault::Full,
         ErrorKind::OutOfMemory => FileFault::Memory,
         ErrorKind::Unsupported => FileFault::Shared,
         _ => FileFault::Device,
@@ -136,6 +140,8 @@ fn sync_folder(rt: &HostRuntime, path: &str) -> Result<(), FileFault> {
 }
 
 impl<'a> Journals for Disk<'a, HostRuntime> {
+    ghost file = { λ s path. None };
+
     type Disk = File;
 
     fn front(&self, alloc: Global, path: &str, most: u64) -> Result<Vec<u8>, FileFault> {
@@ -161,7 +167,7 @@ impl<'a> Journals for Disk<'a, HostRuntime> {
         emptied(file)
     }
 
-    fn finish(&self, path: &str) -> Result<(), FileFault> {
+    fn finish(&self, path: &str, _made: &JournalLog<File>) -> Result<(), FileFault> {
         let alloc = self.rt.alloc();
         let begun = begun_path(alloc, path, "")?;
         let beside = begun_path(alloc, path, "-wal")?;

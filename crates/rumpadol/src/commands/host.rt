@@ -6,11 +6,30 @@ use std::alloc::{AllocError, Global};
 
 /// `host`
 pub fn host_command<'a>(alloc: Global) -> Result<Command<'a>, AllocError> {
-    let table = option(alloc, "table", "TABLE", "How messages are written: ascii87, bcd87, or a table's document");
-    let header = option(alloc, "header", "HEADER", "How each frame counts the bytes of its message");
+    let table = option(
+        alloc,
+        "table",
+        "TABLE",
+        "How messages are written: ascii87, bcd87, or a table's document",
+    );
+    let header = option(
+        alloc,
+        "header",
+        "HEADER",
+        "How each frame counts the bytes of its message",
+    );
     let accounts = option(alloc, "accounts", "FILE", "The document of the accounts");
-    let journal = option(alloc, "journal", "FILE", "Where each order is kept before it is answered");
-    let new = flag(alloc, "new", "Makes the journal, where nothing has its name yet");
+    let journal = option(
+        alloc,
+        "journal",
+        "FILE",
+        "Where each order is kept before it is answered",
+    );
+    let new = flag(
+        alloc,
+        "new",
+        "Makes the journal, where nothing has its name yet",
+    );
     Command::new(alloc, "host")
         .about("Answers frames as an issuer, and keeps each order before it is answered")
         .after_help(
