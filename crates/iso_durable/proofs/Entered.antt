@@ -18,7 +18,7 @@ pub record EnterLaws : Type 0 where
   pub distinct : KeysStayDistinct
 
 -- these books, with other orders
-with_orders : Durable → List Instruction → Books
+abbrev with_orders : Durable → List Instruction → Books
 with_orders d orders = record { accounts = d.accounts; limit = d.limit; orders = orders }
 
 module _ (laws : EnterLaws) where

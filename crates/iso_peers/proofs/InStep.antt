@@ -20,12 +20,12 @@ synced_stays d [] = refl
 synced_stays d (o ∷ os) = synced_stays (comes d o) os
 
 -- a host over a run, by its books, what its log keeps, and how many those are
-pub durable : Books → List Instruction → ℕ → Durable
+abbrev pub durable : Books → List Instruction → ℕ → Durable
 durable b synced kept = record { accounts = b.accounts; limit = b.limit; synced = synced; pending = drop kept b.orders }
 
 module _ (law : OrdersEnter) (old new : Books) (synced : List Instruction) (kept : ℕ) (os : List Instruction)
     (count : kept ≡ length synced) (same : old.orders ≡ synced ++ drop kept old.orders) (start : IsStart old.limit old.orders) (enters : new ≡ books_after old os) where
-  came : Durable
+  abbrev came : Durable
   came = come_all (durable old synced kept) os
 
   came_books : books_of came ≡ new
@@ -54,9 +54,12 @@ pub drop_all : {X : Type 0} (xs : List X) → drop (length xs) xs ≡ []
 drop_all [] = refl
 drop_all (x ∷ xs) = drop_all xs
 
-pub take_none : {X : Type 0} (n : ℕ) → take n (the (List X) []) ≡ []
-take_none zero = refl
-take_none (suc n) = refl
+abbrev nothing : List Instruction
+nothing = []
+
+take_nothing : (n : ℕ) → take n nothing ≡ nothing
+take_nothing zero = refl
+take_nothing (suc n) = refl
 
 -- what the log has once it is synced: the journal
 pub all_synced : (orders synced pending now : List Instruction) (kept : ℕ) → pending ≡ [] → orders ≡ synced ++ drop kept orders → now ≡ synced ++ pending ++ drop kept orders → now ≡ orders
@@ -83,7 +86,7 @@ kept_already b synced kept count =
 -- what a crash leaves of the log alone, it may leave of the host
 pub leaves_log : (d : Durable) (pending c : List Instruction) → pending ≡ [] → (n : ℕ) × (c ≡ d.synced ++ take n pending) → MayLeave d c
 leaves_log d pending c none left =
-    (0, left.1 ∙ ap (λ (l : List Instruction). d.synced ++ take left.0 l) none ∙ ap (λ (l : List Instruction). d.synced ++ l) (take_none left.0))
+    (0, left.1 ∙ ap (λ (l : List Instruction). d.synced ++ take left.0 l) none ∙ ap (λ (l : List Instruction). d.synced ++ l) (take_nothing left.0))
 
 -- and what it leaves while the orders are kept
 pub leaves_kept : (d : Durable) (pending c : List Instruction) → pending ≡ [] → (n : ℕ) × (c ≡ d.synced ++ take n (pending ++ d.pending)) → MayLeave d c

@@ -23,7 +23,7 @@ use Rattle.iso_peers.specs.World.{Reply, Serving, Step, Answers, Enters, Keeps, 
 
 -- ---- members of a list
 
-among : Told → List Told → Type 0
+abbrev among : Told → List Told → Type 0
 among t [] = ⊥
 among t (u ∷ us) = (u ≡ t) ⊎ among t us
 
@@ -59,14 +59,14 @@ record OfTold (P : Told → Type 0) (t : Layout) (h : Header) (message : Option 
   framed : IsFramed t h (response_as message told.answer) bytes
 
 -- by what the message asks: an order is told, and the answer to anything else is the same at all books
-Tells : (Told → Type 0) → Layout → Header → Option Contents → List ℕ → Option Verdict → Type 0
+abbrev Tells : (Told → Type 0) → Layout → Header → Option Contents → List ℕ → Option Verdict → Type 0
 Tells P t h message bytes (Some (asks.Order o)) = OfTold P t h message bytes o ⊎ IsFramed t h (response_as message (code_alone 96)) bytes
 Tells P t h message bytes (Some (asks.Reply code)) = (b : Books) → IsAnswerTo t h b message bytes
 Tells P t h message bytes (Some asks.Silent) = (b : Books) → IsAnswerTo t h b message bytes
 Tells P t h message bytes None = (b : Books) → IsAnswerTo t h b message bytes
 
 -- the reply is one of what was told
-By : (Told → Type 0) → Reply → Type 0
+abbrev By : (Told → Type 0) → Reply → Type 0
 By P r = Tells P r.link.table r.link.header (message_in r.link.table r.body) r.bytes (asked_of r.link.table r.body)
 
 tells_map : (P Q : Told → Type 0) → ((t : Told) → P t → Q t) → (t : Layout) (h : Header) (message : Option Contents) (bytes : List ℕ) (v : Option Verdict) → Tells P t h message bytes v → Tells Q t h message bytes v
@@ -82,11 +82,11 @@ by_map P Q f r by = tells_map P Q f r.link.table r.link.header (message_in r.lin
 -- ---- a body comes
 
 -- what is told of an order that comes
-told_of : Durable → Instruction → Told
+abbrev told_of : Durable → Instruction → Told
 told_of d o = record { order = o; answer = answer_for d.accounts (journal (books_of d)) o }
 
 -- the events of a body
-events_of : List Instruction → List Event
+abbrev events_of : List Instruction → List Event
 events_of [] = []
 events_of (o ∷ os) = runs.Comes o ∷ events_of os
 
@@ -138,7 +138,7 @@ record Follows (s : Serving) (w : World) : Type 0 where
   waiting : AllByRecursion (By (λ t. among t w.waiting)) s.waiting
   handed : AllByRecursion (By (λ t. among t w.told)) s.handed
 
-events_at : Step → List Event
+abbrev events_at : Step → List Event
 events_at (Answers r) = events_of (orders_in (asked_of r.link.table r.body))
 events_at (Enters link body) = events_of (orders_in (asked_of link.table body))
 events_at Keeps = runs.Syncs ∷ []
@@ -171,7 +171,7 @@ follows_step s w Keeps made f = record {
 }
 follows_step s w (Crashes n) made f = record { host = ap (crashes n) f.host; waiting = tt; handed = f.handed }
 
-events_on : List Step → List Event
+abbrev events_on : List Step → List Event
 events_on [] = []
 events_on (step ∷ steps) = events_at step ++ events_on steps
 
@@ -195,20 +195,20 @@ stands_by b t h m bytes o is known framed =
 false_true : false ≡ true → ⊥
 false_true h = cc
 
-is_order : Option Verdict → Bool
+abbrev is_order : Option Verdict → Bool
 is_order (Some (asks.Order o)) = true
 is_order (Some (asks.Reply code)) = false
 is_order (Some asks.Silent) = false
 is_order None = false
 
-order_or : Instruction → Option Verdict → Instruction
+abbrev order_or : Instruction → Option Verdict → Instruction
 order_or other (Some (asks.Order o)) = o
 order_or other (Some (asks.Reply code)) = other
 order_or other (Some asks.Silent) = other
 order_or other None = other
 
 -- the order is entered, and the answer is the same; or it is the one of a full journal
-Stands : Books → Layout → Header → Option Contents → List ℕ → Type 0
+abbrev Stands : Books → Layout → Header → Option Contents → List ℕ → Type 0
 Stands b t h message bytes =
     (((o : Instruction) → option_map verdict message ≡ Some (asks.Order o) → is_entered b.orders o.key ≡ true) × IsAnswerTo t h b message bytes)
     ⊎ IsFramed t h (response_as message (code_alone 96)) bytes
@@ -219,14 +219,14 @@ stands_verdict b t h m bytes (asks.Order o) is (inl of) =
     let answer : of.told.answer ≡ answer_for b.accounts (journal b) o = sym of.holds.same ∙ ap (λ (p : Instruction). answer_for b.accounts (journal b) p) of.order in
     let framed = subst (λ (a : Outcome). IsFramed t h (response_as (Some m) a) bytes) answer of.framed in
     inl (
-      λ p asked. subst (λ (q : Instruction). is_entered b.orders q.key ≡ true) (ap (order_or p) (ap (λ (v : Verdict). the (Option Verdict) (Some v)) (sym is) ∙ asked)) known,
+      λ p asked. subst (λ (q : Instruction). is_entered b.orders q.key ≡ true) (ap (order_or p) (ap Some (sym is) ∙ asked)) known,
       stands_by b t h m bytes o is known framed,
     )
 stands_verdict b t h m bytes (asks.Order o) is (inr full) = inr full
 stands_verdict b t h m bytes (asks.Reply code) is same =
-    inl (λ p asked. absurd (false_true (ap is_order (ap (λ (v : Verdict). the (Option Verdict) (Some v)) (sym is) ∙ asked))), same b)
+    inl (λ p asked. absurd (false_true (ap is_order (ap Some (sym is) ∙ asked))), same b)
 stands_verdict b t h m bytes asks.Silent is same =
-    inl (λ p asked. absurd (false_true (ap is_order (ap (λ (v : Verdict). the (Option Verdict) (Some v)) (sym is) ∙ asked))), same b)
+    inl (λ p asked. absurd (false_true (ap is_order (ap Some (sym is) ∙ asked))), same b)
 
 stands_message : (b : Books) (t : Layout) (h : Header) (message : Option Contents) (bytes : List ℕ) → Tells (IsAnswered b.accounts b.orders) t h message bytes (option_map verdict message) → Stands b t h message bytes
 stands_message b t h None bytes same = inl (λ p asked. absurd (false_true (ap is_order asked)), same b)

@@ -1,10 +1,11 @@
 -- Piece after piece of one peer.
-use Rattle.std.proofs.Common.{◌≡◌, ◌≢◌, ◌∙◌, ◌++◌, ◌+◌, ◌-◌, ◌<◌, ◌≤◌, ℕ, zero, suc, refl, sym, ap, subst, arith, List, [], ◌∷◌, length, drop, append_assoc, append-nil}
+use Rattle.std.proofs.Common.{◌≡◌, ◌≢◌, ◌∙◌, ◌++◌, ◌+◌, ◌-◌, ◌<◌, ◌≤◌, ℕ, zero, suc, refl, sym, ap, subst, arith, List, [], ◌∷◌, length, take, drop, append_assoc, append-nil}
 use Rattle.std.specs.Prelude.{Option, Some, None}
 use Rattle.std.proofs.lemmas.List.{length-drop}
+use Rattle.std.proofs.Math.Seq.{drop-length}
 use Rattle.iso_table.specs.Layout.{Layout}
 use Rattle.iso_wire.specs.declared.header.Header.{Header}
-use Rattle.iso_wire.specs.Framing.{frame_of, frames_of, AllFit, largest}
+use Rattle.iso_wire.specs.Framing.{frame_of, frames_of, AllFit, largest, NoFrame, SplitsSomehow}
 use Rattle.iso_order.specs.Order.{Instruction}
 use Rattle.iso_issuer.specs.Books.{Books}
 use Rattle.iso_issuer.specs.Laws.{books_after}
@@ -13,8 +14,10 @@ use Rattle.iso_host.specs.Entering.{books_after_bodies, BodiesGoOn, StaysWithout
 use Rattle.iso_host.specs.Handling.{books_after_body}
 use Rattle.iso_host.specs.Output.{IsAnswer, IsOutputFrom, IsOutput}
 use Rattle.iso_host.specs.Peers.{TakesPiece}
+use Rattle.iso_host.specs.declared.peer.PeerFault.{PeerFault}
 use Rattle.iso_host.specs.declared.handled.Handled.{Handled}
 use Rattle.iso_peers.specs.Connection.{Connected}
+use Rattle.iso_peers.specs.Turn.{RefusesOf, TakesAll}
 
 -- ---- one body more
 
@@ -121,3 +124,52 @@ pub fewer : (bytes : List ℕ) (used more : ℕ) → used ≤ length bytes → m
     → length bytes - (used + more) < length bytes - used
 fewer bytes used zero within few some other = absurd (some (λ none. other (omega (arith, within, length-drop used bytes, ap length none))) refl)
 fewer bytes used (suc more) within few some other = omega (arith, within, few, length-drop used bytes)
+
+-- ---- where it stops
+
+-- no frame begins with no bytes
+pub no_frame : SplitsSomehow → (h : Header) → NoFrame h []
+no_frame law h =
+    let split = law h [] in
+    subst (NoFrame h) (rest_none (frames_of h split.0) split.1 split.2.joined) split.2.partial
+  where
+    rest_none : (xs ys : List ℕ) → [] ≡ xs ++ ys → ys ≡ []
+    rest_none [] ys is = sym is
+    rest_none (x ∷ xs) ys is = cc
+
+-- after a piece that is taken, none begins
+pub no_frame_after : SplitsSomehow → (t : Layout) (h : Header) (held kept : List ℕ) (old new : Books) (piece out grown : List ℕ) (handled : Option Handled)
+    → TakesPiece t h held kept old new piece out grown handled → NoFrame h kept
+no_frame_after law t h held kept old new piece out grown None took = took.1.no_frame
+no_frame_after law t h held kept old new piece out grown (Some handled) took = subst (NoFrame h) (sym took.3) (no_frame law h)
+
+-- a piece is refused
+pub all_refused : (old mid new : Connected) (before between after : Books) (bytes : List ℕ) (used : ℕ) (fault : PeerFault) → used ≤ length bytes
+    → SoFar old.peer.table old.peer.header old mid before between (take used bytes) → new ≡ mid → RefusesOf mid.peer between after (drop used bytes) fault
+    → TakesAll old new before after bytes (record { used = used; stopped = Some fault })
+all_refused old mid new before between after bytes used fault within so same refused =
+    subst (λ (c : Connected). TakesAll old c before after bytes (record { used = used; stopped = Some fault })) (sym same) (record {
+      within = within;
+      bodies = so.bodies;
+      joined = so.joined;
+      fit = so.fit;
+      answers = so.answers;
+      output = so.output;
+      waits = so.waits;
+      stops = subst (λ (b : Books). RefusesOf mid.peer b after (drop used bytes) fault) so.books refused;
+    })
+
+-- all bytes are taken
+pub all_taken : (old new : Connected) (before after : Books) (bytes : List ℕ) (used : ℕ) → used ≡ length bytes → new.peer.header ≡ old.peer.header
+    → SoFar old.peer.table old.peer.header old new before after (take used bytes) → NoFrame old.peer.header new.peer.held
+    → TakesAll old new before after bytes (record { used = used; stopped = None })
+all_taken old new before after bytes used all header so none = record {
+  within = omega (arith, all);
+  bodies = so.bodies;
+  joined = so.joined;
+  fit = so.fit;
+  answers = so.answers;
+  output = so.output;
+  waits = so.waits;
+  stops = (ap (λ (n : ℕ). drop n bytes) all ∙ drop-length bytes, subst (λ (h : Header). NoFrame h new.peer.held) (sym header) none, so.books);
+}

@@ -6,8 +6,10 @@ ghost use Rattle.iso_peers.specs.Turn.{TakesOf, RefusesOf, TakesAll};
 
 use crate::connection::Connection;
 use crate::turn::Turned;
+use iso_host::laws::one_journal;
 use iso_host::{Host, PeerFault, Taken};
 use iso_issuer::laws::{firsts_go_on, firsts_stay};
+use iso_wire::laws::splits_once;
 
 /// Takes bytes of a peer, up to the end of a frame; the answer waits.
 pub(crate) fn take_piece(
@@ -40,10 +42,10 @@ pub(crate) fn take_pieces(
     ensures header { connection.new.peer.header ≡ connection.old.peer.header }
     ensures enters { (orders : List Instruction) × (host.new ≡ books_after host.old orders) }
 {
-    // the laws that what was entered stands for the orders that came, for the prover
+    // the laws that bodies have one journal, and that bytes have one split into frames, for the prover
     firsts_go_on();
-    firsts_stay();
-    let _entered = host.issuer().len();
+    one_journal(host.issuer());
+    splits_once();
     let mut used = 0;
     'pieces: loop {
         match take_piece(host, connection, &bytes[used..]) {
