@@ -4,7 +4,8 @@
 COMMAND is the built rumpadol. Its host answers purchases over a journal in a real file, and is killed by SIGKILL at a random
 moment: KILLS times, 200 by default, some of them while the journal is made. After each kill it is started again by the same words,
 and is sent repeats of the orders that were answered before: each has to get its first answer, byte for byte. In the end it is sent
-repeats of all of them, and the journal has to hold each of those orders once. The last line is
+repeats of all of them, a second host on the file has to be refused, and the journal has to hold each of those orders once, with
+the code and the place that were answered. The last line is
     K kills, N answers repeated, M bad
 and the status is 0 where M is 0. CRASH_SEED repeats the choices of an earlier run, though not the moments of its kills.
 """
@@ -191,6 +192,22 @@ class Run:
             self.tell_bad(f"{self.repeated - before} of {len(self.answers)} answers came again, with status "
                           f"{host.process.returncode}: {told!r}")
 
+    def ask_second(self):
+        """A second host on the file is refused, while the first one answers."""
+        first = Host(self.command, self.folder)
+        number = min(self.answers)
+        os.write(first.process.stdin.fileno(), purchase(number, b"0201"))
+        first.read_until(time.monotonic() + WAIT, True)
+        second = Host(self.command, self.folder)
+        second.feed([], self.choose)
+        told = second.rest()[1]
+        if second.process.returncode != 3 or b"journal: another host has it open" not in told:
+            self.tell_bad(f"a second host ended with status {second.process.returncode}: {told!r}")
+        first.feed([purchase(number, b"0201")], self.choose)
+        frames, told = first.rest()
+        if first.process.returncode != 0 or frames != [self.answers[number]] * 2:
+            self.tell_bad(f"beside a second one a host ended with status {first.process.returncode}: {told!r}, after {frames!r}")
+
     def read_journal(self):
         """Each answered order is in the journal once: docs/JOURNAL.md has the columns."""
         text = pathlib.Path(self.folder, "journal").read_bytes()
@@ -220,6 +237,7 @@ def main(words):
         for kill in range(KILLS):
             run.kill_once(kill % EARLY == 0)
         run.ask_all()
+        run.ask_second()
         run.read_journal()
     if run.bad:
         print(f"CRASH_SEED={SEED}")

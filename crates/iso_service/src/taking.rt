@@ -8,6 +8,7 @@ use iso_durable::{Log, LogFailed};
 use iso_host::laws::one_journal;
 use iso_host::{PeerFault, Report};
 use iso_peers::{Connection, DurableHost, TurnFault, Turned};
+use iso_wire::laws::splits_once;
 
 /// Takes all bytes of a peer, as `DurableHost::take_all` does, and counts the frames.
 pub(crate) fn take_counted<L: Log>(
@@ -25,8 +26,9 @@ pub(crate) fn take_counted<L: Log>(
     ensures step { IsInStep L.is_ready L.synced L.pending host.old
         → IsInStep L.is_ready L.synced L.pending host.new }
 {
-    // the law of a journal that goes on, for the prover
+    // the laws that bodies have one journal, and that bytes have one split into frames, for the prover
     one_journal(host.issuer());
+    splits_once();
     let mut used = 0;
     'pieces: loop {
         match host.take(connection, &bytes[used..]) {
