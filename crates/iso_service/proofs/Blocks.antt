@@ -2,7 +2,7 @@
 use Rattle.std.proofs.Common.{◌≡◌, ◌≢◌, ◌∙◌, ◌++◌, ◌⊎◌, inl, inr, ◌≤◌, ℕ, refl, sym, ap, subst, true, List, [], ◌∷◌, length, take, drop, append_assoc, append-nil}
 use Rattle.std.proofs.KnownBytes.{Appends-trans, Appends-nil, Consumes-trans}
 use Rattle.std.proofs.Math.Seq.{take-append-drop}
-use Rattle.std.specs.Prelude.{Option, Some, None}
+use Rattle.std.specs.Prelude.{Option, Some, None, Result, Ok, Err}
 use Rattle.std.specs.Io.KnownBytes.{Appends, Consumes, Keeps, IsAtEnd}
 use Rattle.iso_table.specs.Layout.{Layout}
 use Rattle.iso_wire.specs.declared.header.Header.{Header}
@@ -20,7 +20,10 @@ use Rattle.iso_host.specs.declared.peer.PeerFault.TheVariants as peer
 use Rattle.iso_peers.specs.Connection.{Connected}
 use Rattle.iso_peers.specs.Turn.{TakesAll, StopsAt}
 use Rattle.iso_peers.specs.declared.turn.Turned.{Turned}
-use Rattle.iso_service.specs.Serving.{AreKept, Stay, StayBehind, WithoutMemory}
+use Rattle.iso_host.specs.declared.fault.Report.{Report}
+use Rattle.iso_service.specs.Serving.{AreKept, EndsAt, Hands, Leaves, Stay, StayBehind, UnlessLog, WithoutMemory}
+use Rattle.iso_service.specs.declared.fault.ServiceFault.{ServiceFault}
+use Rattle.iso_service.specs.declared.fault.ServiceFault.TheVariants.{Read, Write, BadHeader, CutFrame, Memory, Log}
 use Rattle.iso_service.proofs.Pieces.{body_alone}
 
 -- ---- streams
@@ -124,6 +127,18 @@ module _ (t : Layout) (h : Header) (unread held : Option (List ℕ)) (old : Book
     none = none;
   }
 
+  -- nothing is written yet
+  pub kept_first : (may_leave : List Instruction → Type 0) → StaysWithout old → Stay may_leave old → AreKept t h held held old may_leave
+  kept_first may_leave without stay = record {
+    bodies = [];
+    answers = [];
+    output = output_none t h old;
+    shown = [];
+    front = ([], refl);
+    appends = Appends-nil held;
+    stay = subst (Stay may_leave) (sym (without t)) stay;
+  }
+
   -- there is no memory for a block
   pub no_block : StaysWithout old → WithoutMemory t h unread unread held held old old
   no_block without = (old, [], [], served_none without, inl refl)
@@ -134,7 +149,12 @@ module _ (t : Layout) (h : Header) (unread held : Option (List ℕ)) (old : Book
     unread_now next kept = (
       going.bodies,
       c.peer.held,
-      record going.served {
+      record {
+        fit = going.served.fit;
+        books = going.served.books;
+        bytes = going.served.bytes;
+        output = going.served.output;
+        answers = going.served.answers;
         read = subst (Consumes unread next) (append-nil (frames_of h going.bodies ++ c.peer.held)) (Consumes-trans unread left next _ _ going.served.read (none_taken left next kept));
       },
       going.partial,
@@ -155,9 +175,43 @@ module _ (t : Layout) (h : Header) (unread held : Option (List ℕ)) (old : Book
 
     -- so it is where the log fails, and nothing more is written
     pub kept_failed : (next : Option (List ℕ)) (may_leave : List Instruction → Type 0) → Keeps written next → StayBehind may_leave now.orders → AreKept t h held next old may_leave
-    kept_failed next may_leave keeps stay = record (kept_now may_leave stay) {
+    kept_failed next may_leave keeps stay = record {
+      bodies = going.bodies;
+      answers = going.served.bytes;
+      output = going.served.output;
+      shown = going.served.bytes;
+      front = ([], sym (append-nil going.served.bytes));
       appends = subst (Appends held next) (append-nil going.served.bytes) (Appends-trans held written next _ _ going.served.answers (kept_none written next keeps));
+      stay = subst (Stay may_leave) going.served.books stay;
     }
+
+    -- the input ends
+    pub at_end : (next : Option (List ℕ)) → Consumes left next [] → IsAtEnd next → (result : Result Report ServiceFault) → EndsAt c.peer.held result
+        → Leaves t h unread next held written old now result
+    at_end next read end result ends = by result ends
+      where
+        served : Served t h unread next held written old now going.bodies c.peer.held
+        served = record {
+          fit = going.served.fit;
+          books = going.served.books;
+          bytes = going.served.bytes;
+          output = going.served.output;
+          answers = going.served.answers;
+          read = subst (Consumes unread next) (append-nil (frames_of h going.bodies ++ c.peer.held)) (Consumes-trans unread left next _ _ going.served.read read);
+        }
+
+        by : (result : Result Report ServiceFault) → EndsAt c.peer.held result → Leaves t h unread next held written old now result
+        by (Ok report) ends = (going.bodies, c.peer.held, served, going.partial, ends, end)
+        by (Err CutFrame) ends = (going.bodies, c.peer.held, served, going.partial, ends, end)
+        by (Err Read) ends = absurd ends
+        by (Err Write) ends = absurd ends
+        by (Err BadHeader) ends = absurd ends
+        by (Err Memory) ends = absurd ends
+        by (Err Log) ends = absurd ends
+
+    -- nothing more is read
+    pub reads_no_more : Whole t h unread left held written old now (λ bodies rest. Unit {0})
+    reads_no_more = (going.bodies, c.peer.held, going.served, going.partial, tt)
 
     module _ (next : Option (List ℕ)) (block : List ℕ) (c2 : Connected) (now2 : Books) (turned : Turned) (law : BodiesGoOn)
         (table : c.peer.table ≡ t) (header : c.peer.header ≡ h) (table2 : c2.peer.table ≡ t) (header2 : c2.peer.header ≡ h)
@@ -306,3 +360,28 @@ module _ (t : Layout) (h : Header) (unread held : Option (List ℕ)) (old : Book
             appends = Appends-trans held written shown _ _ going.served.answers appends;
             stay = subst (Stay may_leave) all.books stay;
           }
+
+      -- keeping or writing failed
+      pub kept_hands : (fault : ServiceFault) (shown : Option (List ℕ)) (may_leave : List Instruction → Type 0) → Hands written shown c2.waiting (Err fault)
+          → StayBehind may_leave now.orders → UnlessLog (the (Result (Unit {0}) ServiceFault) (Err fault)) (Stay may_leave now2) → AreKept t h held shown old may_leave
+      kept_hands Log shown may_leave hands behind stay = kept_failed shown may_leave hands behind
+      kept_hands Write shown may_leave hands behind stay =
+          kept_after shown (take hands.0 c2.waiting) (drop hands.0 c2.waiting) may_leave (take-append-drop hands.0 c2.waiting) hands.2 stay
+      kept_hands Read shown may_leave hands behind stay = absurd hands
+      kept_hands BadHeader shown may_leave hands behind stay = absurd hands
+      kept_hands CutFrame shown may_leave hands behind stay = absurd hands
+      kept_hands Memory shown may_leave hands behind stay = absurd hands
+
+      pub leaves_hands : (fault : ServiceFault) (shown : Option (List ℕ)) → Hands written shown c2.waiting (Err fault)
+          → Leaves t h unread next held shown old now2 (Err fault)
+      leaves_hands Log shown hands = tt
+      leaves_hands Write shown hands = tt
+      leaves_hands Read shown hands = absurd hands
+      leaves_hands BadHeader shown hands = absurd hands
+      leaves_hands CutFrame shown hands = absurd hands
+      leaves_hands Memory shown hands = absurd hands
+
+      -- all of it was written
+      pub kept_all : (shown : Option (List ℕ)) (may_leave : List Instruction → Type 0) → Appends written shown c2.waiting → Stay may_leave now2
+          → AreKept t h held shown old may_leave
+      kept_all shown may_leave appends stay = kept_after shown c2.waiting [] may_leave (append-nil c2.waiting) appends stay

@@ -1,5 +1,8 @@
 //! Why a host doesn't start, and why it ends.
 
+ghost use Rattle.std.specs.Prelude.{◌≡◌};
+ghost use Rattle.iso_service.specs.Refusal.{is_refusal};
+
 use crate::device::FileFault;
 use crate::front::FrontFault;
 use thiserror::Error;
@@ -29,7 +32,9 @@ pub enum StartFault {
 
 impl StartFault {
     /// Whether what was given is refused, and it isn't a device, the right to it, or memory.
-    pub fn is_refusal(&self) -> bool {
+    pub fn is_refusal(&self) -> bool
+        ensures { result ≡ is_refusal self.now }
+    {
         match self {
             StartFault::Front(_) | StartFault::Damaged(_) | StartFault::Cut => true,
             StartFault::File(FileFault::Exists) => true,

@@ -1,6 +1,9 @@
 //! A host over a journal that outlives it.
 
-ghost use Rattle.std.specs.Prelude.{◌≡◌, ◌≤◌, IfOk};
+ghost use Rattle.std.specs.Prelude.{◌≡◌, true, false, IfOk};
+ghost use Rattle.iso_service.specs.Refusal.{is_refusal};
+ghost use Rattle.rumpadol.specs.Named.{IsNamed};
+ghost use Rattle.rumpadol.specs.Stop.{status_of};
 
 use crate::documents::{STANDARD_INPUT, document_at};
 use crate::named::table_named;
@@ -22,12 +25,17 @@ const NO_ACCOUNTS: &str =
     "the accounts can't be read; name a document that is there and may be read";
 
 /// How the program stops where a host doesn't start.
-fn not_started(alloc: Global, path: &str, fault: StartFault) -> Stop {
-    match fault {
-        StartFault::File(FileFault::Memory) => Stop::Memory,
-        fault if fault.is_refusal() => refused(format!(in alloc; "rumpadol: {path}: {fault}\n")),
-        fault => failed(format!(in alloc; "rumpadol: {path}: {fault}\n")),
+fn not_started(alloc: Global, path: &str, fault: StartFault) -> Stop
+    ensures refused { status_of result ≡ 1 → is_refusal fault ≡ true }
+    ensures failed { is_refusal fault ≡ false → status_of result ≡ 3 }
+{
+    if matches!(fault, StartFault::File(FileFault::Memory)) {
+        return Stop::Memory;
     }
+    if fault.is_refusal() {
+        return refused(format!(in alloc; "rumpadol: {path}: {fault}\n"));
+    }
+    failed(format!(in alloc; "rumpadol: {path}: {fault}\n"))
 }
 
 /// How the program stops where a document lists no accounts.
@@ -46,7 +54,10 @@ fn link_of<S: Source, I: Read>(
     words: HostWords<'_>,
     source: &S,
     input: &mut I,
-) -> Result<Link, Stop> {
+) -> Result<Link, Stop>
+    ensures table { IfOk result (λ link. IsNamed (S.file source.now) (I.remaining input.old) words.table.now link.table) }
+    ensures header { IfOk result (λ link. link.header ≡ words.header) }
+{
     let word = words.table;
     if word == STANDARD_INPUT {
         return Err(misused(format!(in alloc;
@@ -84,7 +95,7 @@ fn tell_report<F: Write>(
     report: Report,
     faults: &mut F,
 ) -> Result<u8, Stop>
-    ensures { IfOk result (λ status. status ≤ 1) }
+    ensures { IfOk result (λ status. status ≡ 0) }
 {
     let Report {
         frames,
@@ -108,7 +119,7 @@ pub fn perform_host<S: Source + Journals, I: Read, O: Write, F: Write>(
     output: &mut O,
     faults: &mut F,
 ) -> Result<u8, Stop>
-    ensures { IfOk result (λ status. status ≤ 1) }
+    ensures { IfOk result (λ status. status ≡ 0) }
 {
     let link = link_of(alloc, words, source, input)?;
     let text = document_at(alloc, source, words.accounts, NO_ACCOUNTS)?;
