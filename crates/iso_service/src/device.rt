@@ -54,19 +54,19 @@ pub enum FileFault {
 /// The files of a device, by path. One that is opened is this process's alone until it is dropped.
 pub trait Journals {
     // The bytes of the file at a path, where they are known.
-    ghost file: { Self → List ℕ → Option (List ℕ) };
+    ghost held_at: { Self → List ℕ → Option (List ℕ) };
 
     /// An open file.
     type Disk: Disk + Drop;
 
     /// The first bytes of the file at a path, and no more than so many.
     fn front(&self, alloc: Global, path: &str, most: u64) -> Result<Vec<u8>, FileFault>
-        ensures bytes { IfOk result (λ bytes. IfSome (file self.now path.now) (λ held. bytes.items ≡ take most held)) };
+        ensures bytes { IfOk result (λ bytes. IfSome (held_at self.now path.now) (λ held. bytes.items ≡ take most held)) };
 
     /// Opens the file at a path, which has to be there.
     fn open(&self, path: &str) -> Result<Self::Disk, FileFault>
-        ensures seen { IfOk result (λ disk. IfSome (file self.now path.now) (λ held. Self.Disk.seen disk ≡ held)) }
-        ensures only { IfOk result (λ disk. IfSome (file self.now path.now) (λ held. Only held (Self.Disk.may_leave disk))) };
+        ensures seen { IfOk result (λ disk. IfSome (held_at self.now path.now) (λ held. Self.Disk.seen disk ≡ held)) }
+        ensures only { IfOk result (λ disk. IfSome (held_at self.now path.now) (λ held. Only held (Self.Disk.may_leave disk))) };
 
     /// Makes an empty file, which its owner alone may read, for the one that is to have this path. Until `finish` it has
     /// another name. Nothing may have this path yet.

@@ -43,7 +43,7 @@ fn check_front<J: Journals>(
     path: &str,
     heading: &Heading,
 ) -> Result<(), StartFault>
-    ensures { IfErr result (λ e. IfSome (J.file journals.now path.now) (λ held. IsWhy (heading_bytes heading.now) held e)) }
+    ensures { IfErr result (λ e. IfSome (J.held_at journals.now path.now) (λ held. IsWhy (heading_bytes heading.now) held e)) }
 {
     let front = match journals.front(alloc, path, 128) {
         Ok(front) => front,
@@ -69,7 +69,7 @@ pub fn start<J: Journals>(
     // The host has the orders of the file that was opened, each record is what a host writes, and nothing waits.
     ensures started { IfOk result (λ host. (disk : J.Disk) × IsStarted J.Disk.seen J.Disk.may_leave J.Disk.is_usable J.Disk.is_clean disk host) }
     // A file that is no journal of these accounts is told as what its first bytes are.
-    ensures fault { IfErr result (λ e. IfSome (J.file journals.now path.now) (λ held. IsWhy (heading_bytes heading.now) held e)) }
+    ensures fault { IfErr result (λ e. IfSome (J.held_at journals.now path.now) (λ held. IsWhy (heading_bytes heading.now) held e)) }
 {
     check_front(alloc, journals, path, heading)?;
     let disk = match journals.open(path) {

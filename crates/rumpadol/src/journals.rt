@@ -140,7 +140,7 @@ fn sync_folder(rt: &HostRuntime, path: &str) -> Result<(), FileFault> {
 }
 
 impl<'a> Journals for Disk<'a, HostRuntime> {
-    ghost file = { λ s path. None };
+    ghost held_at = { λ s path. None };
 
     type Disk = File;
 
