@@ -42,8 +42,8 @@ module _ (law : OrdersEnter) (old new : Books) (synced : List Instruction) (kept
       let rest : drop kept (entered came) ≡ came.pending =
       ap (λ (n : ℕ). drop n (entered came)) (count ∙ ap length (sym first)) ∙ drop-append_seam came.synced came.pending in
       subst (λ (b : Books). durable b synced kept ≡ came) came_books (
-        ap (λ (l : List Instruction). record { accounts = came.accounts; limit = came.limit; synced = l; pending = drop kept (entered came) }) (sym first)
-        ∙ ap (λ (l : List Instruction). record { accounts = came.accounts; limit = came.limit; synced = came.synced; pending = l }) rest
+      ap (λ (l : List Instruction). record { accounts = came.accounts; limit = came.limit; synced = l; pending = drop kept (entered came) }) (sym first)
+      ∙ ap (λ (l : List Instruction). record { accounts = came.accounts; limit = came.limit; synced = came.synced; pending = l }) rest
       )
 
   -- and the journal still begins with those of the log
