@@ -1,3 +1,4 @@
 mod Pieces
 mod Kept
 mod Blocks
+pub mod Why

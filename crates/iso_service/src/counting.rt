@@ -1,7 +1,5 @@
 //! What came of the frames.
-ghost use Rattle.std.specs.Prelude.{◌≡◌};
-
-use iso_host::{Handled, Report};
+use iso_host::{Handled, Report, Taken};
 
 /// Before the first frame.
 pub const NO_FRAMES: Report = Report {
@@ -12,7 +10,7 @@ pub const NO_FRAMES: Report = Report {
 };
 
 /// Counts a frame by what came of its body.
-pub fn count_frame(report: &mut Report, handled: &Handled) {
+fn count_frame(report: &mut Report, handled: &Handled) {
     report.frames = report.frames.saturating_add(1);
     match handled {
         Handled::Unreadable(_) => {
@@ -24,5 +22,12 @@ pub fn count_frame(report: &mut Report, handled: &Handled) {
         Handled::Replied { .. } | Handled::Ordered { .. } => {
             report.answered = report.answered.saturating_add(1);
         }
+    }
+}
+
+/// Counts the frame that was taken, if one ended.
+pub fn count_taken(report: &mut Report, taken: &Taken) {
+    if let Some(handled) = taken.handled {
+        count_frame(report, &handled);
     }
 }

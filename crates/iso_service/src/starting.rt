@@ -37,6 +37,7 @@ fn not_opened<D: Disk>(error: OpenError, disk: &D) -> StartFault
 }
 
 /// Refuses a file whose first bytes aren't those of a journal under this heading.
+#[tactic(auto, using(crate::proofs::Why::why_front, crate::proofs::Why::why_other))]
 fn check_front<J: Journals>(
     alloc: Global,
     journals: &J,
@@ -49,10 +50,10 @@ fn check_front<J: Journals>(
         Ok(front) => front,
         Err(fault) => return Err(StartFault::File(fault)),
     };
-    match front_fault(&front, heading) {
-        None => Ok(()),
-        Some(fault) => Err(StartFault::Front(fault)),
+    if let Some(fault) = front_fault(&front, heading) {
+        return Err(StartFault::Front(fault));
     }
+    Ok(())
 }
 
 /// Opens the journal at a path, under this heading and of these accounts, and starts a host over it. Its first bytes are

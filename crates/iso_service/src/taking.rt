@@ -3,7 +3,7 @@ ghost use Rattle.std.specs.Prelude.{◌≡◌, IfOk};
 ghost use Rattle.iso_peers.specs.Host.{IsInStep};
 ghost use Rattle.iso_peers.specs.Turn.{TakesAll};
 
-use crate::counting::count_frame;
+use crate::counting::count_taken;
 use iso_durable::{Log, LogFailed};
 use iso_host::laws::one_journal;
 use iso_host::{PeerFault, Report};
@@ -46,9 +46,7 @@ pub(crate) fn take_counted<L: Log>(
                 });
             }
             Ok(taken) => {
-                if let Some(handled) = taken.handled {
-                    count_frame(report, &handled);
-                }
+                count_taken(report, &taken);
                 used += taken.used;
                 if used == bytes.len() {
                     return Ok(Turned {
