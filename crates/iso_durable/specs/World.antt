@@ -7,6 +7,7 @@ use Rattle.iso_issuer.specs.declared.account.Account.{Account}
 use Rattle.iso_issuer.specs.Journal.{is_entered, HasDistinctKeys}
 use Rattle.iso_issuer.specs.Books.{is_full, journal}
 use Rattle.iso_issuer.specs.Decision.{journal_of, answer_for}
+use Rattle.iso_issuer.specs.Laws.{books_after}
 use Rattle.iso_durable.specs.Durable.{Durable, books_of, entered, comes, come_all, syncs, crashes}
 
 -- an order, and the answer that was made for it
@@ -82,3 +83,7 @@ together (o ∷ os) = Comes o ∷ together os
 -- they leave what `answer_all` leaves
 abbrev pub CallsAreRuns : Type 0
 CallsAreRuns = (w : World) (orders : List Instruction) → (run (together orders) w).host ≡ syncs (come_all w.host orders)
+
+-- orders that come one after another enter the books as orders do that are handled: the first of each key, up to the limit
+abbrev pub OrdersEnter : Type 0
+OrdersEnter = (d : Durable) (orders : List Instruction) → IsStart d.limit (entered d) → books_of (come_all d orders) ≡ books_after (books_of d) orders

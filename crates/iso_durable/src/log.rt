@@ -47,6 +47,16 @@ pub trait Log {
         ensures crash { is_ready self.old
             → LeavesFront (may_leave self.new) (synced self.old) (pending self.old) };
 
+    /// Makes room for so many orders more, as far as a log can say, and has each crash keep all orders.
+    fn make_room(&mut self, orders: usize) -> Result<(), LogFailed>
+        ensures ready { OnOk result (is_ready self.old → is_ready self.new) }
+        ensures synced { OnOk result (is_ready self.old
+            → synced self.new ≡ synced self.old ++ pending self.old) }
+        ensures none { OnOk result (is_ready self.old → pending self.new ≡ []) }
+        // however it ends
+        ensures crash { is_ready self.old
+            → LeavesFront (may_leave self.new) (synced self.old) (pending self.old) };
+
     /// A log that is ready leaves its synced orders, and of those behind them some from the front.
     ghost leaves_front: { (log : Self) → is_ready log → LeavesFront (may_leave log) (synced log) (pending log) };
 }

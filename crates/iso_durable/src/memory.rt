@@ -51,5 +51,9 @@ impl Log for MemoryLog {
         }
     }
 
+    fn make_room(&mut self, _orders: usize) -> Result<(), LogFailed> {
+        self.sync()
+    }
+
     ghost leaves_front = { λ log ready c left. left };
 }

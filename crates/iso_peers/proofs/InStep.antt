@@ -1,0 +1,93 @@
+-- A host and its log, while orders come and are kept.
+use Rattle.std.proofs.Common.{◌≡◌, ◌∙◌, ◌++◌, ℕ, zero, suc, refl, sym, ap, subst, List, [], ◌∷◌, length, take, drop, append_assoc, append-nil}
+use Rattle.std.proofs.Math.Seq.{drop-append_seam}
+use Rattle.iso_order.specs.Order.{Instruction}
+use Rattle.iso_issuer.specs.Books.{Books}
+use Rattle.iso_issuer.specs.Journal.{firsts}
+use Rattle.iso_issuer.specs.Laws.{books_after, FirstsGoOn}
+use Rattle.iso_durable.specs.Durable.{Durable, MayLeave, books_of, comes, come_all, entered, syncs}
+use Rattle.iso_durable.specs.World.{IsStart, OrdersEnter}
+
+-- ---- orders that come
+
+-- orders behind others enter the books as all of them
+pub after_more : FirstsGoOn → (b : Books) (xs ys : List Instruction) → books_after (books_after b xs) ys ≡ books_after b (xs ++ ys)
+after_more law b xs ys =
+    ap (λ (l : List Instruction). record b { orders = l }) (law b.limit (b.orders ++ xs) ys ∙ ap (λ (l : List Instruction). take b.limit (firsts l)) (append_assoc b.orders xs ys))
+
+synced_stays : (d : Durable) (os : List Instruction) → (come_all d os).synced ≡ d.synced
+synced_stays d [] = refl
+synced_stays d (o ∷ os) = synced_stays (comes d o) os
+
+-- a host over a run, by its books, what its log keeps, and how many those are
+abbrev pub durable : Books → List Instruction → ℕ → Durable
+durable b synced kept = record { accounts = b.accounts; limit = b.limit; synced = synced; pending = drop kept b.orders }
+
+module _ (law : OrdersEnter) (old new : Books) (synced : List Instruction) (kept : ℕ) (os : List Instruction)
+    (count : kept ≡ length synced) (same : old.orders ≡ synced ++ drop kept old.orders) (start : IsStart old.limit old.orders) (enters : new ≡ books_after old os) where
+  abbrev came : Durable
+  came = come_all (durable old synced kept) os
+
+  came_books : books_of came ≡ new
+  came_books =
+      law (durable old synced kept) os (subst (IsStart old.limit) same start)
+      ∙ ap (λ (l : List Instruction). books_after (record old { orders = l }) os) (sym same) ∙ sym enters
+
+  -- the orders that enter the books come to the host
+  pub come_by : durable new synced kept ≡ come_all (durable old synced kept) os
+  come_by =
+      let first : came.synced ≡ synced = synced_stays (durable old synced kept) os in
+      let rest : drop kept (entered came) ≡ came.pending =
+      ap (λ (n : ℕ). drop n (entered came)) (count ∙ ap length (sym first)) ∙ drop-append_seam came.synced came.pending in
+      subst (λ (b : Books). durable b synced kept ≡ came) came_books (
+        ap (λ (l : List Instruction). record { accounts = came.accounts; limit = came.limit; synced = l; pending = drop kept (entered came) }) (sym first)
+        ∙ ap (λ (l : List Instruction). record { accounts = came.accounts; limit = came.limit; synced = came.synced; pending = l }) rest
+      )
+
+  -- and the journal still begins with those of the log
+  pub still_same : new.orders ≡ synced ++ drop kept new.orders
+  still_same = sym (ap entered come_by ∙ ap (λ (b : Books). b.orders) came_books)
+
+-- ---- orders that are kept
+
+pub drop_all : {X : Type 0} (xs : List X) → drop (length xs) xs ≡ []
+drop_all [] = refl
+drop_all (x ∷ xs) = drop_all xs
+
+abbrev nothing : List Instruction
+nothing = []
+
+take_nothing : (n : ℕ) → take n nothing ≡ nothing
+take_nothing zero = refl
+take_nothing (suc n) = refl
+
+-- what the log has once it is synced: the journal
+pub all_synced : (orders synced pending now : List Instruction) (kept : ℕ) → pending ≡ [] → orders ≡ synced ++ drop kept orders → now ≡ synced ++ pending ++ drop kept orders → now ≡ orders
+all_synced orders synced pending now kept none same is =
+    is ∙ ap (λ (l : List Instruction). synced ++ l ++ drop kept orders) none ∙ ap (λ (l : List Instruction). l ++ drop kept orders) (append-nil synced) ∙ sym same
+
+-- the journal is what is kept, and nothing behind it
+pub kept_same : (orders now : List Instruction) → now ≡ orders → orders ≡ now ++ drop (length orders) orders
+kept_same orders now is = sym (ap (λ (l : List Instruction). now ++ l) (drop_all orders) ∙ append-nil now ∙ is)
+
+pub kept_syncs : (b : Books) (synced now : List Instruction) (kept : ℕ) → b.orders ≡ synced ++ drop kept b.orders → now ≡ b.orders
+    → durable b now (length b.orders) ≡ syncs (durable b synced kept)
+kept_syncs b synced now kept same is =
+    ap (λ (l : List Instruction). record { accounts = b.accounts; limit = b.limit; synced = l; pending = drop (length b.orders) b.orders }) (is ∙ same)
+    ∙ ap (λ (l : List Instruction). record { accounts = b.accounts; limit = b.limit; synced = synced ++ drop kept b.orders; pending = l }) (drop_all b.orders)
+
+-- where all orders are kept, a sync changes nothing
+pub kept_already : (b : Books) (synced : List Instruction) (kept : ℕ) → kept ≡ length b.orders → durable b synced kept ≡ syncs (durable b synced kept)
+kept_already b synced kept count =
+    let none : drop kept b.orders ≡ [] = ap (λ (n : ℕ). drop n b.orders) count ∙ drop_all b.orders in
+    ap (λ (l : List Instruction). record { accounts = b.accounts; limit = b.limit; synced = synced; pending = l }) none
+    ∙ ap (λ (l : List Instruction). record { accounts = b.accounts; limit = b.limit; synced = l; pending = [] }) (sym (ap (λ (l : List Instruction). synced ++ l) none ∙ append-nil synced))
+
+-- what a crash leaves of the log alone, it may leave of the host
+pub leaves_log : (d : Durable) (pending c : List Instruction) → pending ≡ [] → (n : ℕ) × (c ≡ d.synced ++ take n pending) → MayLeave d c
+leaves_log d pending c none left =
+    (0, left.1 ∙ ap (λ (l : List Instruction). d.synced ++ take left.0 l) none ∙ ap (λ (l : List Instruction). d.synced ++ l) (take_nothing left.0))
+
+-- and what it leaves while the orders are kept
+pub leaves_kept : (d : Durable) (pending c : List Instruction) → pending ≡ [] → (n : ℕ) × (c ≡ d.synced ++ take n (pending ++ d.pending)) → MayLeave d c
+leaves_kept d pending c none left = (left.0, left.1 ∙ ap (λ (l : List Instruction). d.synced ++ take left.0 (l ++ d.pending)) none)

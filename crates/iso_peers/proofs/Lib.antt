@@ -1,0 +1,3 @@
+mod InStep
+mod Pieces
+mod Outlive

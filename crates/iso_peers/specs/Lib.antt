@@ -1,0 +1,4 @@
+pub mod Connection
+pub mod Host
+pub mod Turn
+pub mod World

@@ -1,0 +1,54 @@
+//! A turn for one peer.
+ghost use Rattle.std.specs.Prelude.{◌≡◌, List, IfOk, OnOk};
+ghost use Rattle.iso_order.specs.Order.{Instruction};
+ghost use Rattle.iso_issuer.specs.Laws.{books_after};
+ghost use Rattle.iso_durable.specs.Durable.{MayLeave, come_all, syncs};
+ghost use Rattle.iso_durable.specs.Host.{Stops};
+ghost use Rattle.iso_peers.specs.Host.{durable_of, IsInStep, IsKept};
+ghost use Rattle.iso_peers.specs.Turn.{TakesAll};
+
+use crate::connection::Connection;
+use crate::durable_host::DurableHost;
+use iso_durable::{Log, LogFailed};
+use iso_host::PeerFault;
+
+/// What was taken of a peer's bytes.
+#[derive(Clone, Copy, Debug, PartialEq, Eq)]
+pub struct Turned {
+    /// How many bytes, from the front on: all, where nothing stopped it.
+    pub used: usize,
+    /// Why no more was taken. After `BadHeader` the peer can't go on; after `Memory` the bytes behind those that were taken
+    /// can come again.
+    pub stopped: Option<PeerFault>,
+}
+
+impl<L: Log> DurableHost<L> {
+    /// Takes all bytes of a peer, frame after frame, and keeps the orders. Then `hand_out` gives the answers of all frames
+    /// that ended, also where a later one stopped it. After an `Err` nothing is handed out any more.
+    pub fn turn(
+        &mut self,
+        connection: &mut Connection<'_>,
+        bytes: &[u8],
+    ) -> Result<Turned, LogFailed>
+        ensures took { IfOk result (TakesAll connection.old connection.new self.old.host self.new.host bytes.now) }
+        ensures kept { OnOk result (IsKept self.new) }
+        ensures table { connection.new.peer.table ≡ connection.old.peer.table }
+        ensures header { connection.new.peer.header ≡ connection.old.peer.header }
+        ensures step { OnOk result (IsInStep L.is_ready L.synced L.pending self.old
+            → IsInStep L.is_ready L.synced L.pending self.new) }
+        // The orders that entered the books came to the host, and were synced.
+        ensures comes { OnOk result (IsInStep L.is_ready L.synced L.pending self.old
+            → (orders : List Instruction) → self.new.host ≡ books_after self.old.host orders
+            → durable_of L.synced self.new ≡ syncs (come_all (durable_of L.synced self.old) orders)) }
+        // However it ends, a crash leaves what it may leave once the orders that entered the books have come.
+        ensures crash { IsInStep L.is_ready L.synced L.pending self.old
+            → (orders c : List Instruction) → self.new.host ≡ books_after self.old.host orders
+            → L.may_leave self.new.log c
+            → MayLeave (come_all (durable_of L.synced self.old) orders) c }
+        ensures stops { Stops self.old.has_failed self.new.has_failed result }
+    {
+        let turned = self.take_all(connection, bytes)?;
+        self.keep()?;
+        Ok(turned)
+    }
+}
