@@ -36,20 +36,21 @@ pub record IsRun (old : World) (events : List Event) (refused : ℕ) (new : Worl
   pub can : AllByRecursion CanHappen events
   pub ran : IsRan old events refused new
 
+-- it holds after every run from unused ends on, whatever is refused in it
+abbrev pub AfterEachRun : (World → Type 0) → Type 0
+AfterEachRun Holds =
+    (id : ℕ) (accounts : List Account) (limit : ℕ) (events : List Event) (n : ℕ) (w : World) →
+    IsAcquirer id → IsRun (unused id accounts limit) events n w → Holds w
+
 -- both ends agree on each transaction
 abbrev pub RunsAgree : Type 0
-RunsAgree =
-    (id : ℕ) (accounts : List Account) (limit : ℕ) (events : List Event) (n : ℕ) (w : World) →
-    IsAcquirer id → IsRun (unused id accounts limit) events n w → BothAgree w
+RunsAgree = AfterEachRun BothAgree
 
 -- what is closed stays, however the run goes on
 abbrev pub RunsStayClosed : Type 0
 RunsStayClosed =
-    (id : ℕ) (accounts : List Account) (limit : ℕ) (events more : List Event) (n m : ℕ) (w later : World) →
-    IsAcquirer id → IsRun (unused id accounts limit) events n w → IsRun w more m later → StaysClosed w later
+    AfterEachRun (λ w. (more : List Event) (m : ℕ) (later : World) → IsRun w more m later → StaysClosed w later)
 
 -- once all is closed, the books agree
 abbrev pub RunsBalance : Type 0
-RunsBalance =
-    (id : ℕ) (accounts : List Account) (limit : ℕ) (events : List Event) (n : ℕ) (w : World) →
-    IsAcquirer id → IsRun (unused id accounts limit) events n w → BooksAgree w
+RunsBalance = AfterEachRun BooksAgree

@@ -1,4 +1,4 @@
-//! What holds after every run of both ends: functions that do nothing, and whose contracts are laws.
+//! What holds after every run of both ends: a function that does nothing, and whose contract is the laws.
 
 ghost use Rattle.iso_acquirer.specs.Runs.{RunsAgree, RunsStayClosed, RunsBalance};
 
@@ -7,8 +7,8 @@ use iso_issuer::laws::{
     reversed_never_stands, stands_no_more,
 };
 
-/// After each run of both ends that begins unused, whatever is lost, repeated, late or refused in it: both ends agree
-/// on each transaction, what is closed stays as it is, and once all is closed the books agree. It says of lists of
+/// After each run of both ends that begins unused, whatever is lost, repeated, late or refused in it: both ends
+/// agree on each transaction, what is closed stays, and once all is closed the books agree. It says of lists of
 /// events what `World` says of itself, so that a law can speak of runs that nothing plays.
 pub fn runs_agree()
     ensures agree { RunsAgree }

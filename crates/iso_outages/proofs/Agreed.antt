@@ -48,5 +48,5 @@ module _ (laws : IssuerLaws) (id : ℕ) (accounts : List Account) (limit : ℕ) 
   pub closed-over : RunsStayClosed → (more : List Event) → AllByRecursion CanHappen more → StaysClosed (on_disk at_end) (on_disk (run more at_end))
   closed-over closed more can_more =
       let rest = follows-all laws more at_end calm_run.after calm_run.is can_more in
-      closed id accounts limit calm_run.events rest.events 0 0 (ends_with at_end at_end.host.synced calm_run.after) (ends_with (run more at_end) (run more at_end).host.synced rest.after)
-      own calm_run.ran rest.ran
+      closed id accounts limit calm_run.events 0 (ends_with at_end at_end.host.synced calm_run.after) own calm_run.ran rest.events 0
+      (ends_with (run more at_end) (run more at_end).host.synced rest.after) rest.ran

@@ -22,7 +22,7 @@ CanHappen (Crashes kept) = Unit {0}
 
 -- ---- each run with crashes is a run without
 
--- the acquirer, what it sent, an issuer whose journal has these orders, and these answers: both ends without crashes
+-- ends without crashes: the acquirer, what it sent, a journal of these orders, and these answers
 abbrev pub ends_with : World → List Instruction → List Given → BothEnds
 ends_with w orders given = record {
   acquirer = w.acquirer;
@@ -35,9 +35,9 @@ ends_with w orders given = record {
 abbrev pub IsAmong : List Given → Given → Type 0
 IsAmong all g = ((place : ℕ) × (slice_get all place ≡ Some g)) ⊎ (g.answer.code ≡ 96)
 
--- Events without a crash, none of them refused, lead to the same acquirer, which sent the same, and to an issuer whose
--- journal has the orders on the disk. Each answer that was given is given there. So an order that a crash took is one
--- that was never delivered, and an answer that it took is one that was never heard.
+-- Events without a crash, none of them refused, lead to the same acquirer, which sent the same, and
+-- to a journal of the orders on the disk. Each answer that was given is given there. So an order
+-- that a crash took was never delivered there, and an answer that it took is never heard.
 pub record IsRunWithout (old : BothEnds) (new : World) : Type 0 where
   pub events : List Passing
   pub given : List Given
@@ -61,30 +61,29 @@ on_disk w = ends_with w w.host.synced w.given
 abbrev pub in_memory : World → BothEnds
 in_memory w = ends_with w (entered w.host) w.given
 
+-- it holds after every run from unused ends on, with crashes at any moments
+abbrev pub AfterEachRun : (World → Type 0) → Type 0
+AfterEachRun Holds =
+    (id : ℕ) (accounts : List Account) (limit : ℕ) (events : List Event) →
+    IsAcquirer id → AllByRecursion CanHappen events → Holds (run events (unused id accounts limit))
+
 -- both ends agree on each transaction
 abbrev pub AgreeOverCrashes : Type 0
-AgreeOverCrashes =
-    (id : ℕ) (accounts : List Account) (limit : ℕ) (events : List Event) →
-    IsAcquirer id → AllByRecursion CanHappen events →
-    BothAgree (on_disk (run events (unused id accounts limit))) × BothAgree (in_memory (run events (unused id accounts limit)))
+AgreeOverCrashes = AfterEachRun (λ w. BothAgree (on_disk w) × BothAgree (in_memory w))
 
 -- what is closed stays, however the run goes on
 abbrev pub StayClosedOverCrashes : Type 0
 StayClosedOverCrashes =
-    (id : ℕ) (accounts : List Account) (limit : ℕ) (events more : List Event) →
-    IsAcquirer id → AllByRecursion CanHappen events → AllByRecursion CanHappen more →
-    StaysClosed (on_disk (run events (unused id accounts limit))) (on_disk (run more (run events (unused id accounts limit))))
+    AfterEachRun (λ w. (more : List Event) → AllByRecursion CanHappen more →
+    StaysClosed (on_disk w) (on_disk (run more w)))
 
 -- once all is closed, the books agree
 abbrev pub BalanceOverCrashes : Type 0
-BalanceOverCrashes =
-    (id : ℕ) (accounts : List Account) (limit : ℕ) (events : List Event) →
-    IsAcquirer id → AllByRecursion CanHappen events →
-    BooksAgree (on_disk (run events (unused id accounts limit))) × BooksAgree (in_memory (run events (unused id accounts limit)))
+BalanceOverCrashes = AfterEachRun (λ w. BooksAgree (on_disk w) × BooksAgree (in_memory w))
 
 -- ---- and a call of the host is such a run
 
--- orders that come together, as they were sent at these places, and the sync before their answers are given
+-- orders that come together, sent at these places, and the sync before their answers are given
 abbrev pub together : List ℕ → List Event
 together [] = Syncs ∷ []
 together (place ∷ places) = Passes (Deliver place) ∷ together places
@@ -107,4 +106,5 @@ abbrev pub CallsAreRuns : Type 0
 CallsAreRuns =
     (w : World) (places : List ℕ) (orders : List Instruction) → AreSentAt w.sent places orders →
     ((run (together places) w).host ≡ syncs (come_all w.host orders))
-    × ((run (together places) w).given ≡ w.given ++ (w.waiting ++ under_keys orders (outcomes w.host orders)))
+    × ((run (together places) w).given
+    ≡ w.given ++ (w.waiting ++ under_keys orders (outcomes w.host orders)))

@@ -10,7 +10,7 @@ use Rattle.iso_acquirer.specs.declared.fault.AcqFault.{AcqFault}
 use Rattle.iso_acquirer.specs.declared.slot.Slot.{Slot}
 use Rattle.iso_acquirer.specs.Acquirer.{Party, slots_with, debit_of, timeout, slots_after_answer}
 
--- the acquirer and the orders that it sent, the host, the answers that wait until its log is synced, and those that were given
+-- the acquirer and what it sent, the host, the answers that wait for its sync, and those given
 pub record World : Type 0 where
   pub acquirer : Party
   pub sent : List Instruction
@@ -18,8 +18,8 @@ pub record World : Type 0 where
   pub waiting : List Given
   pub given : List Given
 
--- something passes between both ends; the log is synced, and the answers that wait are given; or the host crashes and
--- starts again on what the crash kept: what is on the disk, and so many of the orders behind it
+-- something passes between both ends; the log is synced, and the answers that wait are given; or
+-- the host crashes and starts again on what is on the disk, and so many of the orders behind it
 pub data Event : Type 0 where
   Passes : (what : Passing) → Event
   Syncs : Event
@@ -39,7 +39,9 @@ sends w (o, slots) = record {
 
 -- it begins a transaction where a trace number is left
 abbrev pub begins : World → Instruction → World
-begins w o = if nat_lt (length w.acquirer.slots) 999999 then sends w (o, slots_with w.acquirer.slots o) else w
+begins w o =
+    if nat_lt (length w.acquirer.slots) 999999 then sends w (o, slots_with w.acquirer.slots o)
+    else w
 
 -- it sends what it sends where no answer came in time
 abbrev pub asks : World → Result (Instruction × List Slot) AcqFault → World
@@ -61,7 +63,10 @@ receives w (Some o) = record {
 abbrev pub hears : World → Option Given → World
 hears w None = w
 hears w (Some g) = record {
-  acquirer = record { id = w.acquirer.id; slots = slots_after_answer w.acquirer.slots g.key g.answer.code };
+  acquirer = record {
+    id = w.acquirer.id;
+    slots = slots_after_answer w.acquirer.slots g.key g.answer.code;
+  };
   sent = w.sent;
   host = w.host;
   waiting = w.waiting;
@@ -72,7 +77,13 @@ hears w (Some g) = record {
 abbrev pub receives_other : World → Instruction → World
 receives_other w o =
     if o.key.acquirer == w.acquirer.id then w
-    else record { acquirer = w.acquirer; sent = w.sent; host = comes w.host o; waiting = w.waiting; given = w.given }
+    else record {
+      acquirer = w.acquirer;
+      sent = w.sent;
+      host = comes w.host o;
+      waiting = w.waiting;
+      given = w.given;
+    }
 
 abbrev pub passes : World → Passing → World
 passes w (Begin pan amount currency sent) = begins w (debit_of w.acquirer pan amount currency sent)

@@ -1,17 +1,18 @@
-//! What holds of both ends over each run, whenever the host crashes in it: a function that does nothing, and whose
-//! contract is the laws.
+//! What holds of both ends over each run, whenever the host crashes in it: a function that does nothing,
+//! and whose contract is the laws.
 
-ghost use Rattle.iso_outages.specs.Laws.{CrashesOnlyLose, AgreeOverCrashes, StayClosedOverCrashes, BalanceOverCrashes, CallsAreRuns};
+ghost use Rattle.iso_outages.specs.Laws.{CrashesOnlyLose, AgreeOverCrashes, StayClosedOverCrashes};
+ghost use Rattle.iso_outages.specs.Laws.{BalanceOverCrashes, CallsAreRuns};
 
 use iso_acquirer::laws::runs_agree;
 use iso_issuer::laws::{answers_are_kept, entries_are_found, journals_grow, keys_stay_distinct};
 use iso_order::laws::comparisons;
 
-/// Both ends agree over each run that begins unused, with crashes of the issuer's host at any moments. What the
-/// acquirer holds as approved is on the disk and stands. What it holds as declined or reversed never stands. What is
-/// closed stays. And where all is closed and no order of others is entered, both books agree.
+/// Both ends agree over each run that begins unused, with crashes of the issuer's host at any moments. What
+/// the acquirer holds as approved is on the disk and stands. What it holds as declined or reversed never
+/// stands. What is closed stays. And where all is closed and no order of others is entered, both books agree.
 pub fn crashes_only_lose()
-    // Each run with crashes is a run without, in which what a crash lost was never delivered, or never answered.
+    // Each run with crashes is a run without: what a crash took was never delivered there, or never heard.
     ensures without { CrashesOnlyLose }
     ensures agree { AgreeOverCrashes }
     ensures closed { StayClosedOverCrashes }

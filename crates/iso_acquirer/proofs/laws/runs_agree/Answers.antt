@@ -18,7 +18,7 @@ returns-clause-agree c = λ id accounts limit events n w own is.
     (sound-ran laws _ events n w (sound-unused id accounts limit own) is.can is.ran).sound
 
 pub returns-clause-closed : goal.returns-clause-closed
-returns-clause-closed c = λ id accounts limit events more n m w later own is goes_on.
+returns-clause-closed c = λ id accounts limit events n w own is more m later goes_on.
     let laws : IssuerLaws = record {
       grow = c.journals_grow.ensures.grown;
       known = c.keys_stay_distinct.ensures.known;

@@ -33,7 +33,7 @@ returns-clause-agree c = λ id accounts limit events own can.
     agree-over laws id accounts limit events own can c.runs_agree.ensures.agree
 
 pub returns-clause-closed : goal.returns-clause-closed
-returns-clause-closed c = λ id accounts limit events more own can can_more.
+returns-clause-closed c = λ id accounts limit events own can more can_more.
     let laws : IssuerLaws = record {
       kept = c.answers_are_kept.ensures.entry;
       has = c.journals_grow.ensures.found;
