@@ -1,3 +1,4 @@
 mod InStep
-mod Pieces
+mod Leaving
 mod Outlive
+mod Pieces
