@@ -7,6 +7,8 @@ use Rattle.iso_issuer.specs.Journal.{firsts}
 use Rattle.iso_issuer.specs.Laws.{books_after, FirstsGoOn}
 use Rattle.iso_durable.specs.Durable.{Durable, MayLeave, books_of, comes, come_all, entered, syncs}
 use Rattle.iso_durable.specs.World.{IsStart, OrdersEnter}
+use Rattle.iso_peers.specs.declared.durable_host.DurableHost.{DurableHost}
+use Rattle.iso_peers.specs.Host.{durable_of, IsInStep}
 
 -- ---- orders that come
 
@@ -40,8 +42,8 @@ module _ (law : OrdersEnter) (old new : Books) (synced : List Instruction) (kept
       let rest : drop kept (entered came) ≡ came.pending =
       ap (λ (n : ℕ). drop n (entered came)) (count ∙ ap length (sym first)) ∙ drop-append_seam came.synced came.pending in
       subst (λ (b : Books). durable b synced kept ≡ came) came_books (
-        ap (λ (l : List Instruction). record { accounts = came.accounts; limit = came.limit; synced = l; pending = drop kept (entered came) }) (sym first)
-        ∙ ap (λ (l : List Instruction). record { accounts = came.accounts; limit = came.limit; synced = came.synced; pending = l }) rest
+      ap (λ (l : List Instruction). record { accounts = came.accounts; limit = came.limit; synced = l; pending = drop kept (entered came) }) (sym first)
+      ∙ ap (λ (l : List Instruction). record { accounts = came.accounts; limit = came.limit; synced = came.synced; pending = l }) rest
       )
 
   -- and the journal still begins with those of the log
@@ -91,3 +93,22 @@ leaves_log d pending c none left =
 -- and what it leaves while the orders are kept
 pub leaves_kept : (d : Durable) (pending c : List Instruction) → pending ≡ [] → (n : ℕ) × (c ≡ d.synced ++ take n (pending ++ d.pending)) → MayLeave d c
 leaves_kept d pending c none left = (left.0, left.1 ∙ ap (λ (l : List Instruction). d.synced ++ take left.0 (l ++ d.pending)) none)
+
+-- ---- a host
+
+-- its journal goes on by orders, and its log stays as it is
+pub stays_in_step : {L : Type 0} (is_ready : L → Type 0) (synced pending : L → List Instruction) (old : DurableHost L) (new : Books) → OrdersEnter
+    → IsStart old.host.limit old.host.orders → ((orders : List Instruction) × (new ≡ books_after old.host orders)) → IsInStep is_ready synced pending old
+    → IsInStep is_ready synced pending (record old { host = new })
+stays_in_step is_ready synced pending old new law start enters is = record {
+  ready = is.ready;
+  none = is.none;
+  count = is.count;
+  same = still_same law old.host new (synced old.log) old.kept enters.0 is.count is.same start enters.1;
+}
+
+-- the orders of its journal that its log hasn't come to it
+pub orders_come : {L : Type 0} (is_ready : L → Type 0) (synced pending : L → List Instruction) (old : DurableHost L) (new : Books) → OrdersEnter
+    → IsStart old.host.limit old.host.orders → IsInStep is_ready synced pending old → (orders : List Instruction) → new ≡ books_after old.host orders
+    → durable_of synced (record old { host = new }) ≡ come_all (durable_of synced old) orders
+orders_come is_ready synced pending old new law start is orders enters = come_by law old.host new (synced old.log) old.kept orders is.count is.same start enters

@@ -246,6 +246,7 @@ same_accounts (step ∷ steps) s = same_accounts steps (goes s step) ∙ by_step
     came : (d : Durable) (os : List Instruction) → (come_all d os).accounts ≡ d.accounts
     came d [] = refl
     came d (o ∷ os) = came (comes d o) os
+
     by_step : (x : Step) → (goes s x).host.accounts ≡ s.host.accounts
     by_step (Answers r) = came s.host (orders_in (asked_of r.link.table r.body))
     by_step (Enters link body) = came s.host (orders_in (asked_of link.table body))

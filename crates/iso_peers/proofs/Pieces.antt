@@ -1,8 +1,8 @@
 -- Piece after piece of one peer.
 use Rattle.std.proofs.Common.{◌≡◌, ◌≢◌, ◌∙◌, ◌++◌, ◌+◌, ◌-◌, ◌<◌, ◌≤◌, ℕ, zero, suc, refl, sym, ap, subst, arith, List, [], ◌∷◌, length, take, drop, append_assoc, append-nil}
 use Rattle.std.specs.Prelude.{Option, Some, None}
-use Rattle.std.proofs.lemmas.List.{length-drop}
-use Rattle.std.proofs.Math.Seq.{drop-length}
+use Rattle.std.proofs.lemmas.List.{length-drop, take_all}
+use Rattle.std.proofs.Math.Seq.{drop-length, take-add}
 use Rattle.iso_table.specs.Layout.{Layout}
 use Rattle.iso_wire.specs.declared.header.Header.{Header}
 use Rattle.iso_wire.specs.Framing.{frame_of, frames_of, AllFit, largest, NoFrame, SplitsSomehow}
@@ -17,7 +17,8 @@ use Rattle.iso_host.specs.Peers.{TakesPiece}
 use Rattle.iso_host.specs.declared.peer.PeerFault.{PeerFault}
 use Rattle.iso_host.specs.declared.handled.Handled.{Handled}
 use Rattle.iso_peers.specs.Connection.{Connected}
-use Rattle.iso_peers.specs.Turn.{RefusesOf, TakesAll}
+use Rattle.iso_host.specs.declared.peer.Taken.{Taken}
+use Rattle.iso_peers.specs.Turn.{RefusesOf, TakesAll, TakesOf}
 
 -- ---- one body more
 
@@ -124,6 +125,21 @@ pub fewer : (bytes : List ℕ) (used more : ℕ) → used ≤ length bytes → m
     → length bytes - (used + more) < length bytes - used
 fewer bytes used zero within few some other = absurd (some (λ none. other (omega (arith, within, length-drop used bytes, ap length none))) refl)
 fewer bytes used (suc more) within few some other = omega (arith, within, few, length-drop used bytes)
+
+-- the bytes behind a place
+pub behind : (bytes piece : List ℕ) (used : ℕ) → piece ≡ take (length bytes - used) (drop used bytes) → piece ≡ drop used bytes
+behind bytes piece used is = is ∙ take_all (length bytes - used) (drop used bytes) (omega (arith, length-drop used bytes))
+
+-- what was taken of them
+pub next_taken : (old mid new : Connected) (before between after : Books) (bytes : List ℕ) (used : ℕ) (taken : Taken) → BodiesGoOn
+    → mid.peer.table ≡ old.peer.table → mid.peer.header ≡ old.peer.header → SoFar old.peer.table old.peer.header old mid before between (take used bytes)
+    → TakesOf mid new between after (drop used bytes) taken → SoFar old.peer.table old.peer.header old new before after (take (used + taken.used) bytes)
+next_taken old mid new before between after bytes used taken law table header so took =
+    let piece = take taken.used (drop used bytes) in
+    let here = subst (λ (t : Layout). TakesPiece t mid.peer.header mid.peer.held new.peer.held between after piece mid.waiting new.waiting taken.handled) table took.piece in
+    let there = subst (λ (h : Header). TakesPiece old.peer.table h mid.peer.held new.peer.held between after piece mid.waiting new.waiting taken.handled) header here in
+    subst (SoFar old.peer.table old.peer.header old new before after) (sym (take-add used taken.used bytes))
+    (next old.peer.table old.peer.header old mid new before between after (take used bytes) piece taken.handled law so there)
 
 -- ---- where it stops
 

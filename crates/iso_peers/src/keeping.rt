@@ -28,11 +28,7 @@ fn append_from<L: Log>(log: &mut L, issuer: &Issuer, kept: usize) -> Result<(), 
 }
 
 /// Adds the orders of the journal from a place on to the log, each with its answer, and has all of them synced.
-pub(crate) fn keep_from<L: Log>(
-    log: &mut L,
-    issuer: &Issuer,
-    kept: usize,
-) -> Result<(), LogFailed>
+pub(crate) fn keep_from<L: Log>(log: &mut L, issuer: &Issuer, kept: usize) -> Result<(), LogFailed>
     ensures ready { OnOk result (L.is_ready log.old → L.is_ready log.new) }
     ensures synced { OnOk result (L.is_ready log.old
         → L.synced log.new ≡ L.synced log.old ++ L.pending log.old ++ drop kept issuer.now.orders) }

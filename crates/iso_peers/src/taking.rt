@@ -32,11 +32,7 @@ pub(crate) fn take_piece(
 }
 
 /// Takes all bytes of a peer, frame after frame; the answers wait.
-pub(crate) fn take_pieces(
-    host: &mut Host,
-    connection: &mut Connection<'_>,
-    bytes: &[u8],
-) -> Turned
+pub(crate) fn take_pieces(host: &mut Host, connection: &mut Connection<'_>, bytes: &[u8]) -> Turned
     ensures took { TakesAll connection.old connection.new host.old host.new bytes.now result }
     ensures table { connection.new.peer.table ≡ connection.old.peer.table }
     ensures header { connection.new.peer.header ≡ connection.old.peer.header }
