@@ -19,6 +19,9 @@ which its rows may name. A row has a "name" and
     "status"        with which it ends, 0 by default
     "output"        what it writes, nothing by default
     "faults"        what it tells on the fault stream, nothing by default
+    "before"        earlier runs in the same folder, one after the other, each with words, input, status, output and faults of its
+                    own as a row has them; none by default
+    "kept"          the texts of files that are there in the end, none by default; of one that may not be there, null
 What a text is, rows.py says.
 """
 import array
@@ -46,8 +49,9 @@ WAIT = 60
 # ---- the rows
 
 ROW = {"name": None, "words": [], "called": "iso_cli", "files": {}, "stdin": None, "input": "", "input pieces": None,
-       "input fails": False, "output takes": None, "faults take": None, "status": 0, "output": "", "faults": ""}
-DEVICES = ["stdin", "input pieces", "input fails", "output takes", "faults take"]
+       "input fails": False, "output takes": None, "faults take": None, "status": 0, "output": "", "faults": "", "before": [],
+       "kept": {}}
+DEVICES = ["stdin", "input pieces", "input fails", "output takes", "faults take", "before", "kept"]
 
 
 def whole_row(given, document, program="iso_cli"):
@@ -57,9 +61,11 @@ def whole_row(given, document, program="iso_cli"):
     if row.keys() != ROW.keys():
         raise ValueError(f"{given['name']}: what is {sorted(row.keys() - ROW.keys())}?")
     row["files"] = {encoded(name): text_of(value, texts) for name, value in {**document["files"], **row["files"]}.items()}
+    row["kept"] = {name: text if text is None else text_of(text, texts) for name, text in row["kept"].items()}
     row["words"] = [encoded(word) for word in row["words"]]
     for name in ("input", "output", "faults"):
         row[name] = text_of(row[name], texts)
+    row["before"] = [whole_row({"name": row["name"], **earlier}, {"texts": texts, "files": {}}, program) for earlier in row["before"]]
     return row
 
 
@@ -161,9 +167,7 @@ def written(stream, piped):
 # ---- a built program
 
 def run_in(command, row, folder, opened):
-    """The status, the output and the fault lines of a program in a folder."""
-    for name, text in row["files"].items():
-        pathlib.Path(folder, os.fsdecode(name)).write_bytes(text)
+    """The status, the output and the fault lines of a program in a folder that has its files."""
     called = [] if row["called"] is None else [encoded(row["called"])]
     limit = row["output takes"] or row["faults take"]
     output = opened_output(row["output takes"], opened)
@@ -178,13 +182,39 @@ def run_in(command, row, folder, opened):
     return process.returncode, written(output, piped[0]), written(faults, piped[1])
 
 
+def run_before(command, row, folder):
+    """What went wrong in the earlier runs of a row."""
+    told = []
+    for number, earlier in enumerate(row["before"]):
+        with contextlib.ExitStack() as opened:
+            end = run_in(command, earlier, folder, opened)
+        told += [f"before, run {number + 1}: {what}" for what in differences(earlier, end)]
+    return told
+
+
+def unkept(row, folder):
+    """What isn't there in the end, or is there otherwise."""
+    told = []
+    for name, text in row["kept"].items():
+        path = pathlib.Path(folder, name)
+        found = path.read_bytes() if path.is_file() else None
+        if found != text:
+            at = next((at for at, pair in enumerate(zip(found or b"", text or b"")) if pair[0] != pair[1]), None)
+            told.append(f"the file {name} isn't as it should be: {'none' if found is None else len(found)} bytes, other at {at}")
+    return told
+
+
 def run_rows(command, rows):
     """What comes of each row on a built program."""
     ends = []
     for row in rows:
         with tempfile.TemporaryDirectory() as folder, contextlib.ExitStack() as opened:
+            for name, text in row["files"].items():
+                pathlib.Path(folder, os.fsdecode(name)).write_bytes(text)
             try:
-                ends.append(run_in(command, row, folder, opened))
+                before = run_before(command, row, folder)
+                end = run_in(command, row, folder, opened)
+                ends.append("; ".join(before) if before else (*end, unkept(row, folder)))
             except (OSError, subprocess.TimeoutExpired) as fault:
                 ends.append(fault)
     return ends
@@ -271,7 +301,8 @@ def differences(row, end):
         return [str(end)]
     wanted = row["status"], row["output"], row["faults"]
     return [f"{what} is {found!r}, not {expected!r}" for what, found, expected
-            in zip(("the status", "the output", "the fault line"), end, wanted) if found != expected]
+            in zip(("the status", "the output", "the fault line"), end, wanted) if found != expected] + [
+                what for kept in end[3:] for what in kept]
 
 
 def main(words):

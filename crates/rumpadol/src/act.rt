@@ -4,6 +4,7 @@ ghost use Rattle.std.specs.Prelude.{◌≡◌, ◌≤◌, IfOk};
 ghost use Rattle.rumpadol.specs.Jobs.{Performs};
 
 use crate::commands::command;
+use crate::host::perform_host;
 use crate::messages::perform_messages;
 use crate::source::Source;
 use crate::stop::{Stop, tell, write_output};
@@ -12,6 +13,7 @@ use crate::terminal::Terminals;
 use crate::words::{Job, job_of};
 use clap::error::ErrorKind;
 use clap::{ArgMatches, Error};
+use iso_service::Journals;
 use std::alloc::Global;
 use std::io::{Read, Write};
 
@@ -41,7 +43,7 @@ fn answer<O: Write>(alloc: Global, error: &Error, output: &mut O) -> Result<u8, 
 }
 
 /// Does what a job asks.
-fn perform<S: Source, I: Read, O: Write, F: Write>(
+fn perform<S: Source + Journals, I: Read, O: Write, F: Write>(
     alloc: Global,
     job: &Job<'_>,
     source: &S,
@@ -62,11 +64,12 @@ fn perform<S: Source, I: Read, O: Write, F: Write>(
             alloc, *job, source, terminals, input, output, faults,
         ),
         Job::Tables(job) => perform_table(alloc, job, source, input, output),
+        Job::Host(words) => perform_host(alloc, *words, source, input, output, faults),
     }
 }
 
 /// Does what the words ask that `clap` let pass.
-fn perform_asked<S: Source, I: Read, O: Write, F: Write>(
+fn perform_asked<S: Source + Journals, I: Read, O: Write, F: Write>(
     alloc: Global,
     matches: &ArgMatches<'_>,
     source: &S,
@@ -87,7 +90,7 @@ fn perform_asked<S: Source, I: Read, O: Write, F: Write>(
 }
 
 /// Does what the words ask, of which the first is the program's name.
-fn perform_words<S: Source, I: Read, O: Write, F: Write>(
+fn perform_words<S: Source + Journals, I: Read, O: Write, F: Write>(
     alloc: Global,
     words: &[String],
     source: &S,
@@ -106,7 +109,7 @@ fn perform_words<S: Source, I: Read, O: Write, F: Write>(
 
 /// Does what the words ask, of which the first is the program's name, and gives the status: 0 done, 1 an input is refused
 /// or two tables differ, 2 the command line is refused, 3 a device or memory failed.
-pub fn act<S: Source, I: Read, O: Write, F: Write>(
+pub fn act<S: Source + Journals, I: Read, O: Write, F: Write>(
     alloc: Global,
     words: &[String],
     source: &S,

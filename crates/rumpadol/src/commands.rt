@@ -1,10 +1,12 @@
 //! The command line, as `clap` reads it.
 
 mod arguments;
+mod host;
 mod messages;
 mod tables;
 
 use clap::Command;
+use host::host_command;
 use messages::{convert_command, decode_command, encode_command, explain_command};
 use std::alloc::{AllocError, Global};
 use tables::table_command;
@@ -24,7 +26,7 @@ pub fn command<'a>(alloc: Global) -> Result<Command<'a>, AllocError> {
     Command::new(alloc, "rumpadol")
         .bin_name("rumpadol")?
         .version("1.0.0")
-        .about("Looks at ISO 8583 messages, builds and converts them, and checks tables.")
+        .about("Looks at ISO 8583 messages, builds, converts and answers them, and checks tables.")
         .after_help(EXAMPLES)
         .subcommand_required(true)
         .arg_required_else_help(true)
@@ -32,5 +34,6 @@ pub fn command<'a>(alloc: Global) -> Result<Command<'a>, AllocError> {
         .subcommand(decode_command(alloc)?)?
         .subcommand(encode_command(alloc)?)?
         .subcommand(convert_command(alloc)?)?
-        .subcommand(table_command(alloc)?)
+        .subcommand(table_command(alloc)?)?
+        .subcommand(host_command(alloc)?)
 }

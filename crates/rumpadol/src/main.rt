@@ -5,11 +5,14 @@
 //! - `encode TABLE [INPUT]`: messages from such lines or such JSON
 //! - `convert FROM TO [INPUT]`: messages under another table
 //! - `table check`, `show`, `list`, `new` and `diff`: tables
+//! - `host`: answers frames as an issuer, and keeps each order before it is answered
 #![tactic(auto)]
 
 mod act;
 mod commands;
 mod documents;
+mod host;
+mod journals;
 mod messages;
 mod named;
 mod source;

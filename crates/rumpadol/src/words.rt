@@ -82,6 +82,21 @@ pub enum MessageJob<'a> {
     Convert(ConvertWords<'a>),
 }
 
+/// The words about a host.
+#[derive(Clone, Copy, Debug)]
+pub struct HostWords<'a> {
+    /// The table's name or path.
+    pub table: &'a str,
+    /// The header of frames.
+    pub header: Header,
+    /// The path of the accounts' document.
+    pub accounts: &'a str,
+    /// The path of the journal.
+    pub journal: &'a str,
+    /// Whether the journal is made.
+    pub is_new: bool,
+}
+
 /// What the words ask.
 #[derive(Debug, Drop)]
 pub enum Job<'a> {
@@ -89,6 +104,8 @@ pub enum Job<'a> {
     Messages(MessageJob<'a>),
     /// About tables.
     Tables(TableJob<'a>),
+    /// A host.
+    Host(HostWords<'a>),
 }
 
 impl<'a> MessageJob<'a> {
@@ -114,6 +131,7 @@ impl<'a> Job<'a> {
                 *first == STANDARD_INPUT || *second == STANDARD_INPUT
             }
             Job::Tables(TableJob::List) => false,
+            Job::Host(_) => true,
         }
     }
 }
@@ -123,12 +141,20 @@ fn text_of<'a>(matches: &ArgMatches<'a>, id: &str) -> &'a str {
     matches.get_str(id).unwrap_or("")
 }
 
+/// The header of a word.
+fn header_named(word: &str) -> Header {
+    match word {
+        "binary2" => Header::Binary2,
+        "ascii4" => Header::Ascii4,
+        _ => Header::Bcd2,
+    }
+}
+
 /// The header of frames that is given, if one is.
 fn header_of(matches: &ArgMatches<'_>) -> Option<Header> {
-    match matches.get_str("frames")? {
-        "binary2" => Some(Header::Binary2),
-        "ascii4" => Some(Header::Ascii4),
-        _ => Some(Header::Bcd2),
+    match matches.get_str("frames") {
+        Some(word) => Some(header_named(word)),
+        None => None,
     }
 }
 
@@ -158,6 +184,16 @@ fn convert_words<'a>(matches: &ArgMatches<'a>) -> ConvertWords<'a> {
         is_hex: matches.get_flag("hex"),
         header: header_of(matches),
         skip: skip_of(matches),
+    }
+}
+
+fn host_words<'a>(matches: &ArgMatches<'a>) -> HostWords<'a> {
+    HostWords {
+        table: text_of(matches, "table"),
+        header: header_named(text_of(matches, "header")),
+        accounts: text_of(matches, "accounts"),
+        journal: text_of(matches, "journal"),
+        is_new: matches.get_flag("new"),
     }
 }
 
@@ -229,6 +265,7 @@ pub fn job_of<'a>(alloc: Global, matches: &ArgMatches<'a>) -> Result<Option<Job<
         "encode" => Ok(Some(Job::Messages(MessageJob::Encode(message_words(inner))))),
         "convert" => Ok(Some(Job::Messages(MessageJob::Convert(convert_words(inner))))),
         "table" => tables_asked(alloc, inner),
+        "host" => Ok(Some(Job::Host(host_words(inner)))),
         _ => Ok(None),
     }
 }

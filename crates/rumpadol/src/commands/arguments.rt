@@ -4,7 +4,7 @@ use clap::{Arg, ArgAction, Command};
 use std::alloc::{AllocError, Global};
 
 /// The words for the headers of frames.
-const HEADERS: &[&str] = &["binary2", "ascii4", "bcd2"];
+pub const HEADERS: &[&str] = &["binary2", "ascii4", "bcd2"];
 
 /// A word that must be given.
 pub fn named_argument<'a>(

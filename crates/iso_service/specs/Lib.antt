@@ -1,0 +1,4 @@
+pub mod Front
+pub mod Serving
+pub mod Starting
+pub mod Refusal

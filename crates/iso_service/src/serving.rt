@@ -1,0 +1,84 @@
+//! A stream of frames, at a host that keeps each order before it is answered.
+ghost use Rattle.std.specs.Prelude.{◌≡◌};
+ghost use Rattle.iso_peers.specs.Host.{IsInStep, IsKept};
+ghost use Rattle.iso_service.specs.Serving.{Leaves, AreKept, EndsAt};
+
+use crate::answering::{keep_and_answer, kept_outlive};
+use crate::counting::NO_FRAMES;
+use crate::fault::ServiceFault;
+use crate::taking::take_counted;
+use iso_durable::Log;
+use iso_host::laws::one_journal;
+use iso_host::{Inlet, Link, Outlet, PeerFault, Report};
+use iso_peers::{Connection, DurableHost};
+use iso_wire::laws::splits_once;
+use std::alloc::Global;
+
+/// How many bytes are read at once. What one read brings is kept with one sync.
+pub const BLOCK: usize = 65_536;
+
+/// What is told where the input ends.
+fn told_at_end(connection: &Connection<'_>, report: Report) -> Result<Report, ServiceFault>
+    ensures { EndsAt connection.now.peer.held result }
+{
+    if connection.may_end() {
+        Ok(report)
+    } else {
+        Err(ServiceFault::CutFrame)
+    }
+}
+
+/// Reads frames to the end of the input, and writes each answer once its order is kept. What one read brings is decided, and
+/// kept with one sync; then its answers are written and flushed.
+///
+/// At `Ok`, `Read`, `BadHeader` and `CutFrame` all whole frames are entered, kept and answered. At `Log` no order that waited
+/// is answered. At `Write` the last answers may be missing or cut short, though their orders are kept: sent again, they get
+/// those answers.
+pub fn serve_kept<L: Log, R: Inlet, W: Outlet>(
+    alloc: Global,
+    host: &mut DurableHost<L>,
+    link: &Link,
+    reader: &mut R,
+    writer: &mut W,
+) -> Result<Report, ServiceFault>
+    // Nothing is written that isn't kept: however it ends, each crash leaves the orders of all that was answered.
+    ensures kept { IsInStep L.is_ready L.synced L.pending host.old → IsKept host.old
+        → AreKept link.now.table link.now.header (W.contents writer.old) (W.contents writer.new)
+        host.old.host (L.may_leave host.new.log) }
+    // What was read, entered and answered, by how it ends.
+    ensures leaves { Leaves link.now.table link.now.header (R.remaining reader.old) (R.remaining reader.new)
+        (W.contents writer.old) (W.contents writer.new) host.old.host host.new.host result }
+{
+    // the laws of a journal that goes on, and that bytes have one split into frames, for the prover
+    one_journal(host.issuer());
+    splits_once();
+    kept_outlive(host);
+    let mut block = Vec::new(alloc);
+    let Ok(()) = block.resize(BLOCK, 0) else {
+        return Err(ServiceFault::Memory);
+    };
+    let mut connection = Connection::new(alloc, link);
+    let mut report = NO_FRAMES;
+    'blocks: for _ in 0..u64::MAX {
+        let Ok(count) = reader.read(&mut block) else {
+            return Err(ServiceFault::Read);
+        };
+        if count == 0 {
+            return told_at_end(&connection, report);
+        }
+        let turned = match take_counted(host, &mut connection, &block[..count], &mut report) {
+            Ok(turned) => turned,
+            Err(_) => return Err(ServiceFault::Log),
+        };
+        match keep_and_answer(host, &mut connection, writer) {
+            Ok(()) => {}
+            Err(fault) => return Err(fault),
+        }
+        match turned.stopped {
+            None => {}
+            Some(PeerFault::BadHeader) => return Err(ServiceFault::BadHeader),
+            Some(PeerFault::Memory) => return Err(ServiceFault::Memory),
+        }
+    }
+    Err(ServiceFault::Read)
+}

@@ -1,0 +1,84 @@
+//! A host over the journal at a path.
+
+ghost use Rattle.std.specs.Prelude.{◌≡◌, IfOk, IfErr, IfSome};
+ghost use Rattle.iso_record.specs.Heading.{heading_bytes};
+ghost use Rattle.iso_service.specs.Starting.{IsOfDisk, IsStarted, IsWhy};
+
+use crate::device::{FileFault, Journals};
+use crate::fault::StartFault;
+use crate::front::front_fault;
+use iso_durable::DurableIssuer;
+use iso_issuer::{Accounts, MOST_ENTRIES};
+use iso_journal::{JournalLog, OpenError, open};
+use iso_record::Heading;
+use sqlite_disk::Disk;
+use std::alloc::Global;
+
+/// The version of the issuer's rules. Whoever changes what an order is answered raises it: a journal under other rules is
+/// refused.
+pub const RULES: u16 = 1;
+
+/// At least as many orders as are ever answered with one sync: a read of a stream ends no more frames than it has bytes.
+pub const LARGEST_GROUP: usize = 65_536;
+
+/// Why a journal isn't opened, of a disk that is given back.
+fn not_opened<D: Disk>(error: OpenError, disk: &D) -> StartFault
+    ensures { IsOfDisk result }
+{
+    match error {
+        OpenError::Memory => StartFault::File(FileFault::Memory),
+        OpenError::Disk if disk.tally().refused > 0 => StartFault::File(FileFault::Full),
+        OpenError::Disk => StartFault::File(FileFault::Device),
+        OpenError::Unfit => StartFault::Unfit,
+        // its heading was right before it was opened, and isn't any more
+        OpenError::Other(_) => StartFault::File(FileFault::Device),
+        OpenError::Damaged(place) => StartFault::Damaged(place),
+    }
+}
+
+/// Refuses a file whose first bytes aren't those of a journal under this heading.
+fn check_front<J: Journals>(
+    alloc: Global,
+    journals: &J,
+    path: &str,
+    heading: &Heading,
+) -> Result<(), StartFault>
+    ensures { IfErr result (λ e. IfSome (J.held_at journals.now path.now) (λ held. IsWhy (heading_bytes heading.now) held e)) }
+{
+    let front = match journals.front(alloc, path, 128) {
+        Ok(front) => front,
+        Err(fault) => return Err(StartFault::File(fault)),
+    };
+    match front_fault(&front, heading) {
+        None => Ok(()),
+        Some(fault) => Err(StartFault::Front(fault)),
+    }
+}
+
+/// Opens the journal at a path, under this heading and of these accounts, and starts a host over it. Its first bytes are
+/// looked at before anything is opened to be written.
+pub fn start<J: Journals>(
+    alloc: Global,
+    journals: &J,
+    path: &str,
+    heading: &Heading,
+    accounts: Accounts,
+) -> Result<DurableIssuer<JournalLog<J::Disk>>, StartFault>
+    ensures accounts { IfOk result (λ host. host.issuer.accounts ≡ accounts) }
+    ensures limit { IfOk result (λ host. host.issuer.limit ≡ 999999) }
+    // The host has the orders of the file that was opened, each record is what a host writes, and nothing waits.
+    ensures started { IfOk result (λ host. (disk : J.Disk) × IsStarted J.Disk.seen J.Disk.may_leave J.Disk.is_usable J.Disk.is_clean disk host) }
+    // A file that is no journal of these accounts is told as what its first bytes are.
+    ensures fault { IfErr result (λ e. IfSome (J.held_at journals.now path.now) (λ held. IsWhy (heading_bytes heading.now) held e)) }
+{
+    check_front(alloc, journals, path, heading)?;
+    let disk = match journals.open(path) {
+        Ok(disk) => disk,
+        Err(fault) => return Err(StartFault::File(fault)),
+    };
+    match open(disk, heading, accounts, MOST_ENTRIES, LARGEST_GROUP) {
+        Ok(host) if host.log.room() == 0 => Err(StartFault::Cut),
+        Ok(host) => Ok(host),
+        Err((error, disk)) => Err(not_opened(error, &disk)),
+    }
+}
