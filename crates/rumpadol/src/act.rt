@@ -3,6 +3,7 @@
 ghost use Rattle.std.specs.Prelude.{◌≡◌, ◌≤◌, IfOk};
 ghost use Rattle.rumpadol.specs.Jobs.{Performs};
 
+use crate::books::perform_books;
 use crate::commands::command;
 use crate::messages::perform_messages;
 use crate::source::Source;
@@ -62,6 +63,7 @@ fn perform<S: Source, I: Read, O: Write, F: Write>(
             alloc, *job, source, terminals, input, output, faults,
         ),
         Job::Tables(job) => perform_table(alloc, job, source, input, output),
+        Job::Books(job) => perform_books(alloc, *job, source, output),
     }
 }
 

@@ -1,9 +1,11 @@
 //! The command line, as `clap` reads it.
 
 mod arguments;
+mod books;
 mod messages;
 mod tables;
 
+use books::journal_command;
 use clap::Command;
 use messages::{convert_command, decode_command, encode_command, explain_command};
 use std::alloc::{AllocError, Global};
@@ -15,6 +17,7 @@ const EXAMPLES: &str = "Examples:
   rumpadol explain bcd87 --hex dump.txt    the same of a dump in hexadecimal digits
   rumpadol decode ascii87 --json           one JSON object for the message on the input
   rumpadol table check mine.json           all that is wrong with a table
+  rumpadol journal show day.journal        the entries of a journal
 
 Ends with status 0 where all was done, 1 where an input is refused, 2 where the command line is,
 and 3 where a file, a stream or memory failed.";
@@ -24,7 +27,7 @@ pub fn command<'a>(alloc: Global) -> Result<Command<'a>, AllocError> {
     Command::new(alloc, "rumpadol")
         .bin_name("rumpadol")?
         .version("1.0.0")
-        .about("Looks at ISO 8583 messages, builds and converts them, and checks tables.")
+        .about("Looks at ISO 8583 messages, builds and converts them, checks tables, and looks into journals.")
         .after_help(EXAMPLES)
         .subcommand_required(true)
         .arg_required_else_help(true)
@@ -32,5 +35,6 @@ pub fn command<'a>(alloc: Global) -> Result<Command<'a>, AllocError> {
         .subcommand(decode_command(alloc)?)?
         .subcommand(encode_command(alloc)?)?
         .subcommand(convert_command(alloc)?)?
-        .subcommand(table_command(alloc)?)
+        .subcommand(table_command(alloc)?)?
+        .subcommand(journal_command(alloc)?)
 }

@@ -1,0 +1,4 @@
+pub mod Left
+pub mod Front
+pub mod Counted
+pub mod Replaying

@@ -1,0 +1,7 @@
+pub mod Balances
+pub mod Condition
+pub mod Fault
+pub mod Headings
+pub mod Records
+pub mod Replays
+pub mod Rows
