@@ -8,8 +8,8 @@ use Rattle.iso_books.specs.Rows.{row_at, TakesEntry, IsBadAt, IsAtEnd}
 use Rattle.iso_books.specs.Headings.{IsHeaded, told_of, told_by}
 use Rattle.iso_books.specs.Condition.{condition_from, condition_left, condition_of, ended, IsSurveyed}
 use Rattle.iso_books.specs.declared.heading.Wanted.{Wanted}
-use Rattle.iso_books.specs.declared.survey.Condition.{Condition as State}
-use Rattle.iso_books.specs.declared.survey.Condition.TheVariants.{Whole, Torn, Damaged}
+use Rattle.iso_books.specs.declared.surveying.Condition.{Condition as State}
+use Rattle.iso_books.specs.declared.surveying.Condition.TheVariants.{Whole, Torn, Damaged}
 
 at_front : (count : ℕ) (bytes file rest : List ℕ) → IsTaken bytes file rest → condition_left count file ≡ condition_from count (bytes ∷ records_of rest) (is_clear rest)
 at_front count bytes file rest taken =

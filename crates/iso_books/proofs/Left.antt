@@ -35,3 +35,18 @@ pub between_if : (P : List ℕ → List ℕ → Type 0) (Q S : List ℕ → Type
 between_if P Q S None b p q then = tt
 between_if P Q S (Some x) None p q then = absurd p
 between_if P Q S (Some x) (Some y) p q then = then x y p q
+
+-- the same bytes, and what follows of what holds of them
+pub if_map : (P Q : List ℕ → Type 0) (a : Option (List ℕ)) → IfSome a Q → ((x : List ℕ) → Q x → P x) → IfSome a P
+if_map P Q None q then = tt
+if_map P Q (Some x) q then = then x q
+
+pub if_always : (a : Option (List ℕ)) (P : Type 0) → P → IfSome a (λ _. P)
+if_always None P p = tt
+if_always (Some x) P p = p
+
+-- two things hold of it
+pub kept_both : (P Q S : List ℕ → Type 0) (old mid : Option (List ℕ)) → Keeps old mid → IfSome mid Q → IfSome mid S → ((x : List ℕ) → Q x → S x → P x) → IfSome old P
+kept_both P Q S None mid kept q s then = tt
+kept_both P Q S (Some x) None kept q s then = absurd kept
+kept_both P Q S (Some x) (Some y) kept q s then = subst P kept (then y q s)

@@ -1,4 +1,7 @@
+pub mod Headed
 pub mod Left
-pub mod Front
+pub mod Places
+pub mod Fronts
 pub mod Counted
-pub mod Replaying
+pub mod Entering
+pub mod Stepping

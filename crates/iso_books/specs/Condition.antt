@@ -5,9 +5,9 @@ use Rattle.iso_books.specs.Headings.{told_of}
 use Rattle.iso_books.specs.Records.{is_clear}
 use Rattle.iso_books.specs.Rows.{row_at}
 use Rattle.iso_books.specs.declared.heading.Wanted.{Wanted}
-use Rattle.iso_books.specs.declared.survey.Condition.{Condition as State}
+use Rattle.iso_books.specs.declared.surveying.Condition.{Condition as State}
 use Rattle.iso_books.specs.declared.heading.Wanted.{Wanted}
-use Rattle.iso_books.specs.declared.survey.Condition.TheVariants.{Whole, Torn, Damaged}
+use Rattle.iso_books.specs.declared.surveying.Condition.TheVariants.{Whole, Torn, Damaged}
 
 -- so many orders, and zeros behind them or not
 abbrev pub ended : Bool → ℕ → State

@@ -28,11 +28,13 @@ pub struct AccountRow {
 fn account_row(alloc: Global, issuer: &Issuer, balance: Balance) -> Result<AccountRow, NoMemory>
     ensures { IfOk result (λ row. row ≡ with_holds (journal issuer.now) balance) }
 {
-    let holds = issuer.open_holds(alloc, balance.account.pan)?;
+    let open = issuer.open_holds(alloc, balance.account.pan)?;
+    let holds = open.len();
+    let held = balance.held();
     Ok(AccountRow {
         balance,
-        holds: holds.len(),
-        held: balance.held(),
+        holds,
+        held,
     })
 }
 

@@ -2,6 +2,7 @@
 //!
 //! - `survey`: how many orders a journal has, and whether it is whole, torn behind them, or damaged.
 //! - `replay`: the same where each answer is decided again, and the issuer that a start would give.
+//! - `laws`: a record that `survey` calls damaged is one that no host wrote, whatever its accounts.
 //! - `tell`: the entries, as lines, as JSON or as CSV. `append_balances`: what is on each account.
 #![tactic(auto)]
 
@@ -12,13 +13,14 @@ mod fault;
 mod form;
 mod heading;
 mod json;
+pub mod laws;
 mod lines;
 mod members;
 mod records;
 mod replaying;
 mod shown;
 mod steps;
-mod survey;
+mod surveying;
 mod telling;
 
 pub use balances::{AccountRow, account_rows, append_balances};
@@ -26,5 +28,5 @@ pub use fault::BooksFault;
 pub use form::Form;
 pub use heading::{RULES, Wanted};
 pub use replaying::{Replayed, replay};
-pub use survey::{Condition, survey};
+pub use surveying::{Condition, survey};
 pub use telling::tell;

@@ -11,7 +11,7 @@ use crate::heading::{Wanted, take_heading};
 use crate::json::push_entry_object;
 use crate::lines::push_entry_line;
 use crate::steps::{Front, step};
-use crate::survey::Condition;
+use crate::surveying::Condition;
 use crate::{csv, lines};
 use iso_input::Window;
 use iso_log::MOST_RECORDS;

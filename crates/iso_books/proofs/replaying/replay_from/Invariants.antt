@@ -1,5 +1,5 @@
 use Rattle.iso_books.specs.Records.{Between}
-use Rattle.iso_books.proofs.Replaying.{IsOf, SoFar}
+use Rattle.iso_books.proofs.Entering.{IsOf, SoFar}
 use Rattle.iso_books.proofs.replaying.replay_from.Given as goal
 
 abbrev pub invariant-loop-count : goal.invariant-loop-count

@@ -1,13 +1,10 @@
 -- The record at the front of a file.
-use Rattle.std.proofs.Common.{◌≡◌, ◌∙◌, ◌≤◌, ◌<◌, ℕ, zero, suc, ◌+◌, ◌-◌, ◌*◌, ◌/◌, Bool, true, false, refl, sym, ap, subst, arith, List, [], ◌∷◌, ◌++◌, length, take, drop, Option, Some, None, IfSome, length-drop, drop-drop}
+use Rattle.std.proofs.Common.{◌≡◌, ◌∙◌, ◌≤◌, ◌<◌, ℕ, zero, suc, ◌+◌, ◌-◌, ◌*◌, ◌/◌, Bool, true, false, refl, sym, ap, subst, arith, List, [], ◌∷◌, ◌++◌, length, take, drop, Option, Some, None, IfSome, length-drop, length-append, drop-drop}
+use Rattle.std.proofs.lemmas.List.{take-append-le}
 use Rattle.std.specs.Prelude.{◌&&◌, ◌==◌, if◌then◌else◌}
 use Rattle.std.specs.List.{list_all}
 use Rattle.iso_log.specs.Slots.{is_whole, is_nonzero, slot, records_from, records_of}
 use Rattle.iso_books.specs.Records.{is_zero, behind, is_clear, IsTaken, FrontIs, first_of}
-
--- a slot's records
-with_slot : Bool → List ℕ → List (List ℕ) → List (List ℕ)
-with_slot whole s rest = if whole then s ∷ rest else []
 
 slot_behind : (j : ℕ) (file : List ℕ) → slot file (j + 1) ≡ slot (drop 128 file) j
 slot_behind j file =
@@ -69,3 +66,17 @@ front_by file long false is = let none = no_record file long is in (none, clear_
 -- what stands at the front of a file is told by its first bytes
 pub front_is : (file : List ℕ) → 128 ≤ length file → FrontIs (first_of file) file
 front_is file long = front_by file long (is_whole (take 128 file)) refl
+
+-- the held bytes are its front
+pub front_held : (held : List ℕ) (found ahead : Option (List ℕ)) → 128 ≤ length held → found ≡ first_of held
+    → IfSome ahead (λ all. (rest : List ℕ) × (all ≡ held ++ rest)) → IfSome ahead (FrontIs found)
+front_held held found None long is front = tt
+front_held held found (Some all) long is front =
+    let same : take 128 all ≡ take 128 held = ap (take 128) front.1 ∙ take-append-le 128 held front.0 long in
+    let all_long : 128 ≤ length all = omega (arith, long, ap length front.1, length-append held front.0) in
+    let told : found ≡ first_of all = is ∙ ap (λ (b : List ℕ). if is_whole b then Some b else None) (sym same) in
+    subst (λ (o : Option (List ℕ)). FrontIs o all) (sym told) (front_is all all_long)
+
+pub front_short : (ahead : Option (List ℕ)) → IfSome ahead (λ all. length all < 128) → IfSome ahead (FrontIs None)
+front_short None short = tt
+front_short (Some all) short = nothing_front all short
