@@ -1,7 +1,6 @@
 -- What a replay finds.
 use Rattle.std.proofs.Common.{◌≡◌, ◌∙◌, ◌<◌, ℕ, zero, suc, ◌+◌, Bool, true, false, refl, sym, ap, subst, arith, List, [], ◌∷◌, ◌++◌, length, take, drop, Option, Some, None, IfSome, append-nil, append_assoc}
 use Rattle.std.proofs.lemmas.List.{take_all}
-use Rattle.std.specs.Prelude.{◌↔◌}
 use Rattle.std.specs.List.{list_all}
 use Rattle.iso_log.specs.Slots.{records_of}
 use Rattle.iso_order.specs.Order.{Instruction}
@@ -11,12 +10,13 @@ use Rattle.iso_journal.specs.Orders.{order_of, orders_of, journal_orders}
 use Rattle.iso_journal.specs.Written.{IsWritten, AreWritten, IsReplayed}
 use Rattle.iso_journal.specs.Why.{IsDamaged}
 use Rattle.iso_books.specs.Records.{Between, IsTaken, is_clear, is_zero}
+use Rattle.std.specs.Io.KnownBytes.{Keeps}
 use Rattle.iso_books.specs.Headings.{IsHeaded}
 use Rattle.iso_books.specs.Replays.{HasEntered, HasEnteredBehind, IsDamagedBehind, IsFound, IsFoundBehind, TakesOrder, IsUnwritten, IsSameIssuer, ended}
 use Rattle.iso_books.specs.declared.heading.Wanted.{Wanted}
-use Rattle.iso_books.specs.declared.heading.Wanted.TheVariants.{Only}
 use Rattle.iso_books.specs.declared.replaying.Replayed.{Replayed}
 use Rattle.iso_books.specs.declared.replaying.Replayed.TheVariants.{Whole, Torn, Damaged}
+use Rattle.iso_books.proofs.Left.{between_trans, between_if, kept_both}
 
 -- so many records were entered, and what is left goes on from there
 pub record SoFar (accounts : List Account) (count : ℕ) (b : Books) (file rest : List ℕ) : Type 0 where
@@ -30,8 +30,14 @@ pub starts : (accounts : List Account) (b : Books) (file : List ℕ) → b.order
 starts accounts b file none = record {
   count_is = omega arith;
   orders_are = ap (λ (os : List Instruction). os ++ orders_of (records_of file)) none;
-  goes_on = λ n all. subst (λ (os : List Instruction). AreWritten accounts 999999 os (take n (records_of file))) none all;
-  goes_back = λ n all. subst (λ (os : List Instruction). AreWritten accounts 999999 os (take n (records_of file))) (sym none) all;
+  goes_on = λ n all.
+      let at : n ≡ 0 + n = omega arith in
+      subst (λ m. AreWritten accounts 999999 [] (take m (records_of file))) at
+      (subst (λ (os : List Instruction). AreWritten accounts 999999 os (take n (records_of file))) none all);
+  goes_back = λ n all.
+      let at : 0 + n ≡ n = omega arith in
+      subst (λ (os : List Instruction). AreWritten accounts 999999 os (take n (records_of file))) (sym none)
+      (subst (λ m. AreWritten accounts 999999 [] (take m (records_of file))) at all);
   clear_is = refl;
 }
 
@@ -48,11 +54,11 @@ still_of accounts old new is same = record {
 
 written_under : (accounts : List Account) (b : Books) (bytes : List ℕ) → IsOf accounts b → IsWritten b.accounts b.limit b.orders bytes → IsWritten accounts 999999 b.orders bytes
 written_under accounts b bytes is w =
-    subst (λ (l : ℕ). IsWritten accounts l b.orders bytes) is.limit_is (subst (λ (as : List Account). IsWritten as b.limit b.orders bytes) is.accounts_are w)
+    subst (λ (l : ℕ). IsWritten accounts l b.orders bytes) is.limit_is (subst (λ (own : List Account). IsWritten own b.limit b.orders bytes) is.accounts_are w)
 
 written_back : (accounts : List Account) (b : Books) (bytes : List ℕ) → IsOf accounts b → IsWritten accounts 999999 b.orders bytes → IsWritten b.accounts b.limit b.orders bytes
 written_back accounts b bytes is w =
-    subst (λ (as : List Account). IsWritten as b.limit b.orders bytes) (sym is.accounts_are) (subst (λ (l : ℕ). IsWritten accounts l b.orders bytes) (sym is.limit_is) w)
+    subst (λ (own : List Account). IsWritten own b.limit b.orders bytes) (sym is.accounts_are) (subst (λ (l : ℕ). IsWritten accounts l b.orders bytes) (sym is.limit_is) w)
 
 -- an order more
 pub order_more : (accounts : List Account) (count : ℕ) (old new : Books) (file mid rest : List ℕ) → IsOf accounts old → SoFar accounts count old file mid
@@ -118,6 +124,35 @@ pub end_found : (accounts : List Account) (count : ℕ) (b : Books) (file rest :
 end_found accounts count b file rest true is so none clear = (all_entered accounts count b file rest is so none, so.clear_is ∙ clear)
 end_found accounts count b file rest false is so none clear = (all_entered accounts count b file rest is so none, so.clear_is ∙ clear)
 
+-- ---- over a loop
+
+pub one_more : (accounts : List Account) (count : ℕ) (old new : Books) (a b c : Option (List ℕ)) → IsOf accounts old → Between (SoFar accounts count old) a b
+    → Between (TakesOrder old new) b c → Between (SoFar accounts (count + 1) new) a c
+one_more accounts count old new a b c is so takes =
+    between_trans (SoFar accounts count old) (TakesOrder old new) (SoFar accounts (count + 1) new) a b c so takes
+    (λ x y z p q. order_more accounts count old new x y z is p q)
+
+pub bad_found : (accounts : List Account) (count : ℕ) (old : Books) (a b : Option (List ℕ)) → IsOf accounts old → Between (SoFar accounts count old) a b
+    → IfSome b (IsUnwritten old) → IfSome a (λ rest. IsFoundBehind accounts rest (Damaged (count + 1)))
+bad_found accounts count old a b is so bad =
+    between_if (SoFar accounts count old) (IsUnwritten old) (λ rest. IsFoundBehind accounts rest (Damaged (count + 1))) a b so bad
+    (λ x y p q. unwritten_here accounts count old x y is p q)
+
+-- no record is left, and whether only zeros are
+abbrev pub IsLast : Bool → List ℕ → Type 0
+IsLast clear file = (records_of file ≡ []) × (is_clear file ≡ clear)
+
+pub last_found : (accounts : List Account) (count : ℕ) (old new : Books) (clear : Bool) (result : Replayed) (a b mid : Option (List ℕ)) → IsOf accounts old
+    → Between (SoFar accounts count old) a b → new ≡ old → Keeps b mid → IfSome mid (λ file. (records_of file ≡ []) × (is_clear file ≡ list_all is_zero file))
+    → IfSome mid (λ all. clear ≡ list_all is_zero all) → result ≡ ended clear new → IfSome a (λ rest. IsFoundBehind accounts rest result)
+last_found accounts count old new clear result a b mid is so same kept none zeros told =
+    let last = kept_both (IsLast clear) (λ file. (records_of file ≡ []) × (is_clear file ≡ list_all is_zero file)) (λ all. clear ≡ list_all is_zero all) b mid kept none zeros
+    (λ x q z. (q.0, q.1 ∙ sym z)) in
+    let here : IfSome a (λ rest. IsFoundBehind accounts rest (ended clear old))
+    = between_if (SoFar accounts count old) (IsLast clear) (λ rest. IsFoundBehind accounts rest (ended clear old)) a b so last
+    (λ x y p q. end_found accounts count old x y clear is p q.0 q.1) in
+    subst (λ (r : Replayed). IfSome a (λ rest. IsFoundBehind accounts rest r)) (sym (told ∙ ap (ended clear) same)) here
+
 -- ---- behind the heading
 
 entered_of : (accounts : List Account) (heading file rest : List ℕ) (b : Books) → IsTaken heading file rest → HasEnteredBehind accounts (records_of rest) b
@@ -147,5 +182,11 @@ pub found_of : (accounts : List Account) (wanted : Wanted) (file rest : List ℕ
     → IsFound accounts file found
 found_of accounts wanted file rest (Whole b) headed (has, clear) = (entered_of accounts headed.first file rest b headed.taken has, headed.taken.clear ∙ clear)
 found_of accounts wanted file rest (Torn b) headed (has, clear) = (entered_of accounts headed.first file rest b headed.taken has, headed.taken.clear ∙ clear)
-found_of accounts wanted file rest (Damaged place) headed (count, (is, bad)) =
+found_of accounts wanted file rest (Damaged place) headed (count, is, bad) =
     subst (λ n. IsDamaged accounts 999999 n (records_of file)) (sym is) (damaged_of accounts count headed.first file rest headed.taken bad)
+
+pub found_in : (accounts : List Account) (wanted : Wanted) (found : Replayed) (a b : Option (List ℕ)) → Between (IsHeaded wanted) a b
+    → IfSome b (λ rest. IsFoundBehind accounts rest found) → IfSome a (λ file. IsFound accounts file found)
+found_in accounts wanted found a b headed here =
+    between_if (IsHeaded wanted) (λ rest. IsFoundBehind accounts rest found) (λ file. IsFound accounts file found) a b headed here
+    (λ x y p q. found_of accounts wanted x y found p q)

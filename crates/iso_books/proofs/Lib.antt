@@ -1,7 +1,7 @@
-pub mod Headed
-pub mod Left
-pub mod Places
-pub mod Fronts
+pub mod Balanced
 pub mod Counted
 pub mod Entering
-pub mod Stepping
+pub mod Fronts
+pub mod Left
+pub mod Places
+pub mod Zeros

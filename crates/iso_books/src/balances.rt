@@ -25,29 +25,45 @@ pub struct AccountRow {
 }
 
 /// What is on an account.
-fn account_row(alloc: Global, issuer: &Issuer, balance: Balance) -> Result<AccountRow, NoMemory>
-    ensures { IfOk result (λ row. row ≡ with_holds (journal issuer.now) balance) }
+fn account_row(
+    alloc: Global,
+    issuer: &Issuer,
+    balance: &Balance,
+) -> Result<AccountRow, NoMemory>
+    ensures { IfOk result (λ row. row ≡ with_holds (journal issuer.now) balance.now) }
 {
     let open = issuer.open_holds(alloc, balance.account.pan)?;
     let holds = open.len();
     let held = balance.held();
     Ok(AccountRow {
-        balance,
+        balance: *balance,
         holds,
         held,
     })
 }
 
-/// What is on each account, in the order in which the accounts were listed.
-pub fn account_rows(alloc: Global, issuer: &Issuer) -> Result<Vec<AccountRow>, NoMemory>
-    ensures { IfOk result (λ rows. rows.items ≡ map (row_on (journal issuer.now)) issuer.now.accounts) }
+/// The rows of balances.
+fn rows_of(
+    alloc: Global,
+    issuer: &Issuer,
+    balances: &[Balance],
+) -> Result<Vec<AccountRow>, NoMemory>
+    ensures { IfOk result (λ rows. rows.items ≡ map (with_holds (journal issuer.now)) balances.now) }
 {
     let mut rows = Vec::new(alloc);
-    for balance in issuer.balances() {
-        let row = account_row(alloc, issuer, *balance)?;
+    for balance in balances {
+        let row = account_row(alloc, issuer, balance)?;
         rows.push(row)?;
     }
     Ok(rows)
+}
+
+/// What is on each account, in the order in which the accounts were listed.
+#[tactic(auto, using(crate::proofs::Balanced::rows_are))]
+pub fn account_rows(alloc: Global, issuer: &Issuer) -> Result<Vec<AccountRow>, NoMemory>
+    ensures { IfOk result (λ rows. rows.items ≡ map (row_on (journal issuer.now)) issuer.now.accounts) }
+{
+    rows_of(alloc, issuer, issuer.balances())
 }
 
 /// What stands before all balances.

@@ -95,6 +95,7 @@ fn ended(clear: bool, issuer: Issuer) -> Replayed
 
 /// Decides each order of a journal again, after those before it: the issuer that a start of a host gives, or the first
 /// record that no host of these accounts can have written. Changes nothing.
+#[tactic(auto, using(crate::proofs::Entering::found_in))]
 pub fn replay<R: Read + Drop>(
     alloc: Global,
     file: R,
