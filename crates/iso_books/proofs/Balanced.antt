@@ -1,12 +1,11 @@
 -- The rows of accounts.
-use Rattle.std.proofs.Common.{◌≡◌, ◌∙◌, ℕ, refl, ap, ap₂, arith, List, [], ◌∷◌, length}
+use Rattle.std.proofs.Common.{◌≡◌, ℕ, refl, ap, ap₂, arith, List, [], ◌∷◌, length}
 use Rattle.std.proofs.lemmas.Int.{ints}
 use Rattle.std.specs.Prelude.{ℤ, pos, ◌-ℤ◌, map, unsigned_abs}
 use Rattle.iso_issuer.specs.declared.account.Account.{Account}
-use Rattle.iso_issuer.specs.declared.balances.Balance.{Balance}
 use Rattle.iso_issuer.specs.declared.effect.Side.TheVariants.{Held}
 use Rattle.iso_issuer.specs.declared.journal.Entry.{Entry}
-use Rattle.iso_issuer.specs.Balance.{balance_on, ledger, available, total}
+use Rattle.iso_issuer.specs.Balance.{balance_on, ledger, total}
 use Rattle.iso_issuer.specs.Holds.{open_holds}
 use Rattle.iso_books.specs.declared.balances.AccountRow.{AccountRow}
 use Rattle.iso_books.specs.Balances.{row_on, with_holds}

@@ -1,5 +1,5 @@
 -- What a replay finds.
-use Rattle.std.proofs.Common.{◌≡◌, ◌∙◌, ◌<◌, ℕ, zero, suc, ◌+◌, Bool, true, false, refl, sym, ap, subst, arith, List, [], ◌∷◌, ◌++◌, length, take, drop, Option, Some, None, IfSome, append-nil, append_assoc}
+use Rattle.std.proofs.Common.{◌≡◌, ◌∙◌, ℕ, suc, ◌+◌, Bool, true, false, refl, sym, ap, subst, arith, List, [], ◌∷◌, ◌++◌, length, take, drop, Option, IfSome, append-nil, append_assoc}
 use Rattle.std.proofs.lemmas.List.{take_all}
 use Rattle.std.specs.List.{list_all}
 use Rattle.iso_log.specs.Slots.{records_of}
@@ -95,15 +95,18 @@ unwritten_here accounts count b file rest is so bad =
     let bytes = bad.0 in
     let taken = bad.1 in
     let later = records_of (drop 128 rest) in
-    let at : count + 0 ≡ count = omega arith in
-    (count, refl, record {
-      there = omega (arith, so.count_is, ap length taken.records);
-      front = subst (λ m. AreWritten accounts 999999 [] (take m (records_of file))) at (so.goes_on 0 tt);
-      not = λ all.
-          let both : AreWritten accounts 999999 b.orders (take 1 (bytes ∷ later))
-          = subst (λ (rs : List (List ℕ)). AreWritten accounts 999999 b.orders (take 1 rs)) taken.records (so.goes_back 1 all) in
-          bad.2 (written_back accounts b bytes is both.0);
-    })
+    let at : count + 0 ≡ count = omega arith in (
+      count,
+      refl,
+      record {
+        there = omega (arith, so.count_is, ap length taken.records);
+        front = subst (λ m. AreWritten accounts 999999 [] (take m (records_of file))) at (so.goes_on 0 tt);
+        not = λ all.
+            let both : AreWritten accounts 999999 b.orders (take 1 (bytes ∷ later))
+            = subst (λ (rs : List (List ℕ)). AreWritten accounts 999999 b.orders (take 1 rs)) taken.records (so.goes_back 1 all) in
+            bad.2 (written_back accounts b bytes is both.0);
+      },
+    )
 
 all_entered : (accounts : List Account) (count : ℕ) (b : Books) (file rest : List ℕ) → IsOf accounts b → SoFar accounts count b file rest → records_of rest ≡ []
     → HasEnteredBehind accounts (records_of file) b

@@ -1,10 +1,10 @@
 -- The record at the front of a file.
-use Rattle.std.proofs.Common.{◌≡◌, ◌∙◌, ◌≤◌, ◌<◌, ℕ, zero, suc, ◌+◌, ◌-◌, ◌*◌, ◌/◌, Bool, true, false, refl, sym, ap, subst, arith, List, [], ◌∷◌, ◌++◌, length, take, drop, Option, Some, None, IfSome, length-drop, length-append, drop-drop}
+use Rattle.std.proofs.Common.{◌≡◌, ◌∙◌, ◌≤◌, ◌<◌, ℕ, zero, suc, ◌+◌, ◌*◌, ◌/◌, Bool, true, false, refl, sym, ap, subst, arith, List, [], ◌∷◌, ◌++◌, length, take, drop, Option, Some, None, IfSome, length-drop, length-append, drop-drop}
 use Rattle.std.proofs.lemmas.List.{take-append-le}
-use Rattle.std.specs.Prelude.{◌&&◌, ◌==◌, if◌then◌else◌}
+use Rattle.std.specs.Prelude.{if◌then◌else◌}
 use Rattle.std.specs.List.{list_all}
-use Rattle.iso_log.specs.Slots.{is_whole, is_nonzero, slot, records_from, records_of}
-use Rattle.iso_books.specs.Records.{is_zero, behind, is_clear, IsTaken, FrontIs, first_of}
+use Rattle.iso_log.specs.Slots.{is_whole, slot, records_from, records_of}
+use Rattle.iso_books.specs.Records.{is_zero, is_clear, FrontIs, first_of}
 
 slot_behind : (j : ℕ) (file : List ℕ) → slot file (j + 1) ≡ slot (drop 128 file) j
 slot_behind j file =

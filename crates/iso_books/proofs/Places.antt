@@ -1,21 +1,19 @@
 -- The place that a written record tells.
-use Rattle.std.proofs.Common.{◌≡◌, ◌∙◌, ℕ, ◌+◌, Bool, true, false, refl, sym, ap, subst, arith, List, [], ◌∷◌, length, map, Option, Some, None, eq-eqb, true≢false}
+use Rattle.std.proofs.Common.{◌≡◌, ◌∙◌, ℕ, ◌+◌, Bool, true, false, refl, sym, ap, List, length, Option, Some, None, eq-eqb, true≢false}
 use Rattle.std.proofs.lemmas.List.{length-map}
-use Rattle.std.specs.Prelude.{is_some, not, nat_le, ◌==◌, if◌then◌else◌}
+use Rattle.std.specs.Prelude.{is_some, nat_le, ◌==◌, if◌then◌else◌}
 use Rattle.iso_order.specs.Order.{Instruction}
-use Rattle.iso_order.specs.Outcome.{Outcome}
 use Rattle.iso_issuer.specs.declared.account.Account.{Account}
 use Rattle.iso_issuer.specs.declared.journal.Entry.{Entry}
 use Rattle.iso_issuer.specs.Books.{Books}
 use Rattle.iso_issuer.specs.Journal.{is_entered, entry_at}
-use Rattle.iso_issuer.specs.Decision.{journal_of, answer_for, answer_by, new_answer}
+use Rattle.iso_issuer.specs.Decision.{journal_of, answer_by}
 use Rattle.iso_issuer.specs.Laws.{EntriesAreOfOrders, EnteredHasEntry}
 use Rattle.iso_durable.specs.Host.{is_taken}
 use Rattle.iso_record.specs.declared.row.Row.{Row}
-use Rattle.iso_record.specs.Row.{row_in}
 use Rattle.iso_journal.specs.Orders.{order_of}
-use Rattle.iso_journal.specs.Written.{IsWritten, row_after, books_after}
-use Rattle.iso_books.specs.Rows.{row_at, row_if_at}
+use Rattle.iso_journal.specs.Written.{row_after, books_after}
+use Rattle.iso_books.specs.Rows.{row_if_at}
 use Rattle.iso_books.specs.Laws.{WrittenTellsItsPlace}
 
 none_of : (e : Option Entry) → is_some e ≡ false → e ≡ None

@@ -25,11 +25,7 @@ pub struct AccountRow {
 }
 
 /// What is on an account.
-fn account_row(
-    alloc: Global,
-    issuer: &Issuer,
-    balance: &Balance,
-) -> Result<AccountRow, NoMemory>
+fn account_row(alloc: Global, issuer: &Issuer, balance: &Balance) -> Result<AccountRow, NoMemory>
     ensures { IfOk result (λ row. row ≡ with_holds (journal issuer.now) balance.now) }
 {
     let open = issuer.open_holds(alloc, balance.account.pan)?;

@@ -2,7 +2,9 @@
 //! quoted.
 
 use crate::balances::AccountRow;
-use crate::shown::{left_of, other_key, push_account, push_digits, push_number, push_signed, word_of};
+use crate::shown::{
+    left_of, other_key, push_account, push_digits, push_number, push_signed, word_of,
+};
 use iso_order::{Money, TxKey};
 use iso_record::Row;
 use std::alloc::AllocError;
@@ -12,8 +14,7 @@ pub(crate) const ENTRY_NAMES: &str =
     "place,time,type,trace,acquirer,what,account,amount,currency,left,code,balance,of_type,of_trace,of_time,of_acquirer\n";
 
 /// The names of a balance's columns.
-pub(crate) const BALANCE_NAMES: &str =
-    "account,currency,opening,ledger,available,holds,held\n";
+pub(crate) const BALANCE_NAMES: &str = "account,currency,opening,ledger,available,holds,held\n";
 
 /// Appends a comma.
 fn push_comma(out: &mut Vec<u8>) -> Result<(), AllocError> {
@@ -32,11 +33,7 @@ fn push_key(key: &TxKey, out: &mut Vec<u8>) -> Result<(), AllocError> {
 }
 
 /// Appends the values of an account and an amount.
-fn push_money(
-    is_clear: bool,
-    money: &Option<Money>,
-    out: &mut Vec<u8>,
-) -> Result<(), AllocError> {
+fn push_money(is_clear: bool, money: &Option<Money>, out: &mut Vec<u8>) -> Result<(), AllocError> {
     let Some(money) = money else {
         return out.extend_from_slice(b",,");
     };

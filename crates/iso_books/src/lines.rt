@@ -2,7 +2,9 @@
 
 use crate::balances::AccountRow;
 use crate::columns::{pad_right, push_left, push_right};
-use crate::shown::{left_of, other_key, push_account, push_digits, push_number, push_signed, word_of};
+use crate::shown::{
+    left_of, other_key, push_account, push_digits, push_number, push_signed, word_of,
+};
 use iso_order::{Act, Money, TxKey};
 use iso_record::Row;
 use itoa::Buffer;

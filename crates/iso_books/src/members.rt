@@ -14,21 +14,13 @@ pub(crate) fn push_name(name: &[u8], out: &mut Vec<u8>) -> Result<(), AllocError
 }
 
 /// Appends a member that is a number.
-pub(crate) fn push_number_member(
-    name: &[u8],
-    n: u64,
-    out: &mut Vec<u8>,
-) -> Result<(), AllocError> {
+pub(crate) fn push_number_member(name: &[u8], n: u64, out: &mut Vec<u8>) -> Result<(), AllocError> {
     push_name(name, out)?;
     push_number(n, out)
 }
 
 /// Appends a member that is a number with a sign.
-pub(crate) fn push_signed_member(
-    name: &[u8],
-    n: i64,
-    out: &mut Vec<u8>,
-) -> Result<(), AllocError> {
+pub(crate) fn push_signed_member(name: &[u8], n: i64, out: &mut Vec<u8>) -> Result<(), AllocError> {
     push_name(name, out)?;
     push_signed(n, out)
 }

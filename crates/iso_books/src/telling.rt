@@ -32,12 +32,7 @@ fn head_of(form: Form) -> &'static str {
 }
 
 /// Appends what is told of an entry.
-fn push_entry(
-    form: Form,
-    is_clear: bool,
-    row: &Row,
-    out: &mut Vec<u8>,
-) -> Result<(), AllocError> {
+fn push_entry(form: Form, is_clear: bool, row: &Row, out: &mut Vec<u8>) -> Result<(), AllocError> {
     match form {
         Form::Columns => push_entry_line(is_clear, row, out),
         Form::Json => push_entry_object(is_clear, row, out),
