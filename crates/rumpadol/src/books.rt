@@ -8,9 +8,7 @@ mod sentences;
 use crate::source::Source;
 use crate::stop::{Stop, write_output};
 use crate::words::{BooksJob, BooksWords};
-use iso_books::{
-    Replayed, Condition, Wanted, account_rows, append_balances, replay, survey, tell,
-};
+use iso_books::{Condition, Replayed, Wanted, account_rows, append_balances, replay, survey, tell};
 use iso_issuer::Issuer;
 use opening::{accounts_at, journal_at};
 use sentences::{damaged, stopped, torn_line, whole_line};

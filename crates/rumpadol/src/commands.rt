@@ -27,7 +27,9 @@ pub fn command<'a>(alloc: Global) -> Result<Command<'a>, AllocError> {
     Command::new(alloc, "rumpadol")
         .bin_name("rumpadol")?
         .version("1.0.0")
-        .about("Looks at ISO 8583 messages, builds and converts them, checks tables, and looks into journals.")
+        .about(
+            "Looks at ISO 8583 messages, builds and converts them, checks tables, and looks into journals.",
+        )
         .after_help(EXAMPLES)
         .subcommand_required(true)
         .arg_required_else_help(true)

@@ -6,7 +6,12 @@ use std::alloc::{AllocError, Global};
 
 /// The file that is looked into.
 fn file_argument<'a>(alloc: Global) -> Arg<'a> {
-    named_argument(alloc, "file", "FILE", "The path of a journal's file; it is only read")
+    named_argument(
+        alloc,
+        "file",
+        "FILE",
+        "The path of a journal's file; it is only read",
+    )
 }
 
 /// The accounts of the journal.
@@ -29,14 +34,20 @@ fn show_command<'a>(alloc: Global) -> Result<Command<'a>, AllocError> {
       each order with its place, its key, what it asks, its code and the balance that was shown",
         )
         .arg(file_argument(alloc))?
-        .arg(flag(alloc, "json", "Gives each entry as a JSON object, a line each"))?
+        .arg(flag(
+            alloc,
+            "json",
+            "Gives each entry as a JSON object, a line each",
+        ))?
         .arg(clear_flag(alloc))
 }
 
 /// `journal check`
 fn check_command<'a>(alloc: Global) -> Result<Command<'a>, AllocError> {
     Command::new(alloc, "check")
-        .about("Tells whether a journal is whole: status 0 where it is, or is torn at its end, 1 where it is damaged")
+        .about(
+            "Tells whether a journal is whole: status 0 where it is, or is torn at its end, 1 where it is damaged",
+        )
         .after_help(
             "Example:
   rumpadol journal check day.journal --accounts accounts.json
@@ -56,7 +67,11 @@ fn export_command<'a>(alloc: Global) -> Result<Command<'a>, AllocError> {
         "csv",
         "Gives each entry as comma-separated values, a line each, behind a line with their names",
     );
-    let json = flag(alloc, "json", "Gives each entry as a JSON object, a line each");
+    let json = flag(
+        alloc,
+        "json",
+        "Gives each entry as a JSON object, a line each",
+    );
     Command::new(alloc, "export")
         .about("Gives the entries of a journal to another program, as CSV or as JSON")
         .after_help(
@@ -81,14 +96,20 @@ fn balance_command<'a>(alloc: Global) -> Result<Command<'a>, AllocError> {
         )
         .arg(file_argument(alloc))?
         .arg(accounts_option(alloc, "The document of the journal's accounts").required(true))?
-        .arg(flag(alloc, "json", "Gives each account as a JSON object, a line each"))?
+        .arg(flag(
+            alloc,
+            "json",
+            "Gives each account as a JSON object, a line each",
+        ))?
         .arg(clear_flag(alloc))
 }
 
 /// `journal`
 pub fn journal_command<'a>(alloc: Global) -> Result<Command<'a>, AllocError> {
     Command::new(alloc, "journal")
-        .about("Looks into the file of a journal: its entries, whether it is whole, and its balances")
+        .about(
+            "Looks into the file of a journal: its entries, whether it is whole, and its balances",
+        )
         .after_help(
             "Example:
   rumpadol journal show day.journal
