@@ -13,7 +13,7 @@
 # make memory  each call that can want memory, and each command, with each of its growths refused in turn, by the quick run
 # make compare  what both programs do with messages made by chance, and what the model says: SECONDS=120; builds them
 # make loopback  how long a round trip on a port takes, and the memory of a host over many connections: ROUNDS=1000 for fewer
-# make bench   how fast the streams, the codec and the issuer are: ORDERS=2000 SIZES="100 1000" for fewer orders
+# make bench   how fast the streams, the codec, the issuer and a journal in a file are: ORDERS=2000 SIZES="100 1000" for fewer orders
 # The last two print tables. Where ORDERS, SIZES and ROUNDS are as below, they write them to docs/SPEED.md too.
 
 ifeq ($(shell command -v rt 2> /dev/null),)

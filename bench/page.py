@@ -3,6 +3,7 @@
 
     page.py bench TOLD [PAGE]       TOLD is a file of what turns.sh printed
     page.py readers TOLD [PAGE]     TOLD is a file of what readers.py printed
+    page.py journal TOLD [PAGE]     TOLD is a file of what journal.sh printed, once or more
     page.py loopback TOLD [PAGE]    TOLD is a file of what loopback.sh printed
 
 Prints each table. In PAGE all that stands between the comments <!-- NAME --> and <!-- end --> is replaced by the one of that
@@ -32,6 +33,8 @@ STREAMS = {
 }
 MESSAGES = {82: "82 bytes, 7 elements", 30096: "30,096 bytes, 30 elements"}
 ORDERS = {"new": "new purchase", "repeat": "repeat", "reversal": "reversal"}
+# each group of orders with one sync, and how often the time of a plain program it may take
+GROUPS = {1: 1.2, 64: 1.5, 512: 2.5}
 READERS = {
     "lines": ("`decode`, as lines", "`tshark -T fields`"),
     "json": ("`decode --json`", "`tshark -T json`"),
@@ -49,7 +52,7 @@ def readings(line):
     """What a line measures: the name that it begins with, and with it the bytes or entries, each measure and its value."""
     pairs = PAIR.findall(line)
     name = PAIR.split(line)[0].strip(" :")
-    if pairs and pairs[0][0] in ("bytes", "entries"):
+    if pairs and pairs[0][0] in ("bytes", "entries", "group"):
         name += " {}={}".format(*pairs.pop(0))
     return [((name, measure), float(value)) for measure, value in pairs]
 
@@ -181,6 +184,25 @@ def readers(figures):
     ])
 
 
+def journal(figures):
+    def row(group):
+        own, plain, sqlite = [figures.of(f"{kind} group={group}", "nanoseconds") for kind in ("journal", "plain", "sqlite")]
+        rates = [f"{1e9 / time:,.0f}" for time in (own, plain, sqlite)]
+        return [f"{group}", *rates, f"{own / plain:.2f}, at most {GROUPS[group]}", f"{sqlite / own:.1f}"]
+
+    entries = max((int(name.split("=")[1]) for name, _ in figures.values if name.startswith("start entries=")), default=1)
+    start, handling = [figures.of(f"{kind} entries={entries}", "nanoseconds") for kind in ("start", "handling")]
+    turns = figures.turns("journal group=1", "nanoseconds")
+    head = ["Orders with one sync", "Orders a second", "The plain program's", "SQLite's", "Its time, as often as the plain program's",
+            "SQLite's, as often as its"]
+    return "\n\n".join([
+        prose(f"Machine: {machine()}. Each figure is the middle one of {turns} turns."),
+        table(head, *[row(group) for group in GROUPS]),
+        prose(f"A start over {entries:,.0f} orders takes {start * entries / 1e9:.2f} s, and handling them {handling * entries / 1e9:.2f} s: "
+              f"{start / handling:.2f} times, at most 2. An order takes 128 bytes in the file."),
+    ])
+
+
 def drawn(figures):
     kinds = [kind for kind in STREAMS if kind != "full"]
     full = figures.of("full frame", "instructions")
@@ -192,8 +214,9 @@ def drawn(figures):
 
 SECTIONS = {
     "bench": {"method": method, "codec": codec, "streams": streams, "counted": counted, "orders": orders, "growth": growth,
-              "readers": readers},
+              "readers": readers, "journal": journal},
     "readers": {"readers": readers},
+    "journal": {"journal": journal},
     "loopback": {"loopback": loopback},
 }
 

@@ -9,5 +9,6 @@ for turn in 1 2 3; do
     python3 -B bench/readers.py
     crates/iso_bench/out/iso_bench codec 1000000
     crates/iso_bench/out/iso_bench issuer "$@"
+    bench/journal.sh
 done
 bench/instructions.sh "$@"

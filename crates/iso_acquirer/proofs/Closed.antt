@@ -132,7 +132,7 @@ module _ (slots : List Slot) (numbered : AreNumbered 1 slots) where
       by_slot (Some s) here h = by_role s s.role here refl h
 
 -- what is closed stays through an event
-stays-made : (old new : World) (event : Event) → IsSound old → IsMade old event new → StaysClosed old new
+pub stays-made : (old new : World) (event : Event) → IsSound old → IsMade old event new → StaysClosed old new
 stays-made old new (Begin pan amount currency sent) sound made =
     subst (λ (w : World). StaysClosed old w) (sym made.after) (stays-pushed old.acquirer.slots _)
 stays-made old new (Timeout stan) sound made =

@@ -13,3 +13,5 @@ pub mod TimedOut
 pub mod Closed
 pub mod Sums
 pub mod Settled
+pub mod Valid
+pub mod Ran

@@ -34,7 +34,7 @@ payment_of k h = ap (λ b. (b / 100 % 10 == 1) || (b / 100 % 10 == 2)) h
 at_most : (a b : ℕ) → a ≤ b → nat_le a b ≡ true
 at_most a b h = grind (arith, nat_tests)
 
-debit-valid : (key : TxKey) (m : Money) → is_valid_key key ≡ true → key.base ≡ 200 → IsFair m.amount m.currency key.sent → is_pan m.pan ≡ true → is_valid (record { key = key; act = Debit m }) ≡ true
+pub debit-valid : (key : TxKey) (m : Money) → is_valid_key key ≡ true → key.base ≡ 200 → IsFair m.amount m.currency key.sent → is_pan m.pan ≡ true → is_valid (record { key = key; act = Debit m }) ≡ true
 unfolding is_valid
 debit-valid key m valid base fair pan =
     both_true (is_valid_key key) (is_payment key && has_amount m) valid

@@ -3,4 +3,5 @@ pub mod Agreed
 pub mod Agreement
 pub mod FaultNumbers
 pub mod Room
+pub mod Runs
 pub mod World

@@ -4,6 +4,7 @@
 mod acquirer;
 mod event;
 mod fault;
+pub mod laws;
 mod slot;
 mod state;
 mod world;

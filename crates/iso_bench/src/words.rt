@@ -4,7 +4,7 @@ use std::alloc::{AllocError, Global};
 
 /// What is measured.
 #[derive(Drop)]
-pub enum Measurement {
+pub enum Measurement<'w> {
     /// Messages, read and written so many times.
     Codec {
         /// How often.
@@ -14,6 +14,20 @@ pub enum Measurement {
     Issuer {
         /// How many, one after the other.
         sizes: Vec<u32>,
+    },
+    /// A journal in a new file, with one sync for each group of orders.
+    Journal {
+        /// The file.
+        path: &'w str,
+        /// How many orders a group has.
+        group: u32,
+        /// How many groups there are.
+        groups: u32,
+    },
+    /// The start over a journal in a file.
+    Start {
+        /// The file.
+        path: &'w str,
     },
 }
 
@@ -41,8 +55,32 @@ fn counts_in_words(alloc: Global, words: &[String]) -> Result<Option<Vec<u32>>, 
     Ok(Some(numbers))
 }
 
+/// What the words ask of a journal in a file.
+fn journal_measurement(words: &[String]) -> Option<Measurement<'_>> {
+    let [what, path, rest @ ..] = words else {
+        return None;
+    };
+    match (what.as_str(), rest) {
+        ("journal", [group, groups]) => Some(Measurement::Journal {
+            path: path.as_str(),
+            group: count_in_word(group.as_str())?,
+            groups: count_in_word(groups.as_str())?,
+        }),
+        ("start", []) => Some(Measurement::Start {
+            path: path.as_str(),
+        }),
+        _ => None,
+    }
+}
+
 /// What the words ask, if they ask anything.
-pub fn measurement_of(alloc: Global, words: &[String]) -> Result<Option<Measurement>, AllocError> {
+pub fn measurement_of(
+    alloc: Global,
+    words: &[String],
+) -> Result<Option<Measurement<'_>>, AllocError> {
+    if let Some(measurement) = journal_measurement(words) {
+        return Ok(Some(measurement));
+    }
     let Some((first, rest)) = words.split_first() else {
         return Ok(None);
     };

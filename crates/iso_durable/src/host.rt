@@ -12,15 +12,19 @@ use iso_issuer::laws::keys_stay_distinct;
 use iso_issuer::{Accounts, Issuer, Refused};
 use iso_order::{Answer, NoMemory, Order};
 use std::alloc::{AllocError, AllocFailed, Global};
+use thiserror::Error;
 
 /// Why an order has no answer. The log is then to be opened again, and no order that waits is answered.
-#[derive(Clone, Copy, Debug, PartialEq, Eq, Drop)]
+#[derive(Clone, Copy, Debug, PartialEq, Eq, Drop, Error)]
 pub enum Fault {
     /// Memory ran out.
+    #[error("memory ran out")]
     Memory,
     /// The log failed.
+    #[error("the log failed")]
     Log,
     /// The log holds two orders of one key, or more than the limit.
+    #[error("the log holds what no host can have written")]
     Damaged,
 }
 

@@ -4,9 +4,11 @@ ghost use Rattle.iso_order.specs.Order.{Instruction};
 ghost use Rattle.iso_durable.specs.Front.{LeavesFront};
 
 use iso_order::{Answer, Order};
+use thiserror::Error;
 
 /// The log failed. Nothing more may be asked of it until it is opened again.
-#[derive(Clone, Copy, Debug, PartialEq, Eq, Drop)]
+#[derive(Clone, Copy, Debug, PartialEq, Eq, Drop, Error)]
+#[error("the log failed")]
 pub struct LogFailed;
 
 /// A log of orders. A crash keeps the orders that are synced, and of those behind them some from the front: it may cut

@@ -9,4 +9,5 @@ mod long;
 mod peers;
 mod serving;
 mod sessions;
+mod sharing;
 mod streams;

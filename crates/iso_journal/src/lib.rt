@@ -3,6 +3,7 @@
 //! - `create`: a new journal in an empty file. `open`: an issuer over the journal in a file, whenever the last host was cut
 //!   off. `OpenError` says why there is none.
 //! - `JournalLog`: the file as a log of orders. `grow` makes room for more.
+//! - `replay_record`: one record decided again, for who only reads.
 //! - `laws`: a crash of a host, and the start after it.
 #![tactic(auto)]
 
@@ -17,3 +18,4 @@ pub use creating::create;
 pub use error::OpenError;
 pub use journal::JournalLog;
 pub use opening::open;
+pub use replaying::replay_record;

@@ -15,7 +15,7 @@ use iso_record::{Row, read_row, row_bytes};
 use sqlite_disk::Disk;
 
 /// Enters the order of a record, and tells whether the record is the one that a host writes for it then.
-fn replay_record(issuer: &mut Issuer, bytes: &[u8; RECORD]) -> Result<bool, OpenError>
+pub fn replay_record(issuer: &mut Issuer, bytes: &[u8; RECORD]) -> Result<bool, OpenError>
     ensures written { IfOk result (λ b. b ≡ true
         → IsWritten issuer.old.accounts issuer.old.limit issuer.old.orders bytes.now) }
     ensures not { IfOk result (λ b. b ≡ false

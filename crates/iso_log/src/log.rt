@@ -5,6 +5,7 @@ ghost use Rattle.iso_log.specs.Slots.{is_nonzero, is_whole, records_of};
 ghost use Rattle.iso_log.specs.Log.{IsLog, LeavesRecords};
 
 use sqlite_disk::Disk;
+use thiserror::Error;
 
 /// How many bytes a record has.
 pub const RECORD: usize = 128;
@@ -13,15 +14,19 @@ pub const RECORD: usize = 128;
 pub const MOST_RECORDS: usize = 1 << 56;
 
 /// Why a call of the log failed.
-#[derive(Clone, Copy, Debug, PartialEq, Eq, Drop)]
+#[derive(Clone, Copy, Debug, PartialEq, Eq, Drop, Error)]
 pub enum LogError {
     /// There is no room: no slot is free, or the file would be larger than any can be.
+    #[error("there is no room for another record")]
     Full,
     /// There is something in the file already.
+    #[error("there is something in the file already")]
     NotEmpty,
     /// A call of the disk failed, or one failed before.
+    #[error("a call of the disk failed")]
     Disk,
     /// The disk may leave other bytes than the old ones and those that were written.
+    #[error("the disk may leave bytes that are neither the old ones nor those that were written")]
     Unfit,
 }
 

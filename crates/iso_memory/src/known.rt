@@ -58,6 +58,11 @@ pub fn purchase(alloc: Global, mti: u16) -> Option<Message> {
     message(alloc, mti, &elements)
 }
 
+/// The accounts.
+pub fn accounts(alloc: Global) -> Option<Accounts> {
+    Accounts::from_json(alloc, ACCOUNTS).ok()
+}
+
 /// An issuer of the account, whose journal is empty and takes ten orders.
 pub fn issuer(alloc: Global) -> Option<Issuer>
     ensures { IfSome result (λ issuer. issuer.orders ≡ []) }

@@ -1,8 +1,10 @@
-//! A host without streams, and a peer of it.
+//! A host without streams, a peer of it, and a host over its log.
 
 use crate::ended::Ended;
-use crate::known::{GRANTED, PURCHASE, balances, issuer};
+use crate::known::{GRANTED, PURCHASE, accounts, balances, issuer};
+use iso_durable::{DurableIssuer, MemoryLog};
 use iso_host::{Handled, Host, HostTable, Link, Peer, PeerFault};
+use iso_peers::{Connection, DurableHost};
 use iso_table::Table;
 use iso_wire::Header;
 use std::alloc::Global;
@@ -93,10 +95,48 @@ fn takes(alloc: Global) -> Ended {
     }
 }
 
+/// A host with an empty journal over a log in memory.
+fn durable_host(alloc: Global) -> Option<DurableHost<MemoryLog>> {
+    let accounts = accounts(alloc)?;
+    match DurableIssuer::start(accounts, 5, &[], MemoryLog::new(alloc)) {
+        Ok(durable) => Some(DurableHost::new(alloc, durable)),
+        Err(_) => None,
+    }
+}
+
+/// The frame of the purchase.
+const FRAME: &[u8] =
+    b"00820200722000010000800016411111111111111100000000000000100001020304050000070512345840";
+
+/// Takes the frame, and takes what is left of it again where memory ran out. The answer waits.
+fn takes_all_with(host: &mut DurableHost<MemoryLog>, peer: &mut Connection<'_>) -> Ended {
+    let Ok(first) = host.take_all(peer, FRAME) else {
+        return Ended::Wrong;
+    };
+    let was_refused = first.stopped == Some(PeerFault::Memory);
+    let is_kept = !was_refused || peer.waiting() == 0;
+    let rest = &FRAME[first.used.min(FRAME.len())..];
+    let Ok(second) = host.take_all(peer, rest) else {
+        return Ended::Wrong;
+    };
+    let is_posted = host.issuer().len() == 1 && balances(host.issuer()) == Some((4000, 4000));
+    let is_taken = second.stopped.is_none() && peer.may_end() && peer.waiting() == 94;
+    Ended::of(was_refused, is_kept && is_posted && is_taken)
+}
+
+/// Takes the frame of the purchase over a log.
+fn takes_all(alloc: Global) -> Ended {
+    let (Some((link, _)), Some(mut host)) = (host_of(alloc), durable_host(alloc)) else {
+        return Ended::Unready;
+    };
+    takes_all_with(&mut host, &mut Connection::new(alloc, &link))
+}
+
 /// These calls by name, and how each ended.
-pub fn rows(alloc: Global) -> [(&'static str, Ended); 2] {
+pub fn rows(alloc: Global) -> [(&'static str, Ended); 3] {
     [
         ("Host::answer", answers(alloc)),
         ("Peer::take", takes(alloc)),
+        ("DurableHost::take_all", takes_all(alloc)),
     ]
 }

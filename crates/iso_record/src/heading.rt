@@ -8,6 +8,7 @@ use crate::laws::headings_are_whole;
 use crate::writing::{put, put_blanks, put_number};
 use iso_log::RECORD;
 use sha2::{Digest, Sha256};
+use thiserror::Error;
 
 /// The words that a journal's file begins with.
 const MAGIC: &[u8; 24] = b"ISO 8583 ISSUER JOURNAL ";
@@ -31,13 +32,16 @@ pub struct Heading {
 }
 
 /// What a first record tells otherwise than it should: the first of these.
-#[derive(Clone, Copy, Debug, PartialEq, Eq, Drop)]
+#[derive(Clone, Copy, Debug, PartialEq, Eq, Drop, Error)]
 pub enum HeadingFault {
     /// It is no journal, or one of another format.
+    #[error("it is no journal, or one of another format")]
     Format,
     /// It is a journal under another version of the rules.
+    #[error("it is a journal under another version of the rules")]
     Rules,
     /// It is a journal of other accounts.
+    #[error("it is a journal of other accounts")]
     Accounts,
 }
 

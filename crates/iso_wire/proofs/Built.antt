@@ -1,12 +1,12 @@
 -- What a message that is read says of its pieces.
-use Rattle.std.proofs.Common.{◌≡◌, ◌≢◌, ℕ, ◌+◌, List, ◌∷◌, ◌++◌, length, drop, Option, Some, None, Result, Ok, Err, refl, sym, ap, subst, ◌∙◌}
+use Rattle.std.proofs.Common.{◌≡◌, ℕ, ◌+◌, List, ◌∷◌, ◌++◌, length, drop, Option, Some, None, Result, Ok, Err, refl, sym, ap, subst, ◌∙◌}
 use Rattle.iso_parts.specs.declared.spec.FieldSpec.{FieldSpec}
 use Rattle.iso_parts.specs.Building.{IsPart}
 use Rattle.iso_parts.specs.Reading.{FieldReading, got, more, fault, part_at}
 use Rattle.iso_table.specs.Layout.{Layout, row_at}
 use Rattle.iso_wire.specs.declared.fault.UnpackFault.{UnpackFault}
-use Rattle.iso_wire.specs.declared.fault.UnpackCause.TheVariants.{Memory}
 use Rattle.iso_wire.specs.Contents.{Contents}
+use Rattle.iso_wire.specs.Beginning.{beginning_at}
 use Rattle.iso_wire.specs.Taking.{IsRead}
 use Rattle.iso_parts.specs.Numbers.{numbers_in}
 use Rattle.iso_parts.specs.Mti.{mti_size}
@@ -49,32 +49,46 @@ first_read rows front old ns n at b total is so_far read =
 
 -- ---- the whole message
 
-abbrev made : ℕ → Values → Contents
+abbrev pub made : ℕ → Values → Contents
 made mti es = record { mti = mti; elements = es }
 
--- where it is read, so are its elements, behind its type and its bitmaps
-pub elements_read : (t : Layout) (b : List ℕ) (mti : ℕ) (w : ℕ × ℕ × ℕ) → type_at t b ≡ Ok mti → words_at t (mti_size t.mti) (drop (mti_size t.mti) b) ≡ Ok w → IsRead (message_at t b)
-    → IsRead (elements_at t.rows (numbers_in w.0 w.1) (mti_size t.mti + w.2) (drop (mti_size t.mti + w.2) b))
-elements_read t b mti w type words read =
-    let one : IsRead (behind_type t b mti) = subst IsRead (message_is t b ∙ ap (λ r. r >>= behind_type t b) type) read in
-    let two : IsRead (behind_maps t b mti w) = subst IsRead (ap (λ r. r >>= behind_maps t b mti) words) one in
-    bind_read (elements_at t.rows (numbers_in w.0 w.1) (mti_size t.mti + w.2) (drop (mti_size t.mti + w.2) b)) (λ x. whole (made mti x.0) x.1) two
+-- the message, behind what it begins with
+abbrev pub behind_beginning : Layout → List ℕ → ℕ × List ℕ × ℕ → Result (Contents × ℕ) UnpackFault
+behind_beginning t b begun = elements_at t.rows begun.1 begun.2 (drop begun.2 b) >>= λ x. whole (made begun.0 x.0) x.1
+
+abbrev three : ℕ → List ℕ → ℕ → Result (ℕ × List ℕ × ℕ) UnpackFault
+three mti ns at = Ok (mti, ns, at)
+
+begun_by_words : (t : Layout) (b : List ℕ) (mti : ℕ) (r : Result (ℕ × ℕ × ℕ) UnpackFault)
+    → r >>= behind_maps t b mti ≡ (r >>= λ w. three mti (numbers_in w.0 w.1) (mti_size t.mti + w.2)) >>= behind_beginning t b
+begun_by_words t b mti (Ok w) = refl
+begun_by_words t b mti (Err e) = refl
+
+begun_by_type : (t : Layout) (b : List ℕ) (r : Result ℕ UnpackFault)
+    → r >>= behind_type t b ≡ (r >>= λ mti. words_at t (mti_size t.mti) (drop (mti_size t.mti) b) >>= λ w. three mti (numbers_in w.0 w.1) (mti_size t.mti + w.2)) >>= behind_beginning t b
+begun_by_type t b (Ok mti) = begun_by_words t b mti (words_at t (mti_size t.mti) (drop (mti_size t.mti) b))
+begun_by_type t b (Err e) = refl
+
+-- reading a message is reading what it begins with, and then its elements
+pub message_begun : (t : Layout) (b : List ℕ) → message_at t b ≡ beginning_at t b >>= behind_beginning t b
+message_begun t b = message_is t b ∙ begun_by_type t b (type_at t b)
+
+-- where it is read, so are its elements
+pub elements_read : (t : Layout) (b : List ℕ) (x : ℕ × List ℕ × ℕ) → beginning_at t b ≡ Ok x → IsRead (message_at t b) → IsRead (elements_at t.rows x.1 x.2 (drop x.2 b))
+elements_read t b x begun read =
+    let behind : IsRead (behind_beginning t b x) = subst IsRead (message_begun t b ∙ ap (λ r. r >>= behind_beginning t b) begun) read in
+    bind_read (elements_at t.rows x.1 x.2 (drop x.2 b)) (λ read. whole (made x.0 read.0) read.1) behind
 
 -- ---- what each piece gives the message
 
-pub message_built : (t : Layout) (b : List ℕ) (mti : ℕ) (w : ℕ × ℕ × ℕ) (es : Values) (end : ℕ) → type_at t b ≡ Ok mti → words_at t (mti_size t.mti) (drop (mti_size t.mti) b) ≡ Ok w
-    → elements_at t.rows (numbers_in w.0 w.1) (mti_size t.mti + w.2) (drop (mti_size t.mti + w.2) b) ≡ Ok (es, end) → message_at t b ≡ whole (record { mti = mti; elements = es }) end
-message_built t b mti w es end type words elements =
-    message_is t b ∙ ap (λ r. r >>= behind_type t b) type ∙ ap (λ r. r >>= behind_maps t b mti) words ∙ ap (λ r. r >>= λ x. whole (made mti x.0) x.1) elements
+pub message_built : (t : Layout) (b : List ℕ) (x : ℕ × List ℕ × ℕ) (es : Values) (end : ℕ) → beginning_at t b ≡ Ok x → elements_at t.rows x.1 x.2 (drop x.2 b) ≡ Ok (es, end)
+    → message_at t b ≡ whole (made x.0 es) end
+message_built t b x es end begun elements =
+    message_begun t b ∙ ap (λ r. r >>= behind_beginning t b) begun ∙ ap (λ r. r >>= λ read. whole (made x.0 read.0) read.1) elements
 
-pub type_fault : (t : Layout) (b : List ℕ) (e : UnpackFault) → IsFaultOf e (type_at t b) → IsFaultOf e (message_at t b)
-type_fault t b e f = (f.0, λ other. message_is t b ∙ ap (λ r. r >>= behind_type t b) (f.1 other))
+pub beginning_fault : (t : Layout) (b : List ℕ) (e : UnpackFault) → IsFaultOf e (beginning_at t b) → IsFaultOf e (message_at t b)
+beginning_fault t b e f = (f.0, λ other. message_begun t b ∙ ap (λ r. r >>= behind_beginning t b) (f.1 other))
 
-pub words_fault : (t : Layout) (b : List ℕ) (mti : ℕ) (e : UnpackFault) → type_at t b ≡ Ok mti → words_at t (mti_size t.mti) (drop (mti_size t.mti) b) ≡ Err e → e.cause ≢ Memory → IsFaultOf e (message_at t b)
-words_fault t b mti e type words other =
-    (λ memory. absurd (other memory), λ _. message_is t b ∙ ap (λ r. r >>= behind_type t b) type ∙ ap (λ r. r >>= behind_maps t b mti) words)
-
-pub elements_fault : (t : Layout) (b : List ℕ) (mti : ℕ) (w : ℕ × ℕ × ℕ) (e : UnpackFault) → type_at t b ≡ Ok mti → words_at t (mti_size t.mti) (drop (mti_size t.mti) b) ≡ Ok w
-    → IsFaultOf e (elements_at t.rows (numbers_in w.0 w.1) (mti_size t.mti + w.2) (drop (mti_size t.mti + w.2) b)) → IsFaultOf e (message_at t b)
-elements_fault t b mti w e type words f =
-    (f.0, λ other. message_is t b ∙ ap (λ r. r >>= behind_type t b) type ∙ ap (λ r. r >>= behind_maps t b mti) words ∙ ap (λ r. r >>= λ x. whole (made mti x.0) x.1) (f.1 other))
+pub elements_fault : (t : Layout) (b : List ℕ) (x : ℕ × List ℕ × ℕ) (e : UnpackFault) → beginning_at t b ≡ Ok x → IsFaultOf e (elements_at t.rows x.1 x.2 (drop x.2 b)) → IsFaultOf e (message_at t b)
+elements_fault t b x e begun f =
+    (f.0, λ other. message_begun t b ∙ ap (λ r. r >>= behind_beginning t b) begun ∙ ap (λ r. r >>= λ read. whole (made x.0 read.0) read.1) (f.1 other))

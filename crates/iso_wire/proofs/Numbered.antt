@@ -136,6 +136,9 @@ has_above : (low : ℕ) (es : Values) (k : ℕ) → IsAscending low es → 128 <
 has_above low [] k asc lt = refl
 has_above low (e ∷ es) k asc lt = has_after e es k (λ same. omega (arith, asc.1, lt, same)) ∙ has_above (e.0 + 1) es k asc.3 lt
 
+pub ascending_members : (set : Bitmap) (es : Values) → AreElements (contains set) → numbers_of es ≡ members set → IsAscending 2 es
+ascending_members set es are same = (made_from_set (contains set) es (none_65 set are) same).ascending
+
 pub numbered_members : (set : Bitmap) (es : Values) → AreElements (contains set) → numbers_of es ≡ members set → Numbers set es
 numbered_members set es are same =
     let made = made_from_set (contains set) es (none_65 set are) same in λ k.

@@ -17,13 +17,13 @@ use Rattle.std.specs.Borrow.{Bor}
 use Rattle.std.specs.Prelude.{IfOk, IfErr, IsErr, IsErrAnd}
 use Rattle.iso_wire.specs.declared.fault.UnpackCause.TheVariants.{Short, Memory}
 use Rattle.iso_wire.specs.Contents.{Contents}
-use Rattle.iso_parts.specs.Numbers.{numbers_in}
-use Rattle.iso_parts.specs.Mti.{mti_size}
-use Rattle.iso_wire.specs.Reading.{◌>>=◌, type_at, words_at, value_at, elements_at, IsFaultOf, message_at, whole}
+use Rattle.iso_wire.specs.Beginning.{beginning_at}
+use Rattle.iso_wire.specs.Reading.{◌>>=◌, value_at, elements_at, IsFaultOf, message_at, whole}
 use Rattle.iso_wire.specs.ReadingLaws.{ReadsSpellings, ReadingStays}
 use Rattle.iso_wire.specs.Spelling.{AreBytes, BeginsWithNone, PartAs, Parts}
 use Rattle.iso_wire.specs.Bodies.{wire_at, wires_at, view_at}
 use Rattle.iso_wire.specs.Viewing.{Viewed, Wired, Views, ViewsSpelled, IsViewed, starts_of}
+use Rattle.iso_wire.proofs.Built.{behind_beginning, message_begun}
 use Rattle.iso_wire.proofs.Bytes.{bytes_drop}
 use Rattle.iso_wire.proofs.NeverMemory.{NeverMemory, message}
 use Rattle.iso_wire.proofs.ElementLaws.{value_taken}
@@ -109,7 +109,7 @@ module _ (laws : PartLaws) where
 
 -- ---- the whole message
 
-abbrev as_view : Layout → Bor (List ℕ) → ℕ → ℕ → Values × ℕ → Result Viewed UnpackFault
+abbrev pub as_view : Layout → Bor (List ℕ) → ℕ → ℕ → Values × ℕ → Result Viewed UnpackFault
 as_view t b mti at read = Ok (record { mti = mti; used = read.1; wires = read.0; starts = starts_of t.rows at read.0; bytes = b.now; address = b.ref_ptr })
 
 abbrev as_message : ℕ → Values × ℕ → Result (Contents × ℕ) UnpackFault
@@ -124,28 +124,17 @@ by_elements t b mti at (Ok x) (Ok w) same =
     let place : drop at (take w.1 b.now) ≡ take used (drop at b.now) = ap (λ (k : ℕ). drop at (take k b.now)) same.2 ∙ drop-take at used b.now in
     (x.0, at, ap (λ (k : ℕ). whole (record { mti = mti; elements = x.0 }) k) (same.1 ∙ sym same.2), subst (Wired t.rows x.0 w.0) (sym place) same.4, omega (arith, same.2), refl)
 
-abbrev message_behind : Layout → List ℕ → ℕ → ℕ × ℕ × ℕ → Result (Contents × ℕ) UnpackFault
-message_behind t b mti w = elements_at t.rows (numbers_in w.0 w.1) (mti_size t.mti + w.2) (drop (mti_size t.mti + w.2) b) >>= as_message mti
-
-abbrev view_behind : Layout → Bor (List ℕ) → ℕ → ℕ × ℕ × ℕ → Result Viewed UnpackFault
-view_behind t b mti w = wires_at t.rows (numbers_in w.0 w.1) (mti_size t.mti + w.2) (drop (mti_size t.mti + w.2) b.now) >>= as_view t b mti (mti_size t.mti + w.2)
+abbrev pub view_behind : Layout → Bor (List ℕ) → ℕ × List ℕ × ℕ → Result Viewed UnpackFault
+view_behind t b x = wires_at t.rows x.1 x.2 (drop x.2 b.now) >>= as_view t b x.0 x.2
 
 module _ (laws : PartLaws) where
-  by_words : (t : Layout) (b : Bor (List ℕ)) (mti : ℕ) (r : Result (ℕ × ℕ × ℕ) UnpackFault) → AreGood t.rows → AreBytes b.now → Views t b.now (r >>= view_behind t b mti) (r >>= message_behind t b.now mti)
-  by_words t b mti (Err e) good fits = refl
-  by_words t b mti (Ok w) good fits =
-      let at = mti_size t.mti + w.2 in
-      let ns = numbers_in w.0 w.1 in
-      by_elements t b mti at (elements_at t.rows ns at (drop at b.now)) (wires_at t.rows ns at (drop at b.now)) (agrees laws t.rows ns at (drop at b.now) good (bytes_drop at b.now fits))
-
-  by_type : (t : Layout) (b : Bor (List ℕ)) (r : Result ℕ UnpackFault) → AreGood t.rows → AreBytes b.now
-      → Views t b.now (r >>= λ mti. words_at t (mti_size t.mti) (drop (mti_size t.mti) b.now) >>= view_behind t b mti) (r >>= λ mti. words_at t (mti_size t.mti) (drop (mti_size t.mti) b.now) >>= message_behind t b.now mti)
-  by_type t b (Err e) good fits = refl
-  by_type t b (Ok mti) good fits = by_words t b mti (words_at t (mti_size t.mti) (drop (mti_size t.mti) b.now)) good fits
+  by_beginning : (t : Layout) (b : Bor (List ℕ)) (r : Result (ℕ × List ℕ × ℕ) UnpackFault) → AreGood t.rows → AreBytes b.now → Views t b.now (r >>= view_behind t b) (r >>= behind_beginning t b.now)
+  by_beginning t b (Err e) good fits = refl
+  by_beginning t b (Ok x) good fits =
+      by_elements t b x.0 x.2 (elements_at t.rows x.1 x.2 (drop x.2 b.now)) (wires_at t.rows x.1 x.2 (drop x.2 b.now)) (agrees laws t.rows x.1 x.2 (drop x.2 b.now) good (bytes_drop x.2 b.now fits))
 
   pub is_view : (t : Layout) (b : Bor (List ℕ)) → AreGood t.rows → AreBytes b.now → Views t b.now (view_at t b) (message_at t b.now)
-  unfolding message_at
-  is_view t b good fits = by_type t b (type_at t b.now) good fits
+  is_view t b good fits = subst (Views t b.now (view_at t b)) (sym (message_begun t b.now)) (by_beginning t b (beginning_at t b.now) good fits)
 
   -- what is read of a message without its values views that message
   pub views_as : (t : Layout) (b : Bor (List ℕ)) (r : Result Viewed UnpackFault) → AreGood t.rows → AreBytes b.now → view_at t b ≡ r → Views t b.now r (message_at t b.now)

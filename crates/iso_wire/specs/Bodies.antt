@@ -8,9 +8,10 @@ use Rattle.iso_parts.specs.Spec.{longest_value}
 use Rattle.iso_wire.specs.declared.bodies.Bodies.{Bodies}
 use Rattle.iso_wire.specs.declared.bodies.Outline.{Outline}
 use Rattle.iso_wire.specs.declared.fault.UnpackFault.{UnpackFault}
-use Rattle.iso_parts.specs.Numbers.{members, numbers_in}
-use Rattle.iso_parts.specs.Mti.{mti_number, mti_size}
-use Rattle.iso_wire.specs.Reading.{◌>>=◌, type_at, words_at, value_at}
+use Rattle.iso_parts.specs.Numbers.{members}
+use Rattle.iso_parts.specs.Mti.{mti_number}
+use Rattle.iso_wire.specs.Beginning.{beginning_at}
+use Rattle.iso_wire.specs.Reading.{◌>>=◌, value_at}
 use Rattle.iso_table.specs.Layout.{Layout, row_at}
 use Rattle.iso_wire.specs.Viewing.{Viewed, front_of, starts_of}
 
@@ -75,10 +76,9 @@ wires_at rows (n ∷ ns) at b = do
 -- the message that the bytes begin with
 abbrev pub view_at : Layout → Bor (List ℕ) → Result Viewed UnpackFault
 view_at t b = do
-  mti ← type_at t b.now
-  words ← words_at t (mti_size t.mti) (drop (mti_size t.mti) b.now)
-  read ← wires_at t.rows (numbers_in words.0 words.1) (mti_size t.mti + words.2) (drop (mti_size t.mti + words.2) b.now)
-  Ok (record { mti = mti; used = read.1; wires = read.0; starts = starts_of t.rows (mti_size t.mti + words.2) read.0; bytes = b.now; address = b.ref_ptr })
+  begun ← beginning_at t b.now
+  read ← wires_at t.rows begun.1 begun.2 (drop begun.2 b.now)
+  Ok (record { mti = begun.0; used = read.1; wires = read.0; starts = starts_of t.rows begun.2 read.0; bytes = b.now; address = b.ref_ptr })
 
 -- a part was judged as reading does, without its value: where its body begins, and how many bytes it takes
 abbrev pub JudgesWire : Option FieldSpec → Result (ℕ × ℕ) UnpackFault → Result (List ℕ × ℕ) UnpackFault → Type 0

@@ -9,6 +9,7 @@ pub mod Refusal
 pub mod OneSpelling
 pub mod Faults
 pub mod Reading
+pub mod Beginning
 pub mod Appending
 pub mod Framing
 pub mod ReadingLaws

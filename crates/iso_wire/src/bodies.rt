@@ -16,7 +16,7 @@ ghost use Rattle.iso_wire.specs.Debugging.{debug_view};
 
 use crate::debugging::write_type;
 use crate::fault::{UnpackCause, UnpackFault};
-use crate::front::{type_of, words_of};
+use crate::front::beginning_of;
 use crate::laws::{are_bytes, reads_spellings};
 use crate::unpacking::{fault_place, read_value};
 use crate::view_iteration::ViewIter;
@@ -122,13 +122,13 @@ pub(crate) fn outline_of(
     ensures within { IfOk result (λ o. (o.used ≤ length bytes.now) × AreWithin o.used bodies.new (members o.numbers)) }
     ensures good { AreGood table.now.rows }
 {
-    let mti = type_of(table, bytes)?;
-    let size = table.mti().mti_size();
-    let (_, rest) = bytes.split_at(size);
-    let (primary, secondary, used) = words_of(table, size, rest)?;
-    let numbers = Bitmap::from_words(primary, secondary);
-    let used = find_bodies(table, numbers, size + used, bytes, bodies)?;
-    Ok(Outline { mti, numbers, used })
+    let begun = beginning_of(table, bytes)?;
+    let used = find_bodies(table, begun.numbers, begun.end, bytes, bodies)?;
+    Ok(Outline {
+        mti: begun.mti,
+        numbers: begun.numbers,
+        used,
+    })
 }
 
 /// Where the body of an element lies, if its number is there.

@@ -2,10 +2,11 @@
 
 ghost use Rattle.std.specs.Prelude.{◌≡◌, ◌≢◌, ◌≤◌, ◌<◌, ◌^◌, length, option_map, IfOk, IfErr, OnOk};
 ghost use Rattle.iso_parts.specs.Digits.{four_digits_in};
-ghost use Rattle.iso_parts.specs.Bitmap.{map_size};
+ghost use Rattle.iso_parts.specs.Bitmap.{contains, map_size, AreElements};
 ghost use Rattle.iso_parts.specs.Mti.{mti_number, mti_size};
 ghost use Rattle.iso_parts.specs.Numbers.{numbers_in};
 ghost use Rattle.iso_table.specs.Layout.{AreGood};
+ghost use Rattle.iso_wire.specs.Beginning.{begun, beginning_at};
 ghost use Rattle.iso_wire.specs.Numbers.{unknown};
 ghost use Rattle.iso_wire.specs.declared.fault.UnpackCause.TheVariants.{Memory};
 ghost use Rattle.iso_wire.specs.Reading.{Gives, type_at, word_at, known_by, primary_at, secondary_at, words_at};
@@ -13,6 +14,14 @@ ghost use Rattle.iso_wire.specs.Reading.{Gives, type_at, word_at, known_by, prim
 use crate::fault::{UnpackCause, UnpackFault};
 use iso_parts::{Bitmap, BitmapCoding, Digits, Mti, bcd_characters, tells_another};
 use iso_table::Table;
+
+/// What a message begins with: its type, the numbers of its elements, and where the first of them begins.
+#[derive(Clone, Copy)]
+pub(crate) struct Beginning {
+    pub(crate) mti: Mti,
+    pub(crate) numbers: Bitmap,
+    pub(crate) end: usize,
+}
 
 /// The type that the bytes of one tell.
 fn mti_of(digits: Digits, bytes: &[u8]) -> Option<Mti>
@@ -129,4 +138,23 @@ pub fn words_of(table: &Table, at: usize, bytes: &[u8]) -> Result<(u64, u64, usi
     let (_, rest) = bytes.split_at(size);
     let secondary = secondary_of(table, at + size, rest)?;
     Ok((primary, secondary, size + size))
+}
+
+/// The beginning of the message that stands at the front of the bytes. Takes no memory.
+#[inline(always)]
+pub(crate) fn beginning_of(table: &Table, bytes: &[u8]) -> Result<Beginning, UnpackFault>
+    ensures exact { Gives begun result (beginning_at table.now bytes.now) }
+    ensures no_memory { IfErr result (λ e. e.cause ≢ Memory) }
+    ensures early { IfOk result (λ x. x.end ≤ 36) }
+    ensures within { IfOk result (λ x. x.end ≤ length bytes.now) }
+    ensures elements { IfOk result (λ x. AreElements (contains x.numbers)) }
+    ensures good { AreGood table.now.rows }
+{
+    let mti = type_of(table, bytes)?;
+    let size = table.mti().mti_size();
+    let (_, rest) = bytes.split_at(size);
+    let (primary, secondary, used) = words_of(table, size, rest)?;
+    let numbers = Bitmap::from_words(primary, secondary);
+    let end = size + used;
+    Ok(Beginning { mti, numbers, end })
 }

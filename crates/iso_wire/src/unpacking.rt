@@ -12,7 +12,7 @@ ghost use Rattle.iso_parts.specs.Numbers.{members};
 
 use crate::elements::Elements;
 use crate::fault::{UnpackCause, UnpackFault};
-use crate::front::{type_of, words_of};
+use crate::front::beginning_of;
 use crate::laws::{reads_spellings, stops};
 use crate::message::Message;
 use iso_parts::{Bitmap, FieldFault, LONGEST_VALUE, Mti, decode_value};
@@ -118,7 +118,6 @@ fn read_elements(
 
 /// Reads the message that the bytes begin with: its type, its elements in place of the ones that were there, and how
 /// many bytes it takes.
-#[tactic(auto, unfolding(crate::specs::Reading::message_at))]
 pub(crate) fn read_message(
     table: &Table,
     bytes: &[u8],
@@ -130,13 +129,9 @@ pub(crate) fn read_message(
     ensures numbered { OnOk result (IsNumbered elements.new) }
     ensures good { AreGood table.now.rows }
 {
-    let mti = type_of(table, bytes)?;
-    let size = table.mti().mti_size();
-    let (_, rest) = bytes.split_at(size);
-    let (primary, secondary, used) = words_of(table, size, rest)?;
-    let numbers = Bitmap::from_words(primary, secondary);
-    let end = read_elements(table, numbers, size + used, bytes, elements)?;
-    Ok((mti, end))
+    let begun = beginning_of(table, bytes)?;
+    let end = read_elements(table, begun.numbers, begun.end, bytes, elements)?;
+    Ok((begun.mti, end))
 }
 
 /// The message that the bytes begin with, and how many bytes it takes.

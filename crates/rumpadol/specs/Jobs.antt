@@ -17,8 +17,9 @@ Does (jobs.New words) file input old new status =
 Does (jobs.Diff first second) file input old new status =
     (differ : Bool) × (status ≡ (if differ then 1 else 0)) × Compares file input first.now second.now old new differ
 
--- the same of any job; of one about messages nothing is said here, and of a host that it served to the end of its input
+-- the same of any job; of one about messages or a journal nothing is said here, and of a host that it served to the end of its input
 abbrev pub Performs : Job → (List ℕ → Option (List ℕ)) → Option (List ℕ) → Option (List ℕ) → Option (List ℕ) → ℕ → Type 0
 Performs (all.Tables job) file input old new status = Does job file input old new status
 Performs (all.Messages job) file input old new status = ⊤
 Performs (all.Host words) file input old new status = status ≡ 0
+Performs (all.Books job) file input old new status = ⊤

@@ -3,6 +3,7 @@
 ghost use Rattle.std.specs.Prelude.{◌≡◌, ◌≤◌, IfOk};
 ghost use Rattle.rumpadol.specs.Jobs.{Performs};
 
+use crate::books::perform_books;
 use crate::commands::command;
 use crate::host::perform_host;
 use crate::messages::perform_messages;
@@ -65,6 +66,7 @@ fn perform<S: Source + Journals, I: Read, O: Write, F: Write>(
         ),
         Job::Tables(job) => perform_table(alloc, job, source, input, output),
         Job::Host(words) => perform_host(alloc, *words, source, input, output, faults),
+        Job::Books(job) => perform_books(alloc, *job, source, output),
     }
 }
 

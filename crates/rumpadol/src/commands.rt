@@ -1,10 +1,12 @@
 //! The command line, as `clap` reads it.
 
 mod arguments;
+mod books;
 mod host;
 mod messages;
 mod tables;
 
+use books::journal_command;
 use clap::Command;
 use host::host_command;
 use messages::{convert_command, decode_command, encode_command, explain_command};
@@ -17,6 +19,7 @@ const EXAMPLES: &str = "Examples:
   rumpadol explain bcd87 --hex dump.txt    the same of a dump in hexadecimal digits
   rumpadol decode ascii87 --json           one JSON object for the message on the input
   rumpadol table check mine.json           all that is wrong with a table
+  rumpadol journal show day.journal        the entries of a journal
 
 Ends with status 0 where all was done, 1 where an input is refused, 2 where the command line is,
 and 3 where a file, a stream or memory failed.";
@@ -26,7 +29,9 @@ pub fn command<'a>(alloc: Global) -> Result<Command<'a>, AllocError> {
     Command::new(alloc, "rumpadol")
         .bin_name("rumpadol")?
         .version("1.0.0")
-        .about("Looks at ISO 8583 messages, builds, converts and answers them, and checks tables.")
+        .about(
+            "Looks at ISO 8583 messages, builds, converts and answers them, and looks into tables and journals.",
+        )
         .after_help(EXAMPLES)
         .subcommand_required(true)
         .arg_required_else_help(true)
@@ -35,5 +40,6 @@ pub fn command<'a>(alloc: Global) -> Result<Command<'a>, AllocError> {
         .subcommand(encode_command(alloc)?)?
         .subcommand(convert_command(alloc)?)?
         .subcommand(table_command(alloc)?)?
-        .subcommand(host_command(alloc)?)
+        .subcommand(host_command(alloc)?)?
+        .subcommand(journal_command(alloc)?)
 }

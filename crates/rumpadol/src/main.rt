@@ -1,4 +1,4 @@
-//! The program for people: looks at ISO 8583 messages, builds and converts them, and checks tables.
+//! The program for people: looks at ISO 8583 messages, builds and converts them, checks tables, and looks into journals.
 //!
 //! - `explain TABLE [INPUT]`: messages piece by piece, and where one stops being a message, why
 //! - `decode TABLE [INPUT]`: messages element by element, as lines or as JSON
@@ -6,9 +6,11 @@
 //! - `convert FROM TO [INPUT]`: messages under another table
 //! - `table check`, `show`, `list`, `new` and `diff`: tables
 //! - `host`: answers frames as an issuer, and keeps each order before it is answered
+//! - `journal show`, `check`, `export` and `balance`: the file of a journal
 #![tactic(auto)]
 
 mod act;
+mod books;
 mod commands;
 mod documents;
 mod host;

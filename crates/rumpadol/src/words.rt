@@ -2,6 +2,7 @@
 
 use crate::documents::STANDARD_INPUT;
 use clap::ArgMatches;
+use iso_books::Form;
 use iso_wire::Header;
 use std::alloc::{AllocError, Global};
 
@@ -97,6 +98,28 @@ pub struct HostWords<'a> {
     pub is_new: bool,
 }
 
+/// The words about a journal's file.
+#[derive(Clone, Copy, Debug)]
+pub struct BooksWords<'a> {
+    /// The path of the file.
+    pub file: &'a str,
+    /// In which form it is told.
+    pub form: Form,
+    /// Whether account numbers are shown in full.
+    pub is_clear: bool,
+}
+
+/// What is asked about a journal's file.
+#[derive(Clone, Copy, Debug)]
+pub enum BooksJob<'a> {
+    /// `show FILE [--json] [--clear]`, `export FILE --csv | --json [--clear]`
+    Show(BooksWords<'a>),
+    /// `check FILE [--accounts FILE]`
+    Check(BooksWords<'a>, Option<&'a str>),
+    /// `balance FILE --accounts FILE [--json] [--clear]`
+    Balance(BooksWords<'a>, &'a str),
+}
+
 /// What the words ask.
 #[derive(Debug, Drop)]
 pub enum Job<'a> {
@@ -106,6 +129,8 @@ pub enum Job<'a> {
     Tables(TableJob<'a>),
     /// A host.
     Host(HostWords<'a>),
+    /// About a journal's file.
+    Books(BooksJob<'a>),
 }
 
 impl<'a> MessageJob<'a> {
@@ -130,7 +155,7 @@ impl<'a> Job<'a> {
             Job::Tables(TableJob::Diff(first, second)) => {
                 *first == STANDARD_INPUT || *second == STANDARD_INPUT
             }
-            Job::Tables(TableJob::List) => false,
+            Job::Tables(TableJob::List) | Job::Books(_) => false,
             Job::Host(_) => true,
         }
     }
@@ -254,6 +279,56 @@ fn tables_asked<'a>(
     }
 }
 
+/// In which form a journal is told, where CSV is a choice or not.
+fn form_of(is_csv: bool, is_json: bool) -> Form {
+    if is_csv {
+        Form::Csv
+    } else if is_json {
+        Form::Json
+    } else {
+        Form::Columns
+    }
+}
+
+/// The words about a journal's file that is told.
+fn books_words<'a>(matches: &ArgMatches<'a>, is_csv: bool) -> BooksWords<'a> {
+    BooksWords {
+        file: text_of(matches, "file"),
+        form: form_of(is_csv, matches.get_flag("json")),
+        is_clear: matches.get_flag("clear"),
+    }
+}
+
+/// The words about a journal's file that is checked.
+fn check_words<'a>(matches: &ArgMatches<'a>) -> BooksWords<'a> {
+    BooksWords {
+        file: text_of(matches, "file"),
+        form: Form::Columns,
+        is_clear: false,
+    }
+}
+
+/// What a subcommand of `journal` asks.
+fn books_job<'a>(name: &str, matches: &ArgMatches<'a>) -> Option<BooksJob<'a>> {
+    match name {
+        "show" => Some(BooksJob::Show(books_words(matches, false))),
+        "check" => Some(BooksJob::Check(check_words(matches), matches.get_str("accounts"))),
+        "export" => Some(BooksJob::Show(books_words(matches, matches.get_flag("csv")))),
+        "balance" => {
+            let accounts = text_of(matches, "accounts");
+            Some(BooksJob::Balance(books_words(matches, false), accounts))
+        }
+        _ => None,
+    }
+}
+
+/// What `journal` asks.
+fn books_asked<'a>(matches: &ArgMatches<'a>) -> Option<Job<'a>> {
+    let (name, inner) = matches.subcommand()?;
+    let job = books_job(name, inner)?;
+    Some(Job::Books(job))
+}
+
 /// What the words ask that `clap` let pass. `None` is for a subcommand that the program doesn't have, so it never comes.
 pub fn job_of<'a>(alloc: Global, matches: &ArgMatches<'a>) -> Result<Option<Job<'a>>, AllocError> {
     let Some((name, inner)) = matches.subcommand() else {
@@ -266,6 +341,7 @@ pub fn job_of<'a>(alloc: Global, matches: &ArgMatches<'a>) -> Result<Option<Job<
         "convert" => Ok(Some(Job::Messages(MessageJob::Convert(convert_words(inner))))),
         "table" => tables_asked(alloc, inner),
         "host" => Ok(Some(Job::Host(host_words(inner)))),
+        "journal" => Ok(books_asked(inner)),
         _ => Ok(None),
     }
 }

@@ -9,7 +9,7 @@ use std::alloc::Global;
 use std::test::Fail;
 
 /// A link of ASCII digits.
-fn link(alloc: Global) -> Option<Link> {
+pub fn link(alloc: Global) -> Option<Link> {
     match HostTable::new(Table::ascii87(alloc).ok()?) {
         Ok(table) => Some(Link::new(table, Header::Ascii4)),
         Err(_) => None,
@@ -17,7 +17,7 @@ fn link(alloc: Global) -> Option<Link> {
 }
 
 /// A host with an empty journal.
-fn host(alloc: Global) -> Option<Host> {
+pub fn host(alloc: Global) -> Option<Host> {
     match issuer(alloc, false) {
         Some(issuer) => Some(Host::new(alloc, issuer)),
         None => None,
@@ -25,7 +25,7 @@ fn host(alloc: Global) -> Option<Host> {
 }
 
 /// How many bytes a peer takes of these.
-fn take(
+pub fn take(
     peer: &mut Peer<'_>,
     host: &mut Host,
     bytes: &[u8],

@@ -1,0 +1,23 @@
+#!/bin/sh
+# What a journal in a file takes: orders in groups with one sync each, beside a program that writes and syncs the same bytes and
+# beside SQLite; and the start over 900,000 orders, beside handling them. The files are made under FOLDER, which has to be on the device
+# that is measured; else in this folder.
+set -eu
+cd "$(dirname "$0")/.."
+
+files=$(mktemp -d "${FOLDER:-bench}/journal.XXXXXX")
+trap 'rm -rf "$files"' EXIT
+trap 'exit 1' HUP INT TERM
+cc -O2 -o "$files/synced" bench/synced.c
+
+for measured in '1 400' '64 60' '512 40'; do
+    # shellcheck disable=SC2086
+    "$files/synced" "$files/plain" $measured
+    # shellcheck disable=SC2086
+    crates/iso_bench/out/iso_bench journal "$files/journal" $measured
+    # shellcheck disable=SC2086
+    python3 -B bench/sqlite.py "$files/sqlite" $measured
+    rm -f "$files/plain" "$files"/journal* "$files"/sqlite*
+done
+crates/iso_bench/out/iso_bench journal "$files/long" 512 1758
+crates/iso_bench/out/iso_bench start "$files/long"

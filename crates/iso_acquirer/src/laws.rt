@@ -1,0 +1,25 @@
+//! What holds after every run of both ends: a function that does nothing, and whose contract is the laws.
+
+ghost use Rattle.iso_acquirer.specs.Runs.{RunsAgree, RunsStayClosed, RunsBalance};
+
+use iso_issuer::laws::{
+    answers_are_entered, granted_stands, journals_grow, keys_stay_distinct, reversals_stay,
+    reversed_never_stands, stands_no_more,
+};
+
+/// After each run of both ends that begins unused, whatever is lost, repeated, late or refused in it: both ends
+/// agree on each transaction, what is closed stays, and once all is closed the books agree. It says of lists of
+/// events what `World` says of itself, so that a law can speak of runs that nothing plays.
+pub fn runs_agree()
+    ensures agree { RunsAgree }
+    ensures closed { RunsStayClosed }
+    ensures books { RunsBalance }
+{
+    journals_grow();
+    keys_stay_distinct();
+    answers_are_entered();
+    granted_stands();
+    reversals_stay();
+    stands_no_more();
+    reversed_never_stands();
+}

@@ -1,0 +1,6 @@
+mod Lists
+mod Carried
+mod Delivered
+mod Without
+mod Agreed
+mod Called

@@ -1,0 +1,137 @@
+//! What is told of a journal's file.
+
+ghost use Rattle.std.specs.Prelude.{◌≡◌, ◌≤◌, IfOk};
+
+mod opening;
+mod sentences;
+
+use crate::source::Source;
+use crate::stop::{Stop, write_output};
+use crate::words::{BooksJob, BooksWords};
+use iso_books::{Condition, Replayed, Wanted, account_rows, append_balances, replay, survey, tell};
+use iso_issuer::Issuer;
+use opening::{accounts_at, journal_at};
+use sentences::{damaged, stopped, torn_line, whole_line};
+use std::alloc::Global;
+use std::io::Write;
+
+/// Shows the entries of a journal, or gives them to another program.
+fn show<S: Source, O: Write>(
+    alloc: Global,
+    words: BooksWords<'_>,
+    source: &S,
+    output: &mut O,
+) -> Result<(), Stop> {
+    let file = journal_at(alloc, source, words.file)?;
+    match tell(alloc, file, words.form, words.is_clear, output) {
+        Ok(Condition::Whole(_) | Condition::Torn(_)) => Ok(()),
+        Ok(Condition::Damaged(place)) => Err(damaged(alloc, words.file, place)),
+        Err(fault) => Err(stopped(alloc, words, fault)),
+    }
+}
+
+/// Tells whether a journal is whole.
+fn check_alone<S: Source, O: Write>(
+    alloc: Global,
+    words: BooksWords<'_>,
+    source: &S,
+    output: &mut O,
+) -> Result<(), Stop> {
+    let file = journal_at(alloc, source, words.file)?;
+    let line = match survey(alloc, file, &Wanted::Any) {
+        Ok(Condition::Whole(count)) => whole_line(alloc, words.file, count),
+        Ok(Condition::Torn(count)) => torn_line(alloc, words.file, count),
+        Ok(Condition::Damaged(place)) => return Err(damaged(alloc, words.file, place)),
+        Err(fault) => return Err(stopped(alloc, words, fault)),
+    };
+    write_output(output, line?.as_bytes())
+}
+
+/// What a journal holds, each answer decided again.
+fn replayed<S: Source>(
+    alloc: Global,
+    words: BooksWords<'_>,
+    accounts: &str,
+    source: &S,
+) -> Result<Replayed, Stop> {
+    let (accounts, heading) = accounts_at(alloc, source, accounts)?;
+    let file = journal_at(alloc, source, words.file)?;
+    match replay(alloc, file, &heading, accounts) {
+        Ok(found) => Ok(found),
+        Err(fault) => Err(stopped(alloc, words, fault)),
+    }
+}
+
+/// Tells whether a journal is whole, and whether each answer in it is the one that a host gives again.
+fn check_answers<S: Source, O: Write>(
+    alloc: Global,
+    words: BooksWords<'_>,
+    accounts: &str,
+    source: &S,
+    output: &mut O,
+) -> Result<(), Stop> {
+    let line = match replayed(alloc, words, accounts, source)? {
+        Replayed::Whole(issuer) => whole_line(alloc, words.file, issuer.len() as usize),
+        Replayed::Torn(issuer) => torn_line(alloc, words.file, issuer.len() as usize),
+        Replayed::Damaged(place) => return Err(damaged(alloc, words.file, place)),
+    };
+    write_output(output, line?.as_bytes())
+}
+
+/// Tells what is on each account of an issuer.
+fn tell_balances<O: Write>(
+    alloc: Global,
+    words: BooksWords<'_>,
+    issuer: &Issuer,
+    output: &mut O,
+) -> Result<(), Stop> {
+    let rows = account_rows(alloc, issuer)?;
+    let mut text = Vec::new(alloc);
+    append_balances(&rows, words.form, words.is_clear, &mut text)?;
+    write_output(output, &text)
+}
+
+/// Tells what is on each account after the orders of a journal.
+fn balance<S: Source, O: Write>(
+    alloc: Global,
+    words: BooksWords<'_>,
+    accounts: &str,
+    source: &S,
+    output: &mut O,
+) -> Result<(), Stop> {
+    match replayed(alloc, words, accounts, source)? {
+        Replayed::Whole(issuer) => tell_balances(alloc, words, &issuer, output),
+        Replayed::Torn(issuer) => tell_balances(alloc, words, &issuer, output),
+        Replayed::Damaged(place) => Err(damaged(alloc, words.file, place)),
+    }
+}
+
+/// Does what is asked about a journal's file.
+fn perform_one<S: Source, O: Write>(
+    alloc: Global,
+    job: BooksJob<'_>,
+    source: &S,
+    output: &mut O,
+) -> Result<(), Stop> {
+    match job {
+        BooksJob::Show(words) => show(alloc, words, source, output),
+        BooksJob::Check(words, None) => check_alone(alloc, words, source, output),
+        BooksJob::Check(words, Some(accounts)) => {
+            check_answers(alloc, words, accounts, source, output)
+        }
+        BooksJob::Balance(words, accounts) => balance(alloc, words, accounts, source, output),
+    }
+}
+
+/// Does what is asked about a journal's file, and gives the status 0.
+pub fn perform_books<S: Source, O: Write>(
+    alloc: Global,
+    job: BooksJob<'_>,
+    source: &S,
+    output: &mut O,
+) -> Result<u8, Stop>
+    ensures { IfOk result (λ status. status ≤ 1) }
+{
+    perform_one(alloc, job, source, output)?;
+    Ok(0)
+}
