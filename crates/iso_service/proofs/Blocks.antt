@@ -20,7 +20,7 @@ use Rattle.iso_peers.specs.Connection.{Connected}
 use Rattle.iso_peers.specs.Turn.{TakesAll, StopsAt}
 use Rattle.iso_peers.specs.declared.turn.Turned.{Turned}
 use Rattle.iso_host.specs.declared.fault.Report.{Report}
-use Rattle.iso_service.specs.Serving.{AreKept, EndsAt, Hands, Leaves, Stay, StayBehind, UnlessLog, WithoutMemory}
+use Rattle.iso_service.specs.Serving.{AreKept, EndsAt, Hands, Leaves, Stay, StayBehind, UnlessLog, WithoutMemory, stop_of}
 use Rattle.iso_service.specs.declared.fault.ServiceFault.{ServiceFault}
 use Rattle.iso_service.specs.declared.fault.ServiceFault.TheVariants.{Read, Write, BadHeader, CutFrame, Memory, Log}
 use Rattle.iso_service.proofs.Pieces.{body_alone}
@@ -303,6 +303,14 @@ module _ (t : Layout) (h : Header) (unread held : Option (List ℕ)) (old : Book
       pub ends_memory : (shown : Option (List ℕ)) → Appends written shown c2.waiting → turned.stopped ≡ Some peer.Memory → WithoutMemory t h unread next held shown old now2
       ends_memory shown appends is = (mid, all_bodies, c2.peer.held ++ behind, served_to shown appends, refused_memory is)
 
+      -- either way
+      pub ends_stopped : (shown : Option (List ℕ)) (fault : PeerFault) (result : ServiceFault) → BadIsNoFrame → Appends written shown c2.waiting
+          → turned.stopped ≡ Some fault → result ≡ stop_of fault → Leaves t h unread next held shown old now2 (Err result)
+      ends_stopped shown peer.BadHeader result bad_law appends is same =
+          subst (λ (f : ServiceFault). Leaves t h unread next held shown old now2 (Err f)) (sym same) (ends_bad shown bad_law appends is)
+      ends_stopped shown peer.Memory result bad_law appends is same =
+          subst (λ (f : ServiceFault). Leaves t h unread next held shown old now2 (Err f)) (sym same) (ends_memory shown appends is)
+
       -- ---- what was written is kept
 
       -- the bodies that were entered, and the output for them
@@ -363,7 +371,7 @@ module _ (t : Layout) (h : Header) (unread held : Option (List ℕ)) (old : Book
       -- keeping or writing failed
       pub kept_hands : (fault : ServiceFault) (shown : Option (List ℕ)) (may_leave : List Instruction → Type 0) → Hands written shown c2.waiting (Err fault)
           → StayBehind may_leave now.orders → UnlessLog {T = Unit {0}} (Err fault) (Stay may_leave now2) → AreKept t h held shown old may_leave
-      kept_hands Log shown may_leave hands before stay = kept_failed shown may_leave hands behind
+      kept_hands Log shown may_leave hands before stay = kept_failed shown may_leave hands before
       kept_hands Write shown may_leave hands before stay =
           kept_after shown (take hands.0 c2.waiting) (drop hands.0 c2.waiting) may_leave (take-append-drop hands.0 c2.waiting) hands.2 stay
       kept_hands Read shown may_leave hands before stay = absurd hands

@@ -2,7 +2,7 @@
 ghost use Rattle.std.specs.Prelude.{◌≡◌, ◌<◌, ◌≤◌, length, take, IfOk, OnErr};
 ghost use Rattle.std.specs.Io.KnownBytes.{Consumes, IsAtEnd, Keeps};
 ghost use Rattle.iso_peers.specs.Host.{IsInStep, IsKept};
-ghost use Rattle.iso_service.specs.Serving.{Leaves, AreKept, EndsAt};
+ghost use Rattle.iso_service.specs.Serving.{Leaves, AreKept, EndsAt, stop_of};
 
 use crate::answering::{keep_and_answer, kept_outlive};
 use crate::counting::NO_FRAMES;
@@ -26,6 +26,16 @@ fn told_at_end(connection: &Connection<'_>, report: Report) -> Result<Report, Se
         Ok(report)
     } else {
         Err(ServiceFault::CutFrame)
+    }
+}
+
+/// How a peer that takes no more ends the serving.
+fn stopped_by(fault: PeerFault) -> ServiceFault
+    ensures { result ≡ stop_of fault }
+{
+    match fault {
+        PeerFault::BadHeader => ServiceFault::BadHeader,
+        PeerFault::Memory => ServiceFault::Memory,
     }
 }
 
@@ -88,8 +98,7 @@ pub fn serve_kept<L: Log, R: Inlet, W: Outlet>(
         }
         match turned.stopped {
             None => {}
-            Some(PeerFault::BadHeader) => return Err(ServiceFault::BadHeader),
-            Some(PeerFault::Memory) => return Err(ServiceFault::Memory),
+            Some(fault) => return Err(stopped_by(fault)),
         }
     }
     Err(ServiceFault::Read)

@@ -3,12 +3,10 @@ use Rattle.std.specs.Io.KnownBytes.{Consumes}
 use Rattle.iso_issuer.specs.Books.{Books}
 use Rattle.iso_host.specs.Entering.{StaysWithout}
 use Rattle.iso_host.specs.Peers.{Unfinished}
-use Rattle.std.specs.Prelude.{Some, Err}
-use Rattle.iso_host.specs.declared.peer.PeerFault.{PeerFault}
+use Rattle.std.specs.Prelude.{Err}
 use Rattle.iso_service.specs.Serving.{Leaves, Stay, StayBehind}
-use Rattle.iso_service.specs.declared.fault.ServiceFault.TheVariants.{BadHeader, Memory}
 use Rattle.iso_service.proofs.Kept.{synced_all, unless_log}
-use Rattle.iso_service.proofs.Blocks.{Going, at_end, at_first, ends_bad, ends_memory, goes_on, kept_all, kept_first, kept_hands, kept_now, no_block, unread_now}
+use Rattle.iso_service.proofs.Blocks.{Going, at_end, at_first, ends_stopped, goes_on, kept_all, kept_first, kept_hands, kept_now, no_block, unread_now}
 use Rattle.iso_service.proofs.serving.serve_kept.Goals as goal
 
 pub returns-in_default-clause-kept : goal.returns-in_default-clause-kept
@@ -91,8 +89,8 @@ returns-in-Err-keep_and_answer-clause-kept g c = λ step kept.
     (subst (StayBehind may_leave) same (c.in-Err-keep_and_answer.ensures.behind in_step))
     (unless_log c.in-Err-keep_and_answer.fault _ (Stay may_leave c.take_counted.new.host.host) (λ stays. stays in_step) c.in-Err-keep_and_answer.ensures.stay)
 
-pub returns-in-Some-BadHeader-clause-kept : goal.returns-in-Some-BadHeader-clause-kept
-returns-in-Some-BadHeader-clause-kept g c = λ step kept.
+pub returns-in-Some-clause-kept : goal.returns-in-Some-clause-kept
+returns-in-Some-clause-kept g c = λ step kept.
     let in_step = c.take_counted.ensures.step (c.loop.invariant.step step) in
     kept_all c.args.link.now.table c.args.link.now.header (g.R.Inlet.remaining c.args.reader.now) (g.W.Outlet.contents c.args.writer.now) c.args.host.now.host
     (g.R.Inlet.remaining c.loop.reader) (g.W.Outlet.contents c.loop.writer) c.loop.host.host c.loop.connection c.loop.invariant.going
@@ -103,43 +101,18 @@ returns-in-Some-BadHeader-clause-kept g c = λ step kept.
     c.in-Ok-fill.ensures.read) c.in-Ok-take_counted.ensures.took (g.W.Outlet.contents c.keep_and_answer.new.writer) (g.L.Log.may_leave c.keep_and_answer.new.host.log)
     c.in-Ok-keep_and_answer.ensures.written (c.in-Ok-keep_and_answer.ensures.stay in_step)
 
-pub returns-in-Some-BadHeader-clause-leaves : goal.returns-in-Some-BadHeader-clause-leaves
-returns-in-Some-BadHeader-clause-leaves g c =
+pub returns-in-Some-clause-leaves : goal.returns-in-Some-clause-leaves
+returns-in-Some-clause-leaves g c =
     subst (λ (b : Books). Leaves c.args.link.now.table c.args.link.now.header (g.R.Inlet.remaining c.args.reader.now) (g.R.Inlet.remaining c.fill.new.reader)
-    (g.W.Outlet.contents c.args.writer.now) (g.W.Outlet.contents c.keep_and_answer.new.writer) c.args.host.now.host b (Err BadHeader)) (sym c.keep_and_answer.ensures.host)
-    (ends_bad c.args.link.now.table c.args.link.now.header (g.R.Inlet.remaining c.args.reader.now) (g.W.Outlet.contents c.args.writer.now) c.args.host.now.host
+    (g.W.Outlet.contents c.args.writer.now) (g.W.Outlet.contents c.keep_and_answer.new.writer) c.args.host.now.host b (Err c.stopped_by.result)) (sym c.keep_and_answer.ensures.host)
+    (ends_stopped c.args.link.now.table c.args.link.now.header (g.R.Inlet.remaining c.args.reader.now) (g.W.Outlet.contents c.args.writer.now) c.args.host.now.host
     (g.R.Inlet.remaining c.loop.reader) (g.W.Outlet.contents c.loop.writer) c.loop.host.host c.loop.connection c.loop.invariant.going
     (g.R.Inlet.remaining c.fill.new.reader) (take c.in-Ok-fill.count c.deref.result.now) c.take_counted.new.connection c.take_counted.new.host.host
     c.in-Ok-take_counted.turned c.one_journal.ensures.more c.loop.invariant.table c.loop.invariant.header
     (c.take_counted.ensures.table ∙ c.loop.invariant.table) (c.take_counted.ensures.header ∙ c.loop.invariant.header)
     (subst (λ (l : List ℕ). Consumes (g.R.Inlet.remaining c.loop.reader) (g.R.Inlet.remaining c.fill.new.reader) (take c.in-Ok-fill.count l)) (sym c.deref.ensures.value)
-    c.in-Ok-fill.ensures.read) c.in-Ok-take_counted.ensures.took (g.W.Outlet.contents c.keep_and_answer.new.writer) c.splits_once.ensures.bad c.in-Ok-keep_and_answer.ensures.written
-    (c.in-Some-BadHeader.is ∙ ap (λ (f : PeerFault). Some f) c.in-Some-BadHeader.field-0-is))
-
-pub returns-in-Some-Memory-clause-kept : goal.returns-in-Some-Memory-clause-kept
-returns-in-Some-Memory-clause-kept g c = λ step kept.
-    let in_step = c.take_counted.ensures.step (c.loop.invariant.step step) in
-    kept_all c.args.link.now.table c.args.link.now.header (g.R.Inlet.remaining c.args.reader.now) (g.W.Outlet.contents c.args.writer.now) c.args.host.now.host
-    (g.R.Inlet.remaining c.loop.reader) (g.W.Outlet.contents c.loop.writer) c.loop.host.host c.loop.connection c.loop.invariant.going
-    (g.R.Inlet.remaining c.fill.new.reader) (take c.in-Ok-fill.count c.deref.result.now) c.take_counted.new.connection c.take_counted.new.host.host
-    c.in-Ok-take_counted.turned c.one_journal.ensures.more c.loop.invariant.table c.loop.invariant.header
-    (c.take_counted.ensures.table ∙ c.loop.invariant.table) (c.take_counted.ensures.header ∙ c.loop.invariant.header)
-    (subst (λ (l : List ℕ). Consumes (g.R.Inlet.remaining c.loop.reader) (g.R.Inlet.remaining c.fill.new.reader) (take c.in-Ok-fill.count l)) (sym c.deref.ensures.value)
-    c.in-Ok-fill.ensures.read) c.in-Ok-take_counted.ensures.took (g.W.Outlet.contents c.keep_and_answer.new.writer) (g.L.Log.may_leave c.keep_and_answer.new.host.log)
-    c.in-Ok-keep_and_answer.ensures.written (c.in-Ok-keep_and_answer.ensures.stay in_step)
-
-pub returns-in-Some-Memory-clause-leaves : goal.returns-in-Some-Memory-clause-leaves
-returns-in-Some-Memory-clause-leaves g c =
-    subst (λ (b : Books). Leaves c.args.link.now.table c.args.link.now.header (g.R.Inlet.remaining c.args.reader.now) (g.R.Inlet.remaining c.fill.new.reader)
-    (g.W.Outlet.contents c.args.writer.now) (g.W.Outlet.contents c.keep_and_answer.new.writer) c.args.host.now.host b (Err Memory)) (sym c.keep_and_answer.ensures.host)
-    (ends_memory c.args.link.now.table c.args.link.now.header (g.R.Inlet.remaining c.args.reader.now) (g.W.Outlet.contents c.args.writer.now) c.args.host.now.host
-    (g.R.Inlet.remaining c.loop.reader) (g.W.Outlet.contents c.loop.writer) c.loop.host.host c.loop.connection c.loop.invariant.going
-    (g.R.Inlet.remaining c.fill.new.reader) (take c.in-Ok-fill.count c.deref.result.now) c.take_counted.new.connection c.take_counted.new.host.host
-    c.in-Ok-take_counted.turned c.one_journal.ensures.more c.loop.invariant.table c.loop.invariant.header
-    (c.take_counted.ensures.table ∙ c.loop.invariant.table) (c.take_counted.ensures.header ∙ c.loop.invariant.header)
-    (subst (λ (l : List ℕ). Consumes (g.R.Inlet.remaining c.loop.reader) (g.R.Inlet.remaining c.fill.new.reader) (take c.in-Ok-fill.count l)) (sym c.deref.ensures.value)
-    c.in-Ok-fill.ensures.read) c.in-Ok-take_counted.ensures.took (g.W.Outlet.contents c.keep_and_answer.new.writer) c.in-Ok-keep_and_answer.ensures.written
-    (c.in-Some-Memory.is ∙ ap (λ (f : PeerFault). Some f) c.in-Some-Memory.field-0-is))
+    c.in-Ok-fill.ensures.read) c.in-Ok-take_counted.ensures.took (g.W.Outlet.contents c.keep_and_answer.new.writer) c.in-Some.fault c.stopped_by.result c.splits_once.ensures.bad
+    c.in-Ok-keep_and_answer.ensures.written c.in-Some.is c.stopped_by.ensures)
 
 pub loop-preserved : goal.loop-preserved
 loop-preserved g c = record {
