@@ -1,7 +1,6 @@
 -- Block after block of a stream.
-use Rattle.std.proofs.Common.{◌≡◌, ◌≢◌, ◌∙◌, ◌++◌, ◌⊎◌, inl, inr, ◌≤◌, ℕ, refl, sym, ap, subst, true, List, [], ◌∷◌, length, take, drop, append_assoc, append-nil}
+use Rattle.std.proofs.Common.{◌≡◌, ◌≢◌, ◌∙◌, ◌++◌, ◌⊎◌, inl, inr, ◌≤◌, ℕ, refl, sym, ap, subst, true, List, [], ◌∷◌, length, take, drop, append_assoc, append-nil, take-append-drop}
 use Rattle.std.proofs.KnownBytes.{Appends-trans, Appends-nil, Consumes-trans}
-use Rattle.std.proofs.Math.Seq.{take-append-drop}
 use Rattle.std.specs.Prelude.{Option, Some, None, Result, Ok, Err}
 use Rattle.std.specs.Io.KnownBytes.{Appends, Consumes, Keeps, IsAtEnd}
 use Rattle.iso_table.specs.Layout.{Layout}
@@ -21,7 +20,7 @@ use Rattle.iso_peers.specs.Connection.{Connected}
 use Rattle.iso_peers.specs.Turn.{TakesAll, StopsAt}
 use Rattle.iso_peers.specs.declared.turn.Turned.{Turned}
 use Rattle.iso_host.specs.declared.fault.Report.{Report}
-use Rattle.iso_service.specs.Serving.{AreKept, EndsAt, Hands, Leaves, Stay, StayBehind, UnlessLog, WithoutMemory}
+use Rattle.iso_service.specs.Serving.{AreKept, EndsAt, Hands, Leaves, Stay, StayBehind, UnlessLog, WithoutMemory, stop_of}
 use Rattle.iso_service.specs.declared.fault.ServiceFault.{ServiceFault}
 use Rattle.iso_service.specs.declared.fault.ServiceFault.TheVariants.{Read, Write, BadHeader, CutFrame, Memory, Log}
 use Rattle.iso_service.proofs.Pieces.{body_alone}
@@ -67,7 +66,7 @@ output_behind t h books before earlier (x ∷ xs) bytes law is = (
   is.0,
   is.1,
   subst (λ (b : Books). IsAnswer t h b x is.0) (law t books before earlier) is.2,
-  subst (λ (l : List (List ℕ)). IsOutputFrom t h books l xs is.1) (append_assoc before earlier (x ∷ [])) (output_behind t h books before (earlier ++ x ∷ []) xs is.1 law is.3),
+  subst (λ (l : List (List ℕ)). IsOutputFrom t h books l xs is.1) (sym (append_assoc before earlier (x ∷ []))) (output_behind t h books before (earlier ++ x ∷ []) xs is.1 law is.3),
   is.4,
 )
 
@@ -201,8 +200,8 @@ module _ (t : Layout) (h : Header) (unread held : Option (List ℕ)) (old : Book
         }
 
         by : (result : Result Report ServiceFault) → EndsAt c.peer.held result → Leaves t h unread next held written old now result
-        by (Ok report) ends = (going.bodies, c.peer.held, served, going.partial, ends, end)
-        by (Err CutFrame) ends = (going.bodies, c.peer.held, served, going.partial, ends, end)
+        by (Ok report) ends = (going.bodies, c.peer.held, served, going.partial, (ends, end))
+        by (Err CutFrame) ends = (going.bodies, c.peer.held, served, going.partial, (ends, end))
         by (Err Read) ends = absurd ends
         by (Err Write) ends = absurd ends
         by (Err BadHeader) ends = absurd ends
@@ -216,13 +215,13 @@ module _ (t : Layout) (h : Header) (unread held : Option (List ℕ)) (old : Book
     module _ (next : Option (List ℕ)) (block : List ℕ) (c2 : Connected) (now2 : Books) (turned : Turned) (law : BodiesGoOn)
         (table : c.peer.table ≡ t) (header : c.peer.header ≡ h) (table2 : c2.peer.table ≡ t) (header2 : c2.peer.header ≡ h)
         (read : Consumes left next block) (taken : TakesAll c c2 now now2 block turned) where
-      mid : Books
+      abbrev mid : Books
       mid = books_after_bodies t now taken.bodies
 
-      all_bodies : List (List ℕ)
+      abbrev all_bodies : List (List ℕ)
       all_bodies = going.bodies ++ taken.bodies
 
-      behind : List ℕ
+      abbrev behind : List ℕ
       behind = drop turned.used block
 
       joined : c.peer.held ++ take turned.used block ≡ frames_of h taken.bodies ++ c2.peer.held
@@ -304,6 +303,14 @@ module _ (t : Layout) (h : Header) (unread held : Option (List ℕ)) (old : Book
       pub ends_memory : (shown : Option (List ℕ)) → Appends written shown c2.waiting → turned.stopped ≡ Some peer.Memory → WithoutMemory t h unread next held shown old now2
       ends_memory shown appends is = (mid, all_bodies, c2.peer.held ++ behind, served_to shown appends, refused_memory is)
 
+      -- either way
+      pub ends_stopped : (shown : Option (List ℕ)) (fault : PeerFault) (result : ServiceFault) → BadIsNoFrame → Appends written shown c2.waiting
+          → turned.stopped ≡ Some fault → result ≡ stop_of fault → Leaves t h unread next held shown old now2 (Err result)
+      ends_stopped shown peer.BadHeader result bad_law appends is same =
+          subst (λ (f : ServiceFault). Leaves t h unread next held shown old now2 (Err f)) (sym same) (ends_bad shown bad_law appends is)
+      ends_stopped shown peer.Memory result bad_law appends is same =
+          subst (λ (f : ServiceFault). Leaves t h unread next held shown old now2 (Err f)) (sym same) (ends_memory shown appends is)
+
       -- ---- what was written is kept
 
       -- the bodies that were entered, and the output for them
@@ -363,14 +370,14 @@ module _ (t : Layout) (h : Header) (unread held : Option (List ℕ)) (old : Book
 
       -- keeping or writing failed
       pub kept_hands : (fault : ServiceFault) (shown : Option (List ℕ)) (may_leave : List Instruction → Type 0) → Hands written shown c2.waiting (Err fault)
-          → StayBehind may_leave now.orders → UnlessLog (the (Result (Unit {0}) ServiceFault) (Err fault)) (Stay may_leave now2) → AreKept t h held shown old may_leave
-      kept_hands Log shown may_leave hands behind stay = kept_failed shown may_leave hands behind
-      kept_hands Write shown may_leave hands behind stay =
+          → StayBehind may_leave now.orders → UnlessLog {T = Unit {0}} (Err fault) (Stay may_leave now2) → AreKept t h held shown old may_leave
+      kept_hands Log shown may_leave hands before stay = kept_failed shown may_leave hands before
+      kept_hands Write shown may_leave hands before stay =
           kept_after shown (take hands.0 c2.waiting) (drop hands.0 c2.waiting) may_leave (take-append-drop hands.0 c2.waiting) hands.2 stay
-      kept_hands Read shown may_leave hands behind stay = absurd hands
-      kept_hands BadHeader shown may_leave hands behind stay = absurd hands
-      kept_hands CutFrame shown may_leave hands behind stay = absurd hands
-      kept_hands Memory shown may_leave hands behind stay = absurd hands
+      kept_hands Read shown may_leave hands before stay = absurd hands
+      kept_hands BadHeader shown may_leave hands before stay = absurd hands
+      kept_hands CutFrame shown may_leave hands before stay = absurd hands
+      kept_hands Memory shown may_leave hands before stay = absurd hands
 
       pub leaves_hands : (fault : ServiceFault) (shown : Option (List ℕ)) → Hands written shown c2.waiting (Err fault)
           → Leaves t h unread next held shown old now2 (Err fault)

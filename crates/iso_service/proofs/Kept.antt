@@ -5,7 +5,10 @@ use Rattle.iso_durable.specs.Durable.{Durable, MayLeave}
 use Rattle.iso_durable.specs.Front.{LeavesFront}
 use Rattle.iso_peers.specs.Host.{durable_of, IsInStep, IsKept}
 use Rattle.iso_peers.specs.declared.durable_host.DurableHost.{DurableHost}
-use Rattle.iso_service.specs.Serving.{Stay, StayBehind}
+use Rattle.std.specs.Prelude.{Err}
+use Rattle.iso_service.specs.Serving.{Stay, StayBehind, UnlessLog}
+use Rattle.iso_service.specs.declared.fault.ServiceFault.{ServiceFault}
+use Rattle.iso_service.specs.declared.fault.ServiceFault.TheVariants.{Read, Write, BadHeader, CutFrame, Memory, Log}
 
 drop_all : (xs : List Instruction) → drop (length xs) xs ≡ []
 drop_all [] = refl
@@ -31,3 +34,12 @@ module _ {L : Type 0} (is_ready : L → Type 0) (synced pending : L → List Ins
   pub before_stays : (left : List Instruction → Type 0) (old : DurableHost L) → ((c : List Instruction) → left c → MayLeave (durable_of synced old) c)
       → StayBehind left (synced old.log)
   before_stays left old crash = λ c is. let found = crash c is in (take found.0 (durable_of synced old).pending, found.1)
+
+-- what follows, follows unless the log failed
+pub unless_log : (fault : ServiceFault) (P Q : Type 0) → (P → Q) → UnlessLog {T = Unit {0}} (Err fault) P → UnlessLog {T = Unit {0}} (Err fault) Q
+unless_log Log P Q f is = tt
+unless_log Write P Q f is = f is
+unless_log Read P Q f is = f is
+unless_log BadHeader P Q f is = f is
+unless_log CutFrame P Q f is = f is
+unless_log Memory P Q f is = f is

@@ -13,6 +13,7 @@ use Rattle.iso_host.specs.Peers.{Refuses}
 use Rattle.iso_host.specs.Serving.{Served, Whole, IsPrefix}
 use Rattle.iso_host.specs.Writing.{WritesSome}
 use Rattle.iso_host.specs.declared.fault.Report.{Report}
+use Rattle.iso_host.specs.declared.peer.PeerFault.{PeerFault}
 use Rattle.iso_host.specs.declared.peer.PeerFault.TheVariants as peer
 use Rattle.iso_service.specs.declared.fault.ServiceFault.{ServiceFault}
 use Rattle.iso_service.specs.declared.fault.ServiceFault.TheVariants.{Read, Write, BadHeader, CutFrame, Memory, Log}
@@ -87,3 +88,8 @@ EndsAt held (Err Write) = ⊥
 EndsAt held (Err BadHeader) = ⊥
 EndsAt held (Err Memory) = ⊥
 EndsAt held (Err Log) = ⊥
+
+-- how a peer that takes no more ends the serving
+abbrev pub stop_of : PeerFault → ServiceFault
+stop_of peer.BadHeader = BadHeader
+stop_of peer.Memory = Memory

@@ -1,7 +1,8 @@
 //! A stream of frames, at a host that keeps each order before it is answered.
-ghost use Rattle.std.specs.Prelude.{◌≡◌};
+ghost use Rattle.std.specs.Prelude.{◌≡◌, ◌<◌, ◌≤◌, length, take, IfOk, OnErr};
+ghost use Rattle.std.specs.Io.KnownBytes.{Consumes, IsAtEnd, Keeps};
 ghost use Rattle.iso_peers.specs.Host.{IsInStep, IsKept};
-ghost use Rattle.iso_service.specs.Serving.{Leaves, AreKept, EndsAt};
+ghost use Rattle.iso_service.specs.Serving.{Leaves, AreKept, EndsAt, stop_of};
 
 use crate::answering::{keep_and_answer, kept_outlive};
 use crate::counting::NO_FRAMES;
@@ -9,7 +10,7 @@ use crate::fault::ServiceFault;
 use crate::taking::take_counted;
 use iso_durable::Log;
 use iso_host::laws::one_journal;
-use iso_host::{Inlet, Link, Outlet, PeerFault, Report};
+use iso_host::{Failed, Inlet, Link, Outlet, PeerFault, Report};
 use iso_peers::{Connection, DurableHost};
 use iso_wire::laws::splits_once;
 use std::alloc::Global;
@@ -26,6 +27,27 @@ fn told_at_end(connection: &Connection<'_>, report: Report) -> Result<Report, Se
     } else {
         Err(ServiceFault::CutFrame)
     }
+}
+
+/// How a peer that takes no more ends the serving.
+fn stopped_by(fault: PeerFault) -> ServiceFault
+    ensures { result ≡ stop_of fault }
+{
+    match fault {
+        PeerFault::BadHeader => ServiceFault::BadHeader,
+        PeerFault::Memory => ServiceFault::Memory,
+    }
+}
+
+/// Reads the next bytes into the front of a block.
+fn fill<R: Inlet>(reader: &mut R, block: &mut Vec<u8>) -> Result<usize, Failed>
+    ensures bound { IfOk result (λ n. n ≤ length block.new.items) }
+    ensures room { length block.new.items ≡ length block.old.items }
+    ensures read { IfOk result (λ n. Consumes (R.remaining reader.old) (R.remaining reader.new) (take n block.new.items)) }
+    ensures end { IfOk result (λ n. n ≡ 0 → 0 < length block.old.items → IsAtEnd (R.remaining reader.new)) }
+    ensures failed { OnErr result (Keeps (R.remaining reader.old) (R.remaining reader.new)) }
+{
+    reader.read(block)
 }
 
 /// Reads frames to the end of the input, and writes each answer once its order is kept. What one read brings is decided, and
@@ -59,8 +81,8 @@ pub fn serve_kept<L: Log, R: Inlet, W: Outlet>(
     };
     let mut connection = Connection::new(alloc, link);
     let mut report = NO_FRAMES;
-    'blocks: for _ in 0..u64::MAX {
-        let Ok(count) = reader.read(&mut block) else {
+    for _ in 0..u64::MAX {
+        let Ok(count) = fill(reader, &mut block) else {
             return Err(ServiceFault::Read);
         };
         if count == 0 {
@@ -76,8 +98,7 @@ pub fn serve_kept<L: Log, R: Inlet, W: Outlet>(
         }
         match turned.stopped {
             None => {}
-            Some(PeerFault::BadHeader) => return Err(ServiceFault::BadHeader),
-            Some(PeerFault::Memory) => return Err(ServiceFault::Memory),
+            Some(fault) => return Err(stopped_by(fault)),
         }
     }
     Err(ServiceFault::Read)

@@ -4,8 +4,8 @@ use Rattle.iso_service.specs.Serving.{Stay}
 use Rattle.iso_service.proofs.Blocks.{Going}
 use Rattle.iso_service.proofs.serving.serve_kept.Given as goal
 
-abbrev pub invariant-blocks : goal.invariant-blocks
-invariant-blocks g l = record {
+abbrev pub invariant-loop : goal.invariant-loop
+invariant-loop g l = record {
   table : l.connection.peer.table ≡ l.link.table;
   header : l.connection.peer.header ≡ l.link.header;
   room : length l.block.items ≡ 65536;
