@@ -11,9 +11,6 @@ use iso_log::RECORD;
 use iso_record::{Heading, HeadingFault, heading_fault};
 use std::io::Read;
 
-/// The version of the issuer's rules, as a journal's heading names it.
-pub const RULES: u16 = 1;
-
 /// Which heading is wanted.
 #[derive(Clone, Copy, Debug, PartialEq, Eq)]
 pub enum Wanted {

@@ -26,7 +26,7 @@ mod telling;
 pub use balances::{AccountRow, account_rows, append_balances};
 pub use fault::BooksFault;
 pub use form::Form;
-pub use heading::{RULES, Wanted};
+pub use heading::Wanted;
 pub use replaying::{Replayed, replay};
 pub use surveying::{Condition, survey};
 pub use telling::tell;

@@ -1,5 +1,5 @@
 -- What was handed out stands: each answer is one that a run of the issuer over its log has told.
-use Rattle.std.proofs.Common.{◌≡◌, ◌∙◌, ◌++◌, ◌⊎◌, inl, inr, ℕ, Bool, true, false, refl, sym, ap, subst, List, [], ◌∷◌, length, append_assoc, append-nil}
+use Rattle.std.proofs.Common.{◌≡◌, ◌∙◌, ◌++◌, ◌⊎◌, inl, inr, ℕ, Bool, true, false, refl, sym, ap, subst, List, [], ◌∷◌, length}
 use Rattle.std.specs.Prelude.{Option, Some, None, option_map, nat_le, not, ◌&&◌, if◌then◌else◌}
 use Rattle.std.specs.List.{AllByRecursion}
 use Rattle.iso_table.specs.Layout.{Layout}
@@ -18,7 +18,7 @@ use Rattle.iso_durable.specs.Durable.{Durable, books_of, comes, come_all, syncs,
 use Rattle.iso_durable.specs.World.{World, Told, Event, happens, run, begins, waiting_after, IsAnswered, IsStart, ToldOutlive}
 use Rattle.iso_durable.specs.World as runs
 use Rattle.iso_host.specs.Asking.{asked_of, message_in, orders_in}
-use Rattle.iso_host.specs.Output.{IsAnswer, IsAnswerTo, IsFramed, outcome_for, outcome_of, response_to, response_with}
+use Rattle.iso_host.specs.Output.{IsAnswer, IsAnswerTo, IsFramed, outcome_for, outcome_of, response_with}
 use Rattle.iso_peers.specs.World.{Reply, Serving, Step, Answers, Enters, Keeps, Crashes, goes, goes_on, IsMade, AreMade, starts, disk_of, response_as, IsOfFull, IsStanding, HandedOutStands}
 
 -- ---- members of a list

@@ -6,7 +6,6 @@ use Rattle.std.proofs.Math.Seq.{drop-length, take-add}
 use Rattle.iso_table.specs.Layout.{Layout}
 use Rattle.iso_wire.specs.declared.header.Header.{Header}
 use Rattle.iso_wire.specs.Framing.{frame_of, frames_of, AllFit, largest, NoFrame, SplitsSomehow}
-use Rattle.iso_order.specs.Order.{Instruction}
 use Rattle.iso_issuer.specs.Books.{Books}
 use Rattle.iso_issuer.specs.Laws.{books_after}
 use Rattle.iso_host.specs.Asking.{asked_of, orders_in, orders_of}

@@ -1,5 +1,5 @@
 -- A host over the log of its orders.
-use Rattle.std.specs.Prelude.{◌≡◌, ◌++◌, Bool, false, ℕ, List, [], drop, length}
+use Rattle.std.specs.Prelude.{◌≡◌, ◌++◌, false, List, [], drop, length}
 use Rattle.iso_order.specs.Order.{Instruction}
 use Rattle.iso_durable.specs.Durable.{Durable}
 use Rattle.iso_peers.specs.declared.durable_host.DurableHost.{DurableHost}

@@ -10,8 +10,9 @@ use crate::stop::{Stop, write_output};
 use crate::words::{BooksJob, BooksWords};
 use iso_books::{Condition, Replayed, Wanted, account_rows, append_balances, replay, survey, tell};
 use iso_issuer::Issuer;
+use iso_log::RECORD;
 use opening::{accounts_at, journal_at};
-use sentences::{damaged, stopped, torn_line, whole_line};
+use sentences::{cut, damaged, stopped, torn_line, whole_line};
 use std::alloc::Global;
 use std::io::Write;
 
@@ -30,6 +31,31 @@ fn show<S: Source, O: Write>(
     }
 }
 
+/// Whether a file with so many orders has no room behind them: a host always leaves room for a record more.
+fn is_cut<S: Source>(source: &S, path: &str, count: usize) -> bool {
+    match source.size(path) {
+        Some(size) => size / RECORD as u64 <= (count as u64).saturating_add(1),
+        None => false,
+    }
+}
+
+/// The line of a journal with so many orders, which is whole or torn behind them.
+fn line_of<S: Source>(
+    alloc: Global,
+    words: BooksWords<'_>,
+    source: &S,
+    is_torn: bool,
+    count: usize,
+) -> Result<String, Stop> {
+    if is_cut(source, words.file, count) {
+        return Err(cut(alloc, words.file, count));
+    }
+    if is_torn {
+        return Ok(torn_line(alloc, words.file, count)?);
+    }
+    Ok(whole_line(alloc, words.file, count)?)
+}
+
 /// Tells whether a journal is whole.
 fn check_alone<S: Source, O: Write>(
     alloc: Global,
@@ -39,12 +65,12 @@ fn check_alone<S: Source, O: Write>(
 ) -> Result<(), Stop> {
     let file = journal_at(alloc, source, words.file)?;
     let line = match survey(alloc, file, &Wanted::Any) {
-        Ok(Condition::Whole(count)) => whole_line(alloc, words.file, count),
-        Ok(Condition::Torn(count)) => torn_line(alloc, words.file, count),
+        Ok(Condition::Whole(count)) => line_of(alloc, words, source, false, count)?,
+        Ok(Condition::Torn(count)) => line_of(alloc, words, source, true, count)?,
         Ok(Condition::Damaged(place)) => return Err(damaged(alloc, words.file, place)),
         Err(fault) => return Err(stopped(alloc, words, fault)),
     };
-    write_output(output, line?.as_bytes())
+    write_output(output, line.as_bytes())
 }
 
 /// What a journal holds, each answer decided again.
@@ -71,11 +97,11 @@ fn check_answers<S: Source, O: Write>(
     output: &mut O,
 ) -> Result<(), Stop> {
     let line = match replayed(alloc, words, accounts, source)? {
-        Replayed::Whole(issuer) => whole_line(alloc, words.file, issuer.len() as usize),
-        Replayed::Torn(issuer) => torn_line(alloc, words.file, issuer.len() as usize),
+        Replayed::Whole(issuer) => line_of(alloc, words, source, false, issuer.len() as usize)?,
+        Replayed::Torn(issuer) => line_of(alloc, words, source, true, issuer.len() as usize)?,
         Replayed::Damaged(place) => return Err(damaged(alloc, words.file, place)),
     };
-    write_output(output, line?.as_bytes())
+    write_output(output, line.as_bytes())
 }
 
 /// Tells what is on each account of an issuer.

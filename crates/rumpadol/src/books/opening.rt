@@ -3,9 +3,9 @@
 use crate::documents::document_at;
 use crate::source::{Source, SourceFault};
 use crate::stop::{Stop, failed, refused};
-use iso_books::RULES;
 use iso_issuer::{Accounts, AccountsFault};
 use iso_record::Heading;
+use iso_service::RULES;
 use std::alloc::Global;
 
 /// What is said of accounts that can't be read.

@@ -29,6 +29,16 @@ pub fn torn_line(alloc: Global, path: &str, count: usize) -> Result<String, Allo
     )
 }
 
+/// How the program stops where a file ends behind its last record.
+pub fn cut(alloc: Global, path: &str, count: usize) -> Stop {
+    match orders_text(alloc, count) {
+        Ok(orders) => refused(format!(in alloc;
+            "rumpadol: {path}: cut behind {orders}: a host always leaves room for a record more; take a copy of the whole file\n"
+        )),
+        Err(_) => Stop::Memory,
+    }
+}
+
 /// How the program stops where a record can't be one that a host wrote.
 pub fn damaged(alloc: Global, path: &str, place: usize) -> Stop {
     refused(format!(in alloc;

@@ -1,4 +1,4 @@
-use Rattle.std.proofs.Common.{◌≡◌, ◌∙◌, ◌++◌, ◌+◌, [], ◌∷◌, ap, drop, List}
+use Rattle.std.proofs.Common.{◌∙◌, ◌++◌, ◌+◌, [], ◌∷◌, ap, drop, List}
 use Rattle.iso_order.specs.Order.{Instruction}
 use Rattle.iso_peers.proofs.Leaving.{leaves_part, added}
 use Rattle.iso_peers.proofs.keeping.append_from.Goals as goal

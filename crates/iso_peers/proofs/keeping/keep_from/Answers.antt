@@ -1,4 +1,4 @@
-use Rattle.std.proofs.Common.{◌≡◌, ◌∙◌, ◌++◌, ap, drop, refl, List}
+use Rattle.std.proofs.Common.{◌∙◌, ◌++◌, ap, drop, refl, List}
 use Rattle.iso_order.specs.Order.{Instruction}
 use Rattle.iso_peers.proofs.Leaving.{leaves_part, leaves_behind}
 use Rattle.iso_peers.proofs.keeping.keep_from.Goals as goal

@@ -1,4 +1,4 @@
-use Rattle.std.proofs.Common.{◌≡◌, subst}
+use Rattle.std.proofs.Common.{subst}
 use Rattle.iso_issuer.specs.Books.{Books}
 use Rattle.iso_durable.specs.World.{IsStart}
 use Rattle.iso_peers.proofs.InStep.{stays_in_step, orders_come}
