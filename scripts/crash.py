@@ -159,7 +159,7 @@ class Run:
         """Repeats of some orders that were answered, and then purchases: new ones, and those that got no answer."""
         again = self.latest[-60:] + self.choose.sample(sorted(self.answers), min(20, len(self.answers)))
         open_ones = [number for number in range(max(0, self.sent - 400), self.sent) if number not in self.answers]
-        count = self.choose.choice((10, 60, 200, 800))
+        count = self.choose.choice((10, 60, 150, 300))
         fresh = list(range(self.sent, self.sent + count))
         self.sent += count
         return ([purchase(number, b"0201") for number in again] + [purchase(number, b"0201") for number in open_ones]
