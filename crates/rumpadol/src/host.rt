@@ -17,6 +17,7 @@ use iso_record::Heading;
 use iso_service::{
     FileFault, Journals, RULES, ServiceFault, StartFault, make_journal, serve_kept, start,
 };
+use iso_wire::Header;
 use std::alloc::Global;
 use std::io::{Read, Write};
 
@@ -51,14 +52,14 @@ fn no_accounts(alloc: Global, path: &str, fault: AccountsFault) -> Stop {
 /// What both ends of the stream have agreed on.
 fn link_of<S: Source, I: Read>(
     alloc: Global,
-    words: HostWords<'_>,
+    word: &str,
+    header: Header,
     source: &S,
     input: &mut I,
 ) -> Result<Link, Stop>
-    ensures table { IfOk result (λ link. IsNamed (S.file source.now) (I.remaining input.old) words.table.now link.table) }
-    ensures header { IfOk result (λ link. link.header ≡ words.header) }
+    ensures table { IfOk result (λ link. IsNamed (S.file source.now) (I.remaining input.old) word.now link.table) }
+    ensures header { IfOk result (λ link. link.header ≡ header) }
 {
-    let word = words.table;
     if word == STANDARD_INPUT {
         return Err(misused(format!(in alloc;
             "rumpadol: -: standard input has the frames; name a file for the table\n"
@@ -66,7 +67,7 @@ fn link_of<S: Source, I: Read>(
     }
     let table = table_named(alloc, source, input, word)?;
     match HostTable::new(table) {
-        Ok(table) => Ok(Link::new(table, words.header)),
+        Ok(table) => Ok(Link::new(table, header)),
         Err((fault, _table)) => Err(refused(format!(in alloc;
             "rumpadol: {word}: a host can't serve under it: {fault}; see what its rows are to be in docs/TABLES.md\n"
         ))),
@@ -121,7 +122,7 @@ pub fn perform_host<S: Source + Journals, I: Read, O: Write, F: Write>(
 ) -> Result<u8, Stop>
     ensures { IfOk result (λ status. status ≡ 0) }
 {
-    let link = link_of(alloc, words, source, input)?;
+    let link = link_of(alloc, words.table, words.header, source, input)?;
     let text = document_at(alloc, source, words.accounts, NO_ACCOUNTS)?;
     let accounts = match Accounts::from_json(alloc, &text) {
         Ok(accounts) => accounts,
