@@ -2,7 +2,6 @@
 
 ghost use Rattle.std.specs.Prelude.{◌≡◌, true, false, IfOk};
 ghost use Rattle.iso_service.specs.Refusal.{is_refusal};
-ghost use Rattle.rumpadol.specs.Named.{IsNamed};
 ghost use Rattle.rumpadol.specs.Stop.{status_of};
 
 use crate::documents::{STANDARD_INPUT, document_at};
@@ -56,10 +55,7 @@ fn link_of<S: Source, I: Read>(
     header: Header,
     source: &S,
     input: &mut I,
-) -> Result<Link, Stop>
-    ensures table { IfOk result (λ link. IsNamed (S.file source.now) (I.remaining input.old) word.now link.table) }
-    ensures header { IfOk result (λ link. link.header ≡ header) }
-{
+) -> Result<Link, Stop> {
     if word == STANDARD_INPUT {
         return Err(misused(format!(in alloc;
             "rumpadol: -: standard input has the frames; name a file for the table\n"
