@@ -155,8 +155,9 @@ fn set(bytes: &mut Vec<u8>, place: usize, byte: u8) {
 /// Makes the record at a place that at another one.
 fn copy(bytes: &mut Vec<u8>, to: usize, from: usize) {
     for i in 0..RECORD {
-        let byte = bytes.get(RECORD * from + i).copied().unwrap_or(0);
-        set(bytes, RECORD * to + i, byte);
+        let source = RECORD.saturating_mul(from).saturating_add(i);
+        let byte = bytes.get(source).copied().unwrap_or(0);
+        set(bytes, RECORD.saturating_mul(to).saturating_add(i), byte);
     }
 }
 
