@@ -19,5 +19,5 @@ for measured in '1 400' '64 60' '512 40'; do
     python3 -B bench/sqlite.py "$files/sqlite" $measured
     rm -f "$files/plain" "$files"/journal* "$files"/sqlite*
 done
-crates/iso_bench/out/iso_bench journal "$files/long" 512 1758
+crates/iso_bench/out/iso_bench journal "$files/long" 512 1758 > /dev/null
 crates/iso_bench/out/iso_bench start "$files/long"
