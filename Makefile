@@ -5,6 +5,7 @@
 # make replay  a host that is killed and started again on the frames that were kept; builds the command
 # make connections  an acquirer whose answers get lost, and peers that misbehave, at a host on a port; builds the command
 # make crash   a host over its journal that is killed 200 times under load, and what it answers afterwards; builds rumpadol
+# make starts  a host without the right to its journal, and one over a long journal on a terminal; builds rumpadol
 # make rows    the rows of both programs, and of the host on a port, at the built programs; builds them
 # make schedule  an acquirer whose answers get lost, and what both ends hold: SCHEDULE=examples/lost-answers.txt
 # make library  proves the library for C and what it stands on, and builds it: crates/iso_c/out/libiso_c.a
@@ -44,7 +45,7 @@ ifeq ($(ROUNDS),$(ALL_ROUNDS))
 LOOPBACK_PAGE := docs/SPEED.md
 endif
 
-.PHONY: run test build library day replay connections crash rows schedule check prove memory compare bench loopback
+.PHONY: run test build library day replay connections crash starts rows schedule check prove memory compare bench loopback
 
 run:
 	@if $(MAKE) --silent --no-print-directory --question $(COMMAND); then \
@@ -72,6 +73,9 @@ connections: $(COMMAND)
 
 crash: $(RUMPADOL)
 	@python3 scripts/crash.py $(RUMPADOL)
+
+starts: $(RUMPADOL)
+	@python3 scripts/starts.py $(RUMPADOL)
 
 rows: $(COMMAND) $(RUMPADOL)
 	@python3 scripts/command-rows.py $(COMMAND)

@@ -1,7 +1,7 @@
 #!/bin/sh
 # What a journal in a file takes: orders in groups with one sync each, beside a program that writes and syncs the same bytes and
-# beside SQLite; and the start over 900,000 orders, beside handling them. The files are made under FOLDER, which has to be on the device
-# that is measured; else in this folder.
+# beside SQLite; how many instructions an order takes, where there is valgrind; and the start over 900,000 orders, beside handling
+# them. The files are made under FOLDER, which has to be on the device that is measured; else in this folder.
 set -eu
 cd "$(dirname "$0")/.."
 
@@ -19,5 +19,18 @@ for measured in '1 400' '64 60' '512 40'; do
     python3 -B bench/sqlite.py "$files/sqlite" $measured
     rm -f "$files/plain" "$files"/journal* "$files"/sqlite*
 done
+
+# GROUPS: the instructions of a journal of so many groups of 512, without those of the system
+instructions() {
+    valgrind --tool=callgrind --callgrind-out-file="$files/counts" crates/iso_bench/out/iso_bench journal "$files/counted.$1" 512 "$1" \
+        > /dev/null 2>&1
+    awk '/^totals:/ { print $2 }' "$files/counts"
+}
+
+# what comes before the first order and behind the last one falls out of the difference of two runs
+if command -v valgrind > /dev/null; then
+    few=4 many=12
+    echo "order group=512 instructions=$((($(instructions $many) - $(instructions $few)) / (512 * (many - few))))"
+fi
 crates/iso_bench/out/iso_bench journal "$files/long" 512 1758 > /dev/null
 crates/iso_bench/out/iso_bench start "$files/long"

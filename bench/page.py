@@ -193,11 +193,13 @@ def journal(figures):
     entries = max((int(name.split("=")[1]) for name, _ in figures.values if name.startswith("start entries=")), default=1)
     start, handling = [figures.of(f"{kind} entries={entries}", "nanoseconds") for kind in ("start", "handling")]
     turns = figures.turns("journal group=1", "nanoseconds")
+    sync, instructions = figures.of("plain group=1", "nanoseconds"), figures.of("order group=512", "instructions")
     head = ["Orders with one sync", "Orders a second", "The plain program's", "SQLite's", "Its time, as often as the plain program's",
             "SQLite's, as often as its"]
     return "\n\n".join([
-        prose(f"Machine: {machine()}. Each figure is the middle one of {turns} turns."),
+        prose(f"Machine: {machine()}. Each figure is the middle one of {turns} turns. To write a record and sync it took {sync / 1e6:.2f} ms."),
         table(head, *[row(group) for group in GROUPS]),
+        prose(f"An order in a group of 512 takes {instructions:,.0f} instructions, at most 4,000, without those of the system."),
         prose(f"A start over {entries:,.0f} orders takes {start * entries / 1e9:.2f} s, and handling them {handling * entries / 1e9:.2f} s: "
               f"{start / handling:.2f} times, at most 2. An order takes 128 bytes in the file."),
     ])

@@ -5,7 +5,8 @@
 # dealt to some parts, which are made side by side; each part builds the program once. The last line is the judgement.
 # memory.sh calls [PARTS]: the calls of the libraries, by the program iso_memory
 # memory.sh command [PARTS]: the commands of iso_cli
-# memory.sh: both side by side, with a part for each core of this machine
+# memory.sh journal [PARTS]: a host of rumpadol over its journal, and the host that is started after it
+# memory.sh: all of them side by side, with a part for each core of this machine
 set -u
 cd "$(dirname "$0")/.." || exit 1
 top=$PWD
@@ -17,7 +18,7 @@ trap 'exit 1' HUP INT TERM
 
 if [ $# -eq 0 ]; then
     parts=$((($(nproc) + 1) / 2))
-    for what in calls command; do
+    for what in calls command journal; do
         sh "$top/scripts/memory.sh" "$what" "$parts" > "$folder/$what" 2>&1 &
         started="$started $!"
     done
@@ -26,7 +27,7 @@ if [ $# -eq 0 ]; then
         wait "$one" || failed=1
     done
     started=
-    cat "$folder/calls" "$folder/command"
+    cat "$folder/calls" "$folder/journal" "$folder/command"
     exit "$failed"
 fi
 
@@ -105,7 +106,7 @@ judge_command='
             if (refused[name] == 0 || lowest[name] != first[name]) { bad++; print "BAD " name ": it makes more allocations" }
         }
         if (runs != wanted) { bad++; print "BAD: " runs + 0 " runs were made, not " wanted }
-        print "the command: " runs + 0 " runs, " growths + 0 " growths refused, " bad + 0 " bad"
+        print what ": " runs + 0 " runs, " growths + 0 " growths refused, " bad + 0 " bad"
     }'
 
 # the program of a folder in each of its cases, which are dealt to the parts
@@ -149,8 +150,8 @@ runs_of() {
     done
 }
 
-# the command with a main that makes the allocations first, in a copy of the repository
-burning_command() {
+# a copy of the repository, in which a program gets another main
+copied() {
     mkdir -p "$folder/top/crates"
     cp "$top/crates.txt" "$top/HANDLES" "$folder/top"
     for crate in "$top"/crates/*; do
@@ -159,6 +160,11 @@ burning_command() {
             [ ! -d "$crate/$part" ] || cp -r "$crate/$part" "$folder/top/crates/${crate##*/}"
         done
     done
+}
+
+# the command with a main that makes the allocations first
+burning_command() {
+    copied
     cp "$top/scripts/memory/burning.txt" "$folder/top/crates/iso_cli/src/burning.rt"
     cp "$top/scripts/memory/serving.txt" "$folder/top/crates/iso_cli/src/serving.rt"
     sed -z -i 's/rt\.alloc(),\([[:space:]]*\)&rt,/rt.alloc(),\1\&burning::Behind { given: \&rt },/
@@ -184,12 +190,29 @@ commands() {
     burning_command
     try "$folder/top/crates/iso_cli" --data "accounts.json=$examples/accounts.json" \
         --data "terminals.json=$top/tables/terminals.json"
-    awk -v wanted="$wanted" "$judge_command" "$folder"/part*.faults
+    awk -v wanted="$wanted" -v what='the command' "$judge_command" "$folder"/part*.faults
+}
+
+# a host over a new journal and a second one, of which one is refused a growth, and one more after it: that one answers the order, and
+# has it once
+journal() {
+    runs_of 100 host /dev/null /dev/null
+    copied
+    cp "$top/scripts/memory/burning.txt" "$folder/top/crates/rumpadol/src/burning.rt"
+    cp "$top/scripts/memory/keeping.txt" "$folder/top/crates/rumpadol/src/keeping.rt"
+    sed -i '/^fn main/,/^}/c\
+fn main(rt: HostRuntime) -> ExitCode {\
+    ExitCode::from(keeping::serve_twice(\&rt))\
+}
+        s/^mod act;/mod act;\nmod burning;\nmod keeping;/' "$folder/top/crates/rumpadol/src/main.rt"
+    try "$folder/top/crates/rumpadol" --data "accounts.json=$top/examples/accounts.json"
+    awk -v wanted="$wanted" -v what='a journal' "$judge_command" "$folder"/part*.faults
 }
 
 case $1 in
     calls) calls ;;
     command) commands ;;
+    journal) journal ;;
     *) exit 1 ;;
 esac > "$folder/judged"
 cat "$folder/judged"

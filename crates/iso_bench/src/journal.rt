@@ -5,7 +5,7 @@ use crate::speed::Speed;
 use anyhow::{Result, bail, ensure};
 use iso_durable::DurableIssuer;
 use iso_issuer::{Issuer, MOST_ENTRIES};
-use iso_journal::{JournalLog, create, open};
+use iso_journal::{JournalLog, Unwatched, create, open};
 use iso_log::LogError;
 use iso_order::Order;
 use iso_record::Heading;
@@ -45,7 +45,15 @@ fn make(rt: &HostRuntime, path: &str, orders: usize) -> Result<()> {
 /// The issuer over the journal in a file.
 fn start(rt: &HostRuntime, alloc: Global, path: &str) -> Result<DurableIssuer<JournalLog<File>>> {
     let file = file_at(rt, path)?;
-    match open(file, &HEADING, accounts(alloc)?, MOST_ENTRIES, MOST_GROUP) {
+    let accounts = accounts(alloc)?;
+    match open(
+        file,
+        &HEADING,
+        accounts,
+        MOST_ENTRIES,
+        MOST_GROUP,
+        &mut Unwatched,
+    ) {
         Ok(issuer) => Ok(issuer),
         Err(_) => bail!("the journal can't be opened"),
     }

@@ -88,40 +88,6 @@ written_last accounts limit before [] r h = subst (λ (l : List Instruction). Is
 written_last accounts limit before (x ∷ xs) r h =
     subst (λ (l : List Instruction). IsWritten accounts limit l r) (append_assoc before (order_of x ∷ []) (orders_of xs)) (written_last accounts limit (before ++ order_of x ∷ []) xs r h.1)
 
--- what was read at a place
-pub read_slot : (file bytes : List ℕ) (place : ℕ) → length bytes ≡ 128 → Holds file (128 * place) bytes → slot file place ≡ bytes
-read_slot file bytes place long holds = holds_slot file bytes place long holds
-
-module _ (slots count : ℕ) (file : List ℕ) (place : ℕ) (is : IsFile slots count file) (lt : place < count) (least : 1 ≤ place) (bytes : List ℕ) (read : slot file place ≡ bytes)
-    (accounts : List Account) (limit : ℕ) (old : Books) (accounts_are : old.accounts ≡ accounts) (limit_is : old.limit ≡ limit) (orders_are : old.orders ≡ orders_of (behind place file)) where
-  next : behind (place + 1) file ≡ behind place file ++ bytes ∷ []
-  next = one_more slots count file place is lt least ∙ ap (λ (b : List ℕ). behind place file ++ b ∷ []) read
-
-  pub next_orders : (orders : List Instruction) → orders ≡ old.orders ++ order_of bytes ∷ [] → orders ≡ orders_of (behind (place + 1) file)
-  next_orders orders entered =
-      entered ∙ ap (λ (l : List Instruction). l ++ order_of bytes ∷ []) orders_are ∙ sym (orders_append (behind place file) (bytes ∷ [])) ∙ ap orders_of (sym next)
-
-  pub next_written : AreWritten accounts limit [] (behind place file) → IsWritten old.accounts old.limit old.orders bytes → AreWritten accounts limit [] (behind (place + 1) file)
-  next_written front written =
-      subst (AreWritten accounts limit []) (sym next) (written_more accounts limit [] (behind place file) bytes front (moved written))
-    where
-      moved : IsWritten old.accounts old.limit old.orders bytes → IsWritten accounts limit (orders_of (behind place file)) bytes
-      moved h =
-          subst (λ (l : List Instruction). IsWritten accounts limit l bytes) orders_are (subst (λ (n : ℕ). IsWritten accounts n old.orders bytes) limit_is
-          (subst (λ (a : List Account). IsWritten a old.limit old.orders bytes) accounts_are h))
-
-  pub damaged_at : AreWritten accounts limit [] (behind place file) → (IsWritten old.accounts old.limit old.orders bytes → ⊥) → IsDamaged accounts limit place (records_of file)
-  damaged_at front not = record {
-    there = omega (arith, lt, count_is slots count file is);
-    front = front;
-    not = λ all. not (moved (written_last accounts limit [] (behind place file) bytes (subst (AreWritten accounts limit []) next all)));
-  }
-    where
-      moved : IsWritten accounts limit (orders_of (behind place file)) bytes → IsWritten old.accounts old.limit old.orders bytes
-      moved h =
-          subst (λ (a : List Account). IsWritten a old.limit old.orders bytes) (sym accounts_are) (subst (λ (n : ℕ). IsWritten accounts n old.orders bytes) (sym limit_is)
-          (subst (λ (l : List Instruction). IsWritten accounts limit l bytes) (sym orders_are) h))
-
 -- ---- why a file is refused
 
 pub why_replay : (accounts : List Account) (limit : ℕ) (wanted file : List ℕ) (e : OpenError) → IsReplayFault accounts limit (records_of file) e → IsWhy accounts limit wanted file e

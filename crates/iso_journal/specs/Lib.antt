@@ -1,4 +1,5 @@
 pub mod Fronts
 pub mod Orders
+pub mod Pieces
 pub mod Why
 pub mod Written

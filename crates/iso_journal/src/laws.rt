@@ -8,6 +8,7 @@ ghost use Rattle.iso_journal.specs.Orders.{IsReady, synced_orders, pending_order
 use crate::error::OpenError;
 use crate::journal::JournalLog;
 use crate::opening::open;
+use crate::watching::Watch;
 use iso_durable::DurableIssuer;
 use iso_issuer::Accounts;
 use iso_record::Heading;
@@ -15,13 +16,14 @@ use sqlite_disk::Disk;
 
 /// Opens a journal. Where its disk holds what a crash of a host may leave, the host that opens it is the one that crashed:
 /// with its synced orders, and of those behind them some from the front.
-pub fn open_after_a_crash<D: Disk + Drop>(
+pub fn open_after_a_crash<D: Disk + Drop, W: Watch>(
     before: &DurableIssuer<JournalLog<D>>,
     disk: D,
     heading: &Heading,
     accounts: Accounts,
     limit: u32,
     group: usize,
+    watch: &mut W,
 ) -> Result<DurableIssuer<JournalLog<D>>, (OpenError, D)>
     requires least { 1 ≤ limit }
     requires most { limit ≤ 999999 }
@@ -35,7 +37,7 @@ pub fn open_after_a_crash<D: Disk + Drop>(
         → (n : ℕ) × (state_of (λ l. synced_orders D.seen l.log) (λ l. pending_orders D.seen l.log) host
         ≡ crashes n (state_of (λ l. synced_orders D.seen l.log) (λ l. pending_orders D.seen l.log) before.now))) }
 {
-    match open(disk, heading, accounts, limit, group) {
+    match open(disk, heading, accounts, limit, group, watch) {
         Ok(host) => Ok(host),
         Err(refused) => Err(refused),
     }

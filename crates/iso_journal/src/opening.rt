@@ -11,6 +11,7 @@ ghost use Rattle.iso_journal.specs.Why.{IsWhy, IsOther};
 use crate::error::OpenError;
 use crate::journal::JournalLog;
 use crate::replaying::replay_records;
+use crate::watching::Watch;
 use iso_durable::DurableIssuer;
 use iso_issuer::{Accounts, Issuer};
 use iso_log::{RECORD, RecordLog, recover};
@@ -54,12 +55,13 @@ fn check_heading<D: Disk>(disk: &mut D, heading: &Heading) -> Result<(), OpenErr
 }
 
 /// As `open`, over a disk that is lent.
-fn load<D: Disk>(
+fn load<D: Disk, W: Watch>(
     disk: &mut D,
     heading: &Heading,
     accounts: Accounts,
     limit: u32,
     group: usize,
+    watch: &mut W,
 ) -> Result<Loaded, OpenError>
     requires least { 1 ≤ limit }
     requires most { limit ≤ 999999 }
@@ -89,7 +91,7 @@ fn load<D: Disk>(
     if found.count == 0 {
         return Err(OpenError::Disk);
     }
-    let issuer = match replay_records(disk, found.count, accounts, limit) {
+    let issuer = match replay_records(disk, found.count, accounts, limit, watch) {
         Ok(issuer) => issuer,
         Err(error) => return Err(error),
     };
@@ -101,16 +103,18 @@ fn load<D: Disk>(
 }
 
 /// Opens the journal in a file: cuts off what a crash tore, writes the last `group` records again, syncs, and decides each
-/// order again. Let `group` be as many orders as are ever answered together. An `Err` hands the disk back.
+/// order again, while `watch` is told how far it is. Let `group` be as many orders as are ever answered together. An `Err`
+/// hands the disk back.
 ///
 /// What it says of values has two premises that no code can test: that no wrong answer of the disk was taken as true, and
 /// that after a restart a read gives what is on the disk.
-pub fn open<D: Disk + Drop>(
+pub fn open<D: Disk + Drop, W: Watch>(
     mut disk: D,
     heading: &Heading,
     accounts: Accounts,
     limit: u32,
     group: usize,
+    watch: &mut W,
 ) -> Result<DurableIssuer<JournalLog<D>>, (OpenError, D)>
     requires least { 1 ≤ limit }
     requires most { limit ≤ 999999 }
@@ -137,7 +141,7 @@ pub fn open<D: Disk + Drop>(
         → Only (D.seen disk) (D.may_leave disk)
         → (c : List ℕ) → D.may_leave e.1 c → records_of c ≡ records_of (D.seen disk)) }
 {
-    match load(&mut disk, heading, accounts, limit, group) {
+    match load(&mut disk, heading, accounts, limit, group, watch) {
         Ok(loaded) => {
             let log = RecordLog {
                 disk,

@@ -2,7 +2,7 @@
 
 use iso_durable::DurableIssuer;
 use iso_issuer::Accounts;
-use iso_journal::{JournalLog, OpenError, create, open};
+use iso_journal::{JournalLog, OpenError, Unwatched, create, open};
 use iso_log_tests::{Tear, TornDisk};
 use iso_order::{Act, Answer, Money, Order, Pan, TxKey};
 use iso_record::Heading;
@@ -82,7 +82,14 @@ pub fn open_with(
     let text = document(is_other);
     match Accounts::from_json(alloc, text) {
         Err(_) => Err(OpenError::Memory),
-        Ok(accounts) => match open(disk, &Heading::of(rules, text), accounts, 100, 4) {
+        Ok(accounts) => match open(
+            disk,
+            &Heading::of(rules, text),
+            accounts,
+            100,
+            4,
+            &mut Unwatched,
+        ) {
             Ok(keeper) => Ok(keeper),
             Err((error, _)) => Err(error),
         },

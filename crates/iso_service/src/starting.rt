@@ -9,7 +9,7 @@ use crate::fault::StartFault;
 use crate::front::front_fault;
 use iso_durable::DurableIssuer;
 use iso_issuer::{Accounts, MOST_ENTRIES};
-use iso_journal::{JournalLog, OpenError, open};
+use iso_journal::{JournalLog, OpenError, Watch, open};
 use iso_record::Heading;
 use sqlite_disk::Disk;
 use std::alloc::Global;
@@ -56,14 +56,15 @@ fn check_front<J: Journals>(
     Ok(())
 }
 
-/// Opens the journal at a path, under this heading and of these accounts, and starts a host over it. Its first bytes are
-/// looked at before anything is opened to be written.
-pub fn start<J: Journals>(
+/// Opens the journal at a path, under this heading and of these accounts, and starts a host over it, while `watch` is told how
+/// far it is. Its first bytes are looked at before anything is opened to be written.
+pub fn start<J: Journals, W: Watch>(
     alloc: Global,
     journals: &J,
     path: &str,
     heading: &Heading,
     accounts: Accounts,
+    watch: &mut W,
 ) -> Result<DurableIssuer<JournalLog<J::Disk>>, StartFault>
     ensures accounts { IfOk result (λ host. host.issuer.accounts ≡ accounts) }
     ensures limit { IfOk result (λ host. host.issuer.limit ≡ 999999) }
@@ -77,7 +78,7 @@ pub fn start<J: Journals>(
         Ok(disk) => disk,
         Err(fault) => return Err(StartFault::File(fault)),
     };
-    match open(disk, heading, accounts, MOST_ENTRIES, LARGEST_GROUP) {
+    match open(disk, heading, accounts, MOST_ENTRIES, LARGEST_GROUP, watch) {
         Ok(host) if host.log.room() == 0 => Err(StartFault::Cut),
         Ok(host) => Ok(host),
         Err((error, disk)) => Err(not_opened(error, &disk)),

@@ -65,7 +65,7 @@ fn perform<S: Source + Journals, I: Read, O: Write, F: Write>(
             alloc, *job, source, terminals, input, output, faults,
         ),
         Job::Tables(job) => perform_table(alloc, job, source, input, output),
-        Job::Host(words) => perform_host(alloc, *words, source, input, output, faults),
+        Job::Host(words) => perform_host(alloc, *words, source, terminals, input, output, faults),
         Job::Books(job) => perform_books(alloc, *job, source, output),
     }
 }

@@ -2,12 +2,15 @@
 
 ghost use Rattle.std.specs.Prelude.{◌≡◌, true, false, IfOk};
 ghost use Rattle.iso_service.specs.Refusal.{is_refusal};
+ghost use Rattle.rumpadol.specs.Named.{IsNamed};
 ghost use Rattle.rumpadol.specs.Stop.{status_of};
 
 use crate::documents::{STANDARD_INPUT, document_at};
 use crate::named::table_named;
+use crate::progress::Progress;
 use crate::source::Source;
 use crate::stop::{Stop, failed, misused, refused, write_output};
+use crate::terminal::Terminals;
 use crate::words::HostWords;
 use iso_host::{HostTable, Link, Report, Std};
 use iso_issuer::{Accounts, AccountsFault};
@@ -16,6 +19,7 @@ use iso_record::Heading;
 use iso_service::{
     FileFault, Journals, RULES, ServiceFault, StartFault, make_journal, serve_kept, start,
 };
+use iso_table::Table;
 use iso_wire::Header;
 use std::alloc::Global;
 use std::io::{Read, Write};
@@ -48,6 +52,19 @@ fn no_accounts(alloc: Global, path: &str, fault: AccountsFault) -> Stop {
     }
 }
 
+/// What both ends of the stream have agreed on, under the table that a word names.
+fn link_under(alloc: Global, word: &str, table: Table, header: Header) -> Result<Link, Stop>
+    ensures table { IfOk result (λ link. link.table ≡ table) }
+    ensures header { IfOk result (λ link. link.header ≡ header) }
+{
+    match HostTable::new(table) {
+        Ok(table) => Ok(Link::new(table, header)),
+        Err((fault, _table)) => Err(refused(format!(in alloc;
+            "rumpadol: {word}: a host can't serve under it: {fault}; see what its rows are to be in docs/TABLES.md\n"
+        ))),
+    }
+}
+
 /// What both ends of the stream have agreed on.
 fn link_of<S: Source, I: Read>(
     alloc: Global,
@@ -55,19 +72,17 @@ fn link_of<S: Source, I: Read>(
     header: Header,
     source: &S,
     input: &mut I,
-) -> Result<Link, Stop> {
+) -> Result<Link, Stop>
+    ensures table { IfOk result (λ link. IsNamed (S.file source.now) (I.remaining input.old) word.now link.table) }
+    ensures header { IfOk result (λ link. link.header ≡ header) }
+{
     if word == STANDARD_INPUT {
         return Err(misused(format!(in alloc;
             "rumpadol: -: standard input has the frames; name a file for the table\n"
         )));
     }
     let table = table_named(alloc, source, input, word)?;
-    match HostTable::new(table) {
-        Ok(table) => Ok(Link::new(table, header)),
-        Err((fault, _table)) => Err(refused(format!(in alloc;
-            "rumpadol: {word}: a host can't serve under it: {fault}; see what its rows are to be in docs/TABLES.md\n"
-        ))),
-    }
+    link_under(alloc, word, table, header)
 }
 
 /// How the program stops where serving did.
@@ -112,6 +127,7 @@ pub fn perform_host<S: Source + Journals, I: Read, O: Write, F: Write>(
     alloc: Global,
     words: HostWords<'_>,
     source: &S,
+    terminals: Terminals,
     input: &mut I,
     output: &mut O,
     faults: &mut F,
@@ -130,7 +146,17 @@ pub fn perform_host<S: Source + Journals, I: Read, O: Write, F: Write>(
     {
         return Err(not_started(alloc, words.journal, fault));
     }
-    let started = match start(alloc, source, words.journal, &heading, accounts) {
+    let mut progress = Progress::new(faults, terminals.faults);
+    let started = start(
+        alloc,
+        source,
+        words.journal,
+        &heading,
+        accounts,
+        &mut progress,
+    );
+    progress.clear();
+    let started = match started {
         Ok(started) => started,
         Err(fault) => return Err(not_started(alloc, words.journal, fault)),
     };

@@ -17,6 +17,7 @@ mod host;
 mod journals;
 mod messages;
 mod named;
+mod progress;
 mod source;
 mod stop;
 mod table;

@@ -1,49 +1,56 @@
-use Rattle.std.proofs.Common.{◌≡◌, ◌∙◌, ◌≤◌, ◌<◌, ◌*◌, ◌+◌, [], ℕ, List, length, sym, refl, ap, subst, arith}
-use Rattle.sqlite_disk.specs.Disk.{Holds}
-use Rattle.iso_log.specs.Slots.{records_of}
+use Rattle.std.proofs.Common.{◌≡◌, ◌∙◌, ◌≤◌, ◌<◌, ◌*◌, ◌+◌, ◌++◌, [], ℕ, List, length, sym, refl, ap, subst, arith}
+use Rattle.iso_log.specs.Slots.{slot, records_of}
 use Rattle.iso_journal.specs.Orders.{orders_of}
-use Rattle.iso_journal.specs.Written.{AreWritten}
-use Rattle.iso_journal.proofs.Replayed.{behind, read_slot, all_behind, next_orders, next_written, damaged_at}
+use Rattle.iso_journal.specs.Pieces.{slots_from}
+use Rattle.iso_journal.specs.Written.{AreWritten, IsWritten}
+use Rattle.iso_journal.proofs.Pieces.{some_entered, some_written, some_damaged}
+use Rattle.iso_journal.proofs.Replayed.{behind, all_behind}
 use Rattle.iso_journal.proofs.replaying.replay_records.Goals as goal
 
-pub returns-then-not-branch-clause-fault : goal.returns-then-not-branch-clause-fault
-returns-then-not-branch-clause-fault g c = λ clean slots is.
+pub returns-then-replayed-some-clause-fault : goal.returns-then-replayed-some-clause-fault
+returns-then-replayed-some-clause-fault g c = λ clean slots is.
     let l = c.loop-place in
-    let e = c.in-Ok.ensures in
-    let file = g.D.Disk.seen c.args.disk.now in
-    let bytes = c.read_at.new.buf in
-    let held = subst (λ (f : List ℕ). Holds f (128 * l.place) bytes) l.invariant.seen (e.read clean (omega arith)) in
+    let e = c.in_ok-replayed.ensures in
+    let n = c.in_ok-replayed.replayed in
+    let room = c.piece_len-some.ensures.within in
+    let lt = c.if-replayed-some.true in
     let before = e.clean clean in
-    damaged_at slots c.args.count file l.place is c.loop-place-test.true l.invariant.least bytes (read_slot file bytes l.place c.read_at.auto.buf held)
-    c.args.accounts c.args.limit l.issuer l.invariant.accounts l.invariant.limit (l.invariant.orders before slots is) (l.invariant.written before slots is)
-    (c.in_ok-replay_record.ensures.not c.if-not-branch.true)
+    some_damaged slots c.args.count (g.D.Disk.seen c.args.disk.now) l.place n is (omega (arith, room, lt)) l.invariant.least
+    c.args.accounts c.args.limit l.issuer l.invariant.accounts l.invariant.limit (l.invariant.orders before slots is) (omega (arith, room, lt)) (l.invariant.written before slots is)
+    (subst (λ (f : List ℕ). AreWritten l.issuer.accounts l.issuer.limit l.issuer.orders (slots_from n l.place f)) l.invariant.seen (e.written clean))
+    (subst (λ (f : List ℕ). IsWritten l.issuer.accounts l.issuer.limit (l.issuer.orders ++ orders_of (slots_from n l.place f)) (slot f (l.place + n)) → ⊥) l.invariant.seen (e.not lt clean))
 
 pub loop-place-preserved : goal.loop-place-preserved
 loop-place-preserved g c =
     let l = c.loop-place in
-    let e = c.in-Ok.ensures in
+    let e = c.in_ok-replayed.ensures in
+    let n = c.in_ok-replayed.replayed in
+    let some = c.piece_len-some.result in
+    let room = c.piece_len-some.ensures.within in
+    let all : n ≡ some = omega (arith, e.within, c.if-replayed-some.false) in
     let file = g.D.Disk.seen c.args.disk.now in
-    let bytes = c.read_at.new.buf in
-    let r = c.in_ok-replay_record.ensures in
-    let good = c.if-not-branch.false in
+    let orders = c.replay_some.new.issuer.orders in
     record {
       usable = e.usable;
       clean = λ clean. l.invariant.clean (e.clean clean);
       seen = e.seen ∙ l.invariant.seen;
       crash = λ kept here. l.invariant.crash kept (e.crash kept here);
-      accounts = r.accounts good ∙ l.invariant.accounts;
-      limit = r.limit good ∙ l.invariant.limit;
+      accounts = e.accounts all ∙ l.invariant.accounts;
+      limit = e.limit all ∙ l.invariant.limit;
       orders = λ clean slots is.
-          let held = subst (λ (f : List ℕ). Holds f (128 * l.place) bytes) l.invariant.seen (e.read clean (omega arith)) in
           let before = e.clean clean in
-          next_orders slots c.args.count file l.place is c.loop-place-test.true l.invariant.least bytes (read_slot file bytes l.place c.read_at.auto.buf held)
-          c.args.accounts c.args.limit l.issuer l.invariant.accounts l.invariant.limit (l.invariant.orders before slots is) c.replay_record.new.issuer.orders (r.entered good);
+          subst (λ m. orders ≡ orders_of (behind (l.place + m) file)) all
+          (some_entered slots c.args.count file l.place n is (omega (arith, room, all)) l.invariant.least c.args.accounts c.args.limit l.issuer l.invariant.accounts l.invariant.limit
+          (l.invariant.orders before slots is) orders
+          (subst (λ (f : List ℕ). orders ≡ l.issuer.orders ++ orders_of (slots_from n l.place f)) l.invariant.seen (e.entered all clean)));
       written = λ clean slots is.
-          let held = subst (λ (f : List ℕ). Holds f (128 * l.place) bytes) l.invariant.seen (e.read clean (omega arith)) in
           let before = e.clean clean in
-          next_written slots c.args.count file l.place is c.loop-place-test.true l.invariant.least bytes (read_slot file bytes l.place c.read_at.auto.buf held)
-          c.args.accounts c.args.limit l.issuer l.invariant.accounts l.invariant.limit (l.invariant.orders before slots is) (l.invariant.written before slots is) (r.written good);
+          subst (λ m. AreWritten c.args.accounts c.args.limit [] (behind (l.place + m) file)) all
+          (some_written slots c.args.count file l.place n is (omega (arith, room, all)) l.invariant.least c.args.accounts c.args.limit l.issuer l.invariant.accounts l.invariant.limit
+          (l.invariant.orders before slots is) (l.invariant.written before slots is)
+          (subst (λ (f : List ℕ). AreWritten l.issuer.accounts l.issuer.limit l.issuer.orders (slots_from n l.place f)) l.invariant.seen (e.written clean)));
       least = omega (arith, l.invariant.least);
+      most = omega (arith, room);
     }
 
 pub returns-clause-orders : goal.returns-clause-orders

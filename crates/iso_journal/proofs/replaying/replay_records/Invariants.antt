@@ -1,4 +1,4 @@
-use Rattle.std.proofs.Common.{◌≡◌, ◌≤◌, ℕ, List, []}
+use Rattle.std.proofs.Common.{◌≡◌, ◌≤◌, ◌-◌, ℕ, List, []}
 use Rattle.std.specs.Prelude.{IsTrue}
 use Rattle.iso_log.specs.Log.{IsFile}
 use Rattle.iso_journal.specs.Orders.{orders_of}
@@ -17,4 +17,8 @@ invariant-loop-place g l = record {
   orders : IsTrue (g.D.Disk.is_clean l.disk) → (slots : ℕ) → IsFile slots l.count (g.D.Disk.seen l.fn.disk) → l.issuer.orders ≡ orders_of (behind l.place (g.D.Disk.seen l.fn.disk));
   written : IsTrue (g.D.Disk.is_clean l.disk) → (slots : ℕ) → IsFile slots l.count (g.D.Disk.seen l.fn.disk) → AreWritten l.fn.accounts l.fn.limit [] (behind l.place (g.D.Disk.seen l.fn.disk));
   least : 1 ≤ l.place;
+  most : l.place ≤ l.count;
 }
+
+abbrev pub decreases-loop-place : goal.decreases-loop-place
+decreases-loop-place g l = l.count - l.place
