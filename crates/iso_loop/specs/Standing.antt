@@ -1,6 +1,6 @@
 -- How a peer stands at a moment, in milliseconds of a clock that never goes back, and what is done with it then.
 use Rattle.std.specs.Prelude.{ℕ, ◌-◌, ◌*◌, ◌==◌, nat_le, nat_lt, Bool, true, false, if◌then◌else◌, Option, Some, None, is_some}
-use Rattle.iso_loop.specs.declared.limits.Limits.{Limits}
+use Rattle.iso_links.specs.declared.limits.Limits.{Limits}
 use Rattle.iso_loop.specs.declared.standing.Closing.{Closing}
 use Rattle.iso_loop.specs.declared.standing.Closing.TheVariants.{DoesNotRead, UnfinishedFrame, Idle}
 use Rattle.iso_loop.specs.declared.standing.Doing.{Doing}

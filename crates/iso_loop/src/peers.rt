@@ -1,12 +1,16 @@
 //! All peers of a host, and what a turn does with them.
+ghost use Rattle.std.specs.Prelude.{◌≡◌};
+ghost use Rattle.iso_peers.specs.Host.{IsInStep};
 
-use crate::event::{Event, Lines};
-use crate::limits::Limits;
-use crate::peer::{Peer, Told};
+use crate::event::{Event, Lines, Refusal};
+use crate::guard::Rooms;
+use crate::letting::refusal_of;
+use crate::line::Line;
+use crate::notes::Told;
+use crate::peer::Peer;
 use crate::standing::{Closing, Doing};
 use iso_durable::Log;
-use iso_host::Link;
-use iso_peers::{Connection, DurableHost};
+use iso_peers::DurableHost;
 use slab::Slab;
 use std::alloc::{AllocError, Global};
 use std::io::{Read, Write};
@@ -20,6 +24,9 @@ pub const MOST_ORDERS: usize = 65_536;
 
 /// How many pieces of a peer are read in one turn.
 const READS: usize = 64;
+
+/// So often, in milliseconds, all peers are looked at for those that are late.
+pub const PAUSE: u64 = 200;
 
 /// A moment: microseconds of a clock that never goes back, and milliseconds since 1970.
 #[derive(Clone, Copy, Debug)]
@@ -37,19 +44,45 @@ impl Moment {
     }
 }
 
-/// The peers by their keys.
+/// What the peers of a line are at, all together.
+#[derive(Clone, Copy, Debug, PartialEq, Eq)]
+struct Tally {
+    /// How many are connected.
+    peers: usize,
+    /// How many bytes came in this turn.
+    came: u64,
+    /// How many bytes were written in this turn.
+    went: u64,
+}
+
+/// A line without peers.
+const NO_PEERS: Tally = Tally {
+    peers: 0,
+    came: 0,
+    went: 0,
+};
+
+/// The peers of all lines, by their keys.
 #[derive(Drop)]
 pub struct Peers<'l, S> {
     alloc: Global,
-    link: &'l Link,
-    limits: Limits,
+    lines: &'l [Line<'l>],
     all: Slab<Peer<'l, S>>,
+    /// Of each line.
+    tallies: Vec<Tally>,
+    /// The keys of those that this turn looks at.
+    listed: Vec<usize>,
+    /// The keys of those that the next turn looks at.
+    next: Vec<usize>,
+    /// The place in the list of the first that wasn't read in this turn.
+    left_out: usize,
     block: Vec<u8>,
+    rooms: Rooms,
     told: Vec<Told>,
-    /// The peer that is read first in the next turn.
-    first: usize,
     /// How many peers were let in.
     count: u64,
+    /// When all peers were looked at, in milliseconds.
+    looked: u64,
 }
 
 /// Whether as many orders wait as are kept with one sync, or one more piece may bring more.
@@ -61,78 +94,130 @@ fn is_full<L: Log>(host: &DurableHost<L>) -> bool {
 fn read_share<L: Log, S: Read + Write + Drop>(
     peer: &mut Peer<'_, S>,
     host: &mut DurableHost<L>,
-    limits: &Limits,
-    block: &mut [u8],
-    told: &mut Vec<Told>,
     now: u64,
-) {
-    let mut left = limits.share;
+    block: &mut [u8],
+    rooms: &mut Rooms,
+    told: &mut Vec<Told>,
+)
+    // The log isn't called, and stays in step with the journal.
+    ensures log { host.new.log ≡ host.old.log }
+    ensures step { IsInStep L.is_ready L.synced L.pending host.old
+        → IsInStep L.is_ready L.synced L.pending host.new }
+{
+    let mut left = peer.line.terms.limits.share;
     for _ in 0..READS {
         if left == 0 || !peer.may_have_come || is_full(host) {
             return;
         }
-        if peer.standing.doing(limits, now) != Doing::Reads {
+        if peer.doing(now) != Doing::Reads {
             return;
         }
-        let most = left.min(block.len());
-        let Some(piece) = block.get_mut(..most) else {
-            return;
-        };
-        left = left.saturating_sub(peer.read(host, piece, now, told));
+        left = left.saturating_sub(peer.read(host, left, now, block, rooms, told));
     }
 }
 
 impl<'l, S: Read + Write + Drop> Peers<'l, S> {
-    /// None yet.
-    pub fn new(alloc: Global, link: &'l Link, limits: Limits) -> Result<Peers<'l, S>, AllocError> {
+    /// None yet, of these lines.
+    pub fn new(alloc: Global, lines: &'l [Line<'l>]) -> Result<Peers<'l, S>, AllocError> {
         let mut block = Vec::new(alloc);
         block.resize(BLOCK, 0)?;
+        let mut tallies = Vec::new(alloc);
+        tallies.resize(lines.len(), NO_PEERS)?;
         Ok(Peers {
             alloc,
-            link,
-            limits,
+            lines,
             all: Slab::new(alloc),
+            tallies,
+            listed: Vec::new(alloc),
+            next: Vec::new(alloc),
+            left_out: 0,
             block,
+            rooms: Rooms::new(alloc),
             told: Vec::new(alloc),
-            first: 0,
             count: 0,
+            looked: 0,
         })
     }
 
-    /// Lets a peer in, and gives its key, or refuses it.
-    pub fn let_in<N: Lines>(
-        &mut self,
-        stream: S,
-        address: SocketAddr,
-        now: Moment,
-        lines: &mut N,
-    ) -> Option<usize> {
-        if !self.limits.lets_in(self.all.len()) {
-            lines.tell(now.since_1970, &Event::Refused(address));
+    /// How many peers are connected.
+    pub fn len(&self) -> usize {
+        self.all.len()
+    }
+
+    /// Whether none is.
+    pub fn is_empty(&self) -> bool {
+        self.all.is_empty()
+    }
+
+    /// How many peers of a line are connected.
+    fn peers_of(&self, link: usize) -> usize {
+        match self.tallies.get(link) {
+            Some(tally) => tally.peers,
+            None => 0,
+        }
+    }
+
+    /// Adds a peer, where there is memory for it and for its place in the lists.
+    fn add(&mut self, stream: S, line: Line<'l>, link: usize, now: u64) -> Option<usize> {
+        let room = self.all.len().saturating_add(1);
+        if self
+            .listed
+            .reserve(room.saturating_sub(self.listed.len()))
+            .is_err()
+            || self
+                .next
+                .reserve(room.saturating_sub(self.next.len()))
+                .is_err()
+        {
             return None;
         }
         let number = self.count.saturating_add(1);
-        let connection = Connection::new(self.alloc, self.link);
-        match self
-            .all
-            .insert(Peer::new(stream, connection, number, now.millis()))
-        {
+        let peer = Peer::new(self.alloc, stream, line, link, number, now);
+        match self.all.insert(peer) {
             Ok(key) => {
                 self.count = number;
-                lines.tell(
-                    now.since_1970,
-                    &Event::Connected {
-                        peer: number,
-                        address,
-                    },
-                );
+                if let Some(tally) = self.tallies.get_mut(link) {
+                    tally.peers = tally.peers.saturating_add(1);
+                }
                 Some(key)
             }
-            Err(_) => {
-                lines.tell(now.since_1970, &Event::Refused(address));
-                None
-            }
+            Err(_) => None,
         }
+    }
+
+    /// Lets a peer of a line in, and gives its key, or refuses it.
+    pub fn let_in<N: Lines>(
+        &mut self,
+        link: usize,
+        stream: S,
+        address: SocketAddr,
+        now: Moment,
+        log: &mut N,
+    ) -> Option<usize> {
+        let line = *self.lines.get(link)?;
+        if let Some(why) = refusal_of(line.terms, self.peers_of(link), address.ip()) {
+            log.tell(now.since_1970, &Event::Refused { link, address, why });
+            return None;
+        }
+        let added = self.add(stream, line, link, now.millis());
+        let peer = self.count;
+        let event = match added {
+            Some(_) => Event::Connected {
+                link,
+                peer,
+                address,
+            },
+            None => Event::Refused {
+                link,
+                address,
+                why: Refusal::Memory,
+            },
+        };
+        log.tell(now.since_1970, &event);
+        if let Some(key) = added {
+            self.notice(key);
+        }
+        added
     }
 
     /// The stream of a peer.
@@ -148,116 +233,182 @@ impl<'l, S: Read + Write + Drop> Peers<'l, S> {
         if let Some(peer) = self.all.get_mut(key) {
             peer.may_have_come = true;
             peer.may_take = true;
+            if !peer.is_listed {
+                peer.is_listed = self.listed.push(key).is_ok();
+            }
         }
     }
 
-    /// Reads some peers, and tells whether each had its share.
-    fn read_from<L: Log>(
-        &mut self,
-        host: &mut DurableHost<L>,
-        from: usize,
-        to: usize,
-        now: u64,
-    ) -> bool {
-        for key in from..to {
-            if is_full(host) {
-                self.first = key;
-                return false;
-            }
-            if let Some(peer) = self.all.get_mut(key) {
-                read_share(
-                    peer,
-                    host,
-                    &self.limits,
-                    &mut self.block,
-                    &mut self.told,
-                    now,
-                );
+    /// Reads and decides what came of one peer, up to its share.
+    fn read_one<L: Log>(&mut self, host: &mut DurableHost<L>, key: usize, now: u64)
+        // The log isn't called, and stays in step with the journal.
+        ensures log { host.new.log ≡ host.old.log }
+        ensures step { IsInStep L.is_ready L.synced L.pending host.old
+            → IsInStep L.is_ready L.synced L.pending host.new }
+    {
+        if let Some(peer) = self.all.get_mut(key) {
+            let before = peer.notes.counts.came;
+            read_share(
+                peer,
+                host,
+                now,
+                &mut self.block,
+                &mut self.rooms,
+                &mut self.told,
+            );
+            let came = peer.notes.counts.came.saturating_sub(before);
+            if let Some(tally) = self.tallies.get_mut(peer.notes.link) {
+                tally.came = tally.came.saturating_add(came);
             }
         }
-        true
     }
 
     /// Reads and decides what came, of each peer up to its share. Where more orders wait than are kept with one sync, the
     /// next turn begins with the peers that were left out.
-    pub fn read_all<L: Log>(&mut self, host: &mut DurableHost<L>, now: Moment) {
-        let (first, end) = (self.first, self.all.capacity());
-        if self.read_from(host, first, end, now.millis()) {
-            let _ = self.read_from(host, 0, first.min(end), now.millis());
+    pub fn read_all<L: Log>(&mut self, host: &mut DurableHost<L>, now: Moment)
+        // The log isn't called, and stays in step with the journal.
+        ensures log { host.new.log ≡ host.old.log }
+        ensures step { IsInStep L.is_ready L.synced L.pending host.old
+            → IsInStep L.is_ready L.synced L.pending host.new }
+    {
+        let count = self.listed.len();
+        self.left_out = count;
+        for place in 0..count {
+            if is_full(host) {
+                self.left_out = place;
+                return;
+            }
+            if let Some(key) = self.listed.get(place).copied() {
+                self.read_one(host, key, now.millis());
+            }
+        }
+    }
+
+    /// Writes to a peer what waits for it and may be handed out.
+    fn write_one<L: Log>(&mut self, host: &DurableHost<L>, key: usize, now: u64) {
+        if let Some(peer) = self.all.get_mut(key)
+            && peer.waiting() > 0
+        {
+            let before = peer.notes.counts.went;
+            peer.write(host, now);
+            let went = peer.notes.counts.went.saturating_sub(before);
+            if let Some(tally) = self.tallies.get_mut(peer.notes.link) {
+                tally.went = tally.went.saturating_add(went);
+            }
         }
     }
 
     /// Writes to each peer what waits for it and may be handed out.
     pub fn write_all<L: Log>(&mut self, host: &DurableHost<L>, now: Moment) {
-        for key in 0..self.all.capacity() {
-            if let Some(peer) = self.all.get_mut(key)
-                && peer.connection.waiting() > 0
-            {
-                peer.write(host, &self.limits, now.millis());
+        for place in 0..self.listed.len() {
+            if let Some(key) = self.listed.get(place).copied() {
+                self.write_one(host, key, now.millis());
             }
         }
     }
 
     /// Tells what came of the frames of this turn, which began at a moment.
-    pub fn tell_frames<N: Lines>(&mut self, began: Moment, ended: Moment, lines: &mut N) {
+    pub fn tell_frames<N: Lines>(&mut self, began: Moment, ended: Moment, log: &mut N) {
         let micros = ended.micros.saturating_sub(began.micros);
         for told in &self.told {
-            lines.tell(
-                ended.since_1970,
-                &Event::of_frame(told.peer, &told.handled, micros),
-            );
+            log.tell(ended.since_1970, &Event::of_frame(told, micros));
         }
         self.told.clear();
+        self.tell_moved(ended, log);
+    }
+
+    /// Tells how many bytes came and went, of each line.
+    fn tell_moved<N: Lines>(&mut self, ended: Moment, log: &mut N) {
+        for (link, tally) in self.tallies.iter_mut().enumerate() {
+            let (came, went) = (tally.came, tally.went);
+            if came > 0 || went > 0 {
+                log.tell(ended.since_1970, &Event::Moved { link, came, went });
+                tally.came = 0;
+                tally.went = 0;
+            }
+        }
     }
 
     /// Closes a peer, and tells why.
-    pub fn close<N: Lines>(&mut self, key: usize, why: Closing, now: Moment, lines: &mut N) {
+    pub fn close<N: Lines>(&mut self, key: usize, why: Closing, now: Moment, log: &mut N) {
         if let Some(peer) = self.all.try_remove(key) {
-            lines.tell(
+            if let Some(tally) = self.tallies.get_mut(peer.notes.link) {
+                tally.peers = tally.peers.saturating_sub(1);
+            }
+            log.tell(
                 now.since_1970,
                 &Event::Closed {
-                    peer: peer.number,
+                    link: peer.notes.link,
+                    peer: peer.notes.peer,
                     why,
-                    counts: peer.counts,
+                    counts: peer.notes.counts,
                 },
             );
         }
     }
 
-    /// Closes each peer that is to be closed.
-    pub fn close_due<N: Lines>(&mut self, now: Moment, lines: &mut N) {
-        for key in 0..self.all.capacity() {
-            let closing = match self.all.get(key) {
-                Some(peer) => peer.standing.closing(&self.limits, now.millis()),
-                None => None,
-            };
-            if let Some(why) = closing {
-                self.close(key, why, now, lines);
+    /// Closes a peer, if it is to be closed.
+    fn close_one<N: Lines>(&mut self, key: usize, now: Moment, log: &mut N) {
+        let closing = match self.all.get(key) {
+            Some(peer) => peer.closing(now.millis()),
+            None => None,
+        };
+        if let Some(why) = closing {
+            self.close(key, why, now, log);
+        }
+    }
+
+    /// Lists a peer for the next turn, where that turn reads it or writes to it without a further event.
+    fn list_again(&mut self, key: usize, now: u64, is_left_out: bool) {
+        if let Some(peer) = self.all.get_mut(key) {
+            peer.is_listed = is_left_out || peer.goes_on(now);
+            if peer.is_listed {
+                let _ = self.next.push(key);
+            } else {
+                peer.rest();
             }
+        }
+    }
+
+    /// Looks at one of the list: it is closed, listed again, or left until something comes.
+    fn settle_one<N: Lines>(&mut self, place: usize, now: Moment, log: &mut N) {
+        if let Some(key) = self.listed.get(place).copied() {
+            self.close_one(key, now, log);
+            self.list_again(key, now.millis(), place >= self.left_out);
+        }
+    }
+
+    /// Ends a turn: closes the peers that are to be closed, and lists those that the next turn looks at, first of all those
+    /// that were left out. Tells whether there are any.
+    pub fn settle<N: Lines>(&mut self, now: Moment, log: &mut N) -> bool {
+        self.close_late(now, log);
+        let count = self.listed.len();
+        for place in self.left_out..count {
+            self.settle_one(place, now, log);
+        }
+        for place in 0..self.left_out.min(count) {
+            self.settle_one(place, now, log);
+        }
+        self.listed.clear();
+        std::mem::swap(&mut self.listed, &mut self.next);
+        !self.listed.is_empty()
+    }
+
+    /// Closes all peers that are late, a few times a second.
+    fn close_late<N: Lines>(&mut self, now: Moment, log: &mut N) {
+        if now.millis().saturating_sub(self.looked) < PAUSE {
+            return;
+        }
+        self.looked = now.millis();
+        for key in 0..self.all.capacity() {
+            self.close_one(key, now, log);
         }
     }
 
     /// Closes all peers: the host stops.
-    pub fn close_all<N: Lines>(&mut self, now: Moment, lines: &mut N) {
+    pub fn close_all<N: Lines>(&mut self, now: Moment, log: &mut N) {
         for key in 0..self.all.capacity() {
-            self.close(key, Closing::Stopped, now, lines);
+            self.close(key, Closing::Stopped, now, log);
         }
-    }
-
-    /// Whether a peer can be read from or written to without a further event.
-    pub fn goes_on(&self, now: Moment) -> bool {
-        for key in 0..self.all.capacity() {
-            if let Some(peer) = self.all.get(key) {
-                if peer.may_have_come
-                    && peer.standing.doing(&self.limits, now.millis()) == Doing::Reads
-                {
-                    return true;
-                }
-                if peer.may_take && peer.connection.waiting() > 0 {
-                    return true;
-                }
-            }
-        }
-        false
     }
 }

@@ -1,23 +1,21 @@
 //! The loop of a host with many peers.
 ghost use Rattle.std.specs.Prelude.{OnOk};
-ghost use Rattle.iso_peers.specs.Host.{IsKept};
+ghost use Rattle.iso_peers.specs.Host.{IsInStep, IsKept};
 
-use crate::event::Lines;
+use crate::control::Control;
+use crate::event::{Event, Lines, Stop};
 use crate::fault::LoopFault;
-use crate::limits::Limits;
-use crate::peers::{Moment, Peers};
+use crate::journal::Filling;
+use crate::line::Line;
+use crate::pages::Pages;
+use crate::peers::{Moment, PAUSE, Peers};
 use crate::ports::Ports;
 use iso_durable::Log;
-use iso_host::Link;
 use iso_peers::DurableHost;
 use mio::net::TcpStream;
 use std::alloc::Global;
-use std::io::Read;
 use std::net::Net;
 use std::time::{Clock, Duration};
-
-/// How long the host waits for events at most, in milliseconds. So often it looks who is late.
-const PAUSE: u64 = 200;
 
 /// The microseconds of a duration.
 fn micros_of(time: Duration) -> u64 {
@@ -37,66 +35,146 @@ fn moment<R: Clock>(rt: &R) -> Result<Moment, LoopFault> {
     })
 }
 
-/// A turn: connections that wait are let in, what came is read and decided, all of it is kept with one sync, and only then
-/// its answers are written. Gives how long the next turn may wait for events.
-fn turn<R: Clock, L: Log, N: Lines>(
+/// Keeps the orders of a turn with one sync, and tells how long that took. Where none waits, nothing is done.
+fn keep<R: Clock, L: Log, N: Lines>(
     rt: &R,
     host: &mut DurableHost<L>,
-    ports: &Ports,
+    log: &mut N,
+) -> Result<(), LoopFault>
+    // Every order that came is kept.
+    ensures kept { OnOk result (IsKept host.new) }
+    ensures step { OnOk result (IsInStep L.is_ready L.synced L.pending host.old
+        → IsInStep L.is_ready L.synced L.pending host.new) }
+{
+    let orders = host.waits();
+    let began = moment(rt)?;
+    if host.keep().is_err() {
+        log.tell(began.since_1970, &Event::LogFailed);
+        return Err(LoopFault::Log);
+    }
+    if orders > 0 {
+        let ended = moment(rt)?;
+        let micros = ended.micros.saturating_sub(began.micros);
+        log.tell(ended.since_1970, &Event::Kept { orders, micros });
+    }
+    Ok(())
+}
+
+/// Tells how full the journal is, where that wasn't told.
+fn tell_journal<L: Log, N: Lines>(
+    host: &DurableHost<L>,
+    filling: &mut Filling,
+    now: Moment,
+    log: &mut N,
+) {
+    let (entries, limit) = (host.issuer().len(), host.issuer().limit());
+    if let Some(hundredths) = filling.rises(entries, limit) {
+        log.tell(
+            now.since_1970,
+            &Event::Journal {
+                entries,
+                limit,
+                hundredths,
+            },
+        );
+    }
+}
+
+/// A turn: connections that wait are let in, what came is read and decided, all of it is kept with one sync, and only then
+/// its answers are written. Visitors come last. Gives how long the next turn may wait for events.
+fn turn<R: Clock, L: Log, N: Lines + Pages>(
+    rt: &R,
+    host: &mut DurableHost<L>,
+    ports: &mut Ports,
     peers: &mut Peers<'_, TcpStream>,
-    lines: &mut N,
+    filling: &mut Filling,
+    log: &mut N,
 ) -> Result<Duration, LoopFault>
     // Every order that came is kept.
     ensures kept { OnOk result (IsKept host.new) }
+    ensures step { OnOk result (IsInStep L.is_ready L.synced L.pending host.old
+        → IsInStep L.is_ready L.synced L.pending host.new) }
 {
     let began = moment(rt)?;
-    ports.accept_all(peers, began, lines);
+    ports.accept_all(peers, began, log);
     peers.read_all(host, began);
-    if host.keep().is_err() {
-        return Err(LoopFault::Log);
-    }
+    keep(rt, host, log)?;
     peers.write_all(host, began);
     let ended = moment(rt)?;
-    peers.tell_frames(began, ended, lines);
-    peers.close_due(ended, lines);
-    lines.flush();
-    if peers.goes_on(ended) {
+    peers.tell_frames(began, ended, log);
+    tell_journal(host, filling, ended, log);
+    let goes_on = peers.settle(ended, log);
+    log.flush();
+    let visits = ports.visit(log, ended);
+    if goes_on || visits {
         Ok(Duration::from_millis(0))
     } else {
         Ok(Duration::from_millis(PAUSE))
     }
 }
 
-/// Serves the peers that come on these ports, until standard input ends. No peer holds up another. After an `Err` nothing
-/// more is written; at `Log` no order that waited is answered.
-pub fn serve_ports<R: Net + Clock, L: Log, I: Read, N: Lines>(
+/// When a stop file was last looked for, in milliseconds.
+#[derive(Clone, Copy)]
+struct Looks {
+    last: u64,
+}
+
+impl Looks {
+    /// Whether a host stops now, and why.
+    fn stop<C: Control>(&mut self, control: &mut C, has_ended: bool, now: Moment) -> Option<Stop> {
+        if has_ended {
+            return Some(Stop::Input);
+        }
+        if now.millis().saturating_sub(self.last) < PAUSE {
+            return None;
+        }
+        self.last = now.millis();
+        if control.is_called_off() {
+            Some(Stop::File)
+        } else {
+            None
+        }
+    }
+}
+
+/// Stops: tells why, and closes all peers.
+fn stop<N: Lines>(peers: &mut Peers<'_, TcpStream>, why: Stop, now: Moment, log: &mut N) {
+    log.tell(now.since_1970, &Event::Stopping { why });
+    peers.close_all(now, log);
+    log.flush();
+}
+
+/// Serves the peers that come on these ports, which are those of the lines, until it is stopped: then it ends after the
+/// turn. No peer holds up another. After an `Err` nothing more is written; at `Log` no order that waited is answered.
+pub fn serve_ports<R: Net + Clock, L: Log, C: Control, N: Lines + Pages>(
     rt: &R,
     alloc: Global,
     host: &mut DurableHost<L>,
-    link: &Link,
-    limits: Limits,
+    lines: &[Line<'_>],
     ports: &mut Ports,
-    input: &mut I,
-    lines: &mut N,
+    control: &mut C,
+    log: &mut N,
 ) -> Result<(), LoopFault>
     // Where it ends well, every order that came is kept.
     ensures kept { OnOk result (IsKept host.new) }
 {
-    let mut peers = Peers::new(alloc, link, limits)?;
-    ports.tell(moment(rt)?, lines);
+    let mut peers = Peers::new(alloc, lines)?;
+    let mut filling = Filling::NONE;
+    let mut looks = Looks { last: 0 };
+    ports.tell(moment(rt)?, log);
     let mut pause = Duration::from_millis(0);
     for _ in 0..u64::MAX {
-        let stops = ports.wait(pause, &mut peers, input)?;
-        pause = match turn(rt, host, ports, &mut peers, lines) {
+        let has_ended = ports.wait(pause, &mut peers, control)?;
+        pause = match turn(rt, host, ports, &mut peers, &mut filling, log) {
             Ok(pause) => pause,
             Err(fault) => {
-                lines.flush();
+                log.flush();
                 return Err(fault);
             }
         };
-        if stops {
-            peers.close_all(moment(rt)?, lines);
-            lines.flush();
+        let now = moment(rt)?;
+        if let Some(why) = looks.stop(control, has_ended, now) {
+            stop(&mut peers, why, now, log);
             return Ok(());
         }
     }

@@ -3,7 +3,7 @@ ghost use Rattle.std.specs.Prelude.{◌≡◌, None, Some};
 ghost use Rattle.iso_loop.specs.Standing.{has_passed, lasts_too_long, late_of, closing_of, staying_of, doing_of};
 ghost use Rattle.iso_loop.specs.Standing.{frame_since, unread_since, begun_anew, hearing_of, paused_of, writing_of};
 
-use crate::limits::Limits;
+use iso_links::Limits;
 
 /// Why a peer is closed.
 #[derive(Clone, Copy, Debug, PartialEq, Eq)]
@@ -55,7 +55,7 @@ pub struct Standing {
 }
 
 /// Whether so many seconds have passed since a moment.
-fn has_passed(seconds: u32, since: u64, now: u64) -> bool
+pub(crate) fn has_passed(seconds: u32, since: u64, now: u64) -> bool
     ensures { result ≡ has_passed seconds since now }
 {
     now.saturating_sub(since) >= 1000 * seconds as u64

@@ -1,0 +1,3 @@
+mod Allowed
+mod InStep
+mod Pieces
