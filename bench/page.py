@@ -5,7 +5,6 @@
     page.py readers TOLD [PAGE]     TOLD is a file of what readers.py printed
     page.py journal TOLD [PAGE]     TOLD is a file of what journal.sh printed, once or more
     page.py loopback TOLD [PAGE]    TOLD is a file of what loopback.sh printed
-    page.py peers TOLD [PAGE]       TOLD is a file of what peers.sh printed
 
 Prints each table. In PAGE all that stands between the comments <!-- NAME --> and <!-- end --> is replaced by the one of that
 name, and `bench` draws speed.svg beside PAGE. Where a measure is missing it is named, and nothing is written.
@@ -50,10 +49,10 @@ ROUND_TRIPS = {
 
 
 def readings(line):
-    """What a line measures: the name that it begins with, and with it the bytes, entries or peers, each measure and its value."""
+    """What a line measures: the name that it begins with, and with it the bytes or entries, each measure and its value."""
     pairs = PAIR.findall(line)
     name = PAIR.split(line)[0].strip(" :")
-    while pairs and pairs[0][0] in ("bytes", "entries", "group", "active", "idle"):
+    if pairs and pairs[0][0] in ("bytes", "entries", "group"):
         name += " {}={}".format(*pairs.pop(0))
     return [((name, measure), float(value)) for measure, value in pairs]
 
@@ -168,33 +167,6 @@ def loopback(figures):
     ])
 
 
-def peers(figures):
-    def of(name, active, idle, measure):
-        return figures.of(f"{name} active={active} idle={idle}", measure)
-
-    def row(active):
-        rates = [of(name, active, 0, "answers_per_second") for name in ("host", "echo")]
-        medians = [of(name, active, 0, "median_microseconds") for name in ("host", "echo")]
-        return [f"{active}", *(f"{rate:,.0f}" for rate in rates), f"{rates[0] / rates[1]:.2f}{', at least 0.6' if active == 64 else ''}",
-                *(f"{median:,.0f} µs" for median in medians), f"{medians[0] / medians[1]:.2f}{', at most 1.4' if active == 1 else ''}"]
-
-    def beside(idle):
-        return [f"{idle}", f"{of('host', 10, idle, 'answers_per_second'):,.0f}", *(
-            f"{of('host', 10, idle, measure):,.0f} µs" for measure in ("median_microseconds", "one_in_100_over_microseconds"))]
-
-    alone, crowded = [of("host", 10, idle, "median_microseconds") for idle in (0, 990)]
-    memory = figures.of("memory idle=990", "bytes_a_peer")
-    turns = figures.turns("host active=1 idle=0", "median_microseconds")
-    return "\n\n".join([
-        prose(f"Machine: {machine()}. Each figure is the middle one of {turns} turns."),
-        table(["Peers", "Answers a second", "The loop's", "As many as the loop's", "An answer takes", "The loop's", "As long as the loop's"],
-              row(1), row(64)),
-        table(["Idle peers beside ten", "Answers a second", "An answer takes", "One in 100 is over"], beside(0), beside(990)),
-        prose(f"With 990 idle peers an answer takes {crowded / alone:.2f} times as long, at most 1.1. An idle peer takes {memory:,.0f} bytes "
-              "of the host's memory, at most 8,192."),
-    ])
-
-
 def readers(figures):
     def row(job):
         mine, other, few = [f"{job} {by}" for by in ("by rumpadol", "by tshark", "of few by rumpadol")]
@@ -248,7 +220,6 @@ SECTIONS = {
     "readers": {"readers": readers},
     "journal": {"journal": journal},
     "loopback": {"loopback": loopback},
-    "peers": {"peers": peers},
 }
 
 

@@ -7,15 +7,13 @@ ghost use Rattle.rumpadol.specs.Stop.{status_of};
 
 use crate::documents::{STANDARD_INPUT, document_at};
 use crate::named::table_named;
-use crate::ports::perform_ports;
 use crate::progress::Progress;
-use crate::source::{Source, System};
+use crate::source::Source;
 use crate::stop::{Stop, failed, misused, refused, write_output};
 use crate::terminal::Terminals;
-use crate::words::{HostWords, Place, StreamWords};
+use crate::words::HostWords;
 use iso_host::{HostTable, Link, Report, Std};
 use iso_issuer::{Accounts, AccountsFault};
-use iso_journal::JournalLog;
 use iso_peers::DurableHost;
 use iso_record::Heading;
 use iso_service::{
@@ -55,7 +53,7 @@ fn no_accounts(alloc: Global, path: &str, fault: AccountsFault) -> Stop {
 }
 
 /// What both ends of the stream have agreed on, under the table that a word names.
-pub fn link_under(alloc: Global, word: &str, table: Table, header: Header) -> Result<Link, Stop>
+fn link_under(alloc: Global, word: &str, table: Table, header: Header) -> Result<Link, Stop>
     ensures table { IfOk result (λ link. link.table ≡ table) }
     ensures header { IfOk result (λ link. link.header ≡ header) }
 {
@@ -87,13 +85,6 @@ fn link_of<S: Source, I: Read>(
     link_under(alloc, word, table, header)
 }
 
-/// How the program stops where an order couldn't be kept.
-pub fn not_kept(alloc: Global, path: &str) -> Stop {
-    failed(format!(in alloc;
-        "rumpadol: {path}: an order couldn't be kept, and none that waited was answered; see that its device is well and has room, and start the host again: each order that comes again gets its first answer\n"
-    ))
-}
-
 /// How the program stops where serving did.
 fn stopped(alloc: Global, path: &str, fault: ServiceFault) -> Stop {
     match fault {
@@ -103,7 +94,9 @@ fn stopped(alloc: Global, path: &str, fault: ServiceFault) -> Stop {
         }
         ServiceFault::Write => Stop::Output,
         ServiceFault::Memory => Stop::Memory,
-        ServiceFault::Log => not_kept(alloc, path),
+        ServiceFault::Log => failed(format!(in alloc;
+            "rumpadol: {path}: an order couldn't be kept, and none that waited was answered; see that its device is well and has room, and start the host again: each order that comes again gets its first answer\n"
+        )),
     }
 }
 
@@ -129,14 +122,19 @@ fn tell_report<F: Write>(
     Ok(0)
 }
 
-/// A host over the journal of these accounts, which is made before where that is asked.
-pub fn start_host<S: Source + Journals, F: Write>(
+/// Serves the frames of the input.
+pub fn perform_host<S: Source + Journals, I: Read, O: Write, F: Write>(
     alloc: Global,
-    words: &HostWords<'_>,
+    words: HostWords<'_>,
     source: &S,
     terminals: Terminals,
+    input: &mut I,
+    output: &mut O,
     faults: &mut F,
-) -> Result<DurableHost<JournalLog<S::Disk>>, Stop> {
+) -> Result<u8, Stop>
+    ensures { IfOk result (λ status. status ≡ 0) }
+{
+    let link = link_of(alloc, words.table, words.header, source, input)?;
     let text = document_at(alloc, source, words.accounts, NO_ACCOUNTS)?;
     let accounts = match Accounts::from_json(alloc, &text) {
         Ok(accounts) => accounts,
@@ -158,52 +156,14 @@ pub fn start_host<S: Source + Journals, F: Write>(
         &mut progress,
     );
     progress.clear();
-    match started {
-        Ok(started) => Ok(DurableHost::new(alloc, started)),
-        Err(fault) => Err(not_started(alloc, words.journal, fault)),
-    }
-}
-
-/// Serves the frames of the input.
-fn perform_stream<S: Source + Journals, I: Read, O: Write, F: Write>(
-    alloc: Global,
-    words: &HostWords<'_>,
-    stream: StreamWords<'_>,
-    source: &S,
-    terminals: Terminals,
-    input: &mut I,
-    output: &mut O,
-    faults: &mut F,
-) -> Result<u8, Stop>
-    ensures { IfOk result (λ status. status ≡ 0) }
-{
-    let link = link_of(alloc, stream.table, stream.header, source, input)?;
-    let mut host = start_host(alloc, words, source, terminals, faults)?;
+    let started = match started {
+        Ok(started) => started,
+        Err(fault) => return Err(not_started(alloc, words.journal, fault)),
+    };
+    let mut host = DurableHost::new(alloc, started);
     let (mut reader, mut writer) = (Std::new(input), Std::new(output));
     match serve_kept(alloc, &mut host, &link, &mut reader, &mut writer) {
         Ok(report) => tell_report(alloc, host.issuer().len(), report, faults),
         Err(fault) => Err(stopped(alloc, words.journal, fault)),
-    }
-}
-
-/// Serves the frames of the input, or those of the peers on ports.
-pub fn perform_host<S: Source + Journals + System, I: Read, O: Write, F: Write>(
-    alloc: Global,
-    words: &HostWords<'_>,
-    source: &S,
-    terminals: Terminals,
-    input: &mut I,
-    output: &mut O,
-    faults: &mut F,
-) -> Result<u8, Stop>
-    ensures { IfOk result (λ status. status ≡ 0) }
-{
-    match words.place {
-        Place::Streams(stream) => perform_stream(
-            alloc, words, stream, source, terminals, input, output, faults,
-        ),
-        Place::Listen(_) | Place::Links(_) => {
-            perform_ports(alloc, words, source, terminals, input, faults)
-        }
     }
 }

@@ -5,7 +5,7 @@
 //! - `encode TABLE [INPUT]`: messages from such lines or such JSON
 //! - `convert FROM TO [INPUT]`: messages under another table
 //! - `table check`, `show`, `list`, `new` and `diff`: tables
-//! - `host`: answers frames as an issuer, of a stream or of many peers on ports, and keeps each order before it is answered
+//! - `host`: answers frames as an issuer, and keeps each order before it is answered
 //! - `journal show`, `check`, `export` and `balance`: the file of a journal
 #![tactic(auto)]
 
@@ -17,7 +17,6 @@ mod host;
 mod journals;
 mod messages;
 mod named;
-mod ports;
 mod progress;
 mod source;
 mod stop;

@@ -6,9 +6,7 @@ ghost use Rattle.rumpadol.specs.Source.{read_of};
 
 use std::alloc::Global;
 use std::io::{ErrorKind, Read};
-use std::net::Net;
 use std::rt::Files;
-use std::time::Clock;
 
 /// Why a file or a stream isn't read.
 #[derive(Clone, Copy, Debug, PartialEq, Eq)]
@@ -46,23 +44,6 @@ pub trait Source {
 pub struct Disk<'a, R> {
     /// The runtime, by which files are opened.
     pub rt: &'a R,
-}
-
-/// What a host on ports has of the system beside its files.
-pub trait System {
-    /// What ports, clocks and files are opened with.
-    type Runtime: Net + Clock + Files;
-
-    /// What ports, clocks and files are opened with.
-    fn runtime(&self) -> &Self::Runtime;
-}
-
-impl<'a, R: Net + Clock + Files> System for Disk<'a, R> {
-    type Runtime = R;
-
-    fn runtime(&self) -> &R {
-        self.rt
-    }
 }
 
 impl<'a, R: Files> Source for Disk<'a, R> {

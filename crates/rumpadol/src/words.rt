@@ -3,7 +3,6 @@
 use crate::documents::STANDARD_INPUT;
 use clap::ArgMatches;
 use iso_books::Form;
-use iso_links::Limits;
 use iso_wire::Header;
 use std::alloc::{AllocError, Global};
 
@@ -84,54 +83,19 @@ pub enum MessageJob<'a> {
     Convert(ConvertWords<'a>),
 }
 
-/// The words about a stream of frames.
+/// The words about a host.
 #[derive(Clone, Copy, Debug)]
-pub struct StreamWords<'a> {
+pub struct HostWords<'a> {
     /// The table's name or path.
     pub table: &'a str,
     /// The header of frames.
     pub header: Header,
-}
-
-/// The words about the one link of a host.
-#[derive(Clone, Copy, Debug)]
-pub struct ListenWords<'a> {
-    /// The address on which the host listens.
-    pub address: &'a str,
-    /// How the peers write.
-    pub stream: StreamWords<'a>,
-    /// What is allowed to them.
-    pub limits: Limits,
-}
-
-/// Where the peers of a host are.
-#[derive(Clone, Copy, Debug)]
-pub enum Place<'a> {
-    /// One at the standard streams.
-    Streams(StreamWords<'a>),
-    /// At one address.
-    Listen(ListenWords<'a>),
-    /// At the addresses of the links' document at this path.
-    Links(&'a str),
-}
-
-/// The words about a host.
-#[derive(Clone, Copy, Debug)]
-pub struct HostWords<'a> {
-    /// Where its peers are.
-    pub place: Place<'a>,
     /// The path of the accounts' document.
     pub accounts: &'a str,
     /// The path of the journal.
     pub journal: &'a str,
     /// Whether the journal is made.
     pub is_new: bool,
-    /// The path of the log of what happens.
-    pub log: Option<&'a str>,
-    /// The address at which the host tells its metrics.
-    pub metrics: Option<&'a str>,
-    /// The path of the file that stops the host.
-    pub stop_file: Option<&'a str>,
 }
 
 /// The words about a journal's file.
@@ -192,7 +156,7 @@ impl<'a> Job<'a> {
                 *first == STANDARD_INPUT || *second == STANDARD_INPUT
             }
             Job::Tables(TableJob::List) | Job::Books(_) => false,
-            Job::Host(words) => matches!(words.place, Place::Streams(_)),
+            Job::Host(_) => true,
         }
     }
 }
@@ -248,55 +212,13 @@ fn convert_words<'a>(matches: &ArgMatches<'a>) -> ConvertWords<'a> {
     }
 }
 
-fn stream_words<'a>(matches: &ArgMatches<'a>) -> StreamWords<'a> {
-    StreamWords {
-        table: text_of(matches, "table"),
-        header: header_named(text_of(matches, "header")),
-    }
-}
-
-/// The number of a limit; each limit has a default, so none is missing.
-fn limit_of(matches: &ArgMatches<'_>, id: &str) -> u32 {
-    matches.get_one::<u32>(id).unwrap_or(1)
-}
-
-/// What is allowed to the peers of a link by words.
-fn limits_of(matches: &ArgMatches<'_>) -> Limits {
-    Limits {
-        peers: limit_of(matches, "peers") as usize,
-        idle: limit_of(matches, "idle"),
-        frame: limit_of(matches, "frame"),
-        unread: limit_of(matches, "unread"),
-        waiting: limit_of(matches, "waiting") as usize,
-        share: Limits::DEFAULT.share,
-    }
-}
-
-/// Where the peers of a host are.
-fn place_of<'a>(matches: &ArgMatches<'a>) -> Place<'a> {
-    if let Some(path) = matches.get_str("links") {
-        return Place::Links(path);
-    }
-    let stream = stream_words(matches);
-    match matches.get_str("listen") {
-        Some(address) => Place::Listen(ListenWords {
-            address,
-            stream,
-            limits: limits_of(matches),
-        }),
-        None => Place::Streams(stream),
-    }
-}
-
 fn host_words<'a>(matches: &ArgMatches<'a>) -> HostWords<'a> {
     HostWords {
-        place: place_of(matches),
+        table: text_of(matches, "table"),
+        header: header_named(text_of(matches, "header")),
         accounts: text_of(matches, "accounts"),
         journal: text_of(matches, "journal"),
         is_new: matches.get_flag("new"),
-        log: matches.get_str("log"),
-        metrics: matches.get_str("metrics"),
-        stop_file: matches.get_str("stop-file"),
     }
 }
 
