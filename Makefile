@@ -6,6 +6,8 @@
 # make connections  an acquirer whose answers get lost, and peers that misbehave, at a host on a port; builds the command
 # make crash   a host over its journal that is killed 200 times under load, and what it answers afterwards; builds rumpadol
 # make starts  a host without the right to its journal, and one over a long journal on a terminal; builds rumpadol
+# make peers   one kind of bad peer after the other at a host on ports, while good ones are served and compared; builds rumpadol
+# make soak    a host with many peers that is killed at random, and what its journal holds afterwards: SECONDS=120; builds rumpadol
 # make rows    the rows of both programs, and of the host on a port, at the built programs; builds them
 # make schedule  an acquirer whose answers get lost, and what both ends hold: SCHEDULE=examples/lost-answers.txt
 # make library  proves the library for C and what it stands on, and builds it: crates/iso_c/out/libiso_c.a
@@ -14,8 +16,9 @@
 # make memory  each call that can want memory, and each command, with each of its growths refused in turn, by the quick run
 # make compare  what both programs do with messages made by chance, and what the model says: SECONDS=120; builds them
 # make loopback  how long a round trip on a port takes, and the memory of a host over many connections: ROUNDS=1000 for fewer
+# make load    how many answers a second a host with many peers gives, beside a loop that only echoes and syncs: LOAD=1 for less time
 # make bench   how fast the streams, the codec, the issuer and a journal in a file are: ORDERS=2000 SIZES="100 1000" for fewer orders
-# The last two print tables. Where ORDERS, SIZES and ROUNDS are as below, they write them to docs/SPEED.md too.
+# The last three print tables. Where ORDERS, SIZES, ROUNDS and LOAD are as below, they write them to docs/SPEED.md too.
 
 ifeq ($(shell command -v rt 2> /dev/null),)
 $(error the Rattle toolchain is missing: no program rt on the PATH)
@@ -32,9 +35,12 @@ SCHEDULE := examples/lost-answers.txt
 ALL_ORDERS := 900000
 ALL_SIZES := 10000 30000 100000 300000 900000
 ALL_ROUNDS := 100000
+ALL_LOAD := 5
 ORDERS := $(ALL_ORDERS)
 SIZES := $(ALL_SIZES)
 ROUNDS := $(ALL_ROUNDS)
+LOAD := $(ALL_LOAD)
+SECONDS ?= 120
 RT_JOBS ?= $(shell expr $$(nproc) + 1)
 
 # the page that whole runs write
@@ -44,8 +50,11 @@ endif
 ifeq ($(ROUNDS),$(ALL_ROUNDS))
 LOOPBACK_PAGE := docs/SPEED.md
 endif
+ifeq ($(LOAD),$(ALL_LOAD))
+LOAD_PAGE := docs/SPEED.md
+endif
 
-.PHONY: run test build library day replay connections crash starts rows schedule check prove memory compare bench loopback
+.PHONY: run test build library day replay connections crash starts peers soak rows schedule check prove memory compare bench loopback load
 
 run:
 	@if $(MAKE) --silent --no-print-directory --question $(COMMAND); then \
@@ -76,6 +85,12 @@ crash: $(RUMPADOL)
 
 starts: $(RUMPADOL)
 	@python3 scripts/starts.py $(RUMPADOL)
+
+peers: $(RUMPADOL)
+	@python3 scripts/peers.py $(RUMPADOL)
+
+soak: $(RUMPADOL)
+	@python3 scripts/soak.py $(RUMPADOL) $(SECONDS)
 
 rows: $(COMMAND) $(RUMPADOL)
 	@python3 scripts/command-rows.py $(COMMAND)
@@ -122,3 +137,6 @@ bench: $(COMMAND) $(RUMPADOL) $(BENCH)
 
 loopback: $(COMMAND)
 	@ROUNDS=$(ROUNDS) bench/figures.sh loopback "$(LOOPBACK_PAGE)" bench/loopback.sh
+
+load: $(RUMPADOL)
+	@LOAD=$(LOAD) bench/figures.sh peers "$(LOAD_PAGE)" bench/peers.sh

@@ -9,73 +9,11 @@
  * KIND is what is sent: `bytes`, which come back as they are; `test`, an echo test; `repeat`, one purchase again and
  * again; `new`, purchases that differ by trace number and time.
  */
-#include <arpa/inet.h>
-#include <netinet/in.h>
-#include <netinet/tcp.h>
-#include <stdio.h>
-#include <stdlib.h>
-#include <string.h>
-#include <sys/socket.h>
-#include <time.h>
-#include <unistd.h>
+#include "net.h"
 
-#define PURCHASE "00820200722000010000800016411111111111111100000000000000100001020304050000070512345840"
 #define TEST "00550800822000000000000004000000000000000102030405000001301"
 
-enum { TIME_AT = 60, PURCHASE_ANSWER = 94, TEST_ANSWER = 61, BATCH = 100 };
-
-static void fail(const char *what)
-{
-    perror(what);
-    exit(1);
-}
-
-static struct sockaddr_in here(int port)
-{
-    struct sockaddr_in address = {.sin_family = AF_INET, .sin_port = htons(port)};
-    address.sin_addr.s_addr = htonl(INADDR_LOOPBACK);
-    return address;
-}
-
-static int listening(int port)
-{
-    struct sockaddr_in address = here(port);
-    int on = 1, fd = socket(AF_INET, SOCK_STREAM, 0);
-    if (fd < 0 || setsockopt(fd, SOL_SOCKET, SO_REUSEADDR, &on, sizeof on) < 0
-        || bind(fd, (struct sockaddr *)&address, sizeof address) < 0 || listen(fd, 128) < 0)
-        fail("listen");
-    return fd;
-}
-
-static int connected(int port)
-{
-    struct sockaddr_in address = here(port);
-    int on = 1;
-    for (int tries = 0; tries < 500; tries++) {
-        int fd = socket(AF_INET, SOCK_STREAM, 0);
-        if (fd < 0)
-            fail("socket");
-        if (connect(fd, (struct sockaddr *)&address, sizeof address) == 0) {
-            setsockopt(fd, IPPROTO_TCP, TCP_NODELAY, &on, sizeof on);
-            return fd;
-        }
-        close(fd);
-        usleep(10000);
-    }
-    fail("connect");
-    return -1;
-}
-
-static void put(int fd, const char *bytes, size_t size)
-{
-    while (size > 0) {
-        ssize_t count = send(fd, bytes, size, MSG_NOSIGNAL);
-        if (count <= 0)
-            fail("send");
-        bytes += count;
-        size -= count;
-    }
-}
+enum { PURCHASE_ANSWER = 94, TEST_ANSWER = 61, BATCH = 100 };
 
 static void get(int fd, char *bytes, size_t size)
 {
@@ -111,19 +49,6 @@ static void echo(int port, int count)
             put(fd, bytes, got);
         close(fd);
     }
-}
-
-static int by_size(const void *a, const void *b)
-{
-    long x = *(const long *)a, y = *(const long *)b;
-    return (x > y) - (x < y);
-}
-
-static long now(void)
-{
-    struct timespec t;
-    clock_gettime(CLOCK_MONOTONIC, &t);
-    return t.tv_sec * 1000000000L + t.tv_nsec;
 }
 
 static void ask(int port, const char *kind, int rounds)

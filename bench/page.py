@@ -5,6 +5,7 @@
     page.py readers TOLD [PAGE]     TOLD is a file of what readers.py printed
     page.py journal TOLD [PAGE]     TOLD is a file of what journal.sh printed, once or more
     page.py loopback TOLD [PAGE]    TOLD is a file of what loopback.sh printed
+    page.py peers TOLD [PAGE]       TOLD is a file of what peers.sh printed
 
 Prints each table. In PAGE all that stands between the comments <!-- NAME --> and <!-- end --> is replaced by the one of that
 name, and `bench` draws speed.svg beside PAGE. Where a measure is missing it is named, and nothing is written.
@@ -49,10 +50,10 @@ ROUND_TRIPS = {
 
 
 def readings(line):
-    """What a line measures: the name that it begins with, and with it the bytes or entries, each measure and its value."""
+    """What a line measures: the name that it begins with, and with it the bytes, entries or peers, each measure and its value."""
     pairs = PAIR.findall(line)
     name = PAIR.split(line)[0].strip(" :")
-    if pairs and pairs[0][0] in ("bytes", "entries", "group"):
+    while pairs and pairs[0][0] in ("bytes", "entries", "group", "active", "idle"):
         name += " {}={}".format(*pairs.pop(0))
     return [((name, measure), float(value)) for measure, value in pairs]
 
@@ -167,6 +168,30 @@ def loopback(figures):
     ])
 
 
+def peers(figures):
+    def of(name, active, measure, idle=0):
+        return figures.of(f"{name} active={active} idle={idle}", measure)
+
+    def row(sync, where, active, limits):
+        rates = [of(where + name, active, "answers_per_second") for name in ("host", "echo")]
+        times = [of(where + name, active, "median_microseconds") for name in ("host", "echo")]
+        return [sync, f"{active}", *(f"{rate:,.0f}" for rate in rates), f"{rates[0] / rates[1]:.2f}{limits[0]}",
+                *(f"{time:,.0f} µs" for time in times), f"{times[0] / times[1]:.2f}{limits[1]}"]
+
+    alone, crowded = [of("host", 10, "median_microseconds", idle) for idle in (0, 990)]
+    memory = figures.of("memory idle=990", "bytes_a_peer")
+    turns = figures.turns("host active=1 idle=0", "median_microseconds")
+    head = ["A sync takes", "Peers", "Answers a second", "The loop's", "As many as the loop's", "An answer takes", "The loop's",
+            "As long as the loop's"]
+    return "\n\n".join([
+        prose(f"Machine: {machine()}. Each figure is the middle one of {turns} turns."),
+        table(head, row("a millisecond", "slow ", 1, ("", ", at most 1.4")), row("a millisecond", "slow ", 64, (", at least 0.6", "")),
+              row("nothing", "", 1, ("", ", at most 1.4")), row("nothing", "", 64, (", at least 0.6", ""))),
+        prose(f"Beside ten peers 990 idle ones make an answer take {crowded:,.0f} µs in place of {alone:,.0f} µs: {crowded / alone:.2f} times "
+              f"as long, at most 1.1. An idle peer takes {memory:,.0f} bytes of the host's memory, at most 8,192."),
+    ])
+
+
 def readers(figures):
     def row(job):
         mine, other, few = [f"{job} {by}" for by in ("by rumpadol", "by tshark", "of few by rumpadol")]
@@ -185,19 +210,24 @@ def readers(figures):
 
 
 def journal(figures):
-    def row(group):
-        own, plain, sqlite = [figures.of(f"{kind} group={group}", "nanoseconds") for kind in ("journal", "plain", "sqlite")]
+    def row(group, where=""):
+        own, plain, sqlite = [figures.of(f"{where}{kind} group={group}", "nanoseconds") for kind in ("journal", "plain", "sqlite")]
         rates = [f"{1e9 / time:,.0f}" for time in (own, plain, sqlite)]
-        return [f"{group}", *rates, f"{own / plain:.2f}, at most {GROUPS[group]}", f"{sqlite / own:.1f}"]
+        return [f"{group}", *rates, f"{own / plain:.2f}", f"{GROUPS[group]}", f"{sqlite / own:.1f}"]
 
     entries = max((int(name.split("=")[1]) for name, _ in figures.values if name.startswith("start entries=")), default=1)
     start, handling = [figures.of(f"{kind} entries={entries}", "nanoseconds") for kind in ("start", "handling")]
     turns = figures.turns("journal group=1", "nanoseconds")
-    sync, instructions = figures.of("plain group=1", "nanoseconds"), figures.of("order group=512", "instructions")
+    slow, own = [figures.of(f"{where}plain group=1", "nanoseconds") / 1e6 for where in ("slow ", "")]
+    instructions = figures.of("order group=512", "instructions")
     head = ["Orders with one sync", "Orders a second", "The plain program's", "SQLite's", "Its time, as often as the plain program's",
-            "SQLite's, as often as its"]
+            "At most", "SQLite's, as often as its"]
     return "\n\n".join([
-        prose(f"Machine: {machine()}. Each figure is the middle one of {turns} turns. To write a record and sync it took {sync / 1e6:.2f} ms."),
+        prose(f"Machine: {machine()}. Each figure is the middle one of {turns} turns."),
+        prose(f"With each sync held up for a millisecond (`bench/slow.c`), as long as a volume on a network may take. To write a record "
+              f"and sync it took {slow:.2f} ms:"),
+        table(head, *[row(group, "slow ") for group in GROUPS]),
+        prose(f"On this machine's device as it is. To write a record and sync it took {own:.2f} ms:"),
         table(head, *[row(group) for group in GROUPS]),
         prose(f"An order in a group of 512 takes {instructions:,.0f} instructions, at most 4,000, without those of the system."),
         prose(f"A start over {entries:,.0f} orders takes {start * entries / 1e9:.2f} s, and handling them {handling * entries / 1e9:.2f} s: "
@@ -220,6 +250,7 @@ SECTIONS = {
     "readers": {"readers": readers},
     "journal": {"journal": journal},
     "loopback": {"loopback": loopback},
+    "peers": {"peers": peers},
 }
 
 

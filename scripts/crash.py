@@ -19,6 +19,8 @@ import tempfile
 import threading
 import time
 
+from traffic import Spelling
+
 KILLS = int(os.environ.get("KILLS", "200"))
 SEED = int(os.environ.get("CRASH_SEED", "0")) or random.randrange(1, 1 << 32)
 WAIT = 60
@@ -28,18 +30,15 @@ RECORD = 128
 
 # ---- the messages, as docs/ORDERS.md tells them
 
+LINE = Spelling("ascii87", "ascii4")
 PANS = [b"4111111111111111", b"5500000000000004", b"340000000000009"]
 ACCOUNTS = (b'{"accounts":[' + b",".join(b'{"currency":"840","opening":900000000,"pan":"%s"}' % pan for pan in PANS[:2]) + b"]}")
-
-
-def framed(body):
-    return b"%04d" % len(body) + body
 
 
 def purchase(number, kind):
     """The purchase of a number: its trace number and its amount come of it. The third account isn't listed."""
     pan = PANS[number % 3]
-    return framed(kind + b"7220000100008000" + b"%02d" % len(pan) + pan + b"000000" + b"%012d" % (1 + number % 997)
+    return LINE.framed(kind + b"7220000100008000" + b"%02d" % len(pan) + pan + b"000000" + b"%012d" % (1 + number % 997)
                   + b"%010d" % (101000000 + number // 900000) + b"%06d" % (number % 900000) + b"0512345" + b"840")
 
 
@@ -59,15 +58,6 @@ def is_told_by(row, answer):
     if body[4:20] == b"7220000106008000":
         return row[99:107] == body[at + 6:at + 8] + body[at:at + 6]
     return body[4:20] == b"7220000102008000" and row[99:101] == body[at:at + 2]
-
-
-def frames_in(output):
-    """The whole frames of an output. What a kill cut is left out."""
-    at = 0
-    while len(output) >= at + 4 and len(output) >= at + 4 + int(output[at:at + 4]):
-        end = at + 4 + int(output[at:at + 4])
-        yield output[at:end]
-        at = end
 
 
 # ---- a host
@@ -117,7 +107,7 @@ class Host:
         self.process.wait()
         reader.join()
         watch.cancel()
-        return list(frames_in(self.output)), told[0]
+        return LINE.frames(self.output)[0], told[0]
 
 
 # ---- the run

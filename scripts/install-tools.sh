@@ -4,8 +4,8 @@
 set -u
 cd "$(dirname "$0")/.." || exit 1
 
-# what the scripts and the examples call, beside what every Debian has, and what the pages name behind 'console'
-programs="make python3 xxd cc clang valgrind $(sed -n 's/^```console//p' README.md docs/*.md)"
+# what the scripts and the examples call, beside what every Debian has, and what the pages name behind 'console' ('built' is no program)
+programs="make python3 xxd cc clang valgrind systemd-analyze $(sed -n 's/^```console//p' README.md docs/*.md | sed 's/\<built\>//')"
 
 missing() {
     for program in $programs; do
@@ -20,6 +20,7 @@ packages() {
         clang) echo clang libc6-dev ;;
         valgrind) echo valgrind libc6-dbg ;;
         text2pcap) echo wireshark-common ;;
+        systemd-analyze) echo systemd ;;
         *) echo "$1" ;;
     esac
 }

@@ -1,7 +1,8 @@
 #!/bin/sh
 # Runs the commands that README.md and the pages of a folder show, and compares what they write with what the pages show behind them.
 # A page shows them in blocks of 'console': '$ ' before a command, '> ' before its further lines. Further words behind 'console' are
-# programs that the block needs: where one isn't installed, the block is left out, and a line says so. A page's commands run one
+# programs that the block needs: where one isn't installed, the block is left out, and a line says so. 'built' stands for the built
+# programs, where a block starts a host on ports; such blocks of two runs of this script wait for each other. A page's commands run one
 # after the other in a folder with the repository's tables, examples and bench. The runs of iso_cli and rumpadol are made by the built
 # programs that are given, or else by the quick run, without proofs. Prints each block that differs, and a line of counts for each
 # page: recipes.sh FOLDER [ISO_CLI RUMPADOL]
@@ -24,6 +25,9 @@ put_on_path() {
     printf '#!/bin/sh\nexec sh "%s/scripts/kept-run.sh" "%s" "$@"\n' "$top" "$folder/$1" > "$folder/bin/$1"
     chmod +x "$folder/bin/$1"
 }
+
+built=${3:-}
+lock=${TMPDIR:-/tmp}/rumpadol-ports.lock
 
 put_on_path iso_cli ${2:+"$2"}
 put_on_path rumpadol ${3:+"$3"}
@@ -49,7 +53,11 @@ script_of() {
 # BLOCK: whether a program that it needs isn't there
 left_out() {
     for program in $(cat "$1.needs"); do
-        command -v "$program" > /dev/null || return 0
+        if [ "$program" = built ]; then
+            [ -n "$built" ] || return 0
+        else
+            command -v "$program" > /dev/null || return 0
+        fi
     done
     return 1
 }
@@ -66,7 +74,9 @@ run_blocks() {
         ln -sfn "$top/examples" "$work/examples"
         ln -sfn "$top/bench" "$work/bench"
         script_of "$block" > "$block.script"
-        (cd "$work" && PATH=$folder/bin:$PATH sh "$block.script") < /dev/null > "$block.told" 2>&1
+        wait_for=
+        if grep -qw built "$block.needs" && [ -w "$lock" -o ! -e "$lock" ]; then wait_for="flock -o $lock"; fi
+        (cd "$work" && PATH=$folder/bin:$PATH $wait_for sh "$block.script") < /dev/null > "$block.told" 2>&1
     done
 }
 

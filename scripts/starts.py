@@ -2,10 +2,11 @@
 """Starts a host where it has no right to, and one over a long journal: starts.py COMMAND
 
 COMMAND is the built rumpadol. The first rows run it as a user who is not root: over a journal that this user may not read, or not
-write, or in whose folder nothing may be made, and where a new one is to be made there; and one that only looks into a journal. Each
-has to be refused by its sentence and status 3, and everything in the folder has to be as it was. Where this is root and may mount, the
-same on a file system that can only be read; where not, a line says that it was not tried. The last rows start a host over a long
-journal: on a terminal it tells how far it is, and takes that line away again; elsewhere it tells nothing. The last line is
+write, or in whose folder nothing may be made, and where a new one is to be made there; one whose log is to go to a named pipe; and one
+that only looks into a journal. Each has to be refused by its sentence and status 3, and everything in the folder has to be as it was.
+Where this is root and may mount, the same on a file system that can only be read; where not, a line says that it was not tried. The last
+rows start a host over a long journal: on a terminal it tells how far it is, and takes that line away again; elsewhere it tells nothing.
+The last line is
     N passed, M failed
 """
 import os
@@ -22,6 +23,8 @@ ACCOUNTS = b'{"accounts":[{"currency":"840","opening":900000000,"pan":"411111111
 DENIED = "this user may not read and write it and make files beside it; give it the right to, or serve as the file's owner"
 READ_ONLY = "its file system can only be read; a host writes: mount it so, or copy the file elsewhere"
 UNREAD = "no such journal; name a file that is there and may be read"
+PIPE = ("this is a pipe, whose reader could hold up the host; name a file, or leave --log out and send the error stream to a "
+        "program")
 HOST = ["host", "--table", "ascii87", "--header", "ascii4", "--accounts", "accounts.json", "--journal"]
 # more orders than a host takes to tell of them, and as many as it tells of first
 LONG, TOLD = 66000, 65536
@@ -88,6 +91,8 @@ def try_rights(rows):
     rows.refused("a journal that may not be written", [*HOST, "kept"], DENIED, **how)
     rows.refused("a journal in a folder that may not be written", [*HOST, "shut/day"], DENIED, **how)
     rows.refused("a new journal in such a folder", [*HOST, "shut/new", "--new"], DENIED, **how)
+    os.mkfifo(os.path.join(rows.folder, "pipe"))
+    rows.refused("a named pipe as the log", [*HOST, "none", "--listen", "127.0.0.1:0", "--log", "pipe"], PIPE)
     rows.refused("a look into a journal that may not be read", ["journal", "check", "hidden"], UNREAD, **how)
 
 

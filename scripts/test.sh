@@ -27,6 +27,7 @@ jobs() {
             echo python3 scripts/command-rows.py --program rumpadol
         fi
         echo python3 tests/model/rows.py
+        echo python3 scripts/metric-names.py
     fi
     grep -rl --include='*.rt' '^ *#\[test\]' crates/*/src | cut -d/ -f2 | sort -u | sed 's|^|scripts/try-tests.sh |'
     ls crates/*/stdout | cut -d/ -f2 | sed 's|^|scripts/try-runs.sh |'
@@ -59,12 +60,40 @@ tables() {
     echo "tables: $same documents passed, $((2 - same)) failed"
 }
 
+# NAME COMMAND ..: whether an example passes, told where it doesn't
+try_example() {
+    name=$1
+    shift
+    if "$@" > "$folder/said" 2>&1 && [ ! -s "$folder/said" ]; then
+        good=$((good + 1))
+    else
+        wrong=$((wrong + 1))
+        echo "FAILED examples/$name: $(cat "$folder/said")"
+    fi
+}
+
+# what examples/ has for who runs a host: its documents are JSON, and its unit is one for systemd, wherever the program will stand
+host_examples() {
+    good=0 wrong=0
+    command -v python3 > /dev/null && for document in examples/*.json; do
+        try_example "$(basename "$document")" python3 -c 'import json, sys; json.load(open(sys.argv[1]))' "$document"
+    done
+    if command -v systemd-analyze > /dev/null; then
+        sed 's|=/usr/local/bin/rumpadol|=/bin/true|' examples/rumpadol.service > "$folder/rumpadol.service"
+        try_example rumpadol.service systemd-analyze verify "$folder/rumpadol.service"
+    else
+        echo 'LEFT OUT the unit of examples/: there is no program systemd-analyze'
+    fi
+    echo "examples: $good of a host passed, $wrong failed"
+}
+
 jobs > "$folder/jobs"
 {
     command -v python3 > /dev/null || echo 'LEFT OUT the rows of both programs and of the model: there is no program python3'
     example README.md crates/iso_host_tests/src/host/example.rt
     example examples/pieces.md crates/iso_ledger_tests/src/order/pieces.rt
     tables
+    host_examples
     xargs -P 2 -I {} scripts/counted.sh {} "$folder/ended" < "$folder/jobs"
     # a job that never came to its end has told nothing
     touch "$folder/ended"

@@ -1,12 +1,12 @@
 -- What holds after every run of both ends.
-use Rattle.std.specs.Prelude.{◌≡◌, ◌≤◌, ℕ, true, List, []}
+use Rattle.std.specs.Prelude.{◌≡◌, ◌≤◌, ℕ, true, List, [], Some}
 use Rattle.std.specs.List.{AllByRecursion}
 use Rattle.iso_order.specs.Pan.{is_pan}
 use Rattle.iso_order.specs.Order.{is_valid}
 use Rattle.iso_issuer.specs.declared.account.Account.{Account}
 use Rattle.iso_acquirer.specs.declared.event.Event.{Event}
 use Rattle.iso_acquirer.specs.declared.event.Event.TheVariants.{Begin, Timeout, Deliver, Answer, Other}
-use Rattle.iso_acquirer.specs.Acquirer.{IsFair}
+use Rattle.iso_acquirer.specs.Acquirer.{IsFair, order_at}
 use Rattle.iso_acquirer.specs.World.{World, IsRan}
 use Rattle.iso_acquirer.specs.Agreement.{BothAgree, StaysClosed, BooksAgree}
 
@@ -54,3 +54,11 @@ RunsStayClosed =
 -- once all is closed, the books agree
 abbrev pub RunsBalance : Type 0
 RunsBalance = AfterEachRun BooksAgree
+
+-- each order that was sent is the one that was made under its trace number
+abbrev pub SentAsMade : World → Type 0
+SentAsMade w = AllByRecursion (λ o. order_at w.acquirer.slots o.key.stan ≡ Some o) w.sent
+
+-- so no trace number is used for two orders
+abbrev pub RunsSendAsMade : Type 0
+RunsSendAsMade = AfterEachRun SentAsMade

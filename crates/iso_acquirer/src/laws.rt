@@ -1,6 +1,6 @@
 //! What holds after every run of both ends: a function that does nothing, and whose contract is the laws.
 
-ghost use Rattle.iso_acquirer.specs.Runs.{RunsAgree, RunsStayClosed, RunsBalance};
+ghost use Rattle.iso_acquirer.specs.Runs.{RunsAgree, RunsStayClosed, RunsBalance, RunsSendAsMade};
 
 use iso_issuer::laws::{
     answers_are_entered, granted_stands, journals_grow, keys_stay_distinct, reversals_stay,
@@ -14,6 +14,8 @@ pub fn runs_agree()
     ensures agree { RunsAgree }
     ensures closed { RunsStayClosed }
     ensures books { RunsBalance }
+    // No trace number is used for two orders.
+    ensures sent { RunsSendAsMade }
 {
     journals_grow();
     keys_stay_distinct();

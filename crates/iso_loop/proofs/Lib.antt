@@ -1,3 +1,2 @@
-mod Allowed
-mod InStep
+mod Heard
 mod Pieces

@@ -1,6 +1,6 @@
 pub mod Filling
-pub mod Guarding
 pub mod Letting
 pub mod Standing
+pub mod Turn
 pub mod Visiting
 pub mod Writing

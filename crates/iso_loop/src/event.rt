@@ -1,8 +1,9 @@
 //! What a host tells of its peers. No account number, track, PIN or chip data can stand in it: no type here has a place for
 //! one.
 
-use crate::notes::{Came, Told};
+use crate::notes::Told;
 use crate::standing::Closing;
+use iso_guard::Came;
 use iso_host::{BodyFault, Handled};
 use iso_order::TxKey;
 use std::net::SocketAddr;

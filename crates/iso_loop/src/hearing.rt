@@ -1,16 +1,17 @@
 //! What is read of a peer.
-ghost use Rattle.std.specs.Prelude.{◌≡◌, ◌≤◌, length, drop};
+ghost use Rattle.std.specs.Prelude.{◌≡◌};
 ghost use Rattle.iso_peers.specs.Host.{IsInStep};
+ghost use Rattle.iso_loop.specs.Turn.{EntersHeard};
 
-use crate::guard::Rooms;
-use crate::guarding::take_whole;
-use crate::notes::Told;
+use crate::notes::{Noted, Told};
 use crate::peer::Peer;
 use crate::standing::Closing;
 use crate::taking::take_noted;
-use iso_durable::Log;
+use iso_durable::{Log, LogFailed};
+use iso_guard::Rooms;
 use iso_host::PeerFault;
-use iso_peers::DurableHost;
+use iso_host::laws::one_journal;
+use iso_peers::{DurableHost, Turned};
 use std::io::{ErrorKind, Read, Write};
 
 /// How reading a piece went on.
@@ -41,39 +42,23 @@ fn read_piece<S: Read>(stream: &mut S, block: &mut [u8]) -> Piece {
     }
 }
 
-/// Takes bytes away from the front: all, where there are no more than so many.
-pub(crate) fn drop_front(bytes: &mut Vec<u8>, count: usize)
-    ensures { count ≤ length bytes.old.items → bytes.new.items ≡ drop count bytes.old.items }
-{
-    let count = count.min(bytes.len());
-    let left = bytes.len() - count;
-    bytes.copy_within(count.., 0);
-    bytes.truncate(left);
-}
-
 impl<S: Read + Write + Drop> Peer<'_, S> {
     /// Takes bytes of a line without a guard.
     fn hear_direct<L: Log>(&mut self, host: &mut DurableHost<L>, bytes: &[u8], told: &mut Vec<Told>)
+        ensures heard { EntersHeard host.old.host host.new.host }
         ensures log { host.new.log ≡ host.old.log }
         ensures step { IsInStep L.is_ready L.synced L.pending host.old
             → IsInStep L.is_ready L.synced L.pending host.new }
     {
-        let link = self.line.link;
-        match take_noted(
+        let taken = take_noted(
             host,
             &mut self.connection,
             bytes,
-            link,
+            self.line.link,
             &mut self.notes,
             told,
-        ) {
-            Err(_) => self.end(Closing::Stopped),
-            Ok(turned) => match turned.stopped {
-                None => {}
-                Some(PeerFault::BadHeader) => self.end(Closing::BadHeader),
-                Some(PeerFault::Memory) => self.end(Closing::Memory),
-            },
-        }
+        );
+        self.end_after(taken);
     }
 
     /// Takes bytes of a guarded line.
@@ -84,28 +69,33 @@ impl<S: Read + Write + Drop> Peer<'_, S> {
         rooms: &mut Rooms,
         told: &mut Vec<Told>,
     )
+        ensures heard { EntersHeard host.old.host host.new.host }
         ensures log { host.new.log ≡ host.old.log }
         ensures step { IsInStep L.is_ready L.synced L.pending host.old
             → IsInStep L.is_ready L.synced L.pending host.new }
     {
-        if self.held.extend_from_slice(bytes).is_err() {
-            self.end(Closing::Memory);
-            return;
-        }
-        let (link, terms) = (self.line.link, self.line.terms);
-        let whole = take_whole(
-            host,
-            link,
-            terms,
-            &self.held,
-            rooms,
-            &mut self.notes,
-            told,
-            &mut self.answers,
-        );
-        drop_front(&mut self.held, whole.used);
-        if let Some(why) = whole.stopped {
-            self.end(why);
+        // the laws of what enters, for the prover
+        one_journal(host.issuer());
+        let mut noted = Noted {
+            notes: self.notes,
+            told: std::mem::replace(told, Vec::new(self.alloc)),
+        };
+        let taken = self.guarded.take_all(host, bytes, rooms, &mut noted);
+        let Noted { notes, told: list } = noted;
+        self.notes = notes;
+        *told = list;
+        self.end_after(taken);
+    }
+
+    /// Ends it, where bytes weren't taken to their end.
+    fn end_after(&mut self, taken: Result<Turned, LogFailed>) {
+        match taken {
+            Err(_) => self.end(Closing::Stopped),
+            Ok(turned) => match turned.stopped {
+                None => {}
+                Some(PeerFault::BadHeader) => self.end(Closing::BadHeader),
+                Some(PeerFault::Memory) => self.end(Closing::Memory),
+            },
         }
     }
 
@@ -118,6 +108,7 @@ impl<S: Read + Write + Drop> Peer<'_, S> {
         rooms: &mut Rooms,
         told: &mut Vec<Told>,
     )
+        ensures heard { EntersHeard host.old.host host.new.host }
         ensures log { host.new.log ≡ host.old.log }
         ensures step { IsInStep L.is_ready L.synced L.pending host.old
             → IsInStep L.is_ready L.synced L.pending host.new }
@@ -150,6 +141,7 @@ impl<S: Read + Write + Drop> Peer<'_, S> {
     }
 
     /// Reads and decides one piece of so many bytes at most, and tells how many it had.
+    #[tactic(auto, using(crate::proofs::Heard::none_heard))]
     pub fn read<L: Log>(
         &mut self,
         host: &mut DurableHost<L>,
@@ -159,6 +151,8 @@ impl<S: Read + Write + Drop> Peer<'_, S> {
         rooms: &mut Rooms,
         told: &mut Vec<Told>,
     ) -> usize
+        // The books grow by bodies, one after the other, and by nothing else.
+        ensures heard { EntersHeard host.old.host host.new.host }
         // The log isn't called, and stays in step with the journal.
         ensures log { host.new.log ≡ host.old.log }
         ensures step { IsInStep L.is_ready L.synced L.pending host.old
@@ -170,6 +164,11 @@ impl<S: Read + Write + Drop> Peer<'_, S> {
         };
         match read_piece(&mut self.stream, room) {
             Piece::Came(count) => {
+                // A short read empties the stream, and what comes later gives an event. An end behind the bytes gives none of its
+                // own, so a peer whose end came is read until it is seen.
+                if count < most && !self.is_ending {
+                    self.may_have_come = false;
+                }
                 if let Some(bytes) = room.get(..count) {
                     self.hear(host, bytes, now, rooms, told);
                 }

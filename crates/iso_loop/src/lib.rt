@@ -6,6 +6,7 @@
 //!   answered.
 //! - `Ports` and `serve_ports`: the loop over sockets. `Control` stops it, and `LoopFault` says why it ends otherwise.
 //! - `Event` and `Lines`: what happens, for a log, and `LogLines`, which writes it as lines of JSON.
+//!   `NoWait`: a stream that such lines go to without waiting for its reader.
 //! - `Visitors`: those that come beside the peers, each with one request, as for metrics, which `Pages` answers. `Visiting`
 //!   says what is done with one.
 //! - `Filling`: when it is told how full the journal is.
@@ -14,8 +15,6 @@
 mod control;
 mod event;
 mod fault;
-mod guard;
-mod guarding;
 mod hearing;
 mod journal;
 mod json;
@@ -23,14 +22,18 @@ mod kind;
 mod letting;
 mod line;
 mod log_lines;
+mod moment;
+mod no_wait;
 mod notes;
 mod pages;
 mod peer;
 mod peers;
 mod ports;
 mod serving;
+mod share;
 mod standing;
 mod taking;
+mod tally;
 mod visiting;
 mod visitors;
 mod writing;
@@ -42,10 +45,13 @@ pub use journal::Filling;
 pub use json::{add_line, closing_word, has_line, refusal_word};
 pub use line::Line;
 pub use log_lines::LogLines;
+pub use moment::Moment;
+pub use no_wait::NoWait;
 pub use pages::{NoPages, Pages};
-pub use peers::{MOST_ORDERS, Moment, PAUSE, Peers};
+pub use peers::{PAUSE, Peers};
 pub use ports::Ports;
 pub use serving::serve_ports;
+pub use share::MOST_ORDERS;
 pub use standing::{Closing, Doing, Standing};
 pub use visiting::{MOST_REQUEST, MOST_VISITORS, STAY, Visit, Visiting, lets_visit};
 pub use visitors::Visitors;

@@ -2,17 +2,8 @@
 
 use crate::event::Counts;
 use crate::kind::{Front, kind_of};
-use iso_host::{Handled, Link, Taken};
-use iso_order::TxKey;
-
-/// What came of a frame.
-#[derive(Clone, Copy, Debug)]
-pub(crate) enum Came {
-    /// The host was given its body.
-    Handled(Handled),
-    /// It asks an order of an acquirer that the line may not speak for, and is answered so.
-    Foreign(TxKey),
-}
+use iso_guard::{Came, Noting};
+use iso_host::{Link, Taken};
 
 /// What came of a frame of a peer.
 #[derive(Clone, Copy, Debug)]
@@ -73,19 +64,21 @@ impl Notes {
             self.note(kind, Came::Handled(handled), told);
         }
     }
+}
 
-    /// Notes a frame, and the type of its message, where it has one.
-    pub fn note_message(
-        &mut self,
-        agreed: &Link,
-        message: Option<&[u8]>,
-        came: Came,
-        told: &mut Vec<Told>,
-    ) {
+/// Where the frames of a guarded peer are noted, while its bytes are taken.
+#[derive(Drop)]
+pub(crate) struct Noted {
+    pub notes: Notes,
+    pub told: Vec<Told>,
+}
+
+impl Noting for Noted {
+    fn note(&mut self, link: &Link, message: Option<&[u8]>, came: Came) {
         let kind = match message {
-            Some(message) => kind_of(agreed, message),
+            Some(message) => kind_of(link, message),
             None => None,
         };
-        self.note(kind, came, told);
+        self.notes.note(kind, came, &mut self.told);
     }
 }

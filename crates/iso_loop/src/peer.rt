@@ -2,6 +2,7 @@
 use crate::line::Line;
 use crate::notes::Notes;
 use crate::standing::{Closing, Doing, Standing};
+use iso_guard::GuardedPeer;
 use iso_peers::Connection;
 use std::alloc::Global;
 use std::io::{Read, Write};
@@ -19,10 +20,8 @@ pub(crate) struct Peer<'l, S> {
     pub alloc: Global,
     /// Of a line that isn't guarded: its unfinished frame, and the answers that wait.
     pub connection: Connection<'l>,
-    /// Of a guarded line: the bytes of its unfinished frame.
-    pub held: Vec<u8>,
-    /// Of a guarded line: the answers that wait.
-    pub answers: Vec<u8>,
+    /// Of a guarded line: the same.
+    pub guarded: GuardedPeer<'l>,
     /// What is noted of its frames.
     pub notes: Notes,
     /// How many bytes went through its buffers since their memory was given back.
@@ -31,6 +30,8 @@ pub(crate) struct Peer<'l, S> {
     pub standing: Standing,
     /// Whether something may have come that isn't read.
     pub may_have_come: bool,
+    /// Whether its end came, read or not yet.
+    pub is_ending: bool,
     /// Whether the stream may take bytes.
     pub may_take: bool,
     /// Whether it is in the list of those that a turn looks at.
@@ -52,12 +53,12 @@ impl<'l, S: Read + Write + Drop> Peer<'l, S> {
             line,
             alloc,
             connection: Connection::new(alloc, line.link),
-            held: Vec::new(alloc),
-            answers: Vec::new(alloc),
+            guarded: GuardedPeer::new(alloc, line.link, line.terms),
             notes: Notes::new(link, number),
             used: 0,
             standing: Standing::new(now),
             may_have_come: true,
+            is_ending: false,
             may_take: true,
             is_listed: false,
         }
@@ -65,12 +66,14 @@ impl<'l, S: Read + Write + Drop> Peer<'l, S> {
 
     /// How many bytes of answers wait to be written.
     pub fn waiting(&self) -> usize {
-        self.connection.waiting().saturating_add(self.answers.len())
+        self.connection
+            .waiting()
+            .saturating_add(self.guarded.waiting())
     }
 
     /// Whether no frame is unfinished.
     pub fn is_whole(&self) -> bool {
-        self.connection.may_end() && self.held.is_empty()
+        self.connection.may_end() && self.guarded.may_end()
     }
 
     /// What is done with it at this moment.
@@ -111,8 +114,7 @@ impl<'l, S: Read + Write + Drop> Peer<'l, S> {
             return;
         }
         self.connection = Connection::new(self.alloc, self.line.link);
-        self.held = Vec::new(self.alloc);
-        self.answers = Vec::new(self.alloc);
+        self.guarded = GuardedPeer::new(self.alloc, self.line.link, self.line.terms);
         self.used = 0;
     }
 }

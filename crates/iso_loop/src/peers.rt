@@ -1,66 +1,28 @@
 //! All peers of a host, and what a turn does with them.
-ghost use Rattle.std.specs.Prelude.{◌≡◌};
+ghost use Rattle.std.specs.Prelude.{◌≡◌, ◌≢◌, ℕ, All};
 ghost use Rattle.iso_peers.specs.Host.{IsInStep};
+ghost use Rattle.iso_loop.specs.Turn.{EntersHeard};
+ghost use Rattle.slab.specs.Slab.{get};
 
 use crate::event::{Event, Lines, Refusal};
-use crate::guard::Rooms;
 use crate::letting::refusal_of;
 use crate::line::Line;
+use crate::moment::Moment;
 use crate::notes::Told;
 use crate::peer::Peer;
-use crate::standing::{Closing, Doing};
+use crate::share::{BLOCK, is_full, read_share};
+use crate::standing::Closing;
+use crate::tally::{NO_PEERS, Tally};
 use iso_durable::Log;
+use iso_guard::Rooms;
 use iso_peers::DurableHost;
 use slab::Slab;
 use std::alloc::{AllocError, Global};
 use std::io::{Read, Write};
 use std::net::SocketAddr;
 
-/// How many bytes are read at once.
-pub const BLOCK: usize = 16_384;
-
-/// At least as many orders as are ever kept with one sync: a piece ends no more frames than it has bytes.
-pub const MOST_ORDERS: usize = 65_536;
-
-/// How many pieces of a peer are read in one turn.
-const READS: usize = 64;
-
 /// So often, in milliseconds, all peers are looked at for those that are late.
 pub const PAUSE: u64 = 200;
-
-/// A moment: microseconds of a clock that never goes back, and milliseconds since 1970.
-#[derive(Clone, Copy, Debug)]
-pub struct Moment {
-    /// Microseconds of a clock that never goes back.
-    pub micros: u64,
-    /// Milliseconds since 1970.
-    pub since_1970: u64,
-}
-
-impl Moment {
-    /// Milliseconds of the clock that never goes back.
-    pub fn millis(&self) -> u64 {
-        self.micros / 1_000
-    }
-}
-
-/// What the peers of a line are at, all together.
-#[derive(Clone, Copy, Debug, PartialEq, Eq)]
-struct Tally {
-    /// How many are connected.
-    peers: usize,
-    /// How many bytes came in this turn.
-    came: u64,
-    /// How many bytes were written in this turn.
-    went: u64,
-}
-
-/// A line without peers.
-const NO_PEERS: Tally = Tally {
-    peers: 0,
-    came: 0,
-    went: 0,
-};
 
 /// The peers of all lines, by their keys.
 #[derive(Drop)]
@@ -83,37 +45,6 @@ pub struct Peers<'l, S> {
     count: u64,
     /// When all peers were looked at, in milliseconds.
     looked: u64,
-}
-
-/// Whether as many orders wait as are kept with one sync, or one more piece may bring more.
-fn is_full<L: Log>(host: &DurableHost<L>) -> bool {
-    host.waits() >= MOST_ORDERS - BLOCK
-}
-
-/// Reads what came of a peer, up to its share of the turn.
-fn read_share<L: Log, S: Read + Write + Drop>(
-    peer: &mut Peer<'_, S>,
-    host: &mut DurableHost<L>,
-    now: u64,
-    block: &mut [u8],
-    rooms: &mut Rooms,
-    told: &mut Vec<Told>,
-)
-    // The log isn't called, and stays in step with the journal.
-    ensures log { host.new.log ≡ host.old.log }
-    ensures step { IsInStep L.is_ready L.synced L.pending host.old
-        → IsInStep L.is_ready L.synced L.pending host.new }
-{
-    let mut left = peer.line.terms.limits.share;
-    for _ in 0..READS {
-        if left == 0 || !peer.may_have_come || is_full(host) {
-            return;
-        }
-        if peer.doing(now) != Doing::Reads {
-            return;
-        }
-        left = left.saturating_sub(peer.read(host, left, now, block, rooms, told));
-    }
 }
 
 impl<'l, S: Read + Write + Drop> Peers<'l, S> {
@@ -215,7 +146,7 @@ impl<'l, S: Read + Write + Drop> Peers<'l, S> {
         };
         log.tell(now.since_1970, &event);
         if let Some(key) = added {
-            self.notice(key);
+            self.notice(key, false);
         }
         added
     }
@@ -228,10 +159,15 @@ impl<'l, S: Read + Write + Drop> Peers<'l, S> {
         }
     }
 
-    /// Something may have come of a peer, or it may take bytes again. One that is gone is passed over.
-    pub fn notice(&mut self, key: usize) {
+    /// Something may have come of a peer, or it may take bytes again: whether its end came too. One that is gone is passed
+    /// over.
+    pub fn notice(&mut self, key: usize, ends: bool)
+        // Every other peer is as it was.
+        ensures others { (k : ℕ) → k ≢ key → get self.new.all k ≡ get self.old.all k }
+    {
         if let Some(peer) = self.all.get_mut(key) {
             peer.may_have_come = true;
+            peer.is_ending = peer.is_ending || ends;
             peer.may_take = true;
             if !peer.is_listed {
                 peer.is_listed = self.listed.push(key).is_ok();
@@ -240,11 +176,17 @@ impl<'l, S: Read + Write + Drop> Peers<'l, S> {
     }
 
     /// Reads and decides what came of one peer, up to its share.
+    #[tactic(auto, using(crate::proofs::Heard::none_heard))]
     fn read_one<L: Log>(&mut self, host: &mut DurableHost<L>, key: usize, now: u64)
+        // The books grow by bodies, one after the other, and by nothing else.
+        ensures heard { EntersHeard host.old.host host.new.host }
         // The log isn't called, and stays in step with the journal.
         ensures log { host.new.log ≡ host.old.log }
         ensures step { IsInStep L.is_ready L.synced L.pending host.old
             → IsInStep L.is_ready L.synced L.pending host.new }
+        // Every other peer is as it was.
+        ensures others { (k : ℕ) → k ≢ key → get self.new.all k ≡ get self.old.all k }
+        ensures listed { self.new.listed ≡ self.old.listed }
     {
         if let Some(peer) = self.all.get_mut(key) {
             let before = peer.notes.counts.came;
@@ -265,11 +207,17 @@ impl<'l, S: Read + Write + Drop> Peers<'l, S> {
 
     /// Reads and decides what came, of each peer up to its share. Where more orders wait than are kept with one sync, the
     /// next turn begins with the peers that were left out.
+    #[tactic(auto, using(crate::proofs::Heard::none_heard, crate::proofs::Heard::more_heard))]
     pub fn read_all<L: Log>(&mut self, host: &mut DurableHost<L>, now: Moment)
+        // The books grow by bodies, one after the other, and by nothing else.
+        ensures heard { EntersHeard host.old.host host.new.host }
         // The log isn't called, and stays in step with the journal.
         ensures log { host.new.log ≡ host.old.log }
         ensures step { IsInStep L.is_ready L.synced L.pending host.old
             → IsInStep L.is_ready L.synced L.pending host.new }
+        // Every peer that isn't listed is as it was.
+        ensures others { (k : ℕ) → All (λ key. k ≢ key) self.old.listed.items
+            → get self.new.all k ≡ get self.old.all k }
     {
         let count = self.listed.len();
         self.left_out = count;
@@ -285,7 +233,11 @@ impl<'l, S: Read + Write + Drop> Peers<'l, S> {
     }
 
     /// Writes to a peer what waits for it and may be handed out.
-    fn write_one<L: Log>(&mut self, host: &DurableHost<L>, key: usize, now: u64) {
+    fn write_one<L: Log>(&mut self, host: &DurableHost<L>, key: usize, now: u64)
+        // Every other peer is as it was.
+        ensures others { (k : ℕ) → k ≢ key → get self.new.all k ≡ get self.old.all k }
+        ensures listed { self.new.listed ≡ self.old.listed }
+    {
         if let Some(peer) = self.all.get_mut(key)
             && peer.waiting() > 0
         {
@@ -299,7 +251,11 @@ impl<'l, S: Read + Write + Drop> Peers<'l, S> {
     }
 
     /// Writes to each peer what waits for it and may be handed out.
-    pub fn write_all<L: Log>(&mut self, host: &DurableHost<L>, now: Moment) {
+    pub fn write_all<L: Log>(&mut self, host: &DurableHost<L>, now: Moment)
+        // Every peer that isn't listed is as it was.
+        ensures others { (k : ℕ) → All (λ key. k ≢ key) self.old.listed.items
+            → get self.new.all k ≡ get self.old.all k }
+    {
         for place in 0..self.listed.len() {
             if let Some(key) = self.listed.get(place).copied() {
                 self.write_one(host, key, now.millis());
@@ -330,7 +286,10 @@ impl<'l, S: Read + Write + Drop> Peers<'l, S> {
     }
 
     /// Closes a peer, and tells why.
-    pub fn close<N: Lines>(&mut self, key: usize, why: Closing, now: Moment, log: &mut N) {
+    pub fn close<N: Lines>(&mut self, key: usize, why: Closing, now: Moment, log: &mut N)
+        // Every other peer is as it was.
+        ensures others { (k : ℕ) → k ≢ key → get self.new.all k ≡ get self.old.all k }
+    {
         if let Some(peer) = self.all.try_remove(key) {
             if let Some(tally) = self.tallies.get_mut(peer.notes.link) {
                 tally.peers = tally.peers.saturating_sub(1);
@@ -348,7 +307,10 @@ impl<'l, S: Read + Write + Drop> Peers<'l, S> {
     }
 
     /// Closes a peer, if it is to be closed.
-    fn close_one<N: Lines>(&mut self, key: usize, now: Moment, log: &mut N) {
+    fn close_one<N: Lines>(&mut self, key: usize, now: Moment, log: &mut N)
+        // Every other peer is as it was.
+        ensures others { (k : ℕ) → k ≢ key → get self.new.all k ≡ get self.old.all k }
+    {
         let closing = match self.all.get(key) {
             Some(peer) => peer.closing(now.millis()),
             None => None,
@@ -359,7 +321,10 @@ impl<'l, S: Read + Write + Drop> Peers<'l, S> {
     }
 
     /// Lists a peer for the next turn, where that turn reads it or writes to it without a further event.
-    fn list_again(&mut self, key: usize, now: u64, is_left_out: bool) {
+    fn list_again(&mut self, key: usize, now: u64, is_left_out: bool)
+        // Every other peer is as it was.
+        ensures others { (k : ℕ) → k ≢ key → get self.new.all k ≡ get self.old.all k }
+    {
         if let Some(peer) = self.all.get_mut(key) {
             peer.is_listed = is_left_out || peer.goes_on(now);
             if peer.is_listed {

@@ -3,8 +3,9 @@
 use crate::control::Control;
 use crate::event::{Event, Lines};
 use crate::fault::{LoopFault, Unbound};
+use crate::moment::Moment;
 use crate::pages::Pages;
-use crate::peers::{Moment, Peers};
+use crate::peers::Peers;
 use crate::standing::Closing;
 use crate::visiting::MOST_VISITORS;
 use crate::visitors::Visitors;
@@ -192,7 +193,7 @@ impl Ports {
                     }
                 }
                 Token(key) if key >= VISITORS => self.visitors.notice(key - VISITORS),
-                Token(key) => peers.notice(key),
+                Token(key) => peers.notice(key, event.is_read_closed() || event.is_error()),
             }
         }
         Ok(stops)

@@ -2,6 +2,7 @@
 ghost use Rattle.std.specs.Prelude.{◌≡◌, IfOk};
 ghost use Rattle.iso_peers.specs.Host.{IsInStep};
 ghost use Rattle.iso_peers.specs.Turn.{TakesAll};
+ghost use Rattle.iso_loop.specs.Turn.{EntersHeard};
 
 use crate::notes::{Notes, Told};
 use iso_durable::{Log, LogFailed};
@@ -23,6 +24,8 @@ pub(crate) fn take_noted<L: Log>(
     ensures took { IfOk result (TakesAll connection.old connection.new host.old.host host.new.host bytes.now) }
     ensures table { connection.new.peer.table ≡ connection.old.peer.table }
     ensures header { connection.new.peer.header ≡ connection.old.peer.header }
+    // The books grow by bodies, one after the other, and by nothing else.
+    ensures heard { EntersHeard host.old.host host.new.host }
     // The log isn't called, and stays in step with the journal.
     ensures log { host.new.log ≡ host.old.log }
     ensures kept { host.new.kept ≡ host.old.kept }

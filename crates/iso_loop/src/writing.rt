@@ -3,10 +3,10 @@ ghost use Rattle.std.specs.Prelude.{◌≡◌, drop};
 ghost use Rattle.iso_peers.specs.Host.{IsKept};
 ghost use Rattle.iso_loop.specs.Writing.{WritesFront, IfTook, taken_by};
 
-use crate::hearing::drop_front;
 use crate::peer::Peer;
 use crate::standing::Closing;
 use iso_durable::Log;
+use iso_guard::GuardedPeer;
 use iso_peers::{Connection, DurableHost};
 use std::io::{ErrorKind, Read, Write};
 
@@ -67,25 +67,29 @@ fn write_waiting<L: Log, S: Write>(
     went
 }
 
-/// Writes a front of the answers that wait for a peer of a guarded line, where those on a connection might be handed out.
-fn write_answers<L: Log, S: Write>(
+/// Writes a front of the answers that wait for a peer of a guarded line, where they may be handed out.
+fn write_guarded<L: Log, S: Write>(
     host: &DurableHost<L>,
-    connection: &Connection<'_>,
-    answers: &mut Vec<u8>,
+    peer: &mut GuardedPeer<'_>,
     stream: &mut S,
 ) -> Went
     // Only a front of what waits is written, and what is written waits no more.
-    ensures front { WritesFront (S.contents stream.old) (S.contents stream.new) answers.old.items result }
-    ensures waits { answers.new.items ≡ drop (taken_by result) answers.old.items }
+    ensures front { WritesFront (S.contents stream.old) (S.contents stream.new) peer.old.waiting result }
+    ensures waits { peer.new.waiting ≡ drop (taken_by result) peer.old.waiting }
+    ensures held { peer.new.held ≡ peer.old.held }
+    ensures guard { peer.new.guard ≡ peer.old.guard }
     // Nothing is written unless every order is kept.
     ensures kept { IfTook result (IsKept host.now) }
 {
-    if host.hand_out(connection).is_none() || answers.is_empty() {
+    let Some(bytes) = peer.hand_out(host) else {
+        return Went::Later;
+    };
+    if bytes.is_empty() {
         return Went::Later;
     }
-    let went = write_front(stream, answers);
+    let went = write_front(stream, bytes);
     if let Went::Took(count) = went {
-        drop_front(answers, count);
+        peer.written(count);
     }
     went
 }
@@ -94,7 +98,7 @@ impl<S: Read + Write + Drop> Peer<'_, S> {
     /// Writes a piece of what waits and may be handed out, and tells how many bytes were taken.
     fn write_piece<L: Log>(&mut self, host: &DurableHost<L>) -> usize {
         let went = if self.line.is_guarded() {
-            write_answers(host, &self.connection, &mut self.answers, &mut self.stream)
+            write_guarded(host, &mut self.guarded, &mut self.stream)
         } else {
             write_waiting(host, &mut self.connection, &mut self.stream)
         };

@@ -1,5 +1,6 @@
 //! The lines of a log.
 
+use crate::stream::Script;
 use iso_fakes::{check, check_of};
 use iso_host::{BodyFault, HostTable, Link};
 use iso_links::{Limits, Terms};
@@ -121,6 +122,20 @@ fn terms(alloc: Global, name: &str) -> Option<Terms> {
     })
 }
 
+/// How many turns a writer has that takes few bytes in each.
+const TURNS: usize = 32;
+
+/// Tells two events to a writer that takes so many bytes a turn, and gives how many lines were dropped.
+fn write_slowly(alloc: Global, lines: &[Line<'_>], takes: usize, out: &mut Vec<u8>) -> u64 {
+    let mut log = LogLines::new(alloc, lines, Script::new(&[], 0, takes, out));
+    log.tell(1, &Event::Stopping { why: Stop::File });
+    log.tell(1, &Event::Stopping { why: Stop::Input });
+    for _ in 0..TURNS {
+        log.flush();
+    }
+    log.dropped()
+}
+
 /// Writes what a log of these lines tells of an event, a millisecond after the year 1970 began.
 fn write_event(alloc: Global, lines: &[Line<'_>], event: &Event, out: &mut Vec<u8>) {
     let mut log = LogLines::new(alloc, lines, out);
@@ -155,6 +170,20 @@ fn tells(alloc: Global, event: &Event, line: &str) -> bool {
 fn events_have_lines(rt: HostRuntime) -> Result<(), Fail> {
     for row in ROWS {
         check_of(tells(rt.alloc(), &row.event, row.line), "a line", row.line)?;
+    }
+    Ok(())
+}
+
+#[test]
+fn a_writer_that_takes_nothing_now_gets_the_lines_later(rt: HostRuntime) -> Result<(), Fail> {
+    let wanted = "{\"at\":\"1970-01-01T00:00:00.001Z\",\"event\":\"stopping\",\"why\":\"stop-file\"}
+{\"at\":\"1970-01-01T00:00:00.001Z\",\"event\":\"stopping\",\"why\":\"end-of-input\"}
+";
+    for takes in [7, 70, 7000] {
+        let mut out = Vec::new(rt.alloc());
+        let dropped = write_slowly(rt.alloc(), &[], takes, &mut out);
+        check(dropped == 0, "no line is dropped")?;
+        check(out.as_slice() == wanted.as_bytes(), "two whole lines")?;
     }
     Ok(())
 }

@@ -110,6 +110,8 @@ struct Allowed {
     waiting: usize,
     /// How many syncs the log takes before it fails.
     syncs: u32,
+    /// Whether each event says that the peer's end came.
+    ends: bool,
 }
 
 /// All that is usual.
@@ -120,6 +122,7 @@ const USUAL: Allowed = Allowed {
     peers: 10,
     waiting: 1_000,
     syncs: 100,
+    ends: true,
 };
 
 /// A link of ASCII digits, or of BCD.
@@ -202,10 +205,10 @@ fn let_all<'t>(
     }
 }
 
-/// Something may come of each peer.
-fn begin(peers: &mut Peers<'_, Script<'_>>, keys: &[usize]) {
+/// Something may come of each peer, and its end too or not.
+fn begin(peers: &mut Peers<'_, Script<'_>>, keys: &[usize], ends: bool) {
     for key in keys {
-        peers.notice(*key);
+        peers.notice(*key, ends);
     }
 }
 
@@ -226,6 +229,7 @@ fn turn(
 /// Lets the peers in, and takes the turns.
 fn take_turns<'l, 't>(
     row: &Row,
+    ends: bool,
     mut peers: Peers<'l, Script<'t>>,
     host: &mut DurableHost<ToldLog>,
     outs: &'t mut [Vec<u8>],
@@ -235,7 +239,7 @@ fn take_turns<'l, 't>(
     let_all(&mut peers, row.parts, outs, keys, seen);
     let mut last = 0;
     for now in row.turns {
-        begin(&mut peers, keys);
+        begin(&mut peers, keys, ends);
         turn(&mut peers, host, at(*now), seen);
         last = *now;
     }
@@ -303,6 +307,7 @@ fn wrong_of(alloc: Global, row: &Row, allowed: &Allowed) -> Option<Option<&'stat
     let peers = Peers::new(alloc, &lines).ok()?;
     take_turns(
         row,
+        allowed.ends,
         peers,
         &mut host,
         outs.as_mut_slice(),
@@ -532,6 +537,38 @@ fn a_peer_that_never_reads_is_not_read_from(rt: HostRuntime) -> Result<(), Fail>
         ..USUAL
     };
     check_rows(rt.alloc(), UNREAD, &allowed)
+}
+
+const SHORT: &[Row] = &[
+    Row {
+        name: "bytes behind a short read wait for an event",
+        parts: &[part!(0, &[Coming::Bytes(ECHO), Coming::Bytes(PURCHASE)], ECHOED)],
+        turns: &[1],
+        stops: false,
+        closed: &[],
+        refused: &[],
+        answered: &[],
+        bad: (0, 0),
+    },
+    Row {
+        name: "an end behind a short read waits for an event",
+        parts: &[part!(0, &[Coming::Bytes(ECHO), Coming::End], ECHOED)],
+        turns: &[1, 2],
+        stops: false,
+        closed: &[(1, 2, Closing::Ended)],
+        refused: &[],
+        answered: &[],
+        bad: (0, 0),
+    },
+];
+
+#[test]
+fn a_short_read_empties_a_stream(rt: HostRuntime) -> Result<(), Fail> {
+    let allowed = Allowed {
+        ends: false,
+        ..USUAL
+    };
+    check_rows(rt.alloc(), SHORT, &allowed)
 }
 
 const FAILING: &[Row] = &[Row {

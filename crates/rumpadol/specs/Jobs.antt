@@ -1,23 +1,11 @@
--- What is done where a job about tables ends with a status.
-use Rattle.std.specs.Prelude.{◌≡◌, Bool, if◌then◌else◌, ℕ, List, Option, map, ⊤}
-use Rattle.std.specs.Io.KnownBytes.{Appends}
-use Rattle.rumpadol.specs.Tables.{ChecksOver, Compares, ListsOver, MakesOver}
+-- What is done where a job ends with a status.
+use Rattle.std.specs.Prelude.{◌≡◌, ℕ, List, Option, ⊤}
+use Rattle.rumpadol_tables.specs.Jobs.{Does}
 use Rattle.rumpadol.specs.declared.words.Job.{Job}
 use Rattle.rumpadol.specs.declared.words.Job.TheVariants as all
-use Rattle.rumpadol.specs.declared.words.TableJob.{TableJob}
-use Rattle.rumpadol.specs.declared.words.TableJob.TheVariants as jobs
 
--- what the output gains and with which status, by the job; of two tables the status says whether they differ
-abbrev pub Does : TableJob → (List ℕ → Option (List ℕ)) → Option (List ℕ) → Option (List ℕ) → Option (List ℕ) → ℕ → Type 0
-Does (jobs.Check word) file input old new status = (status ≡ 0) × ChecksOver file input word.now old new
-Does (jobs.Show word names) file input old new status = (status ≡ 0) × ((lines : List ℕ) × Appends old new lines)
-Does jobs.List file input old new status = (status ≡ 0) × ListsOver old new
-Does (jobs.New words) file input old new status =
-    (status ≡ 0) × MakesOver file input words.from.now words.drops.items (map (λ row. row.now) words.rows.items) old new
-Does (jobs.Diff first second) file input old new status =
-    (differ : Bool) × (status ≡ (if differ then 1 else 0)) × Compares file input first.now second.now old new differ
-
--- the same of any job; of one about messages or a journal nothing is said here, and of a host that it served to the end of its input
+-- what the output gains and with which status, of a job about tables; of one about messages or a journal nothing is said here, and of a
+-- host that it served to the end of its input
 abbrev pub Performs : Job → (List ℕ → Option (List ℕ)) → Option (List ℕ) → Option (List ℕ) → Option (List ℕ) → ℕ → Type 0
 Performs (all.Tables job) file input old new status = Does job file input old new status
 Performs (all.Messages job) file input old new status = ⊤

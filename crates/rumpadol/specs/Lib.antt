@@ -1,5 +1,1 @@
-pub mod Stop
-pub mod Source
-pub mod Named
-pub mod Tables
 pub mod Jobs

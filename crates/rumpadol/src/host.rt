@@ -1,59 +1,25 @@
 //! A host over a journal that outlives it.
 
-ghost use Rattle.std.specs.Prelude.{◌≡◌, true, false, IfOk};
-ghost use Rattle.iso_service.specs.Refusal.{is_refusal};
-ghost use Rattle.rumpadol.specs.Named.{IsNamed};
-ghost use Rattle.rumpadol.specs.Stop.{status_of};
+ghost use Rattle.std.specs.Prelude.{◌≡◌, IfOk};
+ghost use Rattle.rumpadol_tables.specs.Named.{IsNamed};
 
-use crate::documents::{STANDARD_INPUT, document_at};
-use crate::named::table_named;
-use crate::progress::Progress;
-use crate::source::Source;
-use crate::stop::{Stop, failed, misused, refused, write_output};
+use crate::ports::perform_ports;
+use crate::system::System;
 use crate::terminal::Terminals;
-use crate::words::HostWords;
+use crate::words::{HostWords, Place, StreamWords};
 use iso_host::{HostTable, Link, Report, Std};
-use iso_issuer::{Accounts, AccountsFault};
-use iso_peers::DurableHost;
-use iso_record::Heading;
-use iso_service::{
-    FileFault, Journals, RULES, ServiceFault, StartFault, make_journal, serve_kept, start,
-};
+use iso_service::{Journals, ServiceFault, serve_kept};
 use iso_table::Table;
 use iso_wire::Header;
+use rumpadol_journals::{accounts_at, not_kept, start_host};
+use rumpadol_tables::{
+    STANDARD_INPUT, Source, Stop, failed, misused, refused, table_named, write_output,
+};
 use std::alloc::Global;
 use std::io::{Read, Write};
 
-/// What is said of accounts that can't be read.
-const NO_ACCOUNTS: &str =
-    "the accounts can't be read; name a document that is there and may be read";
-
-/// How the program stops where a host doesn't start.
-fn not_started(alloc: Global, path: &str, fault: StartFault) -> Stop
-    ensures refused { status_of result ≡ 1 → is_refusal fault ≡ true }
-    ensures failed { is_refusal fault ≡ false → status_of result ≡ 3 }
-{
-    if matches!(fault, StartFault::File(FileFault::Memory)) {
-        return Stop::Memory;
-    }
-    if fault.is_refusal() {
-        return refused(format!(in alloc; "rumpadol: {path}: {fault}\n"));
-    }
-    failed(format!(in alloc; "rumpadol: {path}: {fault}\n"))
-}
-
-/// How the program stops where a document lists no accounts.
-fn no_accounts(alloc: Global, path: &str, fault: AccountsFault) -> Stop {
-    match fault {
-        AccountsFault::Memory => Stop::Memory,
-        fault => refused(format!(in alloc;
-            "rumpadol: {path}: {fault}; list accounts as {{\"accounts\":[{{\"currency\":\"840\",\"opening\":100000,\"pan\":\"4111111111111111\"}}]}}\n"
-        )),
-    }
-}
-
 /// What both ends of the stream have agreed on, under the table that a word names.
-fn link_under(alloc: Global, word: &str, table: Table, header: Header) -> Result<Link, Stop>
+pub fn link_under(alloc: Global, word: &str, table: Table, header: Header) -> Result<Link, Stop>
     ensures table { IfOk result (λ link. link.table ≡ table) }
     ensures header { IfOk result (λ link. link.header ≡ header) }
 {
@@ -94,9 +60,7 @@ fn stopped(alloc: Global, path: &str, fault: ServiceFault) -> Stop {
         }
         ServiceFault::Write => Stop::Output,
         ServiceFault::Memory => Stop::Memory,
-        ServiceFault::Log => failed(format!(in alloc;
-            "rumpadol: {path}: an order couldn't be kept, and none that waited was answered; see that its device is well and has room, and start the host again: each order that comes again gets its first answer\n"
-        )),
+        ServiceFault::Log => not_kept(alloc, path),
     }
 }
 
@@ -123,9 +87,10 @@ fn tell_report<F: Write>(
 }
 
 /// Serves the frames of the input.
-pub fn perform_host<S: Source + Journals, I: Read, O: Write, F: Write>(
+fn perform_stream<S: Source + Journals, I: Read, O: Write, F: Write>(
     alloc: Global,
-    words: HostWords<'_>,
+    words: &HostWords<'_>,
+    stream: StreamWords<'_>,
     source: &S,
     terminals: Terminals,
     input: &mut I,
@@ -134,36 +99,42 @@ pub fn perform_host<S: Source + Journals, I: Read, O: Write, F: Write>(
 ) -> Result<u8, Stop>
     ensures { IfOk result (λ status. status ≡ 0) }
 {
-    let link = link_of(alloc, words.table, words.header, source, input)?;
-    let text = document_at(alloc, source, words.accounts, NO_ACCOUNTS)?;
-    let accounts = match Accounts::from_json(alloc, &text) {
-        Ok(accounts) => accounts,
-        Err(fault) => return Err(no_accounts(alloc, words.accounts, fault)),
-    };
-    let heading = Heading::of(RULES, &text);
-    if words.is_new
-        && let Err(fault) = make_journal(source, words.journal, &heading)
-    {
-        return Err(not_started(alloc, words.journal, fault));
-    }
-    let mut progress = Progress::new(faults, terminals.faults);
-    let started = start(
+    let link = link_of(alloc, stream.table, stream.header, source, input)?;
+    let (accounts, heading) = accounts_at(alloc, source, words.kept.accounts)?;
+    let mut host = start_host(
         alloc,
-        source,
-        words.journal,
-        &heading,
+        words.kept,
         accounts,
-        &mut progress,
-    );
-    progress.clear();
-    let started = match started {
-        Ok(started) => started,
-        Err(fault) => return Err(not_started(alloc, words.journal, fault)),
-    };
-    let mut host = DurableHost::new(alloc, started);
+        &heading,
+        source,
+        terminals.faults,
+        faults,
+    )?;
     let (mut reader, mut writer) = (Std::new(input), Std::new(output));
     match serve_kept(alloc, &mut host, &link, &mut reader, &mut writer) {
         Ok(report) => tell_report(alloc, host.issuer().len(), report, faults),
-        Err(fault) => Err(stopped(alloc, words.journal, fault)),
+        Err(fault) => Err(stopped(alloc, words.kept.journal, fault)),
+    }
+}
+
+/// Serves the frames of the input, or those of the peers on ports.
+pub fn perform_host<S: Source + Journals + System, I: Read, O: Write, F: Write>(
+    alloc: Global,
+    words: &HostWords<'_>,
+    source: &S,
+    terminals: Terminals,
+    input: &mut I,
+    output: &mut O,
+    faults: &mut F,
+) -> Result<u8, Stop>
+    ensures { IfOk result (λ status. status ≡ 0) }
+{
+    match words.place {
+        Place::Streams(stream) => perform_stream(
+            alloc, words, stream, source, terminals, input, output, faults,
+        ),
+        Place::Listen(_) | Place::Links(_) => {
+            perform_ports(alloc, words, source, terminals, input, faults)
+        }
     }
 }

@@ -5,33 +5,27 @@
 //! - `encode TABLE [INPUT]`: messages from such lines or such JSON
 //! - `convert FROM TO [INPUT]`: messages under another table
 //! - `table check`, `show`, `list`, `new` and `diff`: tables
-//! - `host`: answers frames as an issuer, and keeps each order before it is answered
+//! - `host`: answers frames as an issuer, of a stream or of many peers on ports, and keeps each order before it is answered
 //! - `journal show`, `check`, `export` and `balance`: the file of a journal
 #![tactic(auto)]
 
 mod act;
-mod books;
 mod commands;
-mod documents;
 mod host;
-mod journals;
 mod messages;
-mod named;
-mod progress;
-mod source;
-mod stop;
-mod table;
+mod ports;
+mod system;
 mod terminal;
 mod words;
 
 use act::act;
-use source::Disk;
+use rumpadol_journals::Disk;
+use rumpadol_tables::{Stop, tell};
 use std::alloc::{AllocError, Global};
 use std::env;
 use std::env::Env;
 use std::io::{ErrorKind, IsTerminal};
 use std::process::ExitCode;
-use stop::{Stop, tell};
 use terminal::{Terminals, asks_for_no_colours};
 
 /// The words that the program is given, the first of which is its name.

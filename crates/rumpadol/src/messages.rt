@@ -2,16 +2,15 @@
 
 ghost use Rattle.std.specs.Prelude.{◌≡◌, ◌≤◌, IfOk};
 
-use crate::documents::STANDARD_INPUT;
-use crate::named::{names_named, table_named};
-use crate::source::{Source, SourceFault};
-use crate::stop::{Stop, failed, misused, refused};
 use crate::terminal::Terminals;
 use crate::words::{ConvertWords, MessageJob, MessageWords};
 use iso_explain::Style;
 use iso_jobs::{Form, Work, make_messages, work_on};
 use iso_names::Names;
 use iso_table::Table;
+use rumpadol_tables::{
+    STANDARD_INPUT, Source, SourceFault, Stop, failed, misused, names_named, refused, table_named,
+};
 use std::alloc::Global;
 use std::io::{Read, Write};
 

@@ -1,9 +1,11 @@
 //! What the words of a command line ask.
 
-use crate::documents::STANDARD_INPUT;
 use clap::ArgMatches;
 use iso_books::Form;
+use iso_links::Limits;
 use iso_wire::Header;
+use rumpadol_journals::{BooksJob, BooksWords, KeptWords};
+use rumpadol_tables::{NewWords, STANDARD_INPUT, TableJob};
 use std::alloc::{AllocError, Global};
 
 /// The words about messages that are read or written under one table.
@@ -44,32 +46,6 @@ pub struct ConvertWords<'a> {
     pub skip: u16,
 }
 
-/// The words about a table that is made from another one.
-#[derive(Debug, Drop)]
-pub struct NewWords<'a> {
-    /// The name or path of the table to begin with.
-    pub from: &'a str,
-    /// The elements whose rows are left out.
-    pub drops: Vec<u16>,
-    /// The rows that are set, each as a text.
-    pub rows: Vec<&'a str>,
-}
-
-/// What is asked about tables.
-#[derive(Debug, Drop)]
-pub enum TableJob<'a> {
-    /// `check TABLE`
-    Check(&'a str),
-    /// `show TABLE [--names FILE]`
-    Show(&'a str, Option<&'a str>),
-    /// `list`
-    List,
-    /// `new [--from TABLE] [--set ROW].. [--drop N]..`
-    New(NewWords<'a>),
-    /// `diff A B`
-    Diff(&'a str, &'a str),
-}
-
 /// What is asked about messages.
 #[derive(Clone, Copy, Debug)]
 pub enum MessageJob<'a> {
@@ -83,41 +59,50 @@ pub enum MessageJob<'a> {
     Convert(ConvertWords<'a>),
 }
 
-/// The words about a host.
+/// The words about a stream of frames.
 #[derive(Clone, Copy, Debug)]
-pub struct HostWords<'a> {
+pub struct StreamWords<'a> {
     /// The table's name or path.
     pub table: &'a str,
     /// The header of frames.
     pub header: Header,
-    /// The path of the accounts' document.
-    pub accounts: &'a str,
-    /// The path of the journal.
-    pub journal: &'a str,
-    /// Whether the journal is made.
-    pub is_new: bool,
 }
 
-/// The words about a journal's file.
+/// The words about the one link of a host.
 #[derive(Clone, Copy, Debug)]
-pub struct BooksWords<'a> {
-    /// The path of the file.
-    pub file: &'a str,
-    /// In which form it is told.
-    pub form: Form,
-    /// Whether account numbers are shown in full.
-    pub is_clear: bool,
+pub struct ListenWords<'a> {
+    /// The address on which the host listens.
+    pub address: &'a str,
+    /// How the peers write.
+    pub stream: StreamWords<'a>,
+    /// What is allowed to them.
+    pub limits: Limits,
 }
 
-/// What is asked about a journal's file.
+/// Where the peers of a host are.
 #[derive(Clone, Copy, Debug)]
-pub enum BooksJob<'a> {
-    /// `show FILE [--json] [--clear]`, `export FILE --csv | --json [--clear]`
-    Show(BooksWords<'a>),
-    /// `check FILE [--accounts FILE]`
-    Check(BooksWords<'a>, Option<&'a str>),
-    /// `balance FILE --accounts FILE [--json] [--clear]`
-    Balance(BooksWords<'a>, &'a str),
+pub enum Place<'a> {
+    /// One at the standard streams.
+    Streams(StreamWords<'a>),
+    /// At one address.
+    Listen(ListenWords<'a>),
+    /// At the addresses of the links' document at this path.
+    Links(&'a str),
+}
+
+/// The words about a host.
+#[derive(Clone, Copy, Debug)]
+pub struct HostWords<'a> {
+    /// Where its peers are.
+    pub place: Place<'a>,
+    /// Where it keeps its orders.
+    pub kept: KeptWords<'a>,
+    /// The path of the log of what happens.
+    pub log: Option<&'a str>,
+    /// The address at which the host tells its metrics.
+    pub metrics: Option<&'a str>,
+    /// The path of the file that stops the host.
+    pub stop_file: Option<&'a str>,
 }
 
 /// What the words ask.
@@ -156,7 +141,7 @@ impl<'a> Job<'a> {
                 *first == STANDARD_INPUT || *second == STANDARD_INPUT
             }
             Job::Tables(TableJob::List) | Job::Books(_) => false,
-            Job::Host(_) => true,
+            Job::Host(words) => matches!(words.place, Place::Streams(_)),
         }
     }
 }
@@ -212,13 +197,61 @@ fn convert_words<'a>(matches: &ArgMatches<'a>) -> ConvertWords<'a> {
     }
 }
 
-fn host_words<'a>(matches: &ArgMatches<'a>) -> HostWords<'a> {
-    HostWords {
+fn stream_words<'a>(matches: &ArgMatches<'a>) -> StreamWords<'a> {
+    StreamWords {
         table: text_of(matches, "table"),
         header: header_named(text_of(matches, "header")),
+    }
+}
+
+/// The number of a limit; each limit has a default, so none is missing.
+fn limit_of(matches: &ArgMatches<'_>, id: &str) -> u32 {
+    matches.get_one::<u32>(id).unwrap_or(1)
+}
+
+/// What is allowed to the peers of a link by words.
+fn limits_of(matches: &ArgMatches<'_>) -> Limits {
+    Limits {
+        peers: limit_of(matches, "peers") as usize,
+        idle: limit_of(matches, "idle"),
+        frame: limit_of(matches, "frame"),
+        unread: limit_of(matches, "unread"),
+        waiting: limit_of(matches, "waiting") as usize,
+        share: Limits::DEFAULT.share,
+    }
+}
+
+/// Where the peers of a host are.
+fn place_of<'a>(matches: &ArgMatches<'a>) -> Place<'a> {
+    if let Some(path) = matches.get_str("links") {
+        return Place::Links(path);
+    }
+    let stream = stream_words(matches);
+    match matches.get_str("listen") {
+        Some(address) => Place::Listen(ListenWords {
+            address,
+            stream,
+            limits: limits_of(matches),
+        }),
+        None => Place::Streams(stream),
+    }
+}
+
+fn kept_words<'a>(matches: &ArgMatches<'a>) -> KeptWords<'a> {
+    KeptWords {
         accounts: text_of(matches, "accounts"),
         journal: text_of(matches, "journal"),
         is_new: matches.get_flag("new"),
+    }
+}
+
+fn host_words<'a>(matches: &ArgMatches<'a>) -> HostWords<'a> {
+    HostWords {
+        place: place_of(matches),
+        kept: kept_words(matches),
+        log: matches.get_str("log"),
+        metrics: matches.get_str("metrics"),
+        stop_file: matches.get_str("stop-file"),
     }
 }
 

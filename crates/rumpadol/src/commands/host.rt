@@ -1,11 +1,67 @@
-//! The subcommand that answers a stream of frames.
+//! The subcommand that answers frames.
 
 use super::arguments::{HEADERS, flag, option};
-use clap::Command;
+use clap::builder::ValueParser;
+use clap::{Arg, Command};
+use iso_links::{MOST_PEERS, MOST_SECONDS, MOST_WAITING};
 use std::alloc::{AllocError, Global};
 
-/// `host`
-pub fn host_command<'a>(alloc: Global) -> Result<Command<'a>, AllocError> {
+/// The group of the words that name ports.
+const PORTS: &str = "ports";
+
+/// What stands behind the help.
+const EXAMPLES: &str =
+    "Without --listen and --links the frames of one peer come on the input, and the frames of the answers go to the output.
+A host on ports stops once its stop file is there, or once standard input ends where that is a pipe.
+
+Examples:
+  rumpadol host --listen 0.0.0.0:8583 --table bcd87 --header binary2 --accounts accounts.json --journal day.journal --new
+      a host for many peers at once; killed and started again without --new, it remembers all it answered
+  rumpadol host --links links.json --accounts accounts.json --journal day.journal --log host.log
+      the same on the addresses of a document, each with a table and a header of its own
+  rumpadol host --table ascii87 --header ascii4 --accounts accounts.json --journal day.journal < day.txt
+      the answers to the frames of a file";
+
+/// A limit of the peers of the link by words: a whole number, 1 to the most, with a default.
+fn limit<'a>(
+    alloc: Global,
+    id: &'static str,
+    shown: &'static str,
+    most: u32,
+    default: &'static str,
+    help: &'static str,
+) -> Result<Arg<'a>, AllocError> {
+    option(alloc, id, shown, help)
+        .value_parser(ValueParser::Unsigned(1, u64::from(most)))
+        .default_value(default)
+        .conflicts_with("links")?
+        .requires_arg("listen")
+}
+
+/// A word of a host on ports.
+fn port_option<'a>(
+    alloc: Global,
+    id: &'static str,
+    shown: &'static str,
+    help: &'static str,
+) -> Result<Arg<'a>, AllocError> {
+    option(alloc, id, shown, help).requires_arg(PORTS)
+}
+
+/// The words that say where the peers of a host are, and how they write.
+fn with_places<'a>(alloc: Global, command: Command<'a>) -> Result<Command<'a>, AllocError> {
+    let listen = option(
+        alloc,
+        "listen",
+        "ADDRESS",
+        "Serves many peers at this address and port, as 0.0.0.0:8583 or [::]:8583",
+    );
+    let links = option(
+        alloc,
+        "links",
+        "FILE",
+        "Serves many peers on the links of this document",
+    );
     let table = option(
         alloc,
         "table",
@@ -18,6 +74,24 @@ pub fn host_command<'a>(alloc: Global) -> Result<Command<'a>, AllocError> {
         "HEADER",
         "How each frame counts the bytes of its message",
     );
+    command
+        .arg(listen.group(PORTS)?.conflicts_with("links")?)?
+        .arg(
+            links
+                .group(PORTS)?
+                .conflicts_with("table")?
+                .conflicts_with("header")?,
+        )?
+        .arg(table.required_unless_present("links")?)?
+        .arg(
+            header
+                .required_unless_present("links")?
+                .value_parser(HEADERS),
+        )
+}
+
+/// The words that name the files of a host.
+fn with_files<'a>(alloc: Global, command: Command<'a>) -> Result<Command<'a>, AllocError> {
     let accounts = option(alloc, "accounts", "FILE", "The document of the accounts");
     let journal = option(
         alloc,
@@ -30,16 +104,81 @@ pub fn host_command<'a>(alloc: Global) -> Result<Command<'a>, AllocError> {
         "new",
         "Makes the journal, where nothing has its name yet",
     );
-    Command::new(alloc, "host")
-        .about("Answers frames as an issuer, and keeps each order before it is answered")
-        .after_help(
-            "Example:
-  rumpadol host --table ascii87 --header ascii4 --accounts accounts.json --journal day.journal --new < day.txt
-      the frames of the answers on the output; killed and started again without --new, it remembers all it answered",
-        )
-        .arg(table.required(true))?
-        .arg(header.required(true).value_parser(HEADERS))?
+    command
         .arg(accounts.required(true))?
         .arg(journal.required(true))?
-        .arg(new)
+        .arg(new)?
+        .arg(port_option(
+            alloc,
+            "log",
+            "FILE",
+            "Where what happens is told, a line of JSON each; without it on the error stream",
+        )?)?
+        .arg(port_option(
+            alloc,
+            "metrics",
+            "ADDRESS",
+            "Tells /metrics and /health over HTTP at this address and port",
+        )?)?
+        .arg(port_option(
+            alloc,
+            "stop-file",
+            "FILE",
+            "Stops the host once this file is there",
+        )?)
+}
+
+/// The limits of the link by words.
+fn with_limits<'a>(alloc: Global, command: Command<'a>) -> Result<Command<'a>, AllocError> {
+    command
+        .arg(limit(
+            alloc,
+            "peers",
+            "N",
+            MOST_PEERS,
+            "1000",
+            "So many peers of --listen may be connected at once",
+        )?)?
+        .arg(limit(
+            alloc,
+            "idle",
+            "SECONDS",
+            MOST_SECONDS,
+            "600",
+            "A peer is closed of which nothing comes for so long",
+        )?)?
+        .arg(limit(
+            alloc,
+            "frame",
+            "SECONDS",
+            MOST_SECONDS,
+            "30",
+            "A peer is closed whose frame stays unfinished for so long",
+        )?)?
+        .arg(limit(
+            alloc,
+            "unread",
+            "SECONDS",
+            MOST_SECONDS,
+            "30",
+            "A peer is closed that takes no byte of its answers for so long",
+        )?)?
+        .arg(limit(
+            alloc,
+            "waiting",
+            "BYTES",
+            MOST_WAITING,
+            "1048576",
+            "A peer isn't read from while so many bytes wait for it",
+        )?)
+}
+
+/// `host`
+pub fn host_command<'a>(alloc: Global) -> Result<Command<'a>, AllocError> {
+    let command = Command::new(alloc, "host")
+        .about("Answers frames as an issuer, and keeps each order before it is answered")
+        .after_help(EXAMPLES);
+    let command = with_places(alloc, command)?;
+    let command = with_files(alloc, command)?;
+    with_limits(alloc, command)
 }

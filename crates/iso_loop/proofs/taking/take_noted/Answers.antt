@@ -5,6 +5,7 @@ use Rattle.iso_wire.specs.Framing.{NoFrame}
 use Rattle.iso_issuer.specs.Books.{Books}
 use Rattle.iso_host.specs.Entering.{StaysWithout}
 use Rattle.iso_peers.specs.Turn.{TakesOf}
+use Rattle.iso_loop.proofs.Heard.{more_heard, so_heard, take_heard}
 use Rattle.iso_loop.proofs.Pieces.{at_first, next_taken, no_frame_after, all_taken}
 use Rattle.iso_loop.proofs.taking.take_noted.Goals as goal
 
@@ -56,3 +57,31 @@ returns-then-used-bytes-clause-took g c =
     (take c.in-Ok.taken.used (drop c.pieces.used bytes)) old.waiting new.connection.waiting c.in-Ok.taken.handled took.piece in
     all_taken c.args.connection.now new.connection c.args.host.now.host new.self.host bytes (c.pieces.used + c.in-Ok.taken.used) c.if-used-bytes.true
     (c.take.ensures.header ∙ so.header) so_far (subst (λ (h : Header). NoFrame h new.connection.peer.held) so.header none)
+
+pub returns-in-Err-Log-clause-heard : goal.returns-in-Err-Log-clause-heard
+returns-in-Err-Log-clause-heard g c =
+    more_heard c.args.host.now.host c.pieces.host.host c.take.new.self.host
+    (so_heard _ _ c.args.connection.now c.pieces.connection c.args.host.now.host c.pieces.host.host _ c.one_journal.ensures.more
+    (subst (λ (b : Books). StaysWithout b) c.issuer.ensures c.one_journal.ensures.none) c.pieces.invariant.so_far)
+    (take_heard _ c.pieces.connection c.take.new.connection c.pieces.host.host c.take.new.self.host _ c.take.result c.take.ensures.took c.take.ensures.refused)
+
+pub returns-in-Err-BadHeader-clause-heard : goal.returns-in-Err-BadHeader-clause-heard
+returns-in-Err-BadHeader-clause-heard g c =
+    more_heard c.args.host.now.host c.pieces.host.host c.take.new.self.host
+    (so_heard _ _ c.args.connection.now c.pieces.connection c.args.host.now.host c.pieces.host.host _ c.one_journal.ensures.more
+    (subst (λ (b : Books). StaysWithout b) c.issuer.ensures c.one_journal.ensures.none) c.pieces.invariant.so_far)
+    (take_heard _ c.pieces.connection c.take.new.connection c.pieces.host.host c.take.new.self.host _ c.take.result c.take.ensures.took c.take.ensures.refused)
+
+pub returns-in-Err-Memory-clause-heard : goal.returns-in-Err-Memory-clause-heard
+returns-in-Err-Memory-clause-heard g c =
+    more_heard c.args.host.now.host c.pieces.host.host c.take.new.self.host
+    (so_heard _ _ c.args.connection.now c.pieces.connection c.args.host.now.host c.pieces.host.host _ c.one_journal.ensures.more
+    (subst (λ (b : Books). StaysWithout b) c.issuer.ensures c.one_journal.ensures.none) c.pieces.invariant.so_far)
+    (take_heard _ c.pieces.connection c.take.new.connection c.pieces.host.host c.take.new.self.host _ c.take.result c.take.ensures.took c.take.ensures.refused)
+
+pub returns-then-used-bytes-clause-heard : goal.returns-then-used-bytes-clause-heard
+returns-then-used-bytes-clause-heard g c =
+    more_heard c.args.host.now.host c.pieces.host.host c.take.new.self.host
+    (so_heard _ _ c.args.connection.now c.pieces.connection c.args.host.now.host c.pieces.host.host _ c.one_journal.ensures.more
+    (subst (λ (b : Books). StaysWithout b) c.issuer.ensures c.one_journal.ensures.none) c.pieces.invariant.so_far)
+    (take_heard _ c.pieces.connection c.take.new.connection c.pieces.host.host c.take.new.self.host _ c.take.result c.take.ensures.took c.take.ensures.refused)

@@ -1,0 +1,6 @@
+mod Back
+mod Columns
+mod Headings
+mod Pieces
+mod Scanned
+mod Written

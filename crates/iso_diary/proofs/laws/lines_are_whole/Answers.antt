@@ -1,0 +1,5 @@
+use Rattle.iso_diary.proofs.Back.{line_whole}
+use Rattle.iso_diary.proofs.laws.lines_are_whole.Goals as goal
+
+pub returns : goal.returns
+returns c = line_whole

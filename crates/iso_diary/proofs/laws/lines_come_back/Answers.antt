@@ -1,0 +1,5 @@
+use Rattle.iso_diary.proofs.Back.{line_back}
+use Rattle.iso_diary.proofs.laws.lines_come_back.Goals as goal
+
+pub returns : goal.returns
+returns c = line_back

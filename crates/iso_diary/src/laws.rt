@@ -1,0 +1,68 @@
+//! What holds of every record, and over a crash: functions that do no more than others, and whose contracts are laws.
+ghost use Rattle.std.specs.Prelude.{IfOk, IsTrue};
+ghost use Rattle.sqlite_disk.specs.Disk.{Only};
+ghost use Rattle.iso_restarts.specs.Diary.{MayLeave};
+ghost use Rattle.iso_restarts.specs.Durable.{IsConsistent, diary_of};
+ghost use Rattle.iso_diary.specs.Notes.{IsReady, synced_notes, pending_notes};
+ghost use Rattle.iso_diary.specs.Line.{LinesComeBack, LinesAreWhole, NothingElse};
+ghost use Rattle.iso_diary.specs.Heading.{HeadingsAreWhole, HeadingsDiffer, HeadingsAreToldApart};
+
+use crate::diary::DiaryLog;
+use crate::error::OpenError;
+use crate::heading::Heading;
+use crate::opening::{Opened, open};
+use iso_restarts::DurableAcquirer;
+use sqlite_disk::Disk;
+use std::alloc::Global;
+
+/// Each note and its place come back.
+pub fn lines_come_back()
+    ensures { LinesComeBack }
+{}
+
+/// Each record is whole.
+pub fn lines_are_whole()
+    ensures { LinesAreWhole }
+{}
+
+/// Nothing else is a record.
+pub fn nothing_else()
+    ensures { NothingElse }
+{}
+
+/// Each heading is whole.
+pub fn headings_are_whole()
+    ensures { HeadingsAreWhole }
+{}
+
+/// Two headings have two records.
+pub fn headings_differ()
+    ensures { HeadingsDiffer }
+{}
+
+/// Of two headings it is told that their rules differ, or, where those are the same, that their acquirers do.
+pub fn headings_are_told_apart()
+    ensures { HeadingsAreToldApart }
+{}
+
+/// Opens a diary. Where its disk holds what a crash of an acquirer may leave, its notes are what a crash may leave of that
+/// acquirer: the synced ones, and of those behind them some from the front.
+pub fn open_after_a_crash<D: Disk + Drop>(
+    alloc: Global,
+    before: &DurableAcquirer<DiaryLog<D>>,
+    disk: D,
+    heading: &Heading,
+    group: usize,
+) -> Result<Opened<D>, (OpenError, D)>
+    ensures crashed { IfOk result (λ o. IsTrue (D.is_clean o.log.log.disk)
+        → IsConsistent (λ l. IsReady D.seen D.may_leave D.is_usable l.log) (λ l. synced_notes D.seen l.log)
+        (λ l. pending_notes D.seen l.log) before.now
+        → D.may_leave before.now.log.log.disk (D.seen disk)
+        → Only (D.seen disk) (D.may_leave disk)
+        → MayLeave (diary_of (λ l. synced_notes D.seen l.log) (λ l. pending_notes D.seen l.log) before.now) o.notes.items) }
+{
+    match open(alloc, disk, heading, group) {
+        Ok(opened) => Ok(opened),
+        Err(refused) => Err(refused),
+    }
+}

@@ -1,0 +1,4 @@
+mod Allowed
+mod Answers
+mod Frames
+mod InStep

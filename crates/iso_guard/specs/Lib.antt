@@ -1,0 +1,4 @@
+pub mod Answering
+pub mod Entering
+pub mod Guarding
+pub mod Taking

@@ -1,0 +1,131 @@
+//! One peer of a guarded line, and the answers that wait for it.
+ghost use Rattle.std.specs.Prelude.{◌≡◌, ◌↔◌, ◌≤◌, [], true, false, length, drop, IfOk, OnOk, OnErr, IfSome, IsSome};
+ghost use Rattle.iso_peers.specs.Host.{IsInStep, IsKept};
+ghost use Rattle.iso_guard.specs.Guarding.{guard_of, EntersAllowed};
+ghost use Rattle.iso_guard.specs.Taking.{TakesGuarded};
+
+use crate::came::Noting;
+use crate::guard::Rooms;
+use crate::taking::{drop_front, take_held};
+use iso_durable::laws::orders_enter;
+use iso_durable::{Log, LogFailed};
+use iso_host::Link;
+use iso_host::laws::one_journal;
+use iso_links::Terms;
+use iso_peers::{DurableHost, Turned};
+use std::alloc::Global;
+use std::marker::Model;
+
+/// One peer of a guarded line, and the bytes of its answers that aren't written yet. A contract sees its line, the bytes of
+/// the frame that isn't whole, and the bytes that wait.
+#[derive(Drop)]
+pub struct GuardedPeer<'l> {
+    link: &'l Link,
+    terms: &'l Terms,
+    held: Vec<u8>,
+    waiting: Vec<u8>,
+}
+
+impl<'l> Model for GuardedPeer<'l> {
+    ghost use Rattle.iso_guard.specs.Guarding.{Guarded, guard_of};
+
+    ghost Value = { Guarded };
+
+    ghost view = { λ p. record { guard = guard_of p.link.now p.terms.now; held = p.held.items; waiting = p.waiting.items } };
+}
+
+impl<'l> GuardedPeer<'l> {
+    /// A peer of that line, before its first byte. Takes no memory.
+    pub fn new(alloc: Global, link: &'l Link, terms: &'l Terms) -> GuardedPeer<'l>
+        ensures { result ≡ record { guard = guard_of link.now terms.now; held = []; waiting = [] } }
+    {
+        GuardedPeer {
+            link,
+            terms,
+            held: Vec::new(alloc),
+            waiting: Vec::new(alloc),
+        }
+    }
+
+    /// Whether the input may end here: no frame is unfinished.
+    pub fn may_end(&self) -> bool
+        ensures { (result ≡ true) ↔ (self.now.held ≡ []) }
+    {
+        self.held.is_empty()
+    }
+
+    /// How many bytes of answers wait to be written.
+    pub fn waiting(&self) -> usize
+        ensures { result ≡ length self.now.waiting }
+    {
+        self.waiting.len()
+    }
+
+    /// Takes all bytes of a peer, frame after frame. The bytes that stand before a message are passed over, and stand before
+    /// that of the answer. The messages are decided, but for those that ask an order of an acquirer that may not be spoken
+    /// for, which are answered 12; the answers wait, and aren't handed out before the next `keep`.
+    pub fn take_all<L: Log, N: Noting>(
+        &mut self,
+        host: &mut DurableHost<L>,
+        bytes: &[u8],
+        rooms: &mut Rooms,
+        noting: &mut N,
+    ) -> Result<Turned, LogFailed>
+        ensures took { IfOk result (TakesGuarded self.old self.new host.old.host host.new.host bytes.now) }
+        // Only orders of acquirers that may be spoken for enter the books.
+        ensures allowed { EntersAllowed self.old.guard.acquirers self.old.guard.table host.old.host host.new.host }
+        ensures sound { OnOk result (host.old.has_failed ≡ false) }
+        ensures refused { OnErr result (host.old.has_failed ≡ true) }
+        ensures unchanged { OnErr result (self.new ≡ self.old) }
+        ensures guard { self.new.guard ≡ self.old.guard }
+        // The log isn't called, and stays in step with the journal.
+        ensures log { host.new.log ≡ host.old.log }
+        ensures kept { host.new.kept ≡ host.old.kept }
+        ensures failed { host.new.has_failed ≡ host.old.has_failed }
+        ensures step { IsInStep L.is_ready L.synced L.pending host.old
+            → IsInStep L.is_ready L.synced L.pending host.new }
+    {
+        // the law that orders that come are entered, for the prover
+        orders_enter();
+        one_journal(host.issuer());
+        let _entered = host.issuer().len();
+        if host.has_failed {
+            return Err(LogFailed);
+        }
+        Ok(take_held(
+            &mut host.host,
+            self.link,
+            self.terms,
+            &mut self.held,
+            bytes,
+            rooms,
+            noting,
+            &mut self.waiting,
+        ))
+    }
+
+    /// The bytes that may be written to the peer now: all that wait, where every order is kept. Nothing, where an order waits
+    /// for the next `keep`, or the log failed.
+    pub fn hand_out<'p, L: Log>(&'p self, host: &DurableHost<L>) -> Option<&'p [u8]>
+        ensures waiting { IfSome result (λ bytes. bytes.now ≡ self.now.waiting) }
+        ensures kept { IsSome result ↔ IsKept host.now }
+    {
+        if host.has_failed {
+            return None;
+        }
+        if host.issuer().len() as usize != host.kept {
+            return None;
+        }
+        Some(&self.waiting)
+    }
+
+    /// So many of the bytes that were handed out are written: they wait no more.
+    pub fn written(&mut self, count: usize)
+        requires { count ≤ length self.old.waiting }
+        ensures waiting { self.new.waiting ≡ drop count self.old.waiting }
+        ensures held { self.new.held ≡ self.old.held }
+        ensures guard { self.new.guard ≡ self.old.guard }
+    {
+        drop_front(&mut self.waiting, count);
+    }
+}

@@ -1,0 +1,101 @@
+//! What a peer of a guarded line sends, frame after frame.
+ghost use Rattle.std.specs.Prelude.{◌≡◌, ◌≤◌, length, drop};
+ghost use Rattle.iso_guard.specs.Guarding.{guard_of, EntersAllowed};
+ghost use Rattle.iso_guard.specs.Taking.{TakesFrames, TakesGuarded};
+
+use crate::came::Noting;
+use crate::guard::{Rooms, answer_guarded};
+use iso_host::laws::one_journal;
+use iso_host::{Host, Link, PeerFault};
+use iso_links::Terms;
+use iso_peers::Turned;
+use iso_wire::{Framed, unframe};
+
+/// Takes so many bytes away from the front.
+pub(crate) fn drop_front(bytes: &mut Vec<u8>, count: usize)
+    requires { count ≤ length bytes.old.items }
+    ensures { bytes.new.items ≡ drop count bytes.old.items }
+{
+    let left = bytes.len() - count;
+    bytes.copy_within(count.., 0);
+    bytes.truncate(left);
+}
+
+/// Answers the whole frames of some bytes.
+fn take_frames<N: Noting>(
+    host: &mut Host,
+    link: &Link,
+    terms: &Terms,
+    bytes: &[u8],
+    rooms: &mut Rooms,
+    noting: &mut N,
+    waiting: &mut Vec<u8>,
+) -> Turned
+    ensures took { TakesFrames (guard_of link.now terms.now) host.old host.new bytes.now
+        waiting.old.items waiting.new.items result }
+{
+    // the law that bodies have one journal, for the prover
+    one_journal(host.issuer());
+    let mut used = 0;
+    'frames: loop {
+        match unframe(link.header(), &bytes[used..]) {
+            Err(_) => {
+                return Turned {
+                    used,
+                    stopped: Some(PeerFault::BadHeader),
+                };
+            }
+            Ok(Framed::More) => {
+                return Turned {
+                    used,
+                    stopped: None,
+                };
+            }
+            Ok(Framed::Got { body, used: size }) => {
+                match answer_guarded(host, link, terms, body, rooms, waiting) {
+                    Err(_) => {
+                        return Turned {
+                            used,
+                            stopped: Some(PeerFault::Memory),
+                        };
+                    }
+                    Ok(came) => noting.note(link, body.get(terms.skip..), came),
+                }
+                used += size;
+            }
+        }
+    }
+}
+
+/// Answers the whole frames of the bytes that are held and some more, and holds the rest.
+pub(crate) fn take_held<N: Noting>(
+    host: &mut Host,
+    link: &Link,
+    terms: &Terms,
+    held: &mut Vec<u8>,
+    bytes: &[u8],
+    rooms: &mut Rooms,
+    noting: &mut N,
+    waiting: &mut Vec<u8>,
+) -> Turned
+    ensures took { TakesGuarded
+        (record { guard = guard_of link.now terms.now; held = held.old.items; waiting = waiting.old.items })
+        (record { guard = guard_of link.now terms.now; held = held.new.items; waiting = waiting.new.items })
+        host.old host.new bytes.now result }
+    // Only orders of acquirers that may be spoken for enter the books.
+    ensures allowed { EntersAllowed terms.now.acquirers.items link.now.table host.old host.new }
+{
+    one_journal(host.issuer());
+    if held.extend_from_slice(bytes).is_err() {
+        return Turned {
+            used: 0,
+            stopped: Some(PeerFault::Memory),
+        };
+    }
+    let taken = take_frames(host, link, terms, held, rooms, noting, waiting);
+    drop_front(held, taken.used);
+    Turned {
+        used: bytes.len(),
+        stopped: taken.stopped,
+    }
+}

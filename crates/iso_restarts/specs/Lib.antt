@@ -1,0 +1,6 @@
+pub mod Diary
+pub mod Durable
+pub mod Front
+pub mod Laws
+pub mod Replayed
+pub mod World

@@ -1,0 +1,31 @@
+//! What holds of both ends over each run, whenever either of them crashes in it: a function that does nothing, and whose
+//! contract is the laws.
+
+ghost use Rattle.iso_restarts.specs.Laws.{CrashesOnlyLose, AgreeOverCrashes, StayClosedOverCrashes};
+ghost use Rattle.iso_restarts.specs.Laws.{BalanceOverCrashes, CallsAreEvents, CrashesOfBothOnlyLose, SentAsKept, StartsGoOn};
+
+use iso_acquirer::laws::runs_agree;
+use iso_outages::laws::crashes_only_lose;
+
+/// Both ends agree over each run that begins unused, with crashes of the acquirer and of the issuer's host at any
+/// moments: with what is on the disk of each end, and with what each of them has in memory. What the acquirer holds as
+/// approved stands at the issuer. What it holds as declined or reversed never stands. What is closed on its disk stays.
+/// And where all is closed and no order of others is entered, both books agree.
+pub fn both_may_crash()
+    // Each run with crashes of the acquirer is a run without: what a crash took was never sent there, or never heard.
+    ensures without { CrashesOnlyLose }
+    // And each run with crashes of either is a run without any.
+    ensures without_any { CrashesOfBothOnlyLose }
+    ensures agree { AgreeOverCrashes }
+    ensures closed { StayClosedOverCrashes }
+    ensures books { BalanceOverCrashes }
+    // No trace number is used for two orders, over any crashes.
+    ensures numbers { SentAsKept }
+    // A start goes on with whatever a crash leaves: it calls none of it damaged.
+    ensures starts { StartsGoOn }
+    // The calls of `DurableAcquirer` are the events that this speaks of.
+    ensures calls { CallsAreEvents }
+{
+    crashes_only_lose();
+    runs_agree();
+}

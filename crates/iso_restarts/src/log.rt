@@ -1,0 +1,52 @@
+//! A log of notes, as an acquirer sees it.
+ghost use Rattle.std.specs.Prelude.{◌≡◌, ◌++◌, [], ◌∷◌, List, OnOk};
+ghost use Rattle.iso_restarts.specs.declared.note.Note.{Note};
+ghost use Rattle.iso_restarts.specs.Front.{LeavesFront};
+
+use crate::note::Note;
+use thiserror::Error;
+
+/// The log failed. Nothing more may be asked of it until it is opened again.
+#[derive(Clone, Copy, Debug, PartialEq, Eq, Drop, Error)]
+#[error("the log failed")]
+pub struct LogFailed;
+
+/// A log of notes. A crash keeps the notes that are synced, and of those behind them some from the front: it may cut
+/// them off anywhere, and what is torn counts as not there.
+pub trait NoteLog {
+    /// It was opened well and no call has failed since. A premise, and no test: no code can tell whether the disk lied
+    /// when the log was opened.
+    ghost is_ready: { Self → Type 0 };
+
+    /// The notes that each crash keeps.
+    ghost synced: { Self → List Note };
+
+    /// The notes behind them, which wait for a sync.
+    ghost pending: { Self → List Note };
+
+    /// The notes that a start may find after a crash at this moment.
+    ghost may_leave: { Self → List Note → Type 0 };
+
+    /// Adds a note, which then waits for a sync.
+    fn append(&mut self, note: Note) -> Result<(), LogFailed>
+        ensures ready { OnOk result (is_ready self.old → is_ready self.new) }
+        ensures synced { OnOk result (is_ready self.old → synced self.new ≡ synced self.old) }
+        ensures pending { OnOk result (is_ready self.old
+            → pending self.new ≡ pending self.old ++ note ∷ []) }
+        // however it ends
+        ensures crash { is_ready self.old
+            → LeavesFront (may_leave self.new) (synced self.old) (pending self.old ++ note ∷ []) };
+
+    /// After it, each crash keeps all notes.
+    fn sync(&mut self) -> Result<(), LogFailed>
+        ensures ready { OnOk result (is_ready self.old → is_ready self.new) }
+        ensures synced { OnOk result (is_ready self.old
+            → synced self.new ≡ synced self.old ++ pending self.old) }
+        ensures none { OnOk result (is_ready self.old → pending self.new ≡ []) }
+        // however it ends
+        ensures crash { is_ready self.old
+            → LeavesFront (may_leave self.new) (synced self.old) (pending self.old) };
+
+    /// A log that is ready leaves its synced notes, and of those behind them some from the front.
+    ghost leaves_front: { (log : Self) → is_ready log → LeavesFront (may_leave log) (synced log) (pending log) };
+}

@@ -1,0 +1,20 @@
+//! Journals as a command line names them: a host that starts over one, and what is told of one.
+//!
+//! - `Disk`: the files of the system, and the journals in them.
+//! - `accounts_at`: the accounts of a document. `start_host`: a host over its journal, which is made before where that is asked.
+//! - `perform_books`: what a `BooksJob` asks about a journal's file.
+#![tactic(auto)]
+
+mod accounts;
+mod books;
+mod disk;
+mod journals;
+mod progress;
+mod starting;
+mod words;
+
+pub use accounts::accounts_at;
+pub use books::perform_books;
+pub use disk::Disk;
+pub use starting::{not_kept, start_host};
+pub use words::{BooksJob, BooksWords, KeptWords};

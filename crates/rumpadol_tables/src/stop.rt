@@ -1,0 +1,125 @@
+//! How the program stops where it doesn't end well: sentences on the error stream, and a status.
+
+ghost use Rattle.std.specs.Prelude.{◌≡◌, ◌≤◌, ◌⊎◌, OnOk, IfErr};
+ghost use Rattle.std.specs.Io.KnownBytes.{Appends};
+ghost use Rattle.rumpadol_tables.specs.Stop.{status_of};
+ghost use Rattle.rumpadol_tables.specs.declared.stop.Stop.TheVariants.{Memory};
+
+use iso_table::NoMemory;
+use std::alloc::{AllocError, AllocFailed};
+use std::io::Write;
+
+/// Why the program stops. The texts are sentences, a line each.
+#[derive(Debug, Drop)]
+pub enum Stop {
+    /// An input is refused.
+    Refused(String),
+    /// The command line is.
+    Words(String),
+    /// A file or a stream failed.
+    Device(String),
+    /// The output failed.
+    Output,
+    /// Memory ran out.
+    Memory,
+}
+
+impl Stop {
+    /// The status: 1 where an input is refused, 2 where the command line is, 3 where a device or memory failed.
+    pub fn status(&self) -> u8
+        ensures status { result ≡ status_of self.now }
+        ensures range { (1 ≤ result) × (result ≤ 3) }
+    {
+        match self {
+            Stop::Refused(_) => 1,
+            Stop::Words(_) => 2,
+            Stop::Device(_) | Stop::Output | Stop::Memory => 3,
+        }
+    }
+
+    /// What the error stream is told.
+    fn text(&self) -> &str {
+        match self {
+            Stop::Refused(text) | Stop::Words(text) | Stop::Device(text) => text.as_str(),
+            Stop::Output =>
+                "rumpadol: the output can't be written; see that there is room and that its reader goes on\n",
+            Stop::Memory => "rumpadol: memory ran out; give the program more, or a shorter input\n",
+        }
+    }
+}
+
+impl From<AllocError> for Stop {
+    ghost from_gives = { λ _ stop. stop ≡ Memory };
+
+    fn from(_fault: AllocError) -> Stop {
+        Stop::Memory
+    }
+}
+
+impl<T: Drop> From<AllocFailed<T>> for Stop {
+    ghost from_gives = { λ _ stop. stop ≡ Memory };
+
+    fn from(_fault: AllocFailed<T>) -> Stop {
+        Stop::Memory
+    }
+}
+
+impl From<NoMemory> for Stop {
+    ghost from_gives = { λ _ stop. stop ≡ Memory };
+
+    fn from(_fault: NoMemory) -> Stop {
+        Stop::Memory
+    }
+}
+
+/// An input is refused with this text, unless there is no memory for it.
+pub fn refused(text: Result<String, AllocError>) -> Stop
+    ensures { (status_of result ≡ 1) ⊎ (status_of result ≡ 3) }
+{
+    match text {
+        Ok(text) => Stop::Refused(text),
+        Err(_) => Stop::Memory,
+    }
+}
+
+/// The command line is refused with this text, unless there is no memory for it.
+pub fn misused(text: Result<String, AllocError>) -> Stop
+    ensures { (status_of result ≡ 2) ⊎ (status_of result ≡ 3) }
+{
+    match text {
+        Ok(text) => Stop::Words(text),
+        Err(_) => Stop::Memory,
+    }
+}
+
+/// A device failed, with this text, unless there is no memory for it.
+pub fn failed(text: Result<String, AllocError>) -> Stop
+    ensures { status_of result ≡ 3 }
+{
+    match text {
+        Ok(text) => Stop::Device(text),
+        Err(_) => Stop::Memory,
+    }
+}
+
+/// Tells the error stream why the program stops, and gives the status: 3 where the stream itself fails.
+pub fn tell<F: Write>(faults: &mut F, stop: &Stop) -> u8
+    ensures range { (1 ≤ result) × (result ≤ 3) }
+    ensures status { (result ≡ status_of stop.now) ⊎ (result ≡ 3) }
+{
+    match faults.write_all(stop.text().as_bytes()) {
+        Ok(()) => stop.status(),
+        Err(_) => 3,
+    }
+}
+
+/// Writes to the output whole, and flushes it.
+pub fn write_output<O: Write>(output: &mut O, bytes: &[u8]) -> Result<(), Stop>
+    ensures written { OnOk result (Appends (O.contents output.old) (O.contents output.new) bytes.now) }
+    ensures status { IfErr result (λ stop. status_of stop ≡ 3) }
+{
+    if output.write_all(bytes).is_err() || output.flush().is_err() {
+        return Err(Stop::Output);
+    }
+    Ok(())
+}

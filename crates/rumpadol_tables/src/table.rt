@@ -1,0 +1,64 @@
+//! What is done with tables.
+
+ghost use Rattle.std.specs.Prelude.{◌≡◌, ◌≤◌, if◌then◌else◌, IfOk};
+ghost use Rattle.rumpadol_tables.specs.Jobs.{Does};
+
+mod check;
+mod diff;
+mod list;
+mod new;
+mod show;
+
+use crate::source::Source;
+use crate::stop::Stop;
+use crate::words::TableJob;
+use check::check;
+use diff::diff;
+use list::list;
+use new::make;
+use show::show;
+use std::alloc::Global;
+use std::io::{Read, Write};
+
+/// The status of two tables that differ or not.
+fn status_of(differ: bool) -> u8
+    ensures { result ≡ (if differ then 1 else 0) }
+{
+    if differ { 1 } else { 0 }
+}
+
+/// Does what is asked about tables, and gives the status: 0, or 1 where two tables differ.
+pub fn perform_table<S: Source, I: Read, O: Write>(
+    alloc: Global,
+    job: &TableJob<'_>,
+    source: &S,
+    input: &mut I,
+    output: &mut O,
+) -> Result<u8, Stop>
+    ensures done { IfOk result (Does job.now (S.file source.now) (I.remaining input.old)
+        (O.contents output.old) (O.contents output.new)) }
+    ensures range { IfOk result (λ status. status ≤ 1) }
+{
+    match job {
+        TableJob::Check(table) => {
+            check(alloc, *table, source, input, output)?;
+            Ok(0)
+        }
+        TableJob::Show(table, names) => {
+            show(alloc, *table, *names, source, input, output)?;
+            Ok(0)
+        }
+        TableJob::List => {
+            list(alloc, output)?;
+            Ok(0)
+        }
+        TableJob::New(words) => {
+            make(alloc, words, source, input, output)?;
+            Ok(0)
+        }
+        TableJob::Diff(first, second) => {
+            let differ = diff(alloc, *first, *second, source, input, output)?;
+            Ok(status_of(differ))
+        }
+    }
+}
