@@ -36,7 +36,7 @@ from traffic import (ECHO, HERE, TOP, WAIT, Host, Peer, Spelling, accounts_docum
 
 SEED = int(os.environ.get("PEERS_SEED", "0")) or random.randrange(1, 1 << 32)
 ALLOWED = {"atm": 1200, "pos": 12, "tpdu": 100}
-LIMITS = {"idle": 4, "frame": 2, "unread": 2, "waiting": 65536}
+LIMITS = {"idle": 4, "frame": 3, "unread": 2, "waiting": 65536}
 OWN, OTHER = 12345, 777
 PATIENCE = 10
 
@@ -163,9 +163,17 @@ class Run:
     # ---- what the log tells
 
     def number_of(self, peer):
-        """The number of a connection in the log."""
+        """The number of a connection in the log. An earlier one that had its address is closed."""
         address = f"{peer.socket.getsockname()[0]}:{peer.socket.getsockname()[1]}"
-        return self.host.waits_for(event="connected", address=address)[0]["connection"]
+        link = next(name for name, port in self.ports.items() if port == peer.socket.getpeername()[1])
+        end = time.monotonic() + WAIT
+        while time.monotonic() < end:
+            closed = {event["connection"] for event in self.host.told(event="closed")}
+            told = self.host.told(event="connected", link=link, address=address)
+            if open_ones := [event["connection"] for event in told if event["connection"] not in closed]:
+                return open_ones[0]
+            time.sleep(0.02)
+        raise AssertionError(f"no open connection of {link} has the address {address}")
 
     def closed(self, number, *reasons):
         """The connection was closed for one of these reasons, and a line tells its counts."""

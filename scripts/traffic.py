@@ -6,6 +6,7 @@ import contextlib
 import json
 import os
 import pathlib
+import random
 import resource
 import socket
 import struct
@@ -162,11 +163,15 @@ class Peer:
 
 
 def free_ports(count):
-    """Ports that nobody has now."""
+    """Ports that nobody has now, and that the system gives to no connection while a host is down."""
+    end = max(2048, int(pathlib.Path("/proc/sys/net/ipv4/ip_local_port_range").read_text().split()[0]))
     with contextlib.ExitStack() as stack:
-        held = [stack.enter_context(socket.socket()) for _ in range(count)]
-        for one in held:
-            one.bind((HERE, 0))
+        held = []
+        while len(held) < count:
+            one = stack.enter_context(socket.socket())
+            with contextlib.suppress(OSError):
+                one.bind((HERE, random.randrange(end // 2, end)))
+                held.append(one)
         return [one.getsockname()[1] for one in held]
 
 
