@@ -1,0 +1,29 @@
+-- What a disk shows that gathers writes.
+use Rattle.std.specs.Prelude.{◌≡◌, ℕ, false, List}
+use Rattle.sqlite_disk.specs.declared.Disk.{Ghosts}
+use Rattle.iso_gather.specs.declared.gathered.GatheredDisk.{GatheredDisk}
+use Rattle.iso_gather.specs.Shown.{shown, Left}
+
+module _ {D : Type 0} {g : Ghosts D} where
+  -- the disk that it hands writes to
+  abbrev pub inner_of : GatheredDisk D g → D
+  inner_of it = it.inner
+
+  -- its member `seen`
+  abbrev pub seen_of : GatheredDisk D g → List ℕ
+  seen_of it = shown it.at it.waiting.items (g.seen it.inner)
+
+  -- its member `may_leave`
+  abbrev pub left_of : GatheredDisk D g → List ℕ → Type 0
+  left_of it = Left it.at it.waiting.items (g.may_leave it.inner)
+
+  -- no sync has failed, and as many calls found no room as the disk below counts
+  abbrev pub IsFresh : GatheredDisk D g → Type 0
+  IsFresh it = (it.has_failed ≡ false) × (it.refused ≡ (g.tally_of it.inner).refused)
+
+  -- a call that doesn't read leaves these of the disk below as they were
+  pub record IsKept (old new : GatheredDisk D g) : Type 0 where
+    pub calm : g.is_clean new.inner ≡ g.is_clean old.inner
+    pub fair : g.is_fair new.inner ≡ g.is_fair old.inner
+    pub key : g.key_of new.inner ≡ g.key_of old.inner
+    pub caught : (g.tally_of new.inner).caught ≡ (g.tally_of old.inner).caught
