@@ -4,6 +4,7 @@ use crate::orders::{accounts, purchase};
 use crate::speed::Speed;
 use anyhow::{Result, bail, ensure};
 use iso_durable::DurableIssuer;
+use iso_gather::GatheredDisk;
 use iso_issuer::{Issuer, MOST_ENTRIES};
 use iso_journal::{JournalLog, Unwatched, create, open};
 use iso_log::LogError;
@@ -25,10 +26,10 @@ const HEADING: Heading = Heading {
     fourth: 4,
 };
 
-/// The file at a path, which is made where there is none.
-fn file_at(rt: &HostRuntime, path: &str) -> Result<File> {
+/// The file at a path, which is made where there is none, as a host has it: a group is one write.
+fn file_at(rt: &HostRuntime, path: &str) -> Result<GatheredDisk<File>> {
     match sqlite_std_file::open(rt, path, Unknown) {
-        Ok(files) => Ok(files.db),
+        Ok(files) => Ok(GatheredDisk::new(rt.alloc(), files.db)),
         Err(_) => bail!("the file can't be opened"),
     }
 }
@@ -43,7 +44,11 @@ fn make(rt: &HostRuntime, path: &str, orders: usize) -> Result<()> {
 }
 
 /// The issuer over the journal in a file.
-fn start(rt: &HostRuntime, alloc: Global, path: &str) -> Result<DurableIssuer<JournalLog<File>>> {
+fn start(
+    rt: &HostRuntime,
+    alloc: Global,
+    path: &str,
+) -> Result<DurableIssuer<JournalLog<GatheredDisk<File>>>> {
     let file = file_at(rt, path)?;
     let accounts = accounts(alloc)?;
     match open(
@@ -71,7 +76,7 @@ fn group_of(alloc: Global, from: u32, count: u32) -> Result<Vec<Order>> {
 /// Answers a group, each order of which has to be granted.
 fn answer_group(
     alloc: Global,
-    issuer: &mut DurableIssuer<JournalLog<File>>,
+    issuer: &mut DurableIssuer<JournalLog<GatheredDisk<File>>>,
     orders: &[Order],
 ) -> Result<()> {
     let Ok(answers) = issuer.answer_all(alloc, orders) else {

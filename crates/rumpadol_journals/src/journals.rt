@@ -3,6 +3,7 @@
 ghost use Rattle.std.specs.Prelude.{None};
 
 use crate::disk::Disk;
+use iso_gather::GatheredDisk;
 use iso_journal::JournalLog;
 use iso_service::{FileFault, Journals};
 use sqlite_std_file::{File, OpenError, Unknown};
@@ -142,7 +143,8 @@ fn sync_folder(rt: &HostRuntime, path: &str) -> Result<(), FileFault> {
 impl<'a> Journals for Disk<'a, HostRuntime> {
     ghost held_at = { λ s path. None };
 
-    type Disk = File;
+    /// The orders of a group are handed to the file as one write.
+    type Disk = GatheredDisk<File>;
 
     fn front(&self, alloc: Global, path: &str, most: u64) -> Result<Vec<u8>, FileFault> {
         check_kind(self.rt, path)?;
@@ -152,22 +154,24 @@ impl<'a> Journals for Disk<'a, HostRuntime> {
         }
     }
 
-    fn open(&self, path: &str) -> Result<File, FileFault> {
+    fn open(&self, path: &str) -> Result<GatheredDisk<File>, FileFault> {
         check_kind(self.rt, path)?;
-        open_locked(self.rt, path)
+        let file = open_locked(self.rt, path)?;
+        Ok(GatheredDisk::new(self.rt.alloc(), file))
     }
 
-    fn begin(&self, path: &str) -> Result<File, FileFault> {
+    fn begin(&self, path: &str) -> Result<GatheredDisk<File>, FileFault> {
         check_free(self.rt, path)?;
         let begun = begun_path(self.rt.alloc(), path, "")?;
         make_for_owner(self.rt, begun.as_str())?;
         let file = open_locked(self.rt, begun.as_str())?;
         // another maker may have been done before this one had the lock
         check_free(self.rt, path)?;
-        emptied(file)
+        let file = emptied(file)?;
+        Ok(GatheredDisk::new(self.rt.alloc(), file))
     }
 
-    fn finish(&self, path: &str, _made: &JournalLog<File>) -> Result<(), FileFault> {
+    fn finish(&self, path: &str, _made: &JournalLog<GatheredDisk<File>>) -> Result<(), FileFault> {
         let alloc = self.rt.alloc();
         let begun = begun_path(alloc, path, "")?;
         let beside = begun_path(alloc, path, "-wal")?;
