@@ -1,4 +1,4 @@
-use Rattle.std.proofs.Common.{◌≡◌, ℕ, ◌+◌, ◌^◌, ◌<◌, ◌≤◌, List, length, IsTrue, arith, rules}
+use Rattle.std.proofs.Common.{◌+◌, ◌^◌, ◌<◌, ◌≤◌, length, arith, rules}
 use Rattle.sqlite_disk.specs.Disk.{Holds, Torn, Mixed, Follows}
 use Rattle.iso_gather.proofs.Gathering.{written, torn_again, left_torn}
 use Rattle.iso_gather.proofs.gathered.GatheredDisk.flush.Goals as goal

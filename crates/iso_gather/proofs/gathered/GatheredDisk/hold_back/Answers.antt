@@ -1,4 +1,4 @@
-use Rattle.std.proofs.Common.{◌≡◌, ℕ, ◌+◌, ◌<◌, ◌≤◌, ◌++◌, List, length, refl, arith, rules, ◌-◌}
+use Rattle.std.proofs.Common.{◌≡◌, ◌+◌, ◌<◌, ◌≤◌, ◌++◌, length, refl, arith, rules, ◌-◌}
 use Rattle.iso_gather.proofs.Gathering.{joined, held_holds, held_torn, held_left}
 use Rattle.iso_gather.proofs.gathered.GatheredDisk.hold_back.Goals as goal
 

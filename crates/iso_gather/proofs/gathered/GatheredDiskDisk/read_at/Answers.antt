@@ -1,4 +1,4 @@
-use Rattle.std.proofs.Common.{◌≡◌, rules}
+use Rattle.std.proofs.Common.{◌≡◌}
 use Rattle.iso_gather.specs.Gathered.{seen_of}
 use Rattle.iso_gather.proofs.gathered.GatheredDiskDisk.read_at.Goals as goal
 

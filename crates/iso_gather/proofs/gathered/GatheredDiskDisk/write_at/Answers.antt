@@ -1,4 +1,4 @@
-use Rattle.std.proofs.Common.{◌≡◌, IsTrue, refl, rules}
+use Rattle.std.proofs.Common.{IsTrue, refl}
 use Rattle.iso_gather.proofs.gathered.GatheredDiskDisk.write_at.Goals as goal
 
 pub returns-clause-mixed : goal.returns-clause-mixed
