@@ -1,6 +1,7 @@
 -- What a disk shows that gathers writes.
-use Rattle.std.specs.Prelude.{◌≡◌, ℕ, false, List}
+use Rattle.std.specs.Prelude.{◌≡◌, ◌&&◌, ℕ, Bool, not, List}
 use Rattle.sqlite_disk.specs.declared.Disk.{Ghosts}
+use Rattle.sqlite_disk.specs.declared.tally.Tally.{Tally as Counts}
 use Rattle.iso_gather.specs.declared.gathered.GatheredDisk.{GatheredDisk}
 use Rattle.iso_gather.specs.Shown.{shown, Left}
 
@@ -17,9 +18,13 @@ module _ {D : Type 0} {g : Ghosts D} where
   abbrev pub left_of : GatheredDisk D g → List ℕ → Type 0
   left_of it = Left it.at it.waiting.items (g.may_leave it.inner)
 
-  -- no sync has failed, and as many calls found no room as the disk below counts
-  abbrev pub IsFresh : GatheredDisk D g → Type 0
-  IsFresh it = (it.has_failed ≡ false) × (it.refused ≡ (g.tally_of it.inner).refused)
+  -- its member `is_usable`: no sync has failed, nor the writing of what waited for it
+  abbrev pub usable_of : GatheredDisk D g → Bool
+  usable_of it = g.is_usable it.inner && not it.has_failed
+
+  -- its member `tally_of`: the disk below counts the damage, and this one the calls that write and find no room
+  abbrev pub counts_of : GatheredDisk D g → Counts
+  counts_of it = record { caught = (g.tally_of it.inner).caught; refused = it.refused }
 
   -- a call that doesn't read leaves these of the disk below as they were
   pub record IsKept (old new : GatheredDisk D g) : Type 0 where

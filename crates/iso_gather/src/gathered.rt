@@ -1,5 +1,5 @@
 //! A disk that holds back writes which join one another, and hands them on as one.
-ghost use Rattle.std.specs.Prelude.{◌≡◌, ◌↔◌, ◌≤◌, ◌<◌, ◌+◌, ◌^◌, ◌&&◌, [], ℕ, List, length, not, true, false, is_ok, MatchBool, OnOk, IsTrue};
+ghost use Rattle.std.specs.Prelude.{◌≡◌, ◌↔◌, ◌≤◌, ◌<◌, ◌+◌, ◌^◌, [], ℕ, List, length, true, false, is_ok, MatchBool, OnOk, IsTrue};
 ghost use Rattle.sqlite_disk.specs.Disk.{Holds, Torn, Mixed, Cut, Follows, Only, CountsFault};
 ghost use Rattle.sqlite_disk.specs.Events.{raised};
 ghost use Rattle.sqlite_disk.specs.Refusal.{finds_no_room};
@@ -56,14 +56,15 @@ fn count(refused: &mut u64, outcome: io::Result<()>) -> io::Result<()>
 }
 
 impl<D: Disk> GatheredDisk<D> {
-    ghost use Rattle.iso_gather.specs.Gathered.{inner_of, seen_of, left_of, IsFresh, IsKept};
+    ghost use Rattle.iso_gather.specs.Gathered.{inner_of, seen_of, left_of, usable_of, counts_of, IsKept};
 
     /// A disk over this one, with nothing that waits. Its room for bytes that wait is from this allocator.
     pub fn new(alloc: Global, inner: D) -> GatheredDisk<D>
         ensures inner { inner_of result ≡ inner }
         ensures seen { seen_of result ≡ D.Disk.seen inner }
         ensures left { (c : List ℕ) → left_of result c ↔ D.Disk.may_leave inner c }
-        ensures fresh { IsFresh result }
+        ensures usable { usable_of result ≡ D.Disk.is_usable inner }
+        ensures tally { counts_of result ≡ D.Disk.tally_of inner }
     {
         let refused = inner.tally().refused;
         GatheredDisk {
@@ -178,7 +179,7 @@ impl<D: Disk> GatheredDisk<D> {
 }
 
 impl<D: Disk> GatheredDisk<D> {
-    ghost use Rattle.iso_gather.specs.Gathered.{seen_of, left_of, IsKept};
+    ghost use Rattle.iso_gather.specs.Gathered.{seen_of, left_of, usable_of, IsKept};
 
     /// Changes the length once nothing waits.
     fn resize_behind(&mut self, len: usize) -> io::Result<()>
@@ -209,8 +210,7 @@ impl<D: Disk> GatheredDisk<D> {
         ensures durable { OnOk result (Only (seen_of self.old) (left_of self.new)) }
         ensures seen { seen_of self.new ≡ seen_of self.old }
         ensures left { (c : List ℕ) → left_of self.new c → left_of self.old c }
-        ensures usable { (D.Disk.is_usable self.new.inner && not self.new.has_failed)
-            ≡ is_ok result }
+        ensures usable { usable_of self.new ≡ is_ok result }
         ensures faults { CountsFault result (D.Disk.faults self.old.inner)
             (D.Disk.faults self.new.inner) }
         ensures kept { IsKept self.old self.new }
@@ -226,21 +226,18 @@ impl<D: Disk> GatheredDisk<D> {
 }
 
 impl<D: Disk> Disk for GatheredDisk<D> {
-    ghost use Rattle.iso_gather.specs.Gathered.{seen_of, left_of};
+    ghost use Rattle.iso_gather.specs.Gathered.{seen_of, left_of, usable_of, counts_of};
     ghost use Rattle.iso_gather.specs.Staying.{shown_may_stay};
 
     ghost seen = { seen_of };
 
     ghost may_leave = { left_of };
 
-    ghost is_usable = { λ g. D.Disk.is_usable g.inner && not g.has_failed };
+    ghost is_usable = { usable_of };
 
     ghost faults = { λ g. D.Disk.faults g.inner };
 
-    ghost tally_of = { λ g. record {
-      caught = (D.Disk.tally_of g.inner).caught;
-      refused = g.refused;
-    } };
+    ghost tally_of = { counts_of };
 
     ghost key_of = { λ g. D.Disk.key_of g.inner };
 
