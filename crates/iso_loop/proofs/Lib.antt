@@ -1,2 +1,3 @@
 mod Heard
+mod Keys
 mod Pieces

@@ -1,5 +1,8 @@
+pub mod Agreeing
 pub mod Filling
+pub mod Keys
 pub mod Letting
+pub mod Moment
 pub mod Standing
 pub mod Turn
 pub mod Visiting

@@ -1,4 +1,6 @@
 //! A moment of a run.
+ghost use Rattle.std.specs.Prelude.{◌≡◌};
+ghost use Rattle.iso_loop.specs.Moment.{millis_of};
 
 /// A moment: microseconds of a clock that never goes back, and milliseconds since 1970.
 #[derive(Clone, Copy, Debug)]
@@ -11,7 +13,9 @@ pub struct Moment {
 
 impl Moment {
     /// Milliseconds of the clock that never goes back.
-    pub fn millis(&self) -> u64 {
+    pub fn millis(&self) -> u64
+        ensures { result ≡ millis_of self.now }
+    {
         self.micros / 1_000
     }
 }

@@ -1,4 +1,7 @@
 //! One peer of a host with many.
+ghost use Rattle.std.specs.Prelude.{◌≡◌, ◌↔◌, [], true};
+ghost use Rattle.iso_loop.specs.Agreeing.{IsOfLine};
+
 use crate::line::Line;
 use crate::notes::Notes;
 use crate::standing::{Closing, Doing, Standing};
@@ -36,9 +39,14 @@ pub(crate) struct Peer<'l, S> {
     pub may_take: bool,
     /// Whether it is in the list of those that a turn looks at.
     pub is_listed: bool,
+    // Its bytes are read and written as its line says.
+    ghost agreed: { IsOfLine line connection guarded },
 }
 
 impl<'l, S: Read + Write + Drop> Peer<'l, S> {
+    ghost use Rattle.iso_loop.specs.Standing.{closing_of, doing_of};
+    ghost use Rattle.iso_loop.specs.Keys.{IsSame};
+
     /// A peer that was let in now.
     pub fn new(
         alloc: Global,
@@ -47,7 +55,11 @@ impl<'l, S: Read + Write + Drop> Peer<'l, S> {
         link: usize,
         number: u64,
         now: u64,
-    ) -> Peer<'l, S> {
+    ) -> Peer<'l, S>
+        ensures stream { result.stream ≡ stream }
+        ensures held { (result.connection.peer.held ≡ []) × (result.guarded.held ≡ []) }
+        ensures none { (result.connection.waiting ≡ []) × (result.guarded.waiting ≡ []) }
+    {
         Peer {
             stream,
             line,
@@ -65,24 +77,32 @@ impl<'l, S: Read + Write + Drop> Peer<'l, S> {
     }
 
     /// How many bytes of answers wait to be written.
-    pub fn waiting(&self) -> usize {
+    pub fn waiting(&self) -> usize
+        ensures none { (result ≡ 0) ↔ ((self.now.connection.waiting ≡ []) × (self.now.guarded.waiting ≡ [])) }
+    {
         self.connection
             .waiting()
             .saturating_add(self.guarded.waiting())
     }
 
     /// Whether no frame is unfinished.
-    pub fn is_whole(&self) -> bool {
+    pub fn is_whole(&self) -> bool
+        ensures { (result ≡ true) ↔ ((self.now.connection.peer.held ≡ []) × (self.now.guarded.held ≡ [])) }
+    {
         self.connection.may_end() && self.guarded.may_end()
     }
 
     /// What is done with it at this moment.
-    pub fn doing(&self, now: u64) -> Doing {
+    pub fn doing(&self, now: u64) -> Doing
+        ensures { result ≡ doing_of self.now.line.terms.now.limits self.now.standing now }
+    {
         self.standing.doing(&self.line.terms.limits, now)
     }
 
     /// Why it is to be closed at this moment, if it is.
-    pub fn closing(&self, now: u64) -> Option<Closing> {
+    pub fn closing(&self, now: u64) -> Option<Closing>
+        ensures { result ≡ closing_of self.now.line.terms.now.limits self.now.standing now }
+    {
         self.standing.closing(&self.line.terms.limits, now)
     }
 
@@ -109,7 +129,9 @@ impl<'l, S: Read + Write + Drop> Peer<'l, S> {
     }
 
     /// Gives back the memory of its buffers, once so many bytes went through them and none is in use.
-    pub fn rest(&mut self) {
+    pub fn rest(&mut self)
+        ensures same { IsSame self.old self.new }
+    {
         if self.used <= KEPT || self.waiting() > 0 || !self.is_whole() {
             return;
         }

@@ -1,8 +1,10 @@
 //! All peers of a host, and what a turn does with them.
-ghost use Rattle.std.specs.Prelude.{◌≡◌, ◌≢◌, ℕ, All};
+ghost use Rattle.std.specs.Prelude.{◌≡◌, ℕ, None, IfSome, IfNone};
 ghost use Rattle.iso_peers.specs.Host.{IsInStep};
 ghost use Rattle.iso_loop.specs.Turn.{EntersHeard};
-ghost use Rattle.slab.specs.Slab.{get};
+ghost use Rattle.iso_loop.specs.Keys.{peer_at, looked_at, OthersStay, AllOthersStay, AllStay};
+ghost use Rattle.iso_loop.specs.Keys.{IsLetIn, SameAt, StaysOrGoes, EachStaysOrGoes};
+ghost use Rattle.iso_loop.specs.Moment.{millis_of};
 
 use crate::event::{Event, Lines, Refusal};
 use crate::letting::refusal_of;
@@ -89,7 +91,12 @@ impl<'l, S: Read + Write + Drop> Peers<'l, S> {
     }
 
     /// Adds a peer, where there is memory for it and for its place in the lists.
-    fn add(&mut self, stream: S, line: Line<'l>, link: usize, now: u64) -> Option<usize> {
+    fn add(&mut self, stream: S, line: Line<'l>, link: usize, now: u64) -> Option<usize>
+        ensures others { IfSome result (λ key. OthersStay key self.old self.new) }
+        ensures vacant { IfSome result (λ key. peer_at self.old key ≡ None) }
+        ensures let_in { IfSome result (λ key. IsLetIn stream (peer_at self.new key)) }
+        ensures refused { IfNone result (AllStay self.old self.new) }
+    {
         let room = self.all.len().saturating_add(1);
         if self
             .listed
@@ -117,6 +124,7 @@ impl<'l, S: Read + Write + Drop> Peers<'l, S> {
     }
 
     /// Lets a peer of a line in, and gives its key, or refuses it.
+    #[tactic(auto, using(crate::proofs::Keys::let_in_same))]
     pub fn let_in<N: Lines>(
         &mut self,
         link: usize,
@@ -124,7 +132,14 @@ impl<'l, S: Read + Write + Drop> Peers<'l, S> {
         address: SocketAddr,
         now: Moment,
         log: &mut N,
-    ) -> Option<usize> {
+    ) -> Option<usize>
+        // Under the key no peer was, and now is this one; every other peer is as it was.
+        ensures vacant { IfSome result (λ key. peer_at self.old key ≡ None) }
+        ensures let_in { IfSome result (λ key. IsLetIn stream (peer_at self.new key)) }
+        ensures others { IfSome result (λ key. OthersStay key self.old self.new) }
+        // Where it is refused, every peer is as it was.
+        ensures refused { IfNone result (AllStay self.old self.new) }
+    {
         let line = *self.lines.get(link)?;
         if let Some(why) = refusal_of(line.terms, self.peers_of(link), address.ip()) {
             log.tell(now.since_1970, &Event::Refused { link, address, why });
@@ -162,8 +177,10 @@ impl<'l, S: Read + Write + Drop> Peers<'l, S> {
     /// Something may have come of a peer, or it may take bytes again: whether its end came too. One that is gone is passed
     /// over.
     pub fn notice(&mut self, key: usize, ends: bool)
+        // It is the same but for when it is looked at.
+        ensures same { SameAt (peer_at self.old key) (peer_at self.new key) }
         // Every other peer is as it was.
-        ensures others { (k : ℕ) → k ≢ key → get self.new.all k ≡ get self.old.all k }
+        ensures others { OthersStay key self.old self.new }
     {
         if let Some(peer) = self.all.get_mut(key) {
             peer.may_have_come = true;
@@ -185,7 +202,7 @@ impl<'l, S: Read + Write + Drop> Peers<'l, S> {
         ensures step { IsInStep L.is_ready L.synced L.pending host.old
             → IsInStep L.is_ready L.synced L.pending host.new }
         // Every other peer is as it was.
-        ensures others { (k : ℕ) → k ≢ key → get self.new.all k ≡ get self.old.all k }
+        ensures others { OthersStay key self.old self.new }
         ensures listed { self.new.listed ≡ self.old.listed }
     {
         if let Some(peer) = self.all.get_mut(key) {
@@ -216,8 +233,7 @@ impl<'l, S: Read + Write + Drop> Peers<'l, S> {
         ensures step { IsInStep L.is_ready L.synced L.pending host.old
             → IsInStep L.is_ready L.synced L.pending host.new }
         // Every peer that isn't listed is as it was.
-        ensures others { (k : ℕ) → All (λ key. k ≢ key) self.old.listed.items
-            → get self.new.all k ≡ get self.old.all k }
+        ensures others { AllOthersStay (looked_at self.old) self.old self.new }
     {
         let count = self.listed.len();
         self.left_out = count;
@@ -235,7 +251,7 @@ impl<'l, S: Read + Write + Drop> Peers<'l, S> {
     /// Writes to a peer what waits for it and may be handed out.
     fn write_one<L: Log>(&mut self, host: &DurableHost<L>, key: usize, now: u64)
         // Every other peer is as it was.
-        ensures others { (k : ℕ) → k ≢ key → get self.new.all k ≡ get self.old.all k }
+        ensures others { OthersStay key self.old self.new }
         ensures listed { self.new.listed ≡ self.old.listed }
     {
         if let Some(peer) = self.all.get_mut(key)
@@ -253,8 +269,7 @@ impl<'l, S: Read + Write + Drop> Peers<'l, S> {
     /// Writes to each peer what waits for it and may be handed out.
     pub fn write_all<L: Log>(&mut self, host: &DurableHost<L>, now: Moment)
         // Every peer that isn't listed is as it was.
-        ensures others { (k : ℕ) → All (λ key. k ≢ key) self.old.listed.items
-            → get self.new.all k ≡ get self.old.all k }
+        ensures others { AllOthersStay (looked_at self.old) self.old self.new }
     {
         for place in 0..self.listed.len() {
             if let Some(key) = self.listed.get(place).copied() {
@@ -287,8 +302,9 @@ impl<'l, S: Read + Write + Drop> Peers<'l, S> {
 
     /// Closes a peer, and tells why.
     pub fn close<N: Lines>(&mut self, key: usize, why: Closing, now: Moment, log: &mut N)
+        ensures gone { peer_at self.new key ≡ None }
         // Every other peer is as it was.
-        ensures others { (k : ℕ) → k ≢ key → get self.new.all k ≡ get self.old.all k }
+        ensures others { OthersStay key self.old self.new }
     {
         if let Some(peer) = self.all.try_remove(key) {
             if let Some(tally) = self.tallies.get_mut(peer.notes.link) {
@@ -307,9 +323,11 @@ impl<'l, S: Read + Write + Drop> Peers<'l, S> {
     }
 
     /// Closes a peer, if it is to be closed.
+    #[tactic(auto, using(crate::proofs::Keys::stays))]
     fn close_one<N: Lines>(&mut self, key: usize, now: Moment, log: &mut N)
+        ensures settled { StaysOrGoes (millis_of now) (peer_at self.old key) (peer_at self.new key) }
         // Every other peer is as it was.
-        ensures others { (k : ℕ) → k ≢ key → get self.new.all k ≡ get self.old.all k }
+        ensures others { OthersStay key self.old self.new }
     {
         let closing = match self.all.get(key) {
             Some(peer) => peer.closing(now.millis()),
@@ -322,8 +340,9 @@ impl<'l, S: Read + Write + Drop> Peers<'l, S> {
 
     /// Lists a peer for the next turn, where that turn reads it or writes to it without a further event.
     fn list_again(&mut self, key: usize, now: u64, is_left_out: bool)
+        ensures same { SameAt (peer_at self.old key) (peer_at self.new key) }
         // Every other peer is as it was.
-        ensures others { (k : ℕ) → k ≢ key → get self.new.all k ≡ get self.old.all k }
+        ensures others { OthersStay key self.old self.new }
     {
         if let Some(peer) = self.all.get_mut(key) {
             peer.is_listed = is_left_out || peer.goes_on(now);
@@ -336,7 +355,10 @@ impl<'l, S: Read + Write + Drop> Peers<'l, S> {
     }
 
     /// Looks at one of the list: it is closed, listed again, or left until something comes.
-    fn settle_one<N: Lines>(&mut self, place: usize, now: Moment, log: &mut N) {
+    #[tactic(auto, using(crate::proofs::Keys::same_stays, crate::proofs::Keys::stays_twice, crate::proofs::Keys::each_stays, crate::proofs::Keys::one_of_all))]
+    fn settle_one<N: Lines>(&mut self, place: usize, now: Moment, log: &mut N)
+        ensures settled { EachStaysOrGoes (millis_of now) self.old self.new }
+    {
         if let Some(key) = self.listed.get(place).copied() {
             self.close_one(key, now, log);
             self.list_again(key, now.millis(), place >= self.left_out);
@@ -345,7 +367,11 @@ impl<'l, S: Read + Write + Drop> Peers<'l, S> {
 
     /// Ends a turn: closes the peers that are to be closed, and lists those that the next turn looks at, first of all those
     /// that were left out. Tells whether there are any.
-    pub fn settle<N: Lines>(&mut self, now: Moment, log: &mut N) -> bool {
+    #[tactic(auto, using(crate::proofs::Keys::each_twice))]
+    pub fn settle<N: Lines>(&mut self, now: Moment, log: &mut N) -> bool
+        // Each peer stays as it is, but for when it is looked at, or it was to be closed at this moment, and is gone.
+        ensures settled { EachStaysOrGoes (millis_of now) self.old self.new }
+    {
         self.close_late(now, log);
         let count = self.listed.len();
         for place in self.left_out..count {
@@ -360,7 +386,10 @@ impl<'l, S: Read + Write + Drop> Peers<'l, S> {
     }
 
     /// Closes all peers that are late, a few times a second.
-    fn close_late<N: Lines>(&mut self, now: Moment, log: &mut N) {
+    #[tactic(auto, using(crate::proofs::Keys::each_stays, crate::proofs::Keys::each_twice, crate::proofs::Keys::one_of_all))]
+    fn close_late<N: Lines>(&mut self, now: Moment, log: &mut N)
+        ensures settled { EachStaysOrGoes (millis_of now) self.old self.new }
+    {
         if now.millis().saturating_sub(self.looked) < PAUSE {
             return;
         }
@@ -371,7 +400,9 @@ impl<'l, S: Read + Write + Drop> Peers<'l, S> {
     }
 
     /// Closes all peers: the host stops.
-    pub fn close_all<N: Lines>(&mut self, now: Moment, log: &mut N) {
+    pub fn close_all<N: Lines>(&mut self, now: Moment, log: &mut N)
+        ensures gone { (k : ℕ) → peer_at self.new k ≡ None }
+    {
         for key in 0..self.all.capacity() {
             self.close(key, Closing::Stopped, now, log);
         }

@@ -1,6 +1,5 @@
-use Rattle.std.proofs.Common.{◌≡◌, ◌≢◌, ℕ}
-use Rattle.std.specs.Prelude.{All}
-use Rattle.slab.specs.Slab.{get}
+use Rattle.std.proofs.Common.{◌≡◌}
+use Rattle.iso_loop.specs.Keys.{looked_at, AllOthersStay}
 use Rattle.iso_peers.specs.Host.{IsInStep}
 use Rattle.iso_loop.specs.Turn.{EntersHeard}
 use Rattle.iso_loop.proofs.peers.Peers.read_all.Given as goal
@@ -10,6 +9,6 @@ invariant-loop-place g l = record {
   heard : EntersHeard l.initial.host.host l.host.host;
   log : l.host.log ≡ l.initial.host.log;
   step : IsInStep g.L.Log.is_ready g.L.Log.synced g.L.Log.pending l.initial.host → IsInStep g.L.Log.is_ready g.L.Log.synced g.L.Log.pending l.host;
-  others : (k : ℕ) → All (λ key. k ≢ key) l.fn.self.listed.items → get l.self.all k ≡ get l.fn.self.all k;
+  others : AllOthersStay (looked_at l.fn.self) l.fn.self l.self;
   listed : l.self.listed ≡ l.fn.self.listed;
 }
