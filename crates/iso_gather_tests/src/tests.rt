@@ -28,6 +28,35 @@ fn waiting(alloc: Global, calls: u64) -> Result<RecordLog<GatheredDisk<TornDisk>
     Ok(log)
 }
 
+/// Whether a write is taken.
+fn writes(disk: &mut GatheredDisk<TornDisk>, at: usize, bytes: &[u8]) -> bool {
+    disk.may_be_used() && disk.write_at(at, bytes).is_ok()
+}
+
+/// Whether a sync ends well.
+fn syncs(disk: &mut GatheredDisk<TornDisk>) -> bool {
+    disk.may_be_used() && disk.sync().is_ok()
+}
+
+/// Whether these bytes stand there.
+fn reads(disk: &mut GatheredDisk<TornDisk>, at: usize, wanted: &[u8; 4]) -> bool {
+    let mut found = [0; 4];
+    disk.may_be_used() && disk.read_at(at, &mut found).is_ok() && found == *wanted
+}
+
+/// How many bytes the file has, where that can be told.
+fn len(disk: &mut GatheredDisk<TornDisk>) -> Option<usize> {
+    if !disk.may_be_used() {
+        return None;
+    }
+    disk.len().ok()
+}
+
+/// Whether the file gets so many bytes.
+fn resizes(disk: &mut GatheredDisk<TornDisk>, len: usize) -> bool {
+    disk.may_be_used() && disk.set_len(len).is_ok()
+}
+
 #[test]
 fn a_group_is_one_write(rt: HostRuntime) -> Result<(), Fail> {
     let alloc = rt.alloc();
@@ -50,7 +79,7 @@ fn a_crash_leaves_records_from_the_front(rt: HostRuntime) -> Result<(), Fail> {
     assert_eq!(rt; recover(&mut disk, 1)?.count, 1, "nothing was written");
     let mut log = waiting(alloc, 7)?;
     assert!(rt; log.sync().is_err());
-    for count in 1..GROUP + 2 {
+    for count in [1, 2, GROUP, GROUP + 1] {
         let mut disk = log
             .disk
             .inner()
@@ -61,47 +90,38 @@ fn a_crash_leaves_records_from_the_front(rt: HostRuntime) -> Result<(), Fail> {
 }
 
 #[test]
-fn what_waits_is_read(rt: HostRuntime) -> Result<(), Fail> {
+fn what_waits_is_read(rt: HostRuntime) {
     let mut disk = disk_of(rt.alloc(), 100);
-    disk.sync()?;
-    disk.write_at(0, b"abc")?;
-    disk.write_at(3, b"def")?;
+    assert!(rt; syncs(&mut disk));
+    assert!(rt; writes(&mut disk, 0, b"abc") && writes(&mut disk, 3, b"def"));
     assert_eq!(rt; disk.inner().calls_left, 99);
-    let mut found = [0; 4];
-    disk.read_at(1, &mut found)?;
-    assert_eq!(rt; &found, b"bcde");
+    assert!(rt; reads(&mut disk, 1, b"bcde"));
     assert_eq!(rt; disk.inner().last_write, (0, 6));
-    disk.write_at(6, b"g")?;
-    assert_eq!(rt; disk.len()?, 7);
-    Ok(())
+    assert!(rt; writes(&mut disk, 6, b"g"));
+    assert_eq!(rt; len(&mut disk), Some(7));
 }
 
 #[test]
-fn what_does_not_join_goes_on_its_own(rt: HostRuntime) -> Result<(), Fail> {
+fn what_does_not_join_goes_on_its_own(rt: HostRuntime) {
     let mut disk = disk_of(rt.alloc(), 100);
-    disk.write_at(0, b"at once")?;
+    assert!(rt; writes(&mut disk, 0, b"at once"));
     assert_eq!(rt; disk.inner().calls_left, 99);
-    disk.sync()?;
-    disk.write_at(7, b", or later")?;
-    disk.write_at(0, b"A")?;
+    assert!(rt; syncs(&mut disk) && writes(&mut disk, 7, b", or later"));
+    assert!(rt; writes(&mut disk, 0, b"A"));
     assert_eq!(rt; disk.inner().last_write, (7, 10));
     // behind the end nothing waits
-    disk.write_at(20, b"far")?;
+    assert!(rt; writes(&mut disk, 20, b"far"));
     assert_eq!(rt; disk.inner().last_write, (20, 3));
-    disk.set_len(2)?;
-    disk.write_at(4, b"far")?;
+    assert!(rt; resizes(&mut disk, 2) && writes(&mut disk, 4, b"far"));
     assert_eq!(rt; disk.inner().bytes.as_slice(), b"At\0\0far".as_slice());
-    Ok(())
 }
 
 #[test]
-fn a_sync_that_cannot_write_ends_the_disk(rt: HostRuntime) -> Result<(), Fail> {
+fn a_sync_that_cannot_write_ends_the_disk(rt: HostRuntime) {
     let mut disk = disk_of(rt.alloc(), 1);
-    disk.sync()?;
-    disk.write_at(0, b"abc")?;
-    assert!(rt; disk.len().is_err());
+    assert!(rt; syncs(&mut disk) && writes(&mut disk, 0, b"abc"));
+    assert_eq!(rt; len(&mut disk), None);
     assert!(rt; disk.may_be_used());
-    assert!(rt; disk.sync().is_err());
+    assert!(rt; !syncs(&mut disk));
     assert!(rt; !disk.may_be_used());
-    Ok(())
 }
