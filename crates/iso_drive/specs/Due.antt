@@ -1,0 +1,44 @@
+-- Until when answers are waited for.
+use Rattle.std.specs.Prelude.{◌≡◌, ◌≤◌, ℕ, Bool, not, ◌==◌, ◌+◌, List, [], ◌∷◌, nat_le, min, map, filter, count_by, if◌then◌else◌}
+use Rattle.std.specs.List.{AllByRecursion}
+use Rattle.iso_acquirer.specs.declared.slot.Slot.{Slot}
+use Rattle.iso_drive.specs.declared.due.Due.{Due}
+use Rattle.iso_drive.specs.Open.{is_open_at}
+
+-- the moment so long after another, or the last of all
+abbrev pub moment_after : ℕ → ℕ → ℕ
+moment_after now patience = min (now + patience) 18446744073709551615
+
+-- no answer came until that moment
+abbrev pub is_due : ℕ → Due → Bool
+is_due now d = nat_le d.at now
+
+-- those that are due by that moment, in their order, and the others
+abbrev pub due_by : ℕ → List Due → List Due
+due_by now waiting = filter (is_due now) waiting
+
+abbrev pub due_later : ℕ → List Due → List Due
+due_later now waiting = filter (λ d. not (is_due now d)) waiting
+
+-- the same transactions, due at that moment
+abbrev pub again : ℕ → List Due → List Due
+again at waiting = map (λ d. record { stan = d.stan; at = at }) waiting
+
+-- those but for the transaction of that trace number
+abbrev pub without : ℕ → List Due → List Due
+without stan waiting = filter (λ d. not (d.stan == stan)) waiting
+
+-- each open transaction waits once, and nothing else does
+abbrev pub IsAwaited : List Due → List Slot → Type 0
+IsAwaited waiting slots =
+    (stan : ℕ) → count_by (λ d. d.stan == stan) waiting ≡ (if is_open_at slots stan then 1 else 0)
+
+-- who is due first waits first
+abbrev pub IsInOrder : List Due → Type 0
+IsInOrder [] = Unit {0}
+IsInOrder (d ∷ ds) = AllByRecursion (λ e. d.at ≤ e.at) ds × IsInOrder ds
+
+-- they wait in the order in which they become due, the last of them by that moment
+pub record AreInTime (last : ℕ) (waiting : List Due) : Type 0 where
+  pub in_order : IsInOrder waiting
+  pub none_later : AllByRecursion (λ d. d.at ≤ last) waiting

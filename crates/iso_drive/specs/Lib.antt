@@ -1,0 +1,9 @@
+pub mod Answered
+pub mod Board
+pub mod Books
+pub mod Counts
+pub mod Driving
+pub mod Due
+pub mod Laws
+pub mod Made
+pub mod Open

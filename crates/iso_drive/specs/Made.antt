@@ -1,0 +1,66 @@
+-- The orders of an acquirer, as a driver has them by trace number.
+-- Inner: bodies and proofs cite it, and no public clause does but by `IsDriving`.
+use Rattle.std.specs.Prelude.{◌≡◌, ◌≤◌, ◌+◌, ◌==◌, ◌||◌, ℕ, List, [], ◌∷◌, length, map, Option, Some, None, if◌then◌else◌}
+use Rattle.iso_order.specs.declared.act.Act.{Act}
+use Rattle.iso_order.specs.declared.act.Act.TheVariants.{Debit, Credit, Inquiry, Undo, Complete}
+use Rattle.iso_order.specs.declared.act.Money.{Money}
+use Rattle.iso_acquirer.specs.declared.slot.Slot.{Slot}
+use Rattle.iso_acquirer.specs.declared.slot.Role.{Role as Part}
+use Rattle.iso_acquirer.specs.declared.slot.Role.TheVariants as part
+use Rattle.iso_acquirer.specs.declared.state.State.{State}
+use Rattle.iso_acquirer.specs.declared.state.State.TheVariants.{Waiting, Reversing, Approved, Declined, Reversed}
+use Rattle.iso_acquirer.specs.Acquirer.{state_by}
+use Rattle.iso_drive.specs.declared.made.Made.{Made}
+use Rattle.iso_drive.specs.declared.made.Role.{Role}
+use Rattle.iso_drive.specs.declared.made.Role.TheVariants.{Payment, Reversal}
+
+-- what a debit takes
+abbrev pub debit_in : Act → Option Money
+debit_in (Debit m) = Some m
+debit_in (Credit m) = None
+debit_in (Inquiry m) = None
+debit_in (Undo original left) = None
+debit_in (Complete m hold) = None
+
+abbrev pub role_of : Part → Role
+role_of (part.Transaction stage) = Payment (state_by stage)
+role_of (part.Reversal stan) = Reversal stan
+
+-- an order of the acquirer, as the driver has it
+abbrev pub made_of : Slot → Made
+made_of s = record { key = s.order.key; debit = debit_in s.order.act; role = role_of s.role }
+
+-- the orders have the trace numbers from n on
+abbrev pub AreInRow : ℕ → List Slot → Type 0
+AreInRow n [] = Unit {0}
+AreInRow n (s ∷ ss) = (s.order.key.stan ≡ n) × AreInRow (n + 1) ss
+
+-- these are the acquirer's orders, at the places of their trace numbers
+pub record IsTabled (made : List Made) (slots : List Slot) : Type 0 where
+  pub few : length slots ≤ 999999
+  pub in_row : AreInRow 1 slots
+  pub same : made ≡ map made_of slots
+
+-- the state in which an answer closes a transaction, if it does: an answer to its own order, and one to its reversal
+abbrev pub own_end : State → ℕ → Option State
+own_end (Waiting n) code =
+    if code == 0 then Some Approved else (if (code == 94) || (code == 96) then None else Some (Declined code))
+own_end Reversing code = None
+own_end Approved code = None
+own_end (Declined c) code = None
+own_end Reversed code = None
+
+abbrev pub undo_end : State → ℕ → Option State
+undo_end (Waiting n) code = None
+undo_end Reversing code = if code == 0 then Some Reversed else None
+undo_end Approved code = None
+undo_end (Declined c) code = None
+undo_end Reversed code = None
+
+abbrev pub undo_end_in : Role → ℕ → Option State
+undo_end_in (Payment state) code = undo_end state code
+undo_end_in (Reversal stan) code = None
+
+abbrev pub undo_end_at : Option Made → ℕ → Option State
+undo_end_at None code = None
+undo_end_at (Some m) code = undo_end_in m.role code

@@ -1,0 +1,299 @@
+//! An acquirer that is driven by the clock.
+ghost use Rattle.std.specs.Prelude.{◌≡◌, ◌≢◌, ◌≤◌, ◌⊎◌, ◌↔◌, ◌+◌, ℕ, List, [], OnOk, IfOk, IfErr, IfSome, IsTrue, length, option_map, slice_get};
+ghost use Rattle.std.specs.List.{AllByRecursion};
+ghost use Rattle.iso_acquirer.specs.Acquirer.{IsFair, debit_of};
+ghost use Rattle.iso_acquirer.specs.Agreement.{approved_total};
+ghost use Rattle.iso_restarts.specs.declared.note.Note.{Note};
+ghost use Rattle.iso_restarts.specs.Diary.{MayLeave, party_after, in_memory, unsent, begins, hears, times_out};
+ghost use Rattle.iso_restarts.specs.Durable.{diary_of, IsConsistent, IsOpened, IsRefusedBegin};
+ghost use Rattle.iso_restarts.specs.Durable.{Stays as Same};
+ghost use Rattle.iso_restarts.specs.Replayed.{CanBeWritten};
+ghost use Rattle.iso_drive.specs.Answered.{ComesTo};
+ghost use Rattle.iso_drive.specs.Counts.{counts_of};
+ghost use Rattle.iso_drive.specs.Driving.{Driving, slots_in, at_moment, begins_now, wakes_first, wakes, hears_new, keeps_all};
+ghost use Rattle.iso_drive.specs.Driving.{driving_of, log_of, is_stopped, IsDriving, Remains, Stops, IsStarted, WakesSome, MayLeaveSome};
+ghost use Rattle.iso_drive.specs.Due.{due_by};
+ghost use Rattle.iso_drive.specs.Open.{AreAllClosed};
+
+use crate::board::{Board, begin, board_after, make_room, settle};
+use crate::books::approved_total;
+use crate::counts::{Counts, count};
+use crate::due::{Due, due_by, moment_after, put_off};
+use crate::heard::Heard;
+use crate::made::{judge, time_out};
+use iso_acquirer::AcqFault;
+use iso_order::{MOST_STAN, Money, Order, Pan, Told, TxKey};
+use iso_restarts::{DurableAcquirer, Fault, Note, NoteLog};
+use std::alloc::Global;
+use std::collections::VecDeque;
+
+/// The transaction that waits first.
+fn first_of(waiting: &VecDeque<Due>) -> Option<Due>
+    ensures { result ≡ slice_get waiting.now.items 0 }
+{
+    waiting.get(0).copied()
+}
+
+/// No answer came in time to a transaction. Where no trace number is left for its reversal, it goes on to wait.
+fn ask<L: NoteLog>(acquirer: &mut DurableAcquirer<L>, stan: u32) -> Result<(), Fault>
+    ensures consistent { OnOk result (IsConsistent L.is_ready L.synced L.pending acquirer.old
+        → IsConsistent L.is_ready L.synced L.pending acquirer.new) }
+    ensures times_out { OnOk result (IsConsistent L.is_ready L.synced L.pending acquirer.old
+        → diary_of L.synced L.pending acquirer.new
+        ≡ times_out (diary_of L.synced L.pending acquirer.old) stan) }
+    ensures crash { IsConsistent L.is_ready L.synced L.pending acquirer.old
+        → (c : List Note) → L.may_leave acquirer.new.log c
+        → MayLeave (times_out (diary_of L.synced L.pending acquirer.old) stan) c }
+    ensures unchanged { IfErr result (λ e. e ≢ Fault.Log
+        → Same L.is_ready L.synced L.pending acquirer.old acquirer.new) }
+    ensures stops { Stops acquirer.old.has_failed acquirer.new.has_failed result }
+{
+    match acquirer.timed_out(stan) {
+        Ok(()) | Err(Fault::Refused(_)) => Ok(()),
+        Err(fault) => Err(fault),
+    }
+}
+
+/// An acquirer over the log of its notes, and when each of its open transactions is due. Moments are in milliseconds, of
+/// any clock that goes on; one before the latest that was told counts as the latest.
+#[derive(Drop)]
+pub struct Driver<L: NoteLog> {
+    acquirer: DurableAcquirer<L>,
+    /// Its number (element 32).
+    id: u64,
+    board: Board,
+    /// How long it waits for an answer.
+    patience: u64,
+    /// The latest moment that it was told.
+    clock: u64,
+}
+
+impl<L: NoteLog> Driver<L> {
+    /// The driver of the acquirer of that number (element 32), of at most 11 digits, over a log that was opened, with the
+    /// notes that it holds. It waits that long for each answer, in milliseconds. The transactions that the notes leave
+    /// open are due at once. An `Err` hands the log back.
+    pub fn start(
+        alloc: Global,
+        id: u64,
+        notes: &[Note],
+        log: L,
+        patience: u64,
+    ) -> Result<Driver<L>, (Fault, L)>
+        requires { id ≤ 99999999999 }
+        ensures driving { IfOk result (λ d. IsOpened L.is_ready L.synced L.pending log notes.now
+            → IsDriving L.is_ready L.synced L.pending d) }
+        ensures started { IfOk result (λ d. IsOpened L.is_ready L.synced L.pending log notes.now
+            → IsStarted id notes.now patience (driving_of L.synced L.pending d)) }
+        ensures log { IfErr result (λ e. e.1 ≡ log) }
+        // `Damaged` only where no acquirer can have written these notes.
+        ensures damaged { IfErr result (λ e. e.0 ≡ Fault.Damaged
+            → CanBeWritten (party_after id []) notes.now → ⊥) }
+    {
+        let board = match board_after(alloc, notes) {
+            Ok(board) => board,
+            Err(fault) => return Err((fault, log)),
+        };
+        match DurableAcquirer::start(alloc, id, notes, log) {
+            Ok(acquirer) => Ok(Driver {
+                acquirer,
+                id,
+                board,
+                patience,
+                clock: 0,
+            }),
+            Err(back) => Err(back),
+        }
+    }
+
+    /// Begins a purchase at a moment, as `Acquirer::begin` does, and writes it down: gives its trace number. Its order is
+    /// given by the next `keep`. It is due once it waited as long as the driver waits.
+    pub fn begin(&mut self, money: &Money, sent: u64, now: u64) -> Result<u32, Fault>
+        requires { IsFair money.now.amount money.now.currency sent }
+        ensures trace { IfOk result (λ stan. IsDriving L.is_ready L.synced L.pending self.old
+            → stan ≡ length (slots_in (driving_of L.synced L.pending self.old)) + 1) }
+        ensures driving { OnOk result (IsDriving L.is_ready L.synced L.pending self.old
+            → IsDriving L.is_ready L.synced L.pending self.new) }
+        ensures begins { OnOk result (IsDriving L.is_ready L.synced L.pending self.old
+            → let old = at_moment now (driving_of L.synced L.pending self.old) in
+            driving_of L.synced L.pending self.new
+            ≡ begins_now old (debit_of (in_memory old.diary) money.now.pan money.now.amount money.now.currency sent)) }
+        // However it ends, a crash leaves what it may leave once the purchase has begun.
+        ensures crash { IsDriving L.is_ready L.synced L.pending self.old
+            → (c : List Note) → L.may_leave (log_of self.new) c
+            → let old = (driving_of L.synced L.pending self.old).diary in
+            MayLeave (begins old (debit_of (in_memory old) money.now.pan money.now.amount money.now.currency sent)) c }
+        ensures refused { IfErr result (λ e. IsDriving L.is_ready L.synced L.pending self.old
+            → IsRefusedBegin (in_memory (driving_of L.synced L.pending self.old).diary) e) }
+        ensures unchanged { IfErr result (λ e. e ≢ Fault.Log
+            → Remains L.is_ready L.synced L.pending self.old self.new) }
+        ensures stops { Stops (is_stopped self.old) (is_stopped self.new) result }
+    {
+        if self.board.made.len() >= MOST_STAN as usize {
+            return Err(Fault::Refused(AcqFault::NoMoreTrace));
+        }
+        make_room(&mut self.board)?;
+        let stan = self
+            .acquirer
+            .begin(money.pan, money.amount, money.currency, sent)?;
+        self.clock = self.clock.max(now);
+        let key = TxKey {
+            base: 200,
+            stan,
+            sent,
+            acquirer: self.id,
+        };
+        let at = moment_after(self.clock, self.patience);
+        begin(&mut self.board, key, *money, at);
+        Ok(stan)
+    }
+
+    /// The first that waits is timed out, and waits again.
+    fn wake_first(&mut self) -> Result<(), Fault>
+        ensures driving { OnOk result (IsDriving L.is_ready L.synced L.pending self.old
+            → IsDriving L.is_ready L.synced L.pending self.new) }
+        ensures wakes { OnOk result (IsDriving L.is_ready L.synced L.pending self.old
+            → driving_of L.synced L.pending self.new
+            ≡ wakes_first 1 (driving_of L.synced L.pending self.old)) }
+        ensures crash { IsDriving L.is_ready L.synced L.pending self.old
+            → (c : List Note) → L.may_leave (log_of self.new) c
+            → MayLeave (wakes_first 1 (driving_of L.synced L.pending self.old)).diary c }
+        ensures unchanged { IfErr result (λ e. e ≢ Fault.Log
+            → Remains L.is_ready L.synced L.pending self.old self.new) }
+        ensures stops { Stops (is_stopped self.old) (is_stopped self.new) result }
+    {
+        let Some(first) = first_of(&self.board.waiting) else {
+            return Ok(());
+        };
+        make_room(&mut self.board)?;
+        ask(&mut self.acquirer, first.stan)?;
+        time_out(&mut self.board.made, first.stan);
+        put_off(
+            &mut self.board.waiting,
+            moment_after(self.clock, self.patience),
+        );
+        Ok(())
+    }
+
+    /// Times out each transaction that is due by a moment, in the order in which they became due, and writes it down: how
+    /// many there were. Its order is sent again, then its reversal, and then that again and again: the next `keep` gives
+    /// the orders. Each waits again from now on. One for whose reversal no trace number is left just waits again. After an
+    /// `Err` some from the front are timed out, and the others are due as before.
+    pub fn wake(&mut self, now: u64) -> Result<usize, Fault>
+        ensures count { IfOk result (λ n. let old = at_moment now (driving_of L.synced L.pending self.old) in
+            n ≡ length (due_by old.clock old.waiting)) }
+        ensures driving { OnOk result (IsDriving L.is_ready L.synced L.pending self.old
+            → IsDriving L.is_ready L.synced L.pending self.new) }
+        ensures wakes { OnOk result (IsDriving L.is_ready L.synced L.pending self.old
+            → driving_of L.synced L.pending self.new
+            ≡ wakes (at_moment now (driving_of L.synced L.pending self.old))) }
+        ensures partly { IfErr result (λ e. e ≢ Fault.Log
+            → IsDriving L.is_ready L.synced L.pending self.old
+            → IsDriving L.is_ready L.synced L.pending self.new
+            × WakesSome (at_moment now (driving_of L.synced L.pending self.old))
+            (driving_of L.synced L.pending self.new)) }
+        // However it ends, a crash leaves what it may leave once some of them are timed out.
+        ensures crash { IsDriving L.is_ready L.synced L.pending self.old
+            → (c : List Note) → L.may_leave (log_of self.new) c
+            → MayLeaveSome (at_moment now (driving_of L.synced L.pending self.old)) c }
+        ensures fault { IfErr result (λ e. (e ≡ Fault.Memory) ⊎ (e ≡ Fault.Log)) }
+    {
+        self.clock = self.clock.max(now);
+        let count = due_by(&self.board.waiting, self.clock);
+        for _ in 0..count {
+            self.wake_first()?;
+        }
+        Ok(count)
+    }
+
+    /// Takes an answer: the key and code of a response. One that closes a transaction is written down, and the transaction
+    /// waits no longer. Any other writes nothing: it tells nothing new, or isn't to this acquirer's order.
+    pub fn heard(&mut self, told: &Told) -> Result<Heard, Fault>
+        ensures comes { IfOk result (λ heard. IsDriving L.is_ready L.synced L.pending self.old
+            → ComesTo (slots_in (driving_of L.synced L.pending self.old)) told.now.key told.now.code heard) }
+        ensures driving { OnOk result (IsDriving L.is_ready L.synced L.pending self.old
+            → IsDriving L.is_ready L.synced L.pending self.new) }
+        ensures hears { IfOk result (λ heard. IsDriving L.is_ready L.synced L.pending self.old
+            → driving_of L.synced L.pending self.new
+            ≡ hears_new (driving_of L.synced L.pending self.old) told.now.key told.now.code heard) }
+        // However it ends, a crash leaves what it may leave once the answer is written.
+        ensures crash { IsDriving L.is_ready L.synced L.pending self.old
+            → (c : List Note) → L.may_leave (log_of self.new) c
+            → MayLeave (hears (driving_of L.synced L.pending self.old).diary told.now.key told.now.code) c }
+        ensures fault { IfErr result (λ e. e ≡ Fault.Log) }
+    {
+        let heard = judge(&self.board.made, &told.key, told.code);
+        if let Heard::Closed { stan, state } = heard {
+            self.acquirer.told(told.key, told.code)?;
+            settle(&mut self.board, stan, state);
+        }
+        Ok(heard)
+    }
+
+    /// Has all that was written kept, with one sync, and gives the orders that may be sent now, in their order.
+    pub fn keep(&mut self) -> Result<Vec<Order>, Fault>
+        ensures orders { IfOk result (λ orders. IsDriving L.is_ready L.synced L.pending self.old
+            → orders.items ≡ unsent (driving_of L.synced L.pending self.old).diary) }
+        ensures driving { OnOk result (IsDriving L.is_ready L.synced L.pending self.old
+            → IsDriving L.is_ready L.synced L.pending self.new) }
+        ensures keeps { OnOk result (IsDriving L.is_ready L.synced L.pending self.old
+            → driving_of L.synced L.pending self.new
+            ≡ keeps_all (driving_of L.synced L.pending self.old)) }
+        // However it ends, a crash leaves what it may leave before.
+        ensures crash { IsDriving L.is_ready L.synced L.pending self.old
+            → (c : List Note) → L.may_leave (log_of self.new) c
+            → MayLeave (driving_of L.synced L.pending self.old).diary c }
+        ensures fault { IfErr result (λ e. e ≡ Fault.Log) }
+        ensures stops { Stops (is_stopped self.old) (is_stopped self.new) result }
+    {
+        self.acquirer.keep()
+    }
+
+    /// Its log. Takes no memory.
+    pub fn log(&self) -> &L
+        ensures { result.now ≡ log_of self.now }
+    {
+        self.acquirer.log()
+    }
+
+    /// The moment at which the next transaction is due: no other is due before. `None` where none is open. Takes no memory.
+    pub fn next_due(&self) -> Option<u64>
+        ensures first { result ≡ option_map (λ d. d.at) (slice_get (driving_of L.synced L.pending self.now).waiting 0) }
+        ensures none_before { IfSome result (λ at. IsDriving L.is_ready L.synced L.pending self.now
+            → AllByRecursion (λ d. at ≤ d.at) (driving_of L.synced L.pending self.now).waiting) }
+    {
+        Some(first_of(&self.board.waiting)?.at)
+    }
+
+    /// How many transactions are open. Takes no memory.
+    pub fn open(&self) -> usize
+        ensures { result ≡ length (driving_of L.synced L.pending self.now).waiting }
+    {
+        self.board.waiting.len()
+    }
+
+    /// Whether all transactions are closed. Takes no memory.
+    pub fn is_closed(&self) -> bool
+        ensures none { IsTrue result ↔ ((driving_of L.synced L.pending self.now).waiting ≡ []) }
+        ensures closed { IsDriving L.is_ready L.synced L.pending self.now
+            → (IsTrue result ↔ AreAllClosed (slots_in (driving_of L.synced L.pending self.now))) }
+    {
+        self.board.waiting.is_empty()
+    }
+
+    /// How far its transactions got. Takes no memory, and time by how many there are.
+    pub fn counts(&self) -> Counts
+        ensures { IsDriving L.is_ready L.synced L.pending self.now
+            → result ≡ counts_of (slots_in (driving_of L.synced L.pending self.now)) }
+    {
+        count(&self.board.made)
+    }
+
+    /// What its own books say of an account: the amounts of its approved purchases, added up. Takes no memory, and time by
+    /// how many there are.
+    pub fn spent(&self, pan: &Pan) -> u128
+        ensures { IsDriving L.is_ready L.synced L.pending self.now
+            → result ≡ approved_total pan.now (slots_in (driving_of L.synced L.pending self.now)) }
+    {
+        approved_total(&self.board.made, pan)
+    }
+}
