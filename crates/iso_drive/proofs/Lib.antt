@@ -1,0 +1,6 @@
+pub mod Counted
+pub mod Opened
+pub mod Plain
+pub mod Row
+pub mod Tabled
+pub mod Waits

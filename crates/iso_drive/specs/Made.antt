@@ -10,6 +10,8 @@ use Rattle.iso_acquirer.specs.declared.slot.Role.TheVariants as part
 use Rattle.iso_acquirer.specs.declared.state.State.{State}
 use Rattle.iso_acquirer.specs.declared.state.State.TheVariants.{Waiting, Reversing, Approved, Declined, Reversed}
 use Rattle.iso_acquirer.specs.Acquirer.{state_by}
+use Rattle.iso_drive.specs.declared.heard.Heard.{Heard}
+use Rattle.iso_drive.specs.declared.heard.Heard.TheVariants.{Closed, Known}
 use Rattle.iso_drive.specs.declared.made.Made.{Made}
 use Rattle.iso_drive.specs.declared.made.Role.{Role}
 use Rattle.iso_drive.specs.declared.made.Role.TheVariants.{Payment, Reversal}
@@ -64,3 +66,8 @@ undo_end_in (Reversal stan) code = None
 abbrev pub undo_end_at : Option Made → ℕ → Option State
 undo_end_at None code = None
 undo_end_at (Some m) code = undo_end_in m.role code
+
+-- what an answer came to that closes the transaction of that trace number in that state, or doesn't
+abbrev pub told_by : ℕ → Option State → Heard
+told_by stan (Some state) = Closed stan state
+told_by stan None = Known

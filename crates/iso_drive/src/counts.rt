@@ -1,5 +1,5 @@
 //! How far the transactions of a driver got.
-ghost use Rattle.std.specs.Prelude.{◌≡◌, List};
+ghost use Rattle.std.specs.Prelude.{◌≡◌, List, count_by};
 ghost use Rattle.iso_acquirer.specs.declared.slot.Slot.{Slot};
 ghost use Rattle.iso_drive.specs.Counts.{is_waiting, is_reversing, is_approved, is_declined, is_reversed, counts_of, role_is};
 ghost use Rattle.iso_drive.specs.Made.{IsTabled};
@@ -28,10 +28,22 @@ fn is_waiting(role: Role) -> bool
     matches!(role, Role::Payment(State::Waiting(_)))
 }
 
+fn waiting(made: &[Made]) -> usize
+    ensures { result ≡ count_by (λ m. role_is is_waiting m.role) made.now }
+{
+    made.iter().filter(|of| is_waiting(of.role)).count()
+}
+
 fn is_reversing(role: Role) -> bool
     ensures { result ≡ role_is is_reversing role }
 {
     matches!(role, Role::Payment(State::Reversing))
+}
+
+fn reversing(made: &[Made]) -> usize
+    ensures { result ≡ count_by (λ m. role_is is_reversing m.role) made.now }
+{
+    made.iter().filter(|of| is_reversing(of.role)).count()
 }
 
 fn is_approved(role: Role) -> bool
@@ -40,10 +52,22 @@ fn is_approved(role: Role) -> bool
     matches!(role, Role::Payment(State::Approved))
 }
 
+fn approved(made: &[Made]) -> usize
+    ensures { result ≡ count_by (λ m. role_is is_approved m.role) made.now }
+{
+    made.iter().filter(|of| is_approved(of.role)).count()
+}
+
 fn is_declined(role: Role) -> bool
     ensures { result ≡ role_is is_declined role }
 {
     matches!(role, Role::Payment(State::Declined(_)))
+}
+
+fn declined(made: &[Made]) -> usize
+    ensures { result ≡ count_by (λ m. role_is is_declined m.role) made.now }
+{
+    made.iter().filter(|of| is_declined(of.role)).count()
 }
 
 fn is_reversed(role: Role) -> bool
@@ -52,15 +76,21 @@ fn is_reversed(role: Role) -> bool
     matches!(role, Role::Payment(State::Reversed))
 }
 
+fn reversed(made: &[Made]) -> usize
+    ensures { result ≡ count_by (λ m. role_is is_reversed m.role) made.now }
+{
+    made.iter().filter(|of| is_reversed(of.role)).count()
+}
+
 /// How far the transactions among these orders got.
 pub(crate) fn count(made: &[Made]) -> Counts
     ensures { (slots : List Slot) → IsTabled made.now slots → result ≡ counts_of slots }
 {
     Counts {
-        waiting: made.iter().filter(|of| is_waiting(of.role)).count(),
-        reversing: made.iter().filter(|of| is_reversing(of.role)).count(),
-        approved: made.iter().filter(|of| is_approved(of.role)).count(),
-        declined: made.iter().filter(|of| is_declined(of.role)).count(),
-        reversed: made.iter().filter(|of| is_reversed(of.role)).count(),
+        waiting: waiting(made),
+        reversing: reversing(made),
+        approved: approved(made),
+        declined: declined(made),
+        reversed: reversed(made),
     }
 }

@@ -4,10 +4,10 @@ ghost use Rattle.iso_order.specs.declared.key.TxKey.{TxKey};
 ghost use Rattle.iso_acquirer.specs.declared.slot.Slot.{Slot};
 ghost use Rattle.iso_acquirer.specs.declared.slot.Stage.{Stage};
 ghost use Rattle.iso_acquirer.specs.declared.slot.Role.TheVariants.{Transaction};
-ghost use Rattle.iso_acquirer.specs.Acquirer.{slot_at, state_by, slots_at_stage, timeout, slots_after_answer, reversal_for, next_reversal};
+ghost use Rattle.iso_acquirer.specs.Acquirer.{slot_at, state_by, slots_at_stage, timeout, timeout_by, slots_after_answer, reversal_for, next_reversal, slots_with_reversal};
 ghost use Rattle.iso_restarts.specs.Diary.{slots_asked};
 ghost use Rattle.iso_drive.specs.Answered.{Closes, ComesTo};
-ghost use Rattle.iso_drive.specs.Made.{made_of, IsTabled, own_end, undo_end_at};
+ghost use Rattle.iso_drive.specs.Made.{made_of, IsTabled, own_end, undo_end_in, undo_end_at, told_by};
 
 use crate::heard::Heard;
 use iso_acquirer::State;
@@ -86,7 +86,39 @@ fn push_reversal(made: &mut Vec<Made>, of: &Made)
     });
 }
 
-/// No answer came in time to a transaction: its order is sent again, and after that its reversal is made.
+/// Reverses a transaction. There is room for its reversal, and a trace number is left.
+fn reverse(made: &mut Vec<Made>, of: &Made)
+    requires room { vec_len made.old < vec_capacity made.old }
+    requires few { length made.old.items < 999999 }
+    ensures { (slots : List Slot) (s : Slot) (stage : Stage) → IsTabled made.old.items slots
+        → slot_at slots of.now.key.stan ≡ Some s → s.role ≡ Transaction stage → made_of s ≡ of.now
+        → IsTabled made.new.items (slots_with_reversal slots s.order.key.stan (next_reversal slots s.order)) }
+{
+    put_state(made, of.key.stan, State::Reversing);
+    push_reversal(made, of);
+}
+
+/// No answer came in time to a transaction in that state.
+fn time_out_by(made: &mut Vec<Made>, of: &Made, state: State)
+    requires { vec_len made.old < vec_capacity made.old }
+    ensures { (slots : List Slot) (s : Slot) (stage : Stage) → IsTabled made.old.items slots
+        → slot_at slots of.now.key.stan ≡ Some s → s.role ≡ Transaction stage → made_of s ≡ of.now
+        → state_by stage ≡ state → IsTabled made.new.items (slots_asked slots (timeout_by slots s.order stage)) }
+{
+    let State::Waiting(count) = state else {
+        return;
+    };
+    if count == 1 {
+        put_state(made, of.key.stan, State::Waiting(2));
+        return;
+    }
+    if made.len() < MOST_STAN as usize {
+        reverse(made, of);
+    }
+}
+
+/// No answer came in time to a transaction: its order is sent again, and after that its reversal is made. There is room
+/// for a reversal.
 pub(crate) fn time_out(made: &mut Vec<Made>, stan: u32)
     requires { vec_len made.old < vec_capacity made.old }
     ensures { (slots : List Slot) → IsTabled made.old.items slots
@@ -95,15 +127,10 @@ pub(crate) fn time_out(made: &mut Vec<Made>, stan: u32)
     let Some(of) = made_at(made, stan) else {
         return;
     };
-    let Role::Payment(State::Waiting(count)) = of.role else {
+    let Role::Payment(state) = of.role else {
         return;
     };
-    if count == 1 {
-        put_state(made, stan, State::Waiting(2));
-    } else if made.len() < MOST_STAN as usize {
-        put_state(made, stan, State::Reversing);
-        push_reversal(made, &of);
-    }
+    time_out_by(made, &of, state);
 }
 
 /// The state in which an answer to its own order closes a transaction, if it does.
@@ -121,10 +148,10 @@ fn own_end(state: State, code: u8) -> Option<State>
 }
 
 /// The state in which an answer to its reversal closes a transaction, if it does.
-fn undo_end(of: Option<Made>, code: u8) -> Option<State>
-    ensures { result ≡ undo_end_at of code }
+fn undo_end(role: Role, code: u8) -> Option<State>
+    ensures { result ≡ undo_end_in role code }
 {
-    match of?.role {
+    match role {
         Role::Payment(State::Reversing) => {
             if code == 0 {
                 Some(State::Reversed)
@@ -132,9 +159,22 @@ fn undo_end(of: Option<Made>, code: u8) -> Option<State>
                 None
             }
         }
-        Role::Payment(State::Waiting(_) | State::Approved | State::Declined(_) | State::Reversed)
+        Role::Payment(
+            State::Waiting(_) | State::Approved | State::Declined(_) | State::Reversed,
+        )
         | Role::Reversal(_) => None,
     }
+}
+
+/// The same of the transaction of a trace number, if there is one.
+fn undo_end_at(made: &[Made], stan: u32, code: u8) -> Option<State>
+    ensures { (slots : List Slot) → IsTabled made.now slots
+        → result ≡ undo_end_at (option_map made_of (slot_at slots stan)) code }
+{
+    let Some(of) = made_at(made, stan) else {
+        return None;
+    };
+    undo_end(of.role, code)
 }
 
 /// The answer of that code to an order of that key closed the transaction of that trace number in that state.
@@ -143,6 +183,16 @@ pub(crate) fn close(made: &mut [Made], stan: u32, state: State)
         → Closes slots key code stan state → IsTabled made.new (slots_after_answer slots key code) }
 {
     put_state(made, stan, state);
+}
+
+/// What an answer came to that closes a transaction in that state, or doesn't.
+fn told_by(stan: u32, end: Option<State>) -> Heard
+    ensures { result ≡ told_by stan end }
+{
+    match end {
+        Some(state) => Heard::Closed { stan, state },
+        None => Heard::Known,
+    }
 }
 
 /// What an answer comes to.
@@ -155,12 +205,8 @@ pub(crate) fn judge(made: &[Made], key: &TxKey, code: u8) -> Heard
     if !of.key.is_same(key) {
         return Heard::Foreign;
     }
-    let (stan, end) = match of.role {
-        Role::Payment(state) => (key.stan, own_end(state, code)),
-        Role::Reversal(original) => (original, undo_end(made_at(made, original), code)),
-    };
-    match end {
-        Some(state) => Heard::Closed { stan, state },
-        None => Heard::Known,
+    match of.role {
+        Role::Payment(state) => told_by(key.stan, own_end(state, code)),
+        Role::Reversal(original) => told_by(original, undo_end_at(made, original, code)),
     }
 }
