@@ -14,6 +14,7 @@ use Rattle.iso_acquirer.specs.Acquirer.{slot_at, state_of, state_in, state_by, o
 use Rattle.iso_acquirer.specs.Agreement.{is_closed}
 use Rattle.iso_drive.specs.declared.made.Made.{Made}
 use Rattle.iso_drive.specs.declared.made.Role.{Role}
+use Rattle.iso_drive.specs.declared.made.Role.TheVariants.{Payment, Reversal as Undone}
 use Rattle.iso_drive.specs.Answered.{has_key, is_made, Closes, ChangesNothing, ComesTo}
 use Rattle.iso_drive.specs.Made.{made_of, role_of, AreInRow, own_end, undo_end, undo_end_in, undo_end_at, told_by, IsTabled}
 use Rattle.iso_drive.specs.Open.{is_open, is_open_at}
@@ -154,3 +155,32 @@ tabled-closed old new slots key code stan state h put =
     let ends : Some (state_by (to.0 one.1)) ≡ Some state =
     sym (ap (λ r. state_in (on_stage to.0 r)) one.3) ∙ sym (state-same to.0 stan slots one.0 one.2) ∙ ap (λ (l : List Slot). state_of l stan) (sym to.1) ∙ h.now in
     subst (IsTabled new) (sym to.1) (put one.0 one.1 to.0 one.2 one.3 (some_is (state_by (to.0 one.1)) state ends))
+
+-- ---- what the driver makes of an answer, by the orders as it has them
+
+judged : (f : Option Slot) (m : Made) → Some m ≡ option_map made_of f → (s : Slot) × (f ≡ Some s) × (made_of s ≡ m)
+judged None m h = cc
+judged (Some s) m h = (s, refl, sym (some_is m (made_of s) h))
+
+payment : (role : Part) (state : State) → role_of role ≡ Payment state → (stage : Stage) × (role ≡ Transaction stage) × (state_by stage ≡ state)
+payment (Transaction stage) state h = (stage, refl, cc)
+payment (Reversal k) state h = cc
+
+reversal : (role : Part) (k : ℕ) → role_of role ≡ Undone k → role ≡ Reversal k
+reversal (Transaction stage) k h = cc
+reversal (Reversal n) k h = cc
+
+pub own-judged : (slots : List Slot) (key : TxKey) (code : ℕ) (m : Made) (state : State) → AreInRow 1 slots → Some m ≡ option_map made_of (slot_at slots key.stan) → same_key m.key key ≡ true →
+    m.role ≡ Payment state → ComesTo slots key code (told_by key.stan (own_end state code))
+own-judged slots key code m state row there same role =
+    let one = judged (slot_at slots key.stan) m there in
+    let pays = payment one.0.role state (ap (λ (x : Made). x.role) one.2 ∙ role) in
+    subst (λ (x : State). ComesTo slots key code (told_by key.stan (own_end x code))) pays.2
+    (own-comes slots key code one.0 row one.1 (ap (λ (x : Made). same_key x.key key) one.2 ∙ same) pays.0 pays.1)
+
+pub undo-judged : (slots : List Slot) (key : TxKey) (code : ℕ) (m : Made) (k : ℕ) → AreInRow 1 slots → Some m ≡ option_map made_of (slot_at slots key.stan) → same_key m.key key ≡ true →
+    m.role ≡ Undone k → ComesTo slots key code (told_by k (undo_end_at (option_map made_of (slot_at slots k)) code))
+undo-judged slots key code m k row there same role =
+    let one = judged (slot_at slots key.stan) m there in
+    undo-comes slots key code one.0 row one.1 (ap (λ (x : Made). same_key x.key key) one.2 ∙ same) k
+    (reversal one.0.role k (ap (λ (x : Made). x.role) one.2 ∙ role)) (slot_at slots k) refl

@@ -1,6 +1,11 @@
+pub mod Answer
+pub mod Boarded
 pub mod Counted
+pub mod Driven
+pub mod Notes
 pub mod Opened
 pub mod Plain
 pub mod Row
 pub mod Tabled
 pub mod Waits
+pub mod Woken

@@ -1,8 +1,12 @@
 -- The orders as a driver has them, where the acquirer's change.
-use Rattle.std.proofs.Common.{◌≡◌, ◌≢◌, ℕ, suc, Bool, true, false, refl, arith, ap, sym, ◌∙◌, List, [], ◌∷◌, ◌++◌, length, ◌<◌, ◌≤◌, ◌+◌, ◌-◌, cond, slice_set}
+use Rattle.std.proofs.Common.{◌≡◌, ◌≢◌, ℕ, suc, Bool, true, false, refl, arith, ap, sym, ◌∙◌, List, [], ◌∷◌, ◌++◌, length, ◌<◌, ◌≤◌, ◌+◌, ◌-◌, cond, slice_set, subst}
 use Rattle.std.specs.Prelude.{◌==◌, Option, Some, None, slice_get, option_map, map, nat_lt}
 use Rattle.std.proofs.lemmas.Option.{slice_get-map}
 use Rattle.std.proofs.lemmas.List.{map-set, map-append, length-append}
+use Rattle.iso_order.specs.declared.act.Act.{Act}
+use Rattle.iso_order.specs.declared.act.Act.TheVariants.{Debit}
+use Rattle.iso_order.specs.declared.act.Money.{Money}
+use Rattle.iso_order.specs.declared.key.TxKey.{TxKey}
 use Rattle.iso_order.specs.Order.{Instruction}
 use Rattle.iso_acquirer.specs.declared.fault.AcqFault.TheVariants.{NoMoreTrace}
 use Rattle.iso_acquirer.specs.declared.slot.Slot.{Slot}
@@ -12,7 +16,7 @@ use Rattle.iso_acquirer.specs.declared.slot.Stage.{Stage}
 use Rattle.iso_acquirer.specs.declared.slot.Stage.TheVariants as phase
 use Rattle.iso_acquirer.specs.declared.state.State.{State}
 use Rattle.iso_acquirer.specs.declared.state.State.TheVariants.{Waiting}
-use Rattle.iso_acquirer.specs.Acquirer.{slot_at, state_by, on_stage, slot_at_stage, slots_at_stage, timeout, timeout_at, timeout_in, timeout_by, next_reversal, slots_with_reversal, reversal_for}
+use Rattle.iso_acquirer.specs.Acquirer.{slot_at, state_by, on_stage, slot_at_stage, slots_at_stage, timeout, timeout_at, timeout_in, timeout_by, next_reversal, slots_with_reversal, reversal_for, transaction_of}
 use Rattle.iso_restarts.specs.Diary.{slots_asked}
 use Rattle.iso_drive.specs.declared.made.Made.{Made}
 use Rattle.iso_drive.specs.declared.made.Role.TheVariants.{Payment}
@@ -99,3 +103,42 @@ asked-reversal slots o n other left = rw (other_number n 1 other, left) refl
 
 pub asked-no-more : (slots : List Slot) (o : Instruction) (n : ℕ) → n ≢ 1 → nat_lt (length slots) 999999 ≡ false → slots_asked slots (timeout_by slots o (phase.Waiting n)) ≡ slots
 asked-no-more slots o n other left = rw (other_number n 1 other, left) refl
+
+-- ---- a time-out, and what the driver makes of it
+
+pub asked-once : (slots : List Slot) (s : Slot) (stage : Stage) (n : ℕ) → state_by stage ≡ Waiting n → n ≡ 1 →
+    slots_at_stage (λ _. phase.Waiting 2) s.order.key.stan slots ≡ slots_asked slots (timeout_by slots s.order stage)
+asked-once slots s stage n waits is =
+    sym (ap (λ (p : Stage). slots_asked slots (timeout_by slots s.order p)) (stage-waits stage n waits) ∙ asked-again slots s.order n is)
+
+payment-role : (role : Part) (state : State) → role_of role ≡ Payment state → (stage : Stage) × (role ≡ Transaction stage) × (state_by stage ≡ state)
+payment-role (Transaction stage) state h = (stage, refl, cc)
+payment-role (Reversal k) state h = cc
+
+made-found : (f : Option Slot) (m : Made) → Some m ≡ option_map made_of f → (s : Slot) × (f ≡ Some s) × (made_of s ≡ m)
+made-found None m h = cc
+made-found (Some s) m h = (s, refl, sym (some_is m (made_of s) h))
+
+pub timed-out : (old new : List Made) (slots : List Slot) (stan : ℕ) (m : Made) (state : State) → IsTabled old slots → Some m ≡ option_map made_of (slot_at slots stan) → m.role ≡ Payment state →
+    ((s : Slot) (stage : Stage) → slot_at slots m.key.stan ≡ Some s → s.role ≡ Transaction stage → made_of s ≡ m → state_by stage ≡ state → IsTabled new (slots_asked slots (timeout_by slots s.order stage))) →
+    IsTabled new (slots_asked slots (timeout slots stan))
+timed-out old new slots stan m state t there role by =
+    let one = made-found (slot_at slots stan) m there in
+    let pays = payment-role one.0.role state (ap (λ (x : Made). x.role) one.2 ∙ role) in
+    let own : m.key.stan ≡ stan = sym (ap (λ (x : Made). x.key.stan) one.2) ∙ (found slots 1 stan one.0 t.in_row one.1).0 in
+    subst (IsTabled new) (sym (asked-role slots stan one.0 (Transaction pays.0) one.1 pays.1))
+    (by one.0 pays.0 (ap (slot_at slots) own ∙ one.1) pays.1 one.2 pays.2)
+
+pub tabled-reversed : (mid new : List Made) (slots : List Slot) (s : Slot) (u : Instruction) → IsTabled mid (slots_at_stage (λ _. phase.Reversing u) s.order.key.stan slots) → u.key.stan ≡ length slots + 1 →
+    length slots < 999999 → new ≡ mid ++ made_of (reversal_for s.order.key.stan u) ∷ [] → IsTabled new (slots_with_reversal slots s.order.key.stan u)
+tabled-reversed mid new slots s u t next few is =
+    let same = length-changed (λ _. phase.Reversing u) s.order.key.stan slots in
+    subst (λ (l : List Made). IsTabled l (slots_with_reversal slots s.order.key.stan u)) (sym is)
+    (tabled-push mid (slots_at_stage (λ _. phase.Reversing u) s.order.key.stan slots) (reversal_for s.order.key.stan u) t (omega (arith, same, few)) (omega (arith, same, next)))
+
+-- ---- a purchase that begins
+
+pub made-begun : (o : Instruction) (k : TxKey) (m : Money) → k ≡ o.key → Debit m ≡ o.act → record { key = k; debit = Some m; role = Payment (Waiting 1) } ≡ made_of (transaction_of o)
+made-begun o k m key act =
+    ap (λ (x : TxKey). record { key = x; debit = Some m; role = Payment (Waiting 1) }) key
+    ∙ ap (λ (a : Act). record { key = o.key; debit = debit_in a; role = Payment (Waiting 1) }) act
