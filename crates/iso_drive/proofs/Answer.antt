@@ -28,7 +28,7 @@ pub closes-step : (slots : List Slot) (key : TxKey) (code stan : ℕ) (state : S
     (step : Stage → Stage) × (slots_after_answer slots key code ≡ slots_at_stage step stan slots)
 closes-step slots key code stan state h =
     elim (answer-shape slots key code) [
-      inl e ↦ absurd (clash (is_open_at slots stan) h.was_open (ap (λ (l : List Slot). is_open_at l stan) (sym e) ∙ shut))
+      | inl e ↦ absurd (clash (is_open_at slots stan) h.was_open (ap (λ (l : List Slot). is_open_at l stan) (sym e) ∙ shut))
       | inr e ↦ (e.0, e.2 ∙ by_test e.0 e.1 e.2 (e.1 == stan) refl)
     ]
   where

@@ -24,8 +24,13 @@ role-such such (Reversal stan) = refl
 pub counted : (such : State → Bool) (slots : List Slot) → count_by (λ m. role_is such m.role) (map made_of slots) ≡ count_of such slots
 counted such [] = refl
 counted such (s ∷ ss) =
-    omega (arith, sum_by-cons (λ (m : Made). cond (role_is such m.role) 1 0) (made_of s) (map made_of ss),
-    sum_by-cons (λ (s : Slot). cond (is_such such (state_in s.role)) 1 0) s ss, counted such ss, ap {B = ℕ} (λ b. cond b 1 0) (role-such such s.role))
+    omega (
+      arith,
+      sum_by-cons (λ (m : Made). cond (role_is such m.role) 1 0) (made_of s) (map made_of ss),
+      sum_by-cons (λ (s : Slot). cond (is_such such (state_in s.role)) 1 0) s ss,
+      counted such ss,
+      ap {B = ℕ} (λ b. cond b 1 0) (role-such such s.role),
+    )
 
 taken-same : (pan : AccountNumber) (act : Act) → taken_by (debit_in act) pan ≡ debit_amount pan act
 taken-same pan (Debit m) = refl
@@ -50,5 +55,10 @@ spent-same pan s =
 pub spent-total : (pan : AccountNumber) (slots : List Slot) → sum_by (spent_by pan) (map made_of slots) ≡ approved_total pan slots
 spent-total pan [] = refl
 spent-total pan (s ∷ ss) =
-    omega (arith, sum_by-cons (spent_by pan) (made_of s) (map made_of ss),
-    sum_by-cons (λ (s : Slot). cond (is_state_approved (state_in s.role)) (debit_amount pan s.order.act) 0) s ss, spent-total pan ss, spent-same pan s)
+    omega (
+      arith,
+      sum_by-cons (spent_by pan) (made_of s) (map made_of ss),
+      sum_by-cons (λ (s : Slot). cond (is_state_approved (state_in s.role)) (debit_amount pan s.order.act) 0) s ss,
+      spent-total pan ss,
+      spent-same pan s,
+    )

@@ -116,3 +116,18 @@ module _ {L : Type 0} (is_ready : L → Type 0) (synced pending : L → List Not
             (subst (λ c. AreInTime (moment_after c new.patience) old.board.waiting.items) (sym clock)
             (subst (λ p. AreInTime (moment_after old.clock p) old.board.waiting.items) (sym patient) is.in_time));
       }
+
+-- it is told a moment
+pub driving-moment : {L : Type 0} (is_ready : L → Type 0) (synced pending : L → List Note) (old new : Driver L) → IsDriving is_ready synced pending old →
+    new.acquirer ≡ old.acquirer → new.id ≡ old.id → new.board ≡ old.board → new.patience ≡ old.patience → old.clock ≤ new.clock → IsDriving is_ready synced pending new
+driving-moment is_ready synced pending old new is acquirer own board patient on = record {
+  consistent = subst (IsConsistent is_ready synced pending) (sym acquirer) is.consistent;
+  own = own ∙ is.own ∙ sym (ap (λ a. a.acquirer.id) acquirer);
+  board =
+      subst (λ a. IsBoard new.board (in_memory (diary_of synced pending a)).slots) (sym acquirer)
+      (subst (λ (b : Board). IsBoard b (in_memory (diary_of synced pending old.acquirer)).slots) (sym board) is.board);
+  in_time =
+      subst (λ (b : Board). AreInTime (moment_after new.clock new.patience) b.waiting.items) (sym board)
+      (subst (λ p. AreInTime (moment_after new.clock p) old.board.waiting.items) (sym patient)
+      (in-time-later (moment_after old.clock old.patience) (moment_after new.clock old.patience) old.board.waiting.items (later old.clock new.clock old.patience on) is.in_time));
+}

@@ -1,5 +1,6 @@
 pub mod Answer
 pub mod Boarded
+pub mod Closed
 pub mod Counted
 pub mod Driven
 pub mod Notes

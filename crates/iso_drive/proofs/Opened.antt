@@ -85,23 +85,23 @@ open-step step m slots s stage n there is same = go (m == n) refl
 pub open-asked : (slots : List Slot) (m n : ℕ) → AreInRow 1 slots → is_open_at (slots_asked slots (timeout slots m)) n ≡ is_open_at slots n
 open-asked slots m n row = at (slot_at slots m) refl
   where
-    waits : (s : Slot) (k : ℕ) → slot_at slots m ≡ Some s → s.role ≡ Transaction (phase.Waiting k) → s.order.key.stan ≡ m → (a b : Bool) → (k == 1) ≡ a → nat_lt (length slots) 999999 ≡ b →
+    waits : (s : Slot) (k : ℕ) → slot_at slots s.order.key.stan ≡ Some s → s.role ≡ Transaction (phase.Waiting k) → (a b : Bool) → (k == 1) ≡ a → nat_lt (length slots) 999999 ≡ b →
         is_open_at (slots_asked slots (timeout_by slots s.order (phase.Waiting k))) n ≡ is_open_at slots n
-    waits s k there is own true b e f = rw (e, own) (open-step (λ _. phase.Waiting 2) m slots s (phase.Waiting k) n there is refl)
-    waits s k there is own false true e f = rw (e, f, own)
-        (open-reversal (slots_at_stage (λ _. phase.Reversing (next_reversal slots s.order)) m slots) (reversal_for m (next_reversal slots s.order)) m n refl
-        ∙ open-step (λ _. phase.Reversing (next_reversal slots s.order)) m slots s (phase.Waiting k) n there is refl)
-    waits s k there is own false false e f = rw (e, f) refl
+    waits s k there is true b e f = rw e (open-step (λ _. phase.Waiting 2) s.order.key.stan slots s (phase.Waiting k) n there is refl)
+    waits s k there is false true e f = rw (e, f)
+        (open-reversal (slots_at_stage (λ _. phase.Reversing (next_reversal slots s.order)) s.order.key.stan slots) (reversal_for s.order.key.stan (next_reversal slots s.order)) s.order.key.stan n refl
+        ∙ open-step (λ _. phase.Reversing (next_reversal slots s.order)) s.order.key.stan slots s (phase.Waiting k) n there is refl)
+    waits s k there is false false e f = rw (e, f) refl
 
-    by_stage : (s : Slot) (stage : Stage) → slot_at slots m ≡ Some s → s.role ≡ Transaction stage → s.order.key.stan ≡ m → is_open_at (slots_asked slots (timeout_by slots s.order stage)) n ≡ is_open_at slots n
-    by_stage s (phase.Waiting k) there is own = waits s k there is own (k == 1) (nat_lt (length slots) 999999) refl refl
-    by_stage s (phase.Reversing u) there is own = refl
-    by_stage s phase.Approved there is own = refl
-    by_stage s (phase.Declined c) there is own = refl
-    by_stage s (phase.Reversed u) there is own = refl
+    by_stage : (s : Slot) (stage : Stage) → slot_at slots s.order.key.stan ≡ Some s → s.role ≡ Transaction stage → is_open_at (slots_asked slots (timeout_by slots s.order stage)) n ≡ is_open_at slots n
+    by_stage s (phase.Waiting k) there is = waits s k there is (k == 1) (nat_lt (length slots) 999999) refl refl
+    by_stage s (phase.Reversing u) there is = refl
+    by_stage s phase.Approved there is = refl
+    by_stage s (phase.Declined c) there is = refl
+    by_stage s (phase.Reversed u) there is = refl
 
     by_role : (s : Slot) (role : Part) → slot_at slots m ≡ Some s → s.role ≡ role → is_open_at (slots_asked slots (timeout_in slots s.order role)) n ≡ is_open_at slots n
-    by_role s (Transaction stage) there is = by_stage s stage there is (found slots 1 m s row there).0
+    by_role s (Transaction stage) there is = by_stage s stage (ap (slot_at slots) (found slots 1 m s row there).0 ∙ there) is
     by_role s (Reversal k) there is = refl
 
     at : (f : Option Slot) → slot_at slots m ≡ f → is_open_at (slots_asked slots (timeout slots m)) n ≡ is_open_at slots n
@@ -131,6 +131,6 @@ answer-shape slots key code = at (slot_at slots key.stan) refl
     at None h = inl (ap (slots_after_answer_at slots key code) h)
     at (Some s) h =
         elim (by_key s (same_key s.order.key key) refl) [
-          inl e ↦ inl (ap (slots_after_answer_at slots key code) h ∙ e)
+          | inl e ↦ inl (ap (slots_after_answer_at slots key code) h ∙ e)
           | inr e ↦ inr (e.0, e.1, ap (slots_after_answer_at slots key code) h ∙ e.2)
         ]

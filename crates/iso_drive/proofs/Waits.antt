@@ -1,6 +1,6 @@
 -- Who waits, and in which order.
-use Rattle.std.proofs.Common.{◌≡◌, ◌≢◌, ℕ, zero, suc, Bool, true, false, refl, arith, ap, sym, ◌∙◌, List, [], ◌∷◌, ◌++◌, length, take, drop, ◌<◌, ◌≤◌, ◌+◌, cond, append_assoc, append-nil}
-use Rattle.std.specs.Prelude.{◌==◌, not, count_by, filter, map, nat_le, sum_by}
+use Rattle.std.proofs.Common.{◌≡◌, ◌≢◌, ℕ, zero, suc, Bool, true, false, refl, arith, ap, sym, ◌∙◌, List, [], ◌∷◌, ◌++◌, length, take, drop, ◌<◌, ◌≤◌, ◌+◌, cond, subst, append_assoc, append-nil}
+use Rattle.std.specs.Prelude.{◌==◌, not, count_by, filter, map, nat_le, sum_by, Some, None, slice_get}
 use Rattle.std.specs.List.{AllByRecursion}
 use Rattle.std.proofs.lemmas.List.{map-append}
 use Rattle.std.proofs.lemmas.List.Sums.{sum_by-append, sum_by-cons}
@@ -26,7 +26,7 @@ times-put-off stan at (d ∷ ds) =
 pub times-without : (stan closed : ℕ) (waiting : List Due) → times stan (without closed waiting) ≡ cond (stan == closed) 0 (times stan waiting)
 times-without stan closed [] = go (stan == closed)
   where
-    go : (b : Bool) → 0 ≡ cond b 0 0
+    go : (b : Bool) → times stan [] ≡ cond b 0 (times stan [])
     go true = refl
     go false = refl
 times-without stan closed (d ∷ ds) = go (d.stan == closed) refl (d.stan == stan) refl (stan == closed) refl (times-without stan closed ds)
@@ -55,17 +55,17 @@ all-push : {X : Type 0} (P : X → Type 0) (xs : List X) (x : X) → AllByRecurs
 all-push P [] x all p = (p, tt)
 all-push P (y ∷ ys) x all p = (all.0, all-push P ys x all.1 p)
 
-all-weaker : {X : Type 0} (P Q : X → Type 0) (xs : List X) → ((x : X) → P x → Q x) → AllByRecursion P xs → AllByRecursion Q xs
+pub all-weaker : {X : Type 0} (P Q : X → Type 0) (xs : List X) → ((x : X) → P x → Q x) → AllByRecursion P xs → AllByRecursion Q xs
 all-weaker P Q [] f all = tt
 all-weaker P Q (x ∷ xs) f all = (f x all.0, all-weaker P Q xs f all.1)
 
 all-filter : {X : Type 0} (P : X → Type 0) (test : X → Bool) (xs : List X) → AllByRecursion P xs → AllByRecursion P (filter test xs)
 all-filter P test [] all = tt
-all-filter P test (x ∷ xs) all = go (test x)
+all-filter P test (x ∷ xs) all = go (test x) (all-filter P test xs all.1)
   where
-    go : (b : Bool) → AllByRecursion P (cond b (x ∷ filter test xs) (filter test xs))
-    go true = (all.0, all-filter P test xs all.1)
-    go false = all-filter P test xs all.1
+    go : (b : Bool) → AllByRecursion P (filter test xs) → AllByRecursion P (cond b (x ∷ filter test xs) (filter test xs))
+    go true rest = (all.0, rest)
+    go false rest = rest
 
 order-push : (waiting : List Due) (x : Due) → IsInOrder waiting → AllByRecursion (λ d. d.at ≤ x.at) waiting → IsInOrder (waiting ++ x ∷ [])
 order-push [] x order all = (tt, tt)
@@ -73,11 +73,11 @@ order-push (d ∷ ds) x order all = (all-push (λ e. d.at ≤ e.at) ds x order.0
 
 order-filter : (test : Due → Bool) (waiting : List Due) → IsInOrder waiting → IsInOrder (filter test waiting)
 order-filter test [] order = tt
-order-filter test (d ∷ ds) order = go (test d)
+order-filter test (d ∷ ds) order = go (test d) (order-filter test ds order.1)
   where
-    go : (b : Bool) → IsInOrder (cond b (d ∷ filter test ds) (filter test ds))
-    go true = (all-filter (λ e. d.at ≤ e.at) test ds order.0, order-filter test ds order.1)
-    go false = order-filter test ds order.1
+    go : (b : Bool) → IsInOrder (filter test ds) → IsInOrder (cond b (d ∷ filter test ds) (filter test ds))
+    go true rest = (all-filter (λ e. d.at ≤ e.at) test ds order.0, rest)
+    go false rest = rest
 
 pub in-time-later : (last more : ℕ) (waiting : List Due) → last ≤ more → AreInTime last waiting → AreInTime more waiting
 in-time-later last more waiting h t = record {
@@ -123,3 +123,20 @@ first-due now (d ∷ ds) order = go (nat_le d.at now) refl (first-due now ds ord
     go false e rest =
         let none = none-due now d ds e order.0 in
         rw (e, none.0, none.1) (refl, refl)
+
+-- the first that waits, as it is taken
+pub first-taken : (waiting : List Due) (d : Due) → Some d ≡ slice_get waiting 0 → take 1 waiting ≡ d ∷ []
+first-taken [] d h = cc
+first-taken (e ∷ ds) d h = let same : e ≡ d = cc in ap (λ x. x ∷ []) same
+
+-- who waits, where nothing does
+pub none-waits : (stan : ℕ) (waiting : List Due) → waiting ≡ [] → times stan waiting ≡ 0
+none-waits stan waiting h = ap (times stan) h
+
+-- the first waits
+pub first-waits : (d : Due) (ds : List Due) → 1 ≤ times d.stan (d ∷ ds)
+first-waits d ds = omega (arith, sum_by-cons (λ (e : Due). cond (e.stan == d.stan) 1 0) d ds, ap {B = ℕ} (λ b. cond b 1 0) (number_self d.stan d.stan refl))
+
+pub first-before : (waiting : List Due) (d : Due) → Some d ≡ slice_get waiting 0 → IsInOrder waiting → AllByRecursion (λ e. d.at ≤ e.at) waiting
+first-before [] d h order = cc
+first-before (e ∷ ds) d h order = let same : e ≡ d = cc in subst (λ (x : Due). AllByRecursion (λ y. x.at ≤ y.at) (e ∷ ds)) same (none-before e ds order)

@@ -34,6 +34,12 @@ fn first_of(waiting: &VecDeque<Due>) -> Option<Due>
     waiting.get(0).copied()
 }
 
+fn is_empty(waiting: &VecDeque<Due>) -> bool
+    ensures { IsTrue result ↔ (waiting.now.items ≡ []) }
+{
+    waiting.is_empty()
+}
+
 /// No answer came in time to a transaction. Where no trace number is left for its reversal, it goes on to wait.
 fn ask<L: NoteLog>(acquirer: &mut DurableAcquirer<L>, stan: u32) -> Result<(), Fault>
     ensures consistent { OnOk result (IsConsistent L.is_ready L.synced L.pending acquirer.old
@@ -46,11 +52,12 @@ fn ask<L: NoteLog>(acquirer: &mut DurableAcquirer<L>, stan: u32) -> Result<(), F
         → MayLeave (times_out (diary_of L.synced L.pending acquirer.old) stan) c }
     ensures unchanged { IfErr result (λ e. e ≢ Fault.Log
         → Same L.is_ready L.synced L.pending acquirer.old acquirer.new) }
-    ensures stops { Stops acquirer.old.has_failed acquirer.new.has_failed result }
+    ensures fault { IfErr result (λ e. (e ≡ Fault.Memory) ⊎ (e ≡ Fault.Log)) }
 {
     match acquirer.timed_out(stan) {
         Ok(()) | Err(Fault::Refused(_)) => Ok(()),
-        Err(fault) => Err(fault),
+        Err(Fault::Log) => Err(Fault::Log),
+        Err(Fault::Memory | Fault::Unkept | Fault::Damaged) => Err(Fault::Memory),
     }
 }
 
@@ -159,7 +166,7 @@ impl<L: NoteLog> Driver<L> {
             → MayLeave (wakes_first 1 (driving_of L.synced L.pending self.old)).diary c }
         ensures unchanged { IfErr result (λ e. e ≢ Fault.Log
             → Remains L.is_ready L.synced L.pending self.old self.new) }
-        ensures stops { Stops (is_stopped self.old) (is_stopped self.new) result }
+        ensures fault { IfErr result (λ e. (e ≡ Fault.Memory) ⊎ (e ≡ Fault.Log)) }
     {
         let Some(first) = first_of(&self.board.waiting) else {
             return Ok(());
@@ -199,7 +206,7 @@ impl<L: NoteLog> Driver<L> {
     {
         self.clock = self.clock.max(now);
         let count = due_by(&self.board.waiting, self.clock);
-        for _ in 0..count {
+        for woken in 0..count {
             self.wake_first()?;
         }
         Ok(count)
@@ -221,12 +228,15 @@ impl<L: NoteLog> Driver<L> {
             → MayLeave (hears (driving_of L.synced L.pending self.old).diary told.now.key told.now.code) c }
         ensures fault { IfErr result (λ e. e ≡ Fault.Log) }
     {
-        let heard = judge(&self.board.made, &told.key, told.code);
-        if let Heard::Closed { stan, state } = heard {
-            self.acquirer.told(told.key, told.code)?;
-            settle(&mut self.board, stan, state);
+        match judge(&self.board.made, &told.key, told.code) {
+            Heard::Closed { stan, state } => {
+                self.acquirer.told(told.key, told.code)?;
+                settle(&mut self.board, stan, state);
+                Ok(Heard::Closed { stan, state })
+            }
+            Heard::Known => Ok(Heard::Known),
+            Heard::Foreign => Ok(Heard::Foreign),
         }
-        Ok(heard)
     }
 
     /// Has all that was written kept, with one sync, and gives the orders that may be sent now, in their order.
@@ -261,7 +271,10 @@ impl<L: NoteLog> Driver<L> {
         ensures none_before { IfSome result (λ at. IsDriving L.is_ready L.synced L.pending self.now
             → AllByRecursion (λ d. at ≤ d.at) (driving_of L.synced L.pending self.now).waiting) }
     {
-        Some(first_of(&self.board.waiting)?.at)
+        match first_of(&self.board.waiting) {
+            Some(first) => Some(first.at),
+            None => None,
+        }
     }
 
     /// How many transactions are open. Takes no memory.
@@ -277,7 +290,7 @@ impl<L: NoteLog> Driver<L> {
         ensures closed { IsDriving L.is_ready L.synced L.pending self.now
             → (IsTrue result ↔ AreAllClosed (slots_in (driving_of L.synced L.pending self.now))) }
     {
-        self.board.waiting.is_empty()
+        is_empty(&self.board.waiting)
     }
 
     /// How far its transactions got. Takes no memory, and time by how many there are.

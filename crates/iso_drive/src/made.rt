@@ -159,9 +159,7 @@ fn undo_end(role: Role, code: u8) -> Option<State>
                 None
             }
         }
-        Role::Payment(
-            State::Waiting(_) | State::Approved | State::Declined(_) | State::Reversed,
-        )
+        Role::Payment(State::Waiting(_) | State::Approved | State::Declined(_) | State::Reversed)
         | Role::Reversal(_) => None,
     }
 }

@@ -1,4 +1,4 @@
-use Rattle.std.proofs.Common.{◌≡◌, ◌∙◌, ap, sym, subst, refl}
+use Rattle.std.proofs.Common.{◌≡◌, ◌∙◌, ap, sym, subst, refl, take}
 use Rattle.std.specs.Prelude.{Err, IsErrOf}
 use Rattle.std.proofs.lemmas.Result.{err_from_is_err_and}
 use Rattle.iso_restarts.specs.declared.durable.Fault.TheVariants.{Damaged}
@@ -18,7 +18,7 @@ returns-in_err-go_through-clause-damaged c =
     let i = c.loop-note.note-index in
     let p = err_from_is_err_and c.from_residual.result c.from_residual.ensures.1 in
     rw (p.1, p.2) (λ is id can. c.in_err-go_through.ensures.damaged (err_on c.in_err-go_through.field-0.0 Damaged is)
-    (party_after id _) c.loop-note.invariant.board.tabled (can-at id c.args.notes.now i note c.loop-note-test.true c.note-item.is can))
+    (party_after id (take i c.args.notes.now)) c.loop-note.invariant.board.tabled (can-at id c.args.notes.now i note c.loop-note-test.true c.note-item.is can))
 
 pub loop-note-preserved : goal.loop-note-preserved
 loop-note-preserved c =

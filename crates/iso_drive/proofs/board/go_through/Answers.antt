@@ -11,7 +11,7 @@ use Rattle.iso_drive.proofs.board.go_through.Goals as goal
 
 pub returns-in-TimedOut-clause-board : goal.returns-in-TimedOut-clause-board
 returns-in-TimedOut-clause-board c = λ slots b.
-    subst (λ (n : Note). IsBoard _ (slots_noted slots n)) (sym c.in-TimedOut.is)
-    (board-asked c.args.board.now _ slots c.in-TimedOut.stan b
+    subst (λ (n : Note). IsBoard (record { made = c.time_out.new.made; waiting = c.make_room.new.board.waiting }) (slots_noted slots n)) (sym c.in-TimedOut.is)
+    (board-asked c.args.board.now (record { made = c.time_out.new.made; waiting = c.make_room.new.board.waiting }) slots c.in-TimedOut.stan b
     (c.time_out.ensures slots (subst (λ (l : List Made). IsTabled l slots) (sym c.make_room.ensures.made) b.tabled))
     (λ n. ap (times n) c.make_room.ensures.waiting))

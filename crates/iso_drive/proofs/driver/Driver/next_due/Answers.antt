@@ -1,4 +1,5 @@
+use Rattle.iso_drive.proofs.Waits.{first-before}
 use Rattle.iso_drive.proofs.driver.Driver.next_due.Goals as goal
 
-pub returns-clause-none_before : goal.returns-clause-none_before
-returns-clause-none_before g c = ?
+pub returns-in-Some-clause-none_before : goal.returns-in-Some-clause-none_before
+returns-in-Some-clause-none_before g c = λ is. first-before c.args.self.now.board.waiting.items c.in-Some.first c.in-Some.ensures is.in_time.in_order
