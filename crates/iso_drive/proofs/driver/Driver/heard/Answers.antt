@@ -8,8 +8,8 @@ use Rattle.iso_drive.proofs.Driven.{driving-closed}
 use Rattle.iso_drive.proofs.Notes.{left-more}
 use Rattle.iso_drive.proofs.driver.Driver.heard.Goals as goal
 
-pub returns-in_ok-told-clause-driving : goal.returns-in_ok-told-clause-driving
-returns-in_ok-told-clause-driving g c = λ is.
+pub returns-in_ok-told-in-Closed-clause-driving : goal.returns-in_ok-told-in-Closed-clause-driving
+returns-in_ok-told-in-Closed-clause-driving g c = λ is.
     let old = c.args.self.now in
     let d = diary_of g.L.NoteLog.synced g.L.NoteLog.pending old.acquirer in
     let slots = (in_memory d).slots in
