@@ -1,7 +1,7 @@
 -- Those that are due are timed out, one after another.
-use Rattle.std.proofs.Common.{◌≡◌, ℕ, zero, suc, refl, ap, sym, ◌∙◌, List, [], ◌∷◌, ◌++◌, length, take, drop, ◌<◌, ◌≤◌, ◌+◌, arith, append_assoc, append-nil}
+use Rattle.std.proofs.Common.{◌≡◌, ℕ, refl, ap, sym, ◌∙◌, List, [], ◌∷◌, ◌++◌, length, take, drop, get_or, ◌<◌, ◌≤◌, ◌+◌, arith, append_assoc, append-nil}
 use Rattle.std.specs.Prelude.{map}
-use Rattle.std.proofs.lemmas.List.{map-append}
+use Rattle.std.proofs.lemmas.List.{map-append, take_more, drop_more}
 use Rattle.iso_restarts.specs.Diary.{Diary, times_out}
 use Rattle.iso_drive.specs.declared.due.Due.{Due}
 use Rattle.iso_drive.specs.Due.{due_by, due_later, again}
@@ -12,10 +12,7 @@ use Rattle.iso_drive.specs.Due.{IsInOrder}
 -- one more element of a list
 one-more : {X : Type 0} (xs : List X) (i : ℕ) → i < length xs → (x : X) × (drop i xs ≡ x ∷ drop (i + 1) xs) × (take (i + 1) xs ≡ take i xs ++ x ∷ [])
 one-more [] i h = absurd (omega (arith, h))
-one-more (x ∷ xs) zero h = (x, refl, refl)
-one-more (x ∷ xs) (suc i) h =
-    let rest = one-more xs i (omega (arith, h)) in
-    (rest.0, rest.1, ap (λ ys. x ∷ ys) rest.2)
+one-more (x ∷ xs) i h = (get_or (x ∷ xs) i x, drop_more (x ∷ xs) i x h, take_more (x ∷ xs) i x h)
 
 all-join : (d : Diary) (xs ys : List Due) → times_out_all d (xs ++ ys) ≡ times_out_all (times_out_all d xs) ys
 all-join d [] ys = refl

@@ -16,8 +16,8 @@ returns-in_ok-told-in-Closed-clause-driving g c = λ is.
     let closes = c.in-Closed.ensures slots (subst (λ (l : List Made). IsTabled l slots) (sym c.deref.ensures.value) is.board.tabled) in
     driving-closed g.L.NoteLog.is_ready g.L.NoteLog.synced g.L.NoteLog.pending old
     (record { acquirer = c.told.new.self; id = old.id; board = c.settle.new.board; patience = old.patience; clock = old.clock })
-    is (c.in_ok-told.ensures.consistent is.consistent) refl refl c.args.told.now.key c.args.told.now.code c.in-Closed.stan c.in-Closed.state
-    (c.in_ok-told.ensures.hears is.consistent) closes
+    is (c.in_ok-told-in-Closed.ensures.consistent is.consistent) refl refl c.args.told.now.key c.args.told.now.code c.in-Closed.stan c.in-Closed.state
+    (c.in_ok-told-in-Closed.ensures.hears is.consistent) closes
     (c.settle.ensures.board slots c.args.told.now.key c.args.told.now.code is.board closes) c.settle.ensures.waiting refl
 
 pub returns-in-Known-clause-crash : goal.returns-in-Known-clause-crash
