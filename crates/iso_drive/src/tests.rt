@@ -1,5 +1,5 @@
 use crate::{Counts, Draw, Driver, Heard};
-use iso_acquirer::{AcqFault, State};
+use iso_acquirer::State;
 use iso_order::{Money, Order, Pan, Told};
 use iso_restarts::{Fault, MemoryNotes};
 use std::alloc::Global;
@@ -17,12 +17,23 @@ fn driver(rt: &impl Abort, alloc: Global) -> Driver<MemoryNotes> {
     }
 }
 
-fn money(rt: &impl Abort, amount: u64) -> Money {
-    Money {
-        pan: Pan::from_digits(b"4111111111111111").expect(rt, "a PAN"),
-        amount,
+fn pan(rt: &impl Abort) -> Pan {
+    Pan::from_digits(b"4111111111111111").expect(rt, "a PAN")
+}
+
+/// A purchase of an amount begins, of at least one minor unit.
+fn begins(
+    rt: &impl Abort,
+    driver: &mut Driver<MemoryNotes>,
+    amount: u16,
+    now: u64,
+) -> Result<u32, Fault> {
+    let money = Money {
+        pan: pan(rt),
+        amount: u64::from(amount).max(1),
         currency: *b"840",
-    }
+    };
+    driver.begin(&money, SENT, now)
 }
 
 fn answer(order: &Order, code: u8) -> Told {
@@ -36,9 +47,9 @@ fn answer(order: &Order, code: u8) -> Told {
 fn one_is_answered_one_asked_again_and_one_reversed(rt: HostRuntime) {
     let alloc = rt.alloc();
     let mut driver = driver(&rt, alloc);
-    assert_eq!(rt; driver.begin(&money(&rt, 3000), SENT, 100), Ok(1));
-    assert_eq!(rt; driver.begin(&money(&rt, 500), SENT, 150), Ok(2));
-    assert_eq!(rt; driver.begin(&money(&rt, 20), SENT, 200), Ok(3));
+    assert_eq!(rt; begins(&rt, &mut driver, 3000, 100), Ok(1));
+    assert_eq!(rt; begins(&rt, &mut driver, 500, 150), Ok(2));
+    assert_eq!(rt; begins(&rt, &mut driver, 20, 200), Ok(3));
     let sent = driver.keep().expect(&rt, "keeps");
     assert_eq!(rt; sent.len(), 3);
     assert_eq!(rt; driver.next_due(), Some(1100));
@@ -61,6 +72,7 @@ fn one_is_answered_one_asked_again_and_one_reversed(rt: HostRuntime) {
     assert_eq!(rt; driver.heard(&answer(&again[0], 51)), Ok(second));
     assert_eq!(rt; driver.wake(2200), Ok(1));
     let undo = driver.keep().expect(&rt, "keeps");
+    assert_eq!(rt; undo.len(), 1);
     assert_eq!(rt; undo[0].key().base, 420);
     assert_eq!(rt; driver.heard(&answer(&sent[2], 0)), Ok(Heard::Known));
     assert_eq!(rt; driver.is_closed(), false);
@@ -70,7 +82,7 @@ fn one_is_answered_one_asked_again_and_one_reversed(rt: HostRuntime) {
     };
     assert_eq!(rt; driver.heard(&answer(&undo[0], 0)), Ok(third));
     assert_eq!(rt; driver.is_closed(), true);
-    assert_eq!(rt; driver.spent(&money(&rt, 1).pan), 3000);
+    assert_eq!(rt; driver.spent(&pan(&rt)), 3000);
     assert_eq!(rt;
         driver.counts(),
         Counts {
@@ -87,9 +99,10 @@ fn one_is_answered_one_asked_again_and_one_reversed(rt: HostRuntime) {
 fn a_killed_driver_goes_on(rt: HostRuntime) {
     let alloc = rt.alloc();
     let mut driver = driver(&rt, alloc);
-    assert_eq!(rt; driver.begin(&money(&rt, 3000), SENT, 100), Ok(1));
-    assert_eq!(rt; driver.begin(&money(&rt, 500), SENT, 150), Ok(2));
+    assert_eq!(rt; begins(&rt, &mut driver, 3000, 100), Ok(1));
+    assert_eq!(rt; begins(&rt, &mut driver, 500, 150), Ok(2));
     let sent = driver.keep().expect(&rt, "keeps");
+    assert_eq!(rt; sent.len(), 2);
     driver.heard(&answer(&sent[0], 0)).expect(&rt, "heard");
     driver.keep().expect(&rt, "keeps");
     let notes = driver.log().kept.clone().expect(&rt, "memory");
@@ -103,6 +116,7 @@ fn a_killed_driver_goes_on(rt: HostRuntime) {
     assert_eq!(rt; driver.wake(5), Ok(1));
     assert_eq!(rt; driver.next_due(), Some(1005));
     let again = driver.keep().expect(&rt, "keeps");
+    assert_eq!(rt; again.len(), 1);
     assert_eq!(rt; again[0], sent[1]);
 }
 
