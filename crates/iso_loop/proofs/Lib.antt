@@ -1,3 +1,5 @@
+mod Bodies
 mod Heard
 mod Keys
 mod Pieces
+mod Turns

@@ -1,5 +1,7 @@
 pub mod Agreeing
 pub mod Filling
+pub mod Guarded
+pub mod Hearing
 pub mod Keys
 pub mod Letting
 pub mod Moment

@@ -1,6 +1,8 @@
 //! What is read of a peer.
-ghost use Rattle.std.specs.Prelude.{◌≡◌};
+ghost use Rattle.std.specs.Prelude.{◌≡◌, ℕ, true, false, None, IsSome};
 ghost use Rattle.iso_peers.specs.Host.{IsInStep};
+ghost use Rattle.iso_loop.specs.Guarded.{is_guarded};
+ghost use Rattle.iso_loop.specs.Hearing.{ReadsPiece, dealing_of, KeepsBytes, HearsBytes, HearsAlone, ended_after};
 ghost use Rattle.iso_loop.specs.Turn.{EntersHeard};
 
 use crate::notes::{Noted, Told};
@@ -30,7 +32,10 @@ enum Piece {
 }
 
 /// Reads a piece.
-fn read_piece<S: Read>(stream: &mut S, block: &mut [u8]) -> Piece {
+#[tactic(auto, using(crate::proofs::Turns::keeps_gives))]
+fn read_piece<S: Read>(stream: &mut S, block: &mut [u8]) -> Piece
+    ensures { ReadsPiece (S.remaining stream.old) (S.remaining stream.new) block.new result }
+{
     match stream.read(block) {
         Ok(0) => Piece::Over,
         Ok(count) => Piece::Came(count),
@@ -44,12 +49,19 @@ fn read_piece<S: Read>(stream: &mut S, block: &mut [u8]) -> Piece {
 
 impl<S: Read + Write + Drop> Peer<'_, S> {
     /// Takes bytes of a line without a guard.
+    #[tactic(auto, using(crate::proofs::Bodies::direct_heard))]
     fn hear_direct<L: Log>(&mut self, host: &mut DurableHost<L>, bytes: &[u8], told: &mut Vec<Told>)
+        ensures stream { self.new.stream ≡ self.old.stream }
+        // Its frames are those at the front of the bytes, and their answers wait.
+        ensures came { host.old.has_failed ≡ false → is_guarded self.old.line.terms.now ≡ false → self.old.standing.ended ≡ None
+            → (key : ℕ) → HearsBytes key (dealing_of self.old) (dealing_of self.new) host.old.host host.new.host bytes.now }
         ensures heard { EntersHeard host.old.host host.new.host }
         ensures log { host.new.log ≡ host.old.log }
         ensures step { IsInStep L.is_ready L.synced L.pending host.old
             → IsInStep L.is_ready L.synced L.pending host.new }
     {
+        // the laws of what enters, for the prover
+        one_journal(host.issuer());
         let taken = take_noted(
             host,
             &mut self.connection,
@@ -62,6 +74,7 @@ impl<S: Read + Write + Drop> Peer<'_, S> {
     }
 
     /// Takes bytes of a guarded line.
+    #[tactic(auto, using(crate::proofs::Bodies::guarded_heard))]
     fn hear_guarded<L: Log>(
         &mut self,
         host: &mut DurableHost<L>,
@@ -69,6 +82,10 @@ impl<S: Read + Write + Drop> Peer<'_, S> {
         rooms: &mut Rooms,
         told: &mut Vec<Told>,
     )
+        ensures stream { self.new.stream ≡ self.old.stream }
+        // Its frames are those at the front of the bytes, and their answers wait.
+        ensures came { host.old.has_failed ≡ false → is_guarded self.old.line.terms.now ≡ true → self.old.standing.ended ≡ None
+            → (key : ℕ) → HearsBytes key (dealing_of self.old) (dealing_of self.new) host.old.host host.new.host bytes.now }
         ensures heard { EntersHeard host.old.host host.new.host }
         ensures log { host.new.log ≡ host.old.log }
         ensures step { IsInStep L.is_ready L.synced L.pending host.old
@@ -88,7 +105,10 @@ impl<S: Read + Write + Drop> Peer<'_, S> {
     }
 
     /// Ends it, where bytes weren't taken to their end.
-    fn end_after(&mut self, taken: Result<Turned, LogFailed>) {
+    fn end_after(&mut self, taken: Result<Turned, LogFailed>)
+        ensures bytes { KeepsBytes self.old self.new }
+        ensures ended { self.new.standing.ended ≡ ended_after self.old.standing.ended taken }
+    {
         match taken {
             Err(_) => self.end(Closing::Stopped),
             Ok(turned) => match turned.stopped {
@@ -99,7 +119,37 @@ impl<S: Read + Write + Drop> Peer<'_, S> {
         }
     }
 
+    /// Takes bytes as its line says. Where the log had failed, nothing is taken.
+    #[tactic(auto, using(crate::proofs::Heard::none_heard, crate::proofs::Bodies::ended_heard))]
+    fn take<L: Log>(
+        &mut self,
+        host: &mut DurableHost<L>,
+        bytes: &[u8],
+        rooms: &mut Rooms,
+        told: &mut Vec<Told>,
+    )
+        ensures stream { self.new.stream ≡ self.old.stream }
+        // Its frames are those at the front of the bytes, and their answers wait.
+        ensures came { self.old.standing.ended ≡ None
+            → (key : ℕ) → HearsBytes key (dealing_of self.old) (dealing_of self.new) host.old.host host.new.host bytes.now }
+        ensures heard { EntersHeard host.old.host host.new.host }
+        ensures log { host.new.log ≡ host.old.log }
+        ensures step { IsInStep L.is_ready L.synced L.pending host.old
+            → IsInStep L.is_ready L.synced L.pending host.new }
+    {
+        if host.has_failed {
+            self.end(Closing::Stopped);
+            return;
+        }
+        if self.line.is_guarded() {
+            self.hear_guarded(host, bytes, rooms, told);
+            return;
+        }
+        self.hear_direct(host, bytes, told);
+    }
+
     /// Decides bytes that came.
+    #[tactic(auto, using(crate::proofs::Bodies::heard_then))]
     fn hear<L: Log>(
         &mut self,
         host: &mut DurableHost<L>,
@@ -108,22 +158,25 @@ impl<S: Read + Write + Drop> Peer<'_, S> {
         rooms: &mut Rooms,
         told: &mut Vec<Told>,
     )
+        ensures stream { self.new.stream ≡ self.old.stream }
+        // Its frames are those at the front of the bytes, and their answers wait.
+        ensures came { self.old.standing.ended ≡ None
+            → (key : ℕ) → HearsBytes key (dealing_of self.old) (dealing_of self.new) host.old.host host.new.host bytes.now }
         ensures heard { EntersHeard host.old.host host.new.host }
         ensures log { host.new.log ≡ host.old.log }
         ensures step { IsInStep L.is_ready L.synced L.pending host.old
             → IsInStep L.is_ready L.synced L.pending host.new }
     {
         let frames = self.notes.counts.frames;
-        if self.line.is_guarded() {
-            self.hear_guarded(host, bytes, rooms, told);
-        } else {
-            self.hear_direct(host, bytes, told);
-        }
+        self.take(host, bytes, rooms, told);
         self.hears(bytes.len(), now, self.notes.counts.frames != frames);
     }
 
     /// So many bytes came: whether they end a frame.
-    fn hears(&mut self, count: usize, now: u64, ends: bool) {
+    fn hears(&mut self, count: usize, now: u64, ends: bool)
+        ensures bytes { KeepsBytes self.old self.new }
+        ensures ended { self.new.standing.ended ≡ self.old.standing.ended }
+    {
         let (is_whole, waiting) = (self.is_whole(), self.waiting());
         self.standing.hears(now, is_whole, ends);
         self.standing.waiting = waiting;
@@ -132,7 +185,10 @@ impl<S: Read + Write + Drop> Peer<'_, S> {
     }
 
     /// Its side was ended.
-    fn hear_end(&mut self) {
+    fn hear_end(&mut self)
+        ensures bytes { KeepsBytes self.old self.new }
+        ensures ended { IsSome self.new.standing.ended }
+    {
         if self.is_whole() {
             self.end(Closing::Ended);
         } else {
@@ -141,7 +197,7 @@ impl<S: Read + Write + Drop> Peer<'_, S> {
     }
 
     /// Reads and decides one piece of so many bytes at most, and tells how many it had.
-    #[tactic(auto, using(crate::proofs::Heard::none_heard))]
+    #[tactic(auto, using(crate::proofs::Heard::none_heard, crate::proofs::Bodies::read_heard, crate::proofs::Bodies::read_none, crate::proofs::Bodies::read_over))]
     pub fn read<L: Log>(
         &mut self,
         host: &mut DurableHost<L>,
@@ -151,6 +207,9 @@ impl<S: Read + Write + Drop> Peer<'_, S> {
         rooms: &mut Rooms,
         told: &mut Vec<Told>,
     ) -> usize
+        // Its frames are those at the front of the bytes that its stream gave, and their answers wait.
+        ensures came { self.old.standing.ended ≡ None
+            → (key : ℕ) → HearsAlone S.remaining key self.old self.new host.old.host host.new.host }
         // The books grow by bodies, one after the other, and by nothing else.
         ensures heard { EntersHeard host.old.host host.new.host }
         // The log isn't called, and stays in step with the journal.

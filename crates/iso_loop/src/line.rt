@@ -1,4 +1,6 @@
 //! One of the lines that a host listens on.
+ghost use Rattle.std.specs.Prelude.{◌≡◌};
+ghost use Rattle.iso_loop.specs.Guarded.{is_guarded};
 
 use iso_host::Link;
 use iso_links::Terms;
@@ -15,7 +17,9 @@ pub struct Line<'l> {
 impl Line<'_> {
     /// Whether frames are looked at before the host is given them: bytes stand before each message, or only some acquirers
     /// may be spoken for.
-    pub fn is_guarded(&self) -> bool {
+    pub fn is_guarded(&self) -> bool
+        ensures { result ≡ is_guarded self.now.terms.now }
+    {
         self.terms.skip > 0 || !self.terms.acquirers.is_empty()
     }
 }

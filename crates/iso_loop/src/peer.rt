@@ -1,5 +1,6 @@
 //! One peer of a host with many.
-ghost use Rattle.std.specs.Prelude.{◌≡◌, ◌↔◌, [], true};
+ghost use Rattle.std.specs.Prelude.{◌≡◌, ◌↔◌, [], true, Some, IsSome};
+ghost use Rattle.iso_loop.specs.declared.standing.Closing.TheVariants.{Failed};
 ghost use Rattle.iso_loop.specs.Agreeing.{IsOfLine};
 
 use crate::line::Line;
@@ -46,6 +47,7 @@ pub(crate) struct Peer<'l, S> {
 impl<'l, S: Read + Write + Drop> Peer<'l, S> {
     ghost use Rattle.iso_loop.specs.Standing.{closing_of, doing_of};
     ghost use Rattle.iso_loop.specs.Keys.{IsSame};
+    ghost use Rattle.iso_loop.specs.Hearing.{KeepsBytes};
 
     /// A peer that was let in now.
     pub fn new(
@@ -115,13 +117,20 @@ impl<'l, S: Read + Write + Drop> Peer<'l, S> {
     }
 
     /// Nothing more is read of it, and it is closed once it has its answers.
-    pub fn end(&mut self, why: Closing) {
+    pub fn end(&mut self, why: Closing)
+        ensures bytes { KeepsBytes self.old self.new }
+        ensures ended { self.new.standing.ended ≡ Some why }
+    {
         self.may_have_come = false;
         self.standing.ended = Some(why);
     }
 
     /// Its connection failed: what waits for it is of no use.
-    pub fn fail(&mut self) {
+    pub fn fail(&mut self)
+        ensures bytes { KeepsBytes self.old self.new }
+        ensures ended { self.new.standing.ended ≡ Some Failed }
+        ensures over { IsSome self.new.standing.ended }
+    {
         self.end(Closing::Failed);
         self.standing.waiting = 0;
         self.standing.unread = None;

@@ -1,6 +1,7 @@
 //! All peers of a host, and what a turn does with them.
 ghost use Rattle.std.specs.Prelude.{◌≡◌, ℕ, None, IfSome, IfNone};
 ghost use Rattle.iso_peers.specs.Host.{IsInStep};
+ghost use Rattle.iso_loop.specs.Hearing.{ReadsAt, HearsTurn};
 ghost use Rattle.iso_loop.specs.Turn.{EntersHeard};
 ghost use Rattle.iso_loop.specs.Keys.{peer_at, looked_at, OthersStay, AllOthersStay, AllStay};
 ghost use Rattle.iso_loop.specs.Keys.{IsLetIn, SameAt, StaysOrGoes, EachStaysOrGoes};
@@ -195,6 +196,7 @@ impl<'l, S: Read + Write + Drop> Peers<'l, S> {
     /// Reads and decides what came of one peer, up to its share.
     #[tactic(auto, using(crate::proofs::Heard::none_heard))]
     fn read_one<L: Log>(&mut self, host: &mut DurableHost<L>, key: usize, now: u64)
+        ensures came { ReadsAt S.remaining key (peer_at self.old key) (peer_at self.new key) host.old.host host.new.host }
         // The books grow by bodies, one after the other, and by nothing else.
         ensures heard { EntersHeard host.old.host host.new.host }
         // The log isn't called, and stays in step with the journal.
@@ -224,8 +226,10 @@ impl<'l, S: Read + Write + Drop> Peers<'l, S> {
 
     /// Reads and decides what came, of each peer up to its share. Where more orders wait than are kept with one sync, the
     /// next turn begins with the peers that were left out.
-    #[tactic(auto, using(crate::proofs::Heard::none_heard, crate::proofs::Heard::more_heard))]
+    #[tactic(auto, using(crate::proofs::Heard::none_heard, crate::proofs::Heard::more_heard, crate::proofs::Turns::turn_none, crate::proofs::Turns::turn_more))]
     pub fn read_all<L: Log>(&mut self, host: &mut DurableHost<L>, now: Moment)
+        // Peer after peer, in the order of the list, the frames at the front of what each gave enter, and their answers wait.
+        ensures turn { HearsTurn S.remaining self.old self.new host.old.host host.new.host }
         // The books grow by bodies, one after the other, and by nothing else.
         ensures heard { EntersHeard host.old.host host.new.host }
         // The log isn't called, and stays in step with the journal.

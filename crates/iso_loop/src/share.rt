@@ -1,6 +1,7 @@
 //! What is read of one peer in a turn.
-ghost use Rattle.std.specs.Prelude.{◌≡◌};
+ghost use Rattle.std.specs.Prelude.{◌≡◌, ℕ};
 ghost use Rattle.iso_peers.specs.Host.{IsInStep};
+ghost use Rattle.iso_loop.specs.Hearing.{HearsAlone};
 ghost use Rattle.iso_loop.specs.Turn.{EntersHeard};
 
 use crate::notes::Told;
@@ -26,7 +27,7 @@ pub(crate) fn is_full<L: Log>(host: &DurableHost<L>) -> bool {
 }
 
 /// Reads what came of a peer, up to its share of the turn.
-#[tactic(auto, using(crate::proofs::Heard::none_heard, crate::proofs::Heard::more_heard))]
+#[tactic(auto, using(crate::proofs::Heard::none_heard, crate::proofs::Heard::more_heard, crate::proofs::Turns::reads_none, crate::proofs::Turns::reads_more, crate::proofs::Turns::reads_on))]
 pub(crate) fn read_share<L: Log, S: Read + Write + Drop>(
     peer: &mut Peer<'_, S>,
     host: &mut DurableHost<L>,
@@ -35,6 +36,8 @@ pub(crate) fn read_share<L: Log, S: Read + Write + Drop>(
     rooms: &mut Rooms,
     told: &mut Vec<Told>,
 )
+    // Its frames are those at the front of the bytes that its stream gave, and their answers wait.
+    ensures came { (key : ℕ) → HearsAlone S.remaining key peer.old peer.new host.old.host host.new.host }
     // The books grow by bodies, one after the other, and by nothing else.
     ensures heard { EntersHeard host.old.host host.new.host }
     // The log isn't called, and stays in step with the journal.

@@ -1,5 +1,5 @@
 //! What a peer of a line without a guard sends, frame after frame.
-ghost use Rattle.std.specs.Prelude.{◌≡◌, IfOk};
+ghost use Rattle.std.specs.Prelude.{◌≡◌, true, IfOk, OnErr};
 ghost use Rattle.iso_peers.specs.Host.{IsInStep};
 ghost use Rattle.iso_peers.specs.Turn.{TakesAll};
 ghost use Rattle.iso_loop.specs.Turn.{EntersHeard};
@@ -22,6 +22,7 @@ pub(crate) fn take_noted<L: Log>(
 ) -> Result<Turned, LogFailed>
     // The bodies of all whole frames are entered, one after the other, and their answers wait behind the others.
     ensures took { IfOk result (TakesAll connection.old connection.new host.old.host host.new.host bytes.now) }
+    ensures refused { OnErr result (host.old.has_failed ≡ true) }
     ensures table { connection.new.peer.table ≡ connection.old.peer.table }
     ensures header { connection.new.peer.header ≡ connection.old.peer.header }
     // The books grow by bodies, one after the other, and by nothing else.
