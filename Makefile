@@ -7,7 +7,10 @@
 # make crash   a host over its journal that is killed 200 times under load, and what it answers afterwards; builds rumpadol
 # make starts  a host without the right to its journal, and one over a long journal on a terminal; builds rumpadol
 # make peers   one kind of bad peer after the other at a host on ports, while good ones are served and compared; builds rumpadol
-# make soak    a host with many peers that is killed at random, and what its journal holds afterwards: SECONDS=120; builds rumpadol
+# make restarts  a host with many peers that is killed at random, and what its journal holds afterwards: SECONDS=120; builds rumpadol
+# make rules   a host that misbehaves on purpose does what its rules say; builds rumpadol
+# make drives  a driver at good hosts and at bad ones, and a recorded day that is compared; builds rumpadol
+# make soak    a host and a driver as processes, and everything between them broken: MINUTES=10; writes docs/SOAK.md; builds rumpadol
 # make rows    the rows of both programs, and of the host on a port, at the built programs; builds them
 # make schedule  an acquirer whose answers get lost, and what both ends hold: SCHEDULE=examples/lost-answers.txt
 # make library  proves the library for C and what it stands on, and builds it: crates/iso_c/out/libiso_c.a
@@ -41,6 +44,7 @@ SIZES := $(ALL_SIZES)
 ROUNDS := $(ALL_ROUNDS)
 LOAD := $(ALL_LOAD)
 SECONDS ?= 120
+MINUTES ?= 10
 RT_JOBS ?= $(shell expr $$(nproc) + 1)
 
 # the page that whole runs write
@@ -54,7 +58,7 @@ ifeq ($(LOAD),$(ALL_LOAD))
 LOAD_PAGE := docs/SPEED.md
 endif
 
-.PHONY: run test build library day replay connections crash starts peers soak rows schedule check prove memory compare bench loopback load
+.PHONY: run test build library day replay connections crash starts peers restarts rules drives soak rows schedule check prove memory compare bench loopback load
 
 run:
 	@if $(MAKE) --silent --no-print-directory --question $(COMMAND); then \
@@ -89,8 +93,18 @@ starts: $(RUMPADOL)
 peers: $(RUMPADOL)
 	@python3 scripts/peers.py $(RUMPADOL)
 
+restarts: $(RUMPADOL)
+	@python3 scripts/restarts.py $(RUMPADOL) $(SECONDS)
+
+rules: $(RUMPADOL)
+	@python3 scripts/rules.py $(RUMPADOL)
+
+drives: $(RUMPADOL)
+	@python3 scripts/drives.py $(RUMPADOL)
+	@python3 scripts/replays.py $(RUMPADOL)
+
 soak: $(RUMPADOL)
-	@python3 scripts/soak.py $(RUMPADOL) $(SECONDS)
+	@python3 scripts/soak.py $(RUMPADOL) $(MINUTES) docs/SOAK.md
 
 rows: $(COMMAND) $(RUMPADOL)
 	@python3 scripts/command-rows.py $(COMMAND)

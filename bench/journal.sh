@@ -1,8 +1,8 @@
 #!/bin/sh
 # What a journal in a file takes: orders in groups with one sync each, beside a program that writes and syncs the same bytes and
-# beside SQLite; the same where each sync takes SYNC_MICROS more, a millisecond where it isn't set; how many instructions an order
-# takes, where there is valgrind; and the start over 900,000 orders, beside handling them. The files are made under FOLDER, which has
-# to be on the device that is measured; else in this folder.
+# beside SQLite; the same where each sync takes a millisecond more, and a fifth of one; how many instructions an order takes, where
+# there is valgrind; and the start over 900,000 orders, beside handling them. The files are made under FOLDER, which has to be on the
+# device that is measured; else in this folder.
 set -eu
 cd "$(dirname "$0")/.."
 
@@ -26,7 +26,9 @@ measure() {
 }
 
 measure env
-measure env "LD_PRELOAD=$files/slow.so" "SYNC_MICROS=${SYNC_MICROS:-1000}" | sed 's/^/slow /'
+for micros in 1000 200; do
+    measure env "LD_PRELOAD=$files/slow.so" "SYNC_MICROS=$micros" | sed "s/^/held $micros /"
+done
 
 # GROUPS: the instructions of a journal of so many groups of 512, without those of the system
 instructions() {

@@ -218,17 +218,19 @@ def journal(figures):
     entries = max((int(name.split("=")[1]) for name, _ in figures.values if name.startswith("start entries=")), default=1)
     start, handling = [figures.of(f"{kind} entries={entries}", "nanoseconds") for kind in ("start", "handling")]
     turns = figures.turns("journal group=1", "nanoseconds")
-    slow, own = [figures.of(f"{where}plain group=1", "nanoseconds") / 1e6 for where in ("slow ", "")]
     instructions = figures.of("order group=512", "instructions")
     head = ["Orders with one sync", "Orders a second", "The plain program's", "SQLite's", "Its time, as often as the plain program's",
             "At most", "SQLite's, as often as its"]
+
+    def device(told, where=""):
+        took = figures.of(f"{where}plain group=1", "nanoseconds") / 1e6
+        return [prose(f"{told}. To write a record and sync it took {took:.2f} ms:"), table(head, *[row(group, where) for group in GROUPS])]
+
     return "\n\n".join([
         prose(f"Machine: {machine()}. Each figure is the middle one of {turns} turns."),
-        prose(f"With each sync held up for a millisecond (`bench/slow.c`), as long as a volume on a network may take. To write a record "
-              f"and sync it took {slow:.2f} ms:"),
-        table(head, *[row(group, "slow ") for group in GROUPS]),
-        prose(f"On this machine's device as it is. To write a record and sync it took {own:.2f} ms:"),
-        table(head, *[row(group) for group in GROUPS]),
+        *device("With each sync held up for a millisecond (`bench/slow.c`), as a volume on a network may take", "held 1000 "),
+        *device("With each sync held up for a fifth of a millisecond, as a disk in the machine may take", "held 200 "),
+        *device("On this machine's device as it is"),
         prose(f"An order in a group of 512 takes {instructions:,.0f} instructions, at most 4,000, without those of the system."),
         prose(f"A start over {entries:,.0f} orders takes {start * entries / 1e9:.2f} s, and handling them {handling * entries / 1e9:.2f} s: "
               f"{start / handling:.2f} times, at most 2. An order takes 128 bytes in the file."),

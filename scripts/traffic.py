@@ -12,6 +12,7 @@ import socket
 import struct
 import subprocess
 import sys
+import tempfile
 import time
 
 TOP = pathlib.Path(__file__).resolve().parent.parent
@@ -234,6 +235,29 @@ class Host:
         """Ends it by SIGKILL, and gives what it wrote on its error stream."""
         self.process.kill()
         return self.process.communicate()[1]
+
+
+@contextlib.contextmanager
+def listening(command, folder, words):
+    """A host of these words, in a folder that has its documents, and its port. It is killed in the end."""
+    (port,) = free_ports(1)
+    process = subprocess.Popen([command, "host", "--listen", f"{HERE}:{port}", "--accounts", "accounts.json", *words], cwd=folder,
+                               stdin=subprocess.PIPE, stdout=subprocess.DEVNULL, stderr=subprocess.DEVNULL)
+    try:
+        Peer(port, tries=100).close()
+        yield port
+    finally:
+        process.kill()
+        process.wait()
+
+
+def tell_runs(runs_of):
+    """Makes the runs of a class with the program that the words name, in a folder of their own, tells how many there were, and gives the status."""
+    with tempfile.TemporaryDirectory() as folder:
+        made = runs_of(program(sys.argv[1:]), folder)
+        made.run_all()
+    print(f"{made.runs} runs, {made.bad} bad")
+    return 1 if made.bad else 0
 
 
 def let_open_many():

@@ -17,7 +17,7 @@ use Rattle.iso_drive.specs.Books.{spent_by, taken_by}
 use Rattle.iso_drive.specs.Counts.{is_such, role_is, count_of, is_approved}
 use Rattle.iso_drive.specs.Made.{made_of, role_of, debit_in}
 
-role-such : (such : State → Bool) (role : Part) → role_is such (role_of role) ≡ is_such such (state_in role)
+pub role-such : (such : State → Bool) (role : Part) → role_is such (role_of role) ≡ is_such such (state_in role)
 role-such such (Transaction stage) = refl
 role-such such (Reversal stan) = refl
 

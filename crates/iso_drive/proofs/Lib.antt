@@ -2,6 +2,7 @@ pub mod Answer
 pub mod Boarded
 pub mod Closed
 pub mod Counted
+pub mod Doubts
 pub mod Driven
 pub mod Notes
 pub mod Opened

@@ -1,5 +1,5 @@
 -- How far the transactions of an acquirer got.
-use Rattle.std.specs.Prelude.{ℕ, Bool, true, false, List, Option, Some, None, count_by}
+use Rattle.std.specs.Prelude.{◌==◌, ℕ, Bool, true, false, List, Option, Some, None, count_by}
 use Rattle.iso_acquirer.specs.declared.slot.Slot.{Slot}
 use Rattle.iso_acquirer.specs.declared.state.State.{State}
 use Rattle.iso_acquirer.specs.declared.state.State.TheVariants.{Waiting, Reversing, Approved, Declined, Reversed}
@@ -35,6 +35,13 @@ is_declined Reversing = false
 is_declined Approved = false
 is_declined (Declined c) = true
 is_declined Reversed = false
+
+abbrev pub is_declined_with : ℕ → State → Bool
+is_declined_with code (Waiting n) = false
+is_declined_with code Reversing = false
+is_declined_with code Approved = false
+is_declined_with code (Declined c) = c == code
+is_declined_with code Reversed = false
 
 abbrev pub is_reversed : State → Bool
 is_reversed (Waiting n) = false

@@ -2,6 +2,7 @@ pub mod Answered
 pub mod Board
 pub mod Books
 pub mod Counts
+pub mod Doubtful
 pub mod Driving
 pub mod Due
 pub mod Laws

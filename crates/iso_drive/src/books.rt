@@ -11,7 +11,7 @@ use iso_acquirer::State;
 use iso_order::{Money, Pan};
 
 /// Whether two account numbers are one: as many digits, and the same.
-fn is_same(one: &Pan, other: &Pan) -> bool
+pub(crate) fn is_same(one: &Pan, other: &Pan) -> bool
     ensures { result ≡ same_pan one.now other.now }
 {
     one.digits() == other.digits() && one.len() == other.len()

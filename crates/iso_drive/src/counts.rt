@@ -1,7 +1,7 @@
 //! How far the transactions of a driver got.
 ghost use Rattle.std.specs.Prelude.{◌≡◌, List, count_by};
 ghost use Rattle.iso_acquirer.specs.declared.slot.Slot.{Slot};
-ghost use Rattle.iso_drive.specs.Counts.{is_waiting, is_reversing, is_approved, is_declined, is_reversed, counts_of, role_is};
+ghost use Rattle.iso_drive.specs.Counts.{is_waiting, is_reversing, is_approved, is_declined, is_declined_with, is_reversed, count_of, counts_of, role_is};
 ghost use Rattle.iso_drive.specs.Made.{IsTabled};
 
 use crate::made::{Made, Role};
@@ -68,6 +68,32 @@ fn declined(made: &[Made]) -> usize
     ensures { result ≡ count_by (λ m. role_is is_declined m.role) made.now }
 {
     made.iter().filter(|of| is_declined(of.role)).count()
+}
+
+fn is_declined_with(role: Role, code: u8) -> bool
+    ensures { result ≡ role_is (is_declined_with code) role }
+{
+    match role {
+        Role::Payment(State::Declined(other)) => other == code,
+        Role::Payment(State::Waiting(_) | State::Reversing | State::Approved | State::Reversed)
+        | Role::Reversal(_) => false,
+    }
+}
+
+fn with_code(made: &[Made], code: u8) -> usize
+    ensures { result ≡ count_by (λ m. role_is (is_declined_with code) m.role) made.now }
+{
+    made.iter()
+        .filter(|of| is_declined_with(of.role, code))
+        .count()
+}
+
+/// How many transactions among these orders were refused with that code.
+pub(crate) fn declined_with(made: &[Made], code: u8) -> usize
+    ensures { (slots : List Slot) → IsTabled made.now slots
+        → result ≡ count_of (is_declined_with code) slots }
+{
+    with_code(made, code)
 }
 
 fn is_reversed(role: Role) -> bool

@@ -9,22 +9,24 @@ ghost use Rattle.iso_restarts.specs.Durable.{diary_of, IsConsistent, IsOpened, I
 ghost use Rattle.iso_restarts.specs.Durable.{Stays as Same};
 ghost use Rattle.iso_restarts.specs.Replayed.{CanBeWritten};
 ghost use Rattle.iso_drive.specs.Answered.{ComesTo};
-ghost use Rattle.iso_drive.specs.Counts.{counts_of};
+ghost use Rattle.iso_drive.specs.Counts.{count_of, counts_of, is_declined_with};
 ghost use Rattle.iso_drive.specs.Driving.{Driving, slots_in, at_moment, begins_now, wakes_first, wakes, hears_new, keeps_all};
 ghost use Rattle.iso_drive.specs.Driving.{driving_of, log_of, is_stopped, IsDriving, Remains, Stops, IsStarted, WakesSome, MayLeaveSome};
+ghost use Rattle.iso_drive.specs.Doubtful.{doubtful_of};
 ghost use Rattle.iso_drive.specs.Due.{due_by};
 ghost use Rattle.iso_drive.specs.Open.{AreAllClosed};
 
 use crate::board::{Board, begin, board_after, make_room, settle};
 use crate::books::approved_total;
-use crate::counts::{Counts, count};
+use crate::counts::{Counts, count, declined_with};
+use crate::doubtful::doubtful_of;
 use crate::due::{Due, due_by, moment_after, put_off};
 use crate::heard::Heard;
 use crate::made::{judge, time_out};
 use iso_acquirer::AcqFault;
 use iso_order::{MOST_STAN, Money, Order, Pan, Told, TxKey};
 use iso_restarts::{DurableAcquirer, Fault, Note, NoteLog};
-use std::alloc::Global;
+use std::alloc::{AllocError, Global};
 use std::collections::VecDeque;
 
 /// The transaction that waits first.
@@ -123,12 +125,14 @@ impl<L: NoteLog> Driver<L> {
         ensures begins { OnOk result (IsDriving L.is_ready L.synced L.pending self.old
             → let old = at_moment now (driving_of L.synced L.pending self.old) in
             driving_of L.synced L.pending self.new
-            ≡ begins_now old (debit_of (in_memory old.diary) money.now.pan money.now.amount money.now.currency sent)) }
+            ≡ begins_now old (debit_of (in_memory old.diary)
+            money.now.pan money.now.amount money.now.currency sent)) }
         // However it ends, a crash leaves what it may leave once the purchase has begun.
         ensures crash { IsDriving L.is_ready L.synced L.pending self.old
             → (c : List Note) → L.may_leave (log_of self.new) c
             → let old = (driving_of L.synced L.pending self.old).diary in
-            MayLeave (begins old (debit_of (in_memory old) money.now.pan money.now.amount money.now.currency sent)) c }
+            MayLeave (begins old (debit_of (in_memory old)
+            money.now.pan money.now.amount money.now.currency sent)) c }
         ensures refused { IfErr result (λ e. IsDriving L.is_ready L.synced L.pending self.old
             → IsRefusedBegin (in_memory (driving_of L.synced L.pending self.old).diary) e) }
         ensures unchanged { IfErr result (λ e. e ≢ Fault.Log
@@ -186,7 +190,8 @@ impl<L: NoteLog> Driver<L> {
     /// the orders. Each waits again from now on. One for whose reversal no trace number is left just waits again. After an
     /// `Err` some from the front are timed out, and the others are due as before.
     pub fn wake(&mut self, now: u64) -> Result<usize, Fault>
-        ensures count { IfOk result (λ n. let old = at_moment now (driving_of L.synced L.pending self.old) in
+        ensures count { IfOk result (λ n.
+            let old = at_moment now (driving_of L.synced L.pending self.old) in
             n ≡ length (due_by old.clock old.waiting)) }
         ensures driving { OnOk result (IsDriving L.is_ready L.synced L.pending self.old
             → IsDriving L.is_ready L.synced L.pending self.new) }
@@ -216,7 +221,8 @@ impl<L: NoteLog> Driver<L> {
     /// waits no longer. Any other writes nothing: it tells nothing new, or isn't to this acquirer's order.
     pub fn heard(&mut self, told: &Told) -> Result<Heard, Fault>
         ensures comes { IfOk result (λ heard. IsDriving L.is_ready L.synced L.pending self.old
-            → ComesTo (slots_in (driving_of L.synced L.pending self.old)) told.now.key told.now.code heard) }
+            → ComesTo (slots_in (driving_of L.synced L.pending self.old))
+            told.now.key told.now.code heard) }
         ensures driving { OnOk result (IsDriving L.is_ready L.synced L.pending self.old
             → IsDriving L.is_ready L.synced L.pending self.new) }
         ensures hears { IfOk result (λ heard. IsDriving L.is_ready L.synced L.pending self.old
@@ -225,7 +231,8 @@ impl<L: NoteLog> Driver<L> {
         // However it ends, a crash leaves what it may leave once the answer is written.
         ensures crash { IsDriving L.is_ready L.synced L.pending self.old
             → (c : List Note) → L.may_leave (log_of self.new) c
-            → MayLeave (hears (driving_of L.synced L.pending self.old).diary told.now.key told.now.code) c }
+            → MayLeave (hears (driving_of L.synced L.pending self.old).diary
+            told.now.key told.now.code) c }
         ensures fault { IfErr result (λ e. e ≡ Fault.Log) }
     {
         match judge(&self.board.made, &told.key, told.code) {
@@ -267,7 +274,8 @@ impl<L: NoteLog> Driver<L> {
 
     /// The moment at which the next transaction is due: no other is due before. `None` where none is open. Takes no memory.
     pub fn next_due(&self) -> Option<u64>
-        ensures first { result ≡ option_map (λ d. d.at) (slice_get (driving_of L.synced L.pending self.now).waiting 0) }
+        ensures first { result ≡ option_map (λ d. d.at)
+            (slice_get (driving_of L.synced L.pending self.now).waiting 0) }
         ensures none_before { IfSome result (λ at. IsDriving L.is_ready L.synced L.pending self.now
             → AllByRecursion (λ d. at ≤ d.at) (driving_of L.synced L.pending self.now).waiting) }
     {
@@ -301,6 +309,15 @@ impl<L: NoteLog> Driver<L> {
         count(&self.board.made)
     }
 
+    /// How many of its transactions were refused with that code. Takes no memory, and time by how many there are.
+    pub fn declined_with(&self, code: u8) -> usize
+        ensures { IsDriving L.is_ready L.synced L.pending self.now
+            → result ≡ count_of (is_declined_with code)
+            (slots_in (driving_of L.synced L.pending self.now)) }
+    {
+        declined_with(&self.board.made, code)
+    }
+
     /// What its own books say of an account: the amounts of its approved purchases, added up. Takes no memory, and time by
     /// how many there are.
     pub fn spent(&self, pan: &Pan) -> u128
@@ -308,5 +325,13 @@ impl<L: NoteLog> Driver<L> {
             → result ≡ approved_total pan.now (slots_in (driving_of L.synced L.pending self.now)) }
     {
         approved_total(&self.board.made, pan)
+    }
+    /// The trace numbers of an account's transactions that no answer to their own orders decided: those that are open, and
+    /// those that were reversed. They are the ones to look at where both ends differ on the account.
+    pub fn doubtful(&self, alloc: Global, pan: &Pan) -> Result<Vec<u32>, AllocError>
+        ensures { IfOk result (λ stans. IsDriving L.is_ready L.synced L.pending self.now
+            → stans.items ≡ doubtful_of pan.now (slots_in (driving_of L.synced L.pending self.now))) }
+    {
+        doubtful_of(alloc, &self.board.made, pan)
     }
 }

@@ -13,6 +13,7 @@
 mod board;
 mod books;
 mod counts;
+mod doubtful;
 mod draw;
 mod driver;
 mod due;

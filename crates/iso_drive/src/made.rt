@@ -39,7 +39,8 @@ fn made_in(made: &[Made], place: usize) -> Option<Made>
 
 /// The order of a trace number.
 pub(crate) fn made_at(made: &[Made], stan: u32) -> Option<Made>
-    ensures { (slots : List Slot) → IsTabled made.now slots → result ≡ option_map made_of (slot_at slots stan) }
+    ensures { (slots : List Slot) → IsTabled made.now slots
+        → result ≡ option_map made_of (slot_at slots stan) }
 {
     if stan == 0 {
         return None;
@@ -49,7 +50,8 @@ pub(crate) fn made_at(made: &[Made], stan: u32) -> Option<Made>
 
 /// Brings the transaction of a trace number to a state.
 fn put_state(made: &mut [Made], stan: u32, state: State)
-    ensures { (slots : List Slot) (s : Slot) (stage : Stage) (step : Stage → Stage) → IsTabled made.old slots
+    ensures { (slots : List Slot) (s : Slot) (stage : Stage) (step : Stage → Stage)
+        → IsTabled made.old slots
         → slot_at slots stan ≡ Some s → s.role ≡ Transaction stage → state_by (step stage) ≡ state
         → IsTabled made.new (slots_at_stage step stan slots) }
 {
@@ -70,8 +72,10 @@ fn put_state(made: &mut [Made], stan: u32, state: State)
 fn push_reversal(made: &mut Vec<Made>, of: &Made)
     requires room { vec_len made.old < vec_capacity made.old }
     requires few { length made.old.items < 999999 }
-    ensures { (slots : List Slot) (s : Slot) → length made.old.items ≡ length slots → made_of s ≡ of.now
-        → made.new.items ≡ made.old.items ++ made_of (reversal_for s.order.key.stan (next_reversal slots s.order)) ∷ [] }
+    ensures { (slots : List Slot) (s : Slot) → length made.old.items ≡ length slots
+        → made_of s ≡ of.now
+        → made.new.items ≡ made.old.items
+        ++ made_of (reversal_for s.order.key.stan (next_reversal slots s.order)) ∷ [] }
 {
     let stan = made.len() as u32 + 1;
     made.push_reserved(Made {
@@ -92,7 +96,8 @@ fn reverse(made: &mut Vec<Made>, of: &Made)
     requires few { length made.old.items < 999999 }
     ensures { (slots : List Slot) (s : Slot) (stage : Stage) → IsTabled made.old.items slots
         → slot_at slots of.now.key.stan ≡ Some s → s.role ≡ Transaction stage → made_of s ≡ of.now
-        → IsTabled made.new.items (slots_with_reversal slots s.order.key.stan (next_reversal slots s.order)) }
+        → IsTabled made.new.items
+        (slots_with_reversal slots s.order.key.stan (next_reversal slots s.order)) }
 {
     put_state(made, of.key.stan, State::Reversing);
     push_reversal(made, of);
@@ -103,7 +108,8 @@ fn time_out_by(made: &mut Vec<Made>, of: &Made, state: State)
     requires { vec_len made.old < vec_capacity made.old }
     ensures { (slots : List Slot) (s : Slot) (stage : Stage) → IsTabled made.old.items slots
         → slot_at slots of.now.key.stan ≡ Some s → s.role ≡ Transaction stage → made_of s ≡ of.now
-        → state_by stage ≡ state → IsTabled made.new.items (slots_asked slots (timeout_by slots s.order stage)) }
+        → state_by stage ≡ state
+        → IsTabled made.new.items (slots_asked slots (timeout_by slots s.order stage)) }
 {
     let State::Waiting(count) = state else {
         return;

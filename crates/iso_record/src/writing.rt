@@ -26,9 +26,7 @@ pub(crate) fn put_number(bytes: &mut [u8; RECORD], at: usize, len: usize, v: u64
     requires within { at + len ≤ 128 }
     ensures { take (at + len) bytes.new ≡ take at bytes.old ++ decimal len v }
 {
-    let mut digits = [0u8; 20];
-    write_decimal(&mut digits[..len], v);
-    put(bytes, at, &digits[..len]);
+    write_decimal(&mut bytes[at..at + len], v);
 }
 
 /// Puts so many blanks.

@@ -12,6 +12,7 @@ use crate::words::{Job, job_of};
 use clap::error::ErrorKind;
 use clap::{ArgMatches, Error};
 use iso_service::Journals;
+use rumpadol_drive::{Diaries, perform_drive};
 use rumpadol_journals::perform_books;
 use rumpadol_tables::{Source, Stop, perform_table, tell, write_output};
 use std::alloc::Global;
@@ -43,7 +44,7 @@ fn answer<O: Write>(alloc: Global, error: &Error, output: &mut O) -> Result<u8, 
 }
 
 /// Does what a job asks.
-fn perform<S: Source + Journals + System, I: Read, O: Write, F: Write>(
+fn perform<S: Source + Journals + Diaries + System, I: Read, O: Write, F: Write>(
     alloc: Global,
     job: &Job<'_>,
     source: &S,
@@ -65,12 +66,22 @@ fn perform<S: Source + Journals + System, I: Read, O: Write, F: Write>(
         ),
         Job::Tables(job) => perform_table(alloc, job, source, input, output),
         Job::Host(words) => perform_host(alloc, words, source, terminals, input, output, faults),
+        Job::Drive(job) => perform_drive(
+            alloc,
+            *job,
+            source.runtime(),
+            source,
+            terminals.faults,
+            input,
+            output,
+            faults,
+        ),
         Job::Books(job) => perform_books(alloc, *job, source, output),
     }
 }
 
 /// Does what the words ask that `clap` let pass.
-fn perform_asked<S: Source + Journals + System, I: Read, O: Write, F: Write>(
+fn perform_asked<S: Source + Journals + Diaries + System, I: Read, O: Write, F: Write>(
     alloc: Global,
     matches: &ArgMatches<'_>,
     source: &S,
@@ -91,7 +102,7 @@ fn perform_asked<S: Source + Journals + System, I: Read, O: Write, F: Write>(
 }
 
 /// Does what the words ask, of which the first is the program's name.
-fn perform_words<S: Source + Journals + System, I: Read, O: Write, F: Write>(
+fn perform_words<S: Source + Journals + Diaries + System, I: Read, O: Write, F: Write>(
     alloc: Global,
     words: &[String],
     source: &S,
@@ -110,7 +121,7 @@ fn perform_words<S: Source + Journals + System, I: Read, O: Write, F: Write>(
 
 /// Does what the words ask, of which the first is the program's name, and gives the status: 0 done, 1 an input is refused
 /// or two tables differ, 2 the command line is refused, 3 a device or memory failed.
-pub fn act<S: Source + Journals + System, I: Read, O: Write, F: Write>(
+pub fn act<S: Source + Journals + Diaries + System, I: Read, O: Write, F: Write>(
     alloc: Global,
     words: &[String],
     source: &S,

@@ -2,12 +2,14 @@
 
 mod arguments;
 mod books;
+mod drive;
 mod host;
 mod messages;
 mod tables;
 
 use books::journal_command;
 use clap::Command;
+use drive::drive_command;
 use host::host_command;
 use messages::{convert_command, decode_command, encode_command, explain_command};
 use std::alloc::{AllocError, Global};
@@ -30,7 +32,7 @@ pub fn command<'a>(alloc: Global) -> Result<Command<'a>, AllocError> {
         .bin_name("rumpadol")?
         .version("1.0.0")
         .about(
-            "Looks at ISO 8583 messages, builds, converts and answers them, and looks into tables and journals.",
+            "Looks at ISO 8583 messages, builds, converts and answers them, drives hosts, and looks into tables and journals.",
         )
         .after_help(EXAMPLES)
         .subcommand_required(true)
@@ -41,5 +43,6 @@ pub fn command<'a>(alloc: Global) -> Result<Command<'a>, AllocError> {
         .subcommand(convert_command(alloc)?)?
         .subcommand(table_command(alloc)?)?
         .subcommand(host_command(alloc)?)?
+        .subcommand(drive_command(alloc)?)?
         .subcommand(journal_command(alloc)?)
 }

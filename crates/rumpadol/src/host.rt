@@ -3,7 +3,7 @@
 ghost use Rattle.std.specs.Prelude.{◌≡◌, IfOk};
 ghost use Rattle.rumpadol_tables.specs.Named.{IsNamed};
 
-use crate::ports::perform_ports;
+use crate::ports::{perform_by_script, perform_ports};
 use crate::system::System;
 use crate::terminal::Terminals;
 use crate::words::{HostWords, Place, StreamWords};
@@ -129,6 +129,9 @@ pub fn perform_host<S: Source + Journals + System, I: Read, O: Write, F: Write>(
 ) -> Result<u8, Stop>
     ensures { IfOk result (λ status. status ≡ 0) }
 {
+    if let Some(path) = words.script {
+        return perform_by_script(alloc, words, path, source, terminals, input, faults);
+    }
     match words.place {
         Place::Streams(stream) => perform_stream(
             alloc, words, stream, source, terminals, input, output, faults,

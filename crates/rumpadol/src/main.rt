@@ -1,4 +1,4 @@
-//! The program for people: looks at ISO 8583 messages, builds and converts them, checks tables, and looks into journals.
+//! The program for people: looks at ISO 8583 messages, builds and converts them, checks tables, drives hosts, and looks into journals.
 //!
 //! - `explain TABLE [INPUT]`: messages piece by piece, and where one stops being a message, why
 //! - `decode TABLE [INPUT]`: messages element by element, as lines or as JSON
@@ -6,6 +6,7 @@
 //! - `convert FROM TO [INPUT]`: messages under another table
 //! - `table check`, `show`, `list`, `new` and `diff`: tables
 //! - `host`: answers frames as an issuer, of a stream or of many peers on ports, and keeps each order before it is answered
+//! - `drive`: drives a host as an acquirer, through what networks do
 //! - `journal show`, `check`, `export` and `balance`: the file of a journal
 #![tactic(auto)]
 

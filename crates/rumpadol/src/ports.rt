@@ -4,6 +4,7 @@ ghost use Rattle.std.specs.Prelude.{◌≡◌, IfOk};
 
 mod asking;
 mod outside;
+mod script;
 
 use crate::system::System;
 use crate::terminal::Terminals;
@@ -18,6 +19,7 @@ use iso_service::Journals;
 use outside::{Outside, check_stop_file, log_asked};
 use rumpadol_journals::{accounts_at, not_kept, start_host};
 use rumpadol_tables::{Source, Stop, failed, write_output};
+pub use script::perform_by_script;
 use std::alloc::{AllocError, Global};
 use std::fmt::Write as _;
 use std::io::{Read, Write};

@@ -4,6 +4,7 @@ use clap::ArgMatches;
 use iso_books::Form;
 use iso_links::Limits;
 use iso_wire::Header;
+use rumpadol_drive::{DayWords, DriveJob, DriveWords};
 use rumpadol_journals::{BooksJob, BooksWords, KeptWords};
 use rumpadol_tables::{NewWords, STANDARD_INPUT, TableJob};
 use std::alloc::{AllocError, Global};
@@ -97,6 +98,8 @@ pub struct HostWords<'a> {
     pub place: Place<'a>,
     /// Where it keeps its orders.
     pub kept: KeptWords<'a>,
+    /// The path of the rules by which it misbehaves, if it does.
+    pub script: Option<&'a str>,
     /// The path of the log of what happens.
     pub log: Option<&'a str>,
     /// The address at which the host tells its metrics.
@@ -114,6 +117,8 @@ pub enum Job<'a> {
     Tables(TableJob<'a>),
     /// A host.
     Host(HostWords<'a>),
+    /// An acquirer that drives a host.
+    Drive(DriveJob<'a>),
     /// About a journal's file.
     Books(BooksJob<'a>),
 }
@@ -142,6 +147,7 @@ impl<'a> Job<'a> {
             }
             Job::Tables(TableJob::List) | Job::Books(_) => false,
             Job::Host(words) => matches!(words.place, Place::Streams(_)),
+            Job::Drive(job) => job.table() == STANDARD_INPUT,
         }
     }
 }
@@ -249,9 +255,55 @@ fn host_words<'a>(matches: &ArgMatches<'a>) -> HostWords<'a> {
     HostWords {
         place: place_of(matches),
         kept: kept_words(matches),
+        script: matches.get_str("script"),
         log: matches.get_str("log"),
         metrics: matches.get_str("metrics"),
         stop_file: matches.get_str("stop-file"),
+    }
+}
+
+/// What the words about a run tell; each number that isn't optional must be given or has a default.
+fn drive_words<'a>(matches: &ArgMatches<'a>) -> DriveWords<'a> {
+    DriveWords {
+        address: text_of(matches, "address"),
+        table: text_of(matches, "table"),
+        header: header_named(text_of(matches, "header")),
+        acquirer: matches.get_one::<u64>("acquirer").unwrap_or(0),
+        accounts: text_of(matches, "accounts"),
+        peers: limit_of(matches, "peers") as usize,
+        most_open: matches.get_one::<usize>("open"),
+        rate: matches.get_one::<u32>("rate"),
+        count: matches.get_one::<u32>("count").unwrap_or(0),
+        seconds: matches.get_one::<u64>("seconds").unwrap_or(1),
+        amount: text_of(matches, "amount"),
+        patience: matches.get_one::<u64>("patience").unwrap_or(1),
+        lose: text_of(matches, "lose"),
+        repeat: text_of(matches, "repeat"),
+        cut: text_of(matches, "cut"),
+        delay: text_of(matches, "delay"),
+        seed: matches.get_one::<u64>("seed").unwrap_or(1),
+        checks: matches.get_flag("check"),
+        is_json: matches.get_flag("json"),
+        picture: matches.get_str("picture"),
+        journal: matches.get_str("journal"),
+        is_new: matches.get_flag("new"),
+    }
+}
+
+/// What the words ask of an acquirer.
+fn drive_job<'a>(matches: &ArgMatches<'a>) -> DriveJob<'a> {
+    match matches.get_str("frames") {
+        Some(frames) => DriveJob::Again(DayWords {
+            address: text_of(matches, "address"),
+            table: text_of(matches, "table"),
+            header: header_named(text_of(matches, "header")),
+            frames,
+            expected: text_of(matches, "expect"),
+            patience: matches.get_one::<u64>("patience").unwrap_or(1),
+            is_json: matches.get_flag("json"),
+            is_clear: matches.get_flag("clear"),
+        }),
+        None => DriveJob::Buy(drive_words(matches)),
     }
 }
 
@@ -374,6 +426,7 @@ pub fn job_of<'a>(alloc: Global, matches: &ArgMatches<'a>) -> Result<Option<Job<
         "convert" => Ok(Some(Job::Messages(MessageJob::Convert(convert_words(inner))))),
         "table" => tables_asked(alloc, inner),
         "host" => Ok(Some(Job::Host(host_words(inner)))),
+        "drive" => Ok(Some(Job::Drive(drive_job(inner)))),
         "journal" => Ok(books_asked(inner)),
         _ => Ok(None),
     }

@@ -19,6 +19,8 @@ Examples:
       a host for many peers at once; killed and started again without --new, it remembers all it answered
   rumpadol host --links links.json --accounts accounts.json --journal day.journal --log host.log
       the same on the addresses of a document, each with a table and a header of its own
+  rumpadol host --listen 0.0.0.0:8583 --table bcd87 --header binary2 --accounts accounts.json --script rules.json
+      a host for the tests of an acquirer: it misbehaves by rules, and forgets all when it ends
   rumpadol host --table ascii87 --header ascii4 --accounts accounts.json --journal day.journal < day.txt
       the answers to the frames of a file";
 
@@ -106,7 +108,7 @@ fn with_files<'a>(alloc: Global, command: Command<'a>) -> Result<Command<'a>, Al
     );
     command
         .arg(accounts.required(true))?
-        .arg(journal.required(true))?
+        .arg(journal.required_unless_present("script")?)?
         .arg(new)?
         .arg(port_option(
             alloc,
@@ -126,6 +128,28 @@ fn with_files<'a>(alloc: Global, command: Command<'a>) -> Result<Command<'a>, Al
             "FILE",
             "Stops the host once this file is there",
         )?)
+}
+
+/// The word for a host that misbehaves.
+fn with_script<'a>(alloc: Global, command: Command<'a>) -> Result<Command<'a>, AllocError> {
+    let script = option(
+        alloc,
+        "script",
+        "FILE",
+        "Misbehaves on purpose by the rules of this document, and keeps nothing",
+    );
+    command.arg(
+        script
+            .requires_arg("listen")?
+            .conflicts_with("links")?
+            .conflicts_with("journal")?
+            .conflicts_with("new")?
+            .conflicts_with("log")?
+            .conflicts_with("metrics")?
+            .conflicts_with("idle")?
+            .conflicts_with("frame")?
+            .conflicts_with("unread")?,
+    )
 }
 
 /// The limits of the link by words.
@@ -180,5 +204,6 @@ pub fn host_command<'a>(alloc: Global) -> Result<Command<'a>, AllocError> {
         .after_help(EXAMPLES);
     let command = with_places(alloc, command)?;
     let command = with_files(alloc, command)?;
+    let command = with_script(alloc, command)?;
     with_limits(alloc, command)
 }

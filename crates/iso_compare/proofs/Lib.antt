@@ -1,0 +1,4 @@
+pub mod Absent
+pub mod Told
+pub mod Frames
+pub mod Pairs

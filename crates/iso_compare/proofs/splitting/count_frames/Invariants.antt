@@ -1,0 +1,9 @@
+use Rattle.std.proofs.Common.{◌≡◌, ℕ, ◌+◌, ◌≤◌, List, length}
+use Rattle.iso_compare.proofs.Frames.{Counted}
+use Rattle.iso_compare.proofs.splitting.count_frames.Given as goal
+
+abbrev pub invariant-loop-used : goal.invariant-loop-used
+invariant-loop-used l = Counted l.header l.bytes l.rest l.frames
+
+abbrev pub decreases-loop-used : goal.decreases-loop-used
+decreases-loop-used l = length l.rest

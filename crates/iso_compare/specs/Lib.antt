@@ -1,0 +1,4 @@
+pub mod Differing
+pub mod Comparing
+pub mod Tallying
+pub mod Fronts

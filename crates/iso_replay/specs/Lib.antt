@@ -1,0 +1,4 @@
+pub mod Hearing
+pub mod Exchanging
+pub mod Moving
+pub mod Exchanged

@@ -1,0 +1,2 @@
+mod Buckets
+mod Ranks

@@ -1,0 +1,4 @@
+pub mod Books
+pub mod Histogram
+pub mod Percentile
+pub mod Tally

@@ -1,0 +1,4 @@
+//! What no clause says: the worked percentiles of books, and what is written.
+
+mod values;
+mod writing;

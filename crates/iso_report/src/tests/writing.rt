@@ -1,0 +1,248 @@
+//! A whole report: for people, as JSON and as a picture.
+
+use crate::{AccountBooks, Declined, Doubt, Ended, Latencies, Report, Settings, Tally};
+use iso_order::Pan;
+use std::alloc::{AllocError, Global};
+use std::process::Abort;
+
+const SETTINGS: Settings<'static> = Settings {
+    address: "127.0.0.1:8583",
+    table: "bcd87",
+    header: "binary2",
+    acquirer: 12_345,
+    peers: 8,
+    most_open: 128,
+    rate: Some(200),
+    patience: 2_000,
+    lose: 50_000,
+    repeat: 0,
+    cut: 2_500,
+    delay: (50, 200),
+    seed: 7,
+};
+
+const TALLY: Tally = Tally {
+    begun: 9,
+    sent: 12,
+    again: 2,
+    reversals: 1,
+    answers: 10,
+    late: 1,
+    lost: 2,
+    delayed: 22,
+    connected: 8,
+    ..Tally::NONE
+};
+
+/// What both ends say of an account.
+fn account(
+    rt: &impl Abort,
+    digits: &[u8],
+    opening: i64,
+    spent: u128,
+    told: Option<i64>,
+) -> AccountBooks {
+    AccountBooks {
+        pan: Pan::from_digits(digits).expect(rt, "an account number"),
+        opening,
+        spent,
+        told,
+    }
+}
+
+/// A report in which one thing of each kind happened.
+fn report(rt: &impl Abort, alloc: Global) -> Result<Report<'static>, AllocError> {
+    let mut latencies = Latencies::new(alloc);
+    for micros in [845, 1_920, 1_100, 12_300] {
+        latencies.add(micros)?;
+    }
+    let declined = [
+        Declined { code: 5, count: 1 },
+        Declined { code: 51, count: 2 },
+    ];
+    let books = [
+        account(rt, b"4111111111111111", 1_000, 250, Some(750)),
+        account(rt, b"4111111111111112", 500, 100, Some(300)),
+        account(rt, b"4111111111111113", 7, 0, None),
+    ];
+    let mut doubts = Vec::new(alloc);
+    doubts.push(Doubt {
+        place: 1,
+        traces: Vec::from_slice(alloc, &[12, 345])?,
+    })?;
+    Ok(Report {
+        settings: SETTINGS,
+        tally: TALLY,
+        ended: Ended {
+            approved: 5,
+            declined: Vec::from_slice(alloc, &declined)?,
+            reversed: 1,
+            open: 0,
+        },
+        timed: latencies.len(),
+        buckets: latencies.buckets(alloc)?,
+        summary: latencies.summary(),
+        micros: 1_503_000,
+        books: Some(Vec::from_slice(alloc, &books)?),
+        doubts,
+    })
+}
+
+const TEXT: &str =
+    "127.0.0.1:8583: table bcd87, header binary2, acquirer 12345, connections 8, seed 7, patience 2000 ms, 5 % lost, 0.25 % cut, delayed 50 to 200 ms
+9 purchases in 1.50 s, 5 a second
+
+Transactions
+  approved                           5
+  declined                           3
+    05                               1  Do not honour
+    51                               2  Not sufficient funds
+  reversed                           1
+  still open                         0
+
+Latency of 4 answers, in milliseconds
+  least                          0.845
+  p50                             1.10
+  p90                             12.3
+  p99                             12.3
+  p99.9                           12.3
+  most                            12.3
+
+    500 us to     1 ms               1  ####################
+      1 ms to     2 ms               2  ########################################
+      2 ms to     5 ms               0
+      5 ms to    10 ms               0
+     10 ms to    20 ms               1  ####################
+
+Traffic
+  frames sent                       12
+    orders again                     2
+    reversals                        1
+  answers read                      10
+    late or again                    1
+  lost on purpose                    2
+  delayed on purpose                22
+  connections made                   8
+
+account 411111******1112 differs: the host tells 300, our books say 500 less 100
+  look at the transactions that were reversed or are open, by trace number: 000012 000345
+the host told no balance of accounts: 1
+both books agree on accounts: 1
+";
+
+#[test]
+fn for_people(rt: HostRuntime) {
+    let report = report(&rt, rt.alloc()).expect(&rt, "memory");
+    assert_eq!(rt;
+        report.to_text(rt.alloc()).expect(&rt, "memory").as_str(),
+        TEXT
+    );
+    assert_eq!(rt; report.books_agree(), Some(false));
+    assert!(rt; !report.is_good());
+}
+
+const JSON: &str = "{\"all_closed\":true,\
+\"books\":{\"agree\":1,\"differ\":1,\"differing\":[{\"account\":2,\"opening\":500,\"spent\":100,\"told\":300,\"traces\":[12,345]}],\"untold\":1},\
+\"books_agree\":false,\"elapsed_micros\":1503000,\"histogram_micros\":[\
+{\"below\":10,\"count\":0,\"from\":0},\
+{\"below\":20,\"count\":0,\"from\":10},\
+{\"below\":50,\"count\":0,\"from\":20},\
+{\"below\":100,\"count\":0,\"from\":50},\
+{\"below\":200,\"count\":0,\"from\":100},\
+{\"below\":500,\"count\":0,\"from\":200},\
+{\"below\":1000,\"count\":1,\"from\":500},\
+{\"below\":2000,\"count\":2,\"from\":1000},\
+{\"below\":5000,\"count\":0,\"from\":2000},\
+{\"below\":10000,\"count\":0,\"from\":5000},\
+{\"below\":20000,\"count\":1,\"from\":10000},\
+{\"below\":50000,\"count\":0,\"from\":20000},\
+{\"below\":100000,\"count\":0,\"from\":50000},\
+{\"below\":200000,\"count\":0,\"from\":100000},\
+{\"below\":500000,\"count\":0,\"from\":200000},\
+{\"below\":1000000,\"count\":0,\"from\":500000},\
+{\"below\":2000000,\"count\":0,\"from\":1000000},\
+{\"below\":5000000,\"count\":0,\"from\":2000000},\
+{\"below\":10000000,\"count\":0,\"from\":5000000},\
+{\"below\":null,\"count\":0,\"from\":10000000}],\
+\"latency_micros\":{\"answers\":4,\"least\":845,\"most\":12300,\"p50\":1100,\"p90\":12300,\"p99\":12300,\"p999\":12300},\
+\"settings\":{\"acquirer\":12345,\"address\":\"127.0.0.1:8583\",\"connections\":8,\"cut_millionths\":2500,\"delay_ms\":[50,200],\
+\"header\":\"binary2\",\"lose_millionths\":50000,\"most_open\":128,\"patience_ms\":2000,\"rate\":200,\"repeat_millionths\":0,\
+\"seed\":7,\"table\":\"bcd87\"},\
+\"traffic\":{\"again\":2,\"answers\":10,\"bad_frames\":0,\"begun\":9,\"closed\":0,\"connected\":8,\"cut\":0,\"delayed\":22,\
+\"differing\":0,\"foreign\":0,\"late\":1,\"lost\":2,\"refused\":0,\"repeated\":0,\"resumed\":0,\"reversals\":1,\"sent\":12,\
+\"unreadable\":0},\
+\"transactions\":{\"approved\":5,\"declined\":3,\
+\"declined_by_code\":[{\"code\":\"05\",\"count\":1},{\"code\":\"51\",\"count\":2}],\"open\":0,\"reversed\":1}}";
+
+#[test]
+fn for_programs(rt: HostRuntime) {
+    let report = report(&rt, rt.alloc()).expect(&rt, "memory");
+    assert_eq!(rt;
+        report.to_json(rt.alloc()).expect(&rt, "memory").as_str(),
+        JSON
+    );
+}
+
+/// A run of which nothing came.
+fn idle(alloc: Global) -> Report<'static> {
+    Report {
+        settings: Settings {
+            rate: None,
+            ..SETTINGS
+        },
+        tally: Tally::NONE,
+        ended: Ended {
+            approved: 0,
+            declined: Vec::new(alloc),
+            reversed: 0,
+            open: 3,
+        },
+        timed: 0,
+        buckets: Vec::new(alloc),
+        summary: None,
+        micros: 0,
+        books: None,
+        doubts: Vec::new(alloc),
+    }
+}
+
+#[test]
+fn of_nothing(rt: HostRuntime) {
+    let report = idle(rt.alloc());
+    assert_eq!(rt; report.books_agree(), None);
+    assert!(rt; !report.is_good());
+    let json = report.to_json(rt.alloc()).expect(&rt, "memory");
+    let front =
+        "{\"all_closed\":false,\"books\":null,\"books_agree\":null,\"elapsed_micros\":0,\"histogram_micros\":[],\"latency_micros\":null,";
+    assert!(rt; json.as_str().starts_with(front));
+    let picture = report.to_svg(rt.alloc()).expect(&rt, "memory");
+    assert!(rt;
+        picture
+            .as_str()
+            .ends_with(">Latency of 0 answers</text>\n</svg>\n")
+    );
+}
+
+const PICTURE: &str = "<rect class=\"ground\" width=\"720\" height=\"220\"/>
+<title>Latency of 4 answers</title>
+<text class=\"words\" x=\"20\" y=\"32\" font-size=\"18\">Latency of 4 answers</text>
+<text class=\"faint\" x=\"20\" y=\"58\">p50 1.10 ms   p90 12.3 ms   p99 12.3 ms   p99.9 12.3 ms   most 12.3 ms   </text>
+<text class=\"words\" x=\"180\" y=\"104\" text-anchor=\"end\">500 us to 1 ms</text><rect class=\"bar\" x=\"190\" y=\"90\" width=\"200\" height=\"18\" rx=\"2\"/><text class=\"faint\" x=\"398\" y=\"104\">1</text>
+<text class=\"words\" x=\"180\" y=\"128\" text-anchor=\"end\">1 ms to 2 ms</text><rect class=\"bar\" x=\"190\" y=\"114\" width=\"400\" height=\"18\" rx=\"2\"/><text class=\"faint\" x=\"598\" y=\"128\">2</text>
+<text class=\"words\" x=\"180\" y=\"152\" text-anchor=\"end\">2 ms to 5 ms</text><rect class=\"bar\" x=\"190\" y=\"138\" width=\"0\" height=\"18\" rx=\"2\"/><text class=\"faint\" x=\"198\" y=\"152\">0</text>
+<text class=\"words\" x=\"180\" y=\"176\" text-anchor=\"end\">5 ms to 10 ms</text><rect class=\"bar\" x=\"190\" y=\"162\" width=\"0\" height=\"18\" rx=\"2\"/><text class=\"faint\" x=\"198\" y=\"176\">0</text>
+<text class=\"words\" x=\"180\" y=\"200\" text-anchor=\"end\">10 ms to 20 ms</text><rect class=\"bar\" x=\"190\" y=\"186\" width=\"200\" height=\"18\" rx=\"2\"/><text class=\"faint\" x=\"398\" y=\"200\">1</text>
+</svg>
+";
+
+#[test]
+fn as_a_picture(rt: HostRuntime) {
+    let report = report(&rt, rt.alloc()).expect(&rt, "memory");
+    let picture = report.to_svg(rt.alloc()).expect(&rt, "memory");
+    assert!(rt;
+        picture.as_str().starts_with(
+            "<svg xmlns=\"http://www.w3.org/2000/svg\" viewBox=\"0 0 720 220\" "
+        )
+    );
+    assert!(rt; picture.as_str().ends_with(PICTURE));
+}

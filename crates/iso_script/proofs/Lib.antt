@@ -1,0 +1,4 @@
+mod First
+mod Garbage
+mod Turns
+mod Unread

@@ -1,0 +1,23 @@
+//! How the answers that come are counted.
+ghost use Rattle.std.specs.Prelude.{◌≡◌};
+ghost use Rattle.iso_traffic.specs.Counting.{counted};
+
+use iso_drive::Heard;
+use iso_report::{Tally, add_one};
+
+/// Counts an answer by what it came to, and whether its code differs from the one that closed a transaction before.
+pub(crate) fn count_heard(tally: &mut Tally, heard: Heard, differs: bool)
+    ensures { tally.new ≡ counted tally.old heard differs }
+{
+    add_one(&mut tally.answers);
+    match heard {
+        Heard::Closed { .. } => {}
+        Heard::Known => {
+            add_one(&mut tally.late);
+            if differs {
+                add_one(&mut tally.differing);
+            }
+        }
+        Heard::Foreign => add_one(&mut tally.foreign),
+    }
+}

@@ -1,0 +1,90 @@
+//! The engine of a run: what is done with what came, and what goes out.
+
+use crate::fate::Fates;
+use crate::fault::TrafficFault;
+use crate::inquiries::Inquiries;
+use crate::late::Late;
+use crate::lines::Lines;
+use crate::pace::{Pace, closing_moment};
+use crate::plan::Plan;
+use crate::reading::Read as Reading;
+use crate::sendings::Sendings;
+use iso_drive::{Counts, Draw, Driver};
+use iso_report::{Latencies, Tally};
+use iso_restarts::NoteLog;
+use iso_wire::Unpacker;
+use std::alloc::Global;
+use std::io::{Read, Write};
+
+/// The engine of a run, over connections on any streams. Its driver is handed in, and so are moments.
+#[derive(Drop)]
+pub(crate) struct Engine<'p, S> {
+    pub alloc: Global,
+    pub plan: Plan<'p>,
+    pub pace: Pace,
+    pub lines: Lines<S>,
+    pub unpacker: Unpacker<'p>,
+    /// What becomes of frames that go out.
+    pub going: Fates,
+    /// What becomes of answers that come in.
+    pub coming: Fates,
+    pub late: Late,
+    pub sendings: Sendings,
+    pub draw: Draw,
+    pub inquiries: Inquiries,
+    /// What the host told of each account before the first purchase.
+    pub before: Vec<Option<i64>>,
+    /// The frame that goes out.
+    pub frame: Vec<u8>,
+    /// What the frames told that came.
+    pub read: Vec<Reading>,
+    pub tally: Tally,
+    pub latencies: Latencies,
+}
+
+/// How many orders were made for these transactions: one each, and one for each that was or is being reversed.
+pub(crate) fn orders_of(counts: &Counts) -> usize {
+    let begun = counts
+        .waiting
+        .saturating_add(counts.approved)
+        .saturating_add(counts.declined);
+    let reversals = counts.reversing.saturating_add(counts.reversed);
+    begun.saturating_add(reversals.saturating_mul(2))
+}
+
+impl<'p, S: Read + Write + Drop> Engine<'p, S> {
+    /// The engine of a plan, at the beginning of a run that goes on with what its driver has.
+    pub fn new<L: NoteLog>(
+        alloc: Global,
+        plan: &Plan<'p>,
+        driver: &Driver<L>,
+    ) -> Result<Engine<'p, S>, TrafficFault> {
+        let earlier = orders_of(&driver.counts());
+        let mut tally = Tally::NONE;
+        tally.resumed = driver.open() as u64;
+        Ok(Engine {
+            alloc,
+            plan: *plan,
+            pace: Pace {
+                rate: plan.rate,
+                count: plan.count,
+                most_open: plan.most_open,
+                opening: 0,
+                closing: closing_moment(plan.seconds, plan.patience),
+            },
+            lines: Lines::new(alloc, plan.peers)?,
+            unpacker: Unpacker::new(alloc, plan.table),
+            going: Fates::new(plan.seed, 1, plan.faults),
+            coming: Fates::new(plan.seed, 2, plan.faults),
+            late: Late::new(alloc),
+            sendings: Sendings::new(alloc, earlier)?,
+            draw: Draw::new(plan.seed),
+            inquiries: Inquiries::none(alloc, plan.patience),
+            before: Vec::new(alloc),
+            frame: Vec::new(alloc),
+            read: Vec::new(alloc),
+            tally,
+            latencies: Latencies::new(alloc),
+        })
+    }
+}

@@ -1,0 +1,53 @@
+//! An order as a frame.
+ghost use Rattle.std.specs.Prelude.{◌≡◌, ◌≤◌, ℕ, List, length, drop, OnOk};
+ghost use Rattle.iso_wire.specs.Framing.{frame_of, header_size};
+ghost use Rattle.iso_wire.specs.Spelling.{PlainSpelling};
+ghost use Rattle.iso_order.specs.Requests.{request};
+
+use crate::fault::TrafficFault;
+use iso_order::{Order, request};
+use iso_table::Table;
+use iso_wire::{Header, PackFault, append_message, close_frame, open_frame};
+use std::alloc::Global;
+
+/// The fault of a request that isn't written.
+fn unwritten(fault: PackFault) -> TrafficFault {
+    match fault {
+        PackFault::Memory => TrafficFault::Memory,
+        _ => TrafficFault::Unwritten(fault),
+    }
+}
+
+/// Makes a frame of the room for a header and the body behind it.
+fn close(header: Header, frame: &mut Vec<u8>) -> Result<(), TrafficFault>
+    requires { header_size header ≤ length frame.old.items }
+    ensures { OnOk result (frame.new.items ≡ frame_of header (drop (header_size header) frame.old.items)) }
+{
+    match close_frame(header, frame.as_mut_slice()) {
+        Ok(()) => Ok(()),
+        Err(_) => Err(TrafficFault::TooLong),
+    }
+}
+
+/// Writes the frame of the message that asks for an order, in place of what was there. After an `Err` anything may be there.
+pub(crate) fn write_frame(
+    alloc: Global,
+    table: &Table,
+    header: Header,
+    order: &Order,
+    frame: &mut Vec<u8>,
+) -> Result<(), TrafficFault>
+    // The body of the frame spells the request.
+    ensures framed { OnOk result ((body : List ℕ) × PlainSpelling table.now (request order.now) body
+        × (frame.new.items ≡ frame_of header body)) }
+{
+    let Ok(message) = request(alloc, order) else {
+        return Err(TrafficFault::Memory);
+    };
+    frame.clear();
+    open_frame(header, frame)?;
+    if let Err(fault) = append_message(table, &message, frame) {
+        return Err(unwritten(fault));
+    }
+    close(header, frame)
+}

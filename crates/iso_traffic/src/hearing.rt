@@ -1,0 +1,208 @@
+//! What is done with what came.
+
+use crate::connection::State;
+use crate::counting::count_heard;
+use crate::engine::Engine;
+use crate::fate::{Comes, Fate};
+use crate::fault::TrafficFault;
+use crate::late::Held;
+use crate::moment::Moment;
+use crate::reading::{Read as Reading, take_frames};
+use iso_drive::{Driver, Heard};
+use iso_order::Told;
+use iso_report::add_one;
+use iso_restarts::NoteLog;
+use std::io::{Read, Write};
+
+/// How many pieces of one connection are read in one turn.
+const READS: usize = 16;
+
+impl<S: Read + Write + Drop> Engine<'_, S> {
+    /// The driver hears an answer.
+    pub fn hear<L: NoteLog>(
+        &mut self,
+        driver: &mut Driver<L>,
+        told: &Told,
+        now: Moment,
+    ) -> Result<(), TrafficFault> {
+        let Ok(heard) = driver.heard(told) else {
+            return Err(TrafficFault::Notes);
+        };
+        let differs = self.sendings.differs(told.key.stan, told.code);
+        count_heard(&mut self.tally, heard, differs);
+        if let Heard::Closed { .. } = heard {
+            if let Some(micros) = self.sendings.latency(told.key.stan, now.micros) {
+                self.latencies.add(micros)?;
+            }
+            self.sendings.close(told.key.stan, told.code);
+        }
+        Ok(())
+    }
+
+    /// An answer comes so much later, in milliseconds.
+    fn hear_later<L: NoteLog>(
+        &mut self,
+        driver: &mut Driver<L>,
+        told: &Told,
+        delay: u64,
+        now: Moment,
+    ) -> Result<(), TrafficFault> {
+        if delay == 0 {
+            return self.hear(driver, told, now);
+        }
+        add_one(&mut self.tally.delayed);
+        let held = Held::Came(told.key, told.code);
+        self.late.hold(now.millis().saturating_add(delay), held)?;
+        Ok(())
+    }
+
+    /// An answer has that fate.
+    fn hear_by<L: NoteLog>(
+        &mut self,
+        driver: &mut Driver<L>,
+        told: &Told,
+        fate: Fate,
+        now: Moment,
+    ) -> Result<(), TrafficFault> {
+        match fate.comes {
+            Comes::Never => {
+                add_one(&mut self.tally.lost);
+                Ok(())
+            }
+            Comes::Once(delay) => self.hear_later(driver, told, delay, now),
+            Comes::Twice(first, second) => {
+                add_one(&mut self.tally.repeated);
+                self.hear_later(driver, told, first, now)?;
+                self.hear_later(driver, told, second, now)
+            }
+        }
+    }
+
+    /// Takes what a frame told: whether its connection is cut behind it.
+    fn take<L: NoteLog>(
+        &mut self,
+        driver: &mut Driver<L>,
+        read: Reading,
+        now: Moment,
+    ) -> Result<bool, TrafficFault> {
+        match read {
+            Reading::Unreadable => {
+                add_one(&mut self.tally.unreadable);
+                Ok(false)
+            }
+            Reading::Answer(told, balance) => {
+                if self.inquiries.hear(&told, balance) {
+                    add_one(&mut self.tally.answers);
+                    return Ok(false);
+                }
+                let fate = self.coming.next();
+                self.hear_by(driver, &told, fate, now)?;
+                Ok(fate.cuts)
+            }
+        }
+    }
+
+    /// Takes what the frames told: whether their connection is cut behind one of them. What came behind that is lost.
+    fn take_all<L: NoteLog>(
+        &mut self,
+        driver: &mut Driver<L>,
+        read: &[Reading],
+        now: Moment,
+    ) -> Result<bool, TrafficFault> {
+        for told in read {
+            if self.take(driver, *told, now)? {
+                return Ok(true);
+            }
+        }
+        Ok(false)
+    }
+
+    /// Takes the frames that came at a place, and what they told, in the list that is lent. A header that can't be read closes
+    /// the connection, and so does a cut.
+    fn hear_frames<L: NoteLog>(
+        &mut self,
+        driver: &mut Driver<L>,
+        place: usize,
+        read: &mut Vec<Reading>,
+        now: Moment,
+    ) -> Result<(), TrafficFault> {
+        let Some(connection) = self.lines.get_mut(place) else {
+            return Ok(());
+        };
+        let is_bad = take_frames(
+            self.alloc,
+            self.plan.header,
+            &mut self.unpacker,
+            &mut connection.came,
+            read,
+        )?;
+        let is_cut = self.take_all(driver, read, now)?;
+        read.clear();
+        if is_cut {
+            add_one(&mut self.tally.cut);
+        } else if is_bad {
+            add_one(&mut self.tally.bad_frames);
+        }
+        if is_cut || is_bad {
+            self.lines.drop_at(place, now.millis());
+        }
+        Ok(())
+    }
+
+    /// Reads once at a place: whether more may have come.
+    fn read_once(&mut self, place: usize) -> Result<bool, TrafficFault> {
+        let Some(connection) = self.lines.get_mut(place) else {
+            return Ok(false);
+        };
+        if !connection.may_have_come || connection.state == State::Asked {
+            return Ok(false);
+        }
+        connection.read()?;
+        Ok(connection.may_have_come && connection.state != State::Closed)
+    }
+
+    /// Reads at a place what came, and takes its frames.
+    fn read_at<L: NoteLog>(
+        &mut self,
+        driver: &mut Driver<L>,
+        place: usize,
+        read: &mut Vec<Reading>,
+        now: Moment,
+    ) -> Result<(), TrafficFault> {
+        for _ in 0..READS {
+            let more = self.read_once(place)?;
+            self.hear_frames(driver, place, read, now)?;
+            if !more {
+                return Ok(());
+            }
+        }
+        Ok(())
+    }
+
+    /// Drops the connection at a place, if it was closed.
+    pub fn drop_closed(&mut self, place: usize, now: Moment) {
+        let is_closed = match self.lines.get_mut(place) {
+            Some(connection) => connection.state == State::Closed,
+            None => false,
+        };
+        if is_closed {
+            add_one(&mut self.tally.closed);
+            self.lines.drop_at(place, now.millis());
+        }
+    }
+
+    /// Reads what came on all connections, and takes the frames.
+    pub fn read_all<L: NoteLog>(
+        &mut self,
+        driver: &mut Driver<L>,
+        now: Moment,
+    ) -> Result<(), TrafficFault> {
+        let mut read = std::mem::replace(&mut self.read, Vec::new(self.alloc));
+        for place in 0..self.lines.len() {
+            self.read_at(driver, place, &mut read, now)?;
+            self.drop_closed(place, now);
+        }
+        self.read = read;
+        Ok(())
+    }
+}

@@ -1,0 +1,237 @@
+//! The subcommand that drives a host.
+
+use super::arguments::{HEADERS, flag, named_argument, option};
+use clap::builder::ValueParser;
+use clap::{Arg, Command};
+use rumpadol_drive::{
+    MOST_ACQUIRER, MOST_CONNECTIONS, MOST_COUNT, MOST_OPEN, MOST_PATIENCE, MOST_RATE, MOST_TIME,
+};
+use std::alloc::{AllocError, Global};
+
+/// What stands behind the help.
+const EXAMPLES: &str =
+    "An order that gets no answer in time is sent again, then reversed, until the transaction is closed. With --journal each
+order is kept before it is sent, and the next run with the same file goes on with what a crash left open; without it, all is
+forgotten at the end of the run. The table, the header and the accounts are those that the host has.
+
+Examples:
+  rumpadol drive 127.0.0.1:8583 --table bcd87 --header binary2 --acquirer 12345 --accounts accounts.json --peers 8
+      1,000 purchases over 8 connections, as fast as they are answered, and how long answers took
+  rumpadol drive 127.0.0.1:8583 --table bcd87 --header binary2 --acquirer 12345 --accounts accounts.json \\
+      --rate 200 --seconds 60 --count 10000 --lose 0.05 --repeat 0.05 --delay 50..200 --cut 0.01 --seed 7 --check
+      what networks do, to 200 purchases a second; in the end both ends have to agree on every account
+  rumpadol drive 127.0.0.1:8583 --table bcd87 --header binary2 --acquirer 12345 --accounts accounts.json \\
+      --journal day.diary --new --json --picture day.svg
+      an acquirer that outlives its own crashes, its report as JSON and the histogram as a picture
+  rumpadol drive 127.0.0.1:8583 --table bcd87 --header binary2 --frames day.frames --expect answers.frames
+      a day that is sent again, and where the answers of the host aren't those of a host before
+
+Ends with status 0 where all transactions are closed, both ends agree where --check asks, and each answer is the one that is
+expected, and with 1 where not.";
+
+/// A word about buying.
+fn buying<'a>(
+    alloc: Global,
+    id: &'static str,
+    shown: &'static str,
+    help: &'static str,
+) -> Result<Arg<'a>, AllocError> {
+    option(alloc, id, shown, help).conflicts_with("frames")
+}
+
+/// A word about buying with a whole number up to the most.
+fn number<'a>(
+    alloc: Global,
+    id: &'static str,
+    shown: &'static str,
+    least: u64,
+    most: u64,
+    help: &'static str,
+) -> Result<Arg<'a>, AllocError> {
+    Ok(buying(alloc, id, shown, help)?.value_parser(ValueParser::Unsigned(least, most)))
+}
+
+/// A word about buying that is given or not.
+fn buying_flag<'a>(
+    alloc: Global,
+    id: &'static str,
+    help: &'static str,
+) -> Result<Arg<'a>, AllocError> {
+    flag(alloc, id, help).conflicts_with("frames")
+}
+
+/// The words that say which host it is, and how it writes.
+fn with_host<'a>(alloc: Global, command: Command<'a>) -> Result<Command<'a>, AllocError> {
+    let address = named_argument(
+        alloc,
+        "address",
+        "ADDRESS",
+        "Where the host listens, as 127.0.0.1:8583 or [::1]:8583",
+    );
+    let table = option(
+        alloc,
+        "table",
+        "TABLE",
+        "How messages are written: ascii87, bcd87, or a table's document",
+    );
+    let header = option(
+        alloc,
+        "header",
+        "HEADER",
+        "How each frame counts the bytes of its message",
+    );
+    command
+        .arg(address)?
+        .arg(table.required(true))?
+        .arg(header.required(true).value_parser(HEADERS))
+}
+
+/// The words that say who buys, and with which accounts.
+fn with_buyer<'a>(alloc: Global, command: Command<'a>) -> Result<Command<'a>, AllocError> {
+    let acquirer = number(
+        alloc,
+        "acquirer",
+        "NUMBER",
+        0,
+        MOST_ACQUIRER,
+        "The acquirer's number (element 32)",
+    )?;
+    let accounts = buying(
+        alloc,
+        "accounts",
+        "FILE",
+        "The host's document of accounts, all of which are bought with",
+    )?;
+    command
+        .arg(acquirer.required_unless_present("frames")?)?
+        .arg(accounts.required_unless_present("frames")?)
+}
+
+/// The words that say how much is bought.
+fn with_amount<'a>(alloc: Global, command: Command<'a>) -> Result<Command<'a>, AllocError> {
+    let count = number(
+        alloc,
+        "count",
+        "N",
+        0,
+        u64::from(MOST_COUNT),
+        "So many purchases at most; 0 closes what an earlier run left open",
+    )?;
+    let amount = buying(
+        alloc,
+        "amount",
+        "LEAST..MOST",
+        "What a purchase costs, in minor units",
+    )?;
+    command
+        .arg(count.default_value("1000"))?
+        .arg(amount.default_value("100..10000"))
+}
+
+/// The words that say how fast it is bought.
+fn with_pace<'a>(alloc: Global, command: Command<'a>) -> Result<Command<'a>, AllocError> {
+    let peers = number(
+        alloc,
+        "peers",
+        "N",
+        1,
+        MOST_CONNECTIONS,
+        "Over so many connections",
+    )?;
+    let rate = number(
+        alloc,
+        "rate",
+        "N",
+        1,
+        u64::from(MOST_RATE),
+        "So many purchases begin in a second; without it, as many as may be open",
+    )?;
+    let open = number(
+        alloc,
+        "open",
+        "N",
+        1,
+        MOST_OPEN,
+        "So many transactions may be open at once; without it, 16 a connection",
+    )?;
+    let seconds = number(
+        alloc,
+        "seconds",
+        "S",
+        1,
+        MOST_TIME,
+        "The whole run takes so long at most",
+    )?;
+    let patience = option(
+        alloc,
+        "patience",
+        "MILLISECONDS",
+        "An answer is waited for so long",
+    )
+    .value_parser(ValueParser::Unsigned(1, MOST_PATIENCE));
+    command
+        .arg(peers.default_value("1"))?
+        .arg(rate)?
+        .arg(open)?
+        .arg(seconds.default_value("600"))?
+        .arg(patience.default_value("2000"))
+}
+
+/// A chance.
+fn chance<'a>(alloc: Global, id: &'static str, help: &'static str) -> Result<Arg<'a>, AllocError> {
+    Ok(buying(alloc, id, "CHANCE", help)?.default_value("0"))
+}
+
+/// The words that say what is done to the traffic on purpose.
+fn with_faults<'a>(alloc: Global, command: Command<'a>) -> Result<Command<'a>, AllocError> {
+    let lose = "How likely each frame is lost, of both directions, from 0 to 1, as 0.05";
+    let cut = "How likely the connection is cut behind a frame";
+    let delay = "How many milliseconds each frame is held back";
+    let seed = "From it amounts, accounts and faults are drawn; the same seed draws the same";
+    command
+        .arg(chance(alloc, "lose", lose)?)?
+        .arg(chance(alloc, "repeat", "How likely each frame comes twice")?)?
+        .arg(chance(alloc, "cut", cut)?)?
+        .arg(buying(alloc, "delay", "A..B", delay)?.default_value("0..0"))?
+        .arg(number(alloc, "seed", "NUMBER", 0, u64::MAX, seed)?.default_value("1"))
+}
+
+/// The words that say what is told and kept.
+fn with_files<'a>(alloc: Global, command: Command<'a>) -> Result<Command<'a>, AllocError> {
+    let check =
+        "Asks the host for each balance in the end, and compares: no one else may use the accounts meanwhile";
+    let picture = "Draws the histogram of the times as SVG";
+    let journal = "The acquirer's diary, where each order is kept before it is sent";
+    let new = "Makes the diary, where nothing has its name yet";
+    command
+        .arg(buying_flag(alloc, "check", check)?)?
+        .arg(flag(alloc, "json", "Tells the report as JSON"))?
+        .arg(buying(alloc, "picture", "FILE", picture)?)?
+        .arg(buying(alloc, "journal", "FILE", journal)?)?
+        .arg(buying_flag(alloc, "new", new)?.requires_arg("journal")?)
+}
+
+/// The words about a day whose frames are sent again.
+fn with_day<'a>(alloc: Global, command: Command<'a>) -> Result<Command<'a>, AllocError> {
+    let frames = "Sends the frames of this file again, in place of buying";
+    let expect = "The frames that the host is expected to answer them with";
+    let clear = "Shows account numbers, tracks, PIN data and chip data in full";
+    command
+        .arg(option(alloc, "frames", "FILE", frames).requires_arg("expect")?)?
+        .arg(option(alloc, "expect", "FILE", expect).requires_arg("frames")?)?
+        .arg(flag(alloc, "clear", clear).requires_arg("frames")?)
+}
+
+/// `drive`
+pub fn drive_command<'a>(alloc: Global) -> Result<Command<'a>, AllocError> {
+    let command = Command::new(alloc, "drive")
+        .about("Drives a host as an acquirer, over many connections and through what networks do")
+        .after_help(EXAMPLES);
+    let command = with_host(alloc, command)?;
+    let command = with_buyer(alloc, command)?;
+    let command = with_amount(alloc, command)?;
+    let command = with_pace(alloc, command)?;
+    let command = with_faults(alloc, command)?;
+    let command = with_files(alloc, command)?;
+    with_day(alloc, command)
+}

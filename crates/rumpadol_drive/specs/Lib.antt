@@ -1,0 +1,3 @@
+pub mod Buyers
+pub mod Diary
+pub mod Numbers

@@ -1,0 +1,212 @@
+//! The diary of an acquirer, at a path.
+ghost use Rattle.std.specs.Prelude.{◌≡◌, true, false};
+ghost use Rattle.rumpadol_tables.specs.Stop.{status_of};
+ghost use Rattle.rumpadol_drive.specs.Diary.{is_refusal};
+
+use iso_diary::{Heading, HeadingFault, OpenError, Opened, create, open};
+use iso_gather::GatheredDisk;
+use iso_log::LogError;
+use iso_service::FileFault;
+use rumpadol_journals::{Disk, begin_at, finish_at, give_up_at, open_at};
+use rumpadol_tables::{Stop, failed, refused};
+use sqlite_std_file::File;
+use std::alloc::Global;
+use thiserror::Error;
+
+/// The version of the acquirer's rules. Whoever changes what an acquirer does with its notes raises it: a diary under other
+/// rules is refused.
+const RULES: u16 = 1;
+
+/// For how many notes a new diary has room: a megabyte.
+const FIRST_ROOM: usize = 8_192;
+
+/// At least as many notes as are ever kept together: three for each transaction that may be open.
+pub(crate) const LARGEST_GROUP: usize = 65_536;
+
+/// The files of a device, as an acquirer wants them for its diary. One that is opened is this process's alone until it is
+/// dropped.
+pub trait Diaries {
+    /// An open file.
+    type Paper: sqlite_disk::Disk + Drop;
+
+    /// Opens the file at a path, which has to be there.
+    fn open_diary(&self, path: &str) -> Result<Self::Paper, FileFault>;
+
+    /// Makes an empty file for the one that is to have this path. Until `finish_diary` it has another name.
+    fn begin_diary(&self, path: &str) -> Result<Self::Paper, FileFault>;
+
+    /// Gives the file that was begun for a path its name, so that it stays after a crash.
+    fn finish_diary(&self, path: &str) -> Result<(), FileFault>;
+
+    /// Takes away what was begun for a path, as far as that can be done.
+    fn give_up_diary(&self, path: &str);
+}
+
+impl<'a> Diaries for Disk<'a, HostRuntime> {
+    type Paper = GatheredDisk<File>;
+
+    fn open_diary(&self, path: &str) -> Result<GatheredDisk<File>, FileFault> {
+        open_at(self.rt, path)
+    }
+
+    fn begin_diary(&self, path: &str) -> Result<GatheredDisk<File>, FileFault> {
+        begin_at(self.rt, path)
+    }
+
+    fn finish_diary(&self, path: &str) -> Result<(), FileFault> {
+        finish_at(self.rt, path)
+    }
+
+    fn give_up_diary(&self, path: &str) {
+        give_up_at(self.rt, path);
+    }
+}
+
+/// Why there is no diary to go on with.
+#[derive(Clone, Copy, Debug, PartialEq, Eq, Drop, Error)]
+pub(crate) enum DiaryFault {
+    /// Nothing has this name.
+    #[error("there is no such file; look at the path, or make a new diary with --new")]
+    Missing,
+    /// Something has this name already.
+    #[error("it is there already, and --new makes a diary only where nothing is; leave --new out to go on with it, or name another file")]
+    Exists,
+    /// Another process has it open.
+    #[error("another run or host has it open; end that one, or name another file")]
+    Busy,
+    /// This user may not write there.
+    #[error("this user may not read and write it and make files beside it; give it the right to")]
+    Denied,
+    /// Another fault of the file.
+    #[error("{0}")]
+    File(FileFault),
+    /// The file is no diary, or not this acquirer's.
+    #[error("{0}")]
+    Other(HeadingFault),
+    /// A record is no note at its place.
+    #[error("the diary is damaged: record {0} is no note at its place (the heading is record 0); no record is changed; bring back a copy")]
+    Damaged(usize),
+    /// The notes are none that an acquirer can have written.
+    #[error("the diary is damaged: no acquirer can have written these notes; no record is changed; bring back a copy")]
+    Notes,
+    /// A write or a sync failed while it was made, or a call of its device later.
+    #[error("its device failed; see that it is well and has 2 MB of room")]
+    Device,
+    /// The device may leave other bytes than the old ones and those that were written.
+    #[error("its device doesn't keep the old bytes or the new ones when it is cut off; name a file on another one")]
+    Unfit,
+    /// Memory ran out.
+    #[error("memory ran out")]
+    Memory,
+}
+
+impl DiaryFault {
+    /// Whether what was given is refused, and it isn't a device, the right to it, or memory.
+    fn is_refusal(&self) -> bool
+        ensures { result ≡ is_refusal self.now }
+    {
+        matches!(
+            self,
+            DiaryFault::Exists | DiaryFault::Other(_) | DiaryFault::Damaged(_) | DiaryFault::Notes
+        )
+    }
+}
+
+/// Why a file isn't opened or made.
+fn of_file(fault: FileFault) -> DiaryFault {
+    match fault {
+        FileFault::Missing => DiaryFault::Missing,
+        FileFault::Exists => DiaryFault::Exists,
+        FileFault::Busy => DiaryFault::Busy,
+        FileFault::Denied => DiaryFault::Denied,
+        FileFault::Memory => DiaryFault::Memory,
+        fault => DiaryFault::File(fault),
+    }
+}
+
+/// Why a diary isn't opened.
+fn of_open(error: OpenError) -> DiaryFault {
+    match error {
+        OpenError::Memory => DiaryFault::Memory,
+        OpenError::Disk => DiaryFault::Device,
+        OpenError::Unfit => DiaryFault::Unfit,
+        OpenError::Other(fault) => DiaryFault::Other(fault),
+        OpenError::Damaged(place) => DiaryFault::Damaged(place),
+    }
+}
+
+/// How the program stops where there is no diary to go on with.
+pub(crate) fn no_diary(alloc: Global, path: &str, fault: DiaryFault) -> Stop
+    ensures refused { status_of result ≡ 1 → is_refusal fault ≡ true }
+    ensures failed { is_refusal fault ≡ false → status_of result ≡ 3 }
+{
+    if matches!(fault, DiaryFault::Memory) {
+        return Stop::Memory;
+    }
+    if fault.is_refusal() {
+        return refused(format!(in alloc; "rumpadol: {path}: {fault}\n"));
+    }
+    failed(format!(in alloc; "rumpadol: {path}: {fault}\n"))
+}
+
+/// The heading of an acquirer's diary.
+fn heading_of(acquirer: u64) -> Heading {
+    Heading {
+        rules: RULES,
+        acquirer,
+    }
+}
+
+/// Writes a new diary into the file that was begun for a path.
+fn write_diary<D: Diaries>(diaries: &D, path: &str, heading: &Heading) -> Result<(), DiaryFault> {
+    let paper = match diaries.begin_diary(path) {
+        Ok(paper) => paper,
+        Err(fault) => return Err(of_file(fault)),
+    };
+    // it is open until it has its name, so that no other process takes it for its own
+    let made = match create(paper, heading, FIRST_ROOM) {
+        Ok(made) => made,
+        Err(LogError::Unfit) => return Err(DiaryFault::Unfit),
+        Err(_) => return Err(DiaryFault::Device),
+    };
+    let named = diaries.finish_diary(path);
+    drop(made);
+    match named {
+        Ok(()) => Ok(()),
+        Err(fault) => Err(of_file(fault)),
+    }
+}
+
+/// Makes a diary at a path where nothing is. It has that name only once it is whole and synced.
+pub(crate) fn make_diary<D: Diaries>(
+    diaries: &D,
+    path: &str,
+    acquirer: u64,
+) -> Result<(), DiaryFault> {
+    match write_diary(diaries, path, &heading_of(acquirer)) {
+        Ok(()) => Ok(()),
+        Err(DiaryFault::Exists) => Err(DiaryFault::Exists),
+        Err(DiaryFault::Busy) => Err(DiaryFault::Busy),
+        Err(fault) => {
+            diaries.give_up_diary(path);
+            Err(fault)
+        }
+    }
+}
+
+/// Opens the diary at a path.
+pub(crate) fn open_diary<D: Diaries>(
+    alloc: Global,
+    diaries: &D,
+    path: &str,
+    acquirer: u64,
+) -> Result<Opened<D::Paper>, DiaryFault> {
+    let paper = match diaries.open_diary(path) {
+        Ok(paper) => paper,
+        Err(fault) => return Err(of_file(fault)),
+    };
+    match open(alloc, paper, &heading_of(acquirer), LARGEST_GROUP) {
+        Ok(opened) => Ok(opened),
+        Err((error, _)) => Err(of_open(error)),
+    }
+}
