@@ -7,6 +7,7 @@ pub mod Changes
 pub mod NumberLaws
 pub mod Sets
 pub mod Numbered
+pub mod Pairs
 pub mod Types
 pub mod ElementLaws
 pub mod WordLaws

@@ -1,6 +1,6 @@
 //! Numbers in decimal.
 
-ghost use Rattle.std.specs.Prelude.{◌≡◌, ◌-◌, ◌^◌, ◌<◌, ◌≤◌, ◌⊎◌, true, IfSome, length};
+ghost use Rattle.std.specs.Prelude.{◌≡◌, ◌+◌, ◌-◌, ◌/◌, ◌%◌, ◌^◌, ◌<◌, ◌≤◌, ◌⊎◌, ◌∷◌, true, IfSome, length, take, drop};
 ghost use Rattle.std.specs.List.{list_all};
 ghost use Rattle.iso_parts.specs.Class.{is_digit};
 ghost use Rattle.iso_wire.specs.Decimal.{decimal, are_digits, number, number_in};
@@ -18,17 +18,54 @@ pub fn digits_of(v: u64) -> u8
     }
 }
 
+/// The two digits of each number below 100, one number after the other.
+static PAIRS: [u8; 200] =
+    *b"00010203040506070809101112131415161718192021222324252627282930313233343536373839404142434445464748495051525354555657585960616263646566676869707172737475767778798081828384858687888990919293949596979899";
+
+/// Writes the two digits of a number below 100 at a place.
+#[inline]
+fn write_pair(out: &mut [u8], at: usize, pair: u32)
+    requires pair { pair < 100 }
+    requires within { at + 2 ≤ length out.old }
+    ensures before { take at out.new ≡ take at out.old }
+    ensures written { drop at out.new ≡ (48 + pair / 10) ∷ (48 + pair % 10) ∷ drop (at + 2) out.old }
+{
+    let place = pair as usize * 2;
+    out[at] = PAIRS[place];
+    out[at + 1] = PAIRS[place + 1];
+}
+
+/// Writes the last digits where there are at most three places.
+fn write_short(out: &mut [u8], v: u64)
+    requires { length out.old ≤ 3 }
+    ensures { out.new ≡ decimal (length out.old) v }
+{
+    let (last, before) = (v % 10, v / 10);
+    match out.len() {
+        0 => {}
+        1 => out[0] = b'0' + last as u8,
+        2 => write_pair(out, 0, (v % 100) as u32),
+        _ => {
+            out[2] = b'0' + last as u8;
+            write_pair(out, 0, (before % 100) as u32);
+        }
+    }
+}
+
 /// Writes the number's last decimal digits as characters, as many as there are places. Takes no memory.
 pub fn write_decimal(out: &mut [u8], v: u64)
     ensures { out.new ≡ decimal (length out.old) v }
 {
     let mut rest = v;
     let mut at = out.len();
-    while at > 0 {
-        at -= 1;
-        out[at] = b'0' + (rest % 10) as u8;
-        rest /= 10;
+    while at >= 4 {
+        at -= 4;
+        let four = (rest % 10_000) as u32;
+        rest /= 10_000;
+        write_pair(out, at, four / 100);
+        write_pair(out, at + 2, four % 100);
     }
+    write_short(&mut out[..at], rest);
 }
 
 fn is_digit(byte: u8) -> bool
