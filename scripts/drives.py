@@ -139,18 +139,20 @@ class Drives:
             print(f"BAD {name}: {wrong}: status {status} after {took:.1f} s, {faults!r}, {told}")
 
     def another_posts(self):
-        """Another acquirer posts to an account meanwhile, so the books differ, and the account is named."""
+        """Another acquirer posts to an account meanwhile, so the books differ: the account is named, and the messages in question are."""
         self.runs += 1
         with host(self.command, self.folder, HONEST) as port:
             words = ["drive", f"{HERE}:{port}", "--table", SPELLING.name, "--header", SPELLING.header, "--acquirer", "12345", "--accounts",
-                     "accounts.json", "--rate", "50", "--count", "100", "--check"]
+                     "accounts.json", "--rate", "50", "--count", "100", "--lose", "0.3", "--patience", "100", "--check"]
             run = subprocess.Popen([self.command, *words], cwd=self.folder, stdout=subprocess.PIPE, stderr=subprocess.PIPE)
             time.sleep(1)
             peer = Peer(port)
             peer.ask(SPELLING, asked(payment("debit", 1, 777, b"4111111111111111", 1234)))
             peer.close()
             out, told = run.communicate(timeout=WAIT)
-        if run.returncode != 1 or b"411111******1111" not in out + told or b"4111111111111111" in out + told:
+        shown = [json.loads(line)["mti"] for line in out.splitlines() if line.startswith(b"    {")]
+        names = b"411111******1111" in out + told and b"4111111111111111" not in out + told
+        if run.returncode != 1 or not names or "0200" not in shown or "0420" not in shown:
             self.bad += 1
             print(f"BAD another posts: status {run.returncode}, {out!r} {told!r}")
 

@@ -5,6 +5,7 @@ pub mod Counts
 pub mod Doubtful
 pub mod Driving
 pub mod Due
+pub mod Entries
 pub mod Laws
 pub mod Made
 pub mod Open

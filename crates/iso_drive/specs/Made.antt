@@ -1,28 +1,19 @@
 -- The orders of an acquirer, as a driver has them by trace number.
 -- Inner: bodies and proofs cite it, and no public clause does but by `IsDriving`.
 use Rattle.std.specs.Prelude.{◌≡◌, ◌≤◌, ◌+◌, ◌==◌, ◌||◌, ℕ, List, [], ◌∷◌, length, map, Option, Some, None, if◌then◌else◌}
-use Rattle.iso_order.specs.declared.act.Act.{Act}
-use Rattle.iso_order.specs.declared.act.Act.TheVariants.{Debit, Credit, Inquiry, Undo, Complete}
-use Rattle.iso_order.specs.declared.act.Money.{Money}
 use Rattle.iso_acquirer.specs.declared.slot.Slot.{Slot}
 use Rattle.iso_acquirer.specs.declared.slot.Role.{Role as Part}
 use Rattle.iso_acquirer.specs.declared.slot.Role.TheVariants as part
 use Rattle.iso_acquirer.specs.declared.state.State.{State}
 use Rattle.iso_acquirer.specs.declared.state.State.TheVariants.{Waiting, Reversing, Approved, Declined, Reversed}
 use Rattle.iso_acquirer.specs.Acquirer.{state_by}
+pub use Rattle.iso_drive.specs.Entries.{debit_in}
+use Rattle.iso_drive.specs.declared.entry.Entry.{Entry}
 use Rattle.iso_drive.specs.declared.heard.Heard.{Heard}
 use Rattle.iso_drive.specs.declared.heard.Heard.TheVariants.{Closed, Known}
 use Rattle.iso_drive.specs.declared.made.Made.{Made}
 use Rattle.iso_drive.specs.declared.made.Role.{Role}
 use Rattle.iso_drive.specs.declared.made.Role.TheVariants.{Payment, Reversal}
-
--- what a debit takes
-abbrev pub debit_in : Act → Option Money
-debit_in (Debit m) = Some m
-debit_in (Credit m) = None
-debit_in (Inquiry m) = None
-debit_in (Undo original left) = None
-debit_in (Complete m hold) = None
 
 abbrev pub role_of : Part → Role
 role_of (part.Transaction stage) = Payment (state_by stage)
@@ -31,6 +22,15 @@ role_of (part.Reversal stan) = Reversal stan
 -- an order of the acquirer, as the driver has it
 abbrev pub made_of : Slot → Made
 made_of s = record { key = s.order.key; debit = debit_in s.order.act; role = role_of s.role }
+
+-- the trace number of the transaction that a reversal takes back
+abbrev pub reversed_by : Role → Option ℕ
+reversed_by (Payment state) = None
+reversed_by (Reversal stan) = Some stan
+
+-- an order that the driver has, as it is told to others
+abbrev pub entry_by : Made → Entry
+entry_by m = record { key = m.key; debit = m.debit; reverses = reversed_by m.role }
 
 -- the orders have the trace numbers from n on
 abbrev pub AreInRow : ℕ → List Slot → Type 0

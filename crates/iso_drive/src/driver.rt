@@ -1,7 +1,7 @@
 //! An acquirer that is driven by the clock.
 ghost use Rattle.std.specs.Prelude.{◌≡◌, ◌≢◌, ◌≤◌, ◌⊎◌, ◌↔◌, ◌+◌, ℕ, List, [], OnOk, IfOk, IfErr, IfSome, IsTrue, length, option_map, slice_get};
 ghost use Rattle.std.specs.List.{AllByRecursion};
-ghost use Rattle.iso_acquirer.specs.Acquirer.{IsFair, debit_of};
+ghost use Rattle.iso_acquirer.specs.Acquirer.{IsFair, debit_of, slot_at};
 ghost use Rattle.iso_acquirer.specs.Agreement.{approved_total};
 ghost use Rattle.iso_restarts.specs.declared.note.Note.{Note};
 ghost use Rattle.iso_restarts.specs.Diary.{MayLeave, party_after, in_memory, unsent, begins, hears, times_out};
@@ -14,6 +14,7 @@ ghost use Rattle.iso_drive.specs.Driving.{Driving, slots_in, at_moment, begins_n
 ghost use Rattle.iso_drive.specs.Driving.{driving_of, log_of, is_stopped, IsDriving, Remains, Stops, IsStarted, WakesSome, MayLeaveSome};
 ghost use Rattle.iso_drive.specs.Doubtful.{doubtful_of};
 ghost use Rattle.iso_drive.specs.Due.{due_by};
+ghost use Rattle.iso_drive.specs.Entries.{entry_of};
 ghost use Rattle.iso_drive.specs.Open.{AreAllClosed};
 
 use crate::board::{Board, begin, board_after, make_room, settle};
@@ -21,6 +22,7 @@ use crate::books::approved_total;
 use crate::counts::{Counts, count, declined_with};
 use crate::doubtful::doubtful_of;
 use crate::due::{Due, due_by, moment_after, put_off};
+use crate::entry::{Entry, entry_at};
 use crate::heard::Heard;
 use crate::made::{judge, time_out};
 use iso_acquirer::AcqFault;
@@ -326,6 +328,16 @@ impl<L: NoteLog> Driver<L> {
     {
         approved_total(&self.board.made, pan)
     }
+
+    /// The order of a trace number, where its acquirer made one. Takes no memory.
+    pub fn entry(&self, stan: u32) -> Option<Entry>
+        ensures { IsDriving L.is_ready L.synced L.pending self.now
+            → result ≡ option_map entry_of
+            (slot_at (slots_in (driving_of L.synced L.pending self.now)) stan) }
+    {
+        entry_at(&self.board.made, stan)
+    }
+
     /// The trace numbers of an account's transactions that no answer to their own orders decided: those that are open, and
     /// those that were reversed. They are the ones to look at where both ends differ on the account.
     pub fn doubtful(&self, alloc: Global, pan: &Pan) -> Result<Vec<u32>, AllocError>

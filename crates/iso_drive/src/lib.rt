@@ -6,6 +6,7 @@
 //!   answer, and notes it where it says anything new; `keep` gives the orders that may be sent.
 //! - `Heard`: what an answer came to.
 //! - `Counts`: how far its transactions got. `Driver::spent` is what its own books say of an account.
+//! - `Entry`: one of its orders, by its trace number.
 //! - `Draw`: amounts and accounts by a seed.
 //! - `laws`: a driver's calls are events of its acquirer, so both ends go on to agree.
 #![tactic(auto)]
@@ -17,6 +18,7 @@ mod doubtful;
 mod draw;
 mod driver;
 mod due;
+mod entry;
 mod heard;
 pub mod laws;
 mod made;
@@ -27,4 +29,5 @@ pub use counts::Counts;
 pub use draw::Draw;
 pub use driver::Driver;
 pub use due::Due;
+pub use entry::Entry;
 pub use heard::Heard;

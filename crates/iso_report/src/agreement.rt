@@ -44,6 +44,14 @@ fn add_traces(text: &mut String, doubt: &Doubt) -> Result<(), AllocError> {
     text.push_str("\n")
 }
 
+/// Adds the messages of the first of them, a line each.
+fn add_messages(text: &mut String, doubt: &Doubt) -> Result<(), AllocError> {
+    for message in &doubt.messages {
+        write!(text, "    {message}\n")?;
+    }
+    Ok(())
+}
+
 /// Adds an account on which the ends differ. Its number is masked.
 fn add_difference(text: &mut String, of: &AccountBooks, doubt: &Doubt) -> Result<(), AllocError> {
     let AccountBooks {
@@ -56,6 +64,7 @@ fn add_difference(text: &mut String, of: &AccountBooks, doubt: &Doubt) -> Result
         write!(text, "account {pan:?} differs: the host tells {told}, ")?;
         write!(text, "our books say {opening} less {spent}\n")?;
         add_traces(text, doubt)?;
+        add_messages(text, doubt)?;
     }
     Ok(())
 }

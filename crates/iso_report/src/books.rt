@@ -70,4 +70,6 @@ pub struct Doubt {
     pub place: usize,
     /// The trace numbers (element 11) of its transactions that are open or were reversed.
     pub traces: Vec<u32>,
+    /// The messages of the first of them, each a line of JSON with its card data masked: a request, and its reversal behind it.
+    pub messages: Vec<String>,
 }

@@ -114,6 +114,18 @@ fn traces_value(alloc: Global, traces: &[u32]) -> Result<Value, AllocError> {
     Ok(Value::Array(values))
 }
 
+/// The list of messages, each as the object that its line is.
+fn messages_value(alloc: Global, messages: &[String]) -> Result<Value, AllocError> {
+    let mut values = Vec::new(alloc);
+    for message in messages {
+        match serde_json::from_str(alloc, message.as_str()) {
+            Ok(value) => values.push(value)?,
+            Err(_) => values.push(Value::Null)?,
+        }
+    }
+    Ok(Value::Array(values))
+}
+
 /// The list of the first accounts on which the ends differ, by their places in the document, from 1 on.
 fn differing_value(
     alloc: Global,
@@ -125,8 +137,10 @@ fn differing_value(
         if let Some(of) = books.get(doubt.place) {
             let spent = u64::try_from(of.spent).unwrap_or(u64::MAX);
             let traces = traces_value(alloc, &doubt.traces)?;
+            let messages = messages_value(alloc, &doubt.messages)?;
             values.push(json!(in alloc; {
                 "account": doubt.place.saturating_add(1),
+                "messages": messages,
                 "opening": of.opening,
                 "spent": spent,
                 "told": of.told,

@@ -9,6 +9,7 @@ mod asked;
 mod buyers;
 mod day;
 mod diary;
+mod in_question;
 mod numbers;
 mod performing;
 mod picture;

@@ -201,6 +201,7 @@ fn drive_over<'a, R: Net + Clock, L: NoteLog, F: Write>(
             alloc,
             &ready.words,
             &ready.asked,
+            &ready.table,
             ready.most_open(),
             &ready.buyers,
             driver,

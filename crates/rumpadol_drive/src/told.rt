@@ -2,12 +2,14 @@
 
 use crate::asked::Asked;
 use crate::buyers::Buyers;
+use crate::in_question::messages_of;
 use crate::words::{DriveWords, header_word};
 use iso_drive::Driver;
 use iso_report::{
     AccountBooks, Declined, Doubt, Ended, Latencies, Report, Settings, Tally, Verdict,
 };
 use iso_restarts::NoteLog;
+use iso_table::Table;
 use iso_traffic::Outcome;
 use std::alloc::{AllocError, Global};
 
@@ -102,6 +104,7 @@ fn books_of<L: NoteLog>(
 /// What to look at of the first accounts on which both ends differ.
 fn doubts_of<L: NoteLog>(
     alloc: Global,
+    table: &Table,
     driver: &Driver<L>,
     books: &[AccountBooks],
 ) -> Result<Vec<Doubt>, AllocError> {
@@ -109,7 +112,12 @@ fn doubts_of<L: NoteLog>(
     for (place, of) in books.iter().enumerate() {
         if doubts.len() < MOST_TOLD && of.verdict() == Verdict::Differ {
             let traces = driver.doubtful(alloc, &of.pan)?;
-            doubts.push(Doubt { place, traces })?;
+            let messages = messages_of(alloc, table, driver, &traces)?;
+            doubts.push(Doubt {
+                place,
+                traces,
+                messages,
+            })?;
         }
     }
     Ok(doubts)
@@ -120,6 +128,7 @@ pub(crate) fn report_of<'a, L: NoteLog>(
     alloc: Global,
     words: &DriveWords<'a>,
     asked: &Asked,
+    table: &Table,
     most_open: usize,
     buyers: &Buyers,
     driver: &Driver<L>,
@@ -131,7 +140,7 @@ pub(crate) fn report_of<'a, L: NoteLog>(
         None
     };
     let doubts = match &books {
-        Some(books) => doubts_of(alloc, driver, books)?,
+        Some(books) => doubts_of(alloc, table, driver, books)?,
         None => Vec::new(alloc),
     };
     Ok(Report {

@@ -50,6 +50,9 @@ fn account(
     }
 }
 
+/// A message in question.
+const MESSAGE: &str = r#"{"mti":"0200","elements":{"2":"411111******1112","11":"000012"}}"#;
+
 /// A report in which one thing of each kind happened.
 fn report(rt: &impl Abort, alloc: Global) -> Result<Report<'static>, AllocError> {
     let mut latencies = Latencies::new(alloc);
@@ -66,9 +69,12 @@ fn report(rt: &impl Abort, alloc: Global) -> Result<Report<'static>, AllocError>
         account(rt, b"4111111111111113", 7, 0, None),
     ];
     let mut doubts = Vec::new(alloc);
+    let mut messages = Vec::new(alloc);
+    messages.push(String::from_str(alloc, MESSAGE)?)?;
     doubts.push(Doubt {
         place: 1,
         traces: Vec::from_slice(alloc, &[12, 345])?,
+        messages,
     })?;
     Ok(Report {
         settings: SETTINGS,
@@ -126,6 +132,7 @@ Traffic
 
 account 411111******1112 differs: the host tells 300, our books say 500 less 100
   look at the transactions that were reversed or are open, by trace number: 000012 000345
+    {\"mti\":\"0200\",\"elements\":{\"2\":\"411111******1112\",\"11\":\"000012\"}}
 the host told no balance of accounts: 1
 both books agree on accounts: 1
 ";
@@ -142,7 +149,7 @@ fn for_people(rt: HostRuntime) {
 }
 
 const JSON: &str = "{\"all_closed\":true,\
-\"books\":{\"agree\":1,\"differ\":1,\"differing\":[{\"account\":2,\"opening\":500,\"spent\":100,\"told\":300,\"traces\":[12,345]}],\"untold\":1},\
+\"books\":{\"agree\":1,\"differ\":1,\"differing\":[{\"account\":2,\"messages\":[{\"elements\":{\"11\":\"000012\",\"2\":\"411111******1112\"},\"mti\":\"0200\"}],\"opening\":500,\"spent\":100,\"told\":300,\"traces\":[12,345]}],\"untold\":1},\
 \"books_agree\":false,\"elapsed_micros\":1503000,\"histogram_micros\":[\
 {\"below\":10,\"count\":0,\"from\":0},\
 {\"below\":20,\"count\":0,\"from\":10},\
