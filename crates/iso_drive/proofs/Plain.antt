@@ -1,5 +1,5 @@
 -- Numbers that compare alike, and other plain facts.
-use Rattle.std.proofs.Common.{◌≡◌, ◌≢◌, ℕ, zero, suc, Bool, true, false, refl, arith, ap, List, [], ◌∷◌, slice_set, length, ◌<◌}
+use Rattle.std.proofs.Common.{◌≡◌, ◌≢◌, ℕ, zero, suc, Bool, true, false, arith, ap, List, [], ◌∷◌, slice_set, length, ◌<◌}
 use Rattle.std.specs.Prelude.{◌==◌, Some, None, slice_get}
 use Rattle.std.proofs.lemmas.Grind.{common_steps}
 

@@ -1,12 +1,12 @@
 -- Who waits, and in which order.
-use Rattle.std.proofs.Common.{◌≡◌, ◌≢◌, ℕ, zero, suc, Bool, true, false, refl, arith, ap, sym, ◌∙◌, List, [], ◌∷◌, ◌++◌, length, take, drop, ◌<◌, ◌≤◌, ◌+◌, cond, subst, append_assoc, append-nil}
-use Rattle.std.specs.Prelude.{◌==◌, not, count_by, filter, map, nat_le, sum_by, Some, None, slice_get}
+use Rattle.std.proofs.Common.{◌≡◌, ℕ, Bool, true, false, refl, arith, ap, sym, ◌∙◌, List, [], ◌∷◌, ◌++◌, length, take, drop, ◌≤◌, ◌+◌, cond, subst}
+use Rattle.std.specs.Prelude.{◌==◌, ◌||◌, Option, not, count_by, filter, nat_le, Some, None, slice_get}
+use Rattle.std.specs.Option.{option_to_list}
 use Rattle.std.specs.List.{AllByRecursion}
-use Rattle.std.proofs.lemmas.List.{map-append}
 use Rattle.std.proofs.lemmas.List.Sums.{sum_by-append, sum_by-cons}
 use Rattle.std.proofs.lemmas.Grind.{common_steps}
 use Rattle.iso_drive.specs.declared.due.Due.{Due}
-use Rattle.iso_drive.specs.Due.{is_due, due_by, due_later, again, without, IsInOrder, AreInTime}
+use Rattle.iso_drive.specs.Due.{is_first, due_by, due_later, again, waits, without, IsInOrder, AreInTime}
 use Rattle.iso_drive.proofs.Plain.{same_number, number_self, clash}
 
 -- how often a transaction waits
@@ -140,3 +140,23 @@ first-waits d ds = omega (arith, sum_by-cons (λ (e : Due). cond (e.stan == d.st
 pub first-before : (waiting : List Due) (d : Due) → Some d ≡ slice_get waiting 0 → IsInOrder waiting → AllByRecursion (λ e. d.at ≤ e.at) waiting
 first-before [] d h order = cc
 first-before (e ∷ ds) d h order = let same : e ≡ d = cc in subst (λ (x : Due). AllByRecursion (λ y. x.at ≤ y.at) (e ∷ ds)) same (none-before e ds order)
+
+-- ---- who waits no longer
+
+-- where the first is the one, the others are those without it
+pub without-first : (stan : ℕ) (waiting others : List Due) (first : Option Due) → waiting ≡ option_to_list first ++ others → is_first stan waiting ≡ true
+    → without stan others ≡ without stan waiting
+without-first stan waiting others None split h = ap (without stan) (sym split)
+without-first stan waiting others (Some d) split h =
+    let is : (d.stan == stan) ≡ true = rw split at h in
+    rw split (rw is refl)
+
+-- where the one doesn't wait, all are those without it
+pub without-none : (stan : ℕ) (waiting : List Due) → waits stan waiting ≡ false → without stan waiting ≡ waiting
+without-none stan [] h = refl
+without-none stan (d ∷ ds) h = go (d.stan == stan) refl h (without-none stan ds)
+  where
+    go : (b : Bool) → (d.stan == stan) ≡ b → (b || waits stan ds) ≡ false → (waits stan ds ≡ false → without stan ds ≡ ds)
+        → cond (not (d.stan == stan)) (d ∷ without stan ds) (without stan ds) ≡ d ∷ ds
+    go true e f rest = absurd cc
+    go false e f rest = rw e (ap (λ (l : List Due). d ∷ l) (rest f))

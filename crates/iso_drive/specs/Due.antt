@@ -1,6 +1,6 @@
 -- Until when answers are waited for.
-use Rattle.std.specs.Prelude.{◌≡◌, ◌≤◌, ℕ, Bool, not, ◌==◌, ◌+◌, List, [], ◌∷◌, nat_le, min, map, filter, count_by, if◌then◌else◌}
-use Rattle.std.specs.List.{AllByRecursion}
+use Rattle.std.specs.Prelude.{◌≡◌, ◌≤◌, ℕ, Bool, false, not, ◌==◌, ◌+◌, List, [], ◌∷◌, nat_le, min, map, filter, count_by, if◌then◌else◌}
+use Rattle.std.specs.List.{AllByRecursion, list_any}
 use Rattle.iso_acquirer.specs.declared.slot.Slot.{Slot}
 use Rattle.iso_drive.specs.declared.due.Due.{Due}
 use Rattle.iso_drive.specs.Open.{is_open_at}
@@ -27,6 +27,15 @@ again at waiting = map (λ d. record { stan = d.stan; at = at }) waiting
 -- those but for the transaction of that trace number
 abbrev pub without : ℕ → List Due → List Due
 without stan waiting = filter (λ d. not (d.stan == stan)) waiting
+
+-- the transaction of that trace number waits first
+abbrev pub is_first : ℕ → List Due → Bool
+is_first stan [] = false
+is_first stan (d ∷ ds) = d.stan == stan
+
+-- it waits
+abbrev pub waits : ℕ → List Due → Bool
+waits stan waiting = list_any (λ d. d.stan == stan) waiting
 
 -- each open transaction waits once, and nothing else does
 abbrev pub IsAwaited : List Due → List Slot → Type 0

@@ -1,7 +1,7 @@
 //! Until when an answer is waited for.
 ghost use Rattle.std.specs.Prelude.{◌≡◌, ◌<◌, ◌++◌, count_by, drop, take};
 ghost use Rattle.std.specs.VecDeque.{deque_len, deque_capacity};
-ghost use Rattle.iso_drive.specs.Due.{is_due, again, without, moment_after};
+ghost use Rattle.iso_drive.specs.Due.{is_due, is_first, again, waits, without, moment_after};
 
 use std::collections::VecDeque;
 
@@ -41,9 +41,38 @@ pub(crate) fn put_off(waiting: &mut VecDeque<Due>, at: u64)
     }
 }
 
-/// The transaction of that trace number waits no longer.
+/// Whether the transaction of that trace number waits first.
+fn is_first(waiting: &VecDeque<Due>, stan: u32) -> bool
+    ensures { result ≡ is_first stan waiting.now.items }
+{
+    match waiting.get(0) {
+        Some(first) => first.stan == stan,
+        None => false,
+    }
+}
+
+/// The first transaction waits no longer, if it is of that trace number.
+fn leave_first(waiting: &mut VecDeque<Due>, stan: u32)
+    ensures { without stan waiting.new.items ≡ without stan waiting.old.items }
+{
+    if is_first(waiting, stan) {
+        waiting.pop_front();
+    }
+}
+
+/// Whether the transaction of that trace number waits.
+fn waits(waiting: &VecDeque<Due>, stan: u32) -> bool
+    ensures { result ≡ waits stan waiting.now.items }
+{
+    waiting.iter().any(|due| due.stan == stan)
+}
+
+/// The transaction of that trace number waits no longer. Mostly it waited first, and the others stay where they are.
 pub(crate) fn leave_out(waiting: &mut VecDeque<Due>, stan: u32)
     ensures { waiting.new.items ≡ without stan waiting.old.items }
 {
-    waiting.retain(|due| due.stan != stan);
+    leave_first(waiting, stan);
+    if waits(waiting, stan) {
+        waiting.retain(|due| due.stan != stan);
+    }
 }

@@ -1,10 +1,11 @@
 -- The balance that a response tells.
-use Rattle.std.specs.Prelude.{◌≡◌, ◌+◌, ◌*◌, ℕ, zero, suc, ℤ, pos, ◌-ℤ◌, Bool, true, false, ◌==◌, ◌&&◌, List, [], ◌∷◌, length, take, drop, slice_get, Option, Some, None, option_and_then, if◌then◌else◌}
+use Rattle.std.specs.Prelude.{◌≡◌, ◌+◌, ◌*◌, ◌/◌, ℕ, zero, suc, ℤ, pos, ◌-ℤ◌, Bool, true, false, ◌==◌, ◌&&◌, List, [], ◌∷◌, length, take, drop, slice_get, Option, Some, None, option_and_then, if◌then◌else◌}
 use Rattle.std.specs.Option.{option_or}
 use Rattle.std.specs.Str.{bytes_eq}
 use Rattle.iso_wire.specs.Contents.{Contents}
 use Rattle.iso_wire.specs.Decimal.{number_in}
 use Rattle.iso_wire.specs.Elements.{value_in}
+use Rattle.iso_order.specs.declared.told.Told.{Told}
 
 -- an amount with its sign: 'C' for credit, 'D' for debit
 abbrev pub signed : ℕ → ℕ → Option ℤ
@@ -31,3 +32,11 @@ balance_in m =
     option_and_then
     (λ amounts. option_and_then (λ currency. balance_from 6 currency amounts) (value_in m.elements 49))
     (value_in m.elements 54)
+
+-- an answer to a message of class 1: inquiries are authorizations, and what other answers tell of balances isn't asked for
+abbrev pub tells_balance : Told → Bool
+tells_balance told = told.key.base / 100 == 1
+
+-- the balance that an answer tells to an inquiry
+abbrev pub balance_told : Contents → Told → Option ℤ
+balance_told m told = if tells_balance told then balance_in m else None

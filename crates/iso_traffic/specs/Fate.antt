@@ -1,5 +1,5 @@
 -- What networks do to a frame, by the words of a generator.
-use Rattle.std.specs.Prelude.{⊤, ◌≡◌, ◌≤◌, ◌+◌, ◌-◌, ◌*◌, ◌/◌, ◌^◌, ℕ, zero, suc, Bool, true, false, nat_lt, if◌then◌else◌}
+use Rattle.std.specs.Prelude.{⊤, ◌≡◌, ◌≤◌, ◌+◌, ◌-◌, ◌*◌, ◌/◌, ◌^◌, ◌==◌, ◌&&◌, ℕ, zero, suc, Bool, true, false, nat_lt, if◌then◌else◌}
 use Rattle.rand_pcg.specs.Lcg.{Lcg, started, increment_of}
 use Rattle.rand_pcg.specs.Pcg.{pcg32, multiplier_64}
 use Rattle.iso_traffic.specs.declared.fate.Comes.{Comes}
@@ -97,12 +97,24 @@ abbrev pub drawing_from : ℕ → ℕ → Faults → Drawing
 drawing_from seed direction faults =
     record { generator = started 64 multiplier_64 seed (increment_of 64 direction); faults = faults }
 
--- what becomes of the next frame: by the first word whether its connection is cut, by four more how often it comes
-abbrev pub fate_at : Drawing → Fate
-fate_at d = record {
+-- nothing is done to any frame
+abbrev pub is_none : Faults → Bool
+is_none f = f.lose == 0 && f.repeat == 0 && f.cut == 0 && f.delay.1 == 0
+
+-- it comes once, at once, and nothing is cut
+abbrev pub good : Fate
+good = record { comes = Once 0; cuts = false }
+
+-- what becomes of a frame under faults: by the first word whether its connection is cut, by four more how often it comes
+abbrev pub fate_drawn : Drawing → Fate
+fate_drawn d = record {
   comes = comes_at d.faults (after_words 1 d.generator);
   cuts = happens d.faults.cut (word_of d.generator);
 }
 
+-- what becomes of the next frame: where no fault is asked for nothing is drawn
+abbrev pub fate_at : Drawing → Fate
+fate_at d = if is_none d.faults then good else fate_drawn d
+
 abbrev pub drawing_after : Drawing → Drawing
-drawing_after d = record { generator = after_words 5 d.generator; faults = d.faults }
+drawing_after d = if is_none d.faults then d else record d { generator = after_words 5 d.generator }

@@ -12,14 +12,14 @@ use Rattle.iso_traffic.specs.declared.reading.Read.{Read}
 use Rattle.iso_traffic.specs.declared.reading.Read.TheVariants.{Answer, Unreadable}
 use Rattle.iso_traffic.specs.declared.reading.Front.{Front}
 use Rattle.iso_traffic.specs.declared.reading.Front.TheVariants.{More, Bad, Frame}
-use Rattle.iso_traffic.specs.Balance.{balance_in}
+use Rattle.iso_traffic.specs.Balance.{balance_told}
 
 -- ---- what a body tells
 
--- a message tells an answer, and the balance beside it; or it tells none
+-- a message tells an answer, and beside it the balance that an inquiry asks for; or it tells none
 abbrev pub read_told : Contents → Option Told → Read
 read_told m None = Unreadable
-read_told m (Some told) = Answer told (balance_in m)
+read_told m (Some told) = Answer told (balance_told m told)
 
 -- the body is a message of the table to its last byte, and is read as one
 abbrev pub read_as : ℕ → Result (Contents × ℕ) UnpackFault → Read

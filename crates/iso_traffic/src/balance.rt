@@ -1,8 +1,12 @@
 //! The balance that a response tells.
 ghost use Rattle.std.specs.Prelude.{◌≡◌, ◌<◌, ◌^◌, take, drop};
-ghost use Rattle.iso_traffic.specs.Balance.{signed, available_in, balance_from, balance_in};
+ghost use Rattle.iso_traffic.specs.Balance.{signed, available_in, balance_from, balance_in, balance_told, tells_balance};
 
+use iso_order::Told;
 use iso_wire::{Message, number_in};
+
+/// The class of authorizations: inquiries are of it.
+const AUTHORIZATION: u16 = 1;
 
 /// How many bytes an additional amount takes: account type, amount type, currency, sign and amount.
 const BLOCK: usize = 20;
@@ -64,10 +68,28 @@ fn balance_in(amounts: &[u8], currency: &[u8]) -> Option<i64>
 
 /// What is available by the additional amounts of a response (element 54), in its own currency (element 49), in minor units.
 /// `None` where it doesn't tell.
-pub(crate) fn balance_of(message: &Message) -> Option<i64>
+fn balance_of(message: &Message) -> Option<i64>
     ensures { result ≡ balance_in message.now }
 {
     let amounts = message.get(54)?;
     let currency = message.get(49)?;
     balance_in(amounts, currency)
+}
+
+/// Whether an answer may tell the balance that an inquiry asks for.
+pub(crate) fn tells_balance(told: &Told) -> bool
+    ensures { result ≡ tells_balance told.now }
+{
+    told.key.base / 100 == AUTHORIZATION
+}
+
+/// The balance that an answer tells to an inquiry.
+pub(crate) fn balance_told(message: &Message, told: &Told) -> Option<i64>
+    ensures { result ≡ balance_told message.now told.now }
+{
+    if tells_balance(told) {
+        balance_of(message)
+    } else {
+        None
+    }
 }

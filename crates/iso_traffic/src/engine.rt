@@ -12,7 +12,6 @@ use crate::sendings::Sendings;
 use iso_drive::{Counts, Draw, Driver};
 use iso_report::{Latencies, Tally};
 use iso_restarts::NoteLog;
-use iso_wire::Unpacker;
 use std::alloc::Global;
 use std::io::{Read, Write};
 
@@ -23,7 +22,8 @@ pub(crate) struct Engine<'p, S> {
     pub plan: Plan<'p>,
     pub pace: Pace,
     pub lines: Lines<S>,
-    pub unpacker: Unpacker<'p>,
+    /// Room for a text that is read.
+    pub text: Vec<u8>,
     /// What becomes of frames that go out.
     pub going: Fates,
     /// What becomes of answers that come in.
@@ -73,7 +73,7 @@ impl<'p, S: Read + Write + Drop> Engine<'p, S> {
                 closing: closing_moment(plan.seconds, plan.patience),
             },
             lines: Lines::new(alloc, plan.peers)?,
-            unpacker: Unpacker::new(alloc, plan.table),
+            text: Vec::new(alloc),
             going: Fates::new(plan.seed, 1, plan.faults),
             coming: Fates::new(plan.seed, 2, plan.faults),
             late: Late::new(alloc),

@@ -1,7 +1,7 @@
 //! What networks do to a frame, by a seed.
 ghost use Rattle.std.specs.Prelude.{◌≡◌, ◌≤◌, ◌<◌};
 ghost use Rattle.iso_traffic.specs.Fate.{share, happens, delay_by, word_of, next_of, after_words, comes_at, fate_at};
-ghost use Rattle.iso_traffic.specs.Fate.{drawing_of, drawing_from, drawing_after};
+ghost use Rattle.iso_traffic.specs.Fate.{is_none, drawing_of, drawing_from, drawing_after};
 ghost use Rattle.iso_traffic.specs.Fate.{is_lost, AreDelays, IsDelayOf, IsByChance, IsTwiceByChance, IsFateUnder};
 
 use crate::plan::{CERTAIN, Faults};
@@ -31,12 +31,27 @@ pub struct Fate {
     pub cuts: bool,
 }
 
+impl Fate {
+    /// It comes once, at once, and nothing is cut.
+    pub const GOOD: Fate = Fate {
+        comes: Comes::Once(0),
+        cuts: false,
+    };
+}
+
 /// Draws what becomes of each frame of one direction. The same seed, direction and faults draw the same, one after the
 /// other.
 #[derive(Drop)]
 pub struct Fates {
     generator: Pcg32,
     faults: Faults,
+}
+
+/// Whether nothing is done to any frame.
+fn is_none(faults: &Faults) -> bool
+    ensures { result ≡ is_none faults.now }
+{
+    faults.lose == 0 && faults.repeat == 0 && faults.cut == 0 && faults.delay.1 == 0
 }
 
 /// A number below a range, by the next word.
@@ -103,7 +118,7 @@ impl Fates {
         Comes::Once(first)
     }
 
-    /// What becomes of the next frame.
+    /// What becomes of the next frame. Where no fault is asked for nothing is drawn.
     pub fn next(&mut self) -> Fate
         // It is a function of what is drawn from, and of nothing else: so the same seed draws the same.
         ensures drawn { result ≡ fate_at (drawing_of self.old) }
@@ -111,6 +126,9 @@ impl Fates {
         // What has no chance doesn't happen, what is certain does, and each delay is within its bounds.
         ensures fate { IsFateUnder (drawing_of self.old).faults result }
     {
+        if is_none(&self.faults) {
+            return Fate::GOOD;
+        }
         let cuts = happens(&mut self.generator, self.faults.cut);
         let comes = self.comes();
         Fate { comes, cuts }

@@ -5,9 +5,10 @@ ghost use Rattle.iso_wire.specs.Spelling.{PlainSpelling};
 ghost use Rattle.iso_order.specs.Requests.{request};
 
 use crate::fault::TrafficFault;
-use iso_order::{Order, request};
+use iso_exchange::write_request;
+use iso_order::Order;
 use iso_table::Table;
-use iso_wire::{Header, PackFault, append_message, close_frame, open_frame};
+use iso_wire::{Header, PackFault, close_frame};
 use std::alloc::Global;
 
 /// The fault of a request that isn't written.
@@ -41,13 +42,8 @@ pub(crate) fn write_frame(
     ensures framed { OnOk result ((body : List ℕ) × PlainSpelling table.now (request order.now) body
         × (frame.new.items ≡ frame_of header body)) }
 {
-    let Ok(message) = request(alloc, order) else {
-        return Err(TrafficFault::Memory);
-    };
-    frame.clear();
-    open_frame(header, frame)?;
-    if let Err(fault) = append_message(table, &message, frame) {
-        return Err(unwritten(fault));
+    match write_request(alloc, table, header.size(), order, frame) {
+        Ok(()) => close(header, frame),
+        Err(fault) => Err(unwritten(fault)),
     }
-    close(header, frame)
 }

@@ -131,8 +131,9 @@ impl<S: Read + Write + Drop> Engine<'_, S> {
         };
         let is_bad = take_frames(
             self.alloc,
+            self.plan.table,
             self.plan.header,
-            &mut self.unpacker,
+            &mut self.text,
             &mut connection.came,
             read,
         )?;

@@ -1,8 +1,8 @@
-use crate::balance::balance_of;
+use crate::balance::balance_told;
 use crate::inquiries::Inquiries;
 use crate::late::{Held, Late};
 use crate::pace::{Pace, closing_moment, due_purchases, next_moment};
-use crate::reading::{Read, take_frames};
+use crate::reading::{Read, read_body, take_frames};
 use crate::sendings::Sendings;
 use crate::stage::{Stage, Standing, next_stage};
 use crate::stamp::{left_of_second, stamp};
@@ -11,7 +11,8 @@ use bytes::BytesMut;
 use iso_order::{Pan, Told, TxKey};
 use iso_parts::Mti;
 use iso_table::Table;
-use iso_wire::{Header, Message, Unpacker};
+use iso_wire::{Header, Message, pack};
+use std::alloc::Global;
 use std::process::Abort;
 
 const KEY: TxKey = TxKey {
@@ -165,10 +166,17 @@ const CAME: &[u8] =
 fn frames_at_the_front(rt: HostRuntime) {
     let alloc = rt.alloc();
     let table = Table::ascii87(alloc).expect(&rt, "memory");
-    let mut unpacker = Unpacker::new(alloc, &table);
+    let mut text = Vec::new(alloc);
     let mut came = BytesMut::copy_from_slice(alloc, CAME).expect(&rt, "memory");
     let mut read = Vec::new(alloc);
-    let is_bad = take_frames(alloc, Header::Ascii4, &mut unpacker, &mut came, &mut read);
+    let is_bad = take_frames(
+        alloc,
+        &table,
+        Header::Ascii4,
+        &mut text,
+        &mut came,
+        &mut read,
+    );
     assert_eq!(rt; is_bad, Ok(false));
     let told = Told {
         key: TxKey {
@@ -187,10 +195,28 @@ fn frames_at_the_front(rt: HostRuntime) {
     came.extend_from_slice(b"x").expect(&rt, "memory");
     came.advance(8);
     came.extend_from_slice(b"yz0").expect(&rt, "memory");
-    let is_bad = take_frames(alloc, Header::Ascii4, &mut unpacker, &mut came, &mut read);
+    let is_bad = take_frames(
+        alloc,
+        &table,
+        Header::Ascii4,
+        &mut text,
+        &mut came,
+        &mut read,
+    );
     assert_eq!(rt; is_bad, Ok(true));
     assert_eq!(rt; came.as_slice(), b"xyz0".as_slice());
 }
+
+/// An answer to an inquiry.
+const TOLD: Told = Told {
+    key: TxKey {
+        base: 100,
+        stan: 1,
+        sent: 1128055759,
+        acquirer: 7,
+    },
+    code: 0,
+};
 
 #[test]
 fn balances_that_are_told(rt: HostRuntime) {
@@ -208,9 +234,43 @@ fn balances_that_are_told(rt: HostRuntime) {
     ] {
         let mut message = Message::new(alloc, Mti::from_text(b"0110").expect(&rt, "a type"));
         message.set(49, b"840").expect(&rt, "set");
-        assert_eq!(rt; balance_of(&message), None);
+        assert_eq!(rt; balance_told(&message, &TOLD), None);
         message.set(54, amounts).expect(&rt, "set");
-        assert_eq!(rt; balance_of(&message), balance);
+        assert_eq!(rt; balance_told(&message, &TOLD), balance);
+    }
+}
+
+/// The answer to an order of that key, which tells what is available.
+fn answer<R: Abort>(rt: &R, alloc: Global, mti: &[u8]) -> Message {
+    let mut message = Message::new(alloc, Mti::from_text(mti).expect(rt, "a type"));
+    for (n, value) in [
+        (7, b"1128055759".as_slice()),
+        (11, b"000001"),
+        (32, b"7"),
+        (39, b"00"),
+        (49, b"840"),
+        (54, b"0002840C000000005000"),
+    ] {
+        message.set(n, value).expect(rt, "set");
+    }
+    message
+}
+
+#[test]
+fn answers_of_each_class(rt: HostRuntime) {
+    let alloc = rt.alloc();
+    for table in [Table::ascii87(alloc), Table::bcd87(alloc)] {
+        let table = table.expect(&rt, "memory");
+        for (mti, base, balance) in [
+            (b"0110".as_slice(), 100, Some(5_000)),
+            (b"0210", 200, None),
+            (b"0430", 420, None),
+        ] {
+            let body = pack(alloc, &table, &answer(&rt, alloc, mti)).expect(&rt, "pack");
+            let read = read_body(alloc, &table, &mut Vec::new(alloc), &body);
+            let key = TxKey { base, ..KEY };
+            assert_eq!(rt; read, Ok(Read::Answer(Told { key, code: 0 }, balance)));
+        }
     }
 }
 

@@ -5,8 +5,8 @@ use Rattle.iso_traffic.proofs.reading.take_frames.Given as goal
 
 abbrev pub invariant-frames : goal.invariant-frames
 invariant-frames l =
-    (l.unpacker ≡ l.initial.unpacker) × ((more : List Read) × TakesFrames l.initial.unpacker.table l.header l.initial.came.items l.came.items more
-    × (l.read.items ≡ l.initial.read.items ++ more))
+    (more : List Read) × TakesFrames l.table l.header l.initial.came.items l.came.items more
+    × (l.read.items ≡ l.initial.read.items ++ more)
 
 abbrev pub decreases-frames : goal.decreases-frames
 decreases-frames l = length l.came.items

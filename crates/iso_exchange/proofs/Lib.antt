@@ -1,0 +1,5 @@
+mod Decimals
+mod Packs
+mod Purchases
+mod Telling
+mod Viewed

@@ -1,0 +1,117 @@
+-- Numbers in packed digits.
+use Rattle.std.proofs.Common.{◌≡◌, ◌<◌, ℕ, zero, suc, ◌+◌, ◌*◌, ◌/◌, ◌%◌, true, false, refl, sym, ap, subst, ◌∙◌, List, [], ◌∷◌, ◌++◌, length, append_assoc, arith, inl, inr, Option, Some}
+use Rattle.std.specs.Prelude.{◌==◌, nat_le, slice_index}
+use Rattle.std.specs.List.{list_all}
+use Rattle.std.proofs.lemmas.Bool.{and_from, eqb-true, le-leb, cases_lt}
+use Rattle.std.proofs.lemmas.List.{get_or_past}
+use Rattle.std.proofs.lemmas.Bool.Decides.{nat_tests}
+use Rattle.std.proofs.lemmas.List.Folds.{list_all-append}
+use Rattle.iso_parts.specs.Class.{is_digit, is_in_class}
+use Rattle.iso_parts.specs.Part.{Body, Part, pairs, plain_part, with_filler, characters}
+use Rattle.iso_parts.specs.PartLaws.{PartLaws}
+use Rattle.iso_parts.specs.Spec.{IsGood, Fits}
+use Rattle.iso_parts.specs.declared.class.CharClass.TheVariants as classes
+use Rattle.iso_parts.specs.declared.spec.FieldSpec.{FieldSpec}
+use Rattle.iso_table.specs.Layout.{row_at}
+use Rattle.iso_wire.specs.Decimal.{decimal, number, number_in}
+use Rattle.iso_wire.specs.Spelling.{plain_by, plain_of}
+use Rattle.iso_wire.proofs.Decimals.{digit_at}
+use Rattle.iso_exchange.specs.Purchase.{AddsPart}
+use Rattle.iso_exchange.specs.Packed.{packed, IsPacked}
+use Rattle.iso_exchange.proofs.Decimals.{length-decimal}
+
+-- ---- written
+
+last_digit : (v : ℕ) → is_digit (48 + v % 10) ≡ true
+last_digit v = grind (arith, nat_tests)
+
+pub list_all-decimal : (n v : ℕ) → list_all is_digit (decimal n v) ≡ true
+list_all-decimal zero v = refl
+list_all-decimal (suc n) v =
+    let last = (48 + v % 10) ∷ [] in
+    list_all-append is_digit (decimal n (v / 10)) last ∙ and_from _ _ (list_all-decimal n (v / 10)) (and_from _ _ (last_digit v) refl)
+
+-- two characters more behind an even count of them
+pairs-more : (k : ℕ) (xs : List ℕ) (h l : ℕ) → length xs ≡ 2 * k → pairs (xs ++ h ∷ l ∷ []) ≡ pairs xs ++ (16 * (h % 16) + l % 16) ∷ []
+pairs-more zero [] h l even = refl
+pairs-more zero (x ∷ xs) h l even = absurd (omega arith)
+pairs-more (suc k) [] h l even = absurd (omega arith)
+pairs-more (suc k) (x ∷ []) h l even = absurd (omega arith)
+pairs-more (suc k) (x ∷ y ∷ xs) h l even = ap (λ (b : List ℕ). (16 * (x % 16) + y % 16) ∷ b) (pairs-more k xs h l (omega arith))
+
+digit_of : (v : ℕ) → (48 + v % 10) % 16 ≡ v % 10
+digit_of v = omega arith
+
+hundreds : (v : ℕ) → v / 10 / 10 ≡ v / 100
+hundreds v = omega arith
+
+two-more : (n v : ℕ) → decimal (suc (suc n)) v ≡ decimal n (v / 100) ++ (48 + v / 10 % 10) ∷ (48 + v % 10) ∷ []
+two-more n v =
+    append_assoc (decimal n (v / 10 / 10)) ((48 + v / 10 % 10) ∷ []) ((48 + v % 10) ∷ [])
+    ∙ ap (λ (k : ℕ). decimal n k ++ (48 + v / 10 % 10) ∷ (48 + v % 10) ∷ []) (hundreds v)
+
+pub pairs-decimal : (n v : ℕ) → pairs (decimal (2 * n) v) ≡ packed n v
+pairs-decimal zero v = refl
+pairs-decimal (suc n) v =
+    let size : 2 * suc n ≡ suc (suc (2 * n)) = omega arith in
+    ap (λ (k : ℕ). pairs (decimal k v)) size
+    ∙ ap pairs (two-more (2 * n) v)
+    ∙ pairs-more n (decimal (2 * n) (v / 100)) (48 + v / 10 % 10) (48 + v % 10) (length-decimal (2 * n) (v / 100))
+    ∙ rw (digit_of (v / 10), digit_of v, pairs-decimal n (v / 100)) refl
+
+even-own : (w : List ℕ) (n : ℕ) → length w ≡ 2 * n → with_filler 48 w ≡ w
+even-own w n even = let no : (length w % 2 == 1) ≡ false = grind (arith, nat_tests) in rw no refl
+
+even-any : (f : ℕ) (w : List ℕ) (n : ℕ) → length w ≡ 2 * n → with_filler f w ≡ w
+even-any f w n even = let no : (length w % 2 == 1) ≡ false = grind (arith, nat_tests) in rw no refl
+
+-- the part of a number's digits
+pub part-packed : (s : FieldSpec) (n v : ℕ) → IsPacked s n → plain_part s (decimal (2 * n) v) ≡ packed n v
+part-packed s n v is =
+    rw (is.length, is.coding, is.pad) (ap pairs (even-own (decimal (2 * n) v) n (length-decimal (2 * n) v)) ∙ pairs-decimal n v)
+
+in-class : (w : List ℕ) → list_all is_digit w ≡ true → is_in_class classes.N w ≡ true
+in-class [] h = refl
+in-class (b ∷ bs) h = h
+
+all-digits : (w : List ℕ) → is_in_class classes.N w ≡ true → list_all is_digit w ≡ true
+all-digits [] h = refl
+all-digits (b ∷ bs) h = h
+
+pub fits-packed : (s : FieldSpec) (n v : ℕ) → IsPacked s n → Fits s (decimal (2 * n) v)
+fits-packed s n v is = record {
+  length = rw (is.length, is.pad, is.max, length-decimal (2 * n) v) (grind (arith, nat_tests));
+  class = rw is.class (in-class (decimal (2 * n) v) (list_all-decimal (2 * n) v));
+  pad = rw is.pad refl;
+}
+
+digits-bytes : (v : List ℕ) → list_all is_digit v ≡ true → (i : ℕ) → slice_index v i < 256
+digits-bytes v all = λ i.
+    elim (cases_lt i (length v)) [
+      | inl lt ↦ (let digit = digit_at v i all lt in omega (arith, digit.1))
+      | inr le ↦ rw (get_or_past v i 0 le) (omega arith)
+    ]
+
+-- packed digits are the plain part of their number
+pub adds-packed : PartLaws → (rows : List (Option FieldSpec)) (n bytes v : ℕ) (s : FieldSpec) (old new : List ℕ) → IsGood s → Some s ≡ row_at rows n → IsPacked s bytes → new ≡ old ++ packed bytes v
+    → AddsPart rows n (decimal (2 * bytes) v) old new
+adds-packed laws rows n bytes v s old new good row is written =
+    let digits = decimal (2 * bytes) v in
+    let same : plain_part s digits ≡ plain_of rows (n, digits) = ap (λ (r : Option FieldSpec). plain_by r digits) row in (
+      written ∙ ap (λ (b : List ℕ). old ++ b) (sym (part-packed s bytes v is) ∙ same),
+      (s, sym row, subst (λ (b : List ℕ). Part s digits b) same (laws.plain s digits good (fits-packed s bytes v is) (digits-bytes digits (list_all-decimal (2 * bytes) v)))),
+    )
+
+-- ---- read
+
+pub packed-digits : (s : FieldSpec) (n : ℕ) (v b : List ℕ) → IsPacked s n → Body s v b → (characters b ≡ v) × (length v ≡ 2 * n) × (list_all is_digit v ≡ true)
+packed-digits s n v b is body =
+    let size : length v ≡ 2 * n = eqb-true (length v) (2 * n) (rw (is.length, is.pad, is.max) at body.0.length) in
+    let stands = rw (is.coding, is.pad) at body.1 in
+    (stands.2 ∙ even-any stands.0 v n size, size, all-digits v (rw is.class at body.0.class))
+
+pub packed-number : (n k : ℕ) (v : List ℕ) → length v ≡ 2 * n → list_all is_digit v ≡ true → k ≡ number v → Some k ≡ number_in (2 * n) (2 * n) v
+packed-number n k v size all is =
+    let least : nat_le (2 * n) (length v) ≡ true = le-leb _ _ (omega arith) in
+    let most : nat_le (length v) (2 * n) ≡ true = le-leb _ _ (omega arith) in
+    rw (least, most, all, is) refl

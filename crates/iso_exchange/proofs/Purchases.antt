@@ -1,0 +1,76 @@
+-- The request for a purchase, part by part.
+use Rattle.std.proofs.Common.{◌≡◌, ◌<◌, ◌/◌, ℕ, Bool, true, false, refl, ap, sym, ◌∙◌, List, [], ◌∷◌, ◌++◌, append_assoc, append-nil, Option, Some, Result, Ok, Err}
+use Rattle.std.specs.Prelude.{◌==◌, ◌||◌, is_some, OnOk, if◌then◌else◌}
+use Rattle.std.specs.List.{flat_map}
+use Rattle.iso_parts.specs.Bitmap.{PlainBitmaps}
+use Rattle.iso_parts.specs.Digits.{four_digits_of}
+use Rattle.iso_parts.specs.declared.spec.FieldSpec.{FieldSpec}
+use Rattle.iso_table.specs.Layout.{Layout}
+use Rattle.iso_wire.specs.Elements.{has, value_in}
+use Rattle.iso_wire.specs.OneSpelling.{WellFormed}
+use Rattle.iso_wire.specs.Spelling.{Parts, PlainSpelling, plain_of}
+use Rattle.iso_wire.proofs.Packs.{plain_spelling_lem}
+use Rattle.iso_order.specs.declared.act.Act.TheVariants.{Debit}
+use Rattle.iso_order.specs.declared.act.Money.{Money}
+use Rattle.iso_order.specs.declared.key.TxKey.{TxKey}
+use Rattle.iso_order.specs.Order.{Instruction}
+use Rattle.iso_order.specs.Requests.{request}
+use Rattle.iso_exchange.specs.Purchase.{purchase_elements, AddsPart}
+
+-- ---- the elements
+
+pub purchase-listed : (k : TxKey) (m : Money) → request (record { key = k; act = Debit m }) ≡ record { mti = k.base; elements = purchase_elements k m }
+unfolding request
+purchase-listed k m = refl
+
+has_by : (b : Bool) (v : List ℕ) (o : Option (List ℕ)) → (b || is_some o) ≡ is_some (if b then Some v else o)
+has_by true v o = refl
+has_by false v o = refl
+
+-- one element more in front
+pub has-more : (n k : ℕ) (v : List ℕ) (es : List (ℕ × List ℕ)) → (n == k || has es k) ≡ has ((n, v) ∷ es) k
+has-more n k v es = has_by (n == k) v (value_in es k)
+
+-- ---- the parts
+
+-- parts that are put one behind the other
+abbrev pub AddsParts : List (Option FieldSpec) → List (ℕ × List ℕ) → List ℕ → List ℕ → Type 0
+AddsParts rows [] old new = new ≡ old
+AddsParts rows (e ∷ es) old new = (mid : List ℕ) × AddsPart rows e.0 e.1 old mid × AddsParts rows es mid new
+
+pub parts-written : (rows : List (Option FieldSpec)) (es : List (ℕ × List ℕ)) (old new : List ℕ) → AddsParts rows es old new → new ≡ old ++ flat_map (plain_of rows) es
+parts-written rows [] old new h = h ∙ sym (append-nil old)
+parts-written rows (e ∷ es) old new h =
+    parts-written rows es h.0 new h.2 ∙ ap (λ (l : List ℕ). l ++ flat_map (plain_of rows) es) h.1.0 ∙ append_assoc old (plain_of rows e) (flat_map (plain_of rows) es)
+
+pub parts-spelled : (rows : List (Option FieldSpec)) (es : List (ℕ × List ℕ)) (old new : List ℕ) → AddsParts rows es old new → Parts rows es (flat_map (plain_of rows) es)
+parts-spelled rows [] old new h = refl
+parts-spelled rows (e ∷ es) old new h = (plain_of rows e, flat_map (plain_of rows) es, h.1.1, parts-spelled rows es h.0 new h.2, refl)
+
+-- ---- the whole
+
+-- the type, the bitmaps and the parts are the plain spelling of the request
+pub purchase-spelled : (t : Layout) (o : Instruction) (money : Money) (set : ℕ → Bool) (maps : List ℕ) → WellFormed (request o) → o.act ≡ Debit money → o.key.base / 1000 ≡ t.version
+    → ((k : ℕ) → set k ≡ has (purchase_elements o.key money) k) → PlainBitmaps t.bitmap set maps
+    → Parts t.rows (purchase_elements o.key money) (flat_map (plain_of t.rows) (purchase_elements o.key money))
+    → PlainSpelling t (request o) (four_digits_of t.mti o.key.base ++ (maps ++ flat_map (plain_of t.rows) (purchase_elements o.key money)))
+purchase-spelled t o money set maps well act version agrees plain parts =
+    let listed : request o ≡ record { mti = o.key.base; elements = purchase_elements o.key money } = ap (λ a. request (record { key = o.key; act = a })) act ∙ purchase-listed o.key money in
+    let bytes = four_digits_of t.mti o.key.base ++ (maps ++ flat_map (plain_of t.rows) (purchase_elements o.key money)) in
+    rw listed (plain_spelling_lem t (record { mti = o.key.base; elements = purchase_elements o.key money }) set maps bytes
+    (rw listed at well.mti) version (rw listed at well.ascending) agrees plain parts refl)
+
+-- what follows of an answer that is good follows of the answer
+pub on-ok : {T E : Type 0} (P Q : Type 0) (r : Result T E) → (P → Q) → OnOk r P → OnOk r Q
+on-ok P Q (Ok x) f h = f h
+on-ok P Q (Err e) f h = tt
+
+pub on-both : {T E : Type 0} (P R Q : Type 0) (r : Result T E) → (P → R → Q) → OnOk r P → OnOk r R → OnOk r Q
+on-both P R Q (Ok x) f h i = f h i
+on-both P R Q (Err e) f h i = tt
+
+-- its type has four digits
+pub purchase-small : (o : Instruction) (money : Money) → o.act ≡ Debit money → WellFormed (request o) → o.key.base < 10000
+purchase-small o money act well =
+    let listed : request o ≡ record { mti = o.key.base; elements = purchase_elements o.key money } = ap (λ a. request (record { key = o.key; act = a })) act ∙ purchase-listed o.key money in
+    rw listed at well.mti

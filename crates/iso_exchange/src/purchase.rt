@@ -1,0 +1,196 @@
+//! The request for a purchase, written part by part.
+ghost use Rattle.std.specs.Prelude.{◌≡◌, ◌≢◌, ◌≤◌, ◌*◌, ◌||◌, ◌==◌, ◌++◌, ℕ, List, OnOk};
+ghost use Rattle.std.specs.List.{flat_map};
+ghost use Rattle.iso_parts.specs.Bitmap.{contains};
+ghost use Rattle.iso_parts.specs.Digits.{four_digits_of};
+ghost use Rattle.iso_parts.specs.Mti.{mti_number};
+ghost use Rattle.iso_wire.specs.Decimal.{decimal};
+ghost use Rattle.iso_wire.specs.Elements.{has};
+ghost use Rattle.iso_wire.specs.Spelling.{Parts, PlainSpelling, plain_of};
+ghost use Rattle.iso_order.specs.Order.{Instruction};
+ghost use Rattle.iso_order.specs.Requests.{request};
+ghost use Rattle.iso_order.specs.declared.act.Act.TheVariants.{Debit};
+ghost use Rattle.iso_exchange.specs.Packed.{packed};
+ghost use Rattle.iso_exchange.specs.Purchase.{purchase_elements, AddsPart};
+
+use crate::packed::{is_packed, write_packed};
+use iso_order::{Money, Order, TxKey};
+use iso_parts::{
+    Bitmap, Digits, FieldFault, Mti, encode_field, four_ascii_digits, four_bcd_digits,
+};
+use iso_table::Table;
+use iso_wire::{PackFault, digits_of, write_decimal};
+use std::alloc::AllocError;
+
+/// The most bytes that the request for a purchase takes: its type, its bitmap, and the values of its elements, each character
+/// in two bytes, with their lengths.
+const MOST_BYTES: usize = 192;
+
+/// The largest number of an acquirer: eleven nines.
+const MOST_ACQUIRER: u64 = 99_999_999_999;
+
+/// The fault of element `n` whose value is refused.
+fn pack_fault(n: u8, fault: FieldFault) -> PackFault {
+    match fault {
+        FieldFault::WrongLength => PackFault::WrongLength(n),
+        FieldFault::NotInClass => PackFault::NotInClass(n),
+        FieldFault::PadEnd => PackFault::PadEnd(n),
+        _ => PackFault::Memory,
+    }
+}
+
+/// Appends the plain part of a value as element `n`.
+fn append_part(table: &Table, n: u8, value: &[u8], out: &mut Vec<u8>) -> Result<(), PackFault>
+    ensures { OnOk result (AddsPart table.now.rows n value.now out.old.items out.new.items) }
+{
+    let Some(row) = table.row(n) else {
+        return Err(PackFault::NoRow(n));
+    };
+    match encode_field(row, value, out) {
+        Ok(()) => Ok(()),
+        Err(fault) => Err(pack_fault(n, fault)),
+    }
+}
+
+/// Appends the plain part of a number in so many digits as element `n`.
+fn append_number(
+    table: &Table,
+    n: u8,
+    number: u64,
+    digits: usize,
+    out: &mut Vec<u8>,
+) -> Result<(), PackFault>
+    requires few { digits ≤ 19 }
+    ensures { OnOk result (AddsPart table.now.rows n (decimal digits number) out.old.items out.new.items) }
+{
+    let mut room = [0; 19];
+    let text = &mut room[..digits];
+    write_decimal(text, number);
+    append_part(table, n, text, out)
+}
+
+/// Appends the bytes of a number in packed digits.
+fn append_bytes(bytes: u16, number: u64, out: &mut Vec<u8>) -> Result<(), AllocError>
+    requires few { bytes ≤ 9 }
+    ensures { OnOk result (out.new.items ≡ out.old.items ++ packed bytes number) }
+{
+    let mut room = [0; 9];
+    let digits = &mut room[..bytes as usize];
+    write_packed(digits, number);
+    out.extend_from_slice(digits)
+}
+
+/// Appends the plain part of a number as element `n`, in twice as many digits as bytes. Where the table packs them, they are
+/// written so at once.
+fn append_packed(
+    table: &Table,
+    n: u8,
+    number: u64,
+    bytes: u16,
+    out: &mut Vec<u8>,
+) -> Result<(), PackFault>
+    requires few { bytes ≤ 9 }
+    ensures { OnOk result (AddsPart table.now.rows n (decimal (2 * bytes) number) out.old.items out.new.items) }
+{
+    // the laws of parts, for the prover
+    iso_parts::laws::parts();
+    let Some(row) = table.row(n) else {
+        return Err(PackFault::NoRow(n));
+    };
+    if is_packed(row, bytes) {
+        append_bytes(bytes, number, out)?;
+        return Ok(());
+    }
+    append_number(table, n, number, 2 * bytes as usize, out)
+}
+
+/// Appends the plain parts of the elements of a purchase.
+fn append_parts(
+    table: &Table,
+    key: &TxKey,
+    money: &Money,
+    out: &mut Vec<u8>,
+) -> Result<(), PackFault>
+    requires few { key.now.acquirer ≤ 99999999999 }
+    ensures written { OnOk result (out.new.items ≡ out.old.items
+        ++ flat_map (plain_of table.now.rows) (purchase_elements key.now money.now)) }
+    ensures spelled { OnOk result (Parts table.now.rows (purchase_elements key.now money.now)
+        (flat_map (plain_of table.now.rows) (purchase_elements key.now money.now))) }
+{
+    let (account, len) = (money.pan.digits(), money.pan.len());
+    append_number(table, 2, account, len as usize, out)?;
+    append_packed(table, 3, 0, 3, out)?;
+    append_packed(table, 4, money.amount, 6, out)?;
+    append_packed(table, 7, key.sent, 5, out)?;
+    append_packed(table, 11, key.stan as u64, 3, out)?;
+    let digits = digits_of(key.acquirer);
+    append_number(table, 32, key.acquirer, digits as usize, out)?;
+    append_part(table, 49, &money.currency, out)
+}
+
+/// A set with one number more.
+#[inline(always)]
+fn put(numbers: Bitmap, n: u8) -> Bitmap
+    requires low { 2 ≤ n }
+    requires high { n ≤ 128 }
+    requires not_65 { n ≢ 65 }
+    ensures { (k : ℕ) → contains result k ≡ (n == k || contains numbers k) }
+{
+    let mut more = numbers;
+    more.set(n);
+    more
+}
+
+/// The numbers of the elements of a purchase.
+fn numbers() -> Bitmap
+    ensures { (key : TxKey) (money : Money) (k : ℕ) → contains result k ≡ has (purchase_elements key money) k }
+{
+    let last = put(put(put(Bitmap::new(), 49), 32), 11);
+    put(put(put(put(last, 7), 4), 3), 2)
+}
+
+/// Appends the four digits of a message type.
+fn append_type(digits: Digits, mti: Mti, out: &mut Vec<u8>) -> Result<(), AllocError>
+    ensures { OnOk result (out.new.items ≡ out.old.items ++ four_digits_of digits (mti_number mti)) }
+{
+    let number = usize::from(mti.number());
+    match digits {
+        Digits::Ascii => out.extend_from_slice(&four_ascii_digits(number)),
+        Digits::Bcd => out.extend_from_slice(&four_bcd_digits(number)),
+    }
+}
+
+/// The type that a number of four digits writes.
+fn type_of(number: u16) -> Mti
+    requires { number ≤ 9999 }
+    ensures { mti_number result ≡ number }
+{
+    Mti::from_digits(number).unwrap()
+}
+
+/// Appends the request for a purchase, whose key the order has. After an `Err` a part of it may be there.
+pub(crate) fn append_purchase(
+    table: &Table,
+    order: &Order,
+    money: &Money,
+    out: &mut Vec<u8>,
+) -> Result<(), PackFault>
+    requires { order.now.act ≡ Debit money.now }
+    ensures { OnOk result ((b : List ℕ) × PlainSpelling table.now (request order.now) b
+        × (out.new.items ≡ out.old.items ++ b)) }
+{
+    // the law that a request is well formed, for the prover
+    iso_order::laws::requests_are_well_formed();
+    let key = order.key();
+    let mti = type_of(key.base);
+    if mti.version != table.version() {
+        return Err(PackFault::WrongVersion);
+    }
+    if key.acquirer > MOST_ACQUIRER {
+        return Err(PackFault::WrongLength(32));
+    }
+    out.reserve(MOST_BYTES)?;
+    append_type(table.mti(), mti, out)?;
+    numbers().append(table.bitmap(), out)?;
+    append_parts(table, &key, money, out)
+}
