@@ -24,6 +24,8 @@ SLACK = 3               # seconds beyond `--seconds`, in which a run has ended
 HONEST = [{"amount": 999_999_999_999, "do": "silent"}]      # a rule that nothing fits
 SILENT = {"type": "0200", "do": "silent"}
 CALM = ["--patience", "5000", "--count", str(COUNT)]
+MIX = "hold=30,complete=15,inquiry=10,undo=10"
+MIXED = 400
 QUICK = ["--patience", "200", "--count", str(COUNT)]
 
 
@@ -57,6 +59,17 @@ def is_broken(told):
     return all(traffic[kind] > 0 for kind in ("lost", "repeated", "delayed", "cut", "again"))
 
 
+def is_mixed(told):
+    begun = sum(kind["begun"] for kind in told["mix"].values())
+    ends = told["transactions"]
+    bought = ends["approved"] + ends["declined"] + ends["reversed"]
+    return begun + bought == MIXED and all(kind["granted"] > 0 and kind["open"] == 0 for kind in told["mix"].values())
+
+
+def is_mixed_and_broken(told):
+    return is_mixed(told) and is_broken(told)
+
+
 def is_refused(told):
     return told["traffic"]["refused"] > 0 and told["traffic"]["connected"] == 0 and told["traffic"]["begun"] == 0
 
@@ -72,6 +85,11 @@ CASES = [
     ("eight connections", None, [*CALM, "--check", "--peers", "8", "--seed", "3"], True, True, is_clean),
     ("networks that do everything", None, ["--patience", "200", "--count", "200", "--check", "--lose", "0.1", "--repeat", "0.1",
                                            "--delay", "0..100", "--cut", "0.02", "--peers", "4"], True, True, is_broken),
+    ("holds, completions, inquiries and partial reversals", None, ["--patience", "5000", "--count", str(MIXED), "--check", "--mix", MIX], True, True,
+     is_mixed),
+    ("the same through networks that do everything", None, ["--patience", "200", "--count", str(MIXED), "--check", "--mix", MIX, "--lose", "0.1",
+                                                            "--repeat", "0.1", "--delay", "0..100", "--cut", "0.02", "--peers", "4", "--seed", "9"],
+     True, True, is_mixed_and_broken),
     ("a host that refuses all", [{"type": "0200", "do": "answer", "code": "05"}], [*CALM, "--check"], True, True, is_declined),
     ("a host that answers no purchase", [SILENT], [*QUICK, "--check"], True, True, is_reversed),
     ("a host that answers late", [{"type": "0200", "do": "delay", "milliseconds": 300}], [*QUICK, "--check"], True, True, is_late),

@@ -1,4 +1,5 @@
 pub mod Books
 pub mod Histogram
+pub mod Mixed
 pub mod Percentile
 pub mod Tally

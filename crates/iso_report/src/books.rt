@@ -12,7 +12,7 @@ pub struct AccountBooks {
     pub pan: Pan,
     /// What was on it before the acquirer's first order.
     pub opening: i64,
-    /// What the acquirer's own books say was spent of it.
+    /// What the acquirer's own books say was spent or is held of it.
     pub spent: u128,
     /// What the host told is on it, if it told.
     pub told: Option<i64>,

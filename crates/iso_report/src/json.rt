@@ -4,6 +4,7 @@ use crate::agreement::verdicts_of;
 use crate::books::{AccountBooks, Doubt};
 use crate::bucket::Bucket;
 use crate::ended::{Declined, Ended};
+use crate::mixed::mixed_value;
 use crate::report::Report;
 use crate::settings::Settings;
 use crate::summary::Summary;
@@ -173,16 +174,18 @@ impl Report<'_> {
         let books = books_value(alloc, self)?;
         let histogram = buckets_value(alloc, &self.buckets)?;
         let latency = latency_value(alloc, self.timed, &self.summary)?;
+        let mix = mixed_value(alloc, &self.mixed)?;
         let settings = settings_value(alloc, &self.settings)?;
         let traffic = tally_value(alloc, &self.tally)?;
         let transactions = ended_value(alloc, &self.ended)?;
         let value: Value = json!(in alloc; {
-            "all_closed": self.ended.open == 0,
+            "all_closed": self.all_closed(),
             "books": books,
             "books_agree": self.books_agree(),
             "elapsed_micros": self.micros,
             "histogram_micros": histogram,
             "latency_micros": latency,
+            "mix": mix,
             "settings": settings,
             "traffic": traffic,
             "transactions": transactions,

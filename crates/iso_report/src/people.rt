@@ -3,6 +3,7 @@
 use crate::agreement::add_books;
 use crate::drawing::add_histogram;
 use crate::ended::{Declined, Ended};
+use crate::mixed::{Mixed, add_mix, add_mixed};
 use crate::numbers::{chance, millis, per_second, seconds};
 use crate::report::Report;
 use crate::settings::Settings;
@@ -48,13 +49,19 @@ fn add_chances(text: &mut String, alloc: Global, of: &Settings<'_>) -> Result<()
     text.push_str("\n")
 }
 
-/// Adds how many purchases began, in which time.
-fn add_pace(text: &mut String, alloc: Global, begun: u64, micros: u64) -> Result<(), AllocError> {
+/// Adds how many transactions began, in which time.
+fn add_pace(
+    text: &mut String,
+    alloc: Global,
+    what: &str,
+    begun: u64,
+    micros: u64,
+) -> Result<(), AllocError> {
     let time = seconds(alloc, micros)?;
     let pace = per_second(begun, micros);
     write!(
         text,
-        "{begun} purchases in {} s, {pace} a second\n",
+        "{begun} {what} in {} s, {pace} a second\n",
         time.as_str()
     )
 }
@@ -103,14 +110,46 @@ fn add_summary(
     text.push_str("\n")
 }
 
+/// What a run began, by whether a mix was asked.
+fn begun_of(mixed: &Option<Mixed>) -> &'static str {
+    match mixed {
+        Some(_) => "transactions",
+        None => "purchases",
+    }
+}
+
+/// Adds how many of a hundred transactions were to be of each kind, where a mix was asked.
+fn add_asked(text: &mut String, mixed: &Option<Mixed>) -> Result<(), AllocError> {
+    match mixed {
+        Some(mixed) => add_mix(text, &mixed.mix),
+        None => Ok(()),
+    }
+}
+
+/// Adds how far those got that aren't purchases, where a mix was asked.
+fn add_others(text: &mut String, mixed: &Option<Mixed>) -> Result<(), AllocError> {
+    match mixed {
+        Some(mixed) => add_mixed(text, mixed),
+        None => Ok(()),
+    }
+}
+
 impl Report<'_> {
+    /// Adds what it was to do, and how much it did.
+    fn add_head(&self, text: &mut String, alloc: Global) -> Result<(), AllocError> {
+        add_settings(text, &self.settings)?;
+        add_chances(text, alloc, &self.settings)?;
+        add_asked(text, &self.mixed)?;
+        let what = begun_of(&self.mixed);
+        add_pace(text, alloc, what, self.tally.begun, self.micros)?;
+        add_ended(text, &self.ended)?;
+        add_others(text, &self.mixed)
+    }
+
     /// What the run tells, for people: lines of text, each of which ends with a line feed.
     pub fn to_text(&self, alloc: Global) -> Result<String, AllocError> {
         let mut text = String::new(alloc);
-        add_settings(&mut text, &self.settings)?;
-        add_chances(&mut text, alloc, &self.settings)?;
-        add_pace(&mut text, alloc, self.tally.begun, self.micros)?;
-        add_ended(&mut text, &self.ended)?;
+        self.add_head(&mut text, alloc)?;
         if let Some(summary) = &self.summary {
             add_summary(&mut text, alloc, self.timed, summary)?;
             add_histogram(&mut text, alloc, &self.buckets)?;

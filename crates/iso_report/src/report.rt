@@ -3,6 +3,7 @@
 use crate::books::{AccountBooks, Doubt, all_agree};
 use crate::bucket::Bucket;
 use crate::ended::Ended;
+use crate::mixed::Mixed;
 use crate::settings::Settings;
 use crate::summary::Summary;
 use crate::tally::Tally;
@@ -16,6 +17,8 @@ pub struct Report<'a> {
     pub tally: Tally,
     /// How far its transactions got, those of earlier runs with the same notes among them.
     pub ended: Ended,
+    /// How far those got that aren't purchases, where a mix was asked.
+    pub mixed: Option<Mixed>,
     /// How many answers were timed: those that closed a transaction whose order was sent once.
     pub timed: usize,
     /// Their percentiles, if there were any.
@@ -39,8 +42,17 @@ impl Report<'_> {
         }
     }
 
+    /// Whether all transactions are closed: each purchase, and each order that isn't one has its answer.
+    pub fn all_closed(&self) -> bool {
+        let are_answered = match &self.mixed {
+            Some(mixed) => mixed.is_closed(),
+            None => true,
+        };
+        self.ended.open == 0 && are_answered
+    }
+
     /// Whether all transactions are closed, and both ends agree where that was asked.
     pub fn is_good(&self) -> bool {
-        self.ended.open == 0 && self.books_agree().unwrap_or(true)
+        self.all_closed() && self.books_agree().unwrap_or(true)
     }
 }

@@ -5,15 +5,15 @@ ghost use Rattle.iso_report.specs.Tally.{one_more};
 /// What happened to the traffic of a run, in counts. None of them goes past the greatest `u64`: there it stays.
 #[derive(Clone, Copy, Debug, PartialEq, Eq)]
 pub struct Tally {
-    /// Purchases that this run began.
+    /// Transactions that this run began.
     pub begun: u64,
     /// Transactions that the notes of an earlier run left open.
     pub resumed: u64,
     /// Frames that were written, each repeat among them.
     pub sent: u64,
-    /// Orders of purchases that were sent again, since no answer came in time.
+    /// Orders that were sent again, since no answer came in time.
     pub again: u64,
-    /// Reversals that were sent, each counted once.
+    /// Reversals of purchases that were sent, each counted once.
     pub reversals: u64,
     /// Frames that came and were read as answers.
     pub answers: u64,

@@ -2,6 +2,8 @@
 use Rattle.std.specs.Prelude.{ℕ, Bool, true, false}
 use Rattle.iso_drive.specs.declared.heard.Heard.{Heard}
 use Rattle.iso_drive.specs.declared.heard.Heard.TheVariants.{Closed, Known, Foreign}
+use Rattle.iso_mix.specs.declared.hearing.Hearing.{Hearing}
+use Rattle.iso_mix.specs.declared.hearing.Hearing.TheVariants as beside
 use Rattle.iso_report.specs.declared.tally.Tally.{Tally}
 use Rattle.iso_report.specs.Tally.{one_more}
 
@@ -18,3 +20,11 @@ counted_as t Foreign differs = record t { foreign = one_more t.foreign }
 
 abbrev pub counted : Tally → Heard → Bool → Tally
 counted t heard differs = counted_as (record t { answers = one_more t.answers }) heard differs
+
+-- an answer to an order that is no purchase; one to another key is none of these
+abbrev pub counted_beside : Tally → Hearing → Tally
+counted_beside t beside.First = record t { answers = one_more t.answers }
+counted_beside t beside.Known = record t { answers = one_more t.answers; late = one_more t.late }
+counted_beside t beside.Differs =
+    record t { answers = one_more t.answers; late = one_more t.late; differing = one_more t.differing }
+counted_beside t beside.Foreign = t

@@ -1,6 +1,7 @@
 -- Which plans a run takes.
 use Rattle.std.specs.Prelude.{ℕ, Bool, true, false, not, ◌==◌, ◌&&◌, ◌||◌, nat_le, nat_lt, List, length, Option, Some, None, if◌then◌else◌}
 use Rattle.std.specs.List.{list_all}
+use Rattle.iso_mix.specs.Mix.{is_fair}
 use Rattle.iso_order.specs.Order.{most_amount, is_currency}
 use Rattle.iso_traffic.specs.declared.plan.Buyer.{Buyer}
 use Rattle.iso_traffic.specs.declared.plan.Faults.{Faults}
@@ -38,6 +39,7 @@ plan_fault p =
     else if p.most_open == 0 then Some fault.Open
     else if not (is_rate p.rate) then Some fault.Rate
     else if not (are_amounts p.least p.most) then Some fault.Amounts
+    else if not (is_fair p.mix) then Some fault.Mix
     else if not (are_faults p.faults) then Some fault.Faults
     else if not (are_buyers p.buyers.now) then Some fault.Buyers
     else None

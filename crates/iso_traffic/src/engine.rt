@@ -10,6 +10,8 @@ use crate::plan::Plan;
 use crate::reading::Read as Reading;
 use crate::sendings::Sendings;
 use iso_drive::{Counts, Draw, Driver};
+use iso_mix::Sides;
+use iso_order::{MOST_STAN, Order};
 use iso_report::{Latencies, Tally};
 use iso_restarts::NoteLog;
 use std::alloc::Global;
@@ -32,6 +34,12 @@ pub(crate) struct Engine<'p, S> {
     pub sendings: Sendings,
     pub draw: Draw,
     pub inquiries: Inquiries,
+    /// What is asked beside purchases.
+    pub sides: Sides,
+    /// What of it began, and wasn't sent yet.
+    pub fresh: Vec<Order>,
+    /// The largest trace number of the driver's orders.
+    pub highest: u32,
     /// What the host told of each account before the first purchase.
     pub before: Vec<Option<i64>>,
     /// The frame that goes out.
@@ -80,6 +88,9 @@ impl<'p, S: Read + Write + Drop> Engine<'p, S> {
             sendings: Sendings::new(alloc, earlier)?,
             draw: Draw::new(plan.seed),
             inquiries: Inquiries::none(alloc, plan.patience),
+            sides: Sides::new(alloc, plan.patience),
+            fresh: Vec::new(alloc),
+            highest: earlier.min(MOST_STAN as usize) as u32,
             before: Vec::new(alloc),
             frame: Vec::new(alloc),
             read: Vec::new(alloc),

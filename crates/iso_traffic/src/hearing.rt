@@ -25,6 +25,9 @@ impl<S: Read + Write + Drop> Engine<'_, S> {
         told: &Told,
         now: Moment,
     ) -> Result<(), TrafficFault> {
+        if !self.plan.mix.is_none() && self.hear_beside(told)? {
+            return Ok(());
+        }
         let Ok(heard) = driver.heard(told) else {
             return Err(TrafficFault::Notes);
         };

@@ -8,6 +8,7 @@
 #![tactic(auto)]
 
 mod balance;
+mod beside;
 mod connection;
 mod counting;
 mod edge;

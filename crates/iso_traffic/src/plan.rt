@@ -3,6 +3,7 @@ ghost use Rattle.std.specs.Prelude.{◌≡◌};
 ghost use Rattle.std.specs.List.{list_all};
 ghost use Rattle.iso_traffic.specs.Plan.{has_currency, are_buyers, are_faults, plan_fault};
 
+use iso_mix::Mix;
 use iso_order::{MOST_AMOUNT, Pan, currency_of};
 use iso_table::Table;
 use iso_wire::Header;
@@ -75,6 +76,8 @@ pub struct Plan<'a> {
     pub least: u64,
     /// The most, at most twelve nines.
     pub most: u64,
+    /// Of a hundred transactions so many aren't purchases, but holds, completions, inquiries or partial reversals.
+    pub mix: Mix,
     /// How long an answer is waited for, in milliseconds.
     pub patience: u64,
     /// What is done to the traffic.
@@ -105,6 +108,9 @@ pub enum PlanFault {
     /// The amounts aren't from 1 to twelve nines, the least first.
     #[error("amounts are from 1 to 999999999999, the least first")]
     Amounts,
+    /// More than a hundred of a hundred transactions are to be holds, completions, inquiries and partial reversals.
+    #[error("a mix is a hundred of a hundred transactions at most")]
+    Mix,
     /// A chance is more than a million millionths, or the most delay is less than the least.
     #[error("a chance is at most a million millionths, and the least delay comes first")]
     Faults,
@@ -159,6 +165,9 @@ impl Plan<'_> {
         }
         if self.least == 0 || self.least > self.most || self.most > MOST_AMOUNT {
             return Some(PlanFault::Amounts);
+        }
+        if !self.mix.is_fair() {
+            return Some(PlanFault::Mix);
         }
         if !are_faults(&self.faults) {
             return Some(PlanFault::Faults);

@@ -79,7 +79,7 @@ impl Course {
         let before = self.stage;
         let stands = Standing {
             is_closing: engine.is_closing(goes),
-            is_closed: driver.is_closed(),
+            is_closed: driver.is_closed() && engine.sides.is_closed(),
             checks: engine.plan.checks,
             are_done: engine.inquiries.are_done(),
         };
@@ -198,7 +198,9 @@ fn run<R: Net + Clock, L: NoteLog, W: Watch>(
         )?;
     }
     Ok(Outcome {
-        all_closed: driver.is_closed(),
+        all_closed: driver.is_closed() && engine.sides.is_closed(),
+        moved: engine.moved()?,
+        mixed: engine.mixed(),
         before: std::mem::replace(&mut engine.before, Vec::new(alloc)),
         balances: match course.stage {
             Stage::Opening | Stage::Buying => Vec::new(alloc),

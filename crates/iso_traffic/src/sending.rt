@@ -80,7 +80,7 @@ impl<S: Read + Write + Drop> Engine<'_, S> {
     }
 
     /// Writes the frame of an order, and has it go out as its fate says.
-    fn send(&mut self, order: &Order, now: Moment) -> Result<(), TrafficFault> {
+    pub fn send(&mut self, order: &Order, now: Moment) -> Result<(), TrafficFault> {
         let mut frame = std::mem::replace(&mut self.frame, Vec::new(self.alloc));
         let written = write_frame(
             self.alloc,

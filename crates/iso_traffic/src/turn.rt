@@ -65,8 +65,8 @@ impl<S: Read + Write + Drop> Engine<'_, S> {
         Ok(())
     }
 
-    /// A purchase, as it is drawn.
-    fn draw_purchase(&mut self) -> Option<Money> {
+    /// An account, by its place, and an amount, as they are drawn.
+    fn draw_money(&mut self) -> Option<(usize, Money)> {
         let count = self.plan.buyers.len();
         let (least, most) = (self.plan.least, self.plan.most);
         if count == 0 || least > most {
@@ -76,27 +76,43 @@ impl<S: Read + Write + Drop> Engine<'_, S> {
         let amount = self.draw.amount(least, most);
         let buyer = self.plan.buyers[place];
         let currency = buyer.currency;
-        Some(Money {
+        let money = Money {
             pan: buyer.pan,
             amount,
             currency,
-        })
+        };
+        Some((place, money))
     }
 
-    /// Begins a purchase: whether it did. Where no trace number is left, none begins any more.
+    /// Begins a transaction: whether it did. Without a mix it is a purchase.
     fn begin<L: NoteLog>(
         &mut self,
         driver: &mut Driver<L>,
         now: Moment,
     ) -> Result<bool, TrafficFault> {
-        let Some(money) = self.draw_purchase() else {
+        let Some((place, money)) = self.draw_money() else {
             return Ok(false);
         };
-        if !is_fair(&money, now.sent) {
+        if self.plan.mix.is_none() {
+            self.buy(driver, &money, now)
+        } else {
+            self.begin_mixed(driver, place, money, now)
+        }
+    }
+
+    /// Begins a purchase: whether it did. Where no trace number is left, none begins any more.
+    pub fn buy<L: NoteLog>(
+        &mut self,
+        driver: &mut Driver<L>,
+        money: &Money,
+        now: Moment,
+    ) -> Result<bool, TrafficFault> {
+        if !is_fair(money, now.sent) {
             return Ok(false);
         }
-        match driver.begin(&money, now.sent, now.millis()) {
-            Ok(_) => {
+        match driver.begin(money, now.sent, now.millis()) {
+            Ok(stan) => {
+                self.highest = self.highest.max(stan);
                 add_one(&mut self.tally.begun);
                 Ok(true)
             }
@@ -108,13 +124,19 @@ impl<S: Read + Write + Drop> Engine<'_, S> {
         }
     }
 
-    /// Begins the purchases that are due.
+    /// How many transactions are open.
+    fn open_with<L: NoteLog>(&self, driver: &Driver<L>) -> usize {
+        driver.open().saturating_add(self.sides.open())
+    }
+
+    /// Begins the transactions that are due.
     fn begin_due<L: NoteLog>(
         &mut self,
         driver: &mut Driver<L>,
         now: Moment,
     ) -> Result<(), TrafficFault> {
-        let due = due_purchases(&self.pace, now.millis(), self.tally.begun, driver.open());
+        let open = self.open_with(driver);
+        let due = due_purchases(&self.pace, now.millis(), self.tally.begun, open);
         for _ in 0..due {
             if !self.begin(driver, now)? {
                 return Ok(());
@@ -137,7 +159,12 @@ impl<S: Read + Write + Drop> Engine<'_, S> {
             self.begin_due(driver, now)?;
         }
         match driver.keep() {
-            Ok(orders) => Ok(orders),
+            Ok(orders) => {
+                if !self.plan.mix.is_none() {
+                    self.note_numbers(&orders);
+                }
+                Ok(orders)
+            }
             Err(fault) => Err(noted(fault)),
         }
     }
@@ -160,6 +187,9 @@ impl<S: Read + Write + Drop> Engine<'_, S> {
     ) -> Result<(), TrafficFault> {
         let orders = self.orders(driver, now)?;
         self.send_all(&orders, now)?;
+        if !self.plan.mix.is_none() {
+            self.send_beside(now)?;
+        }
         self.send_inquiries(now)?;
         self.write_all(now);
         Ok(())
@@ -181,12 +211,12 @@ impl<S: Read + Write + Drop> Engine<'_, S> {
         if self.lines.open() == 0 {
             return None;
         }
-        let begins = if self.is_closing(now) || driver.open() >= self.pace.most_open {
+        let begins = if self.is_closing(now) || self.open_with(driver) >= self.pace.most_open {
             None
         } else {
             self.next_purchase()
         };
-        sooner(driver.next_due(), begins)
+        sooner(sooner(driver.next_due(), self.sides.next_due()), begins)
     }
 
     /// How long the next turn waits for events at most, in milliseconds.
@@ -206,7 +236,7 @@ impl<S: Read + Write + Drop> Engine<'_, S> {
         Progress {
             elapsed: now.millis(),
             begun: self.tally.begun,
-            open: driver.open(),
+            open: self.open_with(driver),
             sent: self.tally.sent,
             answers: self.tally.answers,
             connected: self.lines.open(),

@@ -5,7 +5,7 @@
 pub struct Progress {
     /// Milliseconds since the run began.
     pub elapsed: u64,
-    /// Purchases that this run began.
+    /// Transactions that this run began.
     pub begun: u64,
     /// Transactions that are open.
     pub open: usize,

@@ -276,6 +276,7 @@ fn drive_words<'a>(matches: &ArgMatches<'a>) -> DriveWords<'a> {
         count: matches.get_one::<u32>("count").unwrap_or(0),
         seconds: matches.get_one::<u64>("seconds").unwrap_or(1),
         amount: text_of(matches, "amount"),
+        mix: matches.get_str("mix"),
         patience: matches.get_one::<u64>("patience").unwrap_or(1),
         lose: text_of(matches, "lose"),
         repeat: text_of(matches, "repeat"),

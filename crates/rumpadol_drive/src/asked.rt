@@ -1,7 +1,9 @@
 //! What the words ask of a run, as numbers.
 
+use crate::mixing::mix_of;
 use crate::numbers::{millionths_of, range_of};
 use crate::words::DriveWords;
+use iso_mix::Mix;
 use iso_traffic::Faults;
 use rumpadol_tables::{Stop, misused};
 use std::alloc::Global;
@@ -13,6 +15,7 @@ pub(crate) struct Asked {
     pub address: SocketAddr,
     pub least: u64,
     pub most: u64,
+    pub mix: Mix,
     pub faults: Faults,
 }
 
@@ -59,6 +62,24 @@ fn delay_of(alloc: Global, text: &str) -> Result<(u32, u32), Stop> {
     )))
 }
 
+/// The mix of transactions; purchases alone, where none is asked.
+fn mix_asked(alloc: Global, words: &DriveWords<'_>) -> Result<Mix, Stop> {
+    let Some(text) = words.mix else {
+        return Ok(Mix::NONE);
+    };
+    if words.journal.is_some() {
+        return Err(misused(format!(in alloc;
+            "rumpadol: --mix {text}: a diary keeps purchases alone; leave out --journal, or --mix\n"
+        )));
+    }
+    match mix_of(text) {
+        Some(mix) => Ok(mix),
+        None => Err(misused(format!(in alloc;
+            "rumpadol: --mix {text}: write how many of 100 transactions are of each kind, as hold=20,complete=10,inquiry=5,undo=5, and 100 together at most\n"
+        ))),
+    }
+}
+
 /// What the words ask.
 pub(crate) fn asked_of(alloc: Global, words: &DriveWords<'_>) -> Result<Asked, Stop> {
     let (least, most) = amounts_of(alloc, words.amount)?;
@@ -66,6 +87,7 @@ pub(crate) fn asked_of(alloc: Global, words: &DriveWords<'_>) -> Result<Asked, S
         address: address_of(alloc, words.address)?,
         least,
         most,
+        mix: mix_asked(alloc, words)?,
         faults: Faults {
             lose: chance_of(alloc, "lose", words.lose)?,
             repeat: chance_of(alloc, "repeat", words.repeat)?,

@@ -67,7 +67,12 @@ pub(crate) fn messages_of<L: NoteLog>(
     for trace in traces.iter().take(MOST_SHOWN) {
         if let Some(purchase) = purchase_at(driver, *trace) {
             push_line(alloc, table, Some(purchase), &mut lines)?;
-            push_line(alloc, table, reversal_of(driver, purchase.key()), &mut lines)?;
+            push_line(
+                alloc,
+                table,
+                reversal_of(driver, purchase.key()),
+                &mut lines,
+            )?;
         }
     }
     Ok(lines)

@@ -10,6 +10,7 @@ mod buyers;
 mod day;
 mod diary;
 mod in_question;
+mod mixing;
 mod numbers;
 mod performing;
 mod picture;

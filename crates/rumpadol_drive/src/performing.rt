@@ -66,6 +66,7 @@ impl Ready<'_> {
             seconds: words.seconds,
             least: asked.least,
             most: asked.most,
+            mix: asked.mix,
             patience: words.patience,
             faults: asked.faults,
             seed: words.seed,

@@ -82,6 +82,11 @@ fn opening_at(buyers: &Buyers, before: &[Option<i64>], place: usize) -> i64 {
     }
 }
 
+/// What was taken from the account at a place by what isn't a purchase.
+fn moved_at(outcome: &Outcome, place: usize) -> u128 {
+    outcome.moved.get(place).copied().unwrap_or(0)
+}
+
 /// What both ends say of each account.
 fn books_of<L: NoteLog>(
     alloc: Global,
@@ -94,7 +99,9 @@ fn books_of<L: NoteLog>(
         books.push(AccountBooks {
             pan: buyer.pan,
             opening: opening_at(buyers, &outcome.before, place),
-            spent: driver.spent(&buyer.pan),
+            spent: driver
+                .spent(&buyer.pan)
+                .saturating_add(moved_at(outcome, place)),
             told: outcome.balances.get(place).copied().unwrap_or(None),
         })?;
     }
@@ -147,6 +154,7 @@ pub(crate) fn report_of<'a, L: NoteLog>(
         settings: settings_of(words, asked, most_open),
         tally: happened.tally,
         ended: ended_of(alloc, driver)?,
+        mixed: happened.outcome.mixed,
         timed: happened.latencies.len(),
         summary: happened.latencies.summary(),
         buckets: happened.latencies.buckets(alloc)?,

@@ -48,6 +48,8 @@ pub struct DriveWords<'a> {
     pub seconds: u64,
     /// The range of amounts, as `LEAST..MOST`.
     pub amount: &'a str,
+    /// How many of a hundred transactions are of which kind, as `hold=20,complete=10`, if not all are purchases.
+    pub mix: Option<&'a str>,
     /// How long an answer is waited for, in milliseconds.
     pub patience: u64,
     /// How likely a frame is lost, as a decimal fraction.

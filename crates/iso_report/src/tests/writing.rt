@@ -1,6 +1,7 @@
 //! A whole report: for people, as JSON and as a picture.
 
-use crate::{AccountBooks, Declined, Doubt, Ended, Latencies, Report, Settings, Tally};
+use crate::{AccountBooks, Declined, Doubt, Ended, Latencies, Mixed, Report, Settings, Tally};
+use iso_mix::{Counts, Mix};
 use iso_order::Pan;
 use std::alloc::{AllocError, Global};
 use std::process::Abort;
@@ -85,6 +86,7 @@ fn report(rt: &impl Abort, alloc: Global) -> Result<Report<'static>, AllocError>
             reversed: 1,
             open: 0,
         },
+        mixed: None,
         timed: latencies.len(),
         buckets: latencies.buckets(alloc)?,
         summary: latencies.summary(),
@@ -172,6 +174,7 @@ const JSON: &str = "{\"all_closed\":true,\
 {\"below\":10000000,\"count\":0,\"from\":5000000},\
 {\"below\":null,\"count\":0,\"from\":10000000}],\
 \"latency_micros\":{\"answers\":4,\"least\":845,\"most\":12300,\"p50\":1100,\"p90\":12300,\"p99\":12300,\"p999\":12300},\
+\"mix\":null,\
 \"settings\":{\"acquirer\":12345,\"address\":\"127.0.0.1:8583\",\"connections\":8,\"cut_millionths\":2500,\"delay_ms\":[50,200],\
 \"header\":\"binary2\",\"lose_millionths\":50000,\"most_open\":128,\"patience_ms\":2000,\"rate\":200,\"repeat_millionths\":0,\
 \"seed\":7,\"table\":\"bcd87\"},\
@@ -204,6 +207,7 @@ fn idle(alloc: Global) -> Report<'static> {
             reversed: 0,
             open: 3,
         },
+        mixed: None,
         timed: 0,
         buckets: Vec::new(alloc),
         summary: None,
@@ -252,4 +256,48 @@ fn as_a_picture(rt: HostRuntime) {
         )
     );
     assert!(rt; picture.as_str().ends_with(PICTURE));
+}
+
+/// How far some orders got.
+fn counts(waiting: usize, granted: usize, refused: usize) -> Counts {
+    Counts {
+        waiting,
+        granted,
+        refused,
+    }
+}
+
+#[test]
+fn of_a_mix(rt: HostRuntime) {
+    let mut report = idle(rt.alloc());
+    report.ended.open = 0;
+    report.mixed = Some(Mixed {
+        mix: Mix {
+            hold: 20,
+            complete: 10,
+            inquiry: 5,
+            undo: 5,
+        },
+        holds: counts(0, 20, 1),
+        completions: counts(1, 9, 0),
+        inquiries: counts(0, 5, 0),
+        undone: counts(0, 4, 0),
+    });
+    assert!(rt; !report.all_closed());
+    assert!(rt; !report.is_good());
+    let text = report.to_text(rt.alloc()).expect(&rt, "memory");
+    let lines = [
+        "\nof 100 transactions: holds 20, completions 10, inquiries 5, partial reversals 5\n",
+        "\n0 transactions in 0.00 s, 0 a second\n",
+        "\nOther kinds                      begun     granted     refused  unanswered\n",
+        "\n  holds                             21          20           1           0\n",
+        "\n  completions                       10           9           0           1\n",
+    ];
+    for line in lines {
+        assert!(rt; text.as_str().contains(line), "{line}");
+    }
+    let json = report.to_json(rt.alloc()).expect(&rt, "memory");
+    let part =
+        "\"mix\":{\"complete\":{\"begun\":10,\"granted\":9,\"of_100\":10,\"open\":1,\"refused\":0},\"hold\":{";
+    assert!(rt; json.as_str().contains(part));
 }

@@ -23,6 +23,9 @@ Examples:
   rumpadol drive 127.0.0.1:8583 --table bcd87 --header binary2 --acquirer 12345 --accounts accounts.json \\
       --journal day.diary --new --json --picture day.svg
       an acquirer that outlives its own crashes, its report as JSON and the histogram as a picture
+  rumpadol drive 127.0.0.1:8583 --table bcd87 --header binary2 --acquirer 12345 --accounts accounts.json \\
+      --mix hold=20,complete=10,inquiry=5,undo=5 --lose 0.05 --check
+      of 100 transactions 20 holds, 10 completions and 5 partial reversals of holds, and 5 inquiries; 60 are purchases
   rumpadol drive 127.0.0.1:8583 --table bcd87 --header binary2 --frames day.frames --expect answers.frames
       a day that is sent again, and where the answers of the host aren't those of a host before
 
@@ -107,7 +110,7 @@ fn with_buyer<'a>(alloc: Global, command: Command<'a>) -> Result<Command<'a>, Al
         .arg(accounts.required_unless_present("frames")?)
 }
 
-/// The words that say how much is bought.
+/// The words that say what is bought, and how much.
 fn with_amount<'a>(alloc: Global, command: Command<'a>) -> Result<Command<'a>, AllocError> {
     let count = number(
         alloc,
@@ -115,17 +118,24 @@ fn with_amount<'a>(alloc: Global, command: Command<'a>) -> Result<Command<'a>, A
         "N",
         0,
         u64::from(MOST_COUNT),
-        "So many purchases at most; 0 closes what an earlier run left open",
+        "So many transactions at most; 0 closes what an earlier run left open",
     )?;
     let amount = buying(
         alloc,
         "amount",
         "LEAST..MOST",
-        "What a purchase costs, in minor units",
+        "What a purchase or a hold costs, in minor units",
+    )?;
+    let mix = buying(
+        alloc,
+        "mix",
+        "SHARES",
+        "So many of 100 transactions are no purchases, as hold=20,complete=10,inquiry=5,undo=5",
     )?;
     command
         .arg(count.default_value("1000"))?
-        .arg(amount.default_value("100..10000"))
+        .arg(amount.default_value("100..10000"))?
+        .arg(mix)
 }
 
 /// The words that say how fast it is bought.
@@ -144,7 +154,7 @@ fn with_pace<'a>(alloc: Global, command: Command<'a>) -> Result<Command<'a>, All
         "N",
         1,
         u64::from(MOST_RATE),
-        "So many purchases begin in a second; without it, as many as may be open",
+        "So many transactions begin in a second; without it, as many as may be open",
     )?;
     let open = number(
         alloc,

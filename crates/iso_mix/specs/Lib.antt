@@ -1,0 +1,10 @@
+pub mod Asked
+pub mod Begun
+pub mod Book
+pub mod Counts
+pub mod Hearing
+pub mod Laws
+pub mod Mix
+pub mod Orders
+pub mod Taken
+pub mod Waits
