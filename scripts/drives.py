@@ -9,9 +9,11 @@ The last line is `N runs, B bad`, and the status is 0 where B is 0.
 import contextlib
 import json
 import pathlib
+import select
 import socket
 import subprocess
 import sys
+import threading
 import time
 
 from traffic import HERE, WAIT, Peer, Spelling, accounts_document, asked, free_ports, listening, payment, tell_runs
@@ -70,6 +72,10 @@ def is_mixed_and_broken(told):
     return is_mixed(told) and is_broken(told)
 
 
+def is_tampered(told):
+    return told["traffic"]["differing"] > 0 and told["transactions"]["approved"] == COUNT
+
+
 def is_refused(told):
     return told["traffic"]["refused"] > 0 and told["traffic"]["connected"] == 0 and told["traffic"]["begun"] == 0
 
@@ -112,6 +118,41 @@ def host(command, folder, rules):
 def nobody():
     """A port at which nobody listens."""
     yield free_ports(1)[0]
+
+
+def tampered(answers, seen):
+    """The frames of whole answers, each of which differs in its last byte where it came before, and what is left of the bytes."""
+    out = b""
+    while len(answers) > 2 and len(answers) >= 2 + int.from_bytes(answers[:2], "big"):
+        frame, answers = answers[:2 + int.from_bytes(answers[:2], "big")], answers[2 + int.from_bytes(answers[:2], "big"):]
+        out += frame[:-1] + bytes([frame[-1] ^ 1]) if frame in seen else frame
+        seen.add(frame)
+    return out, answers
+
+
+def relay_once(listener, port):
+    """Takes a connection, and relays it to a host until either end closes: repeats of answers are tampered with."""
+    near, _ = listener.accept()
+    far, seen, rest = socket.create_connection((HERE, port)), set(), b""
+    with near, far:
+        while True:
+            ready, _, _ = select.select([near, far], [], [])
+            if near in ready:
+                asked_for = near.recv(1 << 16)
+                if not asked_for:
+                    return
+                far.sendall(asked_for)
+            if far in ready:
+                out, rest = tampered(rest + far.recv(1 << 16), seen)
+                near.sendall(out)
+
+
+@contextlib.contextmanager
+def tampering(port):
+    """A port before a host, whose answers to repeats have another last byte there."""
+    with socket.create_server((HERE, 0)) as listener:
+        threading.Thread(target=relay_once, args=(listener, port), daemon=True).start()
+        yield listener.getsockname()[1]
 
 
 @contextlib.contextmanager
@@ -180,6 +221,8 @@ class Drives:
             for name, rules, words, closed, agree, holds in CASES:
                 port = honest if rules is None else stack.enter_context(host(self.command, self.folder, rules))
                 self.judge(name, port, words, closed, agree, holds)
+            with tampering(honest) as port:
+                self.judge("a host that answers a repeat with other bytes", port, [*CALM, "--repeat", "1"], True, None, is_tampered)
             self.judge("a host of another table", honest, [*QUICK, "--seconds", "3"], False, None, is_unanswered,
                        Spelling("ascii87", "ascii4"))
         with nobody() as port:

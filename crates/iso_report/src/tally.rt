@@ -21,7 +21,7 @@ pub struct Tally {
     pub late: u64,
     /// Answers to orders that this acquirer never made.
     pub foreign: u64,
-    /// Answers to one order that came again with another code.
+    /// Answers to one order that came again with other bytes; to what isn't a purchase, with another code.
     pub differing: u64,
     /// Frames that are no message of the table, or tell no answer.
     pub unreadable: u64,

@@ -18,7 +18,7 @@ fn other_rows(tally: &Tally) -> [(&'static str, u64); 13] {
     [
         ("  late or again", tally.late),
         ("  to no order of ours", tally.foreign),
-        ("  with another code", tally.differing),
+        ("  with other bytes", tally.differing),
         ("frames not read", tally.unreadable),
         ("headers not read", tally.bad_frames),
         ("lost on purpose", tally.lost),

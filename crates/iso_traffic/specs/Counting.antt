@@ -7,7 +7,7 @@ use Rattle.iso_mix.specs.declared.hearing.Hearing.TheVariants as beside
 use Rattle.iso_report.specs.declared.tally.Tally.{Tally}
 use Rattle.iso_report.specs.Tally.{one_more}
 
--- one that tells nothing new came late, or again; with another code than the one that closed, it differs
+-- one that tells nothing new came late, or again; with other bytes than the one that closed, it differs
 abbrev pub counted_late : Tally → Bool → Tally
 counted_late t true = record t { late = one_more t.late; differing = one_more t.differing }
 counted_late t false = record t { late = one_more t.late }

@@ -10,11 +10,11 @@ pub record Known : Type 0 where
 
 -- an order that wasn't sent
 abbrev pub unsent : Sending
-unsent = record { times = 0; first = 0; code = None }
+unsent = record { times = 0; first = 0; answer = None }
 
 -- an order of an earlier run, which sent it once at least
 abbrev pub of_earlier : Sending
-of_earlier = record { times = 1; first = 0; code = None }
+of_earlier = record { times = 1; first = 0; answer = None }
 
 abbrev pub earlier_or_none : ℕ → ℕ → Sending
 earlier_or_none earlier n = if nat_le n earlier then of_earlier else unsent
@@ -28,14 +28,14 @@ abbrev pub sent_again : ℕ → Sending → Sending
 sent_again now s = record {
   times = min (s.times + 1) 4294967295;
   first = if s.times == 0 then now else s.first;
-  code = s.code;
+  answer = s.answer;
 }
 
--- an answer of that code closed a transaction, if the order was sent
+-- an answer of that digest closed a transaction, if the order was sent
 abbrev pub closed_by : ℕ → List Sending → ℕ → Sending
-closed_by code by_trace n =
+closed_by answer by_trace n =
     if nat_lt n (length by_trace)
-    then record (sending_at by_trace n) { code = Some code }
+    then record (sending_at by_trace n) { answer = Some answer }
     else sending_at by_trace n
 
 -- from the first sending to a moment, of an order that was sent once, in this run
@@ -45,7 +45,7 @@ latency_of k stan now =
     then Some (now - (sending_at k.by_trace stan).first)
     else None
 
--- another code than the one that closed a transaction before
+-- another digest than that of the answer that closed a transaction before
 abbrev pub differs_from : ℕ → Option ℕ → Bool
-differs_from code None = false
-differs_from code (Some first) = not (first == code)
+differs_from answer None = false
+differs_from answer (Some first) = not (first == answer)

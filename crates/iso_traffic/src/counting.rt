@@ -5,7 +5,7 @@ ghost use Rattle.iso_traffic.specs.Counting.{counted};
 use iso_drive::Heard;
 use iso_report::{Tally, add_one};
 
-/// Counts an answer by what it came to, and whether its code differs from the one that closed a transaction before.
+/// Counts an answer by what it came to, and whether it differs from the one that closed a transaction before.
 pub(crate) fn count_heard(tally: &mut Tally, heard: Heard, differs: bool)
     ensures { tally.new ≡ counted tally.old heard differs }
 {

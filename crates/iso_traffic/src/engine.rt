@@ -1,5 +1,6 @@
 //! The engine of a run: what is done with what came, and what goes out.
 
+use crate::came::Taken;
 use crate::fate::Fates;
 use crate::fault::TrafficFault;
 use crate::inquiries::Inquiries;
@@ -7,7 +8,6 @@ use crate::late::Late;
 use crate::lines::Lines;
 use crate::pace::{Pace, closing_moment};
 use crate::plan::Plan;
-use crate::reading::Read as Reading;
 use crate::sendings::Sendings;
 use iso_drive::{Counts, Draw, Driver};
 use iso_mix::Sides;
@@ -44,8 +44,8 @@ pub(crate) struct Engine<'p, S> {
     pub before: Vec<Option<i64>>,
     /// The frame that goes out.
     pub frame: Vec<u8>,
-    /// What the frames told that came.
-    pub read: Vec<Reading>,
+    /// The frames that came.
+    pub taken: Taken,
     pub tally: Tally,
     pub latencies: Latencies,
 }
@@ -93,7 +93,7 @@ impl<'p, S: Read + Write + Drop> Engine<'p, S> {
             highest: earlier.min(MOST_STAN as usize) as u32,
             before: Vec::new(alloc),
             frame: Vec::new(alloc),
-            read: Vec::new(alloc),
+            taken: Taken::new(alloc),
             tally,
             latencies: Latencies::new(alloc),
         })

@@ -1,5 +1,6 @@
 //! What is done with what came.
 
+use crate::came::{Came, Taken, add_digests};
 use crate::connection::State;
 use crate::counting::count_heard;
 use crate::engine::Engine;
@@ -9,7 +10,6 @@ use crate::late::Held;
 use crate::moment::Moment;
 use crate::reading::{Read as Reading, take_frames};
 use iso_drive::{Driver, Heard};
-use iso_order::Told;
 use iso_report::add_one;
 use iso_restarts::NoteLog;
 use std::io::{Read, Write};
@@ -22,22 +22,23 @@ impl<S: Read + Write + Drop> Engine<'_, S> {
     pub fn hear<L: NoteLog>(
         &mut self,
         driver: &mut Driver<L>,
-        told: &Told,
+        came: &Came,
         now: Moment,
     ) -> Result<(), TrafficFault> {
+        let told = &came.told;
         if !self.plan.mix.is_none() && self.hear_beside(told)? {
             return Ok(());
         }
         let Ok(heard) = driver.heard(told) else {
             return Err(TrafficFault::Notes);
         };
-        let differs = self.sendings.differs(told.key.stan, told.code);
+        let differs = self.sendings.differs(told.key.stan, came.digest);
         count_heard(&mut self.tally, heard, differs);
         if let Heard::Closed { .. } = heard {
             if let Some(micros) = self.sendings.latency(told.key.stan, now.micros) {
                 self.latencies.add(micros)?;
             }
-            self.sendings.close(told.key.stan, told.code);
+            self.sendings.close(told.key.stan, came.digest);
         }
         Ok(())
     }
@@ -46,16 +47,16 @@ impl<S: Read + Write + Drop> Engine<'_, S> {
     fn hear_later<L: NoteLog>(
         &mut self,
         driver: &mut Driver<L>,
-        told: &Told,
+        came: &Came,
         delay: u64,
         now: Moment,
     ) -> Result<(), TrafficFault> {
         if delay == 0 {
-            return self.hear(driver, told, now);
+            return self.hear(driver, came, now);
         }
         add_one(&mut self.tally.delayed);
-        let held = Held::Came(told.key, told.code);
-        self.late.hold(now.millis().saturating_add(delay), held)?;
+        self.late
+            .hold(now.millis().saturating_add(delay), Held::Came(*came))?;
         Ok(())
     }
 
@@ -63,7 +64,7 @@ impl<S: Read + Write + Drop> Engine<'_, S> {
     fn hear_by<L: NoteLog>(
         &mut self,
         driver: &mut Driver<L>,
-        told: &Told,
+        came: &Came,
         fate: Fate,
         now: Moment,
     ) -> Result<(), TrafficFault> {
@@ -72,11 +73,11 @@ impl<S: Read + Write + Drop> Engine<'_, S> {
                 add_one(&mut self.tally.lost);
                 Ok(())
             }
-            Comes::Once(delay) => self.hear_later(driver, told, delay, now),
+            Comes::Once(delay) => self.hear_later(driver, came, delay, now),
             Comes::Twice(first, second) => {
                 add_one(&mut self.tally.repeated);
-                self.hear_later(driver, told, first, now)?;
-                self.hear_later(driver, told, second, now)
+                self.hear_later(driver, came, first, now)?;
+                self.hear_later(driver, came, second, now)
             }
         }
     }
@@ -86,6 +87,7 @@ impl<S: Read + Write + Drop> Engine<'_, S> {
         &mut self,
         driver: &mut Driver<L>,
         read: Reading,
+        digest: u64,
         now: Moment,
     ) -> Result<bool, TrafficFault> {
         match read {
@@ -99,7 +101,7 @@ impl<S: Read + Write + Drop> Engine<'_, S> {
                     return Ok(false);
                 }
                 let fate = self.coming.next();
-                self.hear_by(driver, &told, fate, now)?;
+                self.hear_by(driver, &Came { told, digest }, fate, now)?;
                 Ok(fate.cuts)
             }
         }
@@ -109,39 +111,41 @@ impl<S: Read + Write + Drop> Engine<'_, S> {
     fn take_all<L: NoteLog>(
         &mut self,
         driver: &mut Driver<L>,
-        read: &[Reading],
+        taken: &Taken,
         now: Moment,
     ) -> Result<bool, TrafficFault> {
-        for told in read {
-            if self.take(driver, *told, now)? {
+        for (told, digest) in taken.read.iter().zip(&taken.digests) {
+            if self.take(driver, *told, *digest, now)? {
                 return Ok(true);
             }
         }
         Ok(false)
     }
 
-    /// Takes the frames that came at a place, and what they told, in the list that is lent. A header that can't be read closes
+    /// Takes the frames that came at a place, and what they told, in the lists that are lent. A header that can't be read closes
     /// the connection, and so does a cut.
     fn hear_frames<L: NoteLog>(
         &mut self,
         driver: &mut Driver<L>,
         place: usize,
-        read: &mut Vec<Reading>,
+        taken: &mut Taken,
         now: Moment,
     ) -> Result<(), TrafficFault> {
         let Some(connection) = self.lines.get_mut(place) else {
             return Ok(());
         };
+        let header = self.plan.header;
+        add_digests(header, connection.came.as_slice(), &mut taken.digests)?;
         let is_bad = take_frames(
             self.alloc,
             self.plan.table,
-            self.plan.header,
+            header,
             &mut self.text,
             &mut connection.came,
-            read,
+            &mut taken.read,
         )?;
-        let is_cut = self.take_all(driver, read, now)?;
-        read.clear();
+        let is_cut = self.take_all(driver, taken, now)?;
+        taken.clear();
         if is_cut {
             add_one(&mut self.tally.cut);
         } else if is_bad {
@@ -170,12 +174,12 @@ impl<S: Read + Write + Drop> Engine<'_, S> {
         &mut self,
         driver: &mut Driver<L>,
         place: usize,
-        read: &mut Vec<Reading>,
+        taken: &mut Taken,
         now: Moment,
     ) -> Result<(), TrafficFault> {
         for _ in 0..READS {
             let more = self.read_once(place)?;
-            self.hear_frames(driver, place, read, now)?;
+            self.hear_frames(driver, place, taken, now)?;
             if !more {
                 return Ok(());
             }
@@ -201,12 +205,12 @@ impl<S: Read + Write + Drop> Engine<'_, S> {
         driver: &mut Driver<L>,
         now: Moment,
     ) -> Result<(), TrafficFault> {
-        let mut read = std::mem::replace(&mut self.read, Vec::new(self.alloc));
+        let mut taken = std::mem::replace(&mut self.taken, Taken::new(self.alloc));
         for place in 0..self.lines.len() {
-            self.read_at(driver, place, &mut read, now)?;
+            self.read_at(driver, place, &mut taken, now)?;
             self.drop_closed(place, now);
         }
-        self.read = read;
+        self.taken = taken;
         Ok(())
     }
 }

@@ -3,7 +3,7 @@ ghost use Rattle.std.specs.Prelude.{◌≡◌, ◌≤◌, ◌<◌, ◌∷◌, []
 ghost use Rattle.std.specs.List.{AllByRecursion};
 ghost use Rattle.iso_traffic.specs.Late.{put, IsFirstDue};
 
-use iso_order::TxKey;
+use crate::came::Came;
 use std::alloc::{AllocError, Global};
 use std::collections::BTreeMap;
 use std::marker::Model;
@@ -13,8 +13,8 @@ use std::marker::Model;
 pub(crate) enum Held {
     /// A frame that goes out, and whether its connection is cut behind it.
     Goes(Vec<u8>, bool),
-    /// An answer that came: its key and its code.
-    Came(TxKey, u8),
+    /// An answer that came.
+    Came(Came),
 }
 
 /// What is held back, by its moment in milliseconds. Of one moment, what was held back first comes first. A contract sees how

@@ -9,6 +9,7 @@
 
 mod balance;
 mod beside;
+mod came;
 mod connection;
 mod counting;
 mod edge;

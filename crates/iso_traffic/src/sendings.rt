@@ -12,22 +12,22 @@ pub(crate) struct Sending {
     pub times: u32,
     /// When it was sent first, in microseconds.
     pub first: u64,
-    /// The code of the answer that closed a transaction.
-    pub code: Option<u8>,
+    /// The answer that closed a transaction, by the digest of its bytes.
+    pub answer: Option<u64>,
 }
 
 /// An order that wasn't sent.
 const UNSENT: Sending = Sending {
     times: 0,
     first: 0,
-    code: None,
+    answer: None,
 };
 
 /// An order of an earlier run, which sent it once at least.
 const EARLIER: Sending = Sending {
     times: 1,
     first: 0,
-    code: None,
+    answer: None,
 };
 
 /// When orders were sent, and what closed them. A contract sees how many orders are of earlier runs, and what is known of
@@ -94,7 +94,7 @@ impl Sendings {
         self.by_trace[stan as usize] = Sending {
             times: before.times.saturating_add(1),
             first,
-            code: before.code,
+            answer: before.answer,
         };
         Ok(before.times == 0)
     }
@@ -112,23 +112,23 @@ impl Sendings {
         }
     }
 
-    /// An answer of that code to the order of a trace number closed a transaction.
-    pub fn close(&mut self, stan: u32, code: u8)
+    /// An answer of that digest to the order of a trace number closed a transaction.
+    pub fn close(&mut self, stan: u32, answer: u64)
         ensures closed { (n : ℕ) → sending_at self.new.by_trace n
-            ≡ (if n == stan then closed_by code self.old.by_trace n else sending_at self.old.by_trace n) }
+            ≡ (if n == stan then closed_by answer self.old.by_trace n else sending_at self.old.by_trace n) }
         ensures earlier { self.new.earlier ≡ self.old.earlier }
     {
         if let Some(of) = self.by_trace.get_mut(stan as usize) {
-            of.code = Some(code);
+            of.answer = Some(answer);
         }
     }
 
-    /// Whether an answer of that code differs from the one that closed a transaction under the same trace number.
-    pub fn differs(&self, stan: u32, code: u8) -> bool
-        ensures { result ≡ differs_from code (sending_at self.now.by_trace stan).code }
+    /// Whether an answer of that digest differs from the one that closed a transaction under the same trace number.
+    pub fn differs(&self, stan: u32, answer: u64) -> bool
+        ensures { result ≡ differs_from answer (sending_at self.now.by_trace stan).answer }
     {
-        match self.get(stan).code {
-            Some(first) => first != code,
+        match self.get(stan).answer {
+            Some(first) => first != answer,
             None => false,
         }
     }

@@ -1,4 +1,5 @@
 use crate::balance::balance_told;
+use crate::came::{Came, add_digests};
 use crate::inquiries::Inquiries;
 use crate::late::{Held, Late};
 use crate::pace::{Pace, closing_moment, due_purchases, next_moment};
@@ -21,6 +22,25 @@ const KEY: TxKey = TxKey {
     sent: 1128055759,
     acquirer: 7,
 };
+
+/// An answer of that code.
+fn came(code: u8) -> Came {
+    Came {
+        told: Told { key: KEY, code },
+        digest: 1,
+    }
+}
+
+#[test]
+fn bodies_by_their_digests(rt: HostRuntime) {
+    let came = b"\0\x03abc\0\x03abd\0\x03abc\0\x02ab\0\x09ab";
+    let mut digests = Vec::new(rt.alloc());
+    add_digests(Header::Binary2, came, &mut digests).expect(&rt, "memory");
+    assert_eq!(rt; digests.len(), 4);
+    assert_eq!(rt; digests[0], digests[2]);
+    assert!(rt; digests[0] != digests[1]);
+    assert!(rt; digests[0] != digests[3]);
+}
 
 #[test]
 fn fates_of_none_and_of_certainty(rt: HostRuntime) {
@@ -84,12 +104,12 @@ fn what_is_held_back_comes_by_its_moment(rt: HostRuntime) {
     let alloc = rt.alloc();
     let mut late = Late::new(alloc);
     for (at, code) in [(30, 1), (10, 2), (30, 3), (20, 4)] {
-        late.hold(at, Held::Came(KEY, code)).expect(&rt, "memory");
+        late.hold(at, Held::Came(came(code))).expect(&rt, "memory");
     }
     assert_eq!(rt; late.next_due(), Some(10));
     assert_eq!(rt; late.take_due(9), None);
     for code in [2, 4, 1, 3] {
-        assert_eq!(rt; late.take_due(30), Some(Held::Came(KEY, code)));
+        assert_eq!(rt; late.take_due(30), Some(Held::Came(came(code))));
     }
     assert_eq!(rt; late.take_due(30), None);
     assert_eq!(rt; late.next_due(), None);

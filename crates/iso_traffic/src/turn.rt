@@ -58,7 +58,7 @@ impl<S: Read + Write + Drop> Engine<'_, S> {
         for _ in 0..u64::MAX {
             match self.late.take_due(now.millis()) {
                 None => return Ok(()),
-                Some(Held::Came(key, code)) => self.hear(driver, &Told { key, code }, now)?,
+                Some(Held::Came(came)) => self.hear(driver, &came, now)?,
                 Some(Held::Goes(frame, cuts)) => self.go(frame.as_slice(), cuts)?,
             }
         }
