@@ -20,7 +20,7 @@
 # make compare  what both programs do with messages made by chance, and what the model says: SECONDS=120; builds them
 # make loopback  how long a round trip on a port takes, and the memory of a host over many connections: ROUNDS=1000 for fewer
 # make load    how many answers a second a host with many peers gives, beside a loop that only echoes and syncs: LOAD=1 for less time
-# make bench   how fast the streams, the codec, the issuer and a journal in a file are: ORDERS=2000 SIZES="100 1000" for fewer orders
+# make bench   how fast the streams, the codec, the issuer and a journal in a file and on etcd are: ORDERS=2000 SIZES="100 1000" for fewer orders
 # The last three print tables. Where ORDERS, SIZES, ROUNDS and LOAD are as below, they write them to docs/SPEED.md too.
 
 ifeq ($(shell command -v rt 2> /dev/null),)
@@ -58,7 +58,7 @@ ifeq ($(LOAD),$(ALL_LOAD))
 LOAD_PAGE := docs/SPEED.md
 endif
 
-.PHONY: run test build library day replay connections crash starts peers restarts rules drives soak rows schedule check prove memory compare bench loopback load
+.PHONY: run test build library day replay connections crash starts peers restarts rules drives fronts soak replicas rows schedule check prove memory compare bench loopback load
 
 run:
 	@if $(MAKE) --silent --no-print-directory --question $(COMMAND); then \
@@ -103,8 +103,14 @@ drives: $(RUMPADOL)
 	@python3 scripts/drives.py $(RUMPADOL)
 	@python3 scripts/replays.py $(RUMPADOL)
 
+fronts: $(RUMPADOL)
+	@python3 scripts/fronts.py $(RUMPADOL)
+
 soak: $(RUMPADOL)
 	@python3 scripts/soak.py $(RUMPADOL) $(MINUTES) docs/SOAK.md
+
+replicas: $(RUMPADOL)
+	@python3 scripts/replicas.py $(RUMPADOL) $(MINUTES) docs/SOAK.md
 
 rows: $(COMMAND) $(RUMPADOL)
 	@python3 scripts/command-rows.py $(COMMAND)
@@ -148,6 +154,7 @@ compare: $(COMMAND) $(RUMPADOL)
 
 bench: $(COMMAND) $(RUMPADOL) $(BENCH)
 	@ORDERS=$(ORDERS) bench/figures.sh bench "$(BENCH_PAGE)" bench/turns.sh $(SIZES)
+	@ORDERS=$(ORDERS) bench/figures.sh etcd "$(BENCH_PAGE)" bench/etcd.sh
 
 loopback: $(COMMAND)
 	@ROUNDS=$(ROUNDS) bench/figures.sh loopback "$(LOOPBACK_PAGE)" bench/loopback.sh

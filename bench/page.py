@@ -6,6 +6,7 @@
     page.py journal TOLD [PAGE]     TOLD is a file of what journal.sh printed, once or more
     page.py loopback TOLD [PAGE]    TOLD is a file of what loopback.sh printed
     page.py peers TOLD [PAGE]       TOLD is a file of what peers.sh printed
+    page.py etcd TOLD [PAGE]        TOLD is a file of what etcd.sh printed
 
 Prints each table. In PAGE all that stands between the comments <!-- NAME --> and <!-- end --> is replaced by the one of that
 name, and `bench` draws speed.svg beside PAGE. Where a measure is missing it is named, and nothing is written.
@@ -237,6 +238,22 @@ def journal(figures):
     ])
 
 
+def etcd(figures):
+    def row(group):
+        own, plain = [figures.of(f"etcd {kind} group={group}", "orders_per_second") for kind in ("host", "plain")]
+        return [f"{group}", f"{own:,.0f}", f"{plain:,.0f}", f"{own / plain:.2f}"]
+
+    entries = max((int(name.split("=")[1]) for name, _ in figures.values if name.startswith("etcd start entries=")), default=1)
+    file, members = [figures.of(f"etcd start entries={entries}", f"{kind}_seconds") for kind in ("file", "etcd")]
+    turns = figures.turns("etcd host group=64", "orders_per_second")
+    return "\n\n".join([
+        prose(f"Machine: {machine()}, with three members of etcd on it. Each figure is the middle one of {turns} turns."),
+        table(["Orders in a batch", "Orders a second", "The plain client's", "As many as the plain client's, at least 0.7"], row(64), row(512)),
+        prose(f"A start over {entries:,} orders takes {members:.2f} s, and {file:.2f} s over the same journal in a file: {members / file:.1f} times, "
+              f"at most 3."),
+    ])
+
+
 def drawn(figures):
     kinds = [kind for kind in STREAMS if kind != "full"]
     full = figures.of("full frame", "instructions")
@@ -253,6 +270,7 @@ SECTIONS = {
     "journal": {"journal": journal},
     "loopback": {"loopback": loopback},
     "peers": {"peers": peers},
+    "etcd": {"etcd": etcd},
 }
 
 

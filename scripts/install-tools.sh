@@ -5,7 +5,7 @@ set -u
 cd "$(dirname "$0")/.." || exit 1
 
 # what the scripts and the examples call, beside what every Debian has, and what the pages name behind 'console' ('built' is no program)
-programs="make python3 xxd cc clang valgrind systemd-analyze $(sed -n 's/^```console//p' README.md docs/*.md | sed 's/\<built\>//')"
+programs="make python3 xxd cc clang valgrind systemd-analyze etcd curl haproxy $(sed -n 's/^```console//p' README.md docs/*.md | sed 's/\<built\>//')"
 
 missing() {
     for program in $programs; do
@@ -21,6 +21,7 @@ packages() {
         valgrind) echo valgrind libc6-dbg ;;
         text2pcap) echo wireshark-common ;;
         systemd-analyze) echo systemd ;;
+        etcd) echo etcd-server ;;
         *) echo "$1" ;;
     esac
 }

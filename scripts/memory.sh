@@ -200,6 +200,7 @@ journal() {
     copied
     cp "$top/scripts/memory/burning.txt" "$folder/top/crates/rumpadol/src/burning.rt"
     cp "$top/scripts/memory/keeping.txt" "$folder/top/crates/rumpadol/src/keeping.rt"
+    sed -i 's/^rumpadol: /&iso_wire rumpadol_cluster /' "$folder/top/crates.txt"
     sed -i '/^fn main/,/^}/c\
 fn main(rt: HostRuntime) -> ExitCode {\
     ExitCode::from(keeping::serve_twice(\&rt))\

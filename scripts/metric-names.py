@@ -7,7 +7,7 @@ import sys
 from pathlib import Path
 
 HOME = Path(__file__).resolve().parent.parent
-TESTS = (HOME / "crates/iso_metrics/src/tests.rt").read_text()
+TESTS = (HOME / "crates/iso_script_tests/src/metrics/text.rt").read_text()
 PAGE = (HOME / "docs/HOST.md").read_text()
 DASHBOARD = json.loads((HOME / "examples/dashboard.json").read_text())
 SCRAPING = (HOME / "examples/prometheus.yml").read_text()

@@ -22,6 +22,7 @@ import tempfile
 import threading
 import time
 
+from books import moved_by_entries, moved_by_ledgers
 from traffic import (HERE, WAIT, Host, Peer, Spelling, accounts_document, asked, entries, free_ports, journal_told, key_of_entry,
                      payment, program, reversal)
 
@@ -187,18 +188,7 @@ class Restarts:
 
     def look_at_balances(self, book):
         """The ledger of each account is its opening and what was entered, less what was reversed."""
-        def name(told):
-            return tuple(told[part] for part in ("type", "trace", "time", "acquirer"))
-
-        taken_back = {name(entry["of"]) for entry in book if entry["what"] == "reversal"}
-        sums = dict.fromkeys(map(masked, PANS), 0)
-        for entry in book:
-            if entry["code"] == "00" and entry["what"] in ("debit", "credit") and name(entry) not in taken_back:
-                sums[entry["account"]] += entry["amount"] if entry["what"] == "credit" else -entry["amount"]
-        shown = dict.fromkeys(sums, 0)
-        for line in journal_told(self.command, self.folder, "balance", "journal", "--accounts", "accounts.json", "--json"):
-            row = json.loads(line)
-            shown[row["account"]] += row["ledger"] - row["opening"]
+        shown, sums = moved_by_ledgers(self.command, self.folder, PANS), moved_by_entries(book, PANS)
         if shown != sums:
             self.tell_bad(f"the ledgers moved by {shown}, and the entries by {sums}")
 
@@ -211,11 +201,6 @@ class Restarts:
         self.look_at_entries(peers, book)
         self.look_at_balances(book)
         return len(book)
-
-
-def masked(pan):
-    """An account number as the journal shows it."""
-    return pan[:6].decode() + "*" * (len(pan) - 10) + pan[-4:].decode()
 
 
 def main(words):

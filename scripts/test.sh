@@ -1,17 +1,19 @@
 #!/bin/sh
-# Runs every test and every stored run, two crates side by side, without proving anything: the programs by the quick run, or as they
-# were built. What needs a program that isn't here, or a library that isn't built, is left out: the lines before the last one say so
-# again. The last line is 'N passed, N failed'.
+# Runs every test and every stored run, as many side by side as there are cores, without proving anything: the programs by the quick
+# run, or as they were built. What needs a program that isn't here, or a library that isn't built, is left out: the lines before the
+# last one say so again. The last line is 'N passed, N failed'.
+# test.sh           all of them
+# test.sh pages     what the gate doesn't run: no tests of crates, no stored runs, and no rows of the programs
 set -u
 cd "$(dirname "$0")/.." || exit 1
+which=${1:-all}
 
 folder=$(mktemp -d)
 trap 'rm -rf "$folder"' EXIT
 trap 'exit 1' HUP INT TERM
 
-# a command in each line: what the pages show, the examples in C, the rows of both programs and of the model, the crates that have
-# tests, and the programs that have a stored run
-jobs() {
+# a command in each line: what the pages show, the examples in C, and the rows of the model
+page_jobs() {
     if [ -x crates/iso_cli/out/iso_cli ] && [ -x crates/rumpadol/out/rumpadol ]; then
         echo scripts/recipes.sh docs crates/iso_cli/out/iso_cli crates/rumpadol/out/rumpadol
     else
@@ -20,14 +22,20 @@ jobs() {
     echo scripts/elements.sh docs/ELEMENTS.md
     echo scripts/c-examples.sh examples/c
     if command -v python3 > /dev/null; then
+        echo python3 tests/model/rows.py
+        echo python3 scripts/metric-names.py
+    fi
+}
+
+# the same: the rows of both programs, the crates that have tests, and the programs that have a stored run
+crate_jobs() {
+    if command -v python3 > /dev/null; then
         echo python3 scripts/command-rows.py
         if [ -x crates/rumpadol/out/rumpadol ]; then
             echo python3 scripts/command-rows.py --program rumpadol crates/rumpadol/out/rumpadol
         else
             echo python3 scripts/command-rows.py --program rumpadol
         fi
-        echo python3 tests/model/rows.py
-        echo python3 scripts/metric-names.py
     fi
     grep -rl --include='*.rt' '^ *#\[test\]' crates/*/src | cut -d/ -f2 | sort -u | sed 's|^|scripts/try-tests.sh |'
     ls crates/*/stdout | cut -d/ -f2 | sed 's|^|scripts/try-runs.sh |'
@@ -72,7 +80,8 @@ try_example() {
     fi
 }
 
-# what examples/ has for who runs a host: its documents are JSON, and its unit is one for systemd, wherever the program will stand
+# what examples/ has for who runs a host: its documents are JSON, its unit is one for systemd, wherever the program will stand,
+# and its proxy is one for HAProxy
 host_examples() {
     good=0 wrong=0
     command -v python3 > /dev/null && for document in examples/*.json; do
@@ -84,17 +93,23 @@ host_examples() {
     else
         echo 'LEFT OUT the unit of examples/: there is no program systemd-analyze'
     fi
+    if command -v haproxy > /dev/null; then
+        try_example haproxy.cfg haproxy -c -q -f examples/haproxy.cfg
+    else
+        echo 'LEFT OUT the proxy of examples/: there is no program haproxy'
+    fi
     echo "examples: $good of a host passed, $wrong failed"
 }
 
-jobs > "$folder/jobs"
+page_jobs > "$folder/jobs"
+[ "$which" = pages ] || crate_jobs >> "$folder/jobs"
 {
     command -v python3 > /dev/null || echo 'LEFT OUT the rows of both programs and of the model: there is no program python3'
     example README.md crates/iso_host_tests/src/host/example.rt
     example examples/pieces.md crates/iso_ledger_tests/src/order/pieces.rt
     tables
     host_examples
-    xargs -P 2 -I {} scripts/counted.sh {} "$folder/ended" < "$folder/jobs"
+    xargs -P "$(nproc)" -I {} scripts/counted.sh {} "$folder/ended" < "$folder/jobs"
     # a job that never came to its end has told nothing
     touch "$folder/ended"
     grep -vxF -f "$folder/ended" "$folder/jobs" | while read -r job; do

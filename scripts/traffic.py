@@ -181,11 +181,11 @@ def free_ports(count):
 class Host:
     """A host on ports, in a folder that has its documents, its journal and its log: a file, or `None` for the error stream."""
 
-    def __init__(self, command, folder, words, log="log"):
+    def __init__(self, command, folder, words, log="log", journal="journal"):
         self.log = pathlib.Path(folder, log or "none")
         self.log_at = self.log.stat().st_size if self.log.is_file() else 0
         self.seen = []
-        words = ["host", "--accounts", "accounts.json", "--journal", "journal", *(["--log", log] if log else []), *words]
+        words = ["host", "--accounts", "accounts.json", "--journal", journal, *(["--log", log] if log else []), *words]
         self.process = subprocess.Popen([command, *words], cwd=folder, stdin=subprocess.PIPE, stdout=subprocess.DEVNULL,
                                         stderr=subprocess.PIPE)
 
@@ -284,9 +284,9 @@ def journal_told(command, folder, *words):
     return run.stdout.splitlines()
 
 
-def entries(command, folder):
+def entries(command, folder, journal="journal"):
     """The entries of the journal, in their order."""
-    return [json.loads(line) for line in journal_told(command, folder, "export", "journal", "--json")]
+    return [json.loads(line) for line in journal_told(command, folder, "export", journal, "--json")]
 
 
 def key_of_entry(entry):

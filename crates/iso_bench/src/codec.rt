@@ -58,7 +58,8 @@ fn view_speed(rt: &impl Clock, table: &Table, bytes: &[u8], times: u32) -> Resul
     Speed::since(rt, start, u64::from(times))
 }
 
-/// Prints what one call took.
+/// Prints what one call took. `bench/instructions.sh` tells one call from the next by it.
+#[inline(never)]
 fn print(rt: &impl Print, verb: &str, size: usize, speed: Speed) -> Result<()> {
     let nanos = speed.nanos_each();
     let each_second = speed.each_second();

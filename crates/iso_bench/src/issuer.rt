@@ -23,7 +23,8 @@ struct Load {
 /// Of so many entries that fill the journal one is a reversal, of the first of the purchases before it.
 const TENTH: u32 = 10;
 
-/// Hands the orders over, each of which has to be granted.
+/// Hands the orders over, each of which has to be granted. `bench/instructions.sh` counts what is done in here.
+#[inline(never)]
 fn hand_over(rt: &impl Clock, issuer: &mut Issuer, orders: &[Order]) -> Result<Speed> {
     let start = Instant::now(rt)?;
     for order in orders {
@@ -157,7 +158,8 @@ impl Load {
     }
 }
 
-/// Prints what one order took.
+/// Prints what one order took. `bench/instructions.sh` tells one kind from the next by it.
+#[inline(never)]
 fn print(rt: &impl Print, kind: &str, entries: u32, speed: Speed) -> Result<()> {
     let nanos = speed.nanos_each();
     let each_second = speed.each_second();

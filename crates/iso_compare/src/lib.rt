@@ -10,8 +10,6 @@ mod reading;
 mod splitting;
 mod tally;
 mod telling;
-#[cfg(test)]
-mod tests;
 
 pub use comparison::{Comparison, Side, compare_frames};
 pub use difference::{Difference, differing};

@@ -22,8 +22,6 @@ mod entry;
 mod heard;
 pub mod laws;
 mod made;
-#[cfg(test)]
-mod tests;
 
 pub use counts::Counts;
 pub use draw::Draw;

@@ -1,12 +1,12 @@
 -- Orders that come are entered as orders that are handled.
-use Rattle.std.proofs.Common.{◌≡◌, ◌≤◌, ◌<◌, ℕ, ◌+◌, Bool, true, false, refl, arith, ap, sym, ◌∙◌, subst, List, [], ◌∷◌, ◌++◌, length, take, append_assoc, append-nil, length-append}
+use Rattle.std.proofs.Common.{◌≡◌, ◌≤◌, Bool, true, false, refl, arith, ap, sym, ◌∙◌, subst, List, [], ◌∷◌, ◌++◌, length, take, append_assoc, append-nil, length-append}
 use Rattle.std.proofs.lemmas.List.{take_all, take-append-le}
 use Rattle.std.specs.Prelude.{nat_le, if◌then◌else◌}
 use Rattle.iso_order.specs.Order.{Instruction}
-use Rattle.iso_issuer.specs.Books.{Books, books_with}
+use Rattle.iso_issuer.specs.Books.{Books}
 use Rattle.iso_issuer.specs.Journal.{is_entered, firsts, HasDistinctKeys}
-use Rattle.iso_issuer.specs.Laws.{books_after, FirstsGoOn, FirstsStay, NewComesLast, KnownChangesNothing, KeysStayDistinct}
-use Rattle.iso_durable.specs.Durable.{Durable, entered, books_of, comes, come_all}
+use Rattle.iso_issuer.specs.Laws.{FirstsGoOn, FirstsStay, NewComesLast, KnownChangesNothing, KeysStayDistinct}
+use Rattle.iso_durable.specs.Durable.{Durable, entered, books_of, comes}
 use Rattle.iso_durable.specs.World.{IsStart, OrdersEnter}
 
 -- what the laws of the issuer say

@@ -1,5 +1,5 @@
 -- An issuer over its log.
-use Rattle.std.specs.Prelude.{◌≡◌, ◌++◌, ◌∷◌, [], ℕ, Bool, true, false, List, if◌then◌else◌, nat_le, length, Result, IsOk, is_err}
+use Rattle.std.specs.Prelude.{◌≡◌, ◌++◌, ◌∷◌, [], Bool, true, false, List, if◌then◌else◌, nat_le, length, Result, IsOk, is_err}
 use Rattle.iso_order.specs.Order.{Instruction}
 use Rattle.iso_order.specs.Outcome.{Outcome, code_alone}
 use Rattle.iso_issuer.specs.Books.{Books, is_full, journal}

@@ -58,6 +58,7 @@ pub struct DurableIssuer<L: Log> {
 }
 
 /// Has the issuer answer an order, and tells whether the order is a new entry: 96 where its journal is full.
+#[inline(always)]
 pub fn answer_order(issuer: &mut Issuer, order: Order) -> Result<(Answer, bool), Fault>
     ensures answer { IfOk result (λ r. AnswersOrder issuer.old issuer.new order r.0 r.1) }
     ensures memory { IfErr result (λ e. e ≡ Fault.Memory) }
@@ -75,6 +76,7 @@ pub fn answer_order(issuer: &mut Issuer, order: Order) -> Result<(Answer, bool),
 }
 
 /// Adds an order to the log if it is a new entry.
+#[inline(always)]
 fn keep<L: Log>(log: &mut L, order: Order, answer: Answer, is_new: bool) -> Result<(), LogFailed>
     ensures ready { OnOk result (L.is_ready log.old → L.is_ready log.new) }
     ensures synced { OnOk result (L.is_ready log.old → L.synced log.new ≡ L.synced log.old) }
@@ -180,13 +182,13 @@ impl<L: Log> DurableIssuer<L> {
             → (n : ℕ) × MayLeave (come_all (state_of L.synced L.pending self.old) (take n orders.now)) c }
         ensures stops { Stops self.old.has_failed self.new.has_failed result }
     {
-        let mut answers = Vec::new(alloc);
+        let Ok(mut answers) = Vec::with_capacity(alloc, orders.len()) else {
+            self.has_failed = true;
+            return Err(Fault::Memory);
+        };
         for order in orders {
             let answer = self.decide(*order)?;
-            let Ok(()) = answers.push(answer) else {
-                self.has_failed = true;
-                return Err(Fault::Memory);
-            };
+            answers.push(answer).unwrap();
         }
         self.sync()?;
         Ok(answers)

@@ -11,8 +11,6 @@ mod host;
 pub mod laws;
 mod log;
 mod memory;
-#[cfg(test)]
-mod tests;
 
 pub use host::{DurableIssuer, Fault, answer_order, replay};
 pub use log::{Log, LogFailed};

@@ -25,7 +25,7 @@ length-decimal (suc n) v =
     length-append (decimal n (v / 10)) ((48 + v % 10) ∷ []) ∙ omega arith
 
 -- a digit more than needed is a zero before the others
-zero-before : (n v : ℕ) → v < 10 ^ n → decimal (suc n) v ≡ 48 ∷ decimal n v
+pub zero-before : (n v : ℕ) → v < 10 ^ n → decimal (suc n) v ≡ 48 ∷ decimal n v
 zero-before zero v lt = let none : v ≡ 0 = omega arith in rw none refl
 zero-before (suc n) v lt =
     let next = power_next n in

@@ -1,5 +1,5 @@
 -- Numbers in packed digits.
-use Rattle.std.proofs.Common.{◌≡◌, ◌<◌, ℕ, zero, suc, ◌+◌, ◌*◌, ◌/◌, ◌%◌, true, false, refl, sym, ap, subst, ◌∙◌, List, [], ◌∷◌, ◌++◌, length, append_assoc, arith, inl, inr, Option, Some}
+use Rattle.std.proofs.Common.{◌≡◌, ◌<◌, ℕ, zero, suc, ◌+◌, ◌-◌, ◌*◌, ◌/◌, ◌%◌, ◌^◌, true, false, refl, sym, ap, subst, ◌∙◌, List, [], ◌∷◌, ◌++◌, length, append_assoc, arith, inl, inr, Option, Some}
 use Rattle.std.specs.Prelude.{◌==◌, nat_le, slice_index}
 use Rattle.std.specs.List.{list_all}
 use Rattle.std.proofs.lemmas.Bool.{and_from, eqb-true, le-leb, cases_lt}
@@ -17,8 +17,8 @@ use Rattle.iso_wire.specs.Decimal.{decimal, number, number_in}
 use Rattle.iso_wire.specs.Spelling.{plain_by, plain_of}
 use Rattle.iso_wire.proofs.Decimals.{digit_at}
 use Rattle.iso_exchange.specs.Purchase.{AddsPart}
-use Rattle.iso_exchange.specs.Packed.{packed, IsPacked}
-use Rattle.iso_exchange.proofs.Decimals.{length-decimal}
+use Rattle.iso_exchange.specs.Packed.{packed, counted, IsCounted, IsPacked}
+use Rattle.iso_exchange.proofs.Decimals.{length-decimal, zero-before}
 
 -- ---- written
 
@@ -68,7 +68,7 @@ even-any f w n even = let no : (length w % 2 == 1) ≡ false = grind (arith, nat
 -- the part of a number's digits
 pub part-packed : (s : FieldSpec) (n v : ℕ) → IsPacked s n → plain_part s (decimal (2 * n) v) ≡ packed n v
 part-packed s n v is =
-    rw (is.length, is.coding, is.pad) (ap pairs (even-own (decimal (2 * n) v) n (length-decimal (2 * n) v)) ∙ pairs-decimal n v)
+    rw (is.length, is.digits.coding, is.digits.pad) (ap pairs (even-own (decimal (2 * n) v) n (length-decimal (2 * n) v)) ∙ pairs-decimal n v)
 
 in-class : (w : List ℕ) → list_all is_digit w ≡ true → is_in_class classes.N w ≡ true
 in-class [] h = refl
@@ -80,9 +80,9 @@ all-digits (b ∷ bs) h = h
 
 pub fits-packed : (s : FieldSpec) (n v : ℕ) → IsPacked s n → Fits s (decimal (2 * n) v)
 fits-packed s n v is = record {
-  length = rw (is.length, is.pad, is.max, length-decimal (2 * n) v) (grind (arith, nat_tests));
-  class = rw is.class (in-class (decimal (2 * n) v) (list_all-decimal (2 * n) v));
-  pad = rw is.pad refl;
+  length = rw (is.length, is.digits.pad, is.max, length-decimal (2 * n) v) (grind (arith, nat_tests));
+  class = rw is.digits.class (in-class (decimal (2 * n) v) (list_all-decimal (2 * n) v));
+  pad = rw is.digits.pad refl;
 }
 
 digits-bytes : (v : List ℕ) → list_all is_digit v ≡ true → (i : ℕ) → slice_index v i < 256
@@ -102,13 +102,58 @@ adds-packed laws rows n bytes v s old new good row is written =
       (s, sym row, subst (λ (b : List ℕ). Part s digits b) same (laws.plain s digits good (fits-packed s bytes v is) (digits-bytes digits (list_all-decimal (2 * bytes) v)))),
     )
 
+-- ---- written behind their count
+
+odd-own : (w : List ℕ) (k : ℕ) → length w ≡ 2 * k + 1 → with_filler 48 w ≡ 48 ∷ w
+odd-own w k odd = let yes : (length w % 2 == 1) ≡ true = grind (arith, nat_tests) in rw yes refl
+
+-- an odd count of digits has a zero before them
+filled : (d v : ℕ) → v < 10 ^ d → pairs (with_filler 48 (decimal d v)) ≡ packed ((d + 1) / 2) v
+filled d v lt = go (d % 2) refl
+  where
+    half : ℕ
+    half = (d + 1) / 2
+
+    go : (r : ℕ) → d % 2 ≡ r → pairs (with_filler 48 (decimal d v)) ≡ packed ((d + 1) / 2) v
+    go zero e =
+        let even : d ≡ 2 * half = omega arith in
+        let size : length (decimal d v) ≡ 2 * half = length-decimal d v ∙ even in
+        ap pairs (even-own (decimal d v) half size) ∙ ap (λ (k : ℕ). pairs (decimal k v)) even ∙ pairs-decimal half v
+    go (suc r) e =
+        let next : suc d ≡ 2 * half = omega (arith, e) in
+        let size : length (decimal d v) ≡ 2 * (half - 1) + 1 = length-decimal d v ∙ omega (arith, e) in
+        ap pairs (odd-own (decimal d v) (half - 1) size ∙ sym (zero-before d v lt)) ∙ ap (λ (k : ℕ). pairs (decimal k v)) next ∙ pairs-decimal half v
+
+part-counted : (s : FieldSpec) (d v : ℕ) → IsCounted s d → v < 10 ^ d → plain_part s (decimal d v) ≡ counted d v
+part-counted s d v is lt =
+    rw (is.length, is.packed.coding, is.packed.pad)
+    (ap (λ (n : ℕ). (16 * (n / 10) + n % 10) ∷ pairs (with_filler 48 (decimal d v))) (length-decimal d v)
+    ∙ ap (λ (b : List ℕ). (16 * (d / 10) + d % 10) ∷ b) (filled d v lt))
+
+fits-counted : (s : FieldSpec) (d v : ℕ) → IsCounted s d → Fits s (decimal d v)
+fits-counted s d v is = record {
+  length = rw is.length (ap (λ (n : ℕ). nat_le n s.max) (length-decimal d v) ∙ le-leb _ _ is.most);
+  class = rw is.packed.class (in-class (decimal d v) (list_all-decimal d v));
+  pad = rw is.packed.pad refl;
+}
+
+-- packed digits behind their count are the plain part of their number
+pub adds-counted : PartLaws → (rows : List (Option FieldSpec)) (n d v : ℕ) (s : FieldSpec) (old new : List ℕ) → IsGood s → Some s ≡ row_at rows n → IsCounted s d → v < 10 ^ d
+    → new ≡ old ++ counted d v → AddsPart rows n (decimal d v) old new
+adds-counted laws rows n d v s old new good row is lt written =
+    let digits = decimal d v in
+    let same : plain_part s digits ≡ plain_of rows (n, digits) = ap (λ (r : Option FieldSpec). plain_by r digits) row in (
+      written ∙ ap (λ (b : List ℕ). old ++ b) (sym (part-counted s d v is lt) ∙ same),
+      (s, sym row, subst (λ (b : List ℕ). Part s digits b) same (laws.plain s digits good (fits-counted s d v is) (digits-bytes digits (list_all-decimal d v)))),
+    )
+
 -- ---- read
 
 pub packed-digits : (s : FieldSpec) (n : ℕ) (v b : List ℕ) → IsPacked s n → Body s v b → (characters b ≡ v) × (length v ≡ 2 * n) × (list_all is_digit v ≡ true)
 packed-digits s n v b is body =
-    let size : length v ≡ 2 * n = eqb-true (length v) (2 * n) (rw (is.length, is.pad, is.max) at body.0.length) in
-    let stands = rw (is.coding, is.pad) at body.1 in
-    (stands.2 ∙ even-any stands.0 v n size, size, all-digits v (rw is.class at body.0.class))
+    let size : length v ≡ 2 * n = eqb-true (length v) (2 * n) (rw (is.length, is.digits.pad, is.max) at body.0.length) in
+    let stands = rw (is.digits.coding, is.digits.pad) at body.1 in
+    (stands.2 ∙ even-any stands.0 v n size, size, all-digits v (rw is.digits.class at body.0.class))
 
 pub packed-number : (n k : ℕ) (v : List ℕ) → length v ≡ 2 * n → list_all is_digit v ≡ true → k ≡ number v → Some k ≡ number_in (2 * n) (2 * n) v
 packed-number n k v size all is =

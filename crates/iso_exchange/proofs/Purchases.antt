@@ -1,11 +1,13 @@
 -- The request for a purchase, part by part.
-use Rattle.std.proofs.Common.{◌≡◌, ◌<◌, ◌/◌, ℕ, Bool, true, false, refl, ap, sym, ◌∙◌, List, [], ◌∷◌, ◌++◌, append_assoc, append-nil, Option, Some, Result, Ok, Err}
+use Rattle.std.proofs.Common.{◌≡◌, ◌<◌, ◌*◌, ◌/◌, ℕ, Bool, true, false, refl, ap, sym, subst, ◌∙◌, List, [], ◌∷◌, ◌++◌, append_assoc, append-nil, Option, Some, Result, Ok, Err}
 use Rattle.std.specs.Prelude.{◌==◌, ◌||◌, is_some, OnOk, if◌then◌else◌}
 use Rattle.std.specs.List.{flat_map}
 use Rattle.iso_parts.specs.Bitmap.{PlainBitmaps}
 use Rattle.iso_parts.specs.Digits.{four_digits_of}
 use Rattle.iso_parts.specs.declared.spec.FieldSpec.{FieldSpec}
-use Rattle.iso_table.specs.Layout.{Layout}
+use Rattle.iso_parts.specs.PartLaws.{PartLaws}
+use Rattle.iso_table.specs.Layout.{Layout, AreGood}
+use Rattle.iso_wire.specs.Decimal.{decimal}
 use Rattle.iso_wire.specs.Elements.{has, value_in}
 use Rattle.iso_wire.specs.OneSpelling.{WellFormed}
 use Rattle.iso_wire.specs.Spelling.{Parts, PlainSpelling, plain_of}
@@ -15,7 +17,9 @@ use Rattle.iso_order.specs.declared.act.Money.{Money}
 use Rattle.iso_order.specs.declared.key.TxKey.{TxKey}
 use Rattle.iso_order.specs.Order.{Instruction}
 use Rattle.iso_order.specs.Requests.{request}
-use Rattle.iso_exchange.specs.Purchase.{purchase_elements, AddsPart}
+use Rattle.iso_exchange.specs.Packed.{packed, ArePacked, IsPackedAt}
+use Rattle.iso_exchange.specs.Purchase.{purchase_elements, four_elements, four_packed, AddsPart, AddsParts}
+use Rattle.iso_exchange.proofs.Packs.{adds-packed}
 
 -- ---- the elements
 
@@ -33,10 +37,27 @@ has-more n k v es = has_by (n == k) v (value_in es k)
 
 -- ---- the parts
 
--- parts that are put one behind the other
-abbrev pub AddsParts : List (Option FieldSpec) → List (ℕ × List ℕ) → List ℕ → List ℕ → Type 0
-AddsParts rows [] old new = new ≡ old
-AddsParts rows (e ∷ es) old new = (mid : List ℕ) × AddsPart rows e.0 e.1 old mid × AddsParts rows es mid new
+-- parts that are put behind others
+pub parts-more : (rows : List (Option FieldSpec)) (xs ys : List (ℕ × List ℕ)) (old mid new : List ℕ) → AddsParts rows xs old mid → AddsParts rows ys mid new → AddsParts rows (xs ++ ys) old new
+parts-more rows [] ys old mid new first rest = subst (λ (l : List ℕ). AddsParts rows ys l new) first rest
+parts-more rows (x ∷ xs) ys old mid new first rest = (first.0, first.1, parts-more rows xs ys first.0 mid new first.2 rest)
+
+-- where the table packs them, the bytes of four numbers are their parts
+pub four-added : PartLaws → (rows : List (Option FieldSpec)) → AreGood rows → ArePacked rows → (amount : ℕ) (k : TxKey) (old new : List ℕ) → new ≡ old ++ four_packed amount k
+    → AddsParts rows (four_elements amount k) old new
+four-added laws rows good are amount k old new written =
+    let one = old ++ packed 3 0 in
+    let two = one ++ packed 6 amount in
+    let three = two ++ packed 5 k.sent in
+    let four = three ++ packed 3 k.stan in
+    let last : new ≡ four =
+    written
+    ∙ sym (append_assoc old (packed 3 0) (packed 6 amount ++ (packed 5 k.sent ++ packed 3 k.stan)))
+    ∙ sym (append_assoc one (packed 6 amount) (packed 5 k.sent ++ packed 3 k.stan))
+    ∙ sym (append_assoc two (packed 5 k.sent) (packed 3 k.stan)) in
+    let put : (n bytes v : ℕ) (before : List ℕ) → IsPackedAt rows n bytes → AddsPart rows n (decimal (2 * bytes) v) before (before ++ packed bytes v) =
+    λ n bytes v before is. adds-packed laws rows n bytes v is.0 before (before ++ packed bytes v) (good n is.0 is.1) (sym is.1) is.2 refl in
+    (one, put 3 3 0 old are.processing, (two, put 4 6 amount one are.amount, (three, put 7 5 k.sent two are.sent, (four, put 11 3 k.stan three are.stan, last))))
 
 pub parts-written : (rows : List (Option FieldSpec)) (es : List (ℕ × List ℕ)) (old new : List ℕ) → AddsParts rows es old new → new ≡ old ++ flat_map (plain_of rows) es
 parts-written rows [] old new h = h ∙ sym (append-nil old)

@@ -17,6 +17,7 @@ use Rattle.std.proofs.lemmas.Bool.{eqb-true}
 use Rattle.iso_wire.specs.Decimal.{number, number_in}
 use Rattle.iso_wire.proofs.Orders.{Values}
 use Rattle.iso_exchange.specs.Packed.{IsPacked}
+use Rattle.iso_exchange.specs.Plain.{IsPlain}
 use Rattle.iso_exchange.proofs.Packs.{packed-digits, packed-number}
 use Rattle.iso_order.specs.Fields.{text}
 use Rattle.iso_order.specs.Told.{told_of}
@@ -128,3 +129,13 @@ module _ (t : Layout) (v : Viewed) (b : List ℕ) (views : Views t b (Ok v) (mes
       let facts = packed-digits s bytes found.value body is (subst (λ (r : FieldSpec). Body r found.value body) own found.wired) in
       let value : found.value ≡ text m n = sym (ap (λ (m : Contents). text m n) (viewed-is m size h) ∙ ap (λ (o : Option (List ℕ)). unwrap_or o []) found.there) in
       packed-number bytes k found.value facts.1 facts.2 (told ∙ ap number facts.0) ∙ ap (number_in (2 * bytes) (2 * bytes)) value
+
+  -- where the characters are the bytes themselves, with no padding, the body is the text
+  pub plain-read : (n : ℕ) (s : FieldSpec) (body : List ℕ) (m : Contents) (size : ℕ) → message_at t b ≡ whole m size → value_in v.wires n ≡ Some body
+      → Some s ≡ row_at t.rows n → IsPlain s → body ≡ text m n
+  plain-read n s body m size h there row is =
+      let found = wired-body t.rows views.0 v.wires (drop views.1 (take v.used b)) n body views.3 there in
+      let own : found.row ≡ s = some-row found.row s (sym found.is ∙ sym row) in
+      let whole-body : Body s found.value body = subst (λ (r : FieldSpec). Body r found.value body) own found.wired in
+      let value : found.value ≡ text m n = sym (ap (λ (m : Contents). text m n) (viewed-is m size h) ∙ ap (λ (o : Option (List ℕ)). unwrap_or o []) found.there) in
+      (rw (is.coding, is.pad) at whole-body.1) ∙ value

@@ -1,3 +1,4 @@
 pub mod Answer
 pub mod Packed
+pub mod Plain
 pub mod Purchase

@@ -8,8 +8,6 @@ mod answer;
 mod packed;
 mod purchase;
 mod request;
-#[cfg(test)]
-mod tests;
 mod viewing;
 
 pub use answer::answer_in;

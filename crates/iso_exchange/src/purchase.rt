@@ -1,19 +1,20 @@
 //! The request for a purchase, written part by part.
-ghost use Rattle.std.specs.Prelude.{◌≡◌, ◌≢◌, ◌≤◌, ◌*◌, ◌||◌, ◌==◌, ◌++◌, ℕ, List, OnOk};
+ghost use Rattle.std.specs.Prelude.{◌≡◌, ◌≢◌, ◌≤◌, ◌<◌, ◌^◌, ◌||◌, ◌==◌, ◌++◌, true, ℕ, List, OnOk};
 ghost use Rattle.std.specs.List.{flat_map};
 ghost use Rattle.iso_parts.specs.Bitmap.{contains};
 ghost use Rattle.iso_parts.specs.Digits.{four_digits_of};
 ghost use Rattle.iso_parts.specs.Mti.{mti_number};
+ghost use Rattle.iso_table.specs.Layout.{AreGood};
 ghost use Rattle.iso_wire.specs.Decimal.{decimal};
 ghost use Rattle.iso_wire.specs.Elements.{has};
 ghost use Rattle.iso_wire.specs.Spelling.{Parts, PlainSpelling, plain_of};
 ghost use Rattle.iso_order.specs.Order.{Instruction};
 ghost use Rattle.iso_order.specs.Requests.{request};
 ghost use Rattle.iso_order.specs.declared.act.Act.TheVariants.{Debit};
-ghost use Rattle.iso_exchange.specs.Packed.{packed};
-ghost use Rattle.iso_exchange.specs.Purchase.{purchase_elements, AddsPart};
+ghost use Rattle.iso_exchange.specs.Packed.{counted, ArePacked, IsPackedAt};
+ghost use Rattle.iso_exchange.specs.Purchase.{purchase_elements, four_elements, four_packed, AddsPart, AddsParts};
 
-use crate::packed::{is_packed, write_packed};
+use crate::packed::{is_counted, is_packed, packed_five, packed_six, packed_three, write_packed};
 use iso_order::{Money, Order, TxKey};
 use iso_parts::{
     Bitmap, Digits, FieldFault, Mti, encode_field, four_ascii_digits, four_bcd_digits,
@@ -69,39 +70,95 @@ fn append_number(
     append_part(table, n, text, out)
 }
 
-/// Appends the bytes of a number in packed digits.
-fn append_bytes(bytes: u16, number: u64, out: &mut Vec<u8>) -> Result<(), AllocError>
-    requires few { bytes ≤ 9 }
-    ensures { OnOk result (out.new.items ≡ out.old.items ++ packed bytes number) }
+/// Appends so many digits of a number, packed behind their count.
+fn append_counted(digits: usize, number: u64, out: &mut Vec<u8>) -> Result<(), AllocError>
+    requires few { digits ≤ 19 }
+    ensures { OnOk result (out.new.items ≡ out.old.items ++ counted digits number) }
 {
-    let mut room = [0; 9];
-    let digits = &mut room[..bytes as usize];
-    write_packed(digits, number);
-    out.extend_from_slice(digits)
+    let mut room = [0; 10];
+    let bytes = &mut room[..(digits + 1) / 2];
+    write_packed(bytes, number);
+    out.push(16 * (digits / 10) as u8 + (digits % 10) as u8)?;
+    out.extend_from_slice(bytes)
 }
 
-/// Appends the plain part of a number as element `n`, in twice as many digits as bytes. Where the table packs them, they are
-/// written so at once.
-fn append_packed(
+/// Appends the plain part of a number of so many digits as element `n`. Where the table packs them behind their count, they
+/// are written so at once.
+fn append_digits(
     table: &Table,
     n: u8,
     number: u64,
-    bytes: u16,
+    digits: usize,
     out: &mut Vec<u8>,
 ) -> Result<(), PackFault>
-    requires few { bytes ≤ 9 }
-    ensures { OnOk result (AddsPart table.now.rows n (decimal (2 * bytes) number) out.old.items out.new.items) }
+    requires few { digits ≤ 19 }
+    requires fits { number < 10 ^ digits }
+    ensures { OnOk result (AddsPart table.now.rows n (decimal digits number) out.old.items out.new.items) }
 {
     // the laws of parts, for the prover
     iso_parts::laws::parts();
     let Some(row) = table.row(n) else {
         return Err(PackFault::NoRow(n));
     };
-    if is_packed(row, bytes) {
-        append_bytes(bytes, number, out)?;
+    if is_counted(row, digits as u16) {
+        append_counted(digits, number, out)?;
         return Ok(());
     }
-    append_number(table, n, number, 2 * bytes as usize, out)
+    append_number(table, n, number, digits, out)
+}
+
+/// Whether the table packs an element, in so many bytes.
+fn is_packed_at(table: &Table, n: u8, bytes: u16) -> bool
+    requires few { bytes ≤ 9 }
+    ensures packed { result ≡ true → IsPackedAt table.now.rows n bytes }
+    ensures good { AreGood table.now.rows }
+{
+    match table.row(n) {
+        Some(row) => is_packed(row, bytes),
+        None => false,
+    }
+}
+
+/// Whether the table packs the elements 3, 4, 7 and 11, which stand one behind the other in a purchase.
+fn are_packed(table: &Table) -> bool
+    ensures packed { result ≡ true → ArePacked table.now.rows }
+    ensures good { AreGood table.now.rows }
+{
+    is_packed_at(table, 3, 3)
+        && is_packed_at(table, 4, 6)
+        && is_packed_at(table, 7, 5)
+        && is_packed_at(table, 11, 3)
+}
+
+/// Appends goods and services, the amount, the time and the trace number in packed digits, all at once.
+fn append_at_once(amount: u64, key: &TxKey, out: &mut Vec<u8>) -> Result<(), AllocError>
+    ensures { OnOk result (out.new.items ≡ out.old.items ++ four_packed amount key.now) }
+{
+    let [a, b, c, d, e, f] = packed_six(amount);
+    let [g, h, i, j, k] = packed_five(key.sent);
+    let [l, m, n] = packed_three(key.stan as u64);
+    out.extend_from_slice(&[0, 0, 0, a, b, c, d, e, f, g, h, i, j, k, l, m, n])
+}
+
+/// Appends the plain parts of the elements 3, 4, 7 and 11 of a purchase.
+fn append_numbers(
+    table: &Table,
+    key: &TxKey,
+    amount: u64,
+    out: &mut Vec<u8>,
+) -> Result<(), PackFault>
+    ensures { OnOk result (AddsParts table.now.rows (four_elements amount key.now) out.old.items out.new.items) }
+{
+    // the laws of parts, for the prover
+    iso_parts::laws::parts();
+    if are_packed(table) {
+        append_at_once(amount, key, out)?;
+        return Ok(());
+    }
+    append_number(table, 3, 0, 6, out)?;
+    append_number(table, 4, amount, 12, out)?;
+    append_number(table, 7, key.sent, 10, out)?;
+    append_number(table, 11, key.stan as u64, 6, out)
 }
 
 /// Appends the plain parts of the elements of a purchase.
@@ -118,13 +175,10 @@ fn append_parts(
         (flat_map (plain_of table.now.rows) (purchase_elements key.now money.now))) }
 {
     let (account, len) = (money.pan.digits(), money.pan.len());
-    append_number(table, 2, account, len as usize, out)?;
-    append_packed(table, 3, 0, 3, out)?;
-    append_packed(table, 4, money.amount, 6, out)?;
-    append_packed(table, 7, key.sent, 5, out)?;
-    append_packed(table, 11, key.stan as u64, 3, out)?;
+    append_digits(table, 2, account, len as usize, out)?;
+    append_numbers(table, key, money.amount, out)?;
     let digits = digits_of(key.acquirer);
-    append_number(table, 32, key.acquirer, digits as usize, out)?;
+    append_digits(table, 32, key.acquirer, digits as usize, out)?;
     append_part(table, 49, &money.currency, out)
 }
 

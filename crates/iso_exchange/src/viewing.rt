@@ -1,5 +1,5 @@
 //! What a message tells that is left where it lies.
-ghost use Rattle.std.specs.Prelude.{◌≡◌, ◌≤◌, ◌*◌, ℕ, List, length, nat_le, Ok, Some, None, IfOk, IfSome, OnOk, if◌then◌else◌};
+ghost use Rattle.std.specs.Prelude.{◌≡◌, ◌≤◌, ◌*◌, ℕ, List, true, length, nat_le, Ok, Some, None, IfOk, IfSome, OnOk, if◌then◌else◌};
 ghost use Rattle.iso_parts.specs.Mti.{mti_number};
 ghost use Rattle.iso_parts.specs.Reading.{got, part_at};
 ghost use Rattle.iso_parts.specs.Spec.{IsGood};
@@ -9,10 +9,11 @@ ghost use Rattle.iso_wire.specs.Reading.{message_at, whole};
 ghost use Rattle.iso_wire.specs.Viewing.{Views};
 ghost use Rattle.iso_order.specs.Fields.{text};
 ghost use Rattle.iso_order.specs.Told.{is_answer, answered_base, told_of};
+ghost use Rattle.iso_exchange.specs.Plain.{IsPlain};
 
 use crate::packed::{is_packed, packed_number};
 use iso_order::{MOST_STAN, Told, TxKey};
-use iso_parts::{FieldSpec, Mti, decode_value};
+use iso_parts::{Coding, FieldSpec, Mti, Pad, decode_value};
 use iso_table::Table;
 use iso_wire::{View, number_in};
 use std::alloc::AllocError;
@@ -78,6 +79,28 @@ fn packed_at(table: &Table, message: &View<'_>, body: &[u8], n: u8, bytes: u16) 
     packed_number(wire)
 }
 
+/// Whether the characters of each value of the row are the bytes themselves, with no padding.
+fn is_plain(row: &FieldSpec) -> bool
+    ensures { result ≡ true → IsPlain row.now }
+{
+    row.coding == Coding::Ascii && row.pad == Pad::None
+}
+
+/// The value of an element of the message that the whole body is, where its characters are the bytes themselves, with no
+/// padding: it is read where it lies. `None` where they aren't, and where the element is missing.
+fn plain_text<'a>(table: &Table, message: &View<'a>, body: &[u8], n: u8) -> Option<&'a [u8]>
+    requires viewed { Views table.now body.now (Ok message.now) (message_at table.now body.now) }
+    requires all { message.now.used ≡ length body.now }
+    ensures { IfSome result (λ v. (m : Contents) (size : ℕ) → message_at table.now body.now ≡ whole m size
+        → v.now ≡ text m n) }
+{
+    let row = table.row(n)?;
+    if !is_plain(row) {
+        return None;
+    }
+    message.wire(n)
+}
+
 /// The number that the value of an element writes in `least` to `most` digits, of the message that the whole body is.
 fn number_of(
     table: &Table,
@@ -94,6 +117,9 @@ fn number_of(
     ensures number { IfOk result (λ got. (m : Contents) (size : ℕ) → message_at table.now body.now ≡ whole m size
         → got ≡ number_in least most (text m n)) }
 {
+    if let Some(text) = plain_text(table, message, body, n) {
+        return Ok(number_in(text, least, most));
+    }
     read_text(table, message, body, n, value)?;
     Ok(number_in(value, least, most))
 }

@@ -12,8 +12,6 @@ mod input_fault;
 mod interrupts;
 pub mod laws;
 mod place;
-#[cfg(test)]
-mod tests;
 mod whole;
 mod window;
 

@@ -26,9 +26,9 @@ use Rattle.iso_issuer.specs.Balances.{accounts_of, IsNear}
 
 -- ---- keys
 
--- the order of keys, field by field
+-- the order of keys, field by field, the time first
 abbrev pub key_cmp : TxKey → TxKey → Ordering
-key_cmp a b = ordering_then (nat_cmp a.base b.base) (ordering_then (nat_cmp a.stan b.stan) (ordering_then (nat_cmp a.sent b.sent) (nat_cmp a.acquirer b.acquirer)))
+key_cmp a b = ordering_then (nat_cmp a.sent b.sent) (ordering_then (nat_cmp a.stan b.stan) (ordering_then (nat_cmp a.base b.base) (nat_cmp a.acquirer b.acquirer)))
 
 -- the place of the entry of this key, where there is one
 abbrev pub place_of : List Entry → TxKey → Option ℕ

@@ -12,8 +12,7 @@ use crate::watching::Watch;
 use iso_durable::answer_order;
 use iso_issuer::{Accounts, Issuer};
 use iso_log::RECORD;
-use iso_record::laws::rows_come_back;
-use iso_record::{Row, read_row, row_bytes};
+use iso_record::read_row;
 use sqlite_disk::Disk;
 
 /// How many records are read at once, at most.
@@ -34,19 +33,11 @@ pub fn replay_record(issuer: &mut Issuer, bytes: &[u8; RECORD]) -> Result<bool, 
     ensures limit { IfOk result (λ b. b ≡ true → issuer.new.limit ≡ issuer.old.limit) }
     ensures fault { IfErr result (λ e. IsPlain e) }
 {
-    rows_come_back();
     let Some(row) = read_row(bytes) else {
         return Ok(false);
     };
     let (answer, is_new) = answer_order(issuer, row.order)?;
-    if !is_new {
-        return Ok(false);
-    }
-    let written = row_bytes(&Row {
-        order: row.order,
-        answer,
-    });
-    Ok(written == *bytes)
+    Ok(is_new && answer == row.answer)
 }
 
 /// How many records the next piece has, of those from one place to another.

@@ -13,8 +13,6 @@ mod network;
 mod number;
 mod reading;
 mod terms;
-#[cfg(test)]
-mod tests;
 
 pub use document::{MOST_PEERS, MOST_SECONDS, MOST_WAITING};
 pub use fault::{LinksFault, Member};

@@ -1,28 +1,11 @@
 //! An event as a line of JSON.
 
-use crate::event::{Counts, Event, Refusal, Stop};
-use crate::line::Line;
-use crate::standing::Closing;
 use iso_host::BodyFault;
+use iso_lines::{Closing, Counts, Event, Line, Refusal, Stop, closing_word, refusal_word};
 use iso_links::Limits;
 use iso_order::TxKey;
 use jiff::Timestamp;
 use std::alloc::AllocError;
-
-/// The word for why a peer is closed.
-pub fn closing_word(why: Closing) -> &'static str {
-    match why {
-        Closing::Ended => "ended",
-        Closing::CutFrame => "cut-frame",
-        Closing::Failed => "failed",
-        Closing::BadHeader => "bad-header",
-        Closing::Memory => "memory",
-        Closing::Idle => "idle",
-        Closing::UnfinishedFrame => "unfinished-frame",
-        Closing::DoesNotRead => "does-not-read",
-        Closing::Stopped => "stopped",
-    }
-}
 
 /// Adds the time: in UTC, to a millisecond.
 fn add_time(line: &mut String, at: u64) -> Result<(), AllocError> {
@@ -32,15 +15,6 @@ fn add_time(line: &mut String, at: u64) -> Result<(), AllocError> {
             Err(_) => write!(line, "{{\"at\":\"\","),
         },
         Err(_) => write!(line, "{{\"at\":\"\","),
-    }
-}
-
-/// The word for why a peer isn't let in.
-pub fn refusal_word(why: Refusal) -> &'static str {
-    match why {
-        Refusal::Peers => "peers",
-        Refusal::Network => "network",
-        Refusal::Memory => "memory",
     }
 }
 

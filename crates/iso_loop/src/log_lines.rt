@@ -1,10 +1,8 @@
 //! Lines of JSON to a writer.
 ghost use Rattle.std.specs.Prelude.{◌≡◌, ◌≤◌, length, drop};
 
-use crate::event::{Event, Lines};
 use crate::json::{add_line, has_line};
-use crate::line::Line;
-use crate::pages::Pages;
+use iso_lines::{Event, Line, Lines, Pages};
 use std::alloc::Global;
 use std::io::{ErrorKind, Write};
 

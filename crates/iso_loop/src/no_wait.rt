@@ -1,7 +1,7 @@
 //! A stream of this process that is written to without waiting for its reader.
 ghost use Rattle.std.specs.Prelude.{◌≤◌, length, IfOk};
 
-use crate::fault::LoopFault;
+use iso_lines::LoopFault;
 use mio::unix::SourceFd;
 use mio::{Events, Interest, Poll, Token};
 use std::alloc::Global;

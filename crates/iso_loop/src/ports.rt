@@ -1,14 +1,9 @@
 //! The ports that a host listens on.
 
-use crate::control::Control;
-use crate::event::{Event, Lines};
-use crate::fault::{LoopFault, Unbound};
-use crate::moment::Moment;
-use crate::pages::Pages;
-use crate::peers::Peers;
-use crate::standing::Closing;
-use crate::visiting::MOST_VISITORS;
 use crate::visitors::Visitors;
+use iso_lines::{
+    Closing, Control, Event, Lines, LoopFault, MOST_VISITORS, Moment, Pages, Peers, Unbound,
+};
 use mio::net::{TcpListener, TcpStream};
 use mio::unix::SourceFd;
 use mio::{Events, Interest, Poll, Token};

@@ -2,16 +2,11 @@
 ghost use Rattle.std.specs.Prelude.{OnOk};
 ghost use Rattle.iso_peers.specs.Host.{IsInStep, IsKept};
 
-use crate::control::Control;
-use crate::event::{Event, Lines, Stop};
-use crate::fault::LoopFault;
-use crate::journal::Filling;
-use crate::line::Line;
-use crate::moment::Moment;
-use crate::pages::Pages;
-use crate::peers::{PAUSE, Peers};
 use crate::ports::Ports;
 use iso_durable::Log;
+use iso_lines::{
+    Control, Event, Filling, Line, Lines, LoopFault, Moment, PAUSE, Pages, Peers, Stop,
+};
 use iso_peers::DurableHost;
 use mio::net::TcpStream;
 use std::alloc::Global;

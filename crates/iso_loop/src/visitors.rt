@@ -1,7 +1,6 @@
 //! The visitors that come beside the peers, each with one request.
 
-use crate::pages::Pages;
-use crate::visiting::{MOST_REQUEST, Visit, Visiting, lets_visit};
+use iso_lines::{MOST_REQUEST, Pages, Visit, Visiting, lets_visit};
 use slab::Slab;
 use std::alloc::Global;
 use std::io::{ErrorKind, Read, Write};

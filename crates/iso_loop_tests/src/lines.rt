@@ -3,8 +3,9 @@
 use crate::stream::Script;
 use iso_fakes::{check, check_of};
 use iso_host::{BodyFault, HostTable, Link};
+use iso_lines::{Closing, Counts, Event, Filling, Line, Lines, Refusal, Stop};
 use iso_links::{Limits, Terms};
-use iso_loop::{Closing, Counts, Event, Filling, Line, Lines, LogLines, Refusal, Stop};
+use iso_loop::LogLines;
 use iso_order::TxKey;
 use iso_table::Table;
 use iso_wire::{Header, UnpackCause, UnpackFault};

@@ -1,6 +1,6 @@
 //! A log that remembers what tests look at.
 
-use iso_loop::{Closing, Event, Lines, Refusal};
+use iso_lines::{Closing, Event, Lines, Refusal};
 use std::alloc::Global;
 
 /// A log that remembers what tests look at.

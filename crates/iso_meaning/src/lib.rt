@@ -10,8 +10,6 @@ mod moments;
 mod splits;
 mod tags;
 mod telling;
-#[cfg(test)]
-mod tests;
 mod track;
 mod words;
 

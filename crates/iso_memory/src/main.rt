@@ -10,6 +10,7 @@
 #![tactic(auto)]
 
 mod accounts;
+mod driving;
 mod ended;
 mod fields;
 mod host;
@@ -61,5 +62,6 @@ fn main(rt: HostRuntime) -> io::Result<()> {
     tell(&rt, &world::rows(alloc))?;
     tell(&rt, &host::rows(alloc))?;
     tell(&rt, &peers::rows(alloc))?;
+    tell(&rt, &driving::rows(alloc))?;
     tell(&rt, &without::rows(alloc))
 }

@@ -99,7 +99,7 @@ fn responds_to_an_inquiry(alloc: Global) -> Ended {
 }
 
 /// The elements of the reversal of the purchase, and those of the completion of a hold.
-const REVERSAL: [(u8, &[u8]); 4] = [
+pub const REVERSAL: [(u8, &[u8]); 4] = [
     (7, b"0102030405"),
     (11, b"000008"),
     (32, b"12345"),

@@ -1,11 +1,11 @@
 //! Requests over HTTP and their answers.
 
-use crate::asked::Asked;
 use crate::metrics::Metrics;
 use http::StatusCode;
 use http1::{BodySize, Event, Header, Limits, Server, WriteError};
 use httparse::spans::EMPTY_HEADER_SPAN;
-use iso_loop::{MOST_REQUEST, Pages};
+use iso_counts::Asked;
+use iso_lines::{MOST_REQUEST, Pages};
 use std::alloc::AllocError;
 
 /// How many fields it has at most.
@@ -19,7 +19,7 @@ const LIMITS: Limits = Limits {
 };
 
 /// A request.
-#[derive(Clone, Copy, Debug, PartialEq, Eq)]
+#[derive(Clone, Copy, PartialEq, Eq)]
 struct Request {
     asked: Asked,
     /// Whether only the head of the answer is wanted.

@@ -1,7 +1,7 @@
 //! Two that are told the same.
 
 use crate::metrics::Metrics;
-use iso_loop::{Event, Lines, Pages};
+use iso_lines::{Event, Lines, Pages};
 
 /// Two that are told the same events, the first one first.
 #[derive(Drop)]

@@ -1,6 +1,6 @@
 //! The lines of the text form of metrics.
 
-use crate::histogram::{Histogram, SECONDS};
+use iso_counts::{Histogram, SECONDS};
 use std::alloc::AllocError;
 
 /// Adds the value of a label: a backslash, a double quote and a line feed are escaped.

@@ -1,11 +1,8 @@
 //! What a host tells of itself in numbers.
-ghost use Rattle.std.specs.Prelude.{◌≡◌};
-ghost use Rattle.iso_metrics.specs.Metered.{link_of, link_counted};
 
-use crate::host_counts::HostCounts;
 use crate::labels::add_escaped;
-use crate::link_counts::LinkCounts;
-use iso_loop::{Event, Lines};
+use iso_counts::{HostCounts, LinkCounts, count_link, link_of};
+use iso_lines::{Event, Lines};
 use std::alloc::{AllocError, Global};
 
 /// What a host tells of itself in numbers: of each link by its name, and of the host as a whole.
@@ -22,37 +19,6 @@ pub struct Metrics {
     pub dropped: u64,
     /// When the host started, in milliseconds since 1970.
     pub(crate) started: u64,
-}
-
-/// The place of the link that an event is of.
-fn link_of(event: &Event) -> Option<usize>
-    ensures { result ≡ link_of event.now }
-{
-    match *event {
-        Event::Listening { link, .. }
-        | Event::Connected { link, .. }
-        | Event::Refused { link, .. }
-        | Event::NotAccepted { link }
-        | Event::Answered { link, .. }
-        | Event::Replied { link, .. }
-        | Event::Foreign { link, .. }
-        | Event::Silent { link, .. }
-        | Event::Unreadable { link, .. }
-        | Event::Closed { link, .. }
-        | Event::Moved { link, .. } => Some(link),
-        Event::Kept { .. } | Event::Journal { .. } | Event::LogFailed | Event::Stopping { .. } =>
-            None,
-    }
-}
-
-/// Counts an event of the link at a place, if there is one.
-fn count_link(links: &mut [LinkCounts], link: usize, event: &Event)
-    // Only the counts of that link change, and only by the event.
-    ensures { links.new ≡ link_counted links.old link event.now }
-{
-    if link < links.len() {
-        links[link].count(event);
-    }
 }
 
 impl Metrics {

@@ -1,11 +1,9 @@
 //! The metrics in the text form of Prometheus, version 0.0.4.
 
-use crate::kind::KIND_WORDS;
 use crate::labels::{add_front, add_histogram, add_of_both, add_of_link, add_single};
-use crate::link_counts::LinkCounts;
 use crate::metrics::Metrics;
-use crate::reasons::{CLOSINGS, REFUSALS};
-use iso_loop::closing_word;
+use iso_counts::{CLOSINGS, KIND_WORDS, LinkCounts, REFUSALS};
+use iso_lines::closing_word;
 use std::alloc::AllocError;
 
 /// A metric that has one number a link.

@@ -16,8 +16,6 @@ mod mix;
 mod orders;
 mod sides;
 mod taken;
-#[cfg(test)]
-mod tests;
 mod waits;
 
 pub use counts::Counts;

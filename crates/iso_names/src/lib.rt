@@ -10,8 +10,6 @@ mod names;
 mod naming;
 mod own;
 mod reading;
-#[cfg(test)]
-mod tests;
 
 pub use fault::NamesFault;
 pub use names::Names;

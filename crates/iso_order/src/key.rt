@@ -6,15 +6,16 @@ ghost use Rattle.iso_order.specs.Key.{class_digit, function_digit, is_valid_key,
 /// The largest trace number: six nines (element 11, system trace audit number).
 pub const MOST_STAN: u32 = 999_999;
 
-/// Names a transaction. Each delivery of it has the same key, whatever the repeat digit of its message type.
+/// Names a transaction. Each delivery of it has the same key, whatever the repeat digit of its message type. Keys are in the
+/// order of their times first: orders come about in that order, so a new key is mostly behind all others.
 #[derive(Clone, Copy, Debug, PartialEq, Eq, PartialOrd, Ord, Hash)]
 pub struct TxKey {
-    /// The number of the message type, without a repeat.
-    pub base: u16,
-    /// The trace number (element 11).
-    pub stan: u32,
     /// The transmission date and time (element 7), as a number of ten digits.
     pub sent: u64,
+    /// The trace number (element 11).
+    pub stan: u32,
+    /// The number of the message type, without a repeat.
+    pub base: u16,
     /// The acquirer (element 32), as a number: leading zeros don't count.
     pub acquirer: u64,
 }

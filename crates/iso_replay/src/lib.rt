@@ -9,8 +9,6 @@ mod heard;
 mod moving;
 mod replaying;
 mod running;
-#[cfg(test)]
-mod tests;
 mod waiting;
 
 pub use day::{Day, DayFault, Part, append_outcome, replay_day};

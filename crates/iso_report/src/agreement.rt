@@ -1,13 +1,13 @@
 //! Whether both ends agree, for people.
 
-use crate::books::{AccountBooks, Doubt, Verdict};
+use iso_tally::{AccountBooks, Doubt, Verdict};
 use std::alloc::AllocError;
 
 /// How many accounts on which the ends differ are told one by one, and how many trace numbers of each.
 const MOST_TOLD: usize = 20;
 
 /// How many accounts have each verdict.
-#[derive(Clone, Copy, Debug, PartialEq, Eq)]
+#[derive(Clone, Copy)]
 pub(crate) struct Verdicts {
     pub agree: usize,
     pub differ: usize,

@@ -1,7 +1,7 @@
 //! The bars of a histogram.
 ghost use Rattle.std.specs.Prelude.{◌≡◌, ◌≤◌, ◌<◌, ◌*◌, ◌+◌};
 
-use crate::bucket::Bucket;
+use iso_tally::Bucket;
 
 /// How long the bar of a count is, where that of the greatest count is so wide: rounded up, so that none is missing. A count
 /// above the greatest has a bar of full width.

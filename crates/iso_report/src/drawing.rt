@@ -1,8 +1,8 @@
 //! A histogram as lines of text.
 
 use crate::bars::{bar_length, filled, most_of};
-use crate::bucket::Bucket;
 use crate::numbers::bound;
+use iso_tally::Bucket;
 use std::alloc::{AllocError, Global};
 
 /// How wide the longest bar is, in columns.

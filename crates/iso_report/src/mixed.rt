@@ -1,37 +1,10 @@
-//! How far the transactions got that aren't purchases.
-ghost use Rattle.std.specs.Prelude.{◌↔◌, IsTrue};
-ghost use Rattle.iso_report.specs.Mixed.{AreAllAnswered};
+//! How far the transactions got that aren't purchases, for people and for programs.
 
+use crate::objects::{add_value, object_of};
 use iso_mix::{Counts, Mix};
-use serde_json::{Value, json};
+use iso_tally::Mixed;
+use serde_json::{Map, Value};
 use std::alloc::{AllocError, Global};
-
-/// How far the transactions of a mix got that aren't purchases.
-#[derive(Clone, Copy, Debug, PartialEq, Eq)]
-pub struct Mixed {
-    /// How many of a hundred were to be of each kind.
-    pub mix: Mix,
-    /// The holds.
-    pub holds: Counts,
-    /// The completions.
-    pub completions: Counts,
-    /// The inquiries.
-    pub inquiries: Counts,
-    /// The partial reversals.
-    pub undone: Counts,
-}
-
-impl Mixed {
-    /// Whether each order has its answer.
-    pub fn is_closed(&self) -> bool
-        ensures { IsTrue result ↔ AreAllAnswered self.now }
-    {
-        self.holds.waiting == 0
-            && self.completions.waiting == 0
-            && self.inquiries.waiting == 0
-            && self.undone.waiting == 0
-    }
-}
 
 /// How many orders began.
 fn begun(of: &Counts) -> usize {
@@ -81,13 +54,17 @@ pub(crate) fn add_mixed(text: &mut String, of: &Mixed) -> Result<(), AllocError>
 
 /// The object of one kind.
 fn counts_value(alloc: Global, of_100: u8, of: &Counts) -> Result<Value, AllocError> {
-    json!(in alloc; {
-        "begun": begun(of),
-        "granted": of.granted,
-        "of_100": of_100,
-        "open": of.waiting,
-        "refused": of.refused,
-    })
+    let members = object_of(
+        alloc,
+        &[
+            ("begun", begun(of) as u64),
+            ("granted", of.granted as u64),
+            ("of_100", u64::from(of_100)),
+            ("open", of.waiting as u64),
+            ("refused", of.refused as u64),
+        ],
+    )?;
+    Ok(Value::Object(members))
 }
 
 /// The object of all kinds but purchases, or null where all are purchases.
@@ -95,14 +72,15 @@ pub(crate) fn mixed_value(alloc: Global, mixed: &Option<Mixed>) -> Result<Value,
     let Some(of) = mixed else {
         return Ok(Value::Null);
     };
-    let complete = counts_value(alloc, of.mix.complete, &of.completions)?;
-    let hold = counts_value(alloc, of.mix.hold, &of.holds)?;
-    let inquiry = counts_value(alloc, of.mix.inquiry, &of.inquiries)?;
-    let undo = counts_value(alloc, of.mix.undo, &of.undone)?;
-    json!(in alloc; {
-        "complete": complete,
-        "hold": hold,
-        "inquiry": inquiry,
-        "undo": undo,
-    })
+    let mut members = Map::new(alloc);
+    for (name, of_100, counts) in [
+        ("complete", of.mix.complete, of.completions),
+        ("hold", of.mix.hold, of.holds),
+        ("inquiry", of.mix.inquiry, of.inquiries),
+        ("undo", of.mix.undo, of.undone),
+    ] {
+        let value = counts_value(alloc, of_100, &counts)?;
+        add_value(&mut members, alloc, name, value)?;
+    }
+    Ok(Value::Object(members))
 }

@@ -2,14 +2,13 @@
 
 use crate::agreement::add_books;
 use crate::drawing::add_histogram;
-use crate::ended::{Declined, Ended};
-use crate::mixed::{Mixed, add_mix, add_mixed};
+use crate::mixed::{add_mix, add_mixed};
 use crate::numbers::{chance, millis, per_second, seconds};
 use crate::report::Report;
 use crate::settings::Settings;
-use crate::summary::Summary;
 use crate::traffic::{add_row, add_traffic};
 use iso_meaning::response_code;
+use iso_tally::{Declined, Ended, Mixed, Summary};
 use std::alloc::{AllocError, Global};
 
 /// Adds what the run was to do.

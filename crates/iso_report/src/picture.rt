@@ -1,11 +1,10 @@
 //! The histogram as a picture.
 
 use crate::bars::{bar_length, filled, most_of};
-use crate::bucket::Bucket;
 use crate::drawing::end_of;
 use crate::numbers::{bound, millis};
 use crate::report::Report;
-use crate::summary::Summary;
+use iso_tally::{Bucket, Summary};
 use std::alloc::{AllocError, Global};
 
 /// What stands in front of all: the size, and colours that are read on light and on dark.

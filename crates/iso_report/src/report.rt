@@ -1,12 +1,7 @@
 //! What a run tells at its end.
 
-use crate::books::{AccountBooks, Doubt, all_agree};
-use crate::bucket::Bucket;
-use crate::ended::Ended;
-use crate::mixed::Mixed;
 use crate::settings::Settings;
-use crate::summary::Summary;
-use crate::tally::Tally;
+use iso_tally::{AccountBooks, Bucket, Doubt, Ended, Mixed, Summary, Tally, all_agree};
 
 /// What a run tells at its end.
 #[derive(Drop, Debug)]

@@ -1,6 +1,6 @@
 //! What happened to the traffic, for people.
 
-use crate::tally::Tally;
+use iso_tally::Tally;
 use std::alloc::AllocError;
 
 /// The counts that are always told.

@@ -14,8 +14,6 @@ mod log;
 mod memory;
 mod note;
 mod replaying;
-#[cfg(test)]
-mod tests;
 
 pub use durable::{DurableAcquirer, Fault};
 pub use log::{LogFailed, NoteLog};

@@ -18,8 +18,6 @@ mod pattern;
 mod reading;
 mod script;
 mod scripted;
-#[cfg(test)]
-mod tests;
 mod treating;
 
 pub use behaviour::{Behaviour, Deed, Rule};

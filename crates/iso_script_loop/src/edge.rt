@@ -1,7 +1,7 @@
 //! The port that a host with rules listens on.
 
 use crate::peers::Peers;
-use iso_loop::{Control, LoopFault, Unbound};
+use iso_lines::{Control, LoopFault, Unbound};
 use mio::net::{TcpListener, TcpStream};
 use mio::unix::SourceFd;
 use mio::{Events, Interest, Poll, Token};

@@ -5,7 +5,7 @@ use std::cmp::Reverse;
 use std::collections::BinaryHeap;
 
 /// An answer that is held back.
-#[derive(Debug, PartialEq, Eq, PartialOrd, Ord, Drop)]
+#[derive(PartialEq, Eq, PartialOrd, Ord, Drop)]
 pub(crate) struct Held {
     /// The key of its peer.
     pub key: usize,
@@ -16,7 +16,7 @@ pub(crate) struct Held {
 }
 
 /// An answer, and the moment at which it goes out, in milliseconds. Of one moment, what was held back first goes first.
-#[derive(Debug, PartialEq, Eq, PartialOrd, Ord, Drop)]
+#[derive(PartialEq, Eq, PartialOrd, Ord, Drop)]
 struct Until {
     at: Reverse<u64>,
     number: Reverse<u64>,

@@ -1,7 +1,7 @@
 //! One peer of a host with rules.
 
-use crate::standing::{Bounds, Standing, is_done};
 use bytes::BytesMut;
+use iso_script_peers::{Bounds, Standing, is_done};
 use std::alloc::{AllocError, Global};
 use std::io::{ErrorKind, Read, Write};
 

@@ -1,13 +1,12 @@
 //! All peers of a host with rules, and what a turn does with them.
 
-use crate::going::{Going, going_of};
 use crate::late::{Held, Late};
 use crate::peer::Peer;
-use crate::standing::{Bounds, Standing};
 use crate::telling::{Event, Telling, rule_event};
 use iso_host::Link;
 use iso_order::NoMemory;
 use iso_script::Scripted;
+use iso_script_peers::{Bounds, Going, Standing, going_of};
 use iso_wire::{Framed, unframe};
 use slab::Slab;
 use std::alloc::{AllocError, Global};

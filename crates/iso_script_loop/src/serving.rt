@@ -1,14 +1,11 @@
 //! The loop of a host with rules.
 
-ghost use Rattle.std.specs.Prelude.{◌≡◌};
-ghost use Rattle.iso_script_loop.specs.Pausing.{pause_of};
-
 use crate::edge::Port;
 use crate::peers::Peers;
-use crate::standing::Bounds;
 use iso_host::Link;
-use iso_loop::{Control, LoopFault, PAUSE};
+use iso_lines::{Control, LoopFault};
 use iso_script::Scripted;
+use iso_script_peers::{Bounds, PAUSE, pause_of};
 use mio::net::TcpStream;
 use std::alloc::Global;
 use std::io::Write;
@@ -24,20 +21,6 @@ fn moment<R: Clock>(rt: &R) -> Result<u64, LoopFault> {
                 .saturating_add(u64::from(time.subsec_millis())),
         ),
         Err(_) => Err(LoopFault::Wait),
-    }
-}
-
-/// How long the next turn may wait for events, in milliseconds: not at all where a peer goes on without one, and no longer
-/// than until an answer is due that is held back.
-fn pause_of(goes_on: bool, due: Option<u64>, now: u64) -> u64
-    ensures { result ≡ pause_of goes_on due now }
-{
-    if goes_on {
-        return 0;
-    }
-    match due {
-        Some(at) => at.saturating_sub(now).min(PAUSE),
-        None => PAUSE,
     }
 }
 

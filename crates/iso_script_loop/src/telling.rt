@@ -5,7 +5,7 @@ use std::alloc::{AllocError, Global};
 use std::io::Write;
 
 /// What is told.
-#[derive(Clone, Copy, Debug, PartialEq, Eq)]
+#[derive(Clone, Copy, PartialEq, Eq)]
 pub(crate) enum Event {
     /// A peer was let in.
     Connected(u64),

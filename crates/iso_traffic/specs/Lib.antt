@@ -1,10 +1,1 @@
-pub mod Balance
-pub mod Counting
-pub mod Fate
-pub mod Late
-pub mod Pace
-pub mod Plan
-pub mod Reading
-pub mod Sendings
-pub mod Stage
-pub mod Stamp
+pub mod Fault

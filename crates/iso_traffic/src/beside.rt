@@ -1,39 +1,19 @@
 //! What is asked beside purchases.
-ghost use Rattle.std.specs.Prelude.{◌≡◌};
-ghost use Rattle.iso_traffic.specs.Counting.{counted_beside};
 
 use crate::engine::Engine;
 use crate::fault::TrafficFault;
 use crate::moment::Moment;
+use iso_counting::count_beside;
 use iso_drive::Driver;
 use iso_mix::{Draft, Hearing, Kind};
 use iso_order::{MOST_STAN, Money, Order, Told};
-use iso_report::{Mixed, Tally, add_one};
 use iso_restarts::NoteLog;
+use iso_tally::{Mixed, Tally, add_one};
 use std::alloc::AllocError;
 use std::io::{Read, Write};
 
 /// A hundred transactions are drawn from.
 const LAST_DRAW: u64 = 99;
-
-/// Counts an answer to an order that is no purchase, by what it came to. One to another key is counted elsewhere.
-fn count_beside(tally: &mut Tally, hearing: Hearing)
-    ensures { tally.new ≡ counted_beside tally.old hearing }
-{
-    match hearing {
-        Hearing::First => add_one(&mut tally.answers),
-        Hearing::Known => {
-            add_one(&mut tally.answers);
-            add_one(&mut tally.late);
-        }
-        Hearing::Differs => {
-            add_one(&mut tally.answers);
-            add_one(&mut tally.late);
-            add_one(&mut tally.differing);
-        }
-        Hearing::Foreign => {}
-    }
-}
 
 impl<S: Read + Write + Drop> Engine<'_, S> {
     /// The trace numbers up to this one are those of the driver, of the reversals that it may yet make, and of what is

@@ -8,7 +8,7 @@ use std::io::{ErrorKind, Read, Write};
 const BLOCK: usize = 16_384;
 
 /// How a connection stands.
-#[derive(Clone, Copy, Debug, PartialEq, Eq)]
+#[derive(Clone, Copy, PartialEq, Eq)]
 pub(crate) enum State {
     /// It is asked for, and the host hasn't taken it.
     Asked,

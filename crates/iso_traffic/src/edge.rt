@@ -3,7 +3,7 @@
 use crate::connection::State;
 use crate::fault::TrafficFault;
 use crate::lines::Lines;
-use iso_report::{Tally, add_one};
+use iso_tally::{Tally, add_one};
 use mio::net::TcpStream;
 use mio::{Events, Interest, Poll, Token};
 use std::alloc::Global;

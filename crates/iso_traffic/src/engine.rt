@@ -1,19 +1,14 @@
 //! The engine of a run: what is done with what came, and what goes out.
 
-use crate::came::Taken;
-use crate::fate::Fates;
 use crate::fault::TrafficFault;
-use crate::inquiries::Inquiries;
-use crate::late::Late;
 use crate::lines::Lines;
-use crate::pace::{Pace, closing_moment};
-use crate::plan::Plan;
-use crate::sendings::Sendings;
 use iso_drive::{Counts, Draw, Driver};
+use iso_frames::Taken;
 use iso_mix::Sides;
 use iso_order::{MOST_STAN, Order};
-use iso_report::{Latencies, Tally};
+use iso_plan::{Fates, Inquiries, Late, Pace, Plan, Sendings, closing_moment};
 use iso_restarts::NoteLog;
+use iso_tally::{Latencies, Tally};
 use std::alloc::Global;
 use std::io::{Read, Write};
 

@@ -1,8 +1,10 @@
 //! Why a run ends before its time.
 ghost use Rattle.std.specs.Prelude.{◌≡◌};
-ghost use Rattle.iso_traffic.specs.declared.fault.TrafficFault.TheVariants.{Memory, Notes};
+ghost use Rattle.iso_traffic.specs.declared.fault.TrafficFault.TheVariants.{Memory};
+ghost use Rattle.iso_traffic.specs.Fault.{of_frames};
 
-use crate::plan::PlanFault;
+use iso_frames::FramesFault;
+use iso_plan::PlanFault;
 use iso_wire::PackFault;
 use std::alloc::{AllocError, AllocFailed};
 use thiserror::Error;
@@ -44,5 +46,17 @@ impl<T: Drop> From<AllocFailed<T>> for TrafficFault {
 
     fn from(_: AllocFailed<T>) -> TrafficFault {
         TrafficFault::Memory
+    }
+}
+
+impl From<FramesFault> for TrafficFault {
+    ghost from_gives = { λ fault e. e ≡ of_frames fault };
+
+    fn from(fault: FramesFault) -> TrafficFault {
+        match fault {
+            FramesFault::Unwritten(fault) => TrafficFault::Unwritten(fault),
+            FramesFault::TooLong => TrafficFault::TooLong,
+            FramesFault::Memory => TrafficFault::Memory,
+        }
     }
 }

@@ -1,17 +1,15 @@
 //! What is done with what came.
 
-use crate::came::{Came, Taken, add_digests};
 use crate::connection::State;
-use crate::counting::count_heard;
 use crate::engine::Engine;
-use crate::fate::{Comes, Fate};
 use crate::fault::TrafficFault;
-use crate::late::Held;
 use crate::moment::Moment;
-use crate::reading::{Read as Reading, take_frames};
+use iso_counting::count_heard;
 use iso_drive::{Driver, Heard};
-use iso_report::add_one;
+use iso_frames::{Read as Reading, Taken, add_digests, take_frames};
+use iso_plan::{Came, Comes, Fate, Held};
 use iso_restarts::NoteLog;
+use iso_tally::add_one;
 use std::io::{Read, Write};
 
 /// How many pieces of one connection are read in one turn.

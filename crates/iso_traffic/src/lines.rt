@@ -1,7 +1,7 @@
 //! The connections to the host.
 
 use crate::connection::{Connection, State};
-use iso_report::{Tally, add_one};
+use iso_tally::{Tally, add_one};
 use std::alloc::{AllocError, Global};
 use std::io::{Read, Write};
 

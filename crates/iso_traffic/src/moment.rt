@@ -1,7 +1,7 @@
 //! A moment of a run.
 
 /// A moment: microseconds of a clock that never goes back, and the time in UTC as messages have it.
-#[derive(Clone, Copy, Debug)]
+#[derive(Clone, Copy)]
 pub(crate) struct Moment {
     /// Microseconds since the run began.
     pub micros: u64,

@@ -1,6 +1,6 @@
 //! How a run ended.
 
-use iso_report::Mixed;
+use iso_tally::Mixed;
 
 /// How a run ended.
 #[derive(Debug, Drop)]

@@ -2,15 +2,13 @@
 
 use crate::connection::State;
 use crate::engine::Engine;
-use crate::fate::Comes;
 use crate::fault::TrafficFault;
-use crate::framing::write_frame;
-use crate::inquiries::Inquiries;
-use crate::late::Held;
 use crate::lines::WRITES;
 use crate::moment::Moment;
+use iso_frames::write_frame;
 use iso_order::{MOST_STAN, Order};
-use iso_report::add_one;
+use iso_plan::{Comes, Held, Inquiries};
+use iso_tally::add_one;
 use std::io::{Read, Write};
 
 impl<S: Read + Write + Drop> Engine<'_, S> {
@@ -91,7 +89,7 @@ impl<S: Read + Write + Drop> Engine<'_, S> {
         );
         let went = match written {
             Ok(()) => self.go_by_fate(frame.as_slice(), now),
-            Err(fault) => Err(fault),
+            Err(fault) => Err(TrafficFault::from(fault)),
         };
         self.frame = frame;
         went
@@ -150,7 +148,7 @@ impl<S: Read + Write + Drop> Engine<'_, S> {
             );
             let went = match written {
                 Ok(()) => self.go(frame.as_slice(), false),
-                Err(fault) => Err(fault),
+                Err(fault) => Err(TrafficFault::from(fault)),
             };
             self.frame = frame;
             went?;

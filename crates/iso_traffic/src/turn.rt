@@ -4,15 +4,14 @@ ghost use Rattle.iso_acquirer.specs.Acquirer.{IsFair};
 
 use crate::engine::Engine;
 use crate::fault::TrafficFault;
-use crate::late::Held;
 use crate::moment::Moment;
-use crate::pace::{due_purchases, next_moment};
 use crate::watch::Progress;
 use iso_acquirer::AcqFault;
 use iso_drive::Driver;
-use iso_order::{MOST_AMOUNT, Money, Order, Told, currency_of};
-use iso_report::add_one;
+use iso_order::{MOST_AMOUNT, Money, Order, currency_of};
+use iso_plan::{Held, due_purchases, next_moment};
 use iso_restarts::{Fault, NoteLog};
+use iso_tally::add_one;
 use std::io::{Read, Write};
 
 /// The longest that a turn waits for events, in milliseconds.

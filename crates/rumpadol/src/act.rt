@@ -3,18 +3,19 @@
 ghost use Rattle.std.specs.Prelude.{◌≡◌, ◌≤◌, IfOk};
 ghost use Rattle.rumpadol.specs.Jobs.{Performs};
 
-use crate::commands::command;
-use crate::host::perform_host;
-use crate::messages::perform_messages;
-use crate::system::System;
-use crate::terminal::Terminals;
-use crate::words::{Job, job_of};
 use clap::error::ErrorKind;
 use clap::{ArgMatches, Error};
 use iso_service::Journals;
+use rumpadol_commands::command;
+use rumpadol_copies::perform_journal;
 use rumpadol_drive::{Diaries, perform_drive};
-use rumpadol_journals::perform_books;
+use rumpadol_front::perform_before_shards;
+use rumpadol_host::perform_host;
+use rumpadol_jobs::{Job, job_of};
+use rumpadol_messages::perform_messages;
+use rumpadol_ports::System;
 use rumpadol_tables::{Source, Stop, perform_table, tell, write_output};
+use rumpadol_terminals::Terminals;
 use std::alloc::Global;
 use std::io::{Read, Write};
 
@@ -66,6 +67,7 @@ fn perform<S: Source + Journals + Diaries + System, I: Read, O: Write, F: Write>
         ),
         Job::Tables(job) => perform_table(alloc, job, source, input, output),
         Job::Host(words) => perform_host(alloc, words, source, terminals, input, output, faults),
+        Job::Front(job) => perform_before_shards(alloc, job, source, terminals, input, faults),
         Job::Drive(job) => perform_drive(
             alloc,
             *job,
@@ -76,7 +78,15 @@ fn perform<S: Source + Journals + Diaries + System, I: Read, O: Write, F: Write>
             output,
             faults,
         ),
-        Job::Books(job) => perform_books(alloc, *job, source, output),
+        Job::Books(job) => perform_journal(
+            alloc,
+            *job,
+            source,
+            source.runtime(),
+            terminals.faults,
+            output,
+            faults,
+        ),
     }
 }
 

@@ -6,28 +6,22 @@
 //! - `convert FROM TO [INPUT]`: messages under another table
 //! - `table check`, `show`, `list`, `new` and `diff`: tables
 //! - `host`: answers frames as an issuer, of a stream or of many peers on ports, and keeps each order before it is answered
+//! - `front`: stands before hosts that each have some of the account numbers
 //! - `drive`: drives a host as an acquirer, through what networks do
-//! - `journal show`, `check`, `export` and `balance`: the file of a journal
+//! - `journal show`, `check`, `export` and `balance`: a journal in a file or on etcd; `journal copy`: from one to the other
 #![tactic(auto)]
 
 mod act;
-mod commands;
-mod host;
-mod messages;
-mod ports;
-mod system;
-mod terminal;
-mod words;
 
 use act::act;
 use rumpadol_journals::Disk;
 use rumpadol_tables::{Stop, tell};
+use rumpadol_terminals::{Terminals, asks_for_no_colours};
 use std::alloc::{AllocError, Global};
 use std::env;
 use std::env::Env;
 use std::io::{ErrorKind, IsTerminal};
 use std::process::ExitCode;
-use terminal::{Terminals, asks_for_no_colours};
 
 /// The words that the program is given, the first of which is its name.
 fn given_words<R: Env>(alloc: Global, given: &R) -> Result<Vec<String>, Stop> {

@@ -1,16 +1,15 @@
 //! What the words ask of a run, as numbers.
 
-use crate::mixing::mix_of;
-use crate::numbers::{millionths_of, range_of};
-use crate::words::DriveWords;
 use iso_mix::Mix;
-use iso_traffic::Faults;
+use iso_plan::Faults;
+use rumpadol_buying::{millionths_of, mix_of, range_of};
+use rumpadol_drive_words::DriveWords;
 use rumpadol_tables::{Stop, misused};
 use std::alloc::Global;
 use std::net::SocketAddr;
 
 /// What the words ask of a run that isn't said by one number.
-#[derive(Clone, Copy, Debug)]
+#[derive(Clone, Copy)]
 pub(crate) struct Asked {
     pub address: SocketAddr,
     pub least: u64,

@@ -2,11 +2,11 @@
 ghost use Rattle.std.specs.Prelude.{◌≤◌, IfOk};
 
 use crate::asked::address_of;
-use crate::words::DayWords;
 use iso_compare::Telling;
 use iso_names::Names;
 use iso_replay::{Day, DayFault, Part, replay_day};
 use iso_table::Table;
+use rumpadol_drive_words::DayWords;
 use rumpadol_tables::{Source, Stop, failed, names_named, refused, table_named, write_output};
 use std::alloc::Global;
 use std::io::{ErrorKind, Read, Write};

@@ -2,20 +2,22 @@
 ghost use Rattle.std.specs.Prelude.{◌≤◌, IfOk};
 
 use crate::asked::{Asked, asked_of};
-use crate::buyers::{Buyers, buyers_of};
 use crate::day::perform_day;
-use crate::diary::{Diaries, DiaryFault, make_diary, no_diary, open_diary};
+use crate::diary::{Diaries, make_diary, no_diary, open_diary};
 use crate::picture::{draw, picture_asked};
 use crate::progress::ProgressLine;
 use crate::told::{Happened, report_of};
 use crate::unkept::Unkept;
-use crate::words::{DriveJob, DriveWords, MOST_ACQUIRER, MOST_OPEN};
 use iso_diary::Opened;
 use iso_drive::Driver;
-use iso_report::{Latencies, Report, Tally};
+use iso_plan::Plan;
+use iso_report::Report;
 use iso_restarts::{Fault, Note, NoteLog};
 use iso_table::Table;
-use iso_traffic::{Plan, TrafficFault, drive};
+use iso_tally::{Latencies, Tally};
+use iso_traffic::{TrafficFault, drive};
+use rumpadol_buying::{Buyers, DiaryFault, buyers_of};
+use rumpadol_drive_words::{DriveJob, DriveWords, MOST_ACQUIRER, MOST_OPEN};
 use rumpadol_journals::accounts_at;
 use rumpadol_tables::{Source, Stop, failed, misused, refused, table_named, write_output};
 use std::alloc::Global;

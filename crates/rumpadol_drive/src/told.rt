@@ -1,16 +1,15 @@
 //! What a run tells at its end.
 
 use crate::asked::Asked;
-use crate::buyers::Buyers;
 use crate::in_question::messages_of;
-use crate::words::{DriveWords, header_word};
 use iso_drive::Driver;
-use iso_report::{
-    AccountBooks, Declined, Doubt, Ended, Latencies, Report, Settings, Tally, Verdict,
-};
+use iso_report::{Report, Settings};
 use iso_restarts::NoteLog;
 use iso_table::Table;
+use iso_tally::{AccountBooks, Declined, Doubt, Ended, Latencies, Tally, Verdict};
 use iso_traffic::Outcome;
+use rumpadol_buying::Buyers;
+use rumpadol_drive_words::{DriveWords, header_word};
 use std::alloc::{AllocError, Global};
 
 /// How many accounts on which both ends differ are looked into.

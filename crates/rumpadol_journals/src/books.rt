@@ -1,106 +1,123 @@
-//! What is told of a journal's file.
+//! What is told of a journal.
 
 ghost use Rattle.std.specs.Prelude.{◌≡◌, ◌≤◌, IfOk};
 
-mod opening;
 mod sentences;
 
 use crate::accounts::accounts_at;
+use crate::keeper::Keeper;
 use crate::words::{BooksJob, BooksWords};
 use iso_books::{Condition, Replayed, Wanted, account_rows, append_balances, replay, survey, tell};
 use iso_issuer::Issuer;
-use iso_log::RECORD;
-use opening::journal_at;
 use rumpadol_tables::{Source, Stop, write_output};
 use sentences::{cut, damaged, stopped, torn_line, whole_line};
 use std::alloc::Global;
 use std::io::Write;
 
+/// How many orders a journal has.
+#[derive(Clone, Copy, Debug, PartialEq, Eq)]
+pub struct Surveyed {
+    /// So many.
+    pub orders: usize,
+    /// Whether a crash left something of another one behind them.
+    pub is_torn: bool,
+}
+
 /// Shows the entries of a journal, or gives them to another program.
-fn show<S: Source, O: Write>(
+fn show<K: Keeper, O: Write>(
     alloc: Global,
     words: BooksWords<'_>,
-    source: &S,
+    keeper: &K,
     output: &mut O,
 ) -> Result<(), Stop> {
-    let file = journal_at(alloc, source, words.file)?;
-    match tell(alloc, file, words.form, words.is_clear, output) {
+    let records = keeper.records(alloc, words.file)?;
+    match tell(alloc, records, words.form, words.is_clear, output) {
         Ok(Condition::Whole(_) | Condition::Torn(_)) => Ok(()),
-        Ok(Condition::Damaged(place)) => Err(damaged(alloc, words.file, place)),
-        Err(fault) => Err(stopped(alloc, words, fault)),
+        Ok(Condition::Damaged(place)) => Err(damaged(alloc, words.file, place, keeper.cure())),
+        Err(fault) => Err(stopped(alloc, words.file, fault)),
     }
 }
 
-/// Whether a file with so many orders has no room behind them: a host always leaves room for a record more.
-fn is_cut<S: Source>(source: &S, path: &str, count: usize) -> bool {
-    match source.size(path) {
-        Some(size) => size / RECORD as u64 <= (count as u64).saturating_add(1),
-        None => false,
+/// Refuses a journal that ends behind so many orders, where a host always leaves room for a record more.
+fn not_cut<K: Keeper>(
+    alloc: Global,
+    path: &str,
+    keeper: &K,
+    surveyed: Surveyed,
+) -> Result<Surveyed, Stop> {
+    if keeper.is_cut(path, surveyed.orders) {
+        return Err(cut(alloc, path, surveyed.orders));
     }
+    Ok(surveyed)
+}
+
+/// How many orders a journal has. One that is cut, is damaged or can't be read is refused.
+pub fn survey_at<K: Keeper>(alloc: Global, path: &str, keeper: &K) -> Result<Surveyed, Stop> {
+    let records = keeper.records(alloc, path)?;
+    let (orders, is_torn) = match survey(alloc, records, &Wanted::Any) {
+        Ok(Condition::Whole(orders)) => (orders, false),
+        Ok(Condition::Torn(orders)) => (orders, true),
+        Ok(Condition::Damaged(place)) => return Err(damaged(alloc, path, place, keeper.cure())),
+        Err(fault) => return Err(stopped(alloc, path, fault)),
+    };
+    not_cut(alloc, path, keeper, Surveyed { orders, is_torn })
 }
 
 /// The line of a journal with so many orders, which is whole or torn behind them.
-fn line_of<S: Source>(
-    alloc: Global,
-    words: BooksWords<'_>,
-    source: &S,
-    is_torn: bool,
-    count: usize,
-) -> Result<String, Stop> {
-    if is_cut(source, words.file, count) {
-        return Err(cut(alloc, words.file, count));
+fn line_of(alloc: Global, path: &str, surveyed: Surveyed) -> Result<String, Stop> {
+    if surveyed.is_torn {
+        return Ok(torn_line(alloc, path, surveyed.orders)?);
     }
-    if is_torn {
-        return Ok(torn_line(alloc, words.file, count)?);
-    }
-    Ok(whole_line(alloc, words.file, count)?)
+    Ok(whole_line(alloc, path, surveyed.orders)?)
 }
 
 /// Tells whether a journal is whole.
-fn check_alone<S: Source, O: Write>(
+fn check_alone<K: Keeper, O: Write>(
     alloc: Global,
     words: BooksWords<'_>,
-    source: &S,
+    keeper: &K,
     output: &mut O,
 ) -> Result<(), Stop> {
-    let file = journal_at(alloc, source, words.file)?;
-    let line = match survey(alloc, file, &Wanted::Any) {
-        Ok(Condition::Whole(count)) => line_of(alloc, words, source, false, count)?,
-        Ok(Condition::Torn(count)) => line_of(alloc, words, source, true, count)?,
-        Ok(Condition::Damaged(place)) => return Err(damaged(alloc, words.file, place)),
-        Err(fault) => return Err(stopped(alloc, words, fault)),
-    };
+    let surveyed = survey_at(alloc, words.file, keeper)?;
+    let line = line_of(alloc, words.file, surveyed)?;
     write_output(output, line.as_bytes())
 }
 
 /// What a journal holds, each answer decided again.
-fn replayed<S: Source>(
+fn replayed<K: Keeper, S: Source>(
     alloc: Global,
     words: BooksWords<'_>,
     accounts: &str,
+    keeper: &K,
     source: &S,
 ) -> Result<Replayed, Stop> {
     let (accounts, heading) = accounts_at(alloc, source, accounts)?;
-    let file = journal_at(alloc, source, words.file)?;
-    match replay(alloc, file, &heading, accounts) {
+    let records = keeper.records(alloc, words.file)?;
+    match replay(alloc, records, &heading, accounts) {
         Ok(found) => Ok(found),
-        Err(fault) => Err(stopped(alloc, words, fault)),
+        Err(fault) => Err(stopped(alloc, words.file, fault)),
     }
 }
 
 /// Tells whether a journal is whole, and whether each answer in it is the one that a host gives again.
-fn check_answers<S: Source, O: Write>(
+fn check_answers<K: Keeper, S: Source, O: Write>(
     alloc: Global,
     words: BooksWords<'_>,
     accounts: &str,
+    keeper: &K,
     source: &S,
     output: &mut O,
 ) -> Result<(), Stop> {
-    let line = match replayed(alloc, words, accounts, source)? {
-        Replayed::Whole(issuer) => line_of(alloc, words, source, false, issuer.len() as usize)?,
-        Replayed::Torn(issuer) => line_of(alloc, words, source, true, issuer.len() as usize)?,
-        Replayed::Damaged(place) => return Err(damaged(alloc, words.file, place)),
+    let (issuer, is_torn) = match replayed(alloc, words, accounts, keeper, source)? {
+        Replayed::Whole(issuer) => (issuer, false),
+        Replayed::Torn(issuer) => (issuer, true),
+        Replayed::Damaged(place) => {
+            return Err(damaged(alloc, words.file, place, keeper.cure()));
+        }
     };
+    let orders = issuer.len() as usize;
+    let surveyed = not_cut(alloc, words.file, keeper, Surveyed { orders, is_torn })?;
+    let line = line_of(alloc, words.file, surveyed)?;
     write_output(output, line.as_bytes())
 }
 
@@ -118,46 +135,51 @@ fn tell_balances<O: Write>(
 }
 
 /// Tells what is on each account after the orders of a journal.
-fn balance<S: Source, O: Write>(
+fn balance<K: Keeper, S: Source, O: Write>(
     alloc: Global,
     words: BooksWords<'_>,
     accounts: &str,
+    keeper: &K,
     source: &S,
     output: &mut O,
 ) -> Result<(), Stop> {
-    match replayed(alloc, words, accounts, source)? {
+    match replayed(alloc, words, accounts, keeper, source)? {
         Replayed::Whole(issuer) => tell_balances(alloc, words, &issuer, output),
         Replayed::Torn(issuer) => tell_balances(alloc, words, &issuer, output),
-        Replayed::Damaged(place) => Err(damaged(alloc, words.file, place)),
+        Replayed::Damaged(place) => Err(damaged(alloc, words.file, place, keeper.cure())),
     }
 }
 
-/// Does what is asked about a journal's file.
-fn perform_one<S: Source, O: Write>(
+/// Does what is asked about a journal.
+fn perform_one<K: Keeper, S: Source, O: Write>(
     alloc: Global,
     job: BooksJob<'_>,
+    keeper: &K,
     source: &S,
     output: &mut O,
 ) -> Result<(), Stop> {
     match job {
-        BooksJob::Show(words) => show(alloc, words, source, output),
-        BooksJob::Check(words, None) => check_alone(alloc, words, source, output),
+        BooksJob::Show(words) => show(alloc, words, keeper, output),
+        BooksJob::Check(words, None) => check_alone(alloc, words, keeper, output),
         BooksJob::Check(words, Some(accounts)) => {
-            check_answers(alloc, words, accounts, source, output)
+            check_answers(alloc, words, accounts, keeper, source, output)
         }
-        BooksJob::Balance(words, accounts) => balance(alloc, words, accounts, source, output),
+        BooksJob::Balance(words, accounts) => {
+            balance(alloc, words, accounts, keeper, source, output)
+        }
     }
 }
 
-/// Does what is asked about a journal's file, and gives the status 0.
-pub fn perform_books<S: Source, O: Write>(
+/// Does what is asked about a journal, and gives the status 0. The document of its accounts is a file of the source.
+pub fn perform_books<K: Keeper, S: Source, O: Write>(
     alloc: Global,
     job: BooksJob<'_>,
+    keeper: &K,
     source: &S,
     output: &mut O,
 ) -> Result<u8, Stop>
     ensures { IfOk result (λ status. status ≤ 1) }
 {
-    perform_one(alloc, job, source, output)?;
+    perform_one(alloc, job, keeper, source, output)?;
     Ok(0)
 }

@@ -1,4 +1,4 @@
-//! How far a long start is, on a terminal.
+//! How far a long start or another long job is, on a terminal.
 
 ghost use Rattle.std.specs.Prelude.{◌≡◌, ◌+◌, nat_le};
 
@@ -11,7 +11,7 @@ const STEP: usize = 65_536;
 /// Writes over the line that stands there.
 const CLEARED: &[u8] = b"\r\x1b[K";
 
-/// Rewrites a line of a terminal while a long start goes on.
+/// Rewrites a line of a terminal while a long job goes on.
 #[derive(Drop)]
 pub struct Progress<'a, F> {
     faults: &'a mut F,
@@ -26,6 +26,27 @@ impl<'a, F: Write> Progress<'a, F> {
             faults,
             is_terminal,
             shown: 0,
+        }
+    }
+
+    /// So many orders were read.
+    pub fn read(&mut self, orders: usize) {
+        if self.is_terminal && is_next(self.shown, orders) {
+            let _ = write!(self.faults, "\rrumpadol: {orders} orders are read");
+            let _ = self.faults.flush();
+            self.shown = orders;
+        }
+    }
+
+    /// So many orders of so many were written.
+    pub fn written(&mut self, orders: usize, of: usize) {
+        if self.is_terminal && is_next(self.shown, orders) {
+            let _ = write!(
+                self.faults,
+                "\rrumpadol: {orders} of {of} orders are copied"
+            );
+            let _ = self.faults.flush();
+            self.shown = orders;
         }
     }
 

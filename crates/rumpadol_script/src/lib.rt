@@ -1,10 +1,10 @@
 //! A host that misbehaves on purpose, as a command line asks for it.
 //!
-//! - `script_at`: the rules of a document. `perform_script`: what `ScriptWords` ask.
+//! - `perform_by_script`: what the words about such a host ask: the rules of a document, its accounts and its port.
 #![tactic(auto)]
 
+mod by_script;
 mod performing;
 mod words;
 
-pub use performing::{perform_script, script_at};
-pub use words::ScriptWords;
+pub use by_script::perform_by_script;

@@ -1,10 +1,10 @@
 //! The words about a host with rules.
 
-use iso_script_loop::Bounds;
+use iso_script_peers::Bounds;
 use std::net::SocketAddr;
 
 /// The words about a host with rules.
-#[derive(Clone, Copy, Debug)]
+#[derive(Clone, Copy)]
 pub struct ScriptWords<'a> {
     /// The path of the rules' document.
     pub path: &'a str,

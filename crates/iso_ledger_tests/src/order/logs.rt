@@ -61,14 +61,14 @@ const TEXTS: &[(&'static str, What, Plain, &'static str)] = &[
         "an order",
         What::Order,
         PAYMENT,
-        "Order { key: TxKey { base: 200, stan: 7, sent: 102030405, acquirer: 12345 }, \
+        "Order { key: TxKey { sent: 102030405, stan: 7, base: 200, acquirer: 12345 }, \
          act: Debit(Money { pan: 411111******1111, amount: 1000, currency: [56, 52, 48] }) }",
     ),
     (
         "a verdict",
         What::Verdict,
         PAYMENT,
-        "Order(Order { key: TxKey { base: 200, stan: 7, sent: 102030405, acquirer: 12345 }, \
+        "Order(Order { key: TxKey { sent: 102030405, stan: 7, base: 200, acquirer: 12345 }, \
          act: Debit(Money { pan: 411111******1111, amount: 1000, currency: [56, 52, 48] }) })",
     ),
     (
@@ -93,7 +93,7 @@ const TEXTS: &[(&'static str, What, Plain, &'static str)] = &[
         "a reversal",
         What::Act,
         undo!(key!(420), key!(200), 400),
-        "Undo { original: TxKey { base: 200, stan: 7, sent: 102030405, acquirer: 12345 }, left: 400 }",
+        "Undo { original: TxKey { sent: 102030405, stan: 7, base: 200, acquirer: 12345 }, left: 400 }",
     ),
 ];
 

@@ -1,6 +1,5 @@
 //! What is said of a journal's file.
 
-use crate::words::BooksWords;
 use iso_books::BooksFault;
 use iso_record::HeadingFault;
 use rumpadol_tables::{Stop, failed, refused};
@@ -39,10 +38,10 @@ pub fn cut(alloc: Global, path: &str, count: usize) -> Stop {
     }
 }
 
-/// How the program stops where a record can't be one that a host wrote.
-pub fn damaged(alloc: Global, path: &str, place: usize) -> Stop {
+/// How the program stops where a record can't be one that a host wrote, with what is to be done.
+pub fn damaged(alloc: Global, path: &str, place: usize, cure: &str) -> Stop {
     refused(format!(in alloc;
-        "rumpadol: {path}: damaged at place {place}: no host can have written this record there; take a copy of the file that is whole\n"
+        "rumpadol: {path}: damaged at place {place}: no host can have written this record there; {cure}\n"
     ))
 }
 
@@ -59,8 +58,7 @@ fn heading_text(fault: HeadingFault) -> &'static str {
 }
 
 /// How the program stops where it didn't come to the end of a journal.
-pub fn stopped(alloc: Global, words: BooksWords<'_>, fault: BooksFault) -> Stop {
-    let path = words.file;
+pub fn stopped(alloc: Global, path: &str, fault: BooksFault) -> Stop {
     match fault {
         BooksFault::Memory => Stop::Memory,
         BooksFault::Write => Stop::Output,

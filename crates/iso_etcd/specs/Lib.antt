@@ -1,0 +1,14 @@
+pub mod Answers
+pub mod Appends
+pub mod Endpoints
+pub mod KeyLaws
+pub mod Keys
+pub mod Leases
+pub mod Links
+pub mod Logins
+pub mod Members
+pub mod Name
+pub mod Pages
+pub mod Questions
+pub mod Turns
+pub mod Waiting

@@ -1,0 +1,445 @@
+use crate::{Dials, Line};
+use iso_front::Shards;
+use iso_front_loop::{Acquirers, Front, token_of};
+use iso_relay::Bounds;
+use iso_table::Table;
+use iso_wire::Header;
+use std::alloc::{AllocError, Global};
+use std::io;
+
+const DOCUMENT: &[u8] = br#"{"shards":[
+    {"name":"north","address":"127.0.0.1:1","accounts":[{"from":"4","to":"4"}]},
+    {"name":"south","address":"127.0.0.1:2","accounts":[{"from":"51","to":"55"}]}]}"#;
+
+/// A purchase of an account of the first shard, and of the second, and what grants them.
+const NORTH: &[u8] =
+    b"00820200722000010000800016411111111111111100000000000000100001020304050000070512345840";
+
+const NORTH_GRANTED: &[u8] =
+    b"0090021072200001060080001641111111111111110000000000000010000102030405000007051234500000100840";
+
+const SOUTH: &[u8] =
+    b"00820200722000010000800016555555555555444400000000000000100001020304050000080512345840";
+
+const SOUTH_GRANTED: &[u8] =
+    b"0090021072200001060080001655555555555544440000000000000010000102030405000008051234500000100840";
+
+/// A purchase of an account of no shard.
+const NOWHERE: &[u8] =
+    b"00820200722000010000800016666666666666666600000000000000100001020304050000090512345840";
+
+/// A reversal, what grants it, and what says that its key was another order's.
+const REVERSAL: &[u8] =
+    b"0101042082200001000000000000004000000000010203050000001305123450200000012010203040500000012345\
+00000000000";
+
+const REVERSED: &[u8] =
+    b"0103043082200001020000000000004000000000010203050000001305123450002000000120102030405000000123\
+4500000000000";
+
+const OTHERS: &[u8] =
+    b"0103043082200001020000000000004000000000010203050000001305123459402000000120102030405000000123\
+4500000000000";
+
+/// A reversal that names no payment, and what refuses it.
+const NAMELESS: &[u8] = b"00430420022000010000000001020305000000140512345";
+
+const REFUSED: &[u8] = b"0045043002200001020000000102030500000014051234530";
+
+const ECHO: &[u8] = b"00550800822000000000000004000000000000000102030405000001301";
+
+const ECHOED: &[u8] = b"0057081082200000020000000400000000000000010203040500000100301";
+
+/// An answer of an echo test: it wants none.
+const NO_REQUEST: &[u8] = b"0057081082200000020000000400000000000000010203040500000100301";
+
+/// A frame of three bytes that are no message, and a header of no digits.
+const GARBAGE: &[u8] = b"0003abc";
+
+const NO_FRAME: &[u8] = b"00x3abc";
+
+/// What happens, and what is to be so.
+#[derive(Clone, Copy)]
+enum Step {
+    /// The acquirer sends bytes.
+    Asks(&'static [u8]),
+    /// A shard sends bytes.
+    Says(usize, &'static [u8]),
+    /// A shard's connection ends.
+    Ends(usize),
+    /// The acquirer got these bytes, behind those that it had.
+    Gets(&'static [u8]),
+    /// A shard got these, over the connection that is open now.
+    Got(usize, &'static [u8]),
+    /// There is no connection to a shard.
+    Lost(usize),
+    /// So many milliseconds pass.
+    Pass(u64),
+    /// So many connections were opened until now.
+    Opened(usize),
+    /// The acquirer is connected or not.
+    Connected(bool),
+    /// The acquirer takes bytes or not.
+    Takes(bool),
+}
+
+/// A name, and what happens.
+struct Row {
+    name: &'static str,
+    steps: &'static [Step],
+}
+
+const ROWS: &[Row] = &[
+    Row {
+        name: "each purchase goes to its shard",
+        steps: &[
+            Step::Asks(NORTH),
+            Step::Got(0, NORTH),
+            Step::Lost(1),
+            Step::Opened(1),
+            Step::Asks(SOUTH),
+            Step::Got(1, SOUTH),
+            Step::Got(0, b""),
+            Step::Opened(2),
+            Step::Says(1, SOUTH_GRANTED),
+            Step::Gets(SOUTH_GRANTED),
+            Step::Says(0, NORTH_GRANTED),
+            Step::Gets(NORTH_GRANTED),
+        ],
+    },
+    Row {
+        name: "an account of nobody and an echo test go to the first",
+        steps: &[
+            Step::Asks(NOWHERE),
+            Step::Got(0, NOWHERE),
+            Step::Asks(ECHO),
+            Step::Got(0, ECHO),
+            Step::Says(0, ECHOED),
+            Step::Gets(ECHOED),
+            Step::Opened(1),
+        ],
+    },
+    Row {
+        name: "what wants no answer goes nowhere",
+        steps: &[
+            Step::Asks(NO_REQUEST),
+            Step::Asks(GARBAGE),
+            Step::Opened(0),
+            Step::Connected(true),
+        ],
+    },
+    Row {
+        name: "a reversal goes to all, and is answered once all say the same",
+        steps: &[
+            Step::Asks(REVERSAL),
+            Step::Got(0, REVERSAL),
+            Step::Got(1, REVERSAL),
+            Step::Says(0, REVERSED),
+            Step::Gets(b""),
+            Step::Says(1, REVERSED),
+            Step::Gets(REVERSED),
+            Step::Says(1, REVERSED),
+            Step::Gets(b""),
+        ],
+    },
+    Row {
+        name: "a reversal that shards answer differently is not answered",
+        steps: &[
+            Step::Asks(REVERSAL),
+            Step::Says(0, REVERSED),
+            Step::Says(1, OTHERS),
+            Step::Gets(b""),
+            Step::Asks(REVERSAL),
+            Step::Says(1, REVERSED),
+            Step::Gets(b""),
+            Step::Says(0, REVERSED),
+            Step::Gets(REVERSED),
+        ],
+    },
+    Row {
+        name: "what was said before a repeat does not count",
+        steps: &[
+            Step::Asks(REVERSAL),
+            Step::Says(0, REVERSED),
+            Step::Asks(REVERSAL),
+            Step::Says(1, REVERSED),
+            Step::Gets(b""),
+            Step::Says(0, REVERSED),
+            Step::Gets(REVERSED),
+        ],
+    },
+    Row {
+        name: "the last answer of a shard counts",
+        steps: &[
+            Step::Asks(REVERSAL),
+            Step::Says(0, OTHERS),
+            Step::Says(0, REVERSED),
+            Step::Says(1, REVERSED),
+            Step::Gets(REVERSED),
+        ],
+    },
+    Row {
+        name: "an answer to no reversal is not passed on",
+        steps: &[
+            Step::Asks(SOUTH),
+            Step::Says(1, REVERSED),
+            Step::Gets(b""),
+            Step::Says(1, SOUTH_GRANTED),
+            Step::Gets(SOUTH_GRANTED),
+        ],
+    },
+    Row {
+        name: "a reversal that names no payment has the first one's answer",
+        steps: &[
+            Step::Asks(NAMELESS),
+            Step::Got(0, NAMELESS),
+            Step::Lost(1),
+            Step::Says(0, REFUSED),
+            Step::Gets(REFUSED),
+        ],
+    },
+    Row {
+        name: "a shard that is lost is tried again after a second",
+        steps: &[
+            Step::Asks(SOUTH),
+            Step::Opened(1),
+            Step::Ends(1),
+            Step::Lost(1),
+            Step::Asks(SOUTH),
+            Step::Opened(1),
+            Step::Connected(true),
+            Step::Pass(1_000),
+            Step::Asks(SOUTH),
+            Step::Opened(2),
+            Step::Got(1, SOUTH),
+        ],
+    },
+    Row {
+        name: "what came before the end of a shard is passed on",
+        steps: &[
+            Step::Asks(SOUTH),
+            Step::Says(1, SOUTH_GRANTED),
+            Step::Ends(1),
+            Step::Gets(SOUTH_GRANTED),
+            Step::Lost(1),
+        ],
+    },
+    Row {
+        name: "an acquirer that sends no frames is closed",
+        steps: &[Step::Asks(NO_FRAME), Step::Connected(false)],
+    },
+    Row {
+        name: "a shard that sends no frames is let go",
+        steps: &[
+            Step::Asks(SOUTH),
+            Step::Says(1, NO_FRAME),
+            Step::Lost(1),
+            Step::Gets(b""),
+            Step::Connected(true),
+        ],
+    },
+    Row {
+        name: "half a frame waits for the rest",
+        steps: &[
+            Step::Asks(b"0055080082200000000000000400"),
+            Step::Opened(0),
+            Step::Asks(b"0000000000000102030405000001301"),
+            Step::Got(0, ECHO),
+        ],
+    },
+    Row {
+        name: "an acquirer that is silent for long is closed",
+        steps: &[
+            Step::Pass(59_999),
+            Step::Connected(true),
+            Step::Pass(1),
+            Step::Connected(false),
+        ],
+    },
+    Row {
+        name: "an acquirer that takes nothing is not answered further",
+        steps: &[
+            Step::Takes(false),
+            Step::Asks(SOUTH),
+            Step::Says(1, SOUTH_GRANTED),
+            Step::Says(1, SOUTH_GRANTED),
+            Step::Says(1, SOUTH_GRANTED),
+            Step::Gets(b""),
+            Step::Takes(true),
+            Step::Gets(SOUTH_GRANTED),
+            Step::Gets(SOUTH_GRANTED),
+            Step::Gets(SOUTH_GRANTED),
+        ],
+    },
+];
+
+/// What is allowed.
+const BOUNDS: Bounds = Bounds {
+    acquirers: 2,
+    waiting: 100,
+    idle: 60_000,
+};
+
+/// What is behind so many bytes.
+fn behind(bytes: &[u8], count: usize) -> &[u8] {
+    let (_, rest) = bytes.split_at(count.min(bytes.len()));
+    rest
+}
+
+/// A front of one acquirer, and what was looked at of it.
+#[derive(Drop)]
+struct Day<'f> {
+    acquirers: Acquirers<'f, Line, io::Sink>,
+    dials: Dials,
+    key: usize,
+    now: u64,
+    /// How many bytes the acquirer had, and each shard.
+    got: usize,
+    asked: [usize; 2],
+}
+
+impl<'f> Day<'f> {
+    /// Some turns at this moment.
+    fn turn(&mut self) {
+        for _ in 0..4 {
+            self.acquirers.hear_all(self.now, &mut self.dials);
+            let _ = self.acquirers.settle(self.now);
+        }
+    }
+
+    /// Whether the acquirer got these bytes behind those that it had.
+    fn gets(&mut self, want: &[u8]) -> bool {
+        self.turn();
+        let Some(line) = self.acquirers.stream_mut(self.key) else {
+            return false;
+        };
+        let new = behind(line.taken(), self.got);
+        let is = new.starts_with(want) && (!want.is_empty() || new.is_empty());
+        self.got = self.got.saturating_add(want.len());
+        is
+    }
+
+    /// Whether a shard got these bytes behind those that it had.
+    fn got(&mut self, shard: usize, want: &[u8]) -> bool {
+        let Some(line) = self.acquirers.shard_mut(self.key, shard) else {
+            return false;
+        };
+        let Some(had) = self.asked.get_mut(shard) else {
+            return false;
+        };
+        let is = behind(line.taken(), *had) == want;
+        *had = line.taken().len();
+        is
+    }
+
+    /// Feeds the acquirer's connection.
+    fn ask(&mut self, bytes: &[u8]) -> Result<bool, AllocError> {
+        if let Some(line) = self.acquirers.stream_mut(self.key) {
+            line.feed(bytes)?;
+        }
+        self.acquirers.notice(token_of(self.key, 0), false);
+        self.turn();
+        Ok(true)
+    }
+
+    /// Feeds a shard's connection.
+    fn say(&mut self, shard: usize, bytes: &[u8]) -> Result<bool, AllocError> {
+        let Some(line) = self.acquirers.shard_mut(self.key, shard) else {
+            return Ok(false);
+        };
+        line.feed(bytes)?;
+        self.acquirers
+            .notice(token_of(self.key, shard.saturating_add(1)), false);
+        self.turn();
+        Ok(true)
+    }
+
+    /// Ends a shard's connection.
+    fn end(&mut self, shard: usize) -> bool {
+        let Some(line) = self.acquirers.shard_mut(self.key, shard) else {
+            return false;
+        };
+        line.end();
+        if let Some(had) = self.asked.get_mut(shard) {
+            *had = 0;
+        }
+        self.acquirers
+            .notice(token_of(self.key, shard.saturating_add(1)), true);
+        self.turn();
+        true
+    }
+
+    /// Lets the acquirer take bytes or not.
+    fn takes(&mut self, takes: bool) -> bool {
+        if let Some(line) = self.acquirers.stream_mut(self.key) {
+            line.takes = takes;
+        }
+        self.acquirers.notice(token_of(self.key, 0), false);
+        self.turn();
+        true
+    }
+
+    /// Whether a step goes as it is to.
+    fn goes(&mut self, step: &Step) -> Result<bool, AllocError> {
+        match step {
+            Step::Asks(bytes) => self.ask(bytes),
+            Step::Says(shard, bytes) => self.say(*shard, bytes),
+            Step::Ends(shard) => Ok(self.end(*shard)),
+            Step::Gets(bytes) => Ok(self.gets(bytes)),
+            Step::Got(shard, bytes) => Ok(self.got(*shard, bytes)),
+            Step::Lost(shard) => Ok(self.acquirers.shard_mut(self.key, *shard).is_none()),
+            Step::Pass(time) => {
+                self.now = self.now.saturating_add(*time);
+                self.turn();
+                Ok(true)
+            }
+            Step::Opened(count) => Ok(self.dials.count == *count),
+            Step::Connected(is) => Ok(self.acquirers.is_empty() != *is),
+            Step::Takes(takes) => Ok(self.takes(*takes)),
+        }
+    }
+}
+
+/// The step at which a row doesn't go as it is to, counted from 1; 0 where all do.
+fn fails_at(alloc: Global, row: &Row) -> Result<usize, AllocError> {
+    let (Ok(shards), Ok(table)) = (Shards::from_json(alloc, DOCUMENT), Table::ascii87(alloc)) else {
+        return Ok(1_000);
+    };
+    let front = Front {
+        shards: &shards,
+        table: &table,
+        header: Header::Ascii4,
+        bounds: BOUNDS,
+    };
+    let mut acquirers = Acquirers::new(alloc, front, io::sink());
+    let Some(key) = acquirers.let_in(Line::new(alloc), 0) else {
+        return Ok(1_001);
+    };
+    let dials = Dials {
+        alloc,
+        count: 0,
+        refuses: false,
+    };
+    let mut day = Day {
+        acquirers,
+        dials,
+        key,
+        now: 0,
+        got: 0,
+        asked: [0, 0],
+    };
+    for (place, step) in row.steps.iter().enumerate() {
+        if !day.goes(step)? {
+            return Ok(place.saturating_add(1));
+        }
+    }
+    Ok(0)
+}
+
+#[test]
+fn days_of_a_front(rt: HostRuntime) {
+    for row in ROWS {
+        let at = fails_at(rt.alloc(), row).expect(&rt, "memory");
+        assert!(rt; at == 0, "{}: step {at}", row.name);
+    }
+}

@@ -1,0 +1,68 @@
+//! What a peer of a line without a guard sends, frame after frame.
+ghost use Rattle.std.specs.Prelude.{◌≡◌, true, IfOk, OnErr};
+ghost use Rattle.iso_peers.specs.Host.{IsInStep};
+ghost use Rattle.iso_peers.specs.Turn.{TakesAll};
+ghost use Rattle.iso_lines.specs.Turn.{EntersHeard};
+
+use crate::notes::{Notes, Told};
+use iso_durable::{Log, LogFailed};
+use iso_host::laws::one_journal;
+use iso_host::{Link, PeerFault};
+use iso_peers::{Connection, DurableHost, TurnFault, Turned};
+use iso_wire::laws::splits_once;
+
+/// Takes all bytes of a peer, as `DurableHost::take_all` does, and notes what came of each frame.
+pub(crate) fn take_noted<L: Log>(
+    host: &mut DurableHost<L>,
+    connection: &mut Connection<'_>,
+    bytes: &[u8],
+    agreed: &Link,
+    notes: &mut Notes,
+    told: &mut Vec<Told>,
+) -> Result<Turned, LogFailed>
+    // The bodies of all whole frames are entered, one after the other, and their answers wait behind the others.
+    ensures took { IfOk result (TakesAll connection.old connection.new host.old.host host.new.host bytes.now) }
+    ensures refused { OnErr result (host.old.has_failed ≡ true) }
+    ensures table { connection.new.peer.table ≡ connection.old.peer.table }
+    ensures header { connection.new.peer.header ≡ connection.old.peer.header }
+    // The books grow by bodies, one after the other, and by nothing else.
+    ensures heard { EntersHeard host.old.host host.new.host }
+    // The log isn't called, and stays in step with the journal.
+    ensures log { host.new.log ≡ host.old.log }
+    ensures kept { host.new.kept ≡ host.old.kept }
+    ensures failed { host.new.has_failed ≡ host.old.has_failed }
+    ensures step { IsInStep L.is_ready L.synced L.pending host.old
+        → IsInStep L.is_ready L.synced L.pending host.new }
+{
+    // the laws that bodies have one journal, and that bytes have one split into frames, for the prover
+    one_journal(host.issuer());
+    splits_once();
+    let mut used = 0;
+    'pieces: loop {
+        match host.take(connection, &bytes[used..]) {
+            Err(TurnFault::Log) => return Err(LogFailed),
+            Err(TurnFault::BadHeader) => {
+                return Ok(Turned {
+                    used,
+                    stopped: Some(PeerFault::BadHeader),
+                });
+            }
+            Err(TurnFault::Memory) => {
+                return Ok(Turned {
+                    used,
+                    stopped: Some(PeerFault::Memory),
+                });
+            }
+            Ok(taken) => {
+                notes.note_taken(agreed, &bytes[used..], &taken, told);
+                used += taken.used;
+                if used == bytes.len() {
+                    return Ok(Turned {
+                        used,
+                        stopped: None,
+                    });
+                }
+            }
+        }
+    }
+}

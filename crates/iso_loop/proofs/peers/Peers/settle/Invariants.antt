@@ -1,9 +1,0 @@
-use Rattle.iso_loop.specs.Moment.{millis_of}
-use Rattle.iso_loop.specs.Keys.{EachStaysOrGoes}
-use Rattle.iso_loop.proofs.peers.Peers.settle.Given as goal
-
-abbrev pub invariant-loop-place : goal.invariant-loop-place
-invariant-loop-place g l = EachStaysOrGoes (millis_of l.now) l.fn.self l.self
-
-abbrev pub invariant-loop-place-2 : goal.invariant-loop-place-2
-invariant-loop-place-2 g l = EachStaysOrGoes (millis_of l.now) l.fn.self l.self

@@ -1,0 +1,2 @@
+pub mod Fated
+pub mod Putting

@@ -1,7 +1,0 @@
-use Rattle.std.proofs.Common.{◌≡◌, ◌++◌, drop}
-use Rattle.iso_report.specs.Histogram.{buckets_from}
-use Rattle.iso_report.proofs.bucket.buckets_between.Given as goal
-
--- the buckets so far, and those that the other bounds will give, are those of all bounds
-abbrev pub invariant-loop-bound : goal.invariant-loop-bound
-invariant-loop-bound l = l.buckets.items ++ buckets_from l.from (drop l.bound-index l.bounds) l.values ≡ buckets_from 0 l.bounds l.values

@@ -1,4 +1,0 @@
-//! What no clause says: the worked percentiles of books, and what is written.
-
-mod values;
-mod writing;

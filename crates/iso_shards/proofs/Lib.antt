@@ -1,0 +1,13 @@
+mod Places
+mod Kept
+mod Seen
+mod Agreed
+mod Together
+mod Steps
+mod Reversals
+mod Concerned
+mod Completions
+mod Apart
+mod Both
+mod Whole
+mod Examples

@@ -1,0 +1,9 @@
+mod Batches
+mod Digits
+mod Events
+mod Follow
+mod Headings
+mod Hosts
+mod Logs
+mod Sending
+mod Taken

@@ -1,0 +1,13 @@
+pub mod Batch
+pub mod Fronts
+pub mod Heading
+pub mod Hosts
+pub mod Kept
+pub mod Log
+pub mod Memory
+pub mod Read
+pub mod Standby
+pub mod Steps
+pub mod Store
+pub mod Unwritten
+pub mod Written

@@ -1,0 +1,66 @@
+//! Opening a journal that others write to as well.
+ghost use Rattle.std.specs.Prelude.{◌≡◌, ◌≤◌, [], false, IfOk};
+ghost use Rattle.iso_durable.specs.Host.{IsConsistent};
+ghost use Rattle.iso_durable.specs.World.{IsStart};
+ghost use Rattle.iso_shared.specs.Log.{IsReady, synced_orders, pending_orders};
+ghost use Rattle.iso_shared.specs.Store.{Grows};
+
+use crate::heading::Writer;
+use crate::log::SharedLog;
+use crate::patience::Patience;
+use crate::standby::Standby;
+use crate::store::Store;
+use iso_durable::DurableIssuer;
+use iso_issuer::Accounts;
+use std::alloc::Global;
+use thiserror::Error;
+
+/// Why a journal can't be read on.
+#[derive(Clone, Copy, Debug, PartialEq, Eq, Drop, Error)]
+pub enum OpenError {
+    /// Memory ran out.
+    #[error("memory ran out")]
+    Memory,
+    /// The store gave no answer.
+    #[error("the store that keeps the journal gave no answer")]
+    Away,
+    /// A batch could not be taken before.
+    #[error("a batch of the journal could not be taken before")]
+    Failed,
+    /// What stands at this place is no batch that a host can have written there.
+    #[error("what stands at place {0} is no batch that a host can have written there")]
+    Damaged(u64),
+}
+
+/// Opens a journal: reads the batches of a store from the first on, until no further one is found, and decides each order
+/// again. An `Err` hands the store back.
+pub fn open<S: Store + Drop, P: Patience + Drop>(
+    alloc: Global,
+    store: S,
+    mut patience: P,
+    writer: Writer,
+    accounts: Accounts,
+    limit: u32,
+) -> Result<DurableIssuer<SharedLog<S, P>>, (OpenError, S)>
+    requires least { 1 ≤ limit }
+    requires most { limit ≤ 999999 }
+    // It has the orders of the batches that were read, and nothing waits.
+    ensures consistent { IfOk result (λ host. IsConsistent (λ l. IsReady S.kept l)
+        (λ l. synced_orders S.kept l) (λ l. pending_orders S.kept l) host) }
+    ensures accounts { IfOk result (λ host. host.issuer.accounts ≡ accounts) }
+    ensures limit { IfOk result (λ host. host.issuer.limit ≡ limit) }
+    // No two of them have one key, and there are no more than the limit.
+    ensures start { IfOk result (λ host. IsStart limit host.issuer.orders) }
+    ensures writer { IfOk result (λ host. host.log.writer ≡ writer) }
+    ensures none { IfOk result (λ host. host.log.rows.items ≡ []) }
+    ensures synced { IfOk result (λ host. host.log.synced ≡ host.log.seen) }
+    ensures good { IfOk result (λ host. host.has_failed ≡ false) }
+    // What the store kept before is kept.
+    ensures grows { IfOk result (λ host. Grows (S.kept store) (S.kept host.log.store)) }
+{
+    let mut standby = Standby::new(accounts, limit, store);
+    match standby.catch_up(alloc, &mut patience) {
+        Ok(()) => Ok(standby.start(alloc, patience, writer)),
+        Err(error) => Err((error, standby.store)),
+    }
+}

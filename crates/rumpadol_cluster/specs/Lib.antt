@@ -1,0 +1,4 @@
+pub mod Cluster
+pub mod Telling
+pub mod Waiting
+pub mod Words
