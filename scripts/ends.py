@@ -136,7 +136,7 @@ def breaking(choose):
             "--delay", f"0..{choose.randrange(1, 100)}", "--cut", f"{choose.uniform(0, 0.005):.4f}",
             "--seed", str(choose.randrange(1 << 32)), "--patience", str(choose.randrange(100, 1500)),
             "--peers", str(choose.choice((1, 2, 8))), "--rate", str(choose.choice((50, 200, 400))),
-            "--count", "100000", "--seconds", "3600")
+            "--count", "400000", "--seconds", "3600")
 
 
 def driver(command, folder, port, words, accounts="accounts.json"):
@@ -194,6 +194,17 @@ class Ends:
         for what in self.relay.differing:
             self.tell_bad(f"an order got two answers: {what}")
         self.relay.differing = []
+
+    def run(self, seconds):
+        """A soak of so long and its end: how many orders the journal has. What ends it is told, and all that it began is ended."""
+        try:
+            self.soak(seconds)
+            return self.end()
+        except (AssertionError, OSError, KeyError, ValueError) as fault:
+            self.tell_bad(repr(fault))
+            return 0
+        finally:
+            self.clear()
 
     def look_at_journal(self, journal):
         """The journal is whole, and has each key once, and each order with the code that it was answered: its entries."""

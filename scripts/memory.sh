@@ -6,7 +6,7 @@
 # memory.sh calls [PARTS]: the calls of the libraries, by the program iso_memory
 # memory.sh command [PARTS]: the commands of iso_cli
 # memory.sh journal [PARTS]: a host of rumpadol over its journal, and the host that is started after it
-# memory.sh: all of them side by side, with a part for each core of this machine
+# memory.sh: all of them side by side, each in one part, since building a program takes longer than its runs
 set -u
 cd "$(dirname "$0")/.." || exit 1
 top=$PWD
@@ -17,9 +17,8 @@ trap 'kill $started 2> /dev/null; rm -rf "$folder"' EXIT
 trap 'exit 1' HUP INT TERM
 
 if [ $# -eq 0 ]; then
-    parts=$((($(nproc) + 1) / 2))
     for what in calls command journal; do
-        sh "$top/scripts/memory.sh" "$what" "$parts" > "$folder/$what" 2>&1 &
+        sh "$top/scripts/memory.sh" "$what" 1 > "$folder/$what" 2>&1 &
         started="$started $!"
     done
     failed=0

@@ -90,6 +90,22 @@ class Replicas(Ends):
                 self.relay.note(answers[0], True)
             peer.close()
 
+    def part(self, first, second):
+        """Asks two active hosts for orders until one of them is cut off, which starts again as the standby. They are so by chance too,
+        where the members kept no lease for a while: a host that nobody asks for an order puts no batch, and so isn't cut off."""
+        over = threading.Event()
+        askers = [threading.Thread(target=self.ask_until_the_end, args=(replica, over)) for replica in (first, second)]
+        for asker in askers:
+            asker.start()
+        self.waits(lambda: not first.runs() or not second.runs(), BOTH, "one of two active hosts ends")
+        over.set()
+        for asker in askers:
+            asker.join()
+        for replica in (first, second):
+            if not replica.runs():
+                self.done["times that one of two active hosts was cut off"] += 1
+                self.see_end(replica, [FENCED])
+
     # ---- who serves
 
     def waits(self, holds, seconds, what):
@@ -108,6 +124,9 @@ class Replicas(Ends):
 
         def is_settled():
             self.keep_hosts_alive()
+            if all(replica.is_up() for replica in self.replicas):
+                self.done["times that both hosts were active by chance"] += 1
+                self.part(*self.replicas)
             found[:] = [pair for pair in itertools.permutations(self.replicas) if pair[0].is_up() and pair[1].is_standing_by()]
             return found
 
@@ -122,13 +141,21 @@ class Replicas(Ends):
             raise AssertionError("no host answers")
         return self.settled()
 
+    def answers_in_place(self, other):
+        """Whether the other host answers. Where both were active by chance and it is the one that was cut off, it starts again."""
+        if not other.runs():
+            self.done["ends of a host by itself"] += 1
+            self.see_end(other, [FENCED, IN_DOUBT])
+        return other.port in self.relay.firsts
+
     def take_over(self, kind, stop):
         """Has the active host stopped, and waits for the first answer of the other one: the one that was active."""
         active, other = self.active()
         time.sleep(self.choose.uniform(0, LEASE))
-        began = time.monotonic()
+        process, began = other.host.process, time.monotonic()
         stop(active)
-        if self.waits(lambda: other.port in self.relay.firsts, WAIT, f"the other host answers after the active one was {kind}"):
+        answers = self.waits(lambda: self.answers_in_place(other), WAIT, f"the other host answers after the active one was {kind}")
+        if answers and other.host.process is process:
             self.take_overs.append((kind, self.relay.firsts[other.port] - began))
         return active
 
@@ -189,20 +216,9 @@ class Replicas(Ends):
         """Both hosts are active, and are asked for orders until one of them ends."""
         active, other = self.active()
         self.tell_standby(other)
-        over = threading.Event()
         self.waits(lambda: other.is_up() or not other.runs(), BOTH, "the standby serves as it was told")
-        askers = [threading.Thread(target=self.ask_until_the_end, args=(replica, over)) for replica in (active, other)]
-        for asker in askers:
-            asker.start()
-        self.waits(lambda: not active.runs() or not other.runs(), BOTH, "one of two active hosts ends")
-        over.set()
-        for asker in askers:
-            asker.join()
         self.done["times that both hosts were active"] += 1
-        for replica, which in ((active, "first"), (other, "second")):
-            if not replica.runs():
-                self.done[f"times that the {which} of both was cut off"] += 1
-                self.see_end(replica, [FENCED])
+        self.part(active, other)
 
     def kill_leader(self):
         if leader := self.members.leader():
@@ -255,7 +271,8 @@ class Replicas(Ends):
         self.start_driver(breaking(self.choose))
 
     def soak(self, seconds):
-        """Traffic, and what breaks it."""
+        """Words that are refused, then traffic, and what breaks it."""
+        refuse_all(self.command, self)
         self.begin()
         end = time.monotonic() + seconds
         for break_something in self.rounds():
@@ -355,19 +372,11 @@ Run on {datetime.date.today():%Y-%m-%d} for {seconds / 60:g} minutes, `REPLICAS_
 
 def main(words):
     command, seconds = program(words), 60 * float(words[1]) if len(words) > 1 else 120
-    orders = 0
     signal.signal(signal.SIGTERM, lambda number, _: sys.exit(128 + number))
     with tempfile.TemporaryDirectory() as folder:
         print(f"REPLICAS_SEED={SEED} SECONDS={seconds:g} LEASE={LEASE}", flush=True)
         ends = Replicas(command, folder)
-        try:
-            refuse_all(command, ends)
-            ends.soak(seconds)
-            orders = ends.end()
-        except (AssertionError, OSError, KeyError, ValueError) as fault:
-            ends.tell_bad(repr(fault))
-        finally:
-            ends.clear()
+        orders = ends.run(seconds)
     if len(words) == 3:
         write_part(pathlib.Path(words[2]), "make replicas", page_of(ends, seconds, orders))
     print(f"{len(ends.take_overs)} take-overs, {ends.relay.compared} answers compared, {ends.kills()} kills, {ends.bad} bad")

@@ -219,17 +219,10 @@ What it can't show is a power cut: a killed process leaves what it wrote to the 
 
 def main(words):
     command, seconds = program(words), 60 * float(words[1]) if len(words) > 1 else 120
-    orders = 0
     with tempfile.TemporaryDirectory() as folder:
         print(f"SOAK_SEED={SEED} SECONDS={seconds:g}", flush=True)
         ends = Soak(command, folder, seconds)
-        try:
-            ends.soak(seconds)
-            orders = ends.end()
-        except (AssertionError, OSError, KeyError, ValueError) as fault:
-            ends.tell_bad(repr(fault))
-        finally:
-            ends.clear()
+        orders = ends.run(seconds)
     if len(words) == 3:
         write_part(pathlib.Path(words[2]), "make soak", page_of(ends, seconds, orders))
     done, relay = ends.done, ends.relay

@@ -121,7 +121,7 @@ const TYPES: &[(&'static str, Told)] = &[
 ];
 
 /// Whether a number is that type.
-fn is_type(case: TypeCase) -> bool {
+fn is_type(case: &TypeCase) -> bool {
     match Mti::from_digits(case.number) {
         Some(mti) => {
             mti.number() == case.number
@@ -236,23 +236,23 @@ const TOLD: &[(&'static str, Told)] = &[
 ];
 
 /// Whether that is told.
-fn is_told(told: Told) -> bool {
+fn is_told(told: &Told) -> bool {
     match told {
-        IsRow(row, want) => row.good() == want,
+        IsRow(row, want) => row.good() == *want,
         Type(case) => is_type(case),
-        IsType(text, number) => number_of(Mti::from_text(text)) == number,
-        IsNumber(number, is_so) => Mti::from_digits(number).is_some() == is_so,
-        Takes(length, size) => length.prefix_size() == size,
-        Told::Judged(judgement) => is_judged(judgement),
-        Told::Digits(figure) => is_figure(figure),
-        Told::Set(fact) => is_fact(fact),
+        IsType(text, number) => number_of(Mti::from_text(*text)) == *number,
+        IsNumber(number, is_so) => Mti::from_digits(*number).is_some() == *is_so,
+        Takes(length, size) => length.prefix_size() == *size,
+        Told::Judged(judgement) => is_judged(*judgement),
+        Told::Digits(figure) => is_figure(*figure),
+        Told::Set(fact) => is_fact(*fact),
     }
 }
 
 /// That each is told.
 fn check_told(table: &[(&str, Told)]) -> Result<(), Fail> {
     for (name, told) in table {
-        check(is_told(*told), *name)?;
+        check(is_told(told), *name)?;
     }
     Ok(())
 }

@@ -4,6 +4,7 @@ pub mod Endpoints
 pub mod KeyLaws
 pub mod Keys
 pub mod Leases
+pub mod Leaves
 pub mod Links
 pub mod Logins
 pub mod Members

@@ -15,6 +15,7 @@ mod json;
 mod judging;
 mod key;
 pub mod laws;
+mod leaf;
 mod lease;
 mod link;
 mod login;

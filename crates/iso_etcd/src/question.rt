@@ -1,114 +1,124 @@
 //! What is asked of etcd, as JSON.
-ghost use Rattle.std.specs.Prelude.{◌≡◌, Some, IfOk, string_bytes};
-ghost use Rattle.serde_json.specs.Data.{string};
+ghost use Rattle.std.specs.Prelude.{◌≡◌, OnOk, Some, IfOk, codes, string_bytes};
+ghost use Rattle.serde_json.specs.Data.{Data, member, no_members, put as with_member};
 ghost use Rattle.serde_json.specs.Read.{read};
-ghost use Rattle.serde_json.specs.View.{view};
-ghost use Rattle.iso_etcd.specs.Questions.{is_free, told_of, transaction, lasting, leased, range_of, look_of, put_data, put_leased_data, range_data, look_data, login_data, grant_data, lease_data};
+ghost use Rattle.serde_json.specs.View.{view, members_view};
+ghost use Rattle.iso_etcd.specs.Leaves.{with_leaves};
+ghost use Rattle.iso_etcd.specs.Questions.{base64, one, is_free, told_of, transaction, put_of, put_data, put_leased_data, range_data, look_data, login_data, grant_data, lease_data};
 
-use base64::engine::general_purpose::STANDARD;
-use serde_json::{Value, json};
+use crate::leaf::Leaf::{Bytes, Number, Text};
+use crate::leaf::{Leaf, add_one, nested, object_of};
+use serde_json::{Map, Value};
 use std::alloc::{AllocError, Global};
 
-/// That nothing stands at a key, by the key as base64.
-fn free_value(alloc: Global, key: &str) -> Result<Value, AllocError>
-    ensures { IfOk result (λ v. view v ≡ is_free (string key.now)) }
+/// That nothing stands at a key.
+fn free_value(alloc: Global, key: &[u8]) -> Result<Value, AllocError>
+    ensures { IfOk result (λ v. view v ≡ is_free (base64 key.now)) }
 {
-    json!(in alloc; {"key": key, "target": "CREATE", "result": "EQUAL", "create_revision": "0"})
+    object_of(
+        alloc,
+        &[
+            ("create_revision", Text("0")),
+            ("key", Bytes(key)),
+            ("result", Text("EQUAL")),
+            ("target", Text("CREATE")),
+        ],
+    )
 }
 
 /// What is to be told of a key.
-fn told_value(alloc: Global, key: &str) -> Result<Value, AllocError>
-    ensures { IfOk result (λ v. view v ≡ told_of (string key.now)) }
+fn told_value(alloc: Global, key: &[u8]) -> Result<Value, AllocError>
+    ensures { IfOk result (λ v. view v ≡ told_of (base64 key.now)) }
 {
-    json!(in alloc; {"request_range": {"key": key}})
+    nested(alloc, "request_range", &[("key", Bytes(key))])
 }
 
-/// What is put: a value that stays.
-fn lasting_value(alloc: Global, key: &str, value: &str) -> Result<Value, AllocError>
-    ensures { IfOk result (λ v. view v ≡ lasting (string key.now) (string value.now)) }
+/// What is put, by its members.
+fn put_value(alloc: Global, leaves: &[(&str, Leaf<'_>)]) -> Result<Value, AllocError>
+    ensures { IfOk result (λ v. view v ≡ put_of (with_leaves leaves.now no_members)) }
 {
-    json!(in alloc; {"request_put": {"key": key, "value": value}})
+    nested(alloc, "request_put", leaves)
 }
 
-/// What is put: a value that stays for as long as a lease.
-fn leased_value(alloc: Global, key: &str, value: &str, lease: u64) -> Result<Value, AllocError>
-    ensures { IfOk result (λ v. view v ≡ leased (string key.now) (string value.now) lease) }
+/// Adds what is asked of a key, and what is to be told of it else, to the members of a transaction.
+fn add_condition(
+    members: &mut Map<String, Value>,
+    alloc: Global,
+    key: &[u8],
+) -> Result<(), AllocError>
+    ensures { OnOk result (members_view members.new.entries
+        ≡ with_member (codes "failure") (one (told_of (base64 key.now)))
+        (with_member (codes "compare") (one (is_free (base64 key.now))) (members_view members.old.entries))) }
 {
-    json!(in alloc; {"request_put": {"key": key, "value": value, "lease": lease}})
+    add_one(members, alloc, "compare", free_value(alloc, key)?)?;
+    add_one(members, alloc, "failure", told_value(alloc, key)?)
 }
 
 /// The transaction that puts that at a key.
-fn transaction_value(alloc: Global, key: &str, put: Value) -> Result<Value, AllocError>
-    ensures { IfOk result (λ v. view v ≡ transaction (string key.now) (view put)) }
+fn transaction_value(alloc: Global, key: &[u8], put: Value) -> Result<Value, AllocError>
+    ensures { IfOk result (λ v. view v ≡ transaction (base64 key.now) (view put)) }
 {
-    let free = free_value(alloc, key)?;
-    let told = told_value(alloc, key)?;
-    json!(in alloc; {"compare": [free], "success": [put], "failure": [told]})
+    let mut members = Map::new(alloc);
+    add_one(&mut members, alloc, "success", put)?;
+    add_condition(&mut members, alloc, key)?;
+    Ok(Value::Object(members))
 }
 
 /// Asks to put a value at a key where nothing stands, and else to tell what stands there.
 pub fn put_text(alloc: Global, key: &[u8], value: &[u8]) -> Result<String, AllocError>
     ensures { IfOk result (λ text. read (string_bytes text) ≡ Some (put_data key.now value.now)) }
 {
-    let key = STANDARD.encode(alloc, key)?;
-    let value = STANDARD.encode(alloc, value)?;
-    let put = lasting_value(alloc, key.as_str(), value.as_str())?;
-    transaction_value(alloc, key.as_str(), put)?.to_string(alloc)
+    let put = put_value(alloc, &[("key", Bytes(key)), ("value", Bytes(value))])?;
+    transaction_value(alloc, key, put)?.to_string(alloc)
 }
 
 /// The same, for a value that stays for as long as a lease.
-pub fn put_leased_text(
+pub fn put_leased_text<'b>(
     alloc: Global,
-    key: &[u8],
-    value: &[u8],
+    key: &'b [u8],
+    value: &'b [u8],
     lease: u64,
 ) -> Result<String, AllocError>
     ensures { IfOk result
         (λ text. read (string_bytes text) ≡ Some (put_leased_data key.now value.now lease)) }
 {
-    let key = STANDARD.encode(alloc, key)?;
-    let value = STANDARD.encode(alloc, value)?;
-    let put = leased_value(alloc, key.as_str(), value.as_str(), lease)?;
-    transaction_value(alloc, key.as_str(), put)?.to_string(alloc)
-}
-
-/// The values from a key on, by the keys as base64.
-fn range_value(alloc: Global, first: &str, end: &str, limit: u32) -> Result<Value, AllocError>
-    ensures { IfOk result (λ v. view v ≡ range_of (string first.now) (string end.now) limit) }
-{
-    json!(in alloc; {"key": first, "range_end": end, "limit": limit})
-}
-
-/// The value at a key, by the key as base64.
-fn look_value(alloc: Global, key: &str) -> Result<Value, AllocError>
-    ensures { IfOk result (λ v. view v ≡ look_of (string key.now)) }
-{
-    json!(in alloc; {"key": key})
+    let put = put_value(
+        alloc,
+        &[
+            ("key", Bytes(key)),
+            ("lease", Number(lease)),
+            ("value", Bytes(value)),
+        ],
+    )?;
+    transaction_value(alloc, key, put)?.to_string(alloc)
 }
 
 /// Asks for the values at the keys from one on, before another one, at most so many.
-pub fn range_text(alloc: Global, first: &[u8], end: &[u8], limit: u32) -> Result<String, AllocError>
+pub fn range_text<'b>(
+    alloc: Global,
+    first: &'b [u8],
+    end: &'b [u8],
+    limit: u32,
+) -> Result<String, AllocError>
     ensures { IfOk result
         (λ text. read (string_bytes text) ≡ Some (range_data first.now end.now limit)) }
 {
-    let first = STANDARD.encode(alloc, first)?;
-    let end = STANDARD.encode(alloc, end)?;
-    range_value(alloc, first.as_str(), end.as_str(), limit)?.to_string(alloc)
+    let range = object_of(
+        alloc,
+        &[
+            ("key", Bytes(first)),
+            ("limit", Number(limit as u64)),
+            ("range_end", Bytes(end)),
+        ],
+    )?;
+    range.to_string(alloc)
 }
 
 /// Asks for the value at a key.
 pub fn look_text(alloc: Global, key: &[u8]) -> Result<String, AllocError>
     ensures { IfOk result (λ text. read (string_bytes text) ≡ Some (look_data key.now)) }
 {
-    let key = STANDARD.encode(alloc, key)?;
-    look_value(alloc, key.as_str())?.to_string(alloc)
-}
-
-/// The user and the password.
-fn login_value(alloc: Global, user: &str, password: &str) -> Result<Value, AllocError>
-    ensures { IfOk result (λ v. view v ≡ login_data user.now password.now) }
-{
-    json!(in alloc; {"name": user, "password": password})
+    object_of(alloc, &[("key", Bytes(key))])?.to_string(alloc)
 }
 
 /// Asks for a token.
@@ -116,33 +126,19 @@ pub fn login_text(alloc: Global, user: &str, password: &str) -> Result<String, A
     ensures { IfOk result
         (λ text. read (string_bytes text) ≡ Some (login_data user.now password.now)) }
 {
-    login_value(alloc, user, password)?.to_string(alloc)
-}
-
-/// So many seconds.
-fn grant_value(alloc: Global, seconds: u32) -> Result<Value, AllocError>
-    ensures { IfOk result (λ v. view v ≡ grant_data seconds) }
-{
-    json!(in alloc; {"TTL": seconds})
+    object_of(alloc, &[("name", Text(user)), ("password", Text(password))])?.to_string(alloc)
 }
 
 /// Asks for a lease of so many seconds.
 pub fn grant_text(alloc: Global, seconds: u32) -> Result<String, AllocError>
     ensures { IfOk result (λ text. read (string_bytes text) ≡ Some (grant_data seconds)) }
 {
-    grant_value(alloc, seconds)?.to_string(alloc)
-}
-
-/// A lease.
-fn lease_value(alloc: Global, lease: u64) -> Result<Value, AllocError>
-    ensures { IfOk result (λ v. view v ≡ lease_data lease) }
-{
-    json!(in alloc; {"ID": lease})
+    object_of(alloc, &[("TTL", Number(seconds as u64))])?.to_string(alloc)
 }
 
 /// Asks to keep a lease, or to end it.
 pub fn lease_text(alloc: Global, lease: u64) -> Result<String, AllocError>
     ensures { IfOk result (λ text. read (string_bytes text) ≡ Some (lease_data lease)) }
 {
-    lease_value(alloc, lease)?.to_string(alloc)
+    object_of(alloc, &[("ID", Number(lease))])?.to_string(alloc)
 }

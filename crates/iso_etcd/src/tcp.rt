@@ -3,7 +3,7 @@ use crate::dial::{Dial, Timed, Watch};
 use crate::member::Member;
 use std::io;
 use std::io::{Read, Write};
-use std::net::{Net, OpenStream, SocketAddr, TcpStream, ToSocketAddrs};
+use std::net::{HostAddrs, Net, OpenStream, SocketAddr, TcpStream, ToSocketAddrs};
 use std::time::{Clock, Duration};
 
 /// Connects to members by the system's sockets, and tells the time by its clock.
@@ -60,13 +60,34 @@ impl<S: Read + Write + OpenStream + Drop> Timed for Socket<S> {
 }
 
 impl<'n, N: Net + Clock> Tcp<'n, N> {
+    /// How long is left until the end.
+    fn left(&self, end: u64) -> Option<Duration> {
+        let left = end.checked_sub(self.now()?)?;
+        Some(Duration::from_millis(left))
+    }
+
     /// Connects to one address, before the end of the wait.
     fn connect(&self, address: SocketAddr, end: u64) -> Option<Socket<N::Stream>> {
-        let left = end.checked_sub(self.now()?)?;
-        let wait = Duration::from_millis(left);
-        let stream = TcpStream::connect_timeout(self.net, &address, wait).ok()?;
-        let _ = stream.set_nodelay(true);
-        Some(Socket { stream })
+        let wait = self.left(end)?;
+        match TcpStream::connect_timeout(self.net, &address, wait) {
+            Ok(stream) => {
+                let _ = stream.set_nodelay(true);
+                Some(Socket { stream })
+            }
+            Err(_) => None,
+        }
+    }
+
+    /// Connects to the first address that takes a connection, before the end of the wait.
+    fn connect_first(&self, addresses: HostAddrs, end: u64) -> Option<Socket<N::Stream>> {
+        let mut socket = None;
+        for address in addresses {
+            socket = self.connect(address, end);
+            if socket.is_some() {
+                break;
+            }
+        }
+        socket
     }
 }
 
@@ -75,14 +96,10 @@ impl<'n, N: Net + Clock> Dial for Tcp<'n, N> {
 
     fn dial(&self, member: &Member, milliseconds: u64) -> Option<Socket<N::Stream>> {
         let end = self.now()?.saturating_add(milliseconds);
-        let addresses = (member.host.as_str(), member.port)
-            .to_socket_addrs(self.net)
-            .ok()?;
-        for address in addresses {
-            if let Some(socket) = self.connect(address, end) {
-                return Some(socket);
-            }
+        let host = (member.host.as_str(), member.port);
+        match host.to_socket_addrs(self.net) {
+            Ok(addresses) => self.connect_first(addresses, end),
+            Err(_) => None,
         }
-        None
     }
 }

@@ -1,68 +1,11 @@
 //! What an issuer answers to orders, and what is on its accounts then.
 use crate::plain::{ACCOUNT, Does, Plain, USUAL, USUAL_KEY, order};
+use Asked::{Complete, Credit, Debit, Inquiry, Other, Undo};
 use iso_fakes::{check, check_of};
 use iso_issuer::{Accounts, Issuer, Refused};
 use iso_order::{Answer, Order, Pan, TxKey};
 use std::alloc::Global;
 use std::test::*;
-
-/// A key, as tables have it.
-macro_rules! key {
-    ($base:expr, $stan:expr) => {
-        TxKey {
-            base: $base,
-            stan: $stan,
-            ..USUAL_KEY
-        }
-    };
-}
-
-/// An order of the account: what it does, its key, its amount, and the key of its hold or its original.
-macro_rules! plain {
-    ($does:expr, $key:expr, $amount:expr, $of:expr) => {
-        Plain {
-            key: $key,
-            does: $does,
-            amount: $amount,
-            of: $of,
-            ..USUAL
-        }
-    };
-}
-
-/// A debit by the type of its message, its trace number and its amount.
-macro_rules! debit {
-    ($base:expr, $stan:expr, $amount:expr) => {
-        plain!(Does::Debit, key!($base, $stan), $amount, USUAL_KEY)
-    };
-}
-
-/// A credit by its trace number and its amount.
-macro_rules! credit {
-    ($stan:expr, $amount:expr) => {
-        plain!(Does::Credit, key!(200, $stan), $amount, USUAL_KEY)
-    };
-}
-
-macro_rules! inquiry {
-    ($stan:expr) => {
-        plain!(Does::Inquiry, key!(200, $stan), 0, USUAL_KEY)
-    };
-}
-
-/// A completion by its trace number, that of its hold, and its amount.
-macro_rules! complete {
-    ($stan:expr, $hold:expr, $amount:expr) => {
-        plain!(Does::Complete, key!(220, $stan), $amount, key!(100, $hold))
-    };
-}
-
-/// A reversal by its trace number, the type and the trace number of its original, and how much it leaves.
-macro_rules! undo {
-    ($stan:expr, $base:expr, $original:expr, $left:expr) => {
-        plain!(Does::Undo, key!(420, $stan), $left, key!($base, $original))
-    };
-}
 
 /// The answer of code 0 at a place in the journal.
 macro_rules! granted {
@@ -92,6 +35,55 @@ mod laws;
 mod reordered;
 mod replacements;
 
+/// An order of the account, as tables have it: a debit by the type of its message, its trace number and its amount, a credit by
+/// its trace number and its amount, an inquiry by its trace number, a completion by its trace number, that of its hold and its
+/// amount, a reversal by its trace number, the type and the trace number of its original and how much it leaves, or another.
+#[derive(Clone, Copy)]
+enum Asked {
+    Debit(u16, u32, u64),
+    Credit(u32, u64),
+    Inquiry(u32),
+    Complete(u32, u32, u64),
+    Undo(u32, u16, u32, u64),
+    Other(Plain),
+}
+
+/// The key of a type and a trace number.
+fn key(base: u16, stan: u32) -> TxKey {
+    TxKey {
+        base,
+        stan,
+        ..USUAL_KEY
+    }
+}
+
+/// An order of the account: what it does, its key, its amount, and the key of its hold or its original.
+fn plain(does: Does, key: TxKey, amount: u64, of: TxKey) -> Plain {
+    Plain {
+        key,
+        does,
+        amount,
+        of,
+        ..USUAL
+    }
+}
+
+/// The order that a table asks, in plain words.
+fn plain_of(asked: &Asked) -> Plain {
+    match *asked {
+        Debit(base, stan, amount) => plain(Does::Debit, key(base, stan), amount, USUAL_KEY),
+        Credit(stan, amount) => plain(Does::Credit, key(200, stan), amount, USUAL_KEY),
+        Inquiry(stan) => plain(Does::Inquiry, key(200, stan), 0, USUAL_KEY),
+        Complete(stan, hold, amount) => {
+            plain(Does::Complete, key(220, stan), amount, key(100, hold))
+        }
+        Undo(stan, base, original, left) => {
+            plain(Does::Undo, key(420, stan), left, key(base, original))
+        }
+        Other(plain) => plain,
+    }
+}
+
 /// A code, a place in the journal, and what is shown; none where the journal is full.
 type Told = Option<(u8, u32, Option<i64>)>;
 
@@ -101,7 +93,7 @@ const FULL: Told = None;
 type Books = (u32, i64, i64);
 
 /// A name, what is asked, what is told, and the books after it.
-type Step = (&'static str, Plain, Told, Books);
+type Step = (&'static str, Asked, Told, Books);
 
 /// A day of the account: how many orders the journal takes, the document of the account, and what is asked.
 #[derive(Clone, Copy)]
@@ -147,7 +139,7 @@ fn is_told(told: Result<Answer, Refused>, expected: Told) -> bool {
 /// Whether a step is told what it should be, and leaves those books.
 fn is_step(issuer: &mut Issuer, step: &Step) -> bool {
     let (_, asked, told, (entries, ledger, available)) = step;
-    match order(asked) {
+    match order(&plain_of(asked)) {
         Some(order) => {
             is_told(told_of(issuer, order), *told)
                 && has_books(issuer, ACCOUNT, *entries, Some(*ledger), Some(*available))
@@ -232,11 +224,11 @@ const LIMITS: &[Day] = &[
         limit: 1,
         accounts: OF_100,
         steps: &[
-            ("a purchase", debit!(200, 1, 10), granted!(1), (1, 90, 90)),
-            ("one above the limit", debit!(200, 2, 10), FULL, (1, 90, 90)),
+            ("a purchase", Debit(200, 1, 10), granted!(1), (1, 90, 90)),
+            ("one above the limit", Debit(200, 2, 10), FULL, (1, 90, 90)),
             (
                 "the purchase again",
-                debit!(200, 1, 10),
+                Debit(200, 1, 10),
                 granted!(1),
                 (1, 90, 90),
             ),
@@ -247,17 +239,17 @@ const LIMITS: &[Day] = &[
         limit: 2,
         accounts: OF_100,
         steps: &[
-            ("a purchase", debit!(200, 1, 10), granted!(1), (1, 90, 90)),
+            ("a purchase", Debit(200, 1, 10), granted!(1), (1, 90, 90)),
             (
                 "another purchase",
-                debit!(200, 2, 10),
+                Debit(200, 2, 10),
                 granted!(2),
                 (2, 80, 80),
             ),
-            ("one above the limit", debit!(200, 3, 10), FULL, (2, 80, 80)),
+            ("one above the limit", Debit(200, 3, 10), FULL, (2, 80, 80)),
             (
                 "the first again",
-                debit!(200, 1, 10),
+                Debit(200, 1, 10),
                 granted!(1),
                 (2, 80, 80),
             ),
@@ -267,7 +259,7 @@ const LIMITS: &[Day] = &[
         name: "the greatest limit",
         limit: MOST_ORDERS,
         accounts: OF_100,
-        steps: &[("a purchase", debit!(200, 3, 10), granted!(1), (1, 90, 90))],
+        steps: &[("a purchase", Debit(200, 3, 10), granted!(1), (1, 90, 90))],
     },
 ];
 
@@ -293,7 +285,9 @@ fn runs(alloc: Global, issuer: &mut Issuer, orders: &[Order]) -> bool {
 
 /// Whether a purchase, its repeat and another one are answered as a list, where the journal takes one order.
 fn runs_three(alloc: Global, issuer: &mut Issuer) -> bool {
-    match (order(&debit!(200, 7, 1000)), order(&debit!(200, 8, 1000))) {
+    let purchase = plain_of(&Debit(200, 7, 1000));
+    let other = plain_of(&Debit(200, 8, 1000));
+    match (order(&purchase), order(&other)) {
         (Some(purchase), Some(other)) => runs(alloc, issuer, &[purchase, purchase, other]),
         _ => false,
     }

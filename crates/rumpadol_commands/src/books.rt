@@ -1,213 +1,167 @@
 //! `journal` and its subcommands.
 
-use crate::arguments::{flag, named_argument, option};
-use clap::builder::ValueParser;
-use clap::{Arg, Command};
+use crate::words::{Rule, Subcommand, Takes, Word, command_of, with_subcommands};
+use clap::Command;
 use std::alloc::{AllocError, Global};
 
 /// The longest time that one call may take, in milliseconds: ten minutes.
 const MOST_TIMEOUT: u64 = 600_000;
 
 /// The journal that is looked into.
-fn file_argument<'a>(alloc: Global) -> Arg<'a> {
-    named_argument(
-        alloc,
-        "file",
-        "FILE",
-        "The path of a journal's file, or etcd://HOST:PORT,HOST:PORT/NAME; it is only read",
-    )
-}
+const JOURNAL_FILE: &[Word] = &[Word {
+    id: "file",
+    takes: Takes::Place("FILE"),
+    help: "The path of a journal's file, or etcd://HOST:PORT,HOST:PORT/NAME; it is only read",
+    rules: &[Rule::Required],
+}];
 
-/// How long a call of a member of etcd may take.
-fn timeout_option<'a>(alloc: Global) -> Arg<'a> {
-    option(
-        alloc,
-        "etcd-timeout",
-        "MILLISECONDS",
-        "On etcd: how long one call may take [default: 5000]",
-    )
-    .value_parser(ValueParser::Unsigned(1, MOST_TIMEOUT))
-}
+/// The words about the members of etcd.
+const ETCD: &[Word] = &[
+    Word {
+        id: "etcd-timeout",
+        takes: Takes::Number("MILLISECONDS", 1, MOST_TIMEOUT),
+        help: "On etcd: how long one call may take [default: 5000]",
+        rules: &[],
+    },
+    Word {
+        id: "etcd-user",
+        takes: Takes::Text("NAME"),
+        help: "On etcd: the user's name",
+        rules: &[Rule::With("etcd-password")],
+    },
+    Word {
+        id: "etcd-password",
+        takes: Takes::Text("FILE"),
+        help: "On etcd: the path of the file that has the user's password",
+        rules: &[Rule::With("etcd-user")],
+    },
+];
 
-/// A subcommand with the options that say who asks the members of etcd.
-fn with_user<'a>(alloc: Global, command: Command<'a>) -> Result<Command<'a>, AllocError> {
-    let user = option(alloc, "etcd-user", "NAME", "On etcd: the user's name");
-    let password = option(
-        alloc,
-        "etcd-password",
-        "FILE",
-        "On etcd: the path of the file that has the user's password",
-    );
-    command
-        .arg(user.requires_arg("etcd-password")?)?
-        .arg(password.requires_arg("etcd-user")?)
-}
+/// How entries are told.
+const TELLING_ENTRIES: &[Word] = &[
+    Word {
+        id: "json",
+        takes: Takes::Nothing,
+        help: "Gives each entry as a JSON object, a line each",
+        rules: &[],
+    },
+    CLEAR,
+];
 
-/// A subcommand with the options about the members of etcd.
-fn with_etcd<'a>(alloc: Global, command: Command<'a>) -> Result<Command<'a>, AllocError> {
-    let command = command.arg(timeout_option(alloc))?;
-    with_user(alloc, command)
-}
-
-/// The accounts of the journal.
-fn accounts_option<'a>(alloc: Global, help: &'static str) -> Arg<'a> {
-    option(alloc, "accounts", "FILE", help)
-}
+/// How accounts are told.
+const TELLING_ACCOUNTS: &[Word] = &[
+    Word {
+        id: "json",
+        takes: Takes::Nothing,
+        help: "Gives each account as a JSON object, a line each",
+        rules: &[],
+    },
+    CLEAR,
+];
 
 /// Whether account numbers are shown in full.
-fn clear_flag<'a>(alloc: Global) -> Arg<'a> {
-    flag(alloc, "clear", "Shows account numbers in full")
-}
+const CLEAR: Word = Word {
+    id: "clear",
+    takes: Takes::Nothing,
+    help: "Shows account numbers in full",
+    rules: &[],
+};
 
-/// A subcommand with the words that say how it tells a journal, and with those about etcd.
-fn with_telling<'a>(
-    alloc: Global,
-    command: Command<'a>,
-    json: &'static str,
-) -> Result<Command<'a>, AllocError> {
-    let command = command
-        .arg(flag(alloc, "json", json))?
-        .arg(clear_flag(alloc))?;
-    with_etcd(alloc, command)
-}
+/// The accounts by which each answer is decided again.
+const ACCOUNTS_AGAIN: &[Word] = &[Word {
+    id: "accounts",
+    takes: Takes::Text("FILE"),
+    help: "The document of the journal's accounts: each answer is decided again",
+    rules: &[],
+}];
 
-/// `journal show`
-fn show_command<'a>(alloc: Global) -> Result<Command<'a>, AllocError> {
-    let command = Command::new(alloc, "show")
-        .about("Shows the entries of a journal, a line each")
-        .after_help(
-            "Example:
-  rumpadol journal show day.journal
-      each order with its place, its key, what it asks, its code and the balance that was shown",
-        )
-        .arg(file_argument(alloc))?;
-    with_telling(
-        alloc,
-        command,
-        "Gives each entry as a JSON object, a line each",
-    )
-}
-
-/// `journal check`
-fn check_command<'a>(alloc: Global) -> Result<Command<'a>, AllocError> {
-    let command = Command::new(alloc, "check")
-        .about(
-            "Tells whether a journal is whole: status 0 where it is, or is torn at its end, 1 where it is damaged",
-        )
-        .after_help(
-            "Example:
-  rumpadol journal check day.journal --accounts accounts.json
-      whether the file is whole, and whether each answer in it is the one that a host gives again",
-        )
-        .arg(file_argument(alloc))?
-        .arg(accounts_option(
-            alloc,
-            "The document of the journal's accounts: each answer is decided again",
-        ))?;
-    with_etcd(alloc, command)
-}
+/// The accounts of which the balances are told.
+const ACCOUNTS: &[Word] = &[Word {
+    id: "accounts",
+    takes: Takes::Text("FILE"),
+    help: "The document of the journal's accounts",
+    rules: &[Rule::Required],
+}];
 
 /// Whether a journal is told as CSV.
-fn csv_flag<'a>(alloc: Global) -> Result<Arg<'a>, AllocError> {
-    flag(
-        alloc,
-        "csv",
-        "Gives each entry as comma-separated values, a line each, behind a line with their names",
-    )
-    .conflicts_with("json")?
-    .required_unless_present("json")
-}
+const CSV: &[Word] = &[Word {
+    id: "csv",
+    takes: Takes::Nothing,
+    help: "Gives each entry as comma-separated values, a line each, behind a line with their names",
+    rules: &[Rule::Without("json"), Rule::Unless("json")],
+}];
 
-/// `journal export`
-fn export_command<'a>(alloc: Global) -> Result<Command<'a>, AllocError> {
-    let command = Command::new(alloc, "export")
-        .about("Gives the entries of a journal to another program, as CSV or as JSON")
-        .after_help(
-            "Example:
-  rumpadol journal export day.journal --csv > day.csv
-      a line with the names of the columns, and a line for each entry",
-        )
-        .arg(file_argument(alloc))?
-        .arg(csv_flag(alloc)?)?;
-    with_telling(
-        alloc,
-        command,
-        "Gives each entry as a JSON object, a line each",
-    )
-}
-
-/// `journal balance`
-fn balance_command<'a>(alloc: Global) -> Result<Command<'a>, AllocError> {
-    let command = Command::new(alloc, "balance")
-        .about("Tells what is on each account after the orders of a journal")
-        .after_help(
-            "Example:
-  rumpadol journal balance day.journal --accounts accounts.json
-      each account: its opening amount, its ledger, what is available, and the holds that are open",
-        )
-        .arg(file_argument(alloc))?
-        .arg(accounts_option(alloc, "The document of the journal's accounts").required(true))?;
-    with_telling(
-        alloc,
-        command,
-        "Gives each account as a JSON object, a line each",
-    )
-}
-
-/// `journal copy`
-fn copy_command<'a>(alloc: Global) -> Result<Command<'a>, AllocError> {
-    let command = Command::new(alloc, "copy")
-        .about(
-            "Copies a journal from a file to etcd, back, or on etcd, where nothing has its name yet",
-        )
-        .after_help(
-            "Example:
-  rumpadol journal copy day.journal etcd://127.0.0.1:2379,127.0.0.1:2381/day
-      the orders of a file as a journal on etcd, which hosts go on with",
-        )
-        .arg(named_argument(
-            alloc,
-            "from",
-            "FROM",
-            "The path of a journal's file, or etcd://HOST:PORT,HOST:PORT/NAME; it is only read",
-        ))?
-        .arg(named_argument(
-            alloc,
-            "to",
-            "TO",
-            "The same, of the copy; nothing may have that name yet",
-        ))?;
-    with_etcd(alloc, command)
-}
-
-/// The subcommands that look at the entries of a journal.
-fn with_looking<'a>(alloc: Global, command: Command<'a>) -> Result<Command<'a>, AllocError> {
-    command
-        .subcommand(show_command(alloc)?)?
-        .subcommand(check_command(alloc)?)
-}
-
-/// The subcommands that give what a journal says.
-fn with_giving<'a>(alloc: Global, command: Command<'a>) -> Result<Command<'a>, AllocError> {
-    command
-        .subcommand(export_command(alloc)?)?
-        .subcommand(balance_command(alloc)?)
-}
+/// What is copied, and where.
+const COPYING: &[Word] = &[
+    Word {
+        id: "from",
+        takes: Takes::Place("FROM"),
+        help: "The path of a journal's file, or etcd://HOST:PORT,HOST:PORT/NAME; it is only read",
+        rules: &[Rule::Required],
+    },
+    Word {
+        id: "to",
+        takes: Takes::Place("TO"),
+        help: "The same, of the copy; nothing may have that name yet",
+        rules: &[Rule::Required],
+    },
+];
 
 /// `journal`
-pub fn journal_command<'a>(alloc: Global) -> Result<Command<'a>, AllocError> {
-    let command = Command::new(alloc, "journal")
-        .about(
-            "Looks into a journal: its entries, whether it is whole, and its balances; and copies one",
-        )
-        .after_help(
-            "Example:
+const JOURNAL: Subcommand = Subcommand {
+    name: "journal",
+    about: "Looks into a journal: its entries, whether it is whole, and its balances; and copies one",
+    after_help: "Example:
   rumpadol journal show day.journal
       the entries of a journal",
-        )
-        .subcommand_required(true)
-        .arg_required_else_help(true);
-    let command = with_looking(alloc, command)?;
-    let command = with_giving(alloc, command)?;
-    command.subcommand(copy_command(alloc)?)
+    words: &[],
+};
+
+/// The subcommands of `journal`.
+const OF_JOURNAL: &[Subcommand] = &[
+    Subcommand {
+        name: "show",
+        about: "Shows the entries of a journal, a line each",
+        after_help: "Example:
+  rumpadol journal show day.journal
+      each order with its place, its key, what it asks, its code and the balance that was shown",
+        words: &[JOURNAL_FILE, TELLING_ENTRIES, ETCD],
+    },
+    Subcommand {
+        name: "check",
+        about: "Tells whether a journal is whole: status 0 where it is, or is torn at its end, 1 where it is damaged",
+        after_help: "Example:
+  rumpadol journal check day.journal --accounts accounts.json
+      whether the file is whole, and whether each answer in it is the one that a host gives again",
+        words: &[JOURNAL_FILE, ACCOUNTS_AGAIN, ETCD],
+    },
+    Subcommand {
+        name: "export",
+        about: "Gives the entries of a journal to another program, as CSV or as JSON",
+        after_help: "Example:
+  rumpadol journal export day.journal --csv > day.csv
+      a line with the names of the columns, and a line for each entry",
+        words: &[JOURNAL_FILE, CSV, TELLING_ENTRIES, ETCD],
+    },
+    Subcommand {
+        name: "balance",
+        about: "Tells what is on each account after the orders of a journal",
+        after_help: "Example:
+  rumpadol journal balance day.journal --accounts accounts.json
+      each account: its opening amount, its ledger, what is available, and the holds that are open",
+        words: &[JOURNAL_FILE, ACCOUNTS, TELLING_ACCOUNTS, ETCD],
+    },
+    Subcommand {
+        name: "copy",
+        about: "Copies a journal from a file to etcd, back, or on etcd, where nothing has its name yet",
+        after_help: "Example:
+  rumpadol journal copy day.journal etcd://127.0.0.1:2379,127.0.0.1:2381/day
+      the orders of a file as a journal on etcd, which hosts go on with",
+        words: &[COPYING, ETCD],
+    },
+];
+
+/// The command `journal`.
+pub fn journal_command<'a>(alloc: Global) -> Result<Command<'a>, AllocError> {
+    with_subcommands(alloc, command_of(alloc, &JOURNAL)?, OF_JOURNAL)
 }

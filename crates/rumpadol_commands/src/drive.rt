@@ -1,16 +1,197 @@
 //! The subcommand that drives a host.
 
-use crate::arguments::{HEADERS, flag, named_argument, option};
-use clap::builder::ValueParser;
-use clap::{Arg, Command};
+use crate::words::{HEADERS, Rule, Subcommand, Takes, Word, command_of};
+use clap::Command;
 use rumpadol_drive_words::{
     MOST_ACQUIRER, MOST_CONNECTIONS, MOST_COUNT, MOST_OPEN, MOST_PATIENCE, MOST_RATE, MOST_TIME,
 };
 use std::alloc::{AllocError, Global};
 
-/// What stands behind the help.
-const EXAMPLES: &str =
-    "An order that gets no answer in time is sent again, then reversed, until the transaction is closed. With --journal each
+/// The words that say which host it is, and how it writes.
+const PLACE: &[Word] = &[
+    Word {
+        id: "address",
+        takes: Takes::Place("ADDRESS"),
+        help: "Where the host listens, as 127.0.0.1:8583 or [::1]:8583",
+        rules: &[Rule::Required],
+    },
+    Word {
+        id: "table",
+        takes: Takes::Text("TABLE"),
+        help: "How messages are written: ascii87, bcd87, or a table's document",
+        rules: &[Rule::Required],
+    },
+    Word {
+        id: "header",
+        takes: Takes::OneOf("HEADER", HEADERS),
+        help: "How each frame counts the bytes of its message",
+        rules: &[Rule::Required],
+    },
+];
+
+/// The words that say who buys, with which accounts, what, and how much.
+const BUYING: &[Word] = &[
+    Word {
+        id: "acquirer",
+        takes: Takes::Number("NUMBER", 0, MOST_ACQUIRER),
+        help: "The acquirer's number (element 32)",
+        rules: &[Rule::Without("frames"), Rule::Unless("frames")],
+    },
+    Word {
+        id: "accounts",
+        takes: Takes::Text("FILE"),
+        help: "The host's document of accounts, all of which are bought with",
+        rules: &[Rule::Without("frames"), Rule::Unless("frames")],
+    },
+    Word {
+        id: "count",
+        takes: Takes::Number("N", 0, MOST_COUNT as u64),
+        help: "So many transactions at most; 0 closes what an earlier run left open",
+        rules: &[Rule::Without("frames"), Rule::Default("1000")],
+    },
+    Word {
+        id: "amount",
+        takes: Takes::Text("LEAST..MOST"),
+        help: "What a purchase or a hold costs, in minor units",
+        rules: &[Rule::Without("frames"), Rule::Default("100..10000")],
+    },
+    Word {
+        id: "mix",
+        takes: Takes::Text("SHARES"),
+        help: "So many of 100 transactions are no purchases, as hold=20,complete=10,inquiry=5,undo=5",
+        rules: &[Rule::Without("frames")],
+    },
+];
+
+/// The words that say how fast it is bought, how long, and how long waited for.
+const PACE: &[Word] = &[
+    Word {
+        id: "peers",
+        takes: Takes::Number("N", 1, MOST_CONNECTIONS),
+        help: "Over so many connections",
+        rules: &[Rule::Without("frames"), Rule::Default("1")],
+    },
+    Word {
+        id: "rate",
+        takes: Takes::Number("N", 1, MOST_RATE as u64),
+        help: "So many transactions begin in a second; without it, as many as may be open",
+        rules: &[Rule::Without("frames")],
+    },
+    Word {
+        id: "open",
+        takes: Takes::Number("N", 1, MOST_OPEN),
+        help: "So many transactions may be open at once; without it, 16 a connection",
+        rules: &[Rule::Without("frames")],
+    },
+    Word {
+        id: "seconds",
+        takes: Takes::Number("S", 1, MOST_TIME),
+        help: "The whole run takes so long at most",
+        rules: &[Rule::Without("frames"), Rule::Default("600")],
+    },
+    Word {
+        id: "patience",
+        takes: Takes::Number("MILLISECONDS", 1, MOST_PATIENCE),
+        help: "An answer is waited for so long",
+        rules: &[Rule::Default("2000")],
+    },
+];
+
+/// The words that say what is done to the traffic on purpose.
+const FAULTS: &[Word] = &[
+    Word {
+        id: "lose",
+        takes: Takes::Text("CHANCE"),
+        help: "How likely each frame is lost, of both directions, from 0 to 1, as 0.05",
+        rules: &[Rule::Without("frames"), Rule::Default("0")],
+    },
+    Word {
+        id: "repeat",
+        takes: Takes::Text("CHANCE"),
+        help: "How likely each frame comes twice",
+        rules: &[Rule::Without("frames"), Rule::Default("0")],
+    },
+    Word {
+        id: "cut",
+        takes: Takes::Text("CHANCE"),
+        help: "How likely the connection is cut behind a frame",
+        rules: &[Rule::Without("frames"), Rule::Default("0")],
+    },
+    Word {
+        id: "delay",
+        takes: Takes::Text("A..B"),
+        help: "How many milliseconds each frame is held back",
+        rules: &[Rule::Without("frames"), Rule::Default("0..0")],
+    },
+    Word {
+        id: "seed",
+        takes: Takes::Number("NUMBER", 0, u64::MAX),
+        help: "From it amounts, accounts and faults are drawn; the same seed draws the same",
+        rules: &[Rule::Without("frames"), Rule::Default("1")],
+    },
+];
+
+/// The words that say what is told and kept.
+const FILES: &[Word] = &[
+    Word {
+        id: "check",
+        takes: Takes::Nothing,
+        help: "Asks the host for each balance in the end, and compares: no one else may use the accounts meanwhile",
+        rules: &[Rule::Without("frames")],
+    },
+    Word {
+        id: "json",
+        takes: Takes::Nothing,
+        help: "Tells the report as JSON",
+        rules: &[],
+    },
+    Word {
+        id: "picture",
+        takes: Takes::Text("FILE"),
+        help: "Draws the histogram of the times as SVG",
+        rules: &[Rule::Without("frames")],
+    },
+    Word {
+        id: "journal",
+        takes: Takes::Text("FILE"),
+        help: "The acquirer's diary, where each order is kept before it is sent",
+        rules: &[Rule::Without("frames")],
+    },
+    Word {
+        id: "new",
+        takes: Takes::Nothing,
+        help: "Makes the diary, where nothing has its name yet",
+        rules: &[Rule::Without("frames"), Rule::With("journal")],
+    },
+];
+
+/// The words about a day whose frames are sent again.
+const DAY: &[Word] = &[
+    Word {
+        id: "frames",
+        takes: Takes::Text("FILE"),
+        help: "Sends the frames of this file again, in place of buying",
+        rules: &[Rule::With("expect")],
+    },
+    Word {
+        id: "expect",
+        takes: Takes::Text("FILE"),
+        help: "The frames that the host is expected to answer them with",
+        rules: &[Rule::With("frames")],
+    },
+    Word {
+        id: "clear",
+        takes: Takes::Nothing,
+        help: "Shows account numbers, tracks, PIN data and chip data in full",
+        rules: &[Rule::With("frames")],
+    },
+];
+
+/// `drive`
+const DRIVE: Subcommand = Subcommand {
+    name: "drive",
+    about: "Drives a host as an acquirer, over many connections and through what networks do",
+    after_help: "An order that gets no answer in time is sent again, then reversed, until the transaction is closed. With --journal each
 order is kept before it is sent, and the next run with the same file goes on with what a crash left open; without it, all is
 forgotten at the end of the run. The table, the header and the accounts are those that the host has.
 
@@ -30,283 +211,11 @@ Examples:
       a day that is sent again, and where the answers of the host aren't those of a host before
 
 Ends with status 0 where all transactions are closed, both ends agree where --check asks, and each answer is the one that is
-expected, and with 1 where not.";
+expected, and with 1 where not.",
+    words: &[PLACE, BUYING, PACE, FAULTS, FILES, DAY],
+};
 
-/// A word about buying.
-fn buying<'a>(
-    alloc: Global,
-    id: &'static str,
-    shown: &'static str,
-    help: &'static str,
-) -> Result<Arg<'a>, AllocError> {
-    option(alloc, id, shown, help).conflicts_with("frames")
-}
-
-/// A word about buying with a whole number up to the most.
-fn number<'a>(
-    alloc: Global,
-    id: &'static str,
-    shown: &'static str,
-    least: u64,
-    most: u64,
-    help: &'static str,
-) -> Result<Arg<'a>, AllocError> {
-    Ok(buying(alloc, id, shown, help)?.value_parser(ValueParser::Unsigned(least, most)))
-}
-
-/// A word about buying that is given or not.
-fn buying_flag<'a>(
-    alloc: Global,
-    id: &'static str,
-    help: &'static str,
-) -> Result<Arg<'a>, AllocError> {
-    flag(alloc, id, help).conflicts_with("frames")
-}
-
-/// The words that say which host it is, and how it writes.
-fn with_host<'a>(alloc: Global, command: Command<'a>) -> Result<Command<'a>, AllocError> {
-    let address = named_argument(
-        alloc,
-        "address",
-        "ADDRESS",
-        "Where the host listens, as 127.0.0.1:8583 or [::1]:8583",
-    );
-    let table = option(
-        alloc,
-        "table",
-        "TABLE",
-        "How messages are written: ascii87, bcd87, or a table's document",
-    );
-    let header = option(
-        alloc,
-        "header",
-        "HEADER",
-        "How each frame counts the bytes of its message",
-    );
-    command
-        .arg(address)?
-        .arg(table.required(true))?
-        .arg(header.required(true).value_parser(HEADERS))
-}
-
-/// The acquirer's number.
-fn acquirer_option<'a>(alloc: Global) -> Result<Arg<'a>, AllocError> {
-    number(
-        alloc,
-        "acquirer",
-        "NUMBER",
-        0,
-        MOST_ACQUIRER,
-        "The acquirer's number (element 32)",
-    )?
-    .required_unless_present("frames")
-}
-
-/// The accounts that are bought with.
-fn accounts_option<'a>(alloc: Global) -> Result<Arg<'a>, AllocError> {
-    buying(
-        alloc,
-        "accounts",
-        "FILE",
-        "The host's document of accounts, all of which are bought with",
-    )?
-    .required_unless_present("frames")
-}
-
-/// The words that say who buys, and with which accounts.
-fn with_buyer<'a>(alloc: Global, command: Command<'a>) -> Result<Command<'a>, AllocError> {
-    command
-        .arg(acquirer_option(alloc)?)?
-        .arg(accounts_option(alloc)?)
-}
-
-/// How many transactions begin.
-fn count_option<'a>(alloc: Global) -> Result<Arg<'a>, AllocError> {
-    Ok(number(
-        alloc,
-        "count",
-        "N",
-        0,
-        u64::from(MOST_COUNT),
-        "So many transactions at most; 0 closes what an earlier run left open",
-    )?
-    .default_value("1000"))
-}
-
-/// What a transaction costs.
-fn amount_option<'a>(alloc: Global) -> Result<Arg<'a>, AllocError> {
-    Ok(buying(
-        alloc,
-        "amount",
-        "LEAST..MOST",
-        "What a purchase or a hold costs, in minor units",
-    )?
-    .default_value("100..10000"))
-}
-
-/// Which transactions are no purchases.
-fn mix_option<'a>(alloc: Global) -> Result<Arg<'a>, AllocError> {
-    buying(
-        alloc,
-        "mix",
-        "SHARES",
-        "So many of 100 transactions are no purchases, as hold=20,complete=10,inquiry=5,undo=5",
-    )
-}
-
-/// The words that say what is bought, and how much.
-fn with_amount<'a>(alloc: Global, command: Command<'a>) -> Result<Command<'a>, AllocError> {
-    command
-        .arg(count_option(alloc)?)?
-        .arg(amount_option(alloc)?)?
-        .arg(mix_option(alloc)?)
-}
-
-/// How many connections there are.
-fn peers_option<'a>(alloc: Global) -> Result<Arg<'a>, AllocError> {
-    Ok(number(
-        alloc,
-        "peers",
-        "N",
-        1,
-        MOST_CONNECTIONS,
-        "Over so many connections",
-    )?
-    .default_value("1"))
-}
-
-/// How many transactions begin in a second.
-fn rate_option<'a>(alloc: Global) -> Result<Arg<'a>, AllocError> {
-    number(
-        alloc,
-        "rate",
-        "N",
-        1,
-        u64::from(MOST_RATE),
-        "So many transactions begin in a second; without it, as many as may be open",
-    )
-}
-
-/// How many transactions may be open.
-fn open_option<'a>(alloc: Global) -> Result<Arg<'a>, AllocError> {
-    number(
-        alloc,
-        "open",
-        "N",
-        1,
-        MOST_OPEN,
-        "So many transactions may be open at once; without it, 16 a connection",
-    )
-}
-
-/// How long a run takes.
-fn seconds_option<'a>(alloc: Global) -> Result<Arg<'a>, AllocError> {
-    Ok(number(
-        alloc,
-        "seconds",
-        "S",
-        1,
-        MOST_TIME,
-        "The whole run takes so long at most",
-    )?
-    .default_value("600"))
-}
-
-/// How long an answer is waited for.
-fn patience_option<'a>(alloc: Global) -> Arg<'a> {
-    option(
-        alloc,
-        "patience",
-        "MILLISECONDS",
-        "An answer is waited for so long",
-    )
-    .value_parser(ValueParser::Unsigned(1, MOST_PATIENCE))
-    .default_value("2000")
-}
-
-/// The words that say how long it is bought, and how long waited for.
-fn with_time<'a>(alloc: Global, command: Command<'a>) -> Result<Command<'a>, AllocError> {
-    command
-        .arg(seconds_option(alloc)?)?
-        .arg(patience_option(alloc))
-}
-
-/// The words that say how fast it is bought.
-fn with_pace<'a>(alloc: Global, command: Command<'a>) -> Result<Command<'a>, AllocError> {
-    let command = command
-        .arg(peers_option(alloc)?)?
-        .arg(rate_option(alloc)?)?
-        .arg(open_option(alloc)?)?;
-    with_time(alloc, command)
-}
-
-/// A chance.
-fn chance<'a>(alloc: Global, id: &'static str, help: &'static str) -> Result<Arg<'a>, AllocError> {
-    Ok(buying(alloc, id, "CHANCE", help)?.default_value("0"))
-}
-
-/// The words about frames that are held back, and the seed of all faults.
-fn with_delay<'a>(alloc: Global, command: Command<'a>) -> Result<Command<'a>, AllocError> {
-    let delay = "How many milliseconds each frame is held back";
-    let seed = "From it amounts, accounts and faults are drawn; the same seed draws the same";
-    command
-        .arg(buying(alloc, "delay", "A..B", delay)?.default_value("0..0"))?
-        .arg(number(alloc, "seed", "NUMBER", 0, u64::MAX, seed)?.default_value("1"))
-}
-
-/// The words that say what is done to the traffic on purpose.
-fn with_faults<'a>(alloc: Global, command: Command<'a>) -> Result<Command<'a>, AllocError> {
-    let lose = "How likely each frame is lost, of both directions, from 0 to 1, as 0.05";
-    let cut = "How likely the connection is cut behind a frame";
-    let command = command
-        .arg(chance(alloc, "lose", lose)?)?
-        .arg(chance(alloc, "repeat", "How likely each frame comes twice")?)?
-        .arg(chance(alloc, "cut", cut)?)?;
-    with_delay(alloc, command)
-}
-
-/// The words about the acquirer's diary.
-fn with_diary<'a>(alloc: Global, command: Command<'a>) -> Result<Command<'a>, AllocError> {
-    let journal = "The acquirer's diary, where each order is kept before it is sent";
-    let new = "Makes the diary, where nothing has its name yet";
-    command
-        .arg(buying(alloc, "journal", "FILE", journal)?)?
-        .arg(buying_flag(alloc, "new", new)?.requires_arg("journal")?)
-}
-
-/// The words that say what is told and kept.
-fn with_files<'a>(alloc: Global, command: Command<'a>) -> Result<Command<'a>, AllocError> {
-    let check =
-        "Asks the host for each balance in the end, and compares: no one else may use the accounts meanwhile";
-    let picture = "Draws the histogram of the times as SVG";
-    let command = command
-        .arg(buying_flag(alloc, "check", check)?)?
-        .arg(flag(alloc, "json", "Tells the report as JSON"))?
-        .arg(buying(alloc, "picture", "FILE", picture)?)?;
-    with_diary(alloc, command)
-}
-
-/// The words about a day whose frames are sent again.
-fn with_day<'a>(alloc: Global, command: Command<'a>) -> Result<Command<'a>, AllocError> {
-    let frames = "Sends the frames of this file again, in place of buying";
-    let expect = "The frames that the host is expected to answer them with";
-    let clear = "Shows account numbers, tracks, PIN data and chip data in full";
-    command
-        .arg(option(alloc, "frames", "FILE", frames).requires_arg("expect")?)?
-        .arg(option(alloc, "expect", "FILE", expect).requires_arg("frames")?)?
-        .arg(flag(alloc, "clear", clear).requires_arg("frames")?)
-}
-
-/// `drive`
+/// The command `drive`.
 pub fn drive_command<'a>(alloc: Global) -> Result<Command<'a>, AllocError> {
-    let command = Command::new(alloc, "drive")
-        .about("Drives a host as an acquirer, over many connections and through what networks do")
-        .after_help(EXAMPLES);
-    let command = with_host(alloc, command)?;
-    let command = with_buyer(alloc, command)?;
-    let command = with_amount(alloc, command)?;
-    let command = with_pace(alloc, command)?;
-    let command = with_faults(alloc, command)?;
-    let command = with_files(alloc, command)?;
-    with_day(alloc, command)
+    command_of(alloc, &DRIVE)
 }

@@ -1,9 +1,10 @@
 //! The command line of the program for people, as `clap` judges it: its subcommands, their arguments, and its help.
 //!
+//! Each subcommand is a table of its words. What makes a command of such a table stands in `words`.
+//!
 //! - `command`: the program's command line.
 #![tactic(auto)]
 
-mod arguments;
 mod books;
 mod drive;
 mod front;
@@ -11,5 +12,6 @@ mod host;
 mod messages;
 mod program;
 mod tables;
+mod words;
 
 pub use program::command;

@@ -4,7 +4,7 @@ use crate::books::journal_command;
 use crate::drive::drive_command;
 use crate::front::front_command;
 use crate::host::host_command;
-use crate::messages::{convert_command, decode_command, encode_command, explain_command};
+use crate::messages::with_messages;
 use crate::tables::table_command;
 use clap::Command;
 use std::alloc::{AllocError, Global};
@@ -20,28 +20,14 @@ const EXAMPLES: &str = "Examples:
 Ends with status 0 where all was done, 1 where an input is refused, 2 where the command line is,
 and 3 where a file, a stream or memory failed.";
 
-/// The subcommands that read messages, and tell them.
-fn with_reading<'a>(alloc: Global, command: Command<'a>) -> Result<Command<'a>, AllocError> {
-    command
-        .subcommand(explain_command(alloc)?)?
-        .subcommand(decode_command(alloc)?)
-}
-
-/// The subcommands that write messages.
-fn with_writing<'a>(alloc: Global, command: Command<'a>) -> Result<Command<'a>, AllocError> {
-    command
-        .subcommand(encode_command(alloc)?)?
-        .subcommand(convert_command(alloc)?)
-}
-
-/// The subcommands that answer frames.
+/// A command that also answers frames.
 fn with_hosts<'a>(alloc: Global, command: Command<'a>) -> Result<Command<'a>, AllocError> {
     command
         .subcommand(host_command(alloc)?)?
         .subcommand(front_command(alloc)?)
 }
 
-/// The subcommands that drive a host, and look into journals.
+/// A command that also drives a host, and looks into journals.
 fn with_books<'a>(alloc: Global, command: Command<'a>) -> Result<Command<'a>, AllocError> {
     command
         .subcommand(drive_command(alloc)?)?
@@ -56,11 +42,8 @@ pub fn command<'a>(alloc: Global) -> Result<Command<'a>, AllocError> {
         .about(
             "Looks at ISO 8583 messages, builds, converts and answers them, drives hosts, and looks into tables and journals.",
         )
-        .after_help(EXAMPLES)
-        .subcommand_required(true)
-        .arg_required_else_help(true);
-    let command = with_reading(alloc, command)?;
-    let command = with_writing(alloc, command)?;
+        .after_help(EXAMPLES);
+    let command = with_messages(alloc, command)?;
     let command = command.subcommand(table_command(alloc)?)?;
     let command = with_hosts(alloc, command)?;
     with_books(alloc, command)

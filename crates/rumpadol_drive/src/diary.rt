@@ -9,7 +9,7 @@ use iso_log::LogError;
 use iso_service::FileFault;
 use rumpadol_buying::DiaryFault;
 use rumpadol_journals::{Disk, begin_at, finish_at, give_up_at, open_at};
-use rumpadol_tables::{Stop, failed, refused};
+use rumpadol_tables::{Stop, refused_or_failed};
 use sqlite_std_file::File;
 use std::alloc::Global;
 
@@ -93,10 +93,8 @@ pub(crate) fn no_diary(alloc: Global, path: &str, fault: DiaryFault) -> Stop
     if matches!(fault, DiaryFault::Memory) {
         return Stop::Memory;
     }
-    if fault.is_refusal() {
-        return refused(format!(in alloc; "rumpadol: {path}: {fault}\n"));
-    }
-    failed(format!(in alloc; "rumpadol: {path}: {fault}\n"))
+    let is_refused = fault.is_refusal();
+    refused_or_failed(is_refused, format!(in alloc; "rumpadol: {path}: {fault}\n"))
 }
 
 /// The heading of an acquirer's diary.

@@ -11,7 +11,7 @@ use iso_journal::JournalLog;
 use iso_peers::DurableHost;
 use iso_record::Heading;
 use iso_service::{FileFault, Journals, StartFault, make_journal, start};
-use rumpadol_tables::{Source, Stop, failed, refused};
+use rumpadol_tables::{Source, Stop, failed, refused_or_failed};
 use std::alloc::Global;
 use std::io::Write;
 
@@ -23,10 +23,8 @@ fn not_started(alloc: Global, path: &str, fault: StartFault) -> Stop
     if matches!(fault, StartFault::File(FileFault::Memory)) {
         return Stop::Memory;
     }
-    if fault.is_refusal() {
-        return refused(format!(in alloc; "rumpadol: {path}: {fault}\n"));
-    }
-    failed(format!(in alloc; "rumpadol: {path}: {fault}\n"))
+    let is_refused = fault.is_refusal();
+    refused_or_failed(is_refused, format!(in alloc; "rumpadol: {path}: {fault}\n"))
 }
 
 /// How the program stops where an order couldn't be kept.

@@ -17,6 +17,6 @@ mod words;
 pub use documents::{STANDARD_INPUT, document_at};
 pub use named::{names_named, table_named};
 pub use source::{MOST_BYTES, Source, SourceFault, read_front};
-pub use stop::{Stop, failed, misused, refused, tell, write_output};
+pub use stop::{Stop, failed, misused, refused, refused_or_failed, tell, write_output};
 pub use table::perform_table;
 pub use words::{NewWords, TableJob};

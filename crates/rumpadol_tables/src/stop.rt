@@ -1,6 +1,6 @@
 //! How the program stops where it doesn't end well: sentences on the error stream, and a status.
 
-ghost use Rattle.std.specs.Prelude.{◌≡◌, ◌≤◌, ◌⊎◌, OnOk, IfErr};
+ghost use Rattle.std.specs.Prelude.{◌≡◌, ◌≤◌, ◌⊎◌, true, false, OnOk, IfErr};
 ghost use Rattle.std.specs.Io.KnownBytes.{Appends};
 ghost use Rattle.rumpadol_tables.specs.Stop.{status_of};
 ghost use Rattle.rumpadol_tables.specs.declared.stop.Stop.TheVariants.{Memory};
@@ -100,6 +100,17 @@ pub fn failed(text: Result<String, AllocError>) -> Stop
         Ok(text) => Stop::Device(text),
         Err(_) => Stop::Memory,
     }
+}
+
+/// An input is refused, or else a device failed, with this text, unless there is no memory for it.
+pub fn refused_or_failed(is_refused: bool, text: Result<String, AllocError>) -> Stop
+    ensures refused { status_of result ≡ 1 → is_refused ≡ true }
+    ensures failed { is_refused ≡ false → status_of result ≡ 3 }
+{
+    if is_refused {
+        return refused(text);
+    }
+    failed(text)
 }
 
 /// Tells the error stream why the program stops, and gives the status: 3 where the stream itself fails.

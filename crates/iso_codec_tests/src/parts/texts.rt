@@ -21,32 +21,44 @@ const TEXTS: &[(&str, Result<u16, ParseMtiError>)] = &[
     ("٠٢", Err(ParseMtiError)),
 ];
 
+/// Whether the type is written so.
+fn is_written(alloc: Global, mti: Mti, text: &str) -> bool {
+    match format!(in alloc; "{mti}") {
+        Ok(written) => written.as_str() == text,
+        Err(_) => false,
+    }
+}
+
 /// Whether the text writes the type of that number and is written of it, or writes none.
-fn is_text(alloc: Global, text: &str, number: Result<u16, ParseMtiError>) -> Result<bool, Fail> {
+fn is_text(alloc: Global, text: &str, number: Result<u16, ParseMtiError>) -> bool {
     match text.parse::<Mti>() {
-        Ok(mti) => {
-            let written = format!(in alloc; "{mti}")?;
-            Ok(number == Ok(mti.number()) && written.as_str() == text)
-        }
-        Err(fault) => Ok(number == Err(fault)),
+        Ok(mti) => number == Ok(mti.number()) && is_written(alloc, mti, text),
+        Err(fault) => number == Err(fault),
     }
 }
 
 #[test]
 fn types_are_written_and_read(rt: HostRuntime) -> Result<(), Fail> {
     for (text, number) in TEXTS {
-        check(is_text(rt.alloc(), text, *number)?, text)?;
+        check(is_text(rt.alloc(), text, *number), text)?;
     }
     Ok(())
 }
 
+/// Whether the type is filled up on either side.
+fn is_filled_up(alloc: Global, mti: Mti) -> bool {
+    match format!(in alloc; "[{mti:>6}|{mti:<6}]") {
+        Ok(written) => written.as_str() == "[  0200|0200  ]",
+        Err(_) => false,
+    }
+}
+
 #[test]
 fn a_type_is_filled_up(rt: HostRuntime) -> Result<(), Fail> {
-    let mti = Mti::from_digits(200).ok_or("no message type")?;
-    check(
-        format!(in rt.alloc(); "[{mti:>6}|{mti:<6}]")?.as_str() == "[  0200|0200  ]",
-        "filled up",
-    )
+    match Mti::from_digits(200) {
+        Some(mti) => check(is_filled_up(rt.alloc(), mti), "filled up"),
+        None => check(false, "no message type"),
+    }
 }
 
 /// Whether these are the numbers, and all of them, in whichever way they are asked for.
@@ -60,20 +72,37 @@ fn are_numbers(set: Bitmap, numbers: &[u8]) -> bool {
     left.next().is_none() && left.next().is_none()
 }
 
-#[test]
-fn numbers_come_in_order() -> Result<(), Fail> {
+/// A set of five numbers.
+fn five_numbers() -> Bitmap {
     let mut set = Bitmap::new();
-    check(are_numbers(set, &[]), "no number")?;
     for number in [128, 2, 64, 66, 11] {
         set.set(number);
     }
-    check(are_numbers(set, &[2, 11, 64, 66, 128]), "five numbers")?;
+    set
+}
+
+/// The sum of the numbers of a set, one after another.
+fn sum_of(set: Bitmap) -> u32 {
     let mut sum = 0u32;
     for number in set {
         sum = sum.saturating_add(u32::from(number));
     }
-    for number in &set {
+    sum
+}
+
+/// The same where the set is lent.
+fn sum_of_lent(set: &Bitmap) -> u32 {
+    let mut sum = 0u32;
+    for number in set {
         sum = sum.saturating_add(u32::from(number));
     }
-    check(sum == 2 * 271, "both loops")
+    sum
+}
+
+#[test]
+fn numbers_come_in_order() -> Result<(), Fail> {
+    let set = five_numbers();
+    check(are_numbers(Bitmap::new(), &[]), "no number")?;
+    check(are_numbers(set, &[2, 11, 64, 66, 128]), "five numbers")?;
+    check(sum_of(set) == 271 && sum_of_lent(&set) == 271, "both loops")
 }

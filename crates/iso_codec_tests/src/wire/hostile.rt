@@ -130,10 +130,15 @@ fn is_bit_refused(alloc: Global, table: &Table, marked: &Marked, n: u8) -> bool 
     }
 }
 
+/// Whether the bit has a row, or the message is refused once it is set.
+fn has_row_or_is_refused(alloc: Global, table: &Table, marked: &Marked, n: u8) -> bool {
+    table.row(n).is_some() || is_bit_refused(alloc, table, marked, n)
+}
+
 /// Tries a message with each bit set that has no row.
-fn check_bits(alloc: Global, table: &Table, marked: Marked) -> Result<(), Fail> {
+fn check_bits(alloc: Global, table: &Table, marked: &Marked) -> Result<(), Fail> {
     for n in 2..=marked.last {
-        let is_so = table.row(n).is_some() || is_bit_refused(alloc, table, &marked, n);
+        let is_so = has_row_or_is_refused(alloc, table, marked, n);
         check_at(is_so, marked.name, usize::from(n))?;
     }
     Ok(())
@@ -208,18 +213,29 @@ const ALIKE: &[(Under, Alike)] = &[
 fn check_alike(alloc: Global, table: &Table, alike: Alike) -> Result<(), Fail> {
     match alike {
         Cuts(known, pieces) => check_cuts(alloc, table, known, pieces),
-        Bits(marked) => check_bits(alloc, table, marked),
+        Bits(marked) => check_bits(alloc, table, &marked),
         Pieces(name, known, size, wanted, used) => {
             check(is_read_in(alloc, table, known, size, wanted, used), name)
         }
     }
 }
 
+/// That bytes are refused under that table.
+fn check_stops_under(alloc: Global, under: Under, stops: &[Stop]) -> Result<(), Fail> {
+    let table = table_of(alloc, under)?;
+    check_stops(alloc, &table, stops)
+}
+
+/// That it is so under that table.
+fn check_alike_under(alloc: Global, under: Under, alike: Alike) -> Result<(), Fail> {
+    let table = table_of(alloc, under)?;
+    check_alike(alloc, &table, alike)
+}
+
 #[test]
 fn bytes_that_are_no_message_are_refused(rt: HostRuntime) -> Result<(), Fail> {
     for (under, stops) in STOPS {
-        let table = table_of(rt.alloc(), *under)?;
-        check_stops(rt.alloc(), &table, *stops)?;
+        check_stops_under(rt.alloc(), *under, *stops)?;
     }
     Ok(())
 }
@@ -227,8 +243,7 @@ fn bytes_that_are_no_message_are_refused(rt: HostRuntime) -> Result<(), Fail> {
 #[test]
 fn bytes_are_refused_alike(rt: HostRuntime) -> Result<(), Fail> {
     for (under, alike) in ALIKE {
-        let table = table_of(rt.alloc(), *under)?;
-        check_alike(rt.alloc(), &table, *alike)?;
+        check_alike_under(rt.alloc(), *under, *alike)?;
     }
     Ok(())
 }

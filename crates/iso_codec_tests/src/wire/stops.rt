@@ -263,11 +263,16 @@ pub(super) const BAD_LENGTHS: &[Stop] = &[
     ),
 ];
 
+/// Whether the bytes are refused where they stop being a message.
+fn is_refused(alloc: Global, table: &Table, refused: &Stop) -> bool {
+    let (_, bytes, at, element, cause) = refused;
+    are_refused(alloc, table, *bytes, stop(*at, *element, *cause))
+}
+
 /// That each of the bytes is refused where it stops being a message.
 pub(super) fn check_stops(alloc: Global, table: &Table, stops: &[Stop]) -> Result<(), Fail> {
-    for (name, bytes, at, element, cause) in stops {
-        let fault = stop(*at, *element, *cause);
-        check(are_refused(alloc, table, bytes, fault), *name)?;
+    for refused in stops {
+        check(is_refused(alloc, table, refused), refused.0)?;
     }
     Ok(())
 }

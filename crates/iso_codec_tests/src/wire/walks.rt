@@ -1,6 +1,6 @@
 //! The pieces of a message, one after another, and the elements of a view.
 
-use super::stops::REFUSED_BYTES;
+use super::stops::{REFUSED_BYTES, Stop};
 use super::*;
 
 /// Whether the pieces that have bytes begin there, for those elements, are good and follow one another up to the end.
@@ -34,34 +34,53 @@ fn last_piece(table: &Table, bytes: &[u8]) -> Option<Piece> {
     last
 }
 
+/// Messages under their tables, and where each of their pieces begins, with its element.
+const WALKS: &[(&str, Under, &[u8], &[(usize, u8)])] = &[
+    ("echo", Ascii, ECHO, ECHO_PIECES),
+    ("payment", Ascii, PAYMENT, PAYMENT_PIECES),
+    ("reversal", Ascii, REVERSAL, REVERSAL_PIECES),
+    ("packed echo", Packed, PACKED_ECHO, PACKED_ECHO_PIECES),
+];
+
+/// Whether the pieces of a message are told under that table.
+fn are_told(alloc: Global, under: Under, bytes: &[u8], starts: &[(usize, u8)]) -> bool {
+    match table_of(alloc, under) {
+        Ok(table) => walks(&table, bytes, starts),
+        Err(_) => false,
+    }
+}
+
 #[test]
 fn pieces_are_told(rt: HostRuntime) -> Result<(), Fail> {
-    let alloc = rt.alloc();
-    let ascii = table_of(alloc, Ascii)?;
-    let packed = table_of(alloc, Packed)?;
-    check(walks(&ascii, ECHO, ECHO_PIECES), "echo")?;
-    check(walks(&ascii, PAYMENT, PAYMENT_PIECES), "payment")?;
-    check(walks(&ascii, REVERSAL, REVERSAL_PIECES), "reversal")?;
-    check(
-        walks(&packed, PACKED_ECHO, PACKED_ECHO_PIECES),
-        "packed echo",
-    )
+    for (name, under, bytes, starts) in WALKS {
+        check(are_told(rt.alloc(), *under, *bytes, *starts), *name)?;
+    }
+    Ok(())
+}
+
+/// Whether the last piece of the bytes tells that they stop being a message there.
+fn stops_so(table: &Table, refused: &Stop) -> bool {
+    let (_, bytes, at, element, cause) = refused;
+    match last_piece(table, *bytes) {
+        Some(piece) => {
+            piece.start == *at && piece.element == *element && piece.fault == Some(*cause)
+        }
+        None => false,
+    }
+}
+
+/// That the last piece of each of the bytes does.
+fn check_last_pieces(table: &Table, refused: &[Stop]) -> Result<(), Fail> {
+    for stop in refused {
+        check(stops_so(table, stop), stop.0)?;
+    }
+    Ok(())
 }
 
 #[test]
 fn last_pieces_stop(rt: HostRuntime) -> Result<(), Fail> {
-    let alloc = rt.alloc();
-    let table = table_of(alloc, Ascii)?;
-    for (name, bytes, at, element, cause) in REFUSED_BYTES {
-        match last_piece(&table, bytes) {
-            Some(piece) => check(
-                piece.start == *at && piece.element == *element && piece.fault == Some(*cause),
-                name,
-            )?,
-            None => check(false, name)?,
-        }
-    }
-    Ok(())
+    let table = table_of(rt.alloc(), Ascii)?;
+    check_last_pieces(&table, REFUSED_BYTES)
 }
 
 /// Bytes that are no message under a table, and the offset of the byte that is to blame.
@@ -102,15 +121,26 @@ const BLAMED: &[(&str, Under, &[u8], usize)] = &[
     ),
 ];
 
+/// The offset of the byte that is to blame.
+fn bad_byte(table: &Table, bytes: &[u8]) -> Option<usize> {
+    match last_piece(table, bytes) {
+        Some(piece) => Some(piece.first_bad(table, bytes)),
+        None => None,
+    }
+}
+
+/// Whether the byte there is to blame under that table.
+fn is_blamed(alloc: Global, under: Under, bytes: &[u8], at: usize) -> bool {
+    match table_of(alloc, under) {
+        Ok(table) => bad_byte(&table, bytes) == Some(at),
+        Err(_) => false,
+    }
+}
+
 #[test]
 fn first_bad_bytes(rt: HostRuntime) -> Result<(), Fail> {
-    let alloc = rt.alloc();
     for (name, under, bytes, at) in BLAMED {
-        let table = table_of(alloc, *under)?;
-        match last_piece(&table, bytes) {
-            Some(piece) => check(piece.first_bad(&table, bytes) == *at, name)?,
-            None => check(false, name)?,
-        }
+        check(is_blamed(rt.alloc(), *under, *bytes, *at), *name)?;
     }
     Ok(())
 }
@@ -137,11 +167,22 @@ fn gives_viewed(alloc: Global, table: &Table, bytes: &[u8], elements: Elements) 
     left.next() == None
 }
 
+/// Whether the view has no such element.
+fn lacks(alloc: Global, table: &Table, bytes: &[u8], n: u8) -> bool {
+    match view(table, bytes) {
+        Ok(viewed) => matches!(viewed.value(alloc, table, n), Ok(None)),
+        Err(_) => false,
+    }
+}
+
+/// That the view of an echo test gives its elements and no other.
+fn check_viewed(alloc: Global, table: &Table) -> Result<(), Fail> {
+    check(gives_viewed(alloc, table, ECHO, ECHO_ELEMENTS), "echo")?;
+    check(lacks(alloc, table, ECHO, 2), "no element 2")
+}
+
 #[test]
 fn views_give_elements(rt: HostRuntime) -> Result<(), Fail> {
-    let alloc = rt.alloc();
-    let table = table_of(alloc, Ascii)?;
-    check(gives_viewed(alloc, &table, ECHO, ECHO_ELEMENTS), "echo")?;
-    let viewed = view(&table, ECHO)?;
-    check(viewed.value(alloc, &table, 2)?.is_none(), "no element 2")
+    let table = table_of(rt.alloc(), Ascii)?;
+    check_viewed(rt.alloc(), &table)
 }

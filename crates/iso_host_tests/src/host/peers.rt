@@ -1,7 +1,7 @@
 //! What a host tells a log, and what a peer refuses.
 
 use super::frames::{ECHO, GRANTED, PURCHASE, issuer};
-use iso_fakes::check_of;
+use iso_fakes::{check, check_of};
 use iso_host::{BodyFault, Handled, Host, HostTable, Link, Peer, PeerFault};
 use iso_table::Table;
 use iso_wire::{Header, UnpackCause};
@@ -82,23 +82,35 @@ fn refuses_header(alloc: Global, link: &Link, host: &mut Host, out: &mut Vec<u8>
     take(&mut peer, host, b"00x5", out) == Err(PeerFault::BadHeader)
 }
 
+/// What that host doesn't tell a log as it should.
+fn wrong_of(alloc: Global, link: &Link, host: &mut Host) -> Option<&'static str> {
+    let mut out = Vec::new(alloc);
+    let wrong = told_otherwise(host, link, &mut out);
+    if refuses_header(alloc, link, host, &mut out) {
+        wrong
+    } else {
+        Some("a header that isn't of digits")
+    }
+}
+
 /// What isn't told to a log as it should be.
 fn wrong_in_log(alloc: Global, link: &Link) -> Option<&'static str> {
-    let Some(mut host) = host(alloc) else {
-        return Some("no host");
-    };
-    let mut out = Vec::new(alloc);
-    let wrong = told_otherwise(&mut host, link, &mut out);
-    if !refuses_header(alloc, link, &mut host, &mut out) {
-        return Some("a header that isn't of digits");
+    match host(alloc) {
+        Some(mut host) => wrong_of(alloc, link, &mut host),
+        None => Some("no host"),
     }
-    wrong
+}
+
+/// Checks what is told to a log.
+fn check_log(alloc: Global, link: &Link) -> Result<(), Fail> {
+    let wrong = wrong_in_log(alloc, link);
+    check_of(wrong.is_none(), "a log", wrong.unwrap_or("all"))
 }
 
 #[test]
 fn a_log_is_told_what_came(rt: HostRuntime) -> Result<(), Fail> {
-    let alloc = rt.alloc();
-    let link = link(alloc).ok_or("no link")?;
-    let wrong = wrong_in_log(alloc, &link);
-    check_of(wrong.is_none(), "a log", wrong.unwrap_or("all"))
+    match link(rt.alloc()) {
+        Some(link) => check_log(rt.alloc(), &link),
+        None => check(false, "no link"),
+    }
 }

@@ -3,6 +3,7 @@
 
 use super::frames::{FIVE_ANSWERED, FIVE_FRAMES, PURCHASE, has_entered, issuer};
 use super::peers::{host, link, take};
+use iso_fakes::check;
 use iso_host::{Host, HostTable, Link, Peer};
 use iso_table::Table;
 use iso_wire::Header;
@@ -148,85 +149,130 @@ fn answers_three(
         && goes_on(third, host)
 }
 
-/// Whether three peers of two links get their own answers, in that order of their pieces. Where the third comes last, the
-/// others share the host as two.
-fn shares(alloc: Global, ascii: &Link, bcd: &Link, order: usize) -> bool {
-    let Some(mut host) = host(alloc) else {
-        return false;
-    };
+/// A link of ASCII digits, and one of BCD.
+fn links(alloc: Global) -> Option<(Link, Link)> {
+    match (link(alloc), bcd_link(alloc)) {
+        (Some(ascii), Some(bcd)) => Some((ascii, bcd)),
+        _ => None,
+    }
+}
+
+/// Whether three peers of two links get their own answers of that host, in that order of their pieces.
+fn share(alloc: Global, ascii: &Link, bcd: &Link, host: &mut Host, order: usize) -> bool {
     let mut first = line_of(alloc, ascii, FIRST);
     let mut second = line_of(alloc, ascii, SECOND);
     let mut third = line_of(alloc, bcd, THIRD);
-    answers_three(order, &mut first, &mut second, &mut third, &mut host)
-        && has_entered(host.issuer(), 2000, 3)
+    answers_three(order, &mut first, &mut second, &mut third, host)
 }
 
-/// Whether a stream that is cut there is answered as a whole one.
-fn is_answered_cut(alloc: Global, link: &Link, at: usize) -> bool {
-    let Some(mut host) = host(alloc) else {
-        return false;
-    };
-    let mut peer = Peer::new(alloc, link);
-    let mut out = Vec::new(alloc);
+/// Whether three peers of two links get their own answers, in that order of their pieces. Where the third comes last, the
+/// others share the host as two.
+fn shares(alloc: Global, ascii: &Link, bcd: &Link, order: usize) -> bool {
+    match host(alloc) {
+        Some(mut host) => {
+            share(alloc, ascii, bcd, &mut host, order) && has_entered(host.issuer(), 2000, 3)
+        }
+        None => false,
+    }
+}
+
+/// Whether a peer that gets its stream cut there is answered by that host as by a whole one.
+fn answers_cut(peer: &mut Peer<'_>, host: &mut Host, at: usize, out: &mut Vec<u8>) -> bool {
     let (front, rest) = FIVE_FRAMES.split_at(at.min(FIVE_FRAMES.len()));
-    hand(&mut peer, &mut host, front, &mut out)
-        && hand(&mut peer, &mut host, rest, &mut out)
+    hand(peer, host, front, out)
+        && hand(peer, host, rest, out)
         && peer.may_end()
         && out.as_slice() == FIVE_ANSWERED
         && has_entered(host.issuer(), 4000, 1)
 }
 
-/// Whether a peer that goes away inside a frame leaves the other as if it had never been.
-fn leaves_others(alloc: Global, ascii: &Link, bcd: &Link, cut: usize) -> bool {
-    let Some(mut host) = host(alloc) else {
-        return false;
-    };
-    let mut other = line_of(alloc, bcd, THIRD);
-    let before = goes_on(&mut other, &mut host);
+/// Whether a stream that is cut there is answered as a whole one.
+fn is_answered_cut(alloc: Global, link: &Link, at: usize) -> bool {
+    match host(alloc) {
+        Some(mut host) => {
+            let mut out = Vec::new(alloc);
+            answers_cut(&mut Peer::new(alloc, link), &mut host, at, &mut out)
+        }
+        None => false,
+    }
+}
+
+/// Whether a peer goes away inside a frame, and nothing came out for it.
+fn goes_away(alloc: Global, ascii: &Link, host: &mut Host, cut: usize) -> bool {
     let mut out = Vec::new(alloc);
     let (front, _) = PURCHASE.split_at(cut.min(PURCHASE.len()));
-    let taken = hand(&mut Peer::new(alloc, ascii), &mut host, front, &mut out);
-    before
-        && taken
-        && out.is_empty()
-        && goes_on(&mut other, &mut host)
+    hand(&mut Peer::new(alloc, ascii), host, front, &mut out) && out.is_empty()
+}
+
+/// Whether a peer that goes away between the pieces of the other leaves it as if it had never been.
+fn leaves(alloc: Global, ascii: &Link, other: &mut Line<'_>, host: &mut Host, cut: usize) -> bool {
+    goes_on(other, host)
+        && goes_away(alloc, ascii, host, cut)
+        && goes_on(other, host)
         && has_entered(host.issuer(), 4000, 1)
 }
 
-#[test]
-fn a_stream_is_cut_at_every_place(rt: HostRuntime) -> Result<(), Fail> {
-    let alloc = rt.alloc();
-    let ascii = link(alloc).ok_or("no link")?;
+/// Whether a peer that goes away inside a frame leaves the other as if it had never been.
+fn leaves_others(alloc: Global, ascii: &Link, bcd: &Link, cut: usize) -> bool {
+    match host(alloc) {
+        Some(mut host) => {
+            let mut other = line_of(alloc, bcd, THIRD);
+            leaves(alloc, ascii, &mut other, &mut host, cut)
+        }
+        None => false,
+    }
+}
+
+/// Cuts a stream at every place.
+fn check_cut(alloc: Global, ascii: &Link) -> Result<(), Fail> {
     for at in 0..FIVE_FRAMES.len() + 1 {
-        if !is_answered_cut(alloc, &ascii, at) {
+        if !is_answered_cut(alloc, ascii, at) {
             return Err(Fail::new(format_args!("a stream that is cut at {at}")));
         }
     }
     Ok(())
 }
 
-#[test]
-fn three_peers_share_a_host_in_every_order(rt: HostRuntime) -> Result<(), Fail> {
-    let alloc = rt.alloc();
-    let ascii = link(alloc).ok_or("no link")?;
-    let bcd = bcd_link(alloc).ok_or("no link")?;
+/// Has three peers share a host in every order.
+fn check_orders(alloc: Global, ascii: &Link, bcd: &Link) -> Result<(), Fail> {
     for order in 0..729 {
-        if !shares(alloc, &ascii, &bcd, order) {
+        if !shares(alloc, ascii, bcd, order) {
             return Err(Fail::new(format_args!("three peers in the order {order}")));
         }
     }
     Ok(())
 }
 
-#[test]
-fn a_peer_that_goes_away_leaves_the_others(rt: HostRuntime) -> Result<(), Fail> {
-    let alloc = rt.alloc();
-    let ascii = link(alloc).ok_or("no link")?;
-    let bcd = bcd_link(alloc).ok_or("no link")?;
+/// Has a peer go away at every place of a frame.
+fn check_away(alloc: Global, ascii: &Link, bcd: &Link) -> Result<(), Fail> {
     for cut in 1..PURCHASE.len() {
-        if !leaves_others(alloc, &ascii, &bcd, cut) {
+        if !leaves_others(alloc, ascii, bcd, cut) {
             return Err(Fail::new(format_args!("a peer that goes away at {cut}")));
         }
     }
     Ok(())
+}
+
+#[test]
+fn a_stream_is_cut_at_every_place(rt: HostRuntime) -> Result<(), Fail> {
+    match link(rt.alloc()) {
+        Some(ascii) => check_cut(rt.alloc(), &ascii),
+        None => check(false, "no link"),
+    }
+}
+
+#[test]
+fn three_peers_share_a_host_in_every_order(rt: HostRuntime) -> Result<(), Fail> {
+    match links(rt.alloc()) {
+        Some((ascii, bcd)) => check_orders(rt.alloc(), &ascii, &bcd),
+        None => check(false, "no link"),
+    }
+}
+
+#[test]
+fn a_peer_that_goes_away_leaves_the_others(rt: HostRuntime) -> Result<(), Fail> {
+    match links(rt.alloc()) {
+        Some((ascii, bcd)) => check_away(rt.alloc(), &ascii, &bcd),
+        None => check(false, "no link"),
+    }
 }

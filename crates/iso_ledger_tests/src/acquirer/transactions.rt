@@ -13,34 +13,34 @@ enum Heard {
     Answer(TxKey, u8),
 }
 
-/// What it sends then: an order, the reversal under the second trace number of the first transaction among them.
+/// What it sends then: the debit of a trace number, an amount and a currency, or the reversal under the second trace number of
+/// the first transaction.
 #[derive(Clone, Copy)]
 enum Sends {
-    Order(Plain),
+    Debit(u32, u64, [u8; 3]),
+    Undone,
     Nothing,
     Refusal(AcqFault),
 }
 
-/// The debit of a trace number, an amount and a currency, as tables have it.
-macro_rules! debit {
-    ($stan:expr, $amount:expr, $currency:expr) => {
-        Sends::Order(Plain {
-            key: key!(200, $stan, ID),
-            amount: $amount,
-            currency: $currency,
-            ..USUAL
-        })
-    };
+/// The debit of a trace number, an amount and a currency.
+fn debit(stan: u32, amount: u64, currency: [u8; 3]) -> Plain {
+    Plain {
+        key: key!(200, stan, ID),
+        amount,
+        currency,
+        ..USUAL
+    }
 }
 
 /// The reversal of the first transaction.
-const UNDONE: Sends = Sends::Order(Plain {
+const REVERSAL: Plain = Plain {
     key: key!(420, 2, ID),
     does: Does::Undo,
     of: key!(200, 1, ID),
     amount: 0,
     ..USUAL
-});
+};
 
 /// Tells an acquirer what it hears, and gives the order that it sends.
 fn hear(acquirer: &mut Acquirer, heard: Heard) -> Option<Result<Order, AcqFault>> {
@@ -61,7 +61,10 @@ fn hear(acquirer: &mut Acquirer, heard: Heard) -> Option<Result<Order, AcqFault>
 /// Whether that is what an acquirer should send.
 fn is_sent(sent: Option<Result<Order, AcqFault>>, sends: &Sends) -> bool {
     match (sent, sends) {
-        (Some(Ok(sent)), Sends::Order(plain)) => order(plain) == Some(sent),
+        (Some(Ok(sent)), Sends::Debit(stan, amount, currency)) => {
+            order(&debit(*stan, *amount, *currency)) == Some(sent)
+        }
+        (Some(Ok(sent)), Sends::Undone) => order(&REVERSAL) == Some(sent),
         (Some(Err(fault)), Sends::Refusal(wanted)) => fault == *wanted,
         (None, Sends::Nothing) => true,
         _ => false,
@@ -71,7 +74,7 @@ fn is_sent(sent: Option<Result<Order, AcqFault>>, sends: &Sends) -> bool {
 /// A name, what an acquirer hears and sends, and what it then holds of a transaction.
 type Step = (&'static str, Heard, Sends, Held);
 
-const DEBIT: Sends = debit!(1, 1000, *b"840");
+const DEBIT: Sends = Sends::Debit(1, 1000, *b"840");
 
 /// The key of the debit.
 const KEY: TxKey = key!(200, 1, ID);
@@ -103,9 +106,9 @@ const LISTS: &[(&'static str, u32, &'static [Step])] = &[
         &[
             ("a debit", Begin, DEBIT, ASKED),
             ("the repeat", Timeout(1), DEBIT, AGAIN),
-            ("the reversal", Timeout(1), UNDONE, REVERSING),
-            ("its repeat", Timeout(1), UNDONE, REVERSING),
-            ("its next repeat", Timeout(1), UNDONE, REVERSING),
+            ("the reversal", Timeout(1), Sends::Undone, REVERSING),
+            ("its repeat", Timeout(1), Sends::Undone, REVERSING),
+            ("its next repeat", Timeout(1), Sends::Undone, REVERSING),
         ],
     ),
     (
@@ -113,7 +116,7 @@ const LISTS: &[(&'static str, u32, &'static [Step])] = &[
         1,
         &[
             ("the repeat", Timeout(1), DEBIT, AGAIN),
-            ("the reversal", Timeout(1), UNDONE, REVERSING),
+            ("the reversal", Timeout(1), Sends::Undone, REVERSING),
             ("the number zero", Timeout(0), NO_SUCH, (0, None)),
             ("the reversal's number", Timeout(2), NO_SUCH, (2, None)),
             ("the next number", Timeout(3), NO_SUCH, (3, None)),
@@ -126,7 +129,7 @@ const LISTS: &[(&'static str, u32, &'static [Step])] = &[
             (
                 "the next debit",
                 BeginOther,
-                debit!(3, 1, *b"978"),
+                Sends::Debit(3, 1, *b"978"),
                 (3, Some(State::Waiting(1))),
             ),
         ],
@@ -204,7 +207,7 @@ const LISTS: &[(&'static str, u32, &'static [Step])] = &[
         1,
         &[
             ("the repeat", Timeout(1), DEBIT, AGAIN),
-            ("the reversal", Timeout(1), UNDONE, REVERSING),
+            ("the reversal", Timeout(1), Sends::Undone, REVERSING),
             (
                 "96 to the reversal",
                 Answer(REVERSAL_KEY, 96),

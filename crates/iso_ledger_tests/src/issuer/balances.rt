@@ -13,7 +13,7 @@ const WIDE_BALANCES: &[Day] = &[
         accounts: OF_999999999999,
         steps: &[(
             "an inquiry",
-            inquiry!(1),
+            Inquiry(1),
             shows!(1, 999_999_999_999),
             (1, 999_999_999_999, 999_999_999_999),
         )],
@@ -25,13 +25,13 @@ const WIDE_BALANCES: &[Day] = &[
         steps: &[
             (
                 "a purchase of all that is there",
-                debit!(200, 7, AMOUNT),
+                Debit(200, 7, AMOUNT),
                 granted!(1),
                 (1, 0, 0),
             ),
             (
                 "its reversal",
-                undo!(8, 200, 7, 0),
+                Undo(8, 200, 7, 0),
                 granted!(2),
                 (2, 999_999_999_999, 999_999_999_999),
             ),
@@ -43,7 +43,7 @@ const WIDE_BALANCES: &[Day] = &[
         accounts: OF_1000000000000,
         steps: &[(
             "an inquiry",
-            inquiry!(1),
+            Inquiry(1),
             declined!(96, 1),
             (1, 1_000_000_000_000, 1_000_000_000_000),
         )],
@@ -52,7 +52,7 @@ const WIDE_BALANCES: &[Day] = &[
         name: "below zero",
         limit: MOST_ORDERS,
         accounts: OF_MINUS_50,
-        steps: &[("an inquiry", inquiry!(1), shows!(1, -50), (1, -50, -50))],
+        steps: &[("an inquiry", Inquiry(1), shows!(1, -50), (1, -50, -50))],
     },
     Day {
         name: "the least that is shown",
@@ -60,7 +60,7 @@ const WIDE_BALANCES: &[Day] = &[
         accounts: OF_MINUS_999999999999,
         steps: &[(
             "an inquiry",
-            inquiry!(1),
+            Inquiry(1),
             shows!(1, -999_999_999_999),
             (1, -999_999_999_999, -999_999_999_999),
         )],
@@ -71,7 +71,7 @@ const WIDE_BALANCES: &[Day] = &[
         accounts: OF_MINUS_1000000000000,
         steps: &[(
             "an inquiry",
-            inquiry!(1),
+            Inquiry(1),
             declined!(96, 1),
             (1, -1_000_000_000_000, -1_000_000_000_000),
         )],
@@ -83,13 +83,13 @@ const WIDE_BALANCES: &[Day] = &[
         steps: &[
             (
                 "an advice on the most",
-                debit!(220, 1, AMOUNT),
+                Debit(220, 1, AMOUNT),
                 granted!(1),
                 (1, 8_999_000_000_000_001, 8_999_000_000_000_001),
             ),
             (
                 "a refund up to the most",
-                credit!(2, AMOUNT),
+                Credit(2, AMOUNT),
                 granted!(2),
                 (2, MOST, MOST),
             ),
@@ -102,13 +102,13 @@ const WIDE_BALANCES: &[Day] = &[
         steps: &[
             (
                 "an advice on the least",
-                debit!(220, 1, AMOUNT),
+                Debit(220, 1, AMOUNT),
                 granted!(1),
                 (1, -9_000_999_999_999_999, -9_000_999_999_999_999),
             ),
             (
                 "a refund up to the least",
-                credit!(2, AMOUNT),
+                Credit(2, AMOUNT),
                 granted!(2),
                 (2, -MOST, -MOST),
             ),

@@ -1,42 +1,44 @@
 //! Days of one account, order by order.
 use super::*;
 
-const PURCHASE: Plain = debit!(200, 7, 1000);
+const PURCHASE: Asked = Debit(200, 7, 1000);
 
 /// Another amount under the purchase's key.
-const CHANGED: Plain = debit!(200, 7, 2000);
+const CHANGED: Asked = Debit(200, 7, 2000);
 
-const INQUIRY: Plain = inquiry!(9);
+const INQUIRY: Asked = Inquiry(9);
 
 /// The reversal of the purchase.
-const REVERSAL: Plain = undo!(8, 200, 7, 0);
+const REVERSAL: Asked = Undo(8, 200, 7, 0);
 
-const HOLD: Plain = debit!(100, 1, 70);
+const HOLD: Asked = Debit(100, 1, 70);
 
 /// More than is available beside the hold.
-const ABOVE: Plain = debit!(200, 2, 40);
+const ABOVE: Asked = Debit(200, 2, 40);
 
 /// A purchase that is reversed before it comes.
-const UNDONE: Plain = debit!(200, 12, 1000);
+const UNDONE: Asked = Debit(200, 12, 1000);
 
 /// A purchase of more than is available beside the hold of that day.
-const DEAR: Plain = debit!(200, 21, 4500);
+const DEAR: Asked = Debit(200, 21, 4500);
 
 /// A debit in another currency.
-const IN_DOLLARS: Plain = Plain {
-    key: key!(200, 7),
+const IN_DOLLARS: Asked = Other(Plain {
     amount: 1,
     currency: *b"USD",
     ..USUAL
-};
+});
 
 /// A debit of no account.
-const OF_NONE: Plain = Plain {
-    key: key!(200, 8),
+const OF_NONE: Asked = Other(Plain {
+    key: TxKey {
+        stan: 8,
+        ..USUAL_KEY
+    },
     amount: 1,
     digits: b"4000000000000002",
     ..USUAL
-};
+});
 
 /// The key of the first debit at another time.
 const LATER_KEY: TxKey = TxKey {
@@ -45,7 +47,17 @@ const LATER_KEY: TxKey = TxKey {
     ..USUAL_KEY
 };
 
-const UNDO_LATER: Plain = plain!(Does::Undo, key!(420, 2), 0, LATER_KEY);
+const UNDO_LATER: Asked = Other(Plain {
+    key: TxKey {
+        base: 420,
+        stan: 2,
+        ..USUAL_KEY
+    },
+    does: Does::Undo,
+    amount: 0,
+    of: LATER_KEY,
+    ..USUAL
+});
 
 /// Repeats, codes, reversals, and a day that has them all.
 const DAYS: &[Day] = &[
@@ -60,7 +72,7 @@ const DAYS: &[Day] = &[
             ("an inquiry", INQUIRY, shows!(2, 4000), (2, 4000, 4000)),
             (
                 "another purchase",
-                debit!(200, 10, 500),
+                Debit(200, 10, 500),
                 granted!(3),
                 (3, 3500, 3500),
             ),
@@ -80,24 +92,19 @@ const DAYS: &[Day] = &[
             ("a hold", HOLD, granted!(1), (1, 100, 30)),
             (
                 "over the available",
-                debit!(200, 2, 31),
+                Debit(200, 2, 31),
                 declined!(51, 2),
                 (2, 100, 30),
             ),
             (
                 "all that is available",
-                debit!(200, 3, 30),
+                Debit(200, 3, 30),
                 granted!(3),
                 (3, 70, 0),
             ),
-            (
-                "an advice",
-                debit!(220, 4, 150),
-                granted!(4),
-                (4, -80, -150),
-            ),
-            ("below zero", inquiry!(5), shows!(5, -150), (5, -80, -150)),
-            ("a refund", credit!(6, 200), granted!(6), (6, 120, 50)),
+            ("an advice", Debit(220, 4, 150), granted!(4), (4, -80, -150)),
+            ("below zero", Inquiry(5), shows!(5, -150), (5, -80, -150)),
+            ("a refund", Credit(6, 200), granted!(6), (6, 120, 50)),
             (
                 "another currency",
                 IN_DOLLARS,
@@ -115,13 +122,8 @@ const DAYS: &[Day] = &[
         steps: &[
             ("a hold", HOLD, granted!(1), (1, 100, 30)),
             ("over the available", ABOVE, declined!(51, 2), (2, 100, 30)),
-            (
-                "an advice",
-                debit!(220, 3, 150),
-                granted!(3),
-                (3, -50, -120),
-            ),
-            ("an inquiry", inquiry!(4), shows!(4, -120), (4, -50, -120)),
+            ("an advice", Debit(220, 3, 150), granted!(3), (3, -50, -120)),
+            ("an inquiry", Inquiry(4), shows!(4, -120), (4, -50, -120)),
         ],
     },
     Day {
@@ -134,7 +136,7 @@ const DAYS: &[Day] = &[
             ("the purchase again", PURCHASE, granted!(1), (2, 5000, 5000)),
             (
                 "a second reversal",
-                undo!(9, 200, 7, 0),
+                Undo(9, 200, 7, 0),
                 granted!(3),
                 (3, 5000, 5000),
             ),
@@ -150,11 +152,11 @@ const DAYS: &[Day] = &[
             ("over the available", ABOVE, declined!(51, 2), (2, 100, 30)),
             (
                 "the hold is reversed",
-                undo!(3, 100, 1, 0),
+                Undo(3, 100, 1, 0),
                 granted!(3),
                 (3, 100, 100),
             ),
-            ("an advice", debit!(220, 4, 150), granted!(4), (4, -50, -50)),
+            ("an advice", Debit(220, 4, 150), granted!(4), (4, -50, -50)),
         ],
     },
     Day {
@@ -183,35 +185,35 @@ const DAYS: &[Day] = &[
         limit: MOST_ORDERS,
         accounts: OF_100,
         steps: &[
-            ("a purchase", debit!(200, 1, 80), granted!(1), (1, 20, 20)),
+            ("a purchase", Debit(200, 1, 80), granted!(1), (1, 20, 20)),
             (
                 "a declined one",
-                debit!(200, 2, 50),
+                Debit(200, 2, 50),
                 declined!(51, 2),
                 (2, 20, 20),
             ),
             (
                 "the first reversed",
-                undo!(3, 200, 1, 0),
+                Undo(3, 200, 1, 0),
                 granted!(3),
                 (3, 100, 100),
             ),
             (
                 "the declined one again",
-                debit!(200, 2, 50),
+                Debit(200, 2, 50),
                 declined!(51, 2),
                 (3, 100, 100),
             ),
             (
                 "the declined reversed",
-                undo!(4, 200, 2, 0),
+                Undo(4, 200, 2, 0),
                 granted!(4),
                 (4, 100, 100),
             ),
-            ("an inquiry", inquiry!(5), shows!(5, 100), (5, 100, 100)),
+            ("an inquiry", Inquiry(5), shows!(5, 100), (5, 100, 100)),
             (
                 "the inquiry reversed",
-                undo!(6, 200, 5, 0),
+                Undo(6, 200, 5, 0),
                 granted!(6),
                 (6, 100, 100),
             ),
@@ -222,21 +224,16 @@ const DAYS: &[Day] = &[
         limit: MOST_ORDERS,
         accounts: OF_100,
         steps: &[
-            ("a purchase", debit!(200, 1, 80), granted!(1), (1, 20, 20)),
+            ("a purchase", Debit(200, 1, 80), granted!(1), (1, 20, 20)),
             ("another time", UNDO_LATER, granted!(2), (2, 20, 20)),
-            (
-                "another type",
-                undo!(3, 220, 1, 0),
-                granted!(3),
-                (3, 20, 20),
-            ),
+            ("another type", Undo(3, 220, 1, 0), granted!(3), (3, 20, 20)),
             (
                 "another trace number",
-                undo!(4, 200, 9, 0),
+                Undo(4, 200, 9, 0),
                 granted!(4),
                 (4, 20, 20),
             ),
-            ("its key", undo!(5, 200, 1, 0), granted!(5), (5, 100, 100)),
+            ("its key", Undo(5, 200, 1, 0), granted!(5), (5, 100, 100)),
         ],
     },
     Day {
@@ -258,12 +255,12 @@ const DAYS: &[Day] = &[
             ),
             (
                 "an early reversal",
-                undo!(13, 200, 12, 0),
+                Undo(13, 200, 12, 0),
                 granted!(4),
                 (4, 5000, 5000),
             ),
             ("its payment", UNDONE, declined!(21, 5), (5, 5000, 5000)),
-            ("a hold", debit!(100, 20, 700), granted!(6), (6, 5000, 4300)),
+            ("a hold", Debit(100, 20, 700), granted!(6), (6, 5000, 4300)),
             (
                 "over the available",
                 DEAR,
@@ -272,7 +269,7 @@ const DAYS: &[Day] = &[
             ),
             (
                 "the hold is reversed",
-                undo!(22, 100, 20, 0),
+                Undo(22, 100, 20, 0),
                 granted!(8),
                 (8, 5000, 5000),
             ),

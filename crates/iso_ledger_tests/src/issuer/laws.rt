@@ -10,19 +10,19 @@ const DAYS: &[Day] = &[
         steps: &[
             (
                 "a payment",
-                debit!(200, 1, 700),
+                Debit(200, 1, 700),
                 granted!(1),
                 (1, 4300, 4300),
             ),
             (
                 "over the available",
-                debit!(200, 2, 9000),
+                Debit(200, 2, 9000),
                 declined!(51, 2),
                 (2, 4300, 4300),
             ),
             (
                 "all that is available",
-                debit!(200, 3, 4300),
+                Debit(200, 3, 4300),
                 granted!(3),
                 (3, 0, 0),
             ),
@@ -35,31 +35,31 @@ const DAYS: &[Day] = &[
         steps: &[
             (
                 "a payment",
-                debit!(200, 1, 700),
+                Debit(200, 1, 700),
                 granted!(1),
                 (1, 4300, 4300),
             ),
             (
                 "another key reversed",
-                undo!(2, 200, 9, 0),
+                Undo(2, 200, 9, 0),
                 granted!(2),
                 (2, 4300, 4300),
             ),
             (
                 "a reversal that leaves 400",
-                undo!(3, 200, 1, 400),
+                Undo(3, 200, 1, 400),
                 granted!(3),
                 (3, 4600, 4600),
             ),
             (
                 "a second reversal",
-                undo!(4, 200, 1, 0),
+                Undo(4, 200, 1, 0),
                 granted!(4),
                 (4, 4600, 4600),
             ),
             (
                 "a third reversal",
-                undo!(5, 200, 1, 700),
+                Undo(5, 200, 1, 700),
                 granted!(5),
                 (5, 4600, 4600),
             ),
@@ -72,31 +72,31 @@ const DAYS: &[Day] = &[
         steps: &[
             (
                 "over the available",
-                debit!(200, 1, 9000),
+                Debit(200, 1, 9000),
                 declined!(51, 1),
                 (1, 5000, 5000),
             ),
             (
                 "a credit",
-                credit!(2, 8000),
+                Credit(2, 8000),
                 granted!(2),
                 (2, 13_000, 13_000),
             ),
             (
                 "the payment again",
-                debit!(200, 1, 9000),
+                Debit(200, 1, 9000),
                 declined!(51, 1),
                 (2, 13_000, 13_000),
             ),
             (
                 "its reversal",
-                undo!(3, 200, 1, 9000),
+                Undo(3, 200, 1, 9000),
                 granted!(3),
                 (3, 13_000, 13_000),
             ),
             (
                 "the payment once more",
-                debit!(200, 1, 9000),
+                Debit(200, 1, 9000),
                 declined!(51, 1),
                 (3, 13_000, 13_000),
             ),
@@ -109,25 +109,25 @@ const DAYS: &[Day] = &[
         steps: &[
             (
                 "a payment",
-                debit!(200, 1, 700),
+                Debit(200, 1, 700),
                 granted!(1),
                 (1, 4300, 4300),
             ),
             (
                 "its reversal",
-                undo!(2, 200, 1, 0),
+                Undo(2, 200, 1, 0),
                 granted!(2),
                 (2, 5000, 5000),
             ),
             (
                 "the payment again",
-                debit!(200, 1, 700),
+                Debit(200, 1, 700),
                 granted!(1),
                 (2, 5000, 5000),
             ),
             (
                 "a second reversal",
-                undo!(3, 200, 1, 700),
+                Undo(3, 200, 1, 700),
                 granted!(3),
                 (3, 5000, 5000),
             ),
@@ -140,29 +140,29 @@ const DAYS: &[Day] = &[
         steps: &[
             (
                 "the reversal",
-                undo!(1, 200, 2, 0),
+                Undo(1, 200, 2, 0),
                 granted!(1),
                 (1, 5000, 5000),
             ),
             (
                 "its payment",
-                debit!(200, 2, 700),
+                Debit(200, 2, 700),
                 declined!(21, 2),
                 (2, 5000, 5000),
             ),
             (
                 "a second reversal",
-                undo!(3, 200, 2, 700),
+                Undo(3, 200, 2, 700),
                 granted!(3),
                 (3, 5000, 5000),
             ),
             (
                 "the payment again",
-                debit!(200, 2, 700),
+                Debit(200, 2, 700),
                 declined!(21, 2),
                 (3, 5000, 5000),
             ),
-            ("a credit", credit!(4, 300), granted!(4), (4, 5300, 5300)),
+            ("a credit", Credit(4, 300), granted!(4), (4, 5300, 5300)),
         ],
     },
     Day {
@@ -170,16 +170,16 @@ const DAYS: &[Day] = &[
         limit: MOST_ORDERS,
         accounts: OF_5000,
         steps: &[
-            ("a hold", debit!(100, 1, 1000), granted!(1), (1, 5000, 4000)),
+            ("a hold", Debit(100, 1, 1000), granted!(1), (1, 5000, 4000)),
             (
                 "its completion",
-                complete!(2, 1, 800),
+                Complete(2, 1, 800),
                 granted!(2),
                 (2, 4200, 4200),
             ),
             (
                 "the completion is reversed",
-                undo!(3, 220, 2, 0),
+                Undo(3, 220, 2, 0),
                 granted!(3),
                 (3, 5000, 4000),
             ),
@@ -192,29 +192,29 @@ const DAYS: &[Day] = &[
         steps: &[
             (
                 "a payment",
-                debit!(200, 1, 700),
+                Debit(200, 1, 700),
                 granted!(1),
                 (1, 4300, 4300),
             ),
             (
                 "another payment",
-                debit!(200, 2, 100),
+                Debit(200, 2, 100),
                 granted!(2),
                 (2, 4200, 4200),
             ),
             (
                 "the first again",
-                debit!(200, 1, 700),
+                Debit(200, 1, 700),
                 granted!(1),
                 (2, 4200, 4200),
             ),
             (
                 "another amount",
-                debit!(200, 1, 900),
+                Debit(200, 1, 900),
                 declined!(94, 0),
                 (2, 4200, 4200),
             ),
-            ("a credit", credit!(3, 50), granted!(3), (3, 4250, 4250)),
+            ("a credit", Credit(3, 50), granted!(3), (3, 4250, 4250)),
         ],
     },
     Day {
@@ -224,25 +224,25 @@ const DAYS: &[Day] = &[
         steps: &[
             (
                 "a payment",
-                debit!(200, 1, 700),
+                Debit(200, 1, 700),
                 granted!(1),
                 (1, 4300, 4300),
             ),
             (
                 "another amount",
-                debit!(200, 1, 900),
+                Debit(200, 1, 900),
                 declined!(94, 0),
                 (1, 4300, 4300),
             ),
             (
                 "its reversal",
-                undo!(2, 200, 1, 0),
+                Undo(2, 200, 1, 0),
                 granted!(2),
                 (2, 5000, 5000),
             ),
             (
                 "the payment again",
-                debit!(200, 1, 700),
+                Debit(200, 1, 700),
                 granted!(1),
                 (2, 5000, 5000),
             ),

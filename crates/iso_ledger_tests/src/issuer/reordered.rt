@@ -1,27 +1,27 @@
 //! The same orders in four orders.
 use super::*;
 
-const PAYMENT: Plain = debit!(200, 1, 700);
+const PAYMENT: Asked = Debit(200, 1, 700);
 
 /// The reversal of a part of the payment.
-const PAYMENT_REVERSED: Plain = undo!(2, 200, 1, 200);
+const PAYMENT_REVERSED: Asked = Undo(2, 200, 1, 200);
 
-const OTHER_PAYMENT: Plain = debit!(200, 3, 500);
+const OTHER_PAYMENT: Asked = Debit(200, 3, 500);
 
 /// The reversal of the whole of the other payment.
-const OTHER_REVERSED: Plain = undo!(4, 200, 3, 0);
+const OTHER_REVERSED: Asked = Undo(4, 200, 3, 0);
 
-const HOLD: Plain = debit!(100, 5, 1000);
+const HOLD: Asked = Debit(100, 5, 1000);
 
-const COMPLETION: Plain = complete!(6, 5, 800);
+const COMPLETION: Asked = Complete(6, 5, 800);
 
 /// The reversal of a part of the completion.
-const COMPLETION_REVERSED: Plain = undo!(7, 220, 6, 100);
+const COMPLETION_REVERSED: Asked = Undo(7, 220, 6, 100);
 
 /// A hold that nothing completes.
-const HOLD_ALONE: Plain = debit!(100, 8, 40);
+const HOLD_ALONE: Asked = Debit(100, 8, 40);
 
-const CREDIT: Plain = credit!(9, 350);
+const CREDIT: Asked = Credit(9, 350);
 
 /// The same orders in four orders. Each leaves the same on the account: 5000 less 200 and 100, with 350 more, of which 40
 /// are held. None is declined for want of money.

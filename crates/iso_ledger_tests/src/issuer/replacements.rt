@@ -9,19 +9,19 @@ const DAYS: &[Day] = &[
         steps: &[
             (
                 "a payment",
-                debit!(200, 7, 1000),
+                Debit(200, 7, 1000),
                 granted!(1),
                 (1, 4000, 4000),
             ),
             (
                 "its partial reversal",
-                undo!(8, 200, 7, 400),
+                Undo(8, 200, 7, 400),
                 granted!(2),
                 (2, 4600, 4600),
             ),
             (
                 "a later one",
-                undo!(9, 200, 7, 0),
+                Undo(9, 200, 7, 0),
                 granted!(3),
                 (3, 4600, 4600),
             ),
@@ -34,13 +34,13 @@ const DAYS: &[Day] = &[
         steps: &[
             (
                 "a reversal on 5000",
-                undo!(8, 200, 7, 400),
+                Undo(8, 200, 7, 400),
                 granted!(1),
                 (1, 5000, 5000),
             ),
             (
                 "its payment out of 5000",
-                debit!(200, 7, 1000),
+                Debit(200, 7, 1000),
                 granted!(2),
                 (2, 4600, 4600),
             ),
@@ -53,13 +53,13 @@ const DAYS: &[Day] = &[
         steps: &[
             (
                 "a reversal on 500",
-                undo!(8, 200, 7, 400),
+                Undo(8, 200, 7, 400),
                 granted!(1),
                 (1, 500, 500),
             ),
             (
                 "its payment out of 500",
-                debit!(200, 7, 1000),
+                Debit(200, 7, 1000),
                 granted!(2),
                 (2, 100, 100),
             ),
@@ -72,13 +72,13 @@ const DAYS: &[Day] = &[
         steps: &[
             (
                 "a reversal on 300",
-                undo!(8, 200, 7, 400),
+                Undo(8, 200, 7, 400),
                 granted!(1),
                 (1, 300, 300),
             ),
             (
                 "its payment out of 300",
-                debit!(200, 7, 1000),
+                Debit(200, 7, 1000),
                 declined!(51, 2),
                 (2, 300, 300),
             ),

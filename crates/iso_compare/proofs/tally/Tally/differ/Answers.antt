@@ -1,0 +1,6 @@
+-- A wrong edit turns this function. It is refused sooner where its goals have answers, as these.
+use Rattle.std.proofs.Common.{rules}
+use Rattle.iso_compare.proofs.tally.Tally.differ.Goals as goal
+
+pub returns : goal.returns
+returns c = search rules

@@ -1,0 +1,6 @@
+-- A wrong edit turns this function. It is refused sooner where its goals have answers, as these.
+use Rattle.std.proofs.Common.{rules}
+use Rattle.iso_drive.proofs.counts.is_declined_with.Goals as goal
+
+pub returns-in-Payment-Declined : goal.returns-in-Payment-Declined
+returns-in-Payment-Declined c = search rules

@@ -1,0 +1,6 @@
+-- A wrong edit turns this function. It is refused sooner where its goals have answers, as these.
+use Rattle.std.proofs.Common.{rules}
+use Rattle.iso_drive.proofs.entry.reversed_by.Goals as goal
+
+pub returns-in-Reversal : goal.returns-in-Reversal
+returns-in-Reversal c = search rules

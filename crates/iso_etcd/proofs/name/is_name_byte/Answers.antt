@@ -1,0 +1,6 @@
+-- A wrong edit turns this function. It is refused sooner where its goals have answers, as these.
+use Rattle.std.proofs.Common.{rules}
+use Rattle.iso_etcd.proofs.name.is_name_byte.Goals as goal
+
+pub returns-else-byte-eq95 : goal.returns-else-byte-eq95
+returns-else-byte-eq95 c = search rules

@@ -1,0 +1,6 @@
+-- A wrong edit turns this function. It is refused sooner where its goals have answers, as these.
+use Rattle.std.proofs.Common.{rules}
+use Rattle.iso_front.proofs.route.asked_in.Goals as goal
+
+pub returns-then-used-body : goal.returns-then-used-body
+returns-then-used-body c = search rules

@@ -1,0 +1,6 @@
+-- A wrong edit turns this function. It is refused sooner where its goals have answers, as these.
+use Rattle.std.proofs.Common.{rules}
+use Rattle.iso_mix.proofs.sides.Sides.take.Goals as goal
+
+pub returns-then-is_free_at-clause-waiting : goal.returns-then-is_free_at-clause-waiting
+returns-then-is_free_at-clause-waiting c = search rules

@@ -1,0 +1,6 @@
+-- A wrong edit turns this function. It is refused sooner where its goals have answers, as these.
+use Rattle.std.proofs.Common.{rules}
+use Rattle.iso_plan.proofs.stage.next_stage.Goals as goal
+
+pub returns-then-stands-3 : goal.returns-then-stands-3
+returns-then-stands-3 c = search rules

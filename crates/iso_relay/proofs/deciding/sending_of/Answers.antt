@@ -1,0 +1,9 @@
+-- A wrong edit turns this function. It is refused sooner where its goals have answers, as these.
+use Rattle.std.proofs.Common.{rules}
+use Rattle.iso_relay.proofs.deciding.sending_of.Goals as goal
+
+pub returns-in-All : goal.returns-in-All
+returns-in-All c = search rules
+
+pub returns-in-Nobody : goal.returns-in-Nobody
+returns-in-Nobody c = search rules

@@ -1,0 +1,9 @@
+-- A wrong edit turns this function. It is refused sooner where its goals have answers, as these.
+use Rattle.std.proofs.Common.{rules}
+use Rattle.iso_script_peers.proofs.going.going_by.Goals as goal
+
+pub returns-in-Cut : goal.returns-in-Cut
+returns-in-Cut c = search rules
+
+pub returns-in-Delay : goal.returns-in-Delay
+returns-in-Delay c = search rules

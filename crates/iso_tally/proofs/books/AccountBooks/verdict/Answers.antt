@@ -1,0 +1,6 @@
+-- A wrong edit turns this function. It is refused sooner where its goals have answers, as these.
+use Rattle.std.proofs.Common.{rules}
+use Rattle.iso_tally.proofs.books.AccountBooks.verdict.Goals as goal
+
+pub returns-in-None-clause-agree : goal.returns-in-None-clause-agree
+returns-in-None-clause-agree c = search rules

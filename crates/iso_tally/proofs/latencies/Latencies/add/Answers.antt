@@ -1,0 +1,6 @@
+-- A wrong edit turns this function. It is refused sooner where its goals have answers, as these.
+use Rattle.std.proofs.Common.{rules}
+use Rattle.iso_tally.proofs.latencies.Latencies.add.Goals as goal
+
+pub returns-clause-added : goal.returns-clause-added
+returns-clause-added c = search rules

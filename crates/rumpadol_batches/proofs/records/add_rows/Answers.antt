@@ -1,0 +1,6 @@
+-- A wrong edit turns this function. It is refused sooner where its goals have answers, as these.
+use Rattle.std.proofs.Common.{rules}
+use Rattle.rumpadol_batches.proofs.records.add_rows.Goals as goal
+
+pub returns-then-ne-clause-counted : goal.returns-then-ne-clause-counted
+returns-then-ne-clause-counted c = search rules

@@ -1,0 +1,6 @@
+-- A wrong edit turns this function. It is refused sooner where its goals have answers, as these.
+use Rattle.std.proofs.Common.{rules}
+use Rattle.rumpadol_buying.proofs.diary.DiaryFault.is_refusal.Goals as goal
+
+pub returns-in_default : goal.returns-in_default
+returns-in_default c = search rules

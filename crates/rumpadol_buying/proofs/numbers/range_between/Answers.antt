@@ -1,0 +1,6 @@
+-- A wrong edit turns this function. It is refused sooner where its goals have answers, as these.
+use Rattle.std.proofs.Common.{rules}
+use Rattle.rumpadol_buying.proofs.numbers.range_between.Goals as goal
+
+pub returns-then-least-most : goal.returns-then-least-most
+returns-then-least-most c = search rules
