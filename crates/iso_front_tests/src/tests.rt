@@ -1,4 +1,10 @@
+mod frames;
+
 use crate::{Dials, Line};
+use frames::{
+    DOCUMENT, ECHO, ECHOED, GARBAGE, NAMELESS, NO_FRAME, NO_REQUEST, NORTH, NORTH_GRANTED, NOWHERE,
+    OTHERS, REFUSED, REVERSAL, REVERSED, SOUTH, SOUTH_GRANTED,
+};
 use iso_front::Shards;
 use iso_front_loop::{Acquirers, Front, token_of};
 use iso_relay::Bounds;
@@ -6,57 +12,6 @@ use iso_table::Table;
 use iso_wire::Header;
 use std::alloc::{AllocError, Global};
 use std::io;
-
-const DOCUMENT: &[u8] = br#"{"shards":[
-    {"name":"north","address":"127.0.0.1:1","accounts":[{"from":"4","to":"4"}]},
-    {"name":"south","address":"127.0.0.1:2","accounts":[{"from":"51","to":"55"}]}]}"#;
-
-/// A purchase of an account of the first shard, and of the second, and what grants them.
-const NORTH: &[u8] =
-    b"00820200722000010000800016411111111111111100000000000000100001020304050000070512345840";
-
-const NORTH_GRANTED: &[u8] =
-    b"0090021072200001060080001641111111111111110000000000000010000102030405000007051234500000100840";
-
-const SOUTH: &[u8] =
-    b"00820200722000010000800016555555555555444400000000000000100001020304050000080512345840";
-
-const SOUTH_GRANTED: &[u8] =
-    b"0090021072200001060080001655555555555544440000000000000010000102030405000008051234500000100840";
-
-/// A purchase of an account of no shard.
-const NOWHERE: &[u8] =
-    b"00820200722000010000800016666666666666666600000000000000100001020304050000090512345840";
-
-/// A reversal, what grants it, and what says that its key was another order's.
-const REVERSAL: &[u8] =
-    b"0101042082200001000000000000004000000000010203050000001305123450200000012010203040500000012345\
-00000000000";
-
-const REVERSED: &[u8] =
-    b"0103043082200001020000000000004000000000010203050000001305123450002000000120102030405000000123\
-4500000000000";
-
-const OTHERS: &[u8] =
-    b"0103043082200001020000000000004000000000010203050000001305123459402000000120102030405000000123\
-4500000000000";
-
-/// A reversal that names no payment, and what refuses it.
-const NAMELESS: &[u8] = b"00430420022000010000000001020305000000140512345";
-
-const REFUSED: &[u8] = b"0045043002200001020000000102030500000014051234530";
-
-const ECHO: &[u8] = b"00550800822000000000000004000000000000000102030405000001301";
-
-const ECHOED: &[u8] = b"0057081082200000020000000400000000000000010203040500000100301";
-
-/// An answer of an echo test: it wants none.
-const NO_REQUEST: &[u8] = b"0057081082200000020000000400000000000000010203040500000100301";
-
-/// A frame of three bytes that are no message, and a header of no digits.
-const GARBAGE: &[u8] = b"0003abc";
-
-const NO_FRAME: &[u8] = b"00x3abc";
 
 /// What happens, and what is to be so.
 #[derive(Clone, Copy)]
