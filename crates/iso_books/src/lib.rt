@@ -3,7 +3,7 @@
 //! - `survey`: how many orders a journal has, and whether it is whole, torn behind them, or damaged.
 //! - `replay`: the same where each answer is decided again, and the issuer that a start would give.
 //! - `laws`: a record that `survey` calls damaged is one that no host wrote, whatever its accounts.
-//! - `tell`: the entries, as lines, as JSON or as CSV. `append_balances`: what is on each account.
+//! - `tell`: the entries, as lines, as JSON or as CSV; `append_entry`: one of them. `append_balances`: what is on each account.
 #![tactic(auto)]
 
 mod balances;
@@ -29,4 +29,4 @@ pub use form::Form;
 pub use heading::Wanted;
 pub use replaying::{Replayed, replay};
 pub use surveying::{Condition, survey};
-pub use telling::tell;
+pub use telling::{append_entry, tell};

@@ -31,8 +31,14 @@ fn head_of(form: Form) -> &'static str {
     }
 }
 
-/// Appends what is told of an entry.
-fn push_entry(form: Form, is_clear: bool, row: &Row, out: &mut Vec<u8>) -> Result<(), AllocError> {
+/// Appends what is told of an entry, and an end of line. The account number is in full where `is_clear`, else of 13 or more digits
+/// the first six and the last four.
+pub fn append_entry(
+    row: &Row,
+    form: Form,
+    is_clear: bool,
+    out: &mut Vec<u8>,
+) -> Result<(), AllocError> {
     match form {
         Form::Columns => push_entry_line(is_clear, row, out),
         Form::Json => push_entry_object(is_clear, row, out),
@@ -69,7 +75,7 @@ fn tell_from<R: Read + Drop, O: Write>(
 {
     for count in 0..MOST_RECORDS {
         match step(window, count + 1)? {
-            Front::Entry(row) => push_entry(form, is_clear, &row, text)?,
+            Front::Entry(row) => append_entry(&row, form, is_clear, text)?,
             Front::Damaged => return Ok(Condition::Damaged(count + 1)),
             Front::Clear => return Ok(Condition::Whole(count)),
             Front::Torn => return Ok(Condition::Torn(count)),

@@ -1,25 +1,18 @@
 //! Plays a schedule between an acquirer and an issuer: what is sent, what gets lost, what comes twice or late.
 //!
-//! Each line of the input is an event, and what both ends hold after it is printed beside it. Places count from 0.
-//!
-//! - `begin AMOUNT`: the acquirer begins a purchase of that amount, and sends its request
-//! - `timeout TRACE`: no answer came in time to the purchase of that trace number
-//! - `deliver PLACE`: the issuer gets the order that was sent at that place, and answers it
-//! - `answer PLACE`: the acquirer gets the answer that was given at that place
-//!
-//! An empty line, and one that begins with `#`, is printed as it is.
+//! Each line of the input is an event, as `iso_events` reads them, and what both ends hold after it is printed beside it. An empty
+//! line, and one that begins with `#`, is printed as it is.
 #![tactic(auto)]
 
 ghost use Rattle.iso_acquirer.specs.World.{IsFairEvent};
 
-mod line;
 mod told;
 
 use anyhow::{Context, Result};
 use iso_acquirer::{Acquirer, Event, World};
+use iso_events::{ScheduleLine, schedule_line};
 use iso_issuer::{Accounts, Issuer, MOST_ENTRIES};
 use iso_order::Pan;
-use line::{ScheduleLine, schedule_line};
 use std::alloc::Global;
 use std::io;
 use told::{tell, tell_refused};

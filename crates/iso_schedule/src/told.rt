@@ -1,23 +1,13 @@
 //! What both ends hold, as text.
 
-use iso_acquirer::{AcqFault, Event, State, StepFault, World};
-use iso_issuer::Refused;
+use iso_acquirer::{Event, State, StepFault, World};
+use iso_events::refusal_words;
 use iso_order::{MOST_STAN, Pan};
 use std::io;
 
 /// Prints why an event was refused.
 pub fn tell_refused(rt: &HostRuntime, text: &str, fault: &StepFault) -> io::Result<()> {
-    let why = match *fault {
-        StepFault::NoSuch => "nothing was sent or given there",
-        StepFault::OwnKey => "the order has this acquirer's number",
-        StepFault::Acquirer(AcqFault::NoMoreTrace) => "all trace numbers are used",
-        StepFault::Acquirer(AcqFault::NoSuch) => "no such purchase",
-        StepFault::Acquirer(AcqFault::Closed) => "the purchase is closed",
-        StepFault::Issuer(Refused::Full) => "the issuer's journal is full",
-        StepFault::Acquirer(AcqFault::Memory)
-        | StepFault::Issuer(Refused::Memory)
-        | StepFault::Memory => "no memory",
-    };
+    let why = refusal_words(*fault);
     println!(rt; "{text:<12}  refused: {why}")
 }
 

@@ -13,3 +13,5 @@ Performs (all.Host words) file input old new status = status ≡ 0
 Performs (all.Front job) file input old new status = status ≡ 0
 Performs (all.Drive words) file input old new status = ⊤
 Performs (all.Books job) file input old new status = ⊤
+Performs (all.Page words) file input old new status = ⊤
+Performs (all.Import words) file input old new status = ⊤

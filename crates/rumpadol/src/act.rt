@@ -11,8 +11,10 @@ use rumpadol_copies::perform_journal;
 use rumpadol_drive::{Diaries, perform_drive};
 use rumpadol_front::perform_before_shards;
 use rumpadol_host::perform_host;
+use rumpadol_import::perform_import;
 use rumpadol_jobs::{Job, job_of};
 use rumpadol_messages::perform_messages;
+use rumpadol_page::perform_page;
 use rumpadol_ports::System;
 use rumpadol_tables::{Source, Stop, perform_table, tell, write_output};
 use rumpadol_terminals::Terminals;
@@ -87,6 +89,8 @@ fn perform<S: Source + Journals + Diaries + System, I: Read, O: Write, F: Write>
             output,
             faults,
         ),
+        Job::Import(words) => perform_import(alloc, *words, source, input, output, faults),
+        Job::Page(words) => perform_page(alloc, source.runtime(), *words, faults),
     }
 }
 

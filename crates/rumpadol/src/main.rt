@@ -4,10 +4,11 @@
 //! - `decode TABLE [INPUT]`: messages element by element, as lines or as JSON
 //! - `encode TABLE [INPUT]`: messages from such lines or such JSON
 //! - `convert FROM TO [INPUT]`: messages under another table
-//! - `table check`, `show`, `list`, `new` and `diff`: tables
+//! - `table check`, `show`, `list`, `new`, `diff` and `import`: tables
 //! - `host`: answers frames as an issuer, of a stream or of many peers on ports, and keeps each order before it is answered
 //! - `front`: stands before hosts that each have some of the account numbers
 //! - `drive`: drives a host as an acquirer, through what networks do
+//! - `page`: serves a page on this machine, on which messages are looked at, built and played with
 //! - `journal show`, `check`, `export` and `balance`: a journal in a file or on etcd; `journal copy`: from one to the other
 #![tactic(auto)]
 

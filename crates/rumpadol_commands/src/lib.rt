@@ -10,6 +10,7 @@ mod drive;
 mod front;
 mod host;
 mod messages;
+mod page;
 mod program;
 mod tables;
 mod words;

@@ -5,6 +5,7 @@ use crate::drive::drive_command;
 use crate::front::front_command;
 use crate::host::host_command;
 use crate::messages::with_messages;
+use crate::page::page_command;
 use crate::tables::table_command;
 use clap::Command;
 use std::alloc::{AllocError, Global};
@@ -27,11 +28,12 @@ fn with_hosts<'a>(alloc: Global, command: Command<'a>) -> Result<Command<'a>, Al
         .subcommand(front_command(alloc)?)
 }
 
-/// A command that also drives a host, and looks into journals.
+/// A command that also drives a host, looks into journals, and serves a page.
 fn with_books<'a>(alloc: Global, command: Command<'a>) -> Result<Command<'a>, AllocError> {
     command
         .subcommand(drive_command(alloc)?)?
-        .subcommand(journal_command(alloc)?)
+        .subcommand(journal_command(alloc)?)?
+        .subcommand(page_command(alloc)?)
 }
 
 /// The program's command line.

@@ -51,6 +51,28 @@ const COMPARED: &[Word] = &[
     },
 ];
 
+/// A table of another program.
+const IMPORTED: &[Word] = &[
+    Word {
+        id: "file",
+        takes: Takes::Place("FILE"),
+        help: "A packager of jPOS (XML) or a specification of moov-io/iso8583 (JSON), or - for standard input",
+        rules: &[Rule::Required],
+    },
+    Word {
+        id: "edition",
+        takes: Takes::OneOf("DIGIT", &["0", "1", "2", "9"]),
+        help: "The first digit of the message types: 0 is 1987, 1 is 1993, 2 is 2003, 9 is private",
+        rules: &[Rule::Default("0")],
+    },
+    Word {
+        id: "bytes",
+        takes: Takes::OneOf("HOW", &["hex", "raw"]),
+        help: "How the bytes of IFA_LLBINARY and IFA_LLLBINARY stand: as hexadecimal digits, or raw",
+        rules: &[],
+    },
+];
+
 /// `table`
 const TABLE: Subcommand = Subcommand {
     name: "table",
@@ -94,6 +116,17 @@ const OF_TABLE: &[Subcommand] = &[
   rumpadol table new --from bcd87 --drop 120 --set '48 class=ANS length=LLLL max=9999' > mine.json
       the built-in table in BCD without element 120, and with up to 9,999 characters in element 48",
         words: &[MAKING],
+    },
+    Subcommand {
+        name: "import",
+        about: "Writes the document of another program's table: a packager of jPOS, or a specification of moov-io/iso8583",
+        after_help: "A field becomes a row only where its bytes are those of the row. Each other one is named on the error stream with why,
+and the status is 1 then.
+
+Example:
+  rumpadol table import packager.xml > mine.json
+      the table of a packager of jPOS, to be looked at with rumpadol table show",
+        words: &[IMPORTED],
     },
     Subcommand {
         name: "diff",

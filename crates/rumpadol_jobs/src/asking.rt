@@ -6,6 +6,7 @@ use crate::host::host_words;
 use crate::job::Job;
 use crate::journal::journal_asked;
 use crate::messages::{convert_words, message_words};
+use crate::page::page_words;
 use crate::tables::tables_asked;
 use clap::ArgMatches;
 use rumpadol_messages::MessageJob;
@@ -25,6 +26,7 @@ pub fn job_of<'a>(alloc: Global, matches: &ArgMatches<'a>) -> Result<Option<Job<
         "host" => Ok(Some(Job::Host(host_words(inner)))),
         "front" => Ok(Some(Job::Front(front_words(inner)))),
         "drive" => Ok(Some(Job::Drive(drive_job(inner)))),
+        "page" => Ok(Some(Job::Page(page_words(inner)))),
         "journal" => Ok(match journal_asked(inner) {
             Some(job) => Some(Job::Books(job)),
             None => None,

@@ -2,8 +2,10 @@
 
 use rumpadol_drive_words::DriveJob;
 use rumpadol_front::FrontJob;
+use rumpadol_import::ImportWords;
 use rumpadol_journals::JournalJob;
 use rumpadol_messages::MessageJob;
+use rumpadol_page::PageWords;
 use rumpadol_ports::{HostWords, Place};
 use rumpadol_tables::{STANDARD_INPUT, TableJob};
 
@@ -22,6 +24,10 @@ pub enum Job<'a> {
     Drive(DriveJob<'a>),
     /// About journals.
     Books(JournalJob<'a>),
+    /// A page.
+    Page(PageWords),
+    /// A table of another program.
+    Import(ImportWords<'a>),
 }
 
 impl<'a> Job<'a> {
@@ -35,9 +41,10 @@ impl<'a> Job<'a> {
             Job::Tables(TableJob::Diff(first, second)) => {
                 *first == STANDARD_INPUT || *second == STANDARD_INPUT
             }
-            Job::Tables(TableJob::List) | Job::Books(_) | Job::Front(_) => false,
+            Job::Tables(TableJob::List) | Job::Books(_) | Job::Front(_) | Job::Page(_) => false,
             Job::Host(words) => matches!(words.place, Place::Streams(_)),
             Job::Drive(job) => job.table() == STANDARD_INPUT,
+            Job::Import(words) => words.path == STANDARD_INPUT,
         }
     }
 }

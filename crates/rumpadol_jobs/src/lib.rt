@@ -10,6 +10,7 @@ mod host;
 mod job;
 mod journal;
 mod messages;
+mod page;
 mod tables;
 mod values;
 

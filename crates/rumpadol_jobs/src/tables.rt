@@ -3,6 +3,8 @@
 use crate::job::Job;
 use crate::values::text_of;
 use clap::ArgMatches;
+use iso_import::Bytes;
+use rumpadol_import::ImportWords;
 use rumpadol_tables::{NewWords, TableJob};
 use std::alloc::{AllocError, Global};
 
@@ -49,6 +51,34 @@ fn table_job<'a>(
     })
 }
 
+/// How bytes behind lengths in ASCII stand in another program's table.
+fn bytes_of(matches: &ArgMatches<'_>) -> Bytes {
+    match matches.get_str("bytes") {
+        Some("hex") => Bytes::Hex,
+        Some("raw") => Bytes::Raw,
+        _ => Bytes::Unknown,
+    }
+}
+
+/// The first digit of the message types.
+fn edition_of(matches: &ArgMatches<'_>) -> u8 {
+    match text_of(matches, "edition") {
+        "1" => 1,
+        "2" => 2,
+        "9" => 9,
+        _ => 0,
+    }
+}
+
+/// What the words about another program's table ask.
+fn import_words<'a>(matches: &ArgMatches<'a>) -> ImportWords<'a> {
+    ImportWords {
+        path: text_of(matches, "file"),
+        version: edition_of(matches),
+        bytes: bytes_of(matches),
+    }
+}
+
 /// What `table` asks.
 pub fn tables_asked<'a>(
     alloc: Global,
@@ -57,6 +87,9 @@ pub fn tables_asked<'a>(
     let Some((name, inner)) = matches.subcommand() else {
         return Ok(None);
     };
+    if name == "import" {
+        return Ok(Some(Job::Import(import_words(inner))));
+    }
     match table_job(alloc, name, inner)? {
         Some(job) => Ok(Some(Job::Tables(job))),
         None => Ok(None),

@@ -1,7 +1,7 @@
 -- What a line of a schedule may be.
 use Rattle.iso_acquirer.specs.World.{IsFairEvent}
-use Rattle.iso_schedule.specs.declared.line.ScheduleLine.{ScheduleLine}
-use Rattle.iso_schedule.specs.declared.line.ScheduleLine.TheVariants.{Said, Event, Unknown}
+use Rattle.iso_events.specs.declared.line.ScheduleLine.{ScheduleLine}
+use Rattle.iso_events.specs.declared.line.ScheduleLine.TheVariants.{Said, Event, Unknown}
 
 -- an event of a line is one that can be played
 abbrev pub IsFairLine : ScheduleLine → Type 0

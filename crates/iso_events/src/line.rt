@@ -2,7 +2,7 @@
 
 ghost use Rattle.std.specs.Prelude.{IfSome};
 ghost use Rattle.iso_acquirer.specs.World.{IsFairEvent};
-ghost use Rattle.iso_schedule.specs.Line.{IsFairLine};
+ghost use Rattle.iso_events.specs.Line.{IsFairLine};
 
 use iso_acquirer::Event;
 use iso_order::{MOST_AMOUNT, Pan};

@@ -1,0 +1,30 @@
+//! The table of a text.
+
+use crate::fault::ImportFault;
+use crate::jpos::packager_in;
+use crate::kinds::Bytes;
+use crate::moov::specification_in;
+use crate::taken::Imported;
+use std::alloc::Global;
+use std::str;
+
+/// The table of a text of another program: of XML a packager of jPOS, of JSON a specification of moov-io/iso8583. Its message types
+/// begin with this digit. A field whose bytes no row has is named with why, and left out.
+pub fn import(
+    alloc: Global,
+    text: &[u8],
+    version: u8,
+    bytes: Bytes,
+) -> Result<Imported, ImportFault> {
+    let Ok(text) = str::from_utf8(text) else {
+        return Err(ImportFault::NotText);
+    };
+    let begun = text.trim_start();
+    if begun.starts_with("<") {
+        return packager_in(alloc, text, version, bytes);
+    }
+    if begun.starts_with("{") {
+        return specification_in(alloc, text, version);
+    }
+    Err(ImportFault::Neither)
+}
