@@ -4,13 +4,19 @@
 set -u
 cd "$(dirname "$0")/.." || exit 1
 
-# what the scripts and the examples call, beside what every Debian has, and what the pages name behind 'console' ('built' is no program)
-programs="make python3 xxd cc clang valgrind systemd-analyze etcd curl haproxy $(sed -n 's/^```console//p' README.md docs/*.md | sed 's/\<built\>//')"
+# what the scripts and the examples call, and the modules of the system's Python, beside what every Debian has, and what the pages name behind 'console' ('built' is no program)
+programs="make python3 xxd cc clang valgrind systemd-analyze etcd curl haproxy chromium chromedriver man lexgrog groff col pkg-config fish zsh lintian dpkg-shlibdeps ar
+mypy go gofmt javac java tshark text2pcap $(sed -n 's/^```console//p' README.md docs/*.md | sed 's/\<built\>//')"
 
 missing() {
-    for program in $programs; do
-        command -v "$program" > /dev/null || echo "$program"
-    done | sort -u
+    {
+        for program in $programs; do
+            command -v "$program" > /dev/null || echo "$program"
+        done
+        for module in pip setuptools wheel; do
+            /usr/bin/python3 -c "import $module" 2> /dev/null || echo "python3-$module"
+        done
+    } | sort -u
 }
 
 # PROGRAM: Debian's packages that have it
@@ -22,6 +28,13 @@ packages() {
         text2pcap) echo wireshark-common ;;
         systemd-analyze) echo systemd ;;
         etcd) echo etcd-server ;;
+        chromedriver) echo chromium-driver ;;
+        man | lexgrog) echo man-db ;;
+        col) echo bsdextrautils ;;
+        dpkg-shlibdeps) echo dpkg-dev ;;
+        ar) echo binutils ;;
+        go | gofmt) echo golang-go ;;
+        javac | java) echo openjdk-17-jdk-headless ;;
         *) echo "$1" ;;
     esac
 }

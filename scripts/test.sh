@@ -105,7 +105,7 @@ page_jobs > "$folder/jobs"
 [ "$which" = pages ] || crate_jobs >> "$folder/jobs"
 {
     command -v python3 > /dev/null || echo 'LEFT OUT the rows of both programs and of the model: there is no program python3'
-    example README.md crates/iso_host_tests/src/host/example.rt
+    example docs/LIBRARY.md crates/iso_host_tests/src/host/example.rt
     example examples/pieces.md crates/iso_ledger_tests/src/order/pieces.rt
     tables
     host_examples

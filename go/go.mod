@@ -1,0 +1,3 @@
+module rumpadol
+
+go 1.19
