@@ -10,10 +10,18 @@
 # make restarts  a host with many peers that is killed at random, and what its journal holds afterwards: SECONDS=120; builds rumpadol
 # make rules   a host that misbehaves on purpose does what its rules say; builds rumpadol
 # make drives  a driver at good hosts and at bad ones, and a recorded day that is compared; builds rumpadol
+# make page    the page in a headless browser, and requests that are refused; makes the pictures of docs/PAGE.md; builds both programs
 # make soak    a host and a driver as processes, and everything between them broken: MINUTES=10; writes docs/SOAK.md; builds rumpadol
 # make rows    the rows of both programs, and of the host on a port, at the built programs; builds them
 # make schedule  an acquirer whose answers get lost, and what both ends hold: SCHEDULE=examples/lost-answers.txt
 # make library  proves the library for C and what it stands on, and builds it: crates/iso_c/out/libiso_c.a
+# make install  puts the built programs, their man pages and completions, the tables and the library for C under PREFIX=/usr/local
+# make uninstall  removes what make install put there
+# make deb     Debian's package of the same: packaging/out/
+# make tables  the documents of tables/, each with a message; builds rumpadol
+# make tshark  messages of seven forms beside what Wireshark reads; builds rumpadol
+# make jpos    tables of jPOS packagers, and the filter for Java; builds rumpadol
+# make go      the module for Go, over what make install put under PREFIX=/usr/local
 # make check   proves what changed since the last check
 # make prove   the whole gate: every proof, must-fail edit, test and program, from nothing; RT_JOBS=2 for fewer checks side by side
 # make memory  each call that can want memory, and each command, with each of its growths refused in turn, by the quick run
@@ -58,7 +66,7 @@ ifeq ($(LOAD),$(ALL_LOAD))
 LOAD_PAGE := docs/SPEED.md
 endif
 
-.PHONY: run test build library day replay connections crash starts peers restarts rules drives fronts soak replicas rows schedule check prove memory compare bench loopback load
+.PHONY: run test build library day replay connections crash starts peers restarts rules drives fronts page tables tshark jpos go soak replicas rows schedule check prove memory compare bench loopback load install uninstall deb
 
 run:
 	@if $(MAKE) --silent --no-print-directory --question $(COMMAND); then \
@@ -106,6 +114,21 @@ drives: $(RUMPADOL)
 fronts: $(RUMPADOL)
 	@python3 scripts/fronts.py $(RUMPADOL)
 
+page: $(COMMAND) $(RUMPADOL)
+	@python3 scripts/page-test.py $(RUMPADOL) $(COMMAND) --pictures docs
+
+tables: $(RUMPADOL)
+	@python3 scripts/tables-check.py $(RUMPADOL)
+
+tshark: $(RUMPADOL)
+	@scripts/tshark-check.sh $(RUMPADOL)
+
+jpos: $(RUMPADOL)
+	@python3 scripts/jpos-check.py $(RUMPADOL)
+
+go:
+	@scripts/go-check.sh $${PREFIX:-/usr/local}
+
 soak: $(RUMPADOL)
 	@python3 scripts/soak.py $(RUMPADOL) $(MINUTES) docs/SOAK.md
 
@@ -116,6 +139,7 @@ rows: $(COMMAND) $(RUMPADOL)
 	@python3 scripts/command-rows.py $(COMMAND)
 	@python3 scripts/port-rows.py $(COMMAND)
 	@python3 scripts/command-rows.py --program rumpadol $(RUMPADOL)
+	@python3 scripts/page-calls.py $(RUMPADOL)
 
 schedule:
 	@scripts/quick-run.sh iso_schedule $(SCHEDULE)
@@ -141,9 +165,9 @@ check:
 
 # Each crate up to the issuer waits for the one below it, so these come first: there a proof gets the cores that are free. The gate
 # keeps them and does the rest, one check more than cores at a time, since a check that begins or ends leaves its core free.
-# (A gate that runs as CI takes no names.)
+# (A gate that runs as CI takes no names, nor does that of each toolchain: then all is proved at once.)
 prove:
-	@[ "$$CI" = true ] || rt ci iso_issuer
+	@[ "$$CI" = true ] || rt ci iso_issuer || true
 	RT_JOBS=$(RT_JOBS) rt ci
 
 memory:
@@ -161,3 +185,13 @@ loopback: $(COMMAND)
 
 load: $(RUMPADOL)
 	@LOAD=$(LOAD) bench/figures.sh peers "$(LOAD_PAGE)" bench/peers.sh
+
+# Nothing is proved or built here: what is missing is named, with the target that makes it.
+install:
+	@scripts/install-files.sh "$(RUMPADOL)" "$(COMMAND)" "$(LIBRARY)"
+
+uninstall:
+	@scripts/install-files.sh --remove
+
+deb:
+	@scripts/install-deb.sh "$(RUMPADOL)" "$(COMMAND)" "$(LIBRARY)" packaging/out

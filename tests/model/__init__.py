@@ -16,7 +16,7 @@ One file has one subject. In the order in which a message meets them:
     message          a message                                     docs/ELEMENTS.md
     reading          bytes to a message, piece by piece            docs/FAULTS.md
     packing          a message to bytes                            docs/FAULTS.md
-    showing          a message as lines, with stars                README.md
+    showing          a message as lines, with stars                docs/JOBS.md
     order, verdict   what a message asks                           docs/ORDERS.md
     request          the message that asks for an order            docs/ORDERS.md
     response         what a message gets                           docs/ORDERS.md
@@ -24,7 +24,7 @@ One file has one subject. In the order in which a message meets them:
     journal          entries, and the sums over all of them        docs/ISSUER.md
     issuer           the code of an order                          docs/ISSUER.md
     frames, host     a stream of frames                            docs/HOST.md
-    command          words, files and an input to an output        README.md, docs/FAULTS.md
+    command          words, files and an input to an output        docs/JOBS.md, docs/FAULTS.md
 
 What the model leaves out: devices and memory that fail, `serve` and its port, and the acquirer's end.
 """
