@@ -1,4 +1,4 @@
--- Numbers that not_one element may have.
+-- Numbers that no element may have.
 use Rattle.std.proofs.Common.{◌≡◌, ℕ, ◌≤◌, ◌<◌, ◌+◌, false, eqb, None, List, [], ◌∷◌, refl, sym, ◌∙◌, arith}
 use Rattle.std.proofs.lemmas.Bool.Decides.{nat_tests}
 use Rattle.iso_parts.specs.Numbers.{is_element}

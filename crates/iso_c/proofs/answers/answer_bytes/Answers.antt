@@ -1,4 +1,4 @@
--- A wrong edit turns this function. It is refused sooner where its goals have answers, as these.
+-- Where the room holds the bytes, the fault stays as it was.
 use Rattle.std.proofs.Common.{rules}
 use Rattle.iso_c.proofs.answers.answer_bytes.Goals as goal
 

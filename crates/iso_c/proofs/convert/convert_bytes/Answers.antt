@@ -1,4 +1,4 @@
--- A wrong edit turns this function. It is refused sooner where its goals have answers, as these.
+-- What comes out is the message's plain spelling under the second table, or why it has none.
 use Rattle.std.proofs.Common.{List, ℕ, subst, rules}
 use Rattle.std.proofs.lemmas.List.{take_all}
 use Rattle.iso_wire.specs.Spelling.{Spelling}

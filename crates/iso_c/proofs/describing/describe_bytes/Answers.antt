@@ -1,4 +1,4 @@
--- A wrong edit turns this function. It is refused sooner where its goals have answers, as these.
+-- The lines are the message's description and, last, how many bytes it took.
 use Rattle.std.proofs.Common.{rules}
 use Rattle.iso_c.proofs.describing.describe_bytes.Goals as goal
 

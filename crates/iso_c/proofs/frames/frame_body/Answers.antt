@@ -1,4 +1,4 @@
--- A wrong edit turns this function. It is refused sooner where its goals have answers, as these.
+-- The header of that number frames the body, unless that is too long or memory runs out.
 use Rattle.std.proofs.Common.{rules}
 use Rattle.iso_c.proofs.frames.frame_body.Goals as goal
 

@@ -1,4 +1,4 @@
--- A wrong edit turns this function. It is refused sooner where its goals have answers, as these.
+-- Where a frame was got, its body lies behind the header, and the answer is the frame's size.
 use Rattle.std.proofs.Common.{rules}
 use Rattle.iso_c.proofs.frames.rumpadol_unframe.Goals as goal
 

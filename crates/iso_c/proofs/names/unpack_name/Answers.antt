@@ -1,4 +1,4 @@
--- A wrong edit turns this function. It is refused sooner where its goals have answers, as these.
+-- The number 102 has the name of a bad message type.
 use Rattle.std.proofs.Common.{rules}
 use Rattle.iso_c.proofs.names.unpack_name.Goals as goal
 

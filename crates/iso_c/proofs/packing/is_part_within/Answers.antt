@@ -1,4 +1,4 @@
--- A wrong edit turns this function. It is refused sooner where its goals have answers, as these.
+-- A part is within the bytes where its start is, and its length isn't more than what is left.
 use Rattle.std.proofs.Common.{rules}
 use Rattle.iso_c.proofs.packing.is_part_within.Goals as goal
 

@@ -1,4 +1,4 @@
--- A wrong edit turns this function. It is refused sooner where its goals have answers, as these.
+-- No table is left in the slot.
 use Rattle.std.proofs.Common.{rules}
 use Rattle.iso_c.proofs.slot.rumpadol_slot_clear.Goals as goal
 

@@ -1,4 +1,4 @@
--- A wrong edit turns this function. It is refused sooner where its goals have answers, as these.
+-- The slot has the very table that the text stands for; after a fault it is empty.
 use Rattle.std.proofs.Common.{rules}
 use Rattle.iso_c.proofs.slot.rumpadol_slot_from_json.Goals as goal
 

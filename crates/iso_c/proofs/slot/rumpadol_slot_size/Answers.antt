@@ -1,4 +1,4 @@
--- A wrong edit turns this function. It is refused sooner where its goals have answers, as these.
+-- A slot takes the bytes of its type, which fit into the 64 that C gives.
 use Rattle.std.proofs.Common.{rules}
 use Rattle.iso_c.proofs.slot.rumpadol_slot_size.Goals as goal
 

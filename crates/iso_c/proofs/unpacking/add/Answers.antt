@@ -1,4 +1,4 @@
--- A wrong edit turns this function. It is refused sooner where its goals have answers, as these.
+-- The part that is added tells the element, where its value begins and how long that is.
 use Rattle.std.proofs.Common.{rules}
 use Rattle.iso_c.proofs.unpacking.add.Goals as goal
 

@@ -1,4 +1,4 @@
--- A wrong edit turns this function. It is refused sooner where its goals have answers, as these.
+-- The line tells the table's version, its rows and the most bytes of a message.
 use Rattle.std.proofs.Common.{rules}
 use Rattle.iso_cli.proofs.check.line_of.Goals as goal
 

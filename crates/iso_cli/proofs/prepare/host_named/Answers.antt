@@ -3,7 +3,7 @@ use Rattle.std.proofs.lemmas.Result.{err_from_is_err_and}
 use Rattle.iso_cli.proofs.ListeningLemmas.{refused_words}
 use Rattle.iso_cli.proofs.prepare.host_named.Goals as goal
 
--- a wrong edit turns this function: it is refused sooner where this goal has an answer
+-- what is prepared is the host that the words name
 pub returns-clause-prepared : goal.returns-clause-prepared
 returns-clause-prepared c = search rules
 

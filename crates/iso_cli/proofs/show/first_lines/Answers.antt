@@ -1,4 +1,4 @@
--- A wrong edit turns this function. It is refused sooner where its goals have answers, as these.
+-- What is shown are the lines of the message at the front, in clear or with stars.
 use Rattle.std.proofs.Common.{rules}
 use Rattle.iso_cli.proofs.show.first_lines.Goals as goal
 

@@ -1,4 +1,4 @@
--- A wrong edit turns this function. It is refused sooner where its goals have answers, as these.
+-- Where the line was written, the status is the one that was given.
 use Rattle.std.proofs.Common.{rules}
 use Rattle.iso_cli.proofs.stop.tell_line.Goals as goal
 

@@ -3,6 +3,7 @@ use Rattle.std.specs.Io.KnownBytes.{Consumes}
 use Rattle.iso_cli.specs.Streaming.{Gave}
 use Rattle.iso_cli.proofs.streaming.read_all.Given as goal
 
+-- an input has at most 1,048,576 bytes, MOST_BYTES
 abbrev pub invariant-loop : goal.invariant-loop
 invariant-loop g l = record {
   consumed : Consumes (g.I.Inlet.remaining l.initial.input) (g.I.Inlet.remaining l.input) l.bytes.items;

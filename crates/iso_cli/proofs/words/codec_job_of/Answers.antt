@@ -1,4 +1,4 @@
--- A wrong edit turns this function. It is refused sooner where its goals have answers, as these.
+-- The words of check, convert and show ask that very job, and words of no arm ask none.
 use Rattle.std.proofs.Common.{sym, arith}
 use Rattle.std.proofs.lemmas.Grind.{common_steps}
 use Rattle.iso_cli.proofs.WordLemmas.{three_words, two_words}

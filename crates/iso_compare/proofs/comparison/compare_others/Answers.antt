@@ -1,4 +1,4 @@
--- A wrong edit turns this function. It is refused sooner where its goals have answers, as these.
+-- A body that can't be read is told with its side and the reason.
 use Rattle.std.proofs.Common.{rules}
 use Rattle.iso_compare.proofs.comparison.compare_others.Goals as goal
 

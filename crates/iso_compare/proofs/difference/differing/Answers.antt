@@ -1,4 +1,4 @@
--- A wrong edit turns this function. It is refused sooner where its goals have answers, as these.
+-- It tells exactly the elements that one message lacks or has with another value.
 use Rattle.std.proofs.Common.{rules}
 use Rattle.iso_compare.proofs.difference.differing.Goals as goal
 

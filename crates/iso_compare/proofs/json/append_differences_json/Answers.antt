@@ -1,4 +1,4 @@
--- A wrong edit turns this function. It is refused sooner where its goals have answers, as these.
+-- Beside the lines of JSON, what was counted of both lists of bodies is given.
 use Rattle.std.proofs.Common.{rules}
 use Rattle.iso_compare.proofs.json.append_differences_json.Goals as goal
 

@@ -1,4 +1,4 @@
--- A wrong edit turns this function. It is refused sooner where its goals have answers, as these.
+-- Beside the lines of text, what was counted of both lists of bodies is given.
 use Rattle.std.proofs.Common.{rules}
 use Rattle.iso_compare.proofs.lines.append_differences.Goals as goal
 

@@ -1,4 +1,4 @@
--- A wrong edit turns this function. It is refused sooner where its goals have answers, as these.
+-- The count at a place that is there rises by one, up to its greatest.
 use Rattle.std.proofs.Common.{rules}
 use Rattle.iso_counts.proofs.counting.count_at.Goals as goal
 

@@ -1,4 +1,4 @@
--- A wrong edit turns this function. It is refused sooner where its goals have answers, as these.
+-- Of all roles only a payment in the state Approved is approved.
 use Rattle.std.proofs.Common.{rules}
 use Rattle.iso_drive.proofs.counts.is_approved.Goals as goal
 

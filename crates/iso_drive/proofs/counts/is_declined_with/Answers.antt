@@ -1,4 +1,4 @@
--- A wrong edit turns this function. It is refused sooner where its goals have answers, as these.
+-- A declined payment is declined with the code exactly where that is its own.
 use Rattle.std.proofs.Common.{rules}
 use Rattle.iso_drive.proofs.counts.is_declined_with.Goals as goal
 

@@ -1,4 +1,4 @@
--- A wrong edit turns this function. It is refused sooner where its goals have answers, as these.
+-- Those are counted that wait for the moment or an earlier one.
 use Rattle.std.proofs.Common.{rules}
 use Rattle.iso_drive.proofs.due.due_by.Goals as goal
 

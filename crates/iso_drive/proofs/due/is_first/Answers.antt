@@ -1,4 +1,4 @@
--- A wrong edit turns this function. It is refused sooner where its goals have answers, as these.
+-- The transaction waits first where the first one that waits has its trace number.
 use Rattle.std.proofs.Common.{rules}
 use Rattle.iso_drive.proofs.due.is_first.Goals as goal
 

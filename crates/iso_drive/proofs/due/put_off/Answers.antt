@@ -1,4 +1,4 @@
--- A wrong edit turns this function. It is refused sooner where its goals have answers, as these.
+-- The one that waited first now waits last, until the new moment.
 use Rattle.std.proofs.Common.{rules}
 use Rattle.iso_drive.proofs.due.put_off.Goals as goal
 

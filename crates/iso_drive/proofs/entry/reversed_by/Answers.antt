@@ -1,4 +1,4 @@
--- A wrong edit turns this function. It is refused sooner where its goals have answers, as these.
+-- A reversal takes back the transaction that it names.
 use Rattle.std.proofs.Common.{rules}
 use Rattle.iso_drive.proofs.entry.reversed_by.Goals as goal
 

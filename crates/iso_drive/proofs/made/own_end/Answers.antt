@@ -1,4 +1,4 @@
--- A wrong edit turns this function. It is refused sooner where its goals have answers, as these.
+-- Any code but 0, 94 and 96 declines a transaction that waits.
 use Rattle.std.proofs.Common.{rules}
 use Rattle.iso_drive.proofs.made.own_end.Goals as goal
 

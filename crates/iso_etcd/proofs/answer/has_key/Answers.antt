@@ -1,4 +1,4 @@
--- A wrong edit turns this function. It is refused sooner where its goals have answers, as these.
+-- A pair with a key is the one that is meant where both keys have the same bytes.
 use Rattle.std.proofs.Common.{rules}
 use Rattle.iso_etcd.proofs.answer.has_key.Goals as goal
 

@@ -1,4 +1,4 @@
--- A wrong edit turns this function. It is refused sooner where its goals have answers, as these.
+-- Unless this turn is the last one, the next one follows.
 use Rattle.std.proofs.Common.{rules}
 use Rattle.iso_etcd.proofs.cluster.turn_after.Goals as goal
 

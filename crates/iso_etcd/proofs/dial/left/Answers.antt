@@ -1,4 +1,4 @@
--- A wrong edit turns this function. It is refused sooner where its goals have answers, as these.
+-- Before the end, the time until then is left, and never more than the most.
 use Rattle.std.proofs.Common.{rules}
 use Rattle.iso_etcd.proofs.dial.left.Goals as goal
 

@@ -1,4 +1,4 @@
--- A wrong edit turns this function. It is refused sooner where its goals have answers, as these.
+-- A member is true where it is there and says so; one that is left out is false.
 use Rattle.std.proofs.Common.{rules}
 use Rattle.iso_etcd.proofs.json.is_true.Goals as goal
 

@@ -1,4 +1,4 @@
--- A wrong edit turns this function. It is refused sooner where its goals have answers, as these.
+-- Where the answer is lost, it is in doubt whether the batch stands.
 use Rattle.std.proofs.Common.{rules}
 use Rattle.iso_etcd.proofs.judging.append_of.Goals as goal
 

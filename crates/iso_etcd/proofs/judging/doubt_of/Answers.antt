@@ -1,4 +1,4 @@
--- A wrong edit turns this function. It is refused sooner where its goals have answers, as these.
+-- An error that neither denies nor tells of no space leaves its status as the doubt.
 use Rattle.std.proofs.Common.{rules}
 use Rattle.iso_etcd.proofs.judging.doubt_of.Goals as goal
 

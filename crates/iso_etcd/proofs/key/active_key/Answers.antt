@@ -1,4 +1,4 @@
--- A wrong edit turns this function. It is refused sooner where its goals have answers, as these.
+-- Who is active stands at the name with `/active` behind it.
 use Rattle.std.proofs.Common.{rules}
 use Rattle.iso_etcd.proofs.key.active_key.Goals as goal
 

@@ -1,4 +1,4 @@
--- A wrong edit turns this function. It is refused sooner where its goals have answers, as these.
+-- The seconds of a lease that is kept are the number `TTL` of the member `result`.
 use Rattle.std.proofs.Common.{rules}
 use Rattle.iso_etcd.proofs.lease.seconds_of.Goals as goal
 

@@ -1,4 +1,4 @@
--- A wrong edit turns this function. It is refused sooner where its goals have answers, as these.
+-- The token is refused exactly where a response came with the status 401.
 use Rattle.std.proofs.Common.{rules}
 use Rattle.iso_etcd.proofs.login.is_token_refused.Goals as goal
 

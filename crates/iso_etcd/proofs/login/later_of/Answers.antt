@@ -1,4 +1,4 @@
--- A wrong edit turns this function. It is refused sooner where its goals have answers, as these.
+-- Where nothing was sent the second time, the first outcome counts.
 use Rattle.std.proofs.Common.{rules}
 use Rattle.iso_etcd.proofs.login.later_of.Goals as goal
 

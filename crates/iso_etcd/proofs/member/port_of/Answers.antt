@@ -1,4 +1,4 @@
--- A wrong edit turns this function. It is refused sooner where its goals have answers, as these.
+-- Digits without a leading zero that fit 16 bits are the port that they write.
 use Rattle.std.proofs.Common.{rules}
 use Rattle.iso_etcd.proofs.member.port_of.Goals as goal
 

@@ -1,4 +1,4 @@
--- A wrong edit turns this function. It is refused sooner where its goals have answers, as these.
+-- Of all bytes but digits, letters, '-' and '_' only '.' may be in a name.
 use Rattle.std.proofs.Common.{rules}
 use Rattle.iso_etcd.proofs.name.is_name_byte.Goals as goal
 

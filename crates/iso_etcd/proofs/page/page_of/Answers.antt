@@ -1,4 +1,4 @@
--- A wrong edit turns this function. It is refused sooner where its goals have answers, as these.
+-- A page has all batches of the answer from its first place on, and tells whether more follow.
 use Rattle.std.proofs.Common.{rules}
 use Rattle.iso_etcd.proofs.page.page_of.Goals as goal
 

@@ -1,4 +1,4 @@
--- A wrong edit turns this function. It is refused sooner where its goals have answers, as these.
+-- The text is the JSON of a transaction that puts the value where nothing stands.
 use Rattle.std.proofs.Common.{rules}
 use Rattle.iso_etcd.proofs.question.put_text.Goals as goal
 

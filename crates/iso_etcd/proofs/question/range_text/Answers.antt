@@ -1,4 +1,4 @@
--- A wrong edit turns this function. It is refused sooner where its goals have answers, as these.
+-- The text is the JSON that asks for the values from the first key up to the end.
 use Rattle.std.proofs.Common.{rules}
 use Rattle.iso_etcd.proofs.question.range_text.Goals as goal
 

@@ -1,4 +1,4 @@
--- A wrong edit turns this function. It is refused sooner where its goals have answers, as these.
+-- A test goes on exactly where what it checks is so.
 use Rattle.std.proofs.Common.{rules}
 use Rattle.iso_fakes.proofs.checks.check.Goals as goal
 

@@ -1,4 +1,4 @@
--- A wrong edit turns this function. It is refused sooner where its goals have answers, as these.
+-- The test of a case goes on exactly where what was compared is so.
 use Rattle.std.proofs.Common.{rules}
 use Rattle.iso_fakes.proofs.checks.check_of.Goals as goal
 

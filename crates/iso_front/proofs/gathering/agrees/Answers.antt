@@ -1,4 +1,4 @@
--- A wrong edit turns this function. It is refused sooner where its goals have answers, as these.
+-- A shard that was asked and is silent agrees with no code.
 use Rattle.std.proofs.Common.{rules}
 use Rattle.iso_front.proofs.gathering.agrees.Goals as goal
 

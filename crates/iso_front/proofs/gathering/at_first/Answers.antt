@@ -1,4 +1,4 @@
--- A wrong edit turns this function. It is refused sooner where its goals have answers, as these.
+-- Nothing is heard yet of a shard to which the order goes.
 use Rattle.std.proofs.Common.{rules}
 use Rattle.iso_front.proofs.gathering.at_first.Goals as goal
 

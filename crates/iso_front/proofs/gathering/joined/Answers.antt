@@ -1,4 +1,4 @@
--- A wrong edit turns this function. It is refused sooner where its goals have answers, as these.
+-- Where every shard that was asked has answered, and one of them otherwise, they differ.
 use Rattle.std.proofs.Common.{rules}
 use Rattle.iso_front.proofs.gathering.joined.Goals as goal
 

@@ -1,4 +1,4 @@
--- A wrong edit turns this function. It is refused sooner where its goals have answers, as these.
+-- Prefixes that begin above the shorter ones don't reach them.
 use Rattle.std.proofs.Common.{rules}
 use Rattle.iso_front.proofs.prefixes.reaches.Goals as goal
 

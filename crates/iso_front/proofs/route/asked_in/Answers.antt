@@ -1,4 +1,4 @@
--- A wrong edit turns this function. It is refused sooner where its goals have answers, as these.
+-- A body that is one whole message asks what the message asks.
 use Rattle.std.proofs.Common.{rules}
 use Rattle.iso_front.proofs.route.asked_in.Goals as goal
 

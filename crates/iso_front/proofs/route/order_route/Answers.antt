@@ -1,4 +1,4 @@
--- A wrong edit turns this function. It is refused sooner where its goals have answers, as these.
+-- An order without an account goes to all shards, one on no shard's account to nobody.
 use Rattle.std.proofs.Common.{rules}
 use Rattle.iso_front.proofs.route.order_route.Goals as goal
 

@@ -1,4 +1,4 @@
--- A wrong edit turns this function. It is refused sooner where its goals have answers, as these.
+-- A foreign order is answered 12 and not entered; the host handles all else.
 use Rattle.std.proofs.Common.{rules}
 use Rattle.iso_guard.proofs.guard.answer_message.Goals as goal
 

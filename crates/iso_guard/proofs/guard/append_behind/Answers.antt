@@ -1,4 +1,4 @@
--- A wrong edit turns this function. It is refused sooner where its goals have answers, as these.
+-- The frame that is appended has the given bytes and, behind them, the message.
 use Rattle.std.proofs.Common.{rules}
 use Rattle.iso_guard.proofs.guard.append_behind.Goals as goal
 

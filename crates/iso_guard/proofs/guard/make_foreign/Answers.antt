@@ -1,4 +1,4 @@
--- A wrong edit turns this function. It is refused sooner where its goals have answers, as these.
+-- The answer to a foreign order is the plain spelling of a response with code 12 alone.
 use Rattle.std.proofs.Common.{rules}
 use Rattle.iso_guard.proofs.guard.make_foreign.Goals as goal
 

@@ -20,5 +20,6 @@ invariant-pieces g l = record {
       (length (held_of l.line.begun l.line.gathering.part));
 }
 
+-- a read takes one of what is left, and brings at most 4,096 bytes, a block: 4097 is one more
 abbrev pub decreases-pieces : goal.decreases-pieces
 decreases-pieces g l = 4097 * l.left + length l.window

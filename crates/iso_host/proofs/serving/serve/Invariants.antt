@@ -15,5 +15,6 @@ invariant-frames g l = record {
       (g.W.Outlet.counts l.writer) l.turns l.left;
 }
 
+-- 4097 is one more than a block's 4,096 bytes, the most that one of the turns left brings
 abbrev pub decreases-frames : goal.decreases-frames
 decreases-frames g l = 4097 * l.left + length l.window

@@ -1,4 +1,4 @@
--- A wrong edit turns this function. It is refused sooner where its goals have answers, as these.
+-- A request over the available amount is answered 51.
 use Rattle.std.proofs.Common.{rules}
 use Rattle.iso_issuer.proofs.decision.amount_code.Goals as goal
 

@@ -25,6 +25,6 @@ returns-else-is_nothing-clause-value c = λ entries balances sums placed own.
     ∙ sym (ap (λ b. if b then 21 else account_code entries order money (account_of accounts money.pan)) fresh)
     ∙ ap (money_code accounts entries order) about
 
--- a wrong edit turns this: it is refused sooner where the goal has an answer
+-- what is wholly reversed already is answered 21
 pub returns-then-is_nothing-clause-value : goal.returns-then-is_nothing-clause-value
 returns-then-is_nothing-clause-value c = search rules

@@ -1,4 +1,4 @@
--- A wrong edit turns this function. It is refused sooner where its goals have answers, as these.
+-- Of all reversals of a key, what the first one leaves is kept.
 use Rattle.std.proofs.Common.{rules}
 use Rattle.iso_issuer.proofs.index.keep_left.Goals as goal
 

@@ -1,4 +1,4 @@
--- A wrong edit turns this function. It is refused sooner where its goals have answers, as these.
+-- A first reversal that leaves nothing of a completion takes it off the hold.
 use Rattle.std.proofs.Common.{rules}
 use Rattle.iso_issuer.proofs.journal.dropped_of.Goals as goal
 

@@ -1,4 +1,4 @@
--- A wrong edit turns this function. It is refused sooner where its goals have answers, as these.
+-- Below nine tenths of the limit nothing is reached that is told.
 use Rattle.std.proofs.Common.{rules}
 use Rattle.iso_lines.proofs.journal.reached.Goals as goal
 

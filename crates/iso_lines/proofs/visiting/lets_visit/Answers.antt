@@ -1,4 +1,4 @@
--- A wrong edit turns this function. It is refused sooner where its goals have answers, as these.
+-- One more visitor is let in exactly where fewer than the most are there.
 use Rattle.std.proofs.Common.{rules}
 use Rattle.iso_lines.proofs.visiting.lets_visit.Goals as goal
 

@@ -1,4 +1,4 @@
--- A wrong edit turns this function. It is refused sooner where its goals have answers, as these.
+-- The bytes that the stream took wait no more.
 use Rattle.std.proofs.Common.{rules}
 use Rattle.iso_lines.proofs.writing.write_waiting.Goals as goal
 

@@ -1,4 +1,4 @@
--- A wrong edit turns this function. It is refused sooner where its goals have answers, as these.
+-- An order without a code waits.
 use Rattle.std.proofs.Common.{rules}
 use Rattle.iso_mix.proofs.counts.standing_of.Goals as goal
 

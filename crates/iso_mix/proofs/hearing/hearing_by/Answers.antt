@@ -1,4 +1,4 @@
--- A wrong edit turns this function. It is refused sooner where its goals have answers, as these.
+-- An answer differs where its code isn't the first one's.
 use Rattle.std.proofs.Common.{rules}
 use Rattle.iso_mix.proofs.hearing.hearing_by.Goals as goal
 

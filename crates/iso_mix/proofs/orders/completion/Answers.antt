@@ -1,4 +1,4 @@
--- A wrong edit turns this function. It is refused sooner where its goals have answers, as these.
+-- A completion takes 1 to all of the amount that is held, from the same account.
 use Rattle.std.proofs.Common.{rules}
 use Rattle.iso_mix.proofs.orders.completion.Goals as goal
 

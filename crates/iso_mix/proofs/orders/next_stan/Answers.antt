@@ -1,4 +1,4 @@
--- A wrong edit turns this function. It is refused sooner where its goals have answers, as these.
+-- While there is room, trace numbers go down from the greatest, by two for each order.
 use Rattle.std.proofs.Common.{rules}
 use Rattle.iso_mix.proofs.orders.next_stan.Goals as goal
 

@@ -1,4 +1,4 @@
--- A wrong edit turns this function. It is refused sooner where its goals have answers, as these.
+-- Where the follower was granted, its amount is what is taken of the hold.
 use Rattle.std.proofs.Common.{rules}
 use Rattle.iso_mix.proofs.taken.left_by.Goals as goal
 

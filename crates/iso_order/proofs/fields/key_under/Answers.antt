@@ -1,4 +1,4 @@
--- A wrong edit turns this function. It is refused sooner where its goals have answers, as these.
+-- The key has the date and time, the trace number and the acquirer of the message.
 use Rattle.std.proofs.Common.{rules}
 use Rattle.iso_order.proofs.fields.key_under.Goals as goal
 

@@ -1,4 +1,4 @@
--- A wrong edit turns this function. It is refused sooner where its goals have answers, as these.
+-- With code 0 and a place in the journal, a message of class 1 or 2 is granted.
 use Rattle.std.proofs.Common.{rules}
 use Rattle.iso_order.proofs.response.is_approved.Goals as goal
 

@@ -1,4 +1,4 @@
--- A wrong edit turns this function. It is refused sooner where its goals have answers, as these.
+-- The first bit is set exactly where the word is at least 2^63.
 use Rattle.std.proofs.Common.{rules, ◌≡◌, ◌<◌, false, nat_le, refl}
 use Rattle.iso_parts.specs.BitmapReading.{top}
 use Rattle.iso_parts.proofs.bits.tells_another.Goals as goal

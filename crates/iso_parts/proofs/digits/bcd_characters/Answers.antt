@@ -1,4 +1,4 @@
--- A wrong edit turns this function. It is refused sooner where its goals have answers, as these.
+-- The four characters are those of the nibbles, the higher one of a byte first.
 use Rattle.std.proofs.Common.{refl}
 use Rattle.iso_parts.proofs.digits.bcd_characters.Goals as goal
 

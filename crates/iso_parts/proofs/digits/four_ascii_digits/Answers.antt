@@ -1,4 +1,4 @@
--- A wrong edit turns this function. It is refused sooner where its goals have answers, as these.
+-- The characters are thousands, hundreds, tens and ones, each from '0' on.
 use Rattle.std.proofs.Common.{refl}
 use Rattle.iso_parts.proofs.digits.four_ascii_digits.Goals as goal
 

@@ -1,4 +1,4 @@
--- A wrong edit turns this function. It is refused sooner where its goals have answers, as these.
+-- One byte packs thousands and hundreds, the next one tens and ones.
 use Rattle.std.proofs.Common.{refl}
 use Rattle.iso_parts.proofs.digits.four_bcd_digits.Goals as goal
 

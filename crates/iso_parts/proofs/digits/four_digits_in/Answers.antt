@@ -1,4 +1,4 @@
--- A wrong edit turns this function. It is refused sooner where its goals have answers, as these.
+-- Two BCD bytes are the number of their four characters, where these are digits.
 use Rattle.std.proofs.Common.{rules}
 use Rattle.iso_parts.proofs.digits.four_digits_in.Goals as goal
 

@@ -1,4 +1,4 @@
--- A wrong edit turns this function. It is refused sooner where its goals have answers, as these.
+-- Where the count is odd, the first character shares its byte with the filler 0.
 use Rattle.std.proofs.Common.{◌≡◌, ◌++◌, ◌%◌, ◌∷◌, [], get_or, arith}
 use Rattle.std.proofs.lemmas.Grind.{common_steps}
 use Rattle.iso_parts.proofs.encoding.encode_bcd.Goals as goal

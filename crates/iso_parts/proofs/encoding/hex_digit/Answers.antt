@@ -1,4 +1,4 @@
--- A wrong edit turns this function. It is refused sooner where its goals have answers, as these.
+-- The digit is the one at its place among the sixteen in upper case.
 use Rattle.std.proofs.Common.{refl}
 use Rattle.iso_parts.proofs.encoding.hex_digit.Goals as goal
 

@@ -1,4 +1,4 @@
--- A wrong edit turns this function. It is refused sooner where its goals have answers, as these.
+-- A length over the most of its row is a fault.
 use Rattle.std.proofs.Common.{rules}
 use Rattle.iso_parts.proofs.field.prefix_of.Goals as goal
 

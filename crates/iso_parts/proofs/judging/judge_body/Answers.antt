@@ -1,4 +1,4 @@
--- A wrong edit turns this function. It is refused sooner where its goals have answers, as these.
+-- A whole body with a fault is refused for that fault.
 use Rattle.std.proofs.Common.{rules}
 use Rattle.iso_parts.proofs.judging.judge_body.Goals as goal
 

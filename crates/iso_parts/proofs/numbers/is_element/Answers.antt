@@ -1,4 +1,4 @@
--- A wrong edit turns this function. It is refused sooner where its goals have answers, as these.
+-- From 2 to 128 each number but 65 is one of an element.
 use Rattle.std.proofs.Common.{rules}
 use Rattle.iso_parts.proofs.numbers.is_element.Goals as goal
 

@@ -1,4 +1,4 @@
--- A wrong edit turns this function. It is refused sooner where its goals have answers, as these.
+-- Four ASCII digits are the count that they write in decimal.
 use Rattle.std.proofs.Common.{rules, ◌≡◌, ◌+◌, ◌*◌, ◌-◌, Some, ap}
 use Rattle.iso_parts.specs.Digits.{four_digits}
 use Rattle.iso_parts.specs.Reading.{or_bad_length}

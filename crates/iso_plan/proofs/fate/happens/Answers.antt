@@ -1,4 +1,4 @@
--- A wrong edit turns this function. It is refused sooner where its goals have answers, as these.
+-- It happens where the share that is drawn lies below the chance.
 use Rattle.std.proofs.Common.{rules}
 use Rattle.iso_plan.proofs.fate.happens.Goals as goal
 

@@ -1,4 +1,4 @@
--- A wrong edit turns this function. It is refused sooner where its goals have answers, as these.
+-- The delay is the least one and the share of the range that the drawn word gives.
 use Rattle.std.proofs.Common.{rules}
 use Rattle.iso_plan.proofs.fate.hold.Goals as goal
 

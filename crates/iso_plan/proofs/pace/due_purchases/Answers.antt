@@ -1,4 +1,4 @@
--- A wrong edit turns this function. It is refused sooner where its goals have answers, as these.
+-- While the run is open, as many begin as the pace allows and the bound of open ones leaves.
 use Rattle.std.proofs.Common.{rules}
 use Rattle.iso_plan.proofs.pace.due_purchases.Goals as goal
 

@@ -1,4 +1,4 @@
--- A wrong edit turns this function. It is refused sooner where its goals have answers, as these.
+-- Once no purchase begins and all are closed, a run that checks asks for balances.
 use Rattle.std.proofs.Common.{rules}
 use Rattle.iso_plan.proofs.stage.next_stage.Goals as goal
 

@@ -1,4 +1,4 @@
--- A wrong edit turns this function. It is refused sooner where its goals have answers, as these.
+-- The digits are month, day, hour, minute and second, two of each.
 use Rattle.std.proofs.Common.{rules}
 use Rattle.iso_plan.proofs.transmission.digits_of.Goals as goal
 

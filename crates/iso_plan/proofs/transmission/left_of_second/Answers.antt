@@ -1,4 +1,4 @@
--- A wrong edit turns this function. It is refused sooner where its goals have answers, as these.
+-- What is left of the second is 1,000 milliseconds less those since it began.
 use Rattle.std.proofs.Common.{rules}
 use Rattle.iso_plan.proofs.transmission.left_of_second.Goals as goal
 

@@ -1,4 +1,4 @@
--- A wrong edit turns this function. It is refused sooner where its goals have answers, as these.
+-- Where the format is the same and the rules aren't, the rules are told.
 use Rattle.std.proofs.Common.{rules}
 use Rattle.iso_record.proofs.heading.heading_fault.Goals as goal
 

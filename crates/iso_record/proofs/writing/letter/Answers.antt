@@ -1,4 +1,4 @@
--- A wrong edit turns this function. It is refused sooner where its goals have answers, as these.
+-- A credit is written as C.
 use Rattle.std.proofs.Common.{rules}
 use Rattle.iso_record.proofs.writing.letter.Goals as goal
 

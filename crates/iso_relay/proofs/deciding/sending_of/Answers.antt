@@ -1,4 +1,4 @@
--- A wrong edit turns this function. It is refused sooner where its goals have answers, as these.
+-- What is for all goes to all shards, and what is on no shard's account to the first one.
 use Rattle.std.proofs.Common.{rules}
 use Rattle.iso_relay.proofs.deciding.sending_of.Goals as goal
 

@@ -1,4 +1,4 @@
--- A wrong edit turns this function. It is refused sooner where its goals have answers, as these.
+-- By the mean size on a page, so many are asked for as fit, within both bounds.
 use Rattle.std.proofs.Common.{rules}
 use Rattle.iso_replicas.proofs.ahead.most_after.Goals as goal
 

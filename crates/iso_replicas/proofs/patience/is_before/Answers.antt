@@ -1,4 +1,4 @@
--- A wrong edit turns this function. It is refused sooner where its goals have answers, as these.
+-- Where both are known, the moment is before the end if it is less.
 use Rattle.std.proofs.Common.{rules}
 use Rattle.iso_replicas.proofs.patience.is_before.Goals as goal
 

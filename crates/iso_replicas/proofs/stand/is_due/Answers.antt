@@ -1,4 +1,4 @@
--- A wrong edit turns this function. It is refused sooner where its goals have answers, as these.
+-- A lease is due once a third of it has passed since it was kept.
 use Rattle.std.proofs.Common.{rules}
 use Rattle.iso_replicas.proofs.stand.is_due.Goals as goal
 

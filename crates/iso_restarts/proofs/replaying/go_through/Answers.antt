@@ -1,4 +1,4 @@
--- A wrong edit turns this function. It is refused sooner where its goals have answers, as these.
+-- A beginning or a time-out that was noted has its effect on the acquirer again.
 use Rattle.std.proofs.Common.{rules}
 use Rattle.iso_restarts.proofs.replaying.go_through.Goals as goal
 

@@ -3,6 +3,7 @@ use Rattle.iso_review.specs.RowText.{number_after}
 use Rattle.iso_review.proofs.parsing.number_after.Given as goal
 
 -- the number so far, and the digits of the rest
+-- the number is a u16, and so below 65,536
 abbrev pub invariant-loop-digit : goal.invariant-loop-digit
 invariant-loop-digit l = record {
   small : l.number < 65536;

@@ -1,4 +1,4 @@
--- A wrong edit turns this function. It is refused sooner where its goals have answers, as these.
+-- A cut enters the order and silence writes nothing; an answer by a rule enters nothing.
 use Rattle.std.proofs.Common.{rules}
 use Rattle.iso_script.proofs.treating.do_deed.Goals as goal
 

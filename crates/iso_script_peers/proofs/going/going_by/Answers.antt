@@ -1,4 +1,4 @@
--- A wrong edit turns this function. It is refused sooner where its goals have answers, as these.
+-- What a rule delays goes out at a later moment, and what it cuts never does.
 use Rattle.std.proofs.Common.{rules}
 use Rattle.iso_script_peers.proofs.going.going_by.Goals as goal
 

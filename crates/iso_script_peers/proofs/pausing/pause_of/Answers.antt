@@ -1,4 +1,4 @@
--- A wrong edit turns this function. It is refused sooner where its goals have answers, as these.
+-- Where an answer is due, a turn waits no longer than until then.
 use Rattle.std.proofs.Common.{rules}
 use Rattle.iso_script_peers.proofs.pausing.pause_of.Goals as goal
 

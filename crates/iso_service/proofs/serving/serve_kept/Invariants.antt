@@ -4,6 +4,7 @@ use Rattle.iso_service.specs.Serving.{Stay}
 use Rattle.iso_service.proofs.Blocks.{Going}
 use Rattle.iso_service.proofs.serving.serve_kept.Given as goal
 
+-- so many bytes are read at once: BLOCK, 65,536
 abbrev pub invariant-loop : goal.invariant-loop
 invariant-loop g l = record {
   table : l.connection.peer.table ≡ l.link.table;

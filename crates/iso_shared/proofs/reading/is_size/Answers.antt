@@ -1,4 +1,4 @@
--- A wrong edit turns this function. It is refused sooner where its goals have answers, as these.
+-- Whole records, at least one, are a batch where they are at most 1,048,576 bytes.
 use Rattle.std.proofs.Common.{rules}
 use Rattle.iso_shared.proofs.reading.is_size.Goals as goal
 

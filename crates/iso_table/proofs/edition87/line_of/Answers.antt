@@ -1,4 +1,4 @@
--- A wrong edit turns this function. It is refused sooner where its goals have answers, as these.
+-- The line is the first one of the table whose numbers include the element's.
 use Rattle.iso_table.proofs.edition87.line_of.Goals as goal
 
 pub returns : goal.returns

@@ -4,6 +4,7 @@ use Rattle.iso_table.specs.Edition87.{row87}
 use Rattle.iso_table.proofs.edition87.places87.Given as goal
 
 -- the places so far have their rows
+-- there are 129 places, PLACES: one more than the highest number of an element
 abbrev pub invariant-loop-number : goal.invariant-loop-number
 invariant-loop-number l = record {
   size : length l.places ≡ 129;

@@ -1,4 +1,4 @@
--- A wrong edit turns this function. It is refused sooner where its goals have answers, as these.
+-- The text is that of the member, where it is there and a text.
 use Rattle.std.proofs.Common.{rules}
 use Rattle.iso_table.proofs.members.text_at.Goals as goal
 

@@ -1,4 +1,4 @@
--- A wrong edit turns this function. It is refused sooner where its goals have answers, as these.
+-- There are tables of the versions 0, 1, 2 and 9, and of no others.
 use Rattle.std.proofs.Common.{rules}
 use Rattle.iso_table.proofs.placing.is_version.Goals as goal
 

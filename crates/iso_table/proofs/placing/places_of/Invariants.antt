@@ -4,6 +4,7 @@ use Rattle.iso_table.specs.Accepted.{rows_fault, row_of}
 use Rattle.iso_table.proofs.placing.places_of.Given as goal
 
 -- the rows so far stand at their places, and what is wrong is wrong with the rest
+-- 129 is PLACES, one more than the highest number of an element
 abbrev pub invariant-loop-row : goal.invariant-loop-row
 invariant-loop-row l = record {
   size : length l.places ≡ 129;

@@ -1,4 +1,4 @@
--- A wrong edit turns this function. It is refused sooner where its goals have answers, as these.
+-- A text is refused as no JSON, unless it was memory that ran out.
 use Rattle.std.proofs.Common.{refl}
 use Rattle.iso_table.proofs.reading.value_of.Goals as goal
 

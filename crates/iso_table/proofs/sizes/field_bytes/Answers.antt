@@ -1,4 +1,4 @@
--- A wrong edit turns this function. It is refused sooner where its goals have answers, as these.
+-- The longest field of a row is its length and the body of its most characters.
 use Rattle.std.proofs.Common.{rules, ℕ}
 use Rattle.iso_table.proofs.sizes.field_bytes.Goals as goal
 

@@ -1,4 +1,4 @@
--- A wrong edit turns this function. It is refused sooner where its goals have answers, as these.
+-- The JSON of a row names the digits of its length, unless its length is fixed.
 use Rattle.std.proofs.Common.{rules}
 use Rattle.iso_table.proofs.writing.row_value.Goals as goal
 

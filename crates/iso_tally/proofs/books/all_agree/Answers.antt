@@ -1,4 +1,4 @@
--- A wrong edit turns this function. It is refused sooner where its goals have answers, as these.
+-- All accounts are agreed on exactly where each one is.
 use Rattle.std.proofs.Common.{rules}
 use Rattle.iso_tally.proofs.books.all_agree.Goals as goal
 

@@ -1,4 +1,4 @@
--- A wrong edit turns this function. It is refused sooner where its goals have answers, as these.
+-- The count is one more, or stays at the greatest.
 use Rattle.std.proofs.Common.{rules}
 use Rattle.iso_tally.proofs.tally.add_one.Goals as goal
 

@@ -1,4 +1,4 @@
--- A wrong edit turns this function. It is refused sooner where its goals have answers, as these.
+-- An element is its number, a colon and what may be shown of its value.
 use Rattle.std.proofs.Common.{rules}
 use Rattle.iso_wire.proofs.debugging.write_element.Goals as goal
 

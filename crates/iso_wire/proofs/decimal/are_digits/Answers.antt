@@ -1,4 +1,4 @@
--- A wrong edit turns this function. It is refused sooner where its goals have answers, as these.
+-- A text of a length between both bounds passes where each byte is a digit.
 use Rattle.std.proofs.Common.{rules}
 use Rattle.iso_wire.proofs.decimal.are_digits.Goals as goal
 

@@ -1,4 +1,4 @@
--- A wrong edit turns this function. It is refused sooner where its goals have answers, as these.
+-- A number above 0 has as many digits as write it: they suffice, and one fewer doesn't.
 use Rattle.std.proofs.Common.{rules, arith}
 use Rattle.std.proofs.lemmas.Grind.{common_steps}
 use Rattle.iso_wire.proofs.decimal.digits_of.Goals as goal

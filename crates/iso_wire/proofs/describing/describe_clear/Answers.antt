@@ -1,4 +1,4 @@
--- A wrong edit turns this function. It is refused sooner where its goals have answers, as these.
+-- The lines are the description of the message with every value in full.
 use Rattle.std.proofs.Common.{rules}
 use Rattle.iso_wire.proofs.describing.describe_clear.Goals as goal
 

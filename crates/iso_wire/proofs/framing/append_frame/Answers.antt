@@ -1,4 +1,4 @@
--- A wrong edit turns this function. It is refused sooner where its goals have answers, as these.
+-- A body that the header can't count changes nothing.
 use Rattle.std.proofs.Common.{refl}
 use Rattle.iso_wire.proofs.framing.append_frame.Goals as goal
 

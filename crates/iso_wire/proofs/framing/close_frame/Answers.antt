@@ -1,4 +1,4 @@
--- A wrong edit turns this function. It is refused sooner where its goals have answers, as these.
+-- The room in front becomes the header that counts the body behind it.
 use Rattle.std.proofs.Common.{rules}
 use Rattle.iso_wire.proofs.framing.close_frame.Goals as goal
 

@@ -1,4 +1,4 @@
--- A wrong edit turns this function. It is refused sooner where its goals have answers, as these.
+-- A number without a row stops the bytes at its bitmap, as an unknown element.
 use Rattle.std.proofs.Common.{rules}
 use Rattle.iso_wire.proofs.front.known_word.Goals as goal
 

@@ -1,4 +1,4 @@
--- A wrong edit turns this function. It is refused sooner where its goals have answers, as these.
+-- A secondary bitmap without a third one is its word, if all its numbers have rows.
 use Rattle.std.proofs.Common.{◌≡◌, rules}
 use Rattle.iso_wire.specs.Reading.{secondary_at}
 use Rattle.iso_wire.proofs.front.secondary_of.Goals as goal

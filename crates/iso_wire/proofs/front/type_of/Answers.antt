@@ -1,4 +1,4 @@
--- A wrong edit turns this function. It is refused sooner where its goals have answers, as these.
+-- Fewer bytes than a message type takes are told as missing.
 use Rattle.std.proofs.Common.{◌≡◌, ap, rules}
 use Rattle.iso_wire.specs.declared.fault.UnpackCause.TheVariants.{Short}
 use Rattle.iso_wire.specs.declared.fault.UnpackFault.{UnpackFault}

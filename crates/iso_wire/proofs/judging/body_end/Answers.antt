@@ -1,4 +1,4 @@
--- A wrong edit turns this function. It is refused sooner where its goals have answers, as these.
+-- A bad body stops the bytes at its front, with the fault that it has.
 use Rattle.std.proofs.Common.{rules}
 use Rattle.iso_wire.proofs.judging.body_end.Goals as goal
 

@@ -1,4 +1,4 @@
--- A wrong edit turns this function. It is refused sooner where its goals have answers, as these.
+-- The message is what the bytes begin with, though its memory was another one's.
 use Rattle.std.proofs.Common.{rules}
 use Rattle.iso_wire.proofs.unpacker.unpack_spare.Goals as goal
 

@@ -1,4 +1,4 @@
--- A wrong edit turns this function. It is refused sooner where its goals have answers, as these.
+-- A fault that isn't of the length lies behind it.
 use Rattle.std.proofs.Common.{◌≡◌, rules}
 use Rattle.iso_wire.specs.Reading.{fault_place}
 use Rattle.iso_wire.proofs.unpacking.fault_place.Goals as goal

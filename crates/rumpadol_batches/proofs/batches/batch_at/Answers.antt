@@ -1,4 +1,4 @@
--- A wrong edit turns this function. It is refused sooner where its goals have answers, as these.
+-- A batch is the heading of its place and the records of that part.
 use Rattle.std.proofs.Common.{rules}
 use Rattle.rumpadol_batches.proofs.batches.batch_at.Goals as goal
 

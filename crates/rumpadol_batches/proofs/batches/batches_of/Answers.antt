@@ -1,4 +1,4 @@
--- A wrong edit turns this function. It is refused sooner where its goals have answers, as these.
+-- There is a batch for each full part, and one more for what is left over.
 use Rattle.std.proofs.Common.{rules}
 use Rattle.rumpadol_batches.proofs.batches.batches_of.Goals as goal
 

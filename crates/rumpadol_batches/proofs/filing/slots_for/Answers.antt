@@ -1,4 +1,4 @@
--- A wrong edit turns this function. It is refused sooner where its goals have answers, as these.
+-- Where the doubling ends, there is room for the orders and two records more.
 use Rattle.std.proofs.Common.{rules}
 use Rattle.rumpadol_batches.proofs.filing.slots_for.Goals as goal
 

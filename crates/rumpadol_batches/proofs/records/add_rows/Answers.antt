@@ -1,4 +1,4 @@
--- A wrong edit turns this function. It is refused sooner where its goals have answers, as these.
+-- Where a row doesn't tell the next place, no count is given.
 use Rattle.std.proofs.Common.{rules}
 use Rattle.rumpadol_batches.proofs.records.add_rows.Goals as goal
 

@@ -1,4 +1,4 @@
--- A wrong edit turns this function. It is refused sooner where its goals have answers, as these.
+-- Two numbers are a range where the first isn't above the second.
 use Rattle.std.proofs.Common.{rules}
 use Rattle.rumpadol_buying.proofs.numbers.range_between.Goals as goal
 

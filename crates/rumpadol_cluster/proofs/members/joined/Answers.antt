@@ -1,4 +1,4 @@
--- A wrong edit turns this function. It is refused sooner where its goals have answers, as these.
+-- Members that tell two different clusters have none in common.
 use Rattle.std.proofs.Common.{rules}
 use Rattle.rumpadol_cluster.proofs.members.joined.Goals as goal
 

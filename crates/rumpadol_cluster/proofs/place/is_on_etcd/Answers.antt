@@ -1,4 +1,4 @@
--- A wrong edit turns this function. It is refused sooner where its goals have answers, as these.
+-- A journal is on etcd where its word begins with `etcd://`.
 use Rattle.std.proofs.Common.{rules}
 use Rattle.rumpadol_cluster.proofs.place.is_on_etcd.Goals as goal
 

@@ -1,4 +1,4 @@
--- A wrong edit turns this function. It is refused sooner where its goals have answers, as these.
+-- A place that is found has no user, and so no password.
 use Rattle.std.proofs.Common.{rules}
 use Rattle.rumpadol_cluster.proofs.place.place_of.Goals as goal
 

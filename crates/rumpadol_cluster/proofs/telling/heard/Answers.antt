@@ -1,4 +1,4 @@
--- A wrong edit turns this function. It is refused sooner where its goals have answers, as these.
+-- A whole text that doesn't tell to take over tells something else.
 use Rattle.std.proofs.Common.{rules}
 use Rattle.rumpadol_cluster.proofs.telling.heard.Goals as goal
 

@@ -1,4 +1,4 @@
--- A wrong edit turns this function. It is refused sooner where its goals have answers, as these.
+-- A call about a lease takes at most a third of it, and no longer than any call.
 use Rattle.std.proofs.Common.{rules}
 use Rattle.rumpadol_cluster.proofs.waiting.lease_timeout.Goals as goal
 

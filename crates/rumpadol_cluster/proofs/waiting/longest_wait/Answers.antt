@@ -1,4 +1,4 @@
--- A wrong edit turns this function. It is refused sooner where its goals have answers, as these.
+-- The host before is waited for as long as three leases last.
 use Rattle.std.proofs.Common.{rules}
 use Rattle.rumpadol_cluster.proofs.waiting.longest_wait.Goals as goal
 

@@ -1,4 +1,4 @@
--- A wrong edit turns this function. It is refused sooner where its goals have answers, as these.
+-- Words that pass are about a journal on etcd, or say nothing of one.
 use Rattle.std.proofs.Common.{rules}
 use Rattle.rumpadol_cluster.proofs.words.check_words.Goals as goal
 

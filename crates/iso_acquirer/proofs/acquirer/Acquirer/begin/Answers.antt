@@ -16,6 +16,6 @@ invariant_of-self-2 c =
     (omega (arith, many, c.if-used.false))
     (omega (arith, c.in_ok-reserve.ensures.ok, c.push_reserved.ensures.len, c.push_reserved.ensures.capacity)))
 
--- a wrong edit turns this: it is refused sooner where the goal has an answer
+-- the debit stands behind all that the acquirer has
 pub returns-clause-begun : goal.returns-clause-begun
 returns-clause-begun c = search rules

@@ -6,6 +6,6 @@ use Rattle.iso_acquirer.proofs.acquirer.Acquirer.timeout_by.Goals as goal
 pub returns-then-count-eq1-clause-own : goal.returns-then-count-eq1-clause-own
 returns-then-count-eq1-clause-own c = ap (λ p. p.id) (c.bring.ensures (λ _. Waiting 2) (ap (on_stage (λ _. Waiting 2)) c.requires.transaction))
 
--- a wrong edit turns this: it is refused sooner where the goal has an answer
+-- the reversal that waits is sent again, and nothing changes
 pub returns-in-Reversing-clause-ok : goal.returns-in-Reversing-clause-ok
 returns-in-Reversing-clause-ok c = search rules

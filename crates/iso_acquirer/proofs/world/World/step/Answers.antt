@@ -24,7 +24,7 @@ pub returns-in-Other-clause-closed : goal.returns-in-Other-clause-closed
 returns-in-Other-clause-closed c =
     stays c.args.self.now c.other.new.self (Other c.in-Other.order) c.other.result (subst IsSound c.self.view_is c.self.invariant) c.other.ensures.ok c.other.ensures.unchanged
 
--- wrong edits turn these: they are refused sooner where the goals have answers
+-- an order is delivered, or there is a reason why it isn't
 pub returns-in-Deliver-clause-made : goal.returns-in-Deliver-clause-made
 returns-in-Deliver-clause-made c = search rules
 

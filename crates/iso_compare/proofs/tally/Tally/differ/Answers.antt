@@ -1,4 +1,4 @@
--- A wrong edit turns this function. It is refused sooner where its goals have answers, as these.
+-- As many differ as were compared, less those that are the same.
 use Rattle.std.proofs.Common.{rules}
 use Rattle.iso_compare.proofs.tally.Tally.differ.Goals as goal
 

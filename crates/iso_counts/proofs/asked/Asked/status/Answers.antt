@@ -1,4 +1,4 @@
--- A wrong edit turns this function. It is refused sooner where its goals have answers, as these.
+-- A host whose journal can't be written isn't well: 503.
 use Rattle.std.proofs.Common.{rules}
 use Rattle.iso_counts.proofs.asked.Asked.status.Goals as goal
 

@@ -1,4 +1,4 @@
--- A wrong edit turns this function. It is refused sooner where its goals have answers, as these.
+-- Once the log failed, the journal can't be written; nothing else changes.
 use Rattle.std.proofs.Common.{rules}
 use Rattle.iso_counts.proofs.host_counts.HostCounts.count.Goals as goal
 

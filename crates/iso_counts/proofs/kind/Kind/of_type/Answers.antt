@@ -1,4 +1,4 @@
--- A wrong edit turns this function. It is refused sooner where its goals have answers, as these.
+-- Any class or function beside those of the other kinds is of the kind Other.
 use Rattle.std.proofs.Common.{rules}
 use Rattle.iso_counts.proofs.kind.Kind.of_type.Goals as goal
 

@@ -1,4 +1,4 @@
--- A wrong edit turns this function. It is refused sooner where its goals have answers, as these.
+-- An answer counts by its frame's kind, its code and its time.
 use Rattle.std.proofs.Common.{rules}
 use Rattle.iso_counts.proofs.link_counts.LinkCounts.count_answer.Goals as goal
 

@@ -1,4 +1,4 @@
--- A wrong edit turns this function. It is refused sooner where its goals have answers, as these.
+-- A closed peer is connected no more, and counts by why it was closed.
 use Rattle.std.proofs.Common.{rules}
 use Rattle.iso_counts.proofs.link_counts.LinkCounts.count_closing.Goals as goal
 

@@ -1,4 +1,4 @@
--- A wrong edit turns this function. It is refused sooner where its goals have answers, as these.
+-- No amount is drawn below the least.
 use Rattle.std.proofs.Common.{rules}
 use Rattle.iso_drive.proofs.draw.Draw.amount.Goals as goal
 

@@ -1,4 +1,4 @@
--- A wrong edit turns this function. It is refused sooner where its goals have answers, as these.
+-- Exactly the transactions that wait on the board are open.
 use Rattle.std.proofs.Common.{rules}
 use Rattle.iso_drive.proofs.driver.Driver.open.Goals as goal
 

@@ -1,4 +1,4 @@
--- A wrong edit turns this function. It is refused sooner where its goals have answers, as these.
+-- A loss while bytes went out isn't told as a request that was never sent.
 use Rattle.std.proofs.Common.{rules}
 use Rattle.iso_etcd.proofs.link.Link.ask.Goals as goal
 

@@ -1,4 +1,4 @@
--- A wrong edit turns this function. It is refused sooner where its goals have answers, as these.
+-- The front of the buffer has room for what one read gives, and takes exactly that.
 use Rattle.std.proofs.Common.{rules}
 use Rattle.iso_fakes.proofs.streams.FewBytesRead.read.Goals as goal
 

@@ -1,4 +1,4 @@
--- A wrong edit turns this function. It is refused sooner where its goals have answers, as these.
+-- A number is covered where it is long enough and its first digits lie in the range.
 use Rattle.std.proofs.Common.{rules}
 use Rattle.iso_front.proofs.prefixes.Prefixes.covers.Goals as goal
 

@@ -1,4 +1,4 @@
--- A wrong edit turns this function. It is refused sooner where its goals have answers, as these.
+-- What goes to one shard goes to the place of that shard alone.
 use Rattle.std.proofs.Common.{rules}
 use Rattle.iso_front.proofs.route.Route.goes_to.Goals as goal
 

@@ -1,4 +1,4 @@
--- A wrong edit turns this function. It is refused sooner where its goals have answers, as these.
+-- What is held back begins in the known bytes, or right behind those that wait.
 use Rattle.std.proofs.Common.{rules}
 use Rattle.iso_gather.proofs.gathered.GatheredDisk.joins.Goals as goal
 

@@ -1,4 +1,4 @@
--- A wrong edit turns this function. It is refused sooner where its goals have answers, as these.
+-- A new one knows of no bytes and has none that wait: it is sound over any disk.
 use Rattle.std.proofs.Common.{rules}
 use Rattle.iso_gather.proofs.gathered.GatheredDisk.new.Goals as goal
 

@@ -1,4 +1,4 @@
--- A wrong edit turns this function. It is refused sooner where its goals have answers, as these.
+-- However it ends, the file has all the bytes that are known of it.
 use Rattle.std.proofs.Common.{rules}
 use Rattle.iso_gather.proofs.gathered.GatheredDisk.resize_behind.Goals as goal
 

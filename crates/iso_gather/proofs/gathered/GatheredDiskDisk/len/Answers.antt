@@ -1,4 +1,4 @@
--- A wrong edit turns this function. It is refused sooner where its goals have answers, as these.
+-- Once nothing waits, the length is that of the disk below.
 use Rattle.std.proofs.Common.{rules}
 use Rattle.iso_gather.proofs.gathered.GatheredDiskDisk.len.Goals as goal
 

@@ -1,4 +1,4 @@
--- A wrong edit turns this function. It is refused sooner where its goals have answers, as these.
+-- The disk below counts what it caught, and this one the writes that found no room.
 use Rattle.std.proofs.Common.{rules}
 use Rattle.iso_gather.proofs.gathered.GatheredDiskDisk.tally.Goals as goal
 

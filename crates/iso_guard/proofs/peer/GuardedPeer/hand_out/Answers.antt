@@ -1,4 +1,4 @@
--- A wrong edit turns this function. It is refused sooner where its goals have answers, as these.
+-- The peer gets what waits where every order is kept and the log is well.
 use Rattle.std.proofs.Common.{rules}
 use Rattle.iso_guard.proofs.peer.GuardedPeer.hand_out.Goals as goal
 

@@ -1,4 +1,4 @@
--- A wrong edit turns this function. It is refused sooner where its goals have answers, as these.
+-- A read gives the next bytes of the stream, and no more than the buffer holds.
 use Rattle.std.proofs.Common.{rules}
 use Rattle.iso_host.proofs.standard.StdInlet.read.Goals as goal
 

@@ -1,4 +1,4 @@
--- A wrong edit turns this function. It is refused sooner where its goals have answers, as these.
+-- A flush that fails is counted as a failure.
 use Rattle.std.proofs.Common.{rules}
 use Rattle.iso_host.proofs.standard.StdOutlet.flush.Goals as goal
 

@@ -1,4 +1,4 @@
--- A wrong edit turns this function. It is refused sooner where its goals have answers, as these.
+-- Of at least one byte, a write that succeeds takes at least one.
 use Rattle.std.proofs.Common.{rules}
 use Rattle.iso_host.proofs.standard.StdOutlet.write.Goals as goal
 

@@ -1,4 +1,4 @@
--- A wrong edit turns this function. It is refused sooner where its goals have answers, as these.
+-- The journal's length is the number of orders, and fits 32 bits as the limit does.
 use Rattle.std.proofs.Common.{arith}
 use Rattle.std.proofs.lemmas.Grind.{common_steps}
 use Rattle.iso_issuer.proofs.issuer.Issuer.len.Goals as goal

@@ -1,4 +1,4 @@
--- A wrong edit turns this function. It is refused sooner where its goals have answers, as these.
+-- A reversal or a completion finds what is left, what it reverses and the hold that it touches.
 use Rattle.std.proofs.Common.{rules}
 use Rattle.iso_issuer.proofs.journal.Journal.find.Goals as goal
 

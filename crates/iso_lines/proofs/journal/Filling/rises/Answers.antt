@@ -1,4 +1,4 @@
--- A wrong edit turns this function. It is refused sooner where its goals have answers, as these.
+-- Hundredths that are reached above those told before are told now.
 use Rattle.std.proofs.Common.{rules}
 use Rattle.iso_lines.proofs.journal.Filling.rises.Goals as goal
 

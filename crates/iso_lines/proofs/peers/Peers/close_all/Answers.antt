@@ -1,4 +1,4 @@
--- A wrong edit turns this function. It is refused sooner where its goals have answers, as these.
+-- No peer is left under the keys so far.
 use Rattle.std.proofs.Common.{rules}
 use Rattle.iso_lines.proofs.peers.Peers.close_all.Goals as goal
 

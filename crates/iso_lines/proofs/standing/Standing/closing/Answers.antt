@@ -1,4 +1,4 @@
--- A wrong edit turns this function. It is refused sooner where its goals have answers, as these.
+-- A peer that ended goes once nothing waits for it; one that is read from goes when it is late.
 use Rattle.std.proofs.Common.{rules}
 use Rattle.iso_lines.proofs.standing.Standing.closing.Goals as goal
 

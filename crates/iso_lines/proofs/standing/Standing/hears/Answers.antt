@@ -1,4 +1,4 @@
--- A wrong edit turns this function. It is refused sooner where its goals have answers, as these.
+-- When bytes came is known, and since when a frame is unfinished.
 use Rattle.std.proofs.Common.{rules}
 use Rattle.iso_lines.proofs.standing.Standing.hears.Goals as goal
 

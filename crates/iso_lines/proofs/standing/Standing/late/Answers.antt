@@ -1,4 +1,4 @@
--- A wrong edit turns this function. It is refused sooner where its goals have answers, as these.
+-- A peer within both limits, of a frame and of silence, isn't late.
 use Rattle.std.proofs.Common.{rules}
 use Rattle.iso_lines.proofs.standing.Standing.late.Goals as goal
 

@@ -1,4 +1,4 @@
--- A wrong edit turns this function. It is refused sooner where its goals have answers, as these.
+-- A peer that has room for more answers and goes on is read from.
 use Rattle.std.proofs.Common.{rules}
 use Rattle.iso_lines.proofs.standing.Standing.staying.Goals as goal
 

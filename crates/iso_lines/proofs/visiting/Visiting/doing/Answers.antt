@@ -1,4 +1,4 @@
--- A wrong edit turns this function. It is refused sooner where its goals have answers, as these.
+-- A visitor who has an answer is written to until it is out, and then closed.
 use Rattle.std.proofs.Common.{rules}
 use Rattle.iso_lines.proofs.visiting.Visiting.doing.Goals as goal
 

@@ -1,4 +1,4 @@
--- A wrong edit turns this function. It is refused sooner where its goals have answers, as these.
+-- A mix is fair where its four kinds together are at most a hundred.
 use Rattle.std.proofs.Common.{rules}
 use Rattle.iso_mix.proofs.mix.Mix.is_fair.Goals as goal
 

@@ -1,4 +1,4 @@
--- A wrong edit turns this function. It is refused sooner where its goals have answers, as these.
+-- A number behind the holds' and below the completions' end is a completion's.
 use Rattle.std.proofs.Common.{rules}
 use Rattle.iso_mix.proofs.mix.Mix.kind_of.Goals as goal
 

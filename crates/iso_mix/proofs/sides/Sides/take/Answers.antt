@@ -1,4 +1,4 @@
--- A wrong edit turns this function. It is refused sooner where its goals have answers, as these.
+-- An order that is answered waits no more, even where its hold is now ready for a follower.
 use Rattle.std.proofs.Common.{rules}
 use Rattle.iso_mix.proofs.sides.Sides.take.Goals as goal
 

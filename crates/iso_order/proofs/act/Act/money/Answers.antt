@@ -1,4 +1,4 @@
--- A wrong edit turns this function. It is refused sooner where its goals have answers, as these.
+-- A completion is about the account, amount and currency that it tells itself.
 use Rattle.std.proofs.Common.{rules}
 use Rattle.iso_order.proofs.act.Act.money.Goals as goal
 

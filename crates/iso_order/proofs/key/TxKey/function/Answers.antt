@@ -1,4 +1,4 @@
--- A wrong edit turns this function. It is refused sooner where its goals have answers, as these.
+-- The function is the third digit of the message type.
 use Rattle.std.proofs.Common.{rules}
 use Rattle.iso_order.proofs.key.TxKey.function.Goals as goal
 

@@ -1,4 +1,4 @@
--- A wrong edit turns this function. It is refused sooner where its goals have answers, as these.
+-- A key that is valid but for its acquirer needs one of at most eleven digits.
 use Rattle.std.proofs.Common.{rules}
 use Rattle.iso_order.proofs.key.TxKey.is_valid.Goals as goal
 

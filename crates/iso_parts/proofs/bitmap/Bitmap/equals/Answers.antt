@@ -1,4 +1,4 @@
--- A wrong edit turns this function. It is refused sooner where its goals have answers, as these.
+-- Two sets are the same where each has all numbers of the other.
 use Rattle.std.proofs.Common.{rules}
 use Rattle.iso_parts.proofs.bitmap.Bitmap.equals.Goals as goal
 

@@ -1,4 +1,4 @@
--- A wrong edit turns this function. It is refused sooner where its goals have answers, as these.
+-- In hexadecimal, the digits of the bitmaps stand behind what was there.
 use Rattle.std.proofs.Common.{rules}
 use Rattle.iso_parts.proofs.bitmap.BitmapCoding.append.Goals as goal
 

@@ -1,4 +1,4 @@
--- A wrong edit turns this function. It is refused sooner where its goals have answers, as these.
+-- A bitmap in hexadecimal takes as many bytes as it has digits: 16.
 use Rattle.std.proofs.Common.{sym, ap}
 use Rattle.iso_parts.specs.Bitmap.{map_size}
 use Rattle.iso_parts.proofs.bitmap.BitmapCoding.size.Goals as goal

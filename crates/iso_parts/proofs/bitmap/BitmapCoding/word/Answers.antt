@@ -1,4 +1,4 @@
--- A wrong edit turns this function. It is refused sooner where its goals have answers, as these.
+-- A bitmap in hexadecimal is the word that its digits write.
 use Rattle.std.proofs.Common.{sym, ap, ◌∙◌}
 use Rattle.iso_parts.specs.declared.bitmap.BitmapCoding.{BitmapCoding}
 use Rattle.iso_parts.specs.BitmapReading.{word_in}

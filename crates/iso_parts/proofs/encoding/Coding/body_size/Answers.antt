@@ -1,4 +1,4 @@
--- A wrong edit turns this function. It is refused sooner where its goals have answers, as these.
+-- In BCD two characters share a byte, and an odd one has its own.
 use Rattle.std.proofs.Common.{rules, ◌≡◌, ◌+◌, ◌/◌}
 use Rattle.iso_parts.specs.Reading.{body_size}
 use Rattle.iso_parts.proofs.encoding.Coding.body_size.Goals as goal

@@ -1,4 +1,4 @@
--- A wrong edit turns this function. It is refused sooner where its goals have answers, as these.
+-- In BCD values of the classes N and Z can be written.
 use Rattle.std.proofs.Common.{rules, ◌≡◌, ◌⊎◌}
 use Rattle.iso_parts.specs.declared.class.CharClass.TheVariants.{N, Z}
 use Rattle.iso_parts.proofs.encoding.Coding.takes.Goals as goal

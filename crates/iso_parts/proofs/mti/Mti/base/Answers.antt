@@ -1,4 +1,4 @@
--- A wrong edit turns this function. It is refused sooner where its goals have answers, as these.
+-- Three digits stay, and the origin is rounded down to an even one.
 use Rattle.std.proofs.Common.{refl}
 use Rattle.iso_parts.proofs.mti.Mti.base.Goals as goal
 

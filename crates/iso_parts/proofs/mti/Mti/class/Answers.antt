@@ -1,4 +1,4 @@
--- A wrong edit turns this function. It is refused sooner where its goals have answers, as these.
+-- The digit 8 means network management.
 use Rattle.std.proofs.Common.{sym, ap}
 use Rattle.iso_parts.specs.Mti.{class_of}
 use Rattle.iso_parts.proofs.mti.Mti.class.Goals as goal

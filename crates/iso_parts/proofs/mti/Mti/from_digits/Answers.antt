@@ -1,4 +1,4 @@
--- A wrong edit turns this function. It is refused sooner where its goals have answers, as these.
+-- A number of more than four digits is no message type.
 use Rattle.std.proofs.Common.{rules}
 use Rattle.iso_parts.proofs.mti.Mti.from_digits.Goals as goal
 

@@ -1,4 +1,4 @@
--- A wrong edit turns this function. It is refused sooner where its goals have answers, as these.
+-- Four ASCII digits are the type with these digits.
 use Rattle.std.proofs.Common.{rules, ◌≡◌, ◌-◌, ℕ, List, Some, get_or, sym}
 use Rattle.iso_parts.specs.Mti.{digits_in}
 use Rattle.iso_parts.proofs.mti.Mti.from_text.Goals as goal

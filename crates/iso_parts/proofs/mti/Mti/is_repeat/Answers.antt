@@ -1,4 +1,4 @@
--- A wrong edit turns this function. It is refused sooner where its goals have answers, as these.
+-- It is a repeat where the origin is odd.
 use Rattle.std.proofs.Common.{refl}
 use Rattle.iso_parts.proofs.mti.Mti.is_repeat.Goals as goal
 

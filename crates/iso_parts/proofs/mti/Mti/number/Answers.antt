@@ -1,4 +1,4 @@
--- A wrong edit turns this function. It is refused sooner where its goals have answers, as these.
+-- The number is the sum of the four digits, each at its power of ten.
 use Rattle.std.proofs.Common.{◌≡◌, ◌+◌, ◌*◌, arith}
 use Rattle.iso_parts.specs.Mti.{mti_number}
 use Rattle.iso_parts.proofs.mti.Mti.number.Goals as goal

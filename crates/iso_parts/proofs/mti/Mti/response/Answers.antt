@@ -1,4 +1,4 @@
--- A wrong edit turns this function. It is refused sooner where its goals have answers, as these.
+-- A request and an advice have a response: the next function, and an even origin.
 use Rattle.std.proofs.Common.{rules, ◌≡◌, ◌⊎◌}
 use Rattle.iso_parts.proofs.mti.Mti.response.Goals as goal
 

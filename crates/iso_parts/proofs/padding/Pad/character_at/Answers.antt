@@ -1,4 +1,4 @@
--- A wrong edit turns this function. It is refused sooner where its goals have answers, as these.
+-- With pads on the right, a place has the value's character or, behind its end, the pad.
 use Rattle.std.proofs.Common.{arith}
 use Rattle.std.proofs.lemmas.Grind.{common_steps}
 use Rattle.iso_parts.proofs.padding.Pad.character_at.Goals as goal

@@ -1,4 +1,4 @@
--- A wrong edit turns this function. It is refused sooner where its goals have answers, as these.
+-- Three digits in BCD take two bytes.
 use Rattle.std.proofs.Common.{rules, ◌≡◌}
 use Rattle.iso_parts.specs.Reading.{prefix_size}
 use Rattle.iso_parts.proofs.prefix.Length.prefix_size.Goals as goal

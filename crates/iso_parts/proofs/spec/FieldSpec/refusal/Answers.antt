@@ -1,4 +1,4 @@
--- A wrong edit turns this function. It is refused sooner where its goals have answers, as these.
+-- A value of a good length and class with no pad at its padded end fits.
 use Rattle.std.proofs.Common.{rules}
 use Rattle.iso_parts.proofs.spec.FieldSpec.refusal.Goals as goal
 

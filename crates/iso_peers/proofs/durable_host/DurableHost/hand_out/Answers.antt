@@ -1,4 +1,4 @@
--- A wrong edit turns this function. It is refused sooner where its goals have answers, as these.
+-- Bytes go out where the log is well and all orders are kept, and only there.
 use Rattle.std.proofs.Common.{rules}
 use Rattle.iso_peers.proofs.durable_host.DurableHost.hand_out.Goals as goal
 

@@ -1,4 +1,4 @@
--- A wrong edit turns this function. It is refused sooner where its goals have answers, as these.
+-- The orders that were entered and are not yet kept wait.
 use Rattle.std.proofs.Common.{rules}
 use Rattle.iso_peers.proofs.durable_host.DurableHost.waits.Goals as goal
 

@@ -1,4 +1,4 @@
--- A wrong edit turns this function. It is refused sooner where its goals have answers, as these.
+-- An answer differs where its digest isn't that of the one that closed the transaction.
 use Rattle.std.proofs.Common.{rules}
 use Rattle.iso_plan.proofs.sendings.Sendings.differs.Goals as goal
 

@@ -1,4 +1,4 @@
--- A wrong edit turns this function. It is refused sooner where its goals have answers, as these.
+-- Sent once and in this run, an order took the time since then.
 use Rattle.std.proofs.Common.{rules}
 use Rattle.iso_plan.proofs.sendings.Sendings.latency.Goals as goal
 

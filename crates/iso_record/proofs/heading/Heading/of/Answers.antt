@@ -1,4 +1,4 @@
--- A wrong edit turns this function. It is refused sooner where its goals have answers, as these.
+-- The heading has the rules, and the document's digest in four words.
 use Rattle.std.proofs.Common.{rules}
 use Rattle.iso_record.proofs.heading.Heading.of.Goals as goal
 

@@ -1,4 +1,4 @@
--- A wrong edit turns this function. It is refused sooner where its goals have answers, as these.
+-- A connection is full exactly where the bytes that wait reach the bound.
 use Rattle.std.proofs.Common.{rules}
 use Rattle.iso_relay.proofs.bounds.Bounds.is_full.Goals as goal
 

@@ -1,4 +1,4 @@
--- A wrong edit turns this function. It is refused sooner where its goals have answers, as these.
+-- An acquirer is closed once it was silent for as long as it may be.
 use Rattle.std.proofs.Common.{rules}
 use Rattle.iso_relay.proofs.bounds.Bounds.is_over.Goals as goal
 

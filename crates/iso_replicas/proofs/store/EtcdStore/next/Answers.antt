@@ -1,4 +1,4 @@
--- A wrong edit turns this function. It is refused sooner where its goals have answers, as these.
+-- Only the place right behind those heard of is given, and as it was asked for.
 use Rattle.std.proofs.Common.{rules}
 use Rattle.iso_replicas.proofs.store.EtcdStore.next.Goals as goal
 

@@ -1,4 +1,4 @@
--- A wrong edit turns this function. It is refused sooner where its goals have answers, as these.
+-- A sync keeps all notes, and what the acquirer holds still follows from them.
 use Rattle.std.proofs.Common.{rules}
 use Rattle.iso_restarts.proofs.durable.DurableAcquirer.keep.Goals as goal
 

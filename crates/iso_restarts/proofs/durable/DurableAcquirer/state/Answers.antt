@@ -1,4 +1,4 @@
--- A wrong edit turns this function. It is refused sooner where its goals have answers, as these.
+-- Where nothing waits, the state is the one that the kept notes tell.
 use Rattle.std.proofs.Common.{rules}
 use Rattle.iso_restarts.proofs.durable.DurableAcquirer.state.Goals as goal
 

@@ -1,4 +1,4 @@
--- A wrong edit turns this function. It is refused sooner where its goals have answers, as these.
+-- Once a note wasn't written, the log counts as failed for good.
 use Rattle.std.proofs.Common.{rules}
 use Rattle.iso_restarts.proofs.durable.DurableAcquirer.write.Goals as goal
 

@@ -1,4 +1,4 @@
--- A wrong edit turns this function. It is refused sooner where its goals have answers, as these.
+-- Two digits are the code of the number that they write, and no other text is one.
 use Rattle.std.proofs.Common.{rules}
 use Rattle.iso_script.proofs.code.Code.from_digits.Goals as goal
 

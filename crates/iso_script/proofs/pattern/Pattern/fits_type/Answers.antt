@@ -1,4 +1,4 @@
--- A wrong edit turns this function. It is refused sooner where its goals have answers, as these.
+-- A type that is given fits a message of that type and its repeat.
 use Rattle.std.proofs.Common.{rules}
 use Rattle.iso_script.proofs.pattern.Pattern.fits_type.Goals as goal
 

@@ -1,4 +1,4 @@
--- A wrong edit turns this function. It is refused sooner where its goals have answers, as these.
+-- A peer is full where what waits and what is held back reach the bound together.
 use Rattle.std.proofs.Common.{rules}
 use Rattle.iso_script_peers.proofs.standing.Bounds.is_full.Goals as goal
 

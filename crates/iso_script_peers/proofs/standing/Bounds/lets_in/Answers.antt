@@ -1,4 +1,4 @@
--- A wrong edit turns this function. It is refused sooner where its goals have answers, as these.
+-- One more peer is let in exactly while there are fewer than the bound.
 use Rattle.std.proofs.Common.{rules}
 use Rattle.iso_script_peers.proofs.standing.Bounds.lets_in.Goals as goal
 

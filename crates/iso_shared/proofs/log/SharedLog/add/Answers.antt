@@ -1,4 +1,4 @@
--- A wrong edit turns this function. It is refused sooner where its goals have answers, as these.
+-- A row joins the batch, or begins the next one where that is full.
 use Rattle.std.proofs.Common.{rules}
 use Rattle.iso_shared.proofs.log.SharedLog.add.Goals as goal
 

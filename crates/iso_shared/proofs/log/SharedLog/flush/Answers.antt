@@ -1,4 +1,4 @@
--- A wrong edit turns this function. It is refused sooner where its goals have answers, as these.
+-- The batch is sent if it has an order, and all that the log has seen is synced.
 use Rattle.std.proofs.Common.{rules}
 use Rattle.iso_shared.proofs.log.SharedLog.flush.Goals as goal
 

@@ -1,4 +1,4 @@
--- A wrong edit turns this function. It is refused sooner where its goals have answers, as these.
+-- The batch stands at the next place, or it stays with the log to be sent again.
 use Rattle.std.proofs.Common.{rules}
 use Rattle.iso_shared.proofs.log.SharedLog.send.Goals as goal
 

@@ -1,4 +1,4 @@
--- A wrong edit turns this function. It is refused sooner where its goals have answers, as these.
+-- A row that a host can do without may be missing.
 use Rattle.std.proofs.Common.{rules, ◌≡◌, false}
 use Rattle.iso_table.proofs.host_ready.HostRow.fault.Goals as goal
 

@@ -1,4 +1,4 @@
--- A wrong edit turns this function. It is refused sooner where its goals have answers, as these.
+-- The table is that of the 1987 edition, with digits in BCD.
 use Rattle.std.proofs.Common.{rules}
 use Rattle.iso_table.proofs.table.Table.bcd87.Goals as goal
 

@@ -1,4 +1,4 @@
--- A wrong edit turns this function. It is refused sooner where its goals have answers, as these.
+-- Each place with a row counts as one.
 use Rattle.std.proofs.Common.{rules, ℕ}
 use Rattle.iso_table.proofs.table.Table.rows.Goals as goal
 

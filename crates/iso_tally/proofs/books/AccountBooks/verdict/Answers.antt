@@ -1,4 +1,4 @@
--- A wrong edit turns this function. It is refused sooner where its goals have answers, as these.
+-- An account of which nothing was told isn't agreed on.
 use Rattle.std.proofs.Common.{rules}
 use Rattle.iso_tally.proofs.books.AccountBooks.verdict.Goals as goal
 

@@ -1,4 +1,4 @@
--- A wrong edit turns this function. It is refused sooner where its goals have answers, as these.
+-- The value stands behind those that were there.
 use Rattle.std.proofs.Common.{rules}
 use Rattle.iso_tally.proofs.latencies.Latencies.add.Goals as goal
 

@@ -1,4 +1,4 @@
--- A wrong edit turns this function. It is refused sooner where its goals have answers, as these.
+-- All are answered where no hold, completion, inquiry or partial reversal waits.
 use Rattle.std.proofs.Common.{rules}
 use Rattle.iso_tally.proofs.mixed.Mixed.is_closed.Goals as goal
 

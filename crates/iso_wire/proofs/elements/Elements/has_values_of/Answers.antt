@@ -1,4 +1,4 @@
--- A wrong edit turns this function. It is refused sooner where its goals have answers, as these.
+-- Elements with the same ends have the same values where all bytes are the same.
 use Rattle.std.proofs.Common.{rules}
 use Rattle.iso_wire.proofs.elements.Elements.has_values_of.Goals as goal
 

@@ -1,4 +1,4 @@
--- A wrong edit turns this function. It is refused sooner where its goals have answers, as these.
+-- A header of two bytes in binary counts up to 65,535.
 use Rattle.std.proofs.Common.{rules}
 use Rattle.iso_wire.proofs.header.Header.limit.Goals as goal
 

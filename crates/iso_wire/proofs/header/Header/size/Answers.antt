@@ -1,4 +1,4 @@
--- A wrong edit turns this function. It is refused sooner where its goals have answers, as these.
+-- A header of four ASCII digits takes four bytes.
 use Rattle.std.proofs.Common.{rules}
 use Rattle.iso_wire.proofs.header.Header.size.Goals as goal
 

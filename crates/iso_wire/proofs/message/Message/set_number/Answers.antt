@@ -1,4 +1,4 @@
--- A wrong edit turns this function. It is refused sooner where its goals have answers, as these.
+-- The element has the number as its value, in decimal and with leading zeros.
 use Rattle.std.proofs.Common.{rules}
 use Rattle.iso_wire.proofs.message.Message.set_number.Goals as goal
 

@@ -1,4 +1,4 @@
--- A wrong edit turns this function. It is refused sooner where its goals have answers, as these.
+-- A copy has the same type and the same elements.
 use Rattle.std.proofs.Common.{rules}
 use Rattle.iso_wire.proofs.message.MessageClone.clone.Goals as goal
 

@@ -1,4 +1,4 @@
--- A wrong edit turns this function. It is refused sooner where its goals have answers, as these.
+-- What was fed stays: only the spare memory is another one.
 use Rattle.std.proofs.Common.{rules}
 use Rattle.iso_wire.proofs.unpacker.Unpacker.reuse.Goals as goal
 

@@ -1,4 +1,4 @@
--- A wrong edit turns this function. It is refused sooner where its goals have answers, as these.
+-- Any fault but Exists, Other, Damaged and Notes is no refusal of what was given.
 use Rattle.std.proofs.Common.{rules}
 use Rattle.rumpadol_buying.proofs.diary.DiaryFault.is_refusal.Goals as goal
 

@@ -1,4 +1,4 @@
--- A wrong edit turns this function. It is refused sooner where its goals have answers, as these.
+-- The time is the one that was given or else the usual one, in milliseconds.
 use Rattle.std.proofs.Common.{rules}
 use Rattle.rumpadol_cluster.proofs.words.ReplicaWords.give_up.Goals as goal
 

@@ -1,4 +1,4 @@
--- A wrong edit turns this function. It is refused sooner where its goals have answers, as these.
+-- Where no such word is found, nothing was said of a journal on etcd.
 use Rattle.std.proofs.Common.{rules}
 use Rattle.rumpadol_cluster.proofs.words.ReplicaWords.given.Goals as goal
 
