@@ -23,7 +23,7 @@
 # make jpos    tables of jPOS packagers, and the filter for Java; builds rumpadol
 # make go      the module for Go, over what make install put under PREFIX=/usr/local
 # make check   proves what changed since the last check
-# make prove   the whole gate: every proof, must-fail edit, test and program, from nothing; RT_JOBS=2 for fewer checks side by side
+# make prove   the whole gate: every proof, wrong edit, test and program, from nothing; RT_JOBS=2 for fewer checks side by side
 # make memory  each call that can want memory, and each command, with each of its growths refused in turn, by the quick run
 # make compare  what both programs do with messages made by chance, and what the model says: SECONDS=120; builds them
 # make loopback  how long a round trip on a port takes, and the memory of a host over many connections: ROUNDS=1000 for fewer
@@ -163,12 +163,8 @@ $(BENCH): $(SOURCES)
 check:
 	rt all check
 
-# Each crate up to the issuer waits for the one below it, so these come first: there a proof gets the cores that are free. The gate
-# keeps them and does the rest, one check more than cores at a time, since a check that begins or ends leaves its core free.
-# (A gate that runs as CI takes no names, nor does that of each toolchain: then all is proved at once.)
 prove:
-	@[ "$$CI" = true ] || rt ci iso_issuer || true
-	RT_JOBS=$(RT_JOBS) rt ci
+	@RT_JOBS=$(RT_JOBS) scripts/gate.sh
 
 memory:
 	@scripts/memory.sh

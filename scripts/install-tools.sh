@@ -53,7 +53,10 @@ told=$(mktemp) || exit 1
 trap 'rm -f "$told"' EXIT
 trap 'exit 1' HUP INT TERM
 apt update > "$told" 2>&1
-for program in $wanted; do
+# all at once, and then one by one what a package that isn't to be had has kept out
+# shellcheck disable=SC2046
+apt install --no-install-recommends $(for program in $wanted; do packages "$program"; done) >> "$told" 2>&1
+for program in $(missing); do
     # shellcheck disable=SC2046
     apt install --no-install-recommends $(packages "$program") >> "$told" 2>&1
 done
