@@ -215,14 +215,23 @@ impl Acquirer {
         currency: [u8; 3],
         sent: u64,
     ) -> Result<Order, AcqFault>
+        // The amount is 1 to 999,999,999,999 minor units, the currency three letters or digits, and
+        // the time has at most ten digits.
         requires { IsFair amount currency sent }
+        // The order is a debit 0200 of that account, amount and currency,
+        // under the next trace number.
         ensures order { IfOk result (λ order. order ≡ debit_of self.old pan amount currency sent) }
+        // Where it succeeds, the transaction waits and was sent once; all other
+        // transactions stay as they were.
         ensures begun { OnOk result (self.new ≡ record self.old { slots = slots_with self.old.slots (debit_of self.old pan amount currency sent) }) }
+        // It succeeds only where fewer than 999,999 trace numbers are used.
         ensures few { OnOk result (length self.old.slots < 999999) }
 
         // It has used all trace numbers, or memory ran out.
         ensures no_more { (result ≡ Err NoMoreTrace) ↔ (length self.old.slots ≡ 999999) }
+        // Any fault but `NoMoreTrace` is want of memory.
         ensures memory { IfErr result (λ e. e ≢ NoMoreTrace → e ≡ Memory) }
+        // A refusal changes nothing.
         ensures unchanged { OnErr result (self.new ≡ self.old) }
     {
         let used = self.slots.len();
@@ -292,11 +301,15 @@ impl Acquirer {
     /// The order to send where no answer came in time to the transaction of that trace number: the transaction's own
     /// order a second time, then its reversal, a message 0420, and that same reversal again and again. Takes no memory.
     pub fn timeout(&mut self, stan: u32) -> Result<Order, AcqFault>
+        // The first time-out sends the order again, the second its whole reversal 0420 under the
+        // next trace number, each later one that same reversal; all other transactions stay.
         ensures ok { IfOk result (λ order. timeout self.old.slots stan ≡ Ok (order, self.new.slots)) }
+        // The acquirer's number (element 32) stays.
         ensures own { self.new.id ≡ self.old.id }
 
         // No such transaction, it is closed, or all trace numbers are used.
         ensures fault { IfErr result (λ e. timeout self.old.slots stan ≡ Err e) }
+        // A refusal changes nothing.
         ensures unchanged { OnErr result (self.new ≡ self.old) }
     {
         let Some(slot) = slot_at(&self.slots, stan) else {

@@ -11,8 +11,14 @@ use iso_issuer::laws::{
 /// agree on each transaction, what is closed stays, and once all is closed the books agree. It says of lists of
 /// events what `World` says of itself, so that a law can speak of runs that nothing plays.
 pub fn runs_agree()
+    // After each run that begins unused, what the acquirer holds as approved stands at the issuer,
+    // and what it holds as declined or reversed never stands.
     ensures agree { RunsAgree }
+    // After each run that begins unused, what is closed stays in its
+    // state, however the run goes on.
     ensures closed { RunsStayClosed }
+    // After each run that begins unused, both books agree once all is closed and no
+    // order of others is entered.
     ensures books { RunsBalance }
     // No trace number is used for two orders.
     ensures sent { RunsSendAsMade }

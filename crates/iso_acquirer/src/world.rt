@@ -61,8 +61,11 @@ fn hand_answer(acquirer: &mut Acquirer, given: &Given)
 impl World {
     /// Both ends, unused. Takes no memory.
     pub fn new(acquirer: Acquirer, issuer: Issuer) -> World
+        // The acquirer has begun no transaction.
         requires acquirer { acquirer.slots ≡ [] }
+        // The issuer has entered no order.
         requires issuer { issuer.orders ≡ [] }
+        // Both ends are as they were given; nothing was sent, and no answer was given.
         ensures { result ≡ record { acquirer = acquirer; sent = []; given = []; issuer = issuer } }
     {
         let alloc = acquirer.allocator();
@@ -245,10 +248,17 @@ impl World {
     /// was sent or no answer given at the place that it names, where an order of others has this acquirer's number, and
     /// where the acquirer or the issuer refuses. Want of memory is told only where none of these holds.
     pub fn step(&mut self, event: Event) -> Result<(), StepFault>
+        // A debit that begins has an amount, a currency and a time that a message can carry.
         requires { IsFairEvent event }
+        // An event does what it says: a debit or time-out sends its order, a sent order is handled
+        // and its answer given, an answer is taken, an order of others is handled.
         ensures made { OnOk result (IsMade self.old event self.new) }
+        // A fault has its reason: nothing sent or given at that place, others' order with this
+        // acquirer's number, or an end that refuses; else it is want of memory.
         ensures fault { IfErr result (IsNotMade self.old event) }
+        // An event that is refused changes nothing.
         ensures unchanged { OnErr result (self.new ≡ self.old) }
+        // A transaction that is approved, declined or reversed stays so.
         ensures closed { StaysClosed self.old self.new }
     {
         // the proof learns here what holds of every world
@@ -282,9 +292,14 @@ impl World {
     /// Steps each event, in order: how many were refused. What is closed stays in its state. The caller gives fewer
     /// than 2^32 events.
     pub fn run(&mut self, events: &[Event]) -> u32
+        // Each debit that begins has an amount, a currency and a time that a message can carry.
         requires fair { All IsFairEvent events.now }
+        // There are fewer than 2^32 events.
         requires few { length events.now < 4294967296 }
+        // The events are stepped in their order, and the number that is told
+        // is how many were refused.
         ensures ran { IsRan self.old events.now result self.new }
+        // A transaction that is approved, declined or reversed stays so.
         ensures closed { StaysClosed self.old self.new }
     {
         let mut refused = 0;

@@ -57,6 +57,8 @@ fn rows_of(
 /// What is on each account, in the order in which the accounts were listed.
 #[tactic(auto, using(crate::proofs::Balanced::rows_are))]
 pub fn account_rows(alloc: Global, issuer: &Issuer) -> Result<Vec<AccountRow>, NoMemory>
+    // Memory aside, a row for each account, in their order: its balances, how many holds are open,
+    // and what they hold together.
     ensures { IfOk result (λ rows. rows.items ≡ map (row_on (journal issuer.now)) issuer.now.accounts) }
 {
     rows_of(alloc, issuer, issuer.balances())

@@ -102,7 +102,11 @@ pub fn replay<R: Read + Drop>(
     heading: &Heading,
     accounts: Accounts,
 ) -> Result<Replayed, BooksFault>
+    // Where the file's bytes are known: the issuer of its orders, each as a host writes it, and
+    // whether zeros alone follow; or the first place whose record no host of these accounts writes.
     ensures found { IfOk result (λ found. IfSome (R.remaining file) (λ all. IsFound accounts all found)) }
+    // Where the file's bytes are known, a fault about the heading is the first thing that it tells
+    // otherwise than is wanted.
     ensures fault { IfErr result (λ e. IfSome (R.remaining file) (λ all. IsOther (Only heading.now) all e)) }
 {
     let mut window = Window::new(alloc, file);

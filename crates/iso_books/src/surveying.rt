@@ -48,7 +48,11 @@ pub fn survey<R: Read + Drop>(
     file: R,
     wanted: &Wanted,
 ) -> Result<Condition, BooksFault>
+    // Where the file's bytes are known: its heading is wanted, and behind it are so many orders and
+    // zeros, or a torn rest, or at this place the first record that isn't its place's row.
     ensures surveyed { IfOk result (λ c. IfSome (R.remaining file) (λ all. IsSurveyed wanted.now all c)) }
+    // Where the file's bytes are known, a fault about the heading is the first thing that it tells
+    // otherwise than is wanted.
     ensures fault { IfErr result (λ e. IfSome (R.remaining file) (λ all. IsOther wanted.now all e)) }
 {
     let mut window = Window::new(alloc, file);

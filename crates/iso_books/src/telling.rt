@@ -95,6 +95,8 @@ pub fn tell<R: Read + Drop, O: Write>(
     is_clear: bool,
     output: &mut O,
 ) -> Result<Condition, BooksFault>
+    // Where the file's bytes are known: it begins with a journal's heading, and the answer is the
+    // one that `survey` gives of it.
     ensures surveyed { IfOk result (λ c. IfSome (R.remaining file) (λ all. IsSurveyed Any all c)) }
 {
     let mut window = Window::new(alloc, file);

@@ -42,8 +42,11 @@ pub extern "C" fn rumpadol_frame(
     out: &mut [u8],
     fault: &mut RumpadolFault,
 ) -> i64
+    // The room begins with the body's frame, and the answer is its length; or -1, an untouched
+    // room, and why: no such header, a body that it can't count, want of memory, or a short room.
     ensures reply { Replies (FramesBy (header_named header) body.now)
         (IsFrameFault (header_named header) body.now) result out.old out.new fault.new }
+    // Where the answer isn't -1, the fault is as it was.
     ensures kept { KeepsFault result fault.old fault.new }
 {
     answer(frame_body(alloc, header, body), out, fault)
@@ -58,7 +61,10 @@ pub extern "C" fn rumpadol_unframe(
     body: &mut RumpadolPart,
     fault: &mut RumpadolFault,
 ) -> i64
+    // The length of the frame that the input begins with, and where its body lies; 0 where it
+    // begins with none and no bad header; or -1 for a bad header, or a number that no header has.
     ensures reply { Unframed (header_named header) input.now result body.old body.new fault.new }
+    // Where the answer isn't -1, the fault is as it was.
     ensures kept { KeepsFault result fault.old fault.new }
 {
     let Some(header) = header_named(header) else {

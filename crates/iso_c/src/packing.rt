@@ -136,9 +136,13 @@ pub extern "C" fn rumpadol_pack(
     out: &mut [u8],
     fault: &mut RumpadolFault,
 ) -> i64
+    // The room begins with the plain spelling of the message of these parts, and the answer is its
+    // length; or -1, an untouched room, and the first fault, memory aside, or how much is wanted.
     ensures reply { Replies (PacksHeld slot.old.value (message_of mti parts.now values.now))
         (IsPackingFaultHeld slot.old.value (message_of mti parts.now values.now)) result out.old out.new fault.new }
+    // Where the answer isn't -1, the fault is as it was.
     ensures kept { KeepsFault result fault.old fault.new }
+    // The slot keeps its table.
     ensures slot { slot.new.value ≡ slot.old.value }
 {
     let table = slot.replace(None);

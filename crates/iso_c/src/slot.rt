@@ -53,7 +53,9 @@ fn none() -> Option<Table>
 /// How many bytes of a slot's memory are used. They are aligned to 8.
 #[unsafe(no_mangle)]
 pub extern "C" fn rumpadol_slot_size() -> usize
+    // The size is that of a table or none.
     ensures exact { result ≡ type_size slot }
+    // The size is at most the 64 bytes that a slot has.
     ensures room { result ≤ slot_bytes }
 {
     TAKEN
@@ -97,8 +99,11 @@ pub extern "C" fn rumpadol_slot_built_in(
     slot: &mut RumpadolSlot,
     fault: &mut RumpadolFault,
 ) -> i64
+    // 0, and the slot has the 1987 table of this number, 0 in ASCII or 1 in BCD; or -1, an empty
+    // slot, and `NoSuchTable` exactly for every other number, memory aside.
     ensures reply { Done result (IsSomeAnd slot.new.value (IsBuiltIn name))
         ((slot.new.value ≡ None) × IsBuiltInFault name fault.new) }
+    // Where the answer isn't -1, the fault is as it was.
     ensures kept { KeepsFault result fault.old fault.new }
 {
     match built_in(alloc, name) {
@@ -122,8 +127,11 @@ pub extern "C" fn rumpadol_slot_from_json(
     slot: &mut RumpadolSlot,
     fault: &mut RumpadolFault,
 ) -> i64
+    // 0, and the slot has the table that the text stands for; or -1, an empty slot, and the first
+    // fault of the text, memory aside.
     ensures reply { Done result (IsSomeAnd slot.new.value (IsTableOf json.now))
         ((slot.new.value ≡ None) × IsTableFault json.now fault.new) }
+    // Where the answer isn't -1, the fault is as it was.
     ensures kept { KeepsFault result fault.old fault.new }
     // A text that stands for a table gives it, unless memory runs out.
     ensures only { (t : Layout) → IsAccepted t → IsTableOf json.now t

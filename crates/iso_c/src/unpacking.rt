@@ -143,8 +143,12 @@ pub extern "C" fn rumpadol_unpack(
     values: &mut [u8],
     fault: &mut RumpadolFault,
 ) -> i64
+    // The rooms get the message's type, its values end to end and where each lies, the answer is
+    // its length; or -1, untouched rooms, and the first fault, memory aside, or how much is wanted.
     ensures reply { IsUnpackReply slot.old.value bytes.now result message.old message.new parts.old parts.new values.old values.new fault.new }
+    // Where the answer isn't -1, the fault is as it was.
     ensures kept { KeepsFault result fault.old fault.new }
+    // The slot keeps its table.
     ensures slot { slot.new.value ≡ slot.old.value }
 {
     let table = slot.replace(None);

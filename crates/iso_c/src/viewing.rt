@@ -68,8 +68,12 @@ pub extern "C" fn rumpadol_view(
     body: &mut RumpadolPart,
     fault: &mut RumpadolFault,
 ) -> i64
+    // The length of the element's body, and where it begins in the bytes; or -1, an untouched part,
+    // and why: an empty slot, `view`'s fault, or `NoElement` where the message lacks it.
     ensures reply { ViewsBody slot.old.value bytes.now element result body.old body.new fault.new }
+    // Where the answer isn't -1, the fault is as it was.
     ensures kept { KeepsFault result fault.old fault.new }
+    // The slot keeps its table.
     ensures slot { slot.new.value ≡ slot.old.value }
 {
     let table = slot.replace(None);

@@ -89,6 +89,7 @@ pub fn act<S: Source, I: Inlet, O: Outlet, F: Outlet>(
     ensures failed { result ≡ 3 → HasFailed (map (λ w. w.now) words.now)
         (I.counts input.old) (I.counts input.new) (O.counts output.old) (O.counts output.new)
         (F.contents faults.old) (F.contents faults.new) (F.counts faults.old) (F.counts faults.new) }
+    // The status is 0 to 3.
     ensures status { result ≤ 3 }
     // The fault stream has nothing more, the report of `run`, or the line of a stop, and the status is that of what was told.
     ensures told { TellsEnding (F.contents faults.old) (F.contents faults.new) (F.counts faults.old) (F.counts faults.new) result }

@@ -106,6 +106,7 @@ pub fn act_as_given<
     output: &mut O,
     faults: &mut F,
 ) -> u8
+    // The status is 0 to 3.
     ensures status { result ≤ 3 }
 {
     let words = match given_words(alloc, given) {

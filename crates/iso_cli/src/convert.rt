@@ -40,11 +40,17 @@ pub fn convert<S: Source, I: Inlet, O: Outlet>(
     input: &mut I,
     output: &mut O,
 ) -> Result<(), Stop>
+    // Where it succeeds, what was written is the plain spelling, under the second table, of the
+    // message that the whole input spells under the first.
     ensures packed { OnOk result (ConvertsOver (S.file source.now) from.now to.now
         (I.remaining input.old) (O.contents output.old) (O.contents output.new)) }
+    // A stop of status 1 is the first fault there is: of the first table, of the second, of too
+    // long an input, of reading the message, of bytes behind it, or of writing it anew.
     ensures stop { IfErr result (λ stop. status_of stop ≡ 1
         → ConvertStops (S.file source.now) from.now to.now (I.remaining input.old) stop) }
+    // No stop says that the command line is refused.
     ensures words { IfErr result (λ stop. stop ≢ Words) }
+    // No stop says that there were too many reads and writes.
     ensures turns { IfErr result (λ stop. stop ≢ TooManyTurns) }
 {
     let from = table_named(alloc, source, from)?;

@@ -57,9 +57,15 @@ fn echo_text(alloc: Global, table: &Table, bytes: &[u8]) -> Result<Vec<u8>, Stop
 /// Reads the message that the input begins with, under the 1987 table in ASCII, and writes its lines and the
 /// line of its answer. Later bytes are left.
 pub fn echo<I: Inlet, O: Outlet>(alloc: Global, input: &mut I, output: &mut O) -> Result<(), Stop>
+    // Where it succeeds, what was written is the message's lines, what a bystander shouldn't read
+    // hidden, and then `ANSWER=` with the response that the message decides, or `none`.
     ensures text { OnOk result (EchoesOver (I.remaining input.old) (O.contents output.old) (O.contents output.new)) }
+    // A stop of status 1 is the first fault there is: of too long an input, of reading the message
+    // that it begins with, or of writing the response.
     ensures stop { IfErr result (λ stop. status_of stop ≡ 1 → EchoStops (I.remaining input.old) stop) }
+    // No stop says that the command line is refused.
     ensures words { IfErr result (λ stop. stop ≢ Words) }
+    // No stop says that there were too many reads and writes.
     ensures turns { IfErr result (λ stop. stop ≢ TooManyTurns) }
 {
     let bytes = read_input(alloc, input)?;

@@ -93,7 +93,10 @@ fn listening_of<'a>(words: &'a [&'a str]) -> Option<Listening<'a>>
 ///
 /// No name of a table and no path of accounts starts with a dash.
 pub fn parse_serve<'a>(alloc: Global, words: &'a [&'a str]) -> Result<Listening<'a>, WordsFault>
+    // The host that is found is the one that the words spell: `serve`, and then a table, accounts,
+    // a header, a port and a count.
     ensures found { IfOk result (AsksServe (map (λ w. w.now) words.now)) }
+    // Words are refused only where they spell no host on a port.
     ensures refused { IsErrOf result WordsFault.Refused → AsksNoServe (map (λ w. w.now) words.now) }
 {
     if let Err(fault) = judge(alloc, words) {

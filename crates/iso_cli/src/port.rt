@@ -19,6 +19,7 @@ pub fn serve_port<
     O: Outlet,
     F: Outlet,
 >(alloc: Global, net: &N, words: &[&str], source: &S, output: &mut O, faults: &mut F) -> u8
+    // The status is 0 to 3.
     ensures status { result ≤ 3 }
     // With status 2, the words name no host.
     ensures words { result ≡ 2 → AsksNoServe (map (λ w. w.now) words.now) }

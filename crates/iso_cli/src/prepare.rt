@@ -59,6 +59,7 @@ pub fn prepare<S: Source, F: Outlet>(
 ) -> Result<Serving, u8>
     // What the words spell: the table and the accounts that they name, with an empty journal, the port and the count.
     ensures prepared { IfOk result (Prepares (map (λ w. w.now) words.now) (S.file source.now)) }
+    // Where there is no host to serve with, the status is 1 to 3.
     ensures status { IfErr result (λ status. (1 ≤ status) × (status ≤ 3)) }
     // Status 2 comes of words alone that name no host.
     ensures words { IfErr result (λ status. status ≡ 2 → AsksNoServe (map (λ w. w.now) words.now)) }

@@ -26,7 +26,10 @@ fn report_line(alloc: Global, report: Report) -> Result<String, AllocError>
 
 /// Writes the line, and gives the status: 0, or 3 where there is no memory for it or the fault stream fails.
 pub fn tell_report<F: Outlet>(alloc: Global, faults: &mut F, report: Report) -> u8
+    // The status is 0 or 3.
     ensures status { (result ≡ 0) ⊎ (result ≡ 3) }
+    // The report's line is written, with status 0; or `failed: Memory`, with 3, for want of memory;
+    // or a write failed behind no more than a front of such a line, with 3.
     ensures told { TellsReport (F.contents faults.old) (F.contents faults.new) (F.counts faults.old) (F.counts faults.new) report result }
 {
     match report_line(alloc, report) {
@@ -43,6 +46,8 @@ pub fn write_report<O: Outlet, F: Outlet>(
     output: &mut O,
     faults: &mut F,
 ) -> u8
+    // With status 0 the output has grown by the line of the report, and the fault stream by
+    // nothing. Every other status is 3.
     ensures { TellsConnectionEnd (O.contents output.old) (O.contents output.new)
         (F.contents faults.old) (F.contents faults.new) (Ok report) result }
 {

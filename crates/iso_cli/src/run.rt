@@ -24,9 +24,14 @@ pub const MOST_TURNS: u64 = 100_000_000;
 
 /// The table that a word names, if an issuer host can serve under it.
 pub fn host_table<S: Source>(alloc: Global, source: &S, word: &str) -> Result<Table, Stop>
+    // Where it succeeds, the table is the one that the word names: a built-in one, or that of the
+    // document at this path.
     ensures named { IfOk result (IsNamed (S.file source.now) word.now) }
+    // Where it succeeds, an issuer host can serve under the table.
     ensures ready { IfOk result IsHostReady }
+    // No stop says that the command line is refused.
     ensures words { IfErr result (λ stop. stop ≢ Words) }
+    // No stop says that there were too many reads and writes.
     ensures turns { IfErr result (λ stop. stop ≢ TooManyTurns) }
 {
     let table = table_named(alloc, source, word)?;
@@ -36,8 +41,11 @@ pub fn host_table<S: Source>(alloc: Global, source: &S, word: &str) -> Result<Ta
 
 /// The accounts of the document at a path.
 pub fn accounts_at<S: Source>(alloc: Global, source: &S, path: &str) -> Result<Accounts, Stop>
+    // Where it succeeds, the accounts are those that the document at the path lists.
     ensures accounts { IfOk result (λ accounts. IfSome (S.file source.now path.now) (λ text. ListsAccounts text accounts)) }
+    // No stop says that the command line is refused.
     ensures words { IfErr result (λ stop. stop ≢ Words) }
+    // No stop says that there were too many reads and writes.
     ensures turns { IfErr result (λ stop. stop ≢ TooManyTurns) }
 {
     let text = document_at(alloc, source, path)?;
@@ -54,12 +62,17 @@ pub fn run<S: Source, I: Inlet, O: Outlet>(
     input: &mut I,
     output: &mut O,
 ) -> Result<Report, Stop>
+    // Where it succeeds, the whole input is frames; what was written is the host's output for their
+    // bodies, from an empty journal, and the report counts these bodies by kind.
     ensures output { IfOk result (RunsOver (S.file source.now) table.now accounts.now header
         (I.remaining input.old) (O.contents output.old) (O.contents output.new)) }
+    // No stop says that the command line is refused.
     ensures words { IfErr result (λ stop. stop ≢ Words) }
     // However it ends, the reads and writes together are at most 100,000,000. They are too many only after so many.
     ensures within { WithinTurns (I.counts input.old) (I.counts input.new)
         (O.counts output.old) (O.counts output.new) most_turns }
+    // It stops for too many turns only after exactly 100,000,000 reads and writes, which moved at
+    // least as many bytes.
     ensures turns { IfErr result (λ stop. stop ≡ TooManyTurns → TookTurns (I.counts input.old) (I.counts input.new)
         (O.counts output.old) (O.counts output.new) most_turns) }
 {

@@ -37,10 +37,16 @@ pub fn show<S: Source, I: Inlet, O: Outlet>(
     input: &mut I,
     output: &mut O,
 ) -> Result<(), Stop>
+    // Where it succeeds, what was written is the lines of the message that the input begins with;
+    // unless `clear` is asked for, what a bystander shouldn't read is hidden.
     ensures lines { OnOk result (ShowsOver (S.file source.now) table.now clear
         (I.remaining input.old) (O.contents output.old) (O.contents output.new)) }
+    // A stop of status 1 is the first fault there is: of the table's document, of too long an
+    // input, or of reading the message that it begins with.
     ensures stop { IfErr result (λ stop. status_of stop ≡ 1 → ShowStops (S.file source.now) table.now (I.remaining input.old) stop) }
+    // No stop says that the command line is refused.
     ensures words { IfErr result (λ stop. stop ≢ Words) }
+    // No stop says that there were too many reads and writes.
     ensures turns { IfErr result (λ stop. stop ≢ TooManyTurns) }
 {
     let table = table_named(alloc, source, table)?;

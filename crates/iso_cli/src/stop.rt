@@ -53,7 +53,10 @@ pub enum Stop {
 impl Stop {
     /// The status: 1 where an input was refused, 2 where the command line was, 3 where a device or memory failed.
     pub fn status(self) -> u8
+        // Each stop has its own status: a table, accounts, an input or a message that is refused 1,
+        // a refused command line 2, and what failed 3.
         ensures status { result ≡ status_of self }
+        // The status is 1 to 3.
         ensures range { (1 ≤ result) × (result ≤ 3) }
     {
         match self {
@@ -207,9 +210,13 @@ impl From<PackFault> for Stop {
 /// Writes a line, and gives the status. Where the fault stream itself fails nothing more is written, and the
 /// status is 3.
 pub fn tell_line<F: Outlet>(faults: &mut F, line: &str, status: u8) -> u8
+    // The status that is asked for is at most 3.
     requires { status ≤ 3 }
+    // The whole line is written and no write failed, with this status; or a write failed behind no
+    // more than a front of the line, and the status is 3.
     ensures told { TellsLine (F.contents faults.old) (F.contents faults.new)
         (F.counts faults.old) (F.counts faults.new) line.now status result }
+    // The status is the one that is asked for or a higher one, and at most 3.
     ensures range { (status ≤ result) × (result ≤ 3) }
 {
     match write_all(faults, line.as_bytes()) {
@@ -221,11 +228,17 @@ pub fn tell_line<F: Outlet>(faults: &mut F, line: &str, status: u8) -> u8
 /// Writes the fault line, and gives this status. Where the fault stream itself fails nothing more is written, and the
 /// status is 3.
 pub fn tell_as<F: Outlet>(alloc: Global, faults: &mut F, stop: Stop, status: u8) -> u8
+    // The status that is asked for is at most 3.
     requires { status ≤ 3 }
+    // A line that names no further fault is written whole, with this status; or a write failed
+    // behind no more than a front of it, and the status is 3.
     ensures told { TellsAs (F.contents faults.old) (F.contents faults.new)
         (F.counts faults.old) (F.counts faults.new) stop status result }
+    // The stop's own line is written, with this status, or `failed: Memory` with 3 for want of
+    // memory; or a write failed behind no more than a front of such a line, with 3.
     ensures line { TellsLineOf (F.contents faults.old) (F.contents faults.new)
         (F.counts faults.old) (F.counts faults.new) stop status result }
+    // The status is the one that is asked for or a higher one, and at most 3.
     ensures range { (status ≤ result) × (result ≤ 3) }
 {
     if let Some(line) = stop.line() {
@@ -240,11 +253,18 @@ pub fn tell_as<F: Outlet>(alloc: Global, faults: &mut F, stop: Stop, status: u8)
 /// Writes the fault line, and gives the stop's own status. Where the fault stream itself fails nothing more is written,
 /// and the status is 3.
 pub fn tell<F: Outlet>(alloc: Global, faults: &mut F, stop: Stop) -> u8
+    // A line that names no further fault is written whole, with the stop's status; or a write
+    // failed behind no more than a front of it, and the status is 3.
     ensures told { Tells (F.contents faults.old) (F.contents faults.new)
         (F.counts faults.old) (F.counts faults.new) stop result }
+    // The stop's own line is written, with its status, or `failed: Memory` with 3 for want of
+    // memory; or a write failed behind no more than a front of such a line, with 3.
     ensures line { TellsLineOf (F.contents faults.old) (F.contents faults.new)
         (F.counts faults.old) (F.counts faults.new) stop (status_of stop) result }
+    // What is told is the line of one stop, with the status of that stop; or a write failed, and
+    // the status is 3.
     ensures stop { TellsStop (F.contents faults.old) (F.contents faults.new) (F.counts faults.old) (F.counts faults.new) result }
+    // The status is 1 to 3.
     ensures range { (1 ≤ result) × (result ≤ 3) }
 {
     tell_as(alloc, faults, stop, stop.status())

@@ -122,6 +122,7 @@ pub fn judge_words<'a>(
     subcommands: &[Subcommand],
     words: &'a [&'a str],
 ) -> Result<(), WordsFault>
+    // Words that the command with these subcommands takes are refused only for want of memory.
     ensures passes { IfErr result (λ fault. takes (with_subcommands iso_alone subcommands.now) (map (λ w. w.now) words.now) ≡ true
         → fault ≡ WordsFault.Memory) }
 {

@@ -26,9 +26,15 @@ fn table_at<S: Source>(alloc: Global, source: &S, path: &str) -> Result<Table, S
 
 /// The table that a word names: `ascii87` and `bcd87` are built in, every other word is the path of a document.
 pub fn table_named<S: Source>(alloc: Global, source: &S, word: &str) -> Result<Table, Stop>
+    // Where it succeeds, the table is the one that the word names: a built-in one of 1987, or that
+    // of the document at this path.
     ensures ok { IfOk result (IsNamed (S.file source.now) word.now) }
+    // A stop of status 1 tells what is wrong with the document that the word names: it is too long,
+    // is no JSON, or has this first fault as a table.
     ensures stop { IfErr result (λ stop. status_of stop ≡ 1 → NamesNone (S.file source.now) word.now stop) }
+    // No stop says that the command line is refused.
     ensures words { IfErr result (λ stop. stop ≢ Words) }
+    // No stop says that there were too many reads and writes.
     ensures turns { IfErr result (λ stop. stop ≢ TooManyTurns) }
 {
     if word == "ascii87" {

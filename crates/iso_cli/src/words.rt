@@ -96,7 +96,9 @@ pub fn is_name(word: &str) -> bool
 
 /// The header of this name.
 pub fn header_of_word(word: &str) -> Option<Header>
+    // A header that is found has this word for its name.
     ensures found { IfSome result (λ header. word.now ≡ header_name header) }
+    // Where none is found, no header has this name.
     ensures none { IfNone result ((header : Header) → word.now ≡ header_name header → ⊥) }
 {
     match word {
@@ -156,7 +158,9 @@ fn job_of<'a>(words: &'a [&'a str]) -> Option<Job<'a>>
 ///
 /// No name of a table and no path of accounts starts with a dash.
 pub fn parse<'a>(alloc: Global, words: &'a [&'a str]) -> Result<Job<'a>, WordsFault>
+    // The job that is found is the one that the words spell.
     ensures found { IfOk result (Asks (map (λ w. w.now) words.now)) }
+    // Words are refused only where they spell no job.
     ensures refused { IsErrOf result WordsFault.Refused → AsksNothing (map (λ w. w.now) words.now) }
 {
     if words.is_empty() {

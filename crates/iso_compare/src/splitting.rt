@@ -48,6 +48,7 @@ pub struct Front {
 
 /// Counts the whole frames that some bytes begin with, up to the first that isn't whole or has a bad header. Takes no memory.
 pub fn count_frames(header: Header, bytes: &[u8]) -> Front
+    // So many whole frames, of so many bytes, stand in front, and no whole frame follows them.
     ensures { IsFront header bytes.now result }
 {
     splits_once();

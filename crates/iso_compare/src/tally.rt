@@ -38,6 +38,8 @@ fn count_same(expected: &[&[u8]], came: &[&[u8]]) -> usize
 impl Tally {
     /// Counts how the bodies of frames that came agree with those that were expected. Takes no memory.
     pub fn of(expected: &[&[u8]], came: &[&[u8]]) -> Tally
+        // It counts the places that both lists have, those of them with the same bytes, what is
+        // expected behind the last that came, and what came behind the last that is expected.
         ensures counts { Counts (map (λ b. b.now) expected.now) (map (λ b. b.now) came.now) result }
         // All is the same exactly where the same bodies came, in the same order.
         ensures all_same { (is_all_same result ≡ true) ↔ (map (λ b. b.now) expected.now ≡ map (λ b. b.now) came.now) }

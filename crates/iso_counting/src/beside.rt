@@ -7,6 +7,8 @@ use iso_tally::{Tally, add_one};
 
 /// Counts an answer to an order that is no purchase, by what it came to. One to another key is counted elsewhere.
 pub fn count_beside(tally: &mut Tally, hearing: Hearing)
+    // It counts as one answer more, and beside that as late, or as late and differing; one to
+    // another key doesn't count.
     ensures { tally.new ≡ counted_beside tally.old hearing }
 {
     match hearing {

@@ -57,9 +57,13 @@ impl Asked {
 
     /// What a request asks for by its method and its target.
     pub fn of_line(method: &[u8], target: &[u8]) -> Asked
+        // A GET or HEAD of the path `/metrics`, up to a question mark, asks for the metrics.
         ensures metrics { IsRead method.now → path_of target.now ≡ codes "/metrics" → result ≡ Asked.Metrics }
+        // A GET or HEAD of the path `/health`, up to a question mark, asks for the host's health.
         ensures health { IsRead method.now → path_of target.now ≡ codes "/health" → result ≡ Asked.Health }
+        // Any method but GET and HEAD isn't allowed on the paths `/metrics` and `/health`.
         ensures not_allowed { ¬ (IsRead method.now) → IsPage (path_of target.now) → result ≡ Asked.NotAllowed }
+        // Any path but `/metrics` and `/health` isn't found, whatever the method.
         ensures not_found { ¬ (IsPage (path_of target.now)) → result ≡ Asked.NotFound }
     {
         match Asked::of_path(path_of(target)) {
@@ -70,6 +74,8 @@ impl Asked {
 
     /// The status of its answer, where the journal can be written or can't.
     pub fn status(&self, can_write: bool) -> u16
+        // 200 for the metrics; 200 for the health, or 503 where the journal can't be written; 404,
+        // 405, or the status of a refused request.
         ensures { result ≡ status_of self.now can_write }
     {
         match self {

@@ -35,6 +35,8 @@ pub const KIND_WORDS: [&str; KINDS] = [
 impl Kind {
     /// The kind of a message, by the number of its message type.
     pub fn of_type(number: u16) -> Kind
+        // Class 1 or 2 is a request or an advice, by the function digit 0 or 2; class 4 is a
+        // reversal, 8 is of the network; the rest is other.
         ensures { result ≡ kind_of number }
     {
         match (number / 100 % 10, number / 10 % 10) {
@@ -48,6 +50,7 @@ impl Kind {
 
     /// The kind of a frame, whose message type is known or isn't.
     pub fn of_frame(number: Option<u16>) -> Kind
+        // It is the kind of its message type, and other where that isn't known.
         ensures { result ≡ kind_of_frame number }
     {
         match number {
@@ -58,6 +61,8 @@ impl Kind {
 
     /// Its place among all kinds.
     pub fn place(self) -> usize
+        // Requests 0, advices 1, reversals 2, the network 3, other messages
+        // 4, what isn't readable 5.
         ensures { result ≡ kind_place self }
     {
         match self {

@@ -7,6 +7,7 @@ use iso_lines::Event;
 
 /// The place of the link that an event is of.
 pub fn link_of(event: &Event) -> Option<usize>
+    // It is the link that the event names, and `None` of an event of the whole host or its journal.
     ensures { result ≡ link_of event.now }
 {
     match *event {

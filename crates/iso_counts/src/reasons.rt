@@ -22,6 +22,7 @@ pub const CLOSINGS: [Closing; 9] = [
 
 /// The place of a reason to refuse a peer.
 pub fn refusal_place(why: Refusal) -> usize
+    // Too many peers 0, an address in no network 1, want of memory 2.
     ensures { result ≡ refusal_place why }
 {
     match why {
@@ -33,6 +34,8 @@ pub fn refusal_place(why: Refusal) -> usize
 
 /// The place of a reason to close a connection.
 pub fn closing_place(why: Closing) -> usize
+    // From 0 on: ended, inside a frame, failed, bad header, memory, idle, unfinished frame,
+    // doesn't read, host stops.
     ensures { result ≡ closing_place why }
 {
     match why {

@@ -29,6 +29,7 @@ pub struct DiaryLog<D: Disk + Drop> {
 impl<D: Disk + Drop> DiaryLog<D> {
     /// For how many notes there is room.
     pub fn room(&self) -> usize
+        // It is the number of slots less the number of records, the heading among them.
         ensures { result ≡ self.now.log.slots - self.now.log.count }
     {
         self.log.slots.saturating_sub(self.log.count)
@@ -37,12 +38,16 @@ impl<D: Disk + Drop> DiaryLog<D> {
     /// Makes room for so many notes more, and syncs. There has to be room for one: it keeps what a crash leaves of the new
     /// room apart from the notes. After an `Err` the diary is to be opened again.
     pub fn grow(&mut self, more: usize) -> Result<(), LogError>
+        // At `Ok` a diary that was ready stays so: a sound log whose heading is synced.
         ensures ready { OnOk result (IsReady D.seen D.may_leave D.is_usable self.old.log
             → IsReady D.seen D.may_leave D.is_usable self.new.log) }
+        // At `Ok` the file has slots for so many records more.
         ensures room { OnOk result (self.new.log.slots ≡ self.old.log.slots + more) }
+        // At `Ok` the waiting notes of a diary that was ready are synced, behind the others.
         ensures synced { OnOk result (IsReady D.seen D.may_leave D.is_usable self.old.log
             → synced_notes D.seen self.new.log
             ≡ synced_notes D.seen self.old.log ++ pending_notes D.seen self.old.log) }
+        // At `Ok` no note of a diary that was ready waits any more.
         ensures none { OnOk result (IsReady D.seen D.may_leave D.is_usable self.old.log
             → pending_notes D.seen self.new.log ≡ []) }
         // However it ends, a crash leaves the synced notes, and of those behind them some from the front.

@@ -40,7 +40,10 @@ pub enum HeadingFault {
 
 /// The first record of a diary. Takes no memory.
 pub fn heading_bytes(heading: &Heading) -> [u8; RECORD]
+    // It has a diary's words, the version of the records, that of the rules and the acquirer's
+    // number, then blanks and the end of the line.
     ensures bytes { result ≡ heading_bytes heading.now }
+    // It has 128 bytes, and none of them is zero.
     ensures whole { is_whole result ≡ true }
 {
     headings_are_whole();
@@ -65,7 +68,10 @@ fn are_same(first: &[u8; RECORD], second: &[u8; RECORD], at: usize, len: usize) 
 /// What a first record tells otherwise than this heading. `None` where it is the heading's record, to the byte. Takes no
 /// memory.
 pub fn heading_fault(first: &[u8; RECORD], heading: &Heading) -> Option<HeadingFault>
+    // Nothing is told of the heading's very bytes; else `Format` where the first 28 differ, else
+    // `Rules` where those of the rules do, else `Acquirer`.
     ensures fault { result ≡ heading_fault first.now (heading_bytes heading.now) }
+    // `None` comes only for the very bytes of the heading's record.
     ensures none { result ≡ None → first.now ≡ heading_bytes heading.now }
 {
     let wanted = heading_bytes(heading);

@@ -17,26 +17,31 @@ use std::alloc::Global;
 
 /// Each note and its place come back.
 pub fn lines_come_back()
+    // The record of each note and place that the code can hold is read as that note at that place.
     ensures { LinesComeBack }
 {}
 
 /// Each record is whole.
 pub fn lines_are_whole()
+    // The record of each note and place that the code can hold has 128 bytes, none of them zero.
     ensures { LinesAreWhole }
 {}
 
 /// Nothing else is a record.
 pub fn nothing_else()
+    // Bytes that are read as a note and a place are the very bytes of their record.
     ensures { NothingElse }
 {}
 
 /// Each heading is whole.
 pub fn headings_are_whole()
+    // The record of each heading has 128 bytes, none of them zero.
     ensures { HeadingsAreWhole }
 {}
 
 /// Two headings have two records.
 pub fn headings_differ()
+    // Headings that have the same record are the same, where acquirers have at most 11 digits.
     ensures { HeadingsDiffer }
 {}
 
@@ -54,6 +59,8 @@ pub fn open_after_a_crash<D: Disk + Drop>(
     heading: &Heading,
     group: usize,
 ) -> Result<Opened<D>, (OpenError, D)>
+    // At `Ok`, on a disk that didn't lie and shows what is on it, the notes are the synced ones of
+    // the acquirer that crashed, and of those behind them some from the front.
     ensures crashed { IfOk result (λ o. IsTrue (D.is_clean o.log.log.disk)
         → IsConsistent (λ l. IsReady D.seen D.may_leave D.is_usable l.log) (λ l. synced_notes D.seen l.log)
         (λ l. pending_notes D.seen l.log) before.now

@@ -125,6 +125,8 @@ pub fn open<D: Disk + Drop>(
     ensures notes { IfOk result (λ o. IsTrue (D.is_clean o.log.log.disk)
         → Only (D.seen disk) (D.may_leave disk)
         → o.notes.items ≡ diary_notes (records_of (D.seen disk))) }
+    // At `Ok`, on a disk that didn't lie and shows what is on it, each record behind the heading is
+    // a note at its own place.
     ensures read { IfOk result (λ o. IsTrue (D.is_clean o.log.log.disk)
         → Only (D.seen disk) (D.may_leave disk)
         → AreNotes (records_of (D.seen disk))) }
@@ -132,6 +134,8 @@ pub fn open<D: Disk + Drop>(
     ensures fault { IfErr result (λ e. IsTrue (D.is_clean e.1)
         → Only (D.seen disk) (D.may_leave disk)
         → IsWhy (heading_bytes heading.now) (D.seen disk) e.0) }
+    // After an `Err`, on a disk that didn't lie and showed what is on it, a crash leaves the
+    // records that the file had.
     ensures unchanged { IfErr result (λ e. IsTrue (D.is_clean e.1)
         → Only (D.seen disk) (D.may_leave disk)
         → (c : List ℕ) → D.may_leave e.1 c → records_of c ≡ records_of (D.seen disk)) }

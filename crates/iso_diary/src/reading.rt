@@ -160,6 +160,7 @@ fn line_in(text: &[u8; RECORD]) -> Option<Line>
 
 /// The note and the place that a record is, `None` for any other bytes. Takes no memory.
 pub fn read_line(text: &[u8; RECORD]) -> Option<Line>
+    // It is the note and the place that the bytes tell, and `None` where they are no such record.
     ensures value { result ≡ line_in text.now }
     // what was written comes back,
     ensures back { (l : Line) → IsLine l → line_bytes l ≡ text.now → result ≡ Some l }

@@ -87,8 +87,12 @@ fn put_tail(bytes: &mut [u8; RECORD], letter: u8, place: u64)
 
 /// The record of a note and its place. Takes no memory.
 pub fn line_bytes(line: &Line) -> [u8; RECORD]
+    // It has what happened in 99 bytes, its letter, the place in 20 digits, blanks, the line's end.
     ensures bytes { result ≡ line_bytes line.now }
+    // The place and the numbers of the note are within their bounds, and an order in it is
+    // one that a message can ask.
     ensures line { IsLine line.now }
+    // It has 128 bytes, and none of them is zero.
     ensures whole { is_whole result ≡ true }
 {
     lines_are_whole();

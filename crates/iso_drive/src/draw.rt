@@ -21,8 +21,11 @@ impl Draw {
 
     /// An amount from `least` to `most`, both among them.
     pub fn amount(&mut self, least: u64, most: u64) -> u64
+        // The least amount isn't above the greatest one.
         requires { least ≤ most }
+        // The amount that it draws isn't below the least one.
         ensures least { least ≤ result }
+        // The amount that it draws isn't above the greatest one.
         ensures most { result ≤ most }
     {
         self.generator.random_range(least..=most)

@@ -18,7 +18,9 @@ pub struct MemoryLog {
 impl MemoryLog {
     /// A log with nothing in it.
     pub fn new(alloc: Global) -> MemoryLog
+        // A new log keeps no order yet.
         ensures kept { result.kept.items ≡ [] }
+        // No order waits in a new log.
         ensures waiting { result.waiting.items ≡ [] }
     {
         MemoryLog {

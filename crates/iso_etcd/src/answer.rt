@@ -19,7 +19,9 @@ pub enum PutAnswer {
 
 /// Whether bytes are the same.
 pub fn is_same(one: &[u8], other: &[u8]) -> bool
+    // The answer is true exactly where both are the same bytes.
     ensures same { IsTrue result ↔ (one.now ≡ other.now) }
+    // The answer is that of a comparison byte by byte.
     ensures tested { result ≡ bytes_eq one.now other.now }
 {
     one == other
@@ -75,7 +77,10 @@ fn put_answer(alloc: Global, key: &[u8], answer: &Value) -> Result<Option<PutAns
 
 /// What the body of the response to a transaction tells. `None` where it tells nothing of it.
 pub fn read_put(alloc: Global, key: &[u8], body: &[u8]) -> Result<Option<PutAnswer>, AllocError>
+    // What is told is what the body says of the key: that the value was put, or, where it wasn't,
+    // what stands there.
     ensures found { IfOk result (λ o. IfSome o (λ t. IsTold key.now body.now (outcome_of t))) }
+    // `None` comes only where the body tells neither that it was put nor what stands at the key.
     ensures none { IfOk result
         (λ o. IsNone o → (outcome : Outcome) → IsTold key.now body.now outcome → ⊥) }
 {

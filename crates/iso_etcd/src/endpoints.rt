@@ -134,6 +134,8 @@ impl Endpoints {
     /// A host is a name, an address of IPv4, or an address of IPv6 in brackets. The user and the password have no slash and
     /// no at sign.
     pub fn from_text(alloc: Global, text: &str) -> Result<Endpoints, EndpointsFault>
+        // A text that is accepted has, behind `etcd://`, a user with its password or none, 1 to 16
+        // members with commas between them, a slash and the name; these are what is found.
         ensures { IfOk result (IsEndpoints text.now) }
     {
         match text.strip_prefix("etcd://") {

@@ -13,7 +13,9 @@ use std::str;
 
 /// The JSON that bytes are, if they are JSON.
 pub fn parse(alloc: Global, body: &[u8]) -> Result<Option<Value>, AllocError>
+    // The JSON that is found is what the bytes are, as text in UTF-8.
     ensures found { IfOk result (λ o. IfSome o (λ v. IsJson body.now (view v))) }
+    // `None` comes only where the bytes are no JSON in UTF-8.
     ensures none { IfOk result (λ o. IsNone o → (d : Data) → IsJson body.now d → ⊥) }
 {
     let Ok(text) = str::from_utf8(body) else {
@@ -28,6 +30,7 @@ pub fn parse(alloc: Global, body: &[u8]) -> Result<Option<Value>, AllocError>
 
 /// Whether a member is true.
 pub fn is_true(answer: &Value, name: &str) -> bool
+    // A member that is left out, or is no truth value, counts as false.
     ensures { result ≡ is_true name.now (view answer.now) }
 {
     answer.get(name).and_then(Value::as_bool).unwrap_or(false)
@@ -46,6 +49,8 @@ fn decoded(alloc: Global, text: &str) -> Result<Option<Vec<u8>>, AllocError>
 
 /// The bytes of a member, written as base64.
 pub fn bytes_in(alloc: Global, answer: &Value, name: &str) -> Result<Option<Vec<u8>>, AllocError>
+    // Memory aside, a member that is left out is read as empty, and `None` stands for one that is
+    // no text in base64.
     ensures { IfOk result (λ o. option_map (λ v. v.items) o ≡ bytes_in name.now (view answer.now)) }
 {
     let Some(member) = answer.get(name) else {

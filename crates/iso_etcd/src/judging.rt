@@ -76,6 +76,8 @@ fn heard(alloc: Global, key: &[u8], batch: &[u8], response: &Response) -> Append
 
 /// What is known of a batch that was to be put at a key.
 pub fn append_of(alloc: Global, key: &[u8], batch: &[u8], outcome: Result<Response, Loss>) -> Append
+    // `Appended` comes of an answer of 200 that it was put or stands, `Taken` of one that other
+    // bytes do, `Unsent` of a request that wasn't sent, `Unknown` of all else.
     ensures { IsAppend key.now batch.now outcome result }
 {
     match outcome {
@@ -89,6 +91,8 @@ pub fn append_of(alloc: Global, key: &[u8], batch: &[u8], outcome: Result<Respon
 impl Append {
     /// What is known after one more request for the same batch at the same place.
     pub fn then(self, now: Append) -> Append
+        // The later outcome counts, but where an earlier request is in doubt, that nothing was sent
+        // now settles nothing.
         ensures { result ≡ then_of self now }
     {
         match (self, now) {
@@ -99,6 +103,7 @@ impl Append {
 
     /// Whether it is known what stands at the place.
     pub fn is_settled(&self) -> bool
+        // It is settled exactly where the batch stands at the place, or another one does.
         ensures { result ≡ is_settled self.now }
     {
         matches!(self, Append::Appended | Append::Taken(_))

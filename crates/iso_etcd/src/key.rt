@@ -43,6 +43,7 @@ pub(crate) fn key_at(alloc: Global, name: &Name, place: u64) -> Result<Vec<u8>, 
 
 /// The key of the batch at a place.
 pub fn batch_key(alloc: Global, name: &Name, place: u32) -> Result<Vec<u8>, AllocError>
+    // The key is the name, `/batch/`, and the place in ten digits, memory aside.
     ensures { IfOk result (λ key. key.items ≡ batch_key (name_text name.now) place) }
 {
     key_at(alloc, name, place as u64)
@@ -50,6 +51,7 @@ pub fn batch_key(alloc: Global, name: &Name, place: u32) -> Result<Vec<u8>, Allo
 
 /// The first key behind those of all batches.
 pub fn end_key(alloc: Global, name: &Name) -> Result<Vec<u8>, AllocError>
+    // The key is the name and `/batch0`, memory aside.
     ensures { IfOk result (λ key. key.items ≡ end_key (name_text name.now)) }
 {
     key_of(alloc, name, b"/batch0")
@@ -57,6 +59,7 @@ pub fn end_key(alloc: Global, name: &Name) -> Result<Vec<u8>, AllocError>
 
 /// The key of what the journal is.
 pub fn heading_key(alloc: Global, name: &Name) -> Result<Vec<u8>, AllocError>
+    // The key is the name and `/heading`, memory aside.
     ensures { IfOk result (λ key. key.items ≡ heading_key (name_text name.now)) }
 {
     key_of(alloc, name, b"/heading")
@@ -64,6 +67,7 @@ pub fn heading_key(alloc: Global, name: &Name) -> Result<Vec<u8>, AllocError>
 
 /// The key of who is active.
 pub fn active_key(alloc: Global, name: &Name) -> Result<Vec<u8>, AllocError>
+    // The key is the name and `/active`, memory aside.
     ensures { IfOk result (λ key. key.items ≡ active_key (name_text name.now)) }
 {
     key_of(alloc, name, b"/active")

@@ -51,6 +51,8 @@ fn add_leaves(
 
 /// The object of leaves.
 pub fn object_of(alloc: Global, leaves: &[(&str, Leaf<'_>)]) -> Result<Value, AllocError>
+    // Memory aside, the members are these leaves under their names, bytes as base64; of two with
+    // one name the last one counts.
     ensures { IfOk result (λ v. view v ≡ object (with_leaves leaves.now no_members)) }
 {
     let mut members = Map::new(alloc);

@@ -50,7 +50,9 @@ fn token_of(alloc: Global, answer: &Value) -> Result<Option<String>, AllocError>
 
 /// The token that the body of a response tells.
 pub fn read_token(alloc: Global, body: &[u8]) -> Result<Option<String>, AllocError>
+    // The token that is found is the text that the body tells as `token`.
     ensures found { IfOk result (λ o. IfSome o (λ token. IsToken body.now (string_bytes token))) }
+    // `None` comes only where the body tells no token.
     ensures none { IfOk result
         (λ o. IsNone o → (token : List ℕ) → IsToken body.now token → ⊥) }
 {
@@ -62,7 +64,9 @@ pub fn read_token(alloc: Global, body: &[u8]) -> Result<Option<String>, AllocErr
 
 /// The lease that the body of a response tells.
 pub fn read_lease(alloc: Global, body: &[u8]) -> Result<Option<u64>, AllocError>
+    // The lease that is found is the number that the body tells as `ID`.
     ensures found { IfOk result (λ o. IfSome o (IsLease body.now)) }
+    // `None` comes only where the body tells no lease.
     ensures none { IfOk result (λ o. IsNone o → (lease : ℕ) → IsLease body.now lease → ⊥) }
 {
     match parse(alloc, body)? {
@@ -84,7 +88,9 @@ fn seconds_of(answer: &Value) -> Option<u64>
 
 /// For how many seconds more a lease is kept, by the body of a response. `None` where it isn't.
 pub fn read_kept(alloc: Global, body: &[u8]) -> Result<Option<u64>, AllocError>
+    // The seconds that are found are those that the body tells as `TTL` in its `result`.
     ensures found { IfOk result (λ o. IfSome o (IsKept body.now)) }
+    // `None` comes only where the body tells no seconds, as where the lease is gone.
     ensures none { IfOk result (λ o. IsNone o → (seconds : ℕ) → IsKept body.now seconds → ⊥) }
 {
     match parse(alloc, body)? {

@@ -216,6 +216,7 @@ impl<S: Timed> Link<S> {
         term: Term,
         request: &Request<'_>,
     ) -> Result<Response, Loss>
+        // Where the fault says that nothing was sent, the stream is untouched.
         ensures unsent { IfErr result
             (λ loss. IsUnsent loss → link_stream self.new ≡ link_stream self.old) }
     {

@@ -9,6 +9,7 @@ use std::alloc::{AllocError, Global};
 
 /// Whether an answer says that the token isn't taken.
 pub fn is_token_refused(heard: &Result<Response, Loss>) -> bool
+    // A token is refused exactly by a response of status 401.
     ensures { IsTrue result ↔ IsTokenRefused heard.now }
 {
     match heard {
@@ -40,6 +41,8 @@ fn refusal_of(status: u16) -> Cause
 
 /// The token that was asked for, or why there is none. What was to be asked with it wasn't sent.
 pub fn login_of(alloc: Global, heard: Result<Response, Loss>) -> Result<String, Cause>
+    // A token comes of status 200 and a body that tells it. A body without one, or status 400 to
+    // 499, is `NotLetIn`; any other status or a lost answer is `Away`.
     ensures { IsLogin heard result }
 {
     match heard {

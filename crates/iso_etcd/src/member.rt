@@ -141,7 +141,9 @@ fn host_and_port(text: &str) -> Option<(&str, u16)>
 
 /// The member that a text writes.
 pub fn member_of(alloc: Global, text: &str) -> Result<Option<Member>, AllocError>
+    // The member that is found has the host and the port that the text writes, and the text itself.
     ensures found { IfOk result (λ o. IfSome o (IsMember text.now)) }
+    // `None` comes only where the text writes no host and port.
     ensures none { IfOk result
         (λ o. IsNone o → (host : List ℕ) (port : ℕ) → IsHostAndPort text.now host port → ⊥) }
 {

@@ -54,7 +54,9 @@ impl Name {
 
     /// The name that a text is.
     pub fn from_text(alloc: Global, text: &str) -> Result<Option<Name>, AllocError>
+        // A name that is found has this text.
         ensures found { IfOk result (λ o. IfSome o (λ n. name_text n ≡ text.now)) }
+        // `None` comes only for a text that isn't 1 to 64 letters, digits, `-`, `_` and `.`.
         ensures none { IfOk result (λ o. IsNone o → is_name text.now ≡ false) }
     {
         if !is_name(text.as_bytes()) {
@@ -66,7 +68,9 @@ impl Name {
 
     /// Its text.
     pub fn as_str(&self) -> &str
+        // The text is the one that the name has.
         ensures text { result.now ≡ name_text self.now }
+        // The text is 1 to 64 letters, digits, `-`, `_` and `.`.
         ensures sound { IsTrue (is_name result.now) }
     {
         self.text.as_str()

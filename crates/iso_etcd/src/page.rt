@@ -114,9 +114,13 @@ pub fn read_page(
     first: u32,
     body: &[u8],
 ) -> Result<Option<Page>, AllocError>
+    // A page that is found has the batches that the body tells, at the places from `first` on with
+    // none left out, and says whether there are more.
     ensures found { IfOk result
         (λ o. IfSome o (λ page. (answer : Data) × IsJson body.now answer
         × IsPage (name_text name.now) first answer page)) }
+    // `None` comes only where the body is no JSON, or doesn't tell the batches from `first` on with
+    // none left out.
     ensures none { IfOk result (λ o. IsNone o → (answer : Data) → IsJson body.now answer
         → batches_in (name_text name.now) first answer ≡ None) }
 {
@@ -162,8 +166,12 @@ pub fn read_value(
     key: &[u8],
     body: &[u8],
 ) -> Result<Option<Option<Vec<u8>>>, AllocError>
+    // What is found is what the body tells of the key: the value that stands there, or that nothing
+    // does.
     ensures found { IfOk result
         (λ o. IfSome o (λ value. IsValue key.now body.now (option_map (λ v. v.items) value))) }
+    // `None` comes only where the body tells neither a value at the key nor that nothing stands
+    // there.
     ensures none { IfOk result
         (λ o. IsNone o → (value : Option (List ℕ)) → IsValue key.now body.now value → ⊥) }
 {

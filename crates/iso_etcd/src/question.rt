@@ -66,6 +66,8 @@ fn transaction_value(alloc: Global, key: &[u8], put: Value) -> Result<Value, All
 
 /// Asks to put a value at a key where nothing stands, and else to tell what stands there.
 pub fn put_text(alloc: Global, key: &[u8], value: &[u8]) -> Result<String, AllocError>
+    // Read as JSON, the text is exactly the transaction that puts the value at the key where
+    // nothing stands there, and else tells what does, memory aside.
     ensures { IfOk result (λ text. read (string_bytes text) ≡ Some (put_data key.now value.now)) }
 {
     let put = put_value(alloc, &[("key", Bytes(key)), ("value", Bytes(value))])?;
@@ -79,6 +81,8 @@ pub fn put_leased_text<'b>(
     value: &'b [u8],
     lease: u64,
 ) -> Result<String, AllocError>
+    // Read as JSON, the text is exactly the transaction that puts the value for this lease at the
+    // key where nothing stands there, and else tells what does, memory aside.
     ensures { IfOk result
         (λ text. read (string_bytes text) ≡ Some (put_leased_data key.now value.now lease)) }
 {
@@ -100,6 +104,8 @@ pub fn range_text<'b>(
     end: &'b [u8],
     limit: u32,
 ) -> Result<String, AllocError>
+    // Read as JSON, the text is exactly the request for the range of these two keys, in base64,
+    // with this limit, memory aside.
     ensures { IfOk result
         (λ text. read (string_bytes text) ≡ Some (range_data first.now end.now limit)) }
 {
@@ -116,6 +122,7 @@ pub fn range_text<'b>(
 
 /// Asks for the value at a key.
 pub fn look_text(alloc: Global, key: &[u8]) -> Result<String, AllocError>
+    // Read as JSON, the text is exactly the request for this key, in base64, memory aside.
     ensures { IfOk result (λ text. read (string_bytes text) ≡ Some (look_data key.now)) }
 {
     object_of(alloc, &[("key", Bytes(key))])?.to_string(alloc)
@@ -123,6 +130,7 @@ pub fn look_text(alloc: Global, key: &[u8]) -> Result<String, AllocError>
 
 /// Asks for a token.
 pub fn login_text(alloc: Global, user: &str, password: &str) -> Result<String, AllocError>
+    // Read as JSON, the text is exactly the user's name and password, memory aside.
     ensures { IfOk result
         (λ text. read (string_bytes text) ≡ Some (login_data user.now password.now)) }
 {
@@ -131,6 +139,7 @@ pub fn login_text(alloc: Global, user: &str, password: &str) -> Result<String, A
 
 /// Asks for a lease of so many seconds.
 pub fn grant_text(alloc: Global, seconds: u32) -> Result<String, AllocError>
+    // Read as JSON, the text is exactly the number of seconds, as `TTL`, memory aside.
     ensures { IfOk result (λ text. read (string_bytes text) ≡ Some (grant_data seconds)) }
 {
     object_of(alloc, &[("TTL", Number(seconds as u64))])?.to_string(alloc)
@@ -138,6 +147,7 @@ pub fn grant_text(alloc: Global, seconds: u32) -> Result<String, AllocError>
 
 /// Asks to keep a lease, or to end it.
 pub fn lease_text(alloc: Global, lease: u64) -> Result<String, AllocError>
+    // Read as JSON, the text is exactly the number of the lease, as `ID`, memory aside.
     ensures { IfOk result (λ text. read (string_bytes text) ≡ Some (lease_data lease)) }
 {
     object_of(alloc, &[("ID", Number(lease))])?.to_string(alloc)

@@ -363,6 +363,7 @@ pub fn append_explanation_json(
     ensures outcome { IfOk result (IsOutcome table.now bytes.now) }
     // What was there stays in front.
     ensures appended { OnOk result (Keeps out.old.items out.new.items) }
+    // Where memory runs out, the buffer holds the bytes that it held before.
     ensures unchanged { OnErr result (out.new.items ≡ out.old.items) }
 {
     let page = Page {

@@ -127,6 +127,7 @@ pub fn append_named(
     // The lines of the description, each with the name of its element before its end.
     ensures appended { OnOk result ((text : List ℕ) × NamedDescription is_clear table.now names.now message.now text
         × (out.new.items ≡ out.old.items ++ text)) }
+    // Where memory runs out, the buffer holds the bytes that it held before.
     ensures unchanged { OnErr result (out.new.items ≡ out.old.items) }
 {
     let mut text = Vec::new(alloc);

@@ -78,6 +78,7 @@ fn balance_of(message: &Message) -> Option<i64>
 
 /// Whether an answer may tell the balance that an inquiry asks for.
 pub fn tells_balance(told: &Told) -> bool
+    // It is true exactly of an answer to a message of class 1, an authorization.
     ensures { result ≡ tells_balance told.now }
 {
     told.key.base / 100 == AUTHORIZATION
@@ -85,6 +86,8 @@ pub fn tells_balance(told: &Told) -> bool
 
 /// The balance that an answer tells to an inquiry.
 pub fn balance_told(message: &Message, told: &Told) -> Option<i64>
+    // In an answer to class 1 it is the first of six additional amounts (element 54) that tells
+    // what is available in its currency (element 49), with its sign; else none.
     ensures { result ≡ balance_told message.now told.now }
 {
     if tells_balance(told) {

@@ -57,7 +57,10 @@ pub fn read_body(
     text: &mut Vec<u8>,
     body: &[u8],
 ) -> Result<Read, FramesFault>
+    // Memory aside, it tells the answer that the whole body is by the table, with its balance where
+    // it is to a message of class 1; or that it is no answer.
     ensures read { IfOk result (λ r. r ≡ read_of table.now body.now) }
+    // Only want of memory is told as a fault.
     ensures fault { IfErr result (λ e. e ≡ fault.Memory) }
 {
     match answer_in(table, body, text)? {
@@ -103,6 +106,7 @@ pub fn take_frames(
     // All frames at the front, in their order, each of them once.
     ensures frames { IfOk result (λ bad. (more : List Reading) × TakesFrames table.now header came.old.items came.new.items more
         × (read.new.items ≡ read.old.items ++ more) × GoesOn header came.new.items bad) }
+    // Only want of memory is told as a fault.
     ensures fault { IfErr result (λ e. e ≡ fault.Memory) }
 {
     'frames: loop {

@@ -110,6 +110,8 @@ fn joined(code: u8, heard: &[Heard]) -> Joint
 impl Gathering {
     /// What is heard before any answer came, where there are so many shards.
     pub fn new(route: &Route, count: usize) -> Gathering
+        // Each shard that is there and to which the request goes was asked and is silent; no other
+        // was asked.
         ensures { (n : ℕ) (d : Heard) → n < 64
             → slice_index_or result.heard n d ≡ at_first route.now count n }
     {
@@ -140,6 +142,8 @@ impl Gathering {
 
     /// What comes of an answer of this code, which is among those that were heard.
     pub fn joint(&self, code: u8) -> Joint
+        // What comes of it is `Waits` while a shard that was asked is silent, else `Same` where all
+        // that were asked said this code, and `Differ` where not.
         ensures value { result ≡ joint code self.now.heard }
         // What is passed on is the answer of each shard that was asked,
         ensures same { result ≡ Joint.Same → list_all (agrees code) self.now.heard ≡ true }

@@ -75,7 +75,10 @@ fn write_prefix<W: fmt::Write>(f: &mut fmt::Formatter<W>, digits: u8, prefix: u6
 impl Prefixes {
     /// The prefixes from one text of 1 to 19 digits to another of as many, which isn't before it; `None` for other texts.
     pub fn new(from: &[u8], to: &[u8]) -> Option<Prefixes>
+        // Prefixes come exactly of two texts of 1 to 19 digits, as many in each and in order, and
+        // run from the first to the last.
         ensures value { result ≡ prefixes_of from.now to.now }
+        // Prefixes that are made have 1 to 19 digits, and the first one isn't behind the last.
         ensures good { IfSome result (λ p. are_prefixes p ≡ true) }
     {
         let first = Pan::from_digits(from)?;
@@ -93,6 +96,8 @@ impl Prefixes {
 
     /// Whether an account number begins with one of them.
     pub fn covers(&self, pan: &Pan) -> bool
+        // An account number begins with one of the prefixes exactly where its first digits, as many
+        // as they have, lie from the first to the last; a shorter number begins with none.
         ensures { result ≡ covers self.now pan.now }
     {
         if pan.len() < self.digits {

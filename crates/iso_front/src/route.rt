@@ -105,6 +105,8 @@ fn verdict_route(shards: &Shards, verdict: &Verdict) -> Route
 impl Shards {
     /// Where the body of a frame goes. Its message is read into the room that is lent. Refuses only for want of memory.
     pub fn route(&self, table: &Table, body: &[u8], room: &mut Message) -> Result<Route, NoMemory>
+        // Memory aside, what the message asks decides: an order on an account goes to the shard
+        // that has it, a reversal to all; a body that is no whole message is `Unreadable`.
         ensures route { IfOk result (λ r. r ≡ route_of self.now (asked_in table.now body.now)) }
         // An order goes to those shards to which the law of shards has it sent.
         ensures sent { IfOk result (λ r. (o : Instruction) (n : ℕ)

@@ -99,8 +99,10 @@ impl Shards {
 
     /// Adds a shard behind the others. No account number is its own yet.
     pub fn add(&mut self, shard: Shard) -> Result<(), ShardsFault>
+        // Where it succeeds, there is one shard more, and the same prefixes are given.
         ensures added { OnOk result (self.new
             ≡ record { count = self.old.count + 1; given = self.old.given }) }
+        // A shard that is refused changes nothing.
         ensures unchanged { OnErr result (self.new ≡ self.old) }
     {
         if self.shards.len() >= MOST_SHARDS {
@@ -114,6 +116,8 @@ impl Shards {
 
     /// Gives the account numbers that begin with one of these prefixes to the shard that was added last.
     pub fn give(&mut self, prefixes: Prefixes) -> Result<(), GiveFault>
+        // Where it succeeds, the prefixes stand behind the others, given to the shard that was
+        // added last.
         ensures given { OnOk result (self.new ≡ record {
           count = self.old.count;
           given = self.old.given
@@ -123,6 +127,7 @@ impl Shards {
         ensures met { are_prefixes prefixes ≡ true
             → AllByRecursion (λ g. are_prefixes g.prefixes ≡ true) self.old.given
             → IfErr result (λ e. IfMeets e (λ g. Meeting g.prefixes prefixes)) }
+        // Prefixes that are refused change nothing.
         ensures unchanged { OnErr result (self.new ≡ self.old) }
     {
         let Some(shard) = self.shards.len().checked_sub(1) else {
@@ -145,6 +150,7 @@ impl Shards {
 
     /// The shards, in their order.
     pub fn as_slice(&self) -> &[Shard]
+        // The slice has as many shards as there are.
         ensures { length result.now ≡ self.now.count }
     {
         &self.shards
@@ -152,7 +158,9 @@ impl Shards {
 
     /// How many there are.
     pub fn len(&self) -> usize
+        // The number is that of the shards.
         ensures value { result ≡ self.now.count }
+        // There are at most 64 shards.
         ensures few { result ≤ 64 }
     {
         self.shards.len()
@@ -167,6 +175,7 @@ impl Shards {
 
     /// The shard at a place.
     pub fn get(&self, place: usize) -> Option<&Shard>
+        // There is a shard exactly at each place below their number.
         ensures { is_some result ≡ nat_lt place self.now.count }
     {
         self.shards.get(place)
@@ -174,11 +183,14 @@ impl Shards {
 
     /// The place of the shard that has an account number: of which a prefix begins it. Takes no memory.
     pub fn shard_of(&self, pan: &Pan) -> Option<usize>
+        // The answer is the shard of the first given prefixes with which the account number begins,
+        // and `None` where it begins with none.
         ensures value { result ≡ shard_of self.now pan.now }
         // The one that is told has it,
         ensures found { IfSome result (Belongs self.now pan.now) }
         // and the one that has it is told: there is no other.
         ensures only { (shard : ℕ) → Belongs self.now pan.now shard → result ≡ Some shard }
+        // The shard that is told is one of those that there are.
         ensures there { IfSome result (λ shard. shard < self.now.count) }
         // No account number begins with a prefix of two that are given.
         ensures apart { NoneMeet self.now.given }

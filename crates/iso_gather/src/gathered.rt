@@ -60,10 +60,16 @@ impl<D: Disk> GatheredDisk<D> {
 
     /// A disk over this one, with nothing that waits. Its room for bytes that wait is from this allocator.
     pub fn new(alloc: Global, inner: D) -> GatheredDisk<D>
+        // The disk below is the one that was given.
         ensures inner { inner_of result ≡ inner }
+        // A read shows what the disk below shows.
         ensures seen { seen_of result ≡ D.Disk.seen inner }
+        // A crash leaves exactly what it may leave of the disk below.
         ensures left { (c : List ℕ) → left_of result c ↔ D.Disk.may_leave inner c }
+        // It may be used exactly where the disk below may.
         ensures usable { usable_of result ≡ D.Disk.is_usable inner }
+        // It has counted what the disk below has: the failed calls that met damage, and
+        // those that found no room.
         ensures tally { counts_of result ≡ D.Disk.tally_of inner }
     {
         let refused = inner.tally().refused;

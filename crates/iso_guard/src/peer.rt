@@ -71,17 +71,27 @@ impl<'l> GuardedPeer<'l> {
         rooms: &mut Rooms,
         noting: &mut N,
     ) -> Result<Turned, LogFailed>
+        // At `Ok` the messages of all whole frames enter the books, but for those that may not be
+        // spoken for, and the answers wait in the order of the frames.
         ensures took { IfOk result (TakesGuarded self.old self.new host.old.host host.new.host bytes.now) }
         // Only orders of acquirers that may be spoken for enter the books.
         ensures allowed { EntersAllowed self.old.guard.acquirers self.old.guard.table host.old.host host.new.host }
+        // It succeeds only where the log didn't fail before.
         ensures sound { OnOk result (host.old.has_failed ≡ false) }
+        // It fails only where the log failed before.
         ensures refused { OnErr result (host.old.has_failed ≡ true) }
+        // A failure leaves what the peer holds, and what waits for it.
         ensures unchanged { OnErr result (self.new ≡ self.old) }
+        // The table, the header, the acquirers and the count of bytes
+        // before a message stay the same.
         ensures guard { self.new.guard ≡ self.old.guard }
         // The log isn't called, and stays in step with the journal.
         ensures log { host.new.log ≡ host.old.log }
+        // The count of orders that are kept on the disk stays.
         ensures kept { host.new.kept ≡ host.old.kept }
+        // Whether the log failed stays as it was.
         ensures failed { host.new.has_failed ≡ host.old.has_failed }
+        // A log in step with the journal stays in step.
         ensures step { IsInStep L.is_ready L.synced L.pending host.old
             → IsInStep L.is_ready L.synced L.pending host.new }
     {
@@ -107,7 +117,10 @@ impl<'l> GuardedPeer<'l> {
     /// The bytes that may be written to the peer now: all that wait, where every order is kept. Nothing, where an order waits
     /// for the next `keep`, or the log failed.
     pub fn hand_out<'p, L: Log>(&'p self, host: &DurableHost<L>) -> Option<&'p [u8]>
+        // What it gives are all the bytes that wait for the peer, and nothing else.
         ensures waiting { IfSome result (λ bytes. bytes.now ≡ self.now.waiting) }
+        // Bytes are handed out exactly where the log never failed and every
+        // order of the journal is kept.
         ensures kept { IsSome result ↔ IsKept host.now }
     {
         if host.has_failed {
@@ -121,9 +134,14 @@ impl<'l> GuardedPeer<'l> {
 
     /// So many of the bytes that were handed out are written: they wait no more.
     pub fn written(&mut self, count: usize)
+        // At least so many bytes wait to be written.
         requires { count ≤ length self.old.waiting }
+        // So many bytes from the front wait no more, and the others wait still.
         ensures waiting { self.new.waiting ≡ drop count self.old.waiting }
+        // The bytes that are held of a frame stay.
         ensures held { self.new.held ≡ self.old.held }
+        // The table, the header, the acquirers and the count of bytes
+        // before a message stay the same.
         ensures guard { self.new.guard ≡ self.old.guard }
     {
         drop_front(&mut self.waiting, count);

@@ -212,12 +212,20 @@ pub fn answer_request(
     out: &mut Vec<u8>,
     told: &mut Handled,
 ) -> Result<(), NoMemory>
+    // A host can serve under the table.
     requires ready { IsHostReady table.now }
+    // Some bytes spell the message in the room for the request, under the table.
     requires read { (bytes : List ℕ) × Spelling table.now rooms.old.request bytes }
+    // Memory aside, the message's order enters the journal, up to its limit, and `out` grows by the
+    // frame of the response, or by nothing where none is due.
     ensures answered { OnOk result
         (AnswersMessage table.now header issuer.old issuer.new (Some rooms.old.request) out.old.items out.new.items) }
+    // Memory aside, what a log may tell is what came of the message.
     ensures handled { OnOk result (IsHandledBy issuer.old (verdict rooms.old.request) told.new) }
+    // Without memory the issuer is as it was, or the order is entered, and
+    // the message has an answer.
     ensures memory { OnErr result (EntersOrKeeps table.now header issuer.old issuer.new (Some rooms.old.request)) }
+    // Without memory `out` is as it was.
     ensures unchanged { OnErr result (out.new.items ≡ out.old.items) }
 {
     let answer = match answer_to(issuer, &rooms.request, told) {
@@ -272,10 +280,16 @@ pub fn answer_body(
     out: &mut Vec<u8>,
     told: &mut Handled,
 ) -> Result<(), NoMemory>
+    // A host can serve under the table.
     requires ready { IsHostReady table.now }
+    // Memory aside, the order that the body asks enters the journal, up to its limit, and `out`
+    // grows by the frame of the response, or by nothing where none is due.
     ensures answered { OnOk result (Answers table.now header issuer.old issuer.new body.now out.old.items out.new.items) }
+    // Memory aside, what a log may tell is what came of the body.
     ensures handled { OnOk result (IsHandled table.now issuer.old body.now told.new) }
+    // Without memory the issuer is as it was, or the order is entered, and the body has an answer.
     ensures memory { OnErr result (EntersOrKeeps table.now header issuer.old issuer.new (message_in table.now body.now)) }
+    // Without memory `out` is as it was.
     ensures unchanged { OnErr result (out.new.items ≡ out.old.items) }
 {
     // the law that without an order the books stay as they are, for the prover

@@ -30,6 +30,7 @@ pub enum ServeFault {
 impl ServeFault {
     /// The fault's number, as logs and monitors show it: from 1 for a failed reader to 6 for too many reads and writes.
     pub fn number(&self) -> u8
+        // `Read` is 1, `Write` 2, `BadHeader` 3, `CutFrame` 4, `Memory` 5 and `TooManyTurns` 6.
         ensures { result ≡ serve_fault_number self.now }
     {
         match self {

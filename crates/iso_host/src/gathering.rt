@@ -132,6 +132,7 @@ impl<'t> Model for Gathering<'t> {
 impl<'t> Gathering<'t> {
     /// No bytes yet. Takes no memory.
     pub fn new(alloc: Global, table: &'t Table) -> Gathering<'t>
+        // The body is to be read under that table, and no byte of it came yet.
         ensures { result ≡ record { table = table.now; part = [] } }
     {
         // any call on the table tells the proof that its rows are good
@@ -146,9 +147,13 @@ impl<'t> Gathering<'t> {
 
     /// Takes the next bytes of the body, which are not its last.
     pub fn gather(&mut self, piece: &[u8]) -> Result<(), NoMemory>
+        // At most 65,535 bytes of the body came before.
         requires { length self.old.part ≤ 65535 }
+        // Memory aside, the piece stands behind the bytes that came before.
         ensures bytes { OnOk result (self.new.part ≡ self.old.part ++ piece.now) }
+        // Without memory no byte more is held.
         ensures unchanged { OnErr result (self.new.part ≡ self.old.part) }
+        // The body is still to be read under the same table.
         ensures table { self.new.table ≡ self.old.table }
     {
         gather_piece(
@@ -166,9 +171,14 @@ impl<'t> Gathering<'t> {
         piece: &[u8],
         request: &mut Message,
     ) -> Result<Option<BodyFault>, NoMemory>
+        // At least one byte comes now.
         requires some { 0 < length piece.now }
+        // At most 65,535 bytes of the body came before.
         requires few { length self.old.part ≤ 65535 }
+        // Memory aside, the whole body is the message in the room, or it is no
+        // message, and the fault says why.
         ensures read { IfOk result (ReadsBody self.old.table (self.old.part ++ piece.now) request.new) }
+        // The bytes that came before are held still, under the same table.
         ensures kept { self.new ≡ self.old }
     {
         match self.fault {
@@ -179,6 +189,7 @@ impl<'t> Gathering<'t> {
 
     /// Drops the bytes: it stands before the first byte of a body.
     pub fn clear(&mut self)
+        // No byte is held any more, and the table stays.
         ensures { self.new ≡ record self.old { part = [] } }
     {
         self.unpacker.reset();

@@ -70,6 +70,7 @@ impl Host {
         // Without memory the issuer is as it was, or the order is entered, and has an answer.
         ensures memory { OnErr result (EntersOrKeeps link.now.table link.now.header self.old self.new
             (message_in link.now.table body.now)) }
+        // Without memory `out` is as it was.
         ensures unchanged { OnErr result (out.new.items ≡ out.old.items) }
     {
         let table = link.table().table();

@@ -28,7 +28,9 @@ pub fn one_output()
 /// One journal goes on over several streams: bodies that follow others are handled as if all had come on one stream, and
 /// no bodies leave it as it is.
 pub fn one_journal(issuer: &Issuer)
+    // No bodies leave the books as they are, whatever the table.
     ensures none { StaysWithout issuer.now }
+    // Bodies that follow others leave the same books as all of them on one stream.
     ensures more { BodiesGoOn }
 {
     firsts_go_on();
@@ -43,7 +45,11 @@ pub fn one_journal(issuer: &Issuer)
 /// The calls are those of `Peer::take` that took something or wanted memory, of any number of peers, each before its first
 /// byte when the first of the calls is made. A peer that is dropped in the middle of a frame has no further call.
 pub fn peers_share(issuer: &Issuer)
+    // However the bytes of many peers are cut and interleaved: the journal is that of the bodies in
+    // the order in which their frames ended, and each peer gets the answers to its own.
     ensures share { PeersShare issuer.now }
+    // Out of a peer alone comes, where memory suffices, the output of its stream, however its bytes
+    // are cut, and the journal is that of its bodies.
     ensures alone { PeerAlone issuer.now }
 {
     firsts_go_on();

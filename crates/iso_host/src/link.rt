@@ -27,10 +27,13 @@ impl HostTable {
     /// The table, where [`Table::host_ready`] accepts it. Else the first thing that is wrong, and the table back. Takes no
     /// memory.
     pub fn new(table: Table) -> Result<HostTable, (HostTableFault, Table)>
+        // At `Ok` it is the table that was given.
         ensures made { IfOk result (λ made. made ≡ table) }
         // It is made of exactly the tables that a host can serve under.
         ensures ready { IfOk result IsHostReady }
+        // A refusal names the first thing for which no host can serve under the table.
         ensures fault { IfErr result (λ e. host_fault table ≡ Some e.0) }
+        // A refusal gives the table back as it was.
         ensures back { IfErr result (λ e. e.1 ≡ table) }
     {
         match table.host_ready() {
@@ -42,7 +45,9 @@ impl HostTable {
     /// The table itself.
     #[inline(always)]
     pub fn table(&self) -> &Table
+        // It is the table that it was made of.
         ensures table { result.now ≡ self.now }
+        // A host can serve under this table.
         ensures ready { IsHostReady self.now }
     {
         &self.table
@@ -80,7 +85,9 @@ impl Link {
     /// How its messages are written.
     #[inline(always)]
     pub fn table(&self) -> &HostTable
+        // It is the table that the link was made of.
         ensures table { result.now ≡ self.now.table }
+        // A host can serve under this table.
         ensures ready { IsHostReady self.now.table }
     {
         &self.table

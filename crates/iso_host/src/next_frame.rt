@@ -56,17 +56,29 @@ pub fn next_frame<R: Inlet>(
     left: &mut u64,
     told: &mut Handled,
 ) -> Result<bool, ServeFault>
+    // A host can serve under the table.
     requires ready { IsHostReady table.now }
+    // The line reads its bodies under that table.
     requires same { line.old.gathering.table ≡ table.now }
+    // What the line holds is the beginning of one frame.
     requires begun { IsBegun header line.old.begun line.old.gathering.part }
+    // The line holds no byte yet.
     requires none { held_of line.old.begun line.old.gathering.part ≡ [] }
+    // One frame is taken and its body answered, or the input ends before it. At a fault some of it
+    // may be taken, and only without memory may its order be entered.
     ensures bytes { AnswersFrame table.now header (prepend_known window.old (R.remaining reader.old))
         (prepend_known window.new (R.remaining reader.new)) window.new (R.remaining reader.new)
         issuer.old issuer.new line.old.out.items line.new.out.items told.new result }
+    // Each read takes one of the turns that are left.
     ensures turns { TakesTurns (R.counts reader.old) (R.counts reader.new) left.old left.new }
+    // `Read` comes only where the reader failed, `TooManyTurns` only where no turn is left. Where a
+    // frame is taken, no read failed, and each gave a byte at least.
     ensures spent { SpendsOnNext (R.counts reader.old) (R.counts reader.new) left.old left.new window.old window.new result }
+    // The line still reads its bodies under that table.
     ensures same { line.new.gathering.table ≡ table.now }
+    // What the line holds then is the beginning of one frame.
     ensures begun { IsBegun header line.new.begun line.new.gathering.part }
+    // At `Ok` the line holds no byte of a frame.
     ensures none { OnOk result (held_of line.new.begun line.new.gathering.part ≡ []) }
 {
     // the law that a header and fewer bytes than it counts need more, for the prover

@@ -110,9 +110,11 @@ impl<'l> Peer<'l> {
         ensures refused { IfErr result (Refuses self.old.table self.old.header self.old.held host.old host.new bytes.now) }
         // The peer stays on its link.
         ensures table { self.new.table ≡ self.old.table }
+        // The header of the peer's frames stays the same.
         ensures header { self.new.header ≡ self.old.header }
         // A refusal leaves what the peer holds, and what came out.
         ensures held { OnErr result (self.new.held ≡ self.old.held) }
+        // A refusal leaves `out` as it was.
         ensures unchanged { OnErr result (out.new.items ≡ out.old.items) }
     {
         let mut told = Handled::Silent;

@@ -110,6 +110,7 @@ pub fn serve<R: Inlet, W: Outlet>(
     writer: &mut W,
     turns: u64,
 ) -> Result<Report, ServeFault>
+    // A host can serve under the table: `Table::host_ready` accepts it.
     requires { IsHostReady table.now }
     // What was read, written and entered, by how it ends.
     ensures leaves { Leaves table.now header (R.remaining reader.old) (R.remaining reader.new)

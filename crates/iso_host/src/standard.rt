@@ -69,7 +69,9 @@ pub struct Std<S> {
 impl<S> Std<S> {
     /// The stream, with no call counted yet.
     pub fn new(stream: S) -> Std<S>
+        // The stream inside is the one that was given.
         ensures stream { stream_of result ≡ stream }
+        // No read, write, flush or failure is counted yet.
         ensures counts { counts_of result ≡ none_yet }
     {
         Std {

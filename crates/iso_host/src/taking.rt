@@ -292,16 +292,28 @@ pub fn take_bytes(
     out: &mut Vec<u8>,
     told: &mut Handled,
 ) -> Result<Step, PeerFault>
+    // A host can serve under the table.
     requires ready { IsHostReady table.now }
+    // The body is read under that table.
     requires same { gathering.old.table ≡ table.now }
+    // What is held is the beginning of one frame.
     requires begun { IsBegun header begun.old gathering.old.part }
+    // At `Ok` the bytes stay behind those that were held, or they end a frame, whose
+    // body is entered and answered.
     ensures took { IfOk result (λ step. Takes table.now header (held_of begun.old gathering.old.part) (held_of begun.new gathering.new.part)
         issuer.old issuer.new bytes.now out.old.items out.new.items (taken_as step told.new)) }
+    // A refusal is a header that isn't of digits, with the books as they were; or want of memory,
+    // where the order of a frame's body may be entered.
     ensures refused { IfErr result (Refuses table.now header (held_of begun.old gathering.old.part) issuer.old issuer.new bytes.now) }
+    // What is held then is the beginning of one frame.
     ensures begun { IsBegun header begun.new gathering.new.part }
+    // A refusal leaves the header that has begun, and how much of the body is still to come.
     ensures held { OnErr result (begun.new ≡ begun.old) }
+    // A refusal leaves the bytes of the body that are held.
     ensures gathered { OnErr result (gathering.new.part ≡ gathering.old.part) }
+    // A refusal leaves `out` as it was.
     ensures unchanged { OnErr result (out.new.items ≡ out.old.items) }
+    // The body is still to be read under the same table.
     ensures table { gathering.new.table ≡ gathering.old.table }
 {
     if begun.left > 0 {

@@ -59,10 +59,18 @@ impl Window {
 
     /// One read into the empty window, which takes one of the turns that are left. The end of the input is `CutFrame`.
     pub fn refill<R: Inlet>(&mut self, reader: &mut R, left: &mut u64) -> Result<(), ServeFault>
+        // The window is empty.
         requires { self.old ≡ [] }
+        // No byte is lost or added: those of the window, and then those that the reader still
+        // gives, are the same as before, where they are known.
         ensures kept { Keeps (prepend_known self.old (R.remaining reader.old)) (prepend_known self.new (R.remaining reader.new)) }
+        // At `Ok` the window has a byte at least. Else it is empty, and `CutFrame` comes
+        // only at the end of the input.
         ensures bytes { Refills self.new (R.remaining reader.new) result }
+        // A read takes one of the turns that are left.
         ensures turns { TakesTurns (R.counts reader.old) (R.counts reader.new) left.old left.new }
+        // `Read` comes only where the reader failed, `TooManyTurns` only where no turn is left. At
+        // `Ok` the read didn't fail, and gave a byte at least.
         ensures spent { SpendsOnReads (R.counts reader.old) (R.counts reader.new) left.old left.new self.old self.new 0 result }
     {
         if *left == 0 {

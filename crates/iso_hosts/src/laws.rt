@@ -15,22 +15,42 @@ use iso_order::laws::comparisons;
 /// so no two hosts answer one order differently. No two orders that are kept have one key. What is
 /// kept stays there, at its place.
 pub fn no_host_is_wrong()
+    // After every list of events, each answer that any host told is the one that
+    // the log gives to its order.
     ensures told { NoHostIsWrong }
+    // Two answers to one order are one answer, whichever hosts told them, and whenever.
     ensures agree { HostsAgree }
+    // No two orders that are kept have one key, and there are no more of them than the limit.
     ensures once { KeptOnce }
+    // What is kept stays in the log, at its place, whatever events follow.
     ensures grows { LogOnlyGrows }
+    // A batch whose place is taken is never kept, however late it arrives.
     ensures late { LateIsLost }
+    // No batch was sent to a place behind the next one, so the log has no gap.
     ensures gaps { NoGaps }
+    // No host has seen more batches than are kept.
     ensures seen { SeenIsKept }
     // What a host that reads the next batch tells, and what it forgets.
     ensures own { OwnIsTold }
+    // A host that reads another batch than the one it is in doubt of tells nothing,
+    // and forgets what it decided.
     ensures fenced { FencedSaysNothingNew }
+    // A host that reads the next batch has then seen its orders, behind
+    // those that it had seen before.
     ensures reads { ReadsOn }
+    // What other hosts do, and a batch that arrives, leaves a host as it was that has
+    // seen no more than is kept.
     ensures others { OthersLeaveIt }
     // A `DurableIssuer`'s `start` and `answer_all` are among the runs that this speaks of.
     ensures starts { StartsAreEvents }
+    // Where a host has seen all that is kept, and its batch is sent, arrives next and is read, the
+    // batch is kept and the answers that waited for it are told.
     ensures succeeds { SyncSucceeds }
+    // Orders that come to a host that has seen all that is kept and is in doubt of nothing, and are
+    // sent and read then, leave it as `DurableIssuer::answer_all` leaves an issuer.
     ensures calls { CallsAreEvents }
+    // Where a host has seen all that is kept and is in doubt of nothing, the answers that
+    // `answer_all` gives to orders that come are told, but for those of 96.
     ensures answers { CallsAreTold }
 {
     answers_are_kept();

@@ -35,8 +35,12 @@ fn append_text(text: &[u8], out: &mut Vec<u8>) -> Result<(), HexFault>
 /// colon, two blanks behind the eighth byte part the halves of the line if a byte's two digits follow, and a blank or the
 /// line's end behind them.
 pub fn append_hex(text: &[u8], out: &mut Vec<u8>) -> Result<(), HexFault>
+    // At `Ok` the text stands for bytes, and exactly these are appended.
     ensures appended { OnOk result (after out.old.items (hex_bytes text.now) ≡ Ok out.new.items) }
+    // Memory aside, the fault is the first thing wrong: a byte that is no digit, a digit that
+    // stands alone, or a dump's line with a wrong offset, each with its place.
     ensures fault { IfErr result (λ e. e ≢ HexFault.Memory → hex_bytes text.now ≡ Err e) }
+    // After a fault the buffer holds what it held before.
     ensures unchanged { OnErr result (out.new.items ≡ out.old.items) }
 {
     let size = out.len();

@@ -6,7 +6,10 @@ ghost use Rattle.iso_input.specs.Dumps.{DumpsComeBack};
 /// A text that is no dump stands for the bytes that its digits decode to without the spacing, and the digits of bytes stand
 /// for those bytes.
 pub fn digits_decode()
+    // A text that is no dump stands for what its digits decode to without the spacing, and for
+    // nothing where they don't decode.
     ensures decoded { IsDecoded }
+    // The digits of any bytes, of either case, stand for those bytes.
     ensures back { ComesBack }
 {}
 

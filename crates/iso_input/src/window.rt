@@ -34,7 +34,9 @@ impl<R: Read> Model for Window<R> {
 impl<R: Read + Drop> Window<R> {
     /// A window that holds nothing yet. Takes no memory, and reads nothing.
     pub fn new(alloc: Global, input: R) -> Window<R>
+        // The window holds no byte yet.
         ensures held { result.held ≡ [] }
+        // All of the input is ahead, where its bytes are known.
         ensures ahead { result.ahead ≡ R.remaining input }
     {
         Window {
@@ -45,6 +47,7 @@ impl<R: Read + Drop> Window<R> {
 
     /// The bytes that are held.
     pub fn held(&self) -> &[u8]
+        // They are exactly the bytes that the window holds.
         ensures held { result.now ≡ self.now.held }
         // They are the first ones of all that are still to be had.
         ensures front { IfSome self.now.ahead (λ all. (rest : List ℕ) × (all ≡ result.now ++ rest)) }
@@ -55,10 +58,16 @@ impl<R: Read + Drop> Window<R> {
     /// Reads a block more, of at most 65,536 bytes, behind the held ones; false where the input has ended. On a fault the
     /// held bytes are as before, and nothing of the input is lost.
     pub fn read_more(&mut self) -> Result<bool, InputFault>
+        // At `Ok` a piece of at most 65,536 bytes stands behind the held ones, and it has a byte
+        // exactly where the answer is true.
         ensures grown { IfOk result (Grows self.old.held self.new.held) }
+        // What is held and still to come stays the same, where it is known, after a fault too.
         ensures kept { Keeps self.old.ahead self.new.ahead }
+        // Where the answer is false, all that is ahead is held: the input has ended.
         ensures end { IfOk result (λ more. more ≡ false → IfSome self.new.ahead (λ all. all ≡ self.new.held)) }
+        // The fault is never `TooLong`.
         ensures fault { IfErr result (λ e. e ≢ InputFault.TooLong) }
+        // After a fault exactly the bytes are held that were held before.
         ensures unchanged { OnErr result (self.new.held ≡ self.old.held) }
     {
         let count = self.held.read_more(&mut self.input)?;
@@ -67,8 +76,11 @@ impl<R: Read + Drop> Window<R> {
 
     /// Lets the first held bytes go. Takes no memory.
     pub fn drop_front(&mut self, count: usize)
+        // No more bytes are let go than are held.
         requires { count ≤ length self.old.held }
+        // The first bytes, so many, are held no more, and the others are.
         ensures held { self.new.held ≡ drop count self.old.held }
+        // The same bytes are gone from what is ahead, and nothing else is.
         ensures ahead { self.new.ahead ≡ option_map (drop count) self.old.ahead }
     {
         self.held.drop_front(count);

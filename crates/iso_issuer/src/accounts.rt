@@ -82,8 +82,13 @@ impl Accounts {
     /// number of minor units). Or else the first fault: no JSON, another shape, and then account by
     /// account an opening amount out of range, and a number that stood before.
     pub fn from_json(alloc: Global, text: &[u8]) -> Result<Accounts, AccountsFault>
+        // The accounts that are got are those that the JSON text lists, in its order, and
+        // none of them has a fault.
         ensures ok { IfOk result (ListsAccounts text.now) }
+        // `NotJson` is told only of a text that is no JSON.
         ensures not_json { IsErrOf result AccountsFault.NotJson → IsNotJson text.now }
+        // Any fault but `NotJson`, memory aside, is the first thing that is
+        // wrong with the JSON text.
         ensures fault { IfErr result (λ e. e ≢ Memory → e ≢ NotJson → HasFault text.now e) }
     {
         let value = value_of(alloc, text)?;

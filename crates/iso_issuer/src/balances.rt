@@ -97,8 +97,12 @@ impl Balances {
 
     /// Opens an account of a new number.
     pub fn open(&mut self, account: Account) -> Result<(), AllocError>
+        // No account has this number yet.
         requires new { balance_at self.old account.pan ≡ None }
+        // Memory aside, the account comes behind all others, with its opening amount on
+        // it and all of it available.
         ensures ok { OnOk result (self.new ≡ self.old ++ opening_balance account ∷ []) }
+        // Without memory the balances stay as they were.
         ensures unchanged { OnErr result (self.new ≡ self.old) }
     {
         self.rows.reserve(1)?;
@@ -123,7 +127,11 @@ impl Balances {
 
     /// The balance of a number and its place, where it has an account.
     pub fn find(&self, pan: Pan) -> Option<PlacedBalance>
+        // The place that is told is that of the number's account, from 0 on; none where
+        // there is no such account.
         ensures place { option_map (λ r. r.place) result ≡ account_place (accounts_of self.now) pan }
+        // The balance that is told is that of the number's account; none where
+        // there is no such account.
         ensures balance { option_map (λ r. r.balance) result ≡ balance_at self.now pan }
     {
         let place = *self.places.get(&pan)?;
@@ -142,8 +150,14 @@ impl Balances {
 
     /// Adds a change to the balance of its account, where there is such an account, at its place.
     pub fn post(&mut self, change: Change, place: Option<usize>)
+        // Each balance is within 9,000,000,000,000,000 minor units and 10^12 for each of
+        // 2,999,999 changes, either way.
         requires near { All (IsNear 2999999) self.old }
+        // The place is that of the account that the change is for; none where
+        // there is no such account.
         requires place { place ≡ account_place (accounts_of self.old) change.pan }
+        // The account that the change is for has both amounts added; every
+        // other account stays as it was.
         ensures { self.new ≡ map (balance_after change) self.old }
     {
         if let Some(place) = place {

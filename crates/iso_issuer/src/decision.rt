@@ -87,6 +87,7 @@ pub fn balance_for(balances: &Balances, order: &Order) -> Option<PlacedBalance>
 
 /// The place alone.
 pub fn place_in(placed: &Option<PlacedBalance>) -> Option<usize>
+    // It is the place of the account that was looked up, where there is one.
     ensures { result ≡ option_map (λ p. p.place) placed.now }
 {
     match placed {
@@ -152,10 +153,16 @@ pub fn new_answer(
     effect: &Option<Effect>,
     left: Option<u64>,
 ) -> Answer
+    // The journal has fewer than 999,999 entries, so the new one's place has six digits at most.
     requires few { length journal.now < 999999 }
+    // The effect is what this order does to its account.
     requires effect { effect.now ≡ effect_of order.now }
+    // The amount of the effect has at most twelve digits.
     requires amount { effect_amount effect.now ≤ most_amount }
+    // Unless the order is a reversal, `left` is what the first entered reversal of its key leaves.
     requires left { undone_key order.now.act ≡ None → left ≡ left_at journal.now order.now.key }
+    // Where its account was looked up in balances that are sums over the journal, the order gets
+    // the answer that the rules give on the entries before it.
     ensures { (balances : List Balance) → AreSums journal.now balances
         → IsBalanceFor balances order.now placed.now
         → result ≡ new_answer (accounts_of balances) journal.now order.now }

@@ -71,8 +71,12 @@ fn listed_rows(alloc: Global, values: &[Value]) -> Result<Vec<Listed>, AccountsF
 
 /// The accounts that a JSON value lists.
 pub fn document_in(alloc: Global, value: &Value) -> Result<Vec<Listed>, AccountsFault>
+    // The accounts that are got are those that the JSON value lists, in its order.
     ensures ok { IfOk result (λ rows. document_in (view value.now) ≡ Some rows.items) }
+    // The only fault, memory aside, is `Shape`.
     ensures fault { IfErr result (λ e. e ≢ Memory → e ≡ Shape) }
+    // A fault, memory aside, comes only where the JSON value isn't a document
+    // of accounts by its shape.
     ensures shape { IfErr result (λ e. e ≢ Memory → document_in (view value.now) ≡ None) }
 {
     if !has_members(value, 1) {
@@ -89,9 +93,13 @@ pub fn document_in(alloc: Global, value: &Value) -> Result<Vec<Listed>, Accounts
 
 /// The JSON value of a text.
 pub fn value_of(alloc: Global, text: &[u8]) -> Result<Value, AccountsFault>
+    // A text that has a value is UTF-8.
     ensures utf8 { IfOk result (λ _. IsUtf8 text.now) }
+    // The value that is got is the one that the JSON text spells.
     ensures read { IfOk result (λ value. read text.now ≡ Some (view value)) }
+    // The only fault, memory aside, is `NotJson`.
     ensures fault { IfErr result (λ e. e ≢ Memory → e ≡ NotJson) }
+    // `NotJson` is told only of a text that is no JSON.
     ensures not_json { IsErrOf result AccountsFault.NotJson → IsNotJson text.now }
 {
     match Value::from_slice(alloc, text) {

@@ -91,6 +91,7 @@ pub fn ended_by(effect: &Option<Effect>) -> Option<TxKey>
 
 /// The amount of an effect.
 pub fn effect_amount(effect: &Option<Effect>) -> u64
+    // It is the amount of the effect, and 0 where there is no effect.
     ensures { result ≡ effect_amount effect.now }
 {
     match effect {
@@ -101,8 +102,12 @@ pub fn effect_amount(effect: &Option<Effect>) -> u64
 
 /// What an order does to its account, where it does anything.
 pub fn effect_of(order: &Order) -> Option<Effect>
+    // A debit, a credit and a completion have an effect: the account, which way it counts, the
+    // amount, and the hold that it ends, if any. No other order has one.
     ensures value { result ≡ effect_of order.now }
+    // The amount has at most twelve digits.
     ensures small { effect_amount result ≤ most_amount }
+    // An order with an effect of its own is no reversal.
     ensures own { IfSome result (λ f. undone_key order.now.act ≡ None) }
     // What ends a hold is of class 2, and a hold of class 1.
     ensures ends { (q : TxKey) → is_key (ended_by result) q ≡ true

@@ -173,10 +173,15 @@ impl Index {
     /// Gives a new key the next place, which no other key claims any longer. Where the key has a place, that is
     /// told.
     pub fn claim(&mut self, key: &TxKey, next: u32) -> Result<Option<u32>, AllocError>
+        // The index of some entries stays their index, however the call ends, if
+        // `next` is how many they are.
         ensures kept { (es : List Entry) → IsIndexOf self.old es → next ≡ length es → IsIndexOf self.new es }
+        // The place that is told is that of the key's entry; none where the key has no entry.
         ensures known { IfOk result (λ known. (es : List Entry) → IsIndexOf self.old es
             → known ≡ place_of es key.now) }
+        // Where no place is told, this key is the one that claims the next place.
         ensures claimed { IfOk result (λ known. known ≡ None → self.new.claimed ≡ Some key.now) }
+        // Memory runs out only where the key has no entry.
         ensures new { OnErr result ((es : List Entry) → IsIndexOf self.old es → place_of es key.now ≡ None) }
     {
         clear(&mut self.places, &self.claimed);
@@ -191,7 +196,10 @@ impl Index {
 
     /// As `claim`, unless the key claims the next place already.
     pub fn secure(&mut self, key: &TxKey, next: u32) -> Result<(), AllocError>
+        // The index of some entries stays their index, however the call ends, if
+        // `next` is how many they are.
         ensures kept { (es : List Entry) → IsIndexOf self.old es → next ≡ length es → IsIndexOf self.new es }
+        // Memory aside, a key that has no entry claims the next place.
         ensures claimed { OnOk result ((es : List Entry) → IsIndexOf self.old es
             → entry_at es key.now ≡ None → self.new.claimed ≡ Some key.now) }
     {
@@ -210,18 +218,30 @@ impl Index {
         added: Option<Hold>,
         dropped: Option<Hold>,
     ) -> Result<(), AllocError>
+        // An order that completes a hold is no reversal, and takes no other completion back.
         requires apart { IfSome added (λ h. (undone_key order.now.act ≡ None) × (dropped ≡ None)) }
+        // Fewer than a million entries complete the hold so far.
         requires few { IfSome added (λ h. hold_count self.old.counts h.key h.pan < 1000000) }
+        // A completion that is taken back was counted.
         requires counted { IfSome dropped (λ h. 1 ≤ hold_count self.old.counts h.key h.pan) }
+        // The places of the keys stay as they were, however the call ends.
         ensures places { self.new.places ≡ self.old.places }
+        // Memory aside, no key claims a place any longer.
         ensures settled { OnOk result (self.new.claimed ≡ None) }
+        // Without memory the claim of the next place stays as it was.
         ensures claimed { OnErr result (self.new.claimed ≡ self.old.claimed) }
+        // Memory aside, the key that a reversal names has what its first reversal leaves; all
+        // other keys stay as they were.
         ensures lefts { OnOk result ((key : TxKey) → tree.get key_cmp self.new.lefts key
             ≡ option_or (tree.get key_cmp self.old.lefts key)
             (if is_key (undone_key order.now.act) key then Some (left_by order.now.act) else None)) }
+        // Memory aside, a hold that is completed has one completion more, one whose completion is
+        // taken back one fewer, and each other as many as before.
         ensures counts { OnOk result ((key : TxKey) → (pan : AccountNumber) → hold_count self.new.counts key pan
             ≡ hold_count self.old.counts key pan - mark_at dropped key pan + mark_at added key pan) }
+        // Without memory, what the first reversal of each key leaves stays as it was.
         ensures lefts_kept { OnErr result ((key : TxKey) → tree.get key_cmp self.new.lefts key ≡ tree.get key_cmp self.old.lefts key) }
+        // Without memory each hold has as many completions as before.
         ensures counts_kept { OnErr result ((key : TxKey) → (pan : AccountNumber) → hold_count self.new.counts key pan ≡ hold_count self.old.counts key pan) }
     {
         keep(&mut self.lefts, &mut self.counts, order, added, dropped)?;

@@ -123,7 +123,11 @@ impl Issuer {
         // A key that is known takes no memory.
         ensures repeat { IsTrue (is_entered self.old.orders order.key) → IsOk result }
 
+        // The answer is that of the rules on the whole journal: a known key gets its first answer
+        // again, or 94 for another order; a new key is decided on the entries before it.
         ensures answer { IfOk result (λ answer. answer ≡ answer_for self.old.accounts (journal self.old) order) }
+        // After an answer the journal is the first order of each key: a new key comes last, a
+        // known key changes nothing.
         ensures entered { OnOk result (self.new ≡ record self.old { orders = firsts (self.old.orders ++ order ∷ []) }) }
 
         // An inquiry alone shows a balance, of at most twelve digits.
@@ -135,7 +139,9 @@ impl Issuer {
 
         // A new key at the limit is refused as such, and nothing else is.
         ensures full { (result ≡ Err Refused.Full) ↔ IsFullFor self.old order.key }
+        // Want of memory is told only of a new key, and only where the journal has room for it.
         ensures memory { result ≡ Err Refused.Memory → IsRoomFor self.old order.key }
+        // An order that is refused changes nothing.
         ensures unchanged { OnErr result (self.new ≡ self.old) }
     {
         if self.journal.len() >= self.limit as usize {
@@ -155,8 +161,13 @@ impl Issuer {
         alloc: Global,
         orders: &[Order],
     ) -> Result<Vec<Result<Answer, Refused>>, NoMemory>
+        // With room for the answers, each order is answered or refused as `handle` does it, one
+        // after the other, on what those before it left.
         ensures run { IfOk result (λ answers. IsRun self.old orders.now answers.items self.new) }
+        // With room for the answers, the journal becomes the first order of each key, of those that
+        // it had and of those that were answered.
         ensures entered { IfOk result (λ answers. self.new.orders ≡ firsts (self.old.orders ++ answered_of orders.now answers.items)) }
+        // Without room for the answers nothing changes.
         ensures unchanged { OnErr result (self.new ≡ self.old) }
     {
         // The keys are distinct, before any order is handled.
@@ -172,6 +183,8 @@ impl Issuer {
 
     /// What is on an account, in minor units, where there is such an account. Takes no memory.
     pub fn ledger(&self, pan: Pan) -> Option<i64>
+        // It is the opening amount plus the credits and less the debits that stand, by what is left
+        // of each, over the whole journal; `None` exactly where there is no such account.
         ensures { result ≡ option_map (ledger (journal self.now)) (account_of self.now.accounts pan) }
     {
         Some(self.balances.get(pan)?.ledger)
@@ -180,6 +193,8 @@ impl Issuer {
     /// What may still be taken from an account, in minor units, where there is such an account: what is
     /// on it, less what is held. Takes no memory.
     pub fn available(&self, pan: Pan) -> Option<i64>
+        // It is the ledger less what is left of the holds that stand, summed over the whole
+        // journal; `None` exactly where there is no such account.
         ensures { result ≡ option_map (available (journal self.now)) (account_of self.now.accounts pan) }
     {
         Some(self.balances.get(pan)?.available)
@@ -187,6 +202,8 @@ impl Issuer {
 
     /// What is held on an account, in minor units, where there is such an account. Takes no memory.
     pub fn held(&self, pan: Pan) -> Option<u64>
+        // It is what is left of the holds that stand, summed over the whole journal; `None` exactly
+        // where there is no such account.
         ensures { result ≡ option_map (λ a. total Held a.pan (journal self.now)) (account_of self.now.accounts pan) }
     {
         Some(self.balances.get(pan)?.held())
@@ -194,6 +211,8 @@ impl Issuer {
 
     /// What is on each account, in the order in which the accounts were listed. Takes no memory.
     pub fn balances(&self) -> &[Balance]
+        // Each account comes in listed order with its ledger and what is available on it, as
+        // sums over the whole journal.
         ensures { result.now ≡ map (balance_on (journal self.now)) self.now.accounts }
     {
         self.balances.rows()
@@ -202,6 +221,8 @@ impl Issuer {
     /// The holds that are open on an account, in the order of entry: those that were granted, and that
     /// are neither reversed in full nor completed, each with what it still holds. Goes through the whole journal.
     pub fn open_holds(&self, alloc: Global, pan: Pan) -> Result<Vec<OpenHold>, NoMemory>
+        // Memory aside, they are the entries that hold on this account and stand, in order of
+        // entry, each with what is left of it.
         ensures holds { IfOk result (λ holds. holds.items ≡ open_holds (journal self.now) pan) }
         // Together they hold what is held on the account.
         ensures held { IfOk result (λ holds. sum_by (λ h. h.amount) holds.items ≡ total Held pan (journal self.now)) }
@@ -243,8 +264,11 @@ impl Issuer {
 
     /// How many orders were entered: no two of one key, and at most as many as the limit. Takes no memory.
     pub fn len(&self) -> u32
+        // It is the number of orders that were entered.
         ensures len { result ≡ length self.now.orders }
+        // No more orders are entered than the limit.
         ensures few { length self.now.orders ≤ self.now.limit }
+        // No two orders that were entered have one key.
         ensures distinct { HasDistinctKeys self.now.orders }
     {
         self.journal.len() as u32

@@ -76,6 +76,7 @@ fn is_of_earlier(order: &Order) -> bool
 
 /// Whether nothing is left.
 pub fn is_nothing(left: Option<u64>) -> bool
+    // It is so where a reversal leaves 0, and not where there is no reversal.
     ensures { result ≡ is_nothing left }
 {
     match left {
@@ -86,7 +87,10 @@ pub fn is_nothing(left: Option<u64>) -> bool
 
 /// The smaller of an amount and what is left of it.
 pub fn smaller_of(amount: u64, left: Option<u64>) -> u64
+    // It is the amount, or what a reversal leaves of it where that is less; the whole
+    // amount without a reversal.
     ensures value { result ≡ smaller_of amount left }
+    // It is never more than the amount.
     ensures small { result ≤ amount }
 {
     match left {
@@ -218,8 +222,11 @@ impl Journal {
 
     /// The entry of a key, where there is one. A new key claims the next place, before its order is entered.
     pub fn claim(&mut self, key: &TxKey) -> Result<Option<Entry>, AllocError>
+        // The entries stay as they were, however the call ends.
         ensures same { self.new ≡ self.old }
+        // Memory aside, it tells the entry that has this key; none where no entry has it.
         ensures entry { IfOk result (λ entry. entry ≡ entry_at self.old key.now) }
+        // Memory runs out only where no entry has this key.
         ensures new { OnErr result (entry_at self.old key.now ≡ None) }
     {
         let next = self.orders.len() as u32;
@@ -269,11 +276,18 @@ impl Journal {
     /// What is left of the amount of an entry that stands, else 0. What its order does is handed in, and
     /// what the first reversal of it leaves.
     pub fn weight(&self, entry: &Entry, effect: &Option<Effect>, left: Option<u64>) -> u64
+        // The effect is what the entry's order does to its account.
         requires effect { effect.now ≡ effect_of entry.now.order }
+        // The amount of the effect has at most twelve digits.
         requires amount { effect_amount effect.now ≤ most_amount }
+        // Where the order has an effect, `left` is what the first entered
+        // reversal of its key leaves.
         requires left { is_some (effect_of entry.now.order) ≡ true
             → left ≡ left_at self.now entry.now.order.key }
+        // An entry that stands counts for what is left of its amount, and one
+        // that doesn't counts for 0.
         ensures value { result ≡ weight self.now entry.now }
+        // What an entry counts for has at most twelve digits.
         ensures small { result ≤ most_amount }
     {
         if self.is_standing(entry, effect, left) {
@@ -368,11 +382,19 @@ impl Journal {
 
     /// What an order finds, which has this effect.
     pub fn find(&self, order: &Order, effect: &Option<Effect>) -> Found
+        // The effect is what this order does to its account.
         requires effect { effect.now ≡ effect_of order.now }
+        // An order with an effect of its own is no reversal.
         requires kept { IfSome effect.now (λ f. undone_key order.now.act ≡ None) }
+        // It finds the entry that the order reverses, the hold that it ends or gives back, and,
+        // unless it is a reversal, what the first reversal of its own key leaves.
         ensures found { IsFoundFor self.now order.now result }
+        // What the entry counts for that the order reverses has at most twelve digits.
         ensures reversed { weight_in result.reversed ≤ most_amount }
+        // What the hold counts for that the order ends or gives back has at most twelve digits.
         ensures released { weight_in result.released ≤ most_amount }
+        // The hold that an order ends or gives back has another key than
+        // the entry that it reverses.
         ensures apart { (q : TxKey) → is_key (ended_key self.now order.now) q ≡ true
             → is_key (undone_key order.now.act) q ≡ false }
     {
@@ -401,14 +423,22 @@ impl Journal {
         answer: Answer,
         found: &Found,
     ) -> Result<(), AllocError>
+        // The effect is what this order does to its account.
         requires effect { effect.now ≡ effect_of order.now }
+        // What was found is what this journal has for the order.
         requires found { IsFoundFor self.old order.now found.now }
+        // No entry has the order's key yet.
         requires new { entry_at self.old order.now.key ≡ None }
+        // No two orders that were entered have one key.
         requires distinct { HasDistinctKeys (map (λ e. e.order) self.old) }
+        // The journal has fewer than 999,999 entries.
         requires few { length self.old < 999999 }
+        // The answer tells the place of the new entry, counted from 1.
         requires seq { answer.seq ≡ length self.old + 1 }
+        // Memory aside, the order comes with its answer behind all other entries.
         ensures ok { OnOk result
             (self.new ≡ self.old ++ record { order = order.now; answer = answer } ∷ []) }
+        // Without memory the entries stay as they were.
         ensures unchanged { OnErr result (self.new ≡ self.old) }
     {
         let entry = Entry {

@@ -141,20 +141,34 @@ pub fn post_all(
     place: Option<usize>,
     found: &Found,
 )
+    // The effect is what the entry's order does to its account.
     requires effect { effect.now ≡ effect_of entry.now.order }
+    // The amount of the effect has at most twelve digits.
     requires amount { effect_amount effect.now ≤ most_amount }
+    // Where there is an effect, the place is that of its account; none where
+    // there is no such account.
     requires place { (f : Effect) → effect.now ≡ Some f
         → place ≡ account_place (accounts_of balances.old) f.pan }
+    // Each balance is within 9,000,000,000,000,000 minor units and 10^12 for each of
+    // 2,999,997 changes, either way.
     requires near { All (IsNear 2999997) balances.old }
+    // What was found before, and what the order itself leaves of the entry that it reverses, tell
+    // what is left of each now.
     requires found { WasFoundFor journal.now entry.now.order found.now }
+    // What the entry counted for that is reversed has at most twelve digits.
     requires reversed { weight_in found.now.reversed ≤ most_amount }
+    // What the hold counted for that is ended or given back has at most twelve digits.
     requires released { weight_in found.now.released ≤ most_amount }
+    // Each balance moves by how much more or less now counts on it of the entry, of the one that it
+    // reverses, and of the hold that it ends or gives back.
     ensures moved { balances.new
         ≡ map (balance_by_weights (effect_at (entry_in found.now.released)) (weight_in found.now.released)
         (weight_at journal.now (entry_in found.now.released)))
         (map (balance_by_weights (effect_at (entry_in found.now.reversed)) (weight_in found.now.reversed)
         (weight_at journal.now (entry_in found.now.reversed)))
         (map (balance_by_weights (effect_of entry.now.order) 0 (weight journal.now entry.now)) balances.old)) }
+    // Balances within 9,000,000,000,000,000 minor units and 10^12 for each of n changes come to
+    // be within that for n + 3.
     ensures near { (n : ℕ) → All (IsNear n) balances.old → All (IsNear (n + 3)) balances.new }
 {
     let own = journal.weight(entry, effect, found.left);

@@ -14,10 +14,14 @@ pub fn create<D: Disk + Drop>(
     heading: &Heading,
     slots: usize,
 ) -> Result<JournalLog<D>, LogError>
+    // At `Ok`, on a disk that didn't lie, the file is a sound log of records
+    // whose heading is synced.
     ensures ready { IfOk result (λ l. IsTrue (D.is_clean l.log.disk)
         → IsReady D.seen D.may_leave D.is_usable l.log) }
+    // At `Ok`, on a disk that didn't lie, no order is synced yet.
     ensures synced { IfOk result (λ l. IsTrue (D.is_clean l.log.disk)
         → synced_orders D.seen l.log ≡ []) }
+    // At `Ok`, on a disk that didn't lie, no order waits for a sync.
     ensures pending { IfOk result (λ l. IsTrue (D.is_clean l.log.disk)
         → pending_orders D.seen l.log ≡ []) }
 {

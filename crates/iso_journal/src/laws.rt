@@ -25,8 +25,12 @@ pub fn open_after_a_crash<D: Disk + Drop, W: Watch>(
     group: usize,
     watch: &mut W,
 ) -> Result<DurableIssuer<JournalLog<D>>, (OpenError, D)>
+    // The journal's limit is at least one order.
     requires least { 1 ≤ limit }
+    // The journal's limit is at most 999,999 orders.
     requires most { limit ≤ 999999 }
+    // At `Ok`, with the accounts and limit of the host that crashed, on a disk that didn't lie and
+    // shows what is on it: its synced orders, and of those behind them some from the front.
     ensures crashed { IfOk result (λ host. IsTrue (D.is_clean host.log.log.disk)
         → IsConsistent (λ l. IsReady D.seen D.may_leave D.is_usable l.log) (λ l. synced_orders D.seen l.log)
         (λ l. pending_orders D.seen l.log) before.now

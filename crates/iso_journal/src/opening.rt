@@ -116,20 +116,29 @@ pub fn open<D: Disk + Drop, W: Watch>(
     group: usize,
     watch: &mut W,
 ) -> Result<DurableIssuer<JournalLog<D>>, (OpenError, D)>
+    // The journal's limit is at least one order.
     requires least { 1 ≤ limit }
+    // The journal's limit is at most 999,999 orders.
     requires most { limit ≤ 999999 }
     // The issuer has the orders of the file, each record is what a host writes, and nothing waits.
     ensures consistent { IfOk result (λ host. IsTrue (D.is_clean host.log.log.disk)
         → Only (D.seen disk) (D.may_leave disk)
         → IsConsistent (λ l. IsReady D.seen D.may_leave D.is_usable l.log) (λ l. synced_orders D.seen l.log) (λ l. pending_orders D.seen l.log) host) }
+    // At `Ok` the issuer has the accounts that were given.
     ensures accounts { IfOk result (λ host. host.issuer.accounts ≡ accounts) }
+    // At `Ok` the issuer has the limit that was given.
     ensures limit { IfOk result (λ host. host.issuer.limit ≡ limit) }
+    // At `Ok`, on a disk that didn't lie and shows what is on it, the issuer has exactly the orders
+    // of the file, in their order.
     ensures held { IfOk result (λ host. IsTrue (D.is_clean host.log.log.disk)
         → Only (D.seen disk) (D.may_leave disk)
         → host.issuer.orders ≡ journal_orders (records_of (D.seen disk))) }
+    // At `Ok`, on a disk that didn't lie and shows what is on it, each record behind the heading is
+    // the one that a host of these accounts and this limit writes there.
     ensures written { IfOk result (λ host. IsTrue (D.is_clean host.log.log.disk)
         → Only (D.seen disk) (D.may_leave disk)
         → IsReplayed accounts limit (records_of (D.seen disk))) }
+    // At `Ok`, on a disk that didn't lie and shows what is on it, no order waits for a sync.
     ensures none { IfOk result (λ host. IsTrue (D.is_clean host.log.log.disk)
         → Only (D.seen disk) (D.may_leave disk)
         → pending_orders D.seen host.log.log ≡ []) }
@@ -137,6 +146,8 @@ pub fn open<D: Disk + Drop, W: Watch>(
     ensures fault { IfErr result (λ e. IsTrue (D.is_clean e.1)
         → Only (D.seen disk) (D.may_leave disk)
         → IsWhy accounts limit (heading_bytes heading.now) (D.seen disk) e.0) }
+    // After an `Err`, on a disk that didn't lie and showed what is on it, a crash leaves the
+    // records that the file had.
     ensures unchanged { IfErr result (λ e. IsTrue (D.is_clean e.1)
         → Only (D.seen disk) (D.may_leave disk)
         → (c : List ℕ) → D.may_leave e.1 c → records_of c ≡ records_of (D.seen disk)) }

@@ -23,14 +23,21 @@ const PIECE_BYTES: usize = RECORD * PIECE;
 
 /// Enters the order of a record, and tells whether the record is the one that a host writes for it then.
 pub fn replay_record(issuer: &mut Issuer, bytes: &[u8; RECORD]) -> Result<bool, OpenError>
+    // Where it answers true, a host with the issuer's books writes this record next: its order is
+    // new, and its answer is the one that they give.
     ensures written { IfOk result (λ b. b ≡ true
         → IsWritten issuer.old.accounts issuer.old.limit issuer.old.orders bytes.now) }
+    // Where it answers false, no host with the issuer's books writes this record next.
     ensures not { IfOk result (λ b. b ≡ false
         → IsWritten issuer.old.accounts issuer.old.limit issuer.old.orders bytes.now → ⊥) }
+    // Where it answers true, the order of the record is entered behind the others.
     ensures entered { IfOk result (λ b. b ≡ true
         → issuer.new.orders ≡ issuer.old.orders ++ order_of bytes.now ∷ []) }
+    // Where it answers true, the issuer's accounts stay as they were.
     ensures accounts { IfOk result (λ b. b ≡ true → issuer.new.accounts ≡ issuer.old.accounts) }
+    // Where it answers true, the issuer's limit stays as it was.
     ensures limit { IfOk result (λ b. b ≡ true → issuer.new.limit ≡ issuer.old.limit) }
+    // An `Err` tells nothing of the record: it is neither `Other` nor `Damaged`.
     ensures fault { IfErr result (λ e. IsPlain e) }
 {
     let Some(row) = read_row(bytes) else {

@@ -35,7 +35,10 @@ pub fn encode_json(
 ) -> Result<(), Refusal>
     // What is appended is the plain spelling of the message that the text says.
     ensures appended { OnOk result (AppendsSaid table.now text.now out.old.items out.new.items) }
+    // Memory aside, a refusal tells all that is wrong: that the text is no JSON, with a line and a
+    // column, or each thing in it that is refused.
     ensures refused { IfErr result (λ e. AreOf table.now text.now e) }
+    // After any refusal, and without memory, the buffer is as it was.
     ensures unchanged { OnErr result (out.new.items ≡ out.old.items) }
     // The JSON in clear of a message that the table takes gives that message's plain spelling, unless memory runs out.
     ensures comes_back { EncodesClear table.now text.now out.old.items out.new.items result }
@@ -55,6 +58,7 @@ pub fn encode_fields(
 ) -> Result<(), Refusal>
     // What is appended is the plain spelling of a message.
     ensures appended { OnOk result ((m : Contents) × AppendsPlain table.now m out.old.items out.new.items) }
+    // After any refusal, and without memory, the buffer is as it was.
     ensures unchanged { OnErr result (out.new.items ≡ out.old.items) }
 {
     match read_fields(alloc, table, text) {

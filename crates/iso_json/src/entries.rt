@@ -44,6 +44,7 @@ pub fn complain_of(
     trouble: Trouble,
     complaints: &mut Vec<Complaint>,
 ) -> Result<(), AllocError>
+    // Memory aside, a complaint of this element, place and trouble comes behind the others.
     ensures { OnOk result (complaints.new.items ≡ complaints.old.items ++ complaint_of place n trouble ∷ []) }
 {
     complaints.push(Complaint {
@@ -60,6 +61,7 @@ pub fn complain(
     trouble: Trouble,
     complaints: &mut Vec<Complaint>,
 ) -> Result<(), AllocError>
+    // Memory aside, a complaint of this place and trouble, of no element, comes behind the others.
     ensures { OnOk result (complaints.new.items ≡ complaints.old.items ++ complaint place trouble ∷ []) }
 {
     complaints.push(Complaint {
@@ -72,8 +74,11 @@ pub fn complain(
 
 /// Puts a value into the message as element `n`.
 pub fn put_value(n: u8, value: &[u8], message: &mut Message) -> Result<(), AllocError>
+    // The number is one that an element may have: 2 to 128 but for 65.
     requires { is_element n ≡ true }
+    // Memory aside, the message has this value as element `n`, and is else as it was.
     ensures put { OnOk result (message.new ≡ record message.old { elements = put n value.now message.old.elements }) }
+    // Without memory the message stays as it was.
     ensures unchanged { OnErr result (message.new ≡ message.old) }
 {
     match message.set(n, value) {
@@ -137,7 +142,10 @@ pub fn read_entries(
     message: &mut Message,
     complaints: &mut Vec<Complaint>,
 ) -> Result<(), AllocError>
+    // The message keeps its type.
     ensures mti { message.new.mti ≡ message.old.mti }
+    // Memory aside, each member in its order puts its value into the message, or brings one
+    // complaint behind the others: of its number, a second value, or what is refused.
     ensures heard { OnOk result (heard message.new complaints.new ≡ with_entries table.now.rows none_seen 0 (members_view members.now) (heard message.old complaints.old)) }
 {
     let mut seen = Bitmap::new();

@@ -36,7 +36,9 @@ pub fn append_fields(
     clear: bool,
     out: &mut Vec<u8>,
 ) -> Result<(), NoMemory>
+    // Memory aside, it appends the lines of `describe`, or in clear those of `describe_clear`.
     ensures appended { OnOk result (out.new.items ≡ out.old.items ++ description clear table.now message.now) }
+    // Where memory runs out, the buffer holds the bytes that it held before.
     ensures unchanged { OnErr result (out.new.items ≡ out.old.items) }
 {
     let lines = lines_of(alloc, table, message, clear)?;
@@ -70,6 +72,7 @@ fn is_end(line: &[u8]) -> bool {
 /// The first message of a stream of field lines with the line that ends it, an empty one or one that begins with `USED=`,
 /// and what stands behind it. Takes no memory.
 pub fn split_fields(text: &[u8]) -> (&[u8], &[u8])
+    // Both parts, one behind the other, are the whole text.
     ensures { result.0.now ++ result.1.now ≡ text.now }
 {
     let mut rest = text;

@@ -120,6 +120,8 @@ fn check_names(
 
 /// The type that a text writes, of the table's version.
 pub fn type_in(table: &Table, text: &[u8]) -> Result<Mti, Trouble>
+    // It is the type of four digits of the table's version; four digits of another version are
+    // `WrongVersion`, and any other text is `BadMti`.
     ensures { type_number result ≡ type_in table.now.version text.now }
 {
     let Some(mti) = Mti::from_text(text) else {
@@ -155,6 +157,7 @@ pub const NO_TYPE: Mti = Mti {
 
 /// The type, or the one that stands in for it.
 pub fn or_no_type(read: Result<Mti, Trouble>) -> Mti
+    // Its number is that of the type that was read, or 0 in place of one that is refused.
     ensures { mti_number result ≡ or_zero (type_number read) }
 {
     match read {
@@ -221,7 +224,9 @@ fn read_object(
 
 /// The message, if there is nothing wrong with it.
 pub fn unless_wrong(message: Message, complaints: Vec<Complaint>) -> Result<Message, Refusal>
+    // At `Ok` it is the very message, and there was no complaint.
     ensures ok { IfOk result (λ m. (m ≡ message) × (complaints.items ≡ [])) }
+    // An `Err` has the very complaints, and there was at least one.
     ensures refused { IfErr result (λ e. (e ≡ refusals.Complaints complaints) × (complaints.items ≢ [])) }
 {
     if complaints.is_empty() {
@@ -303,7 +308,10 @@ fn read_text(alloc: Global, table: &Table, text: &[u8]) -> Result<Message, Refus
 /// each element whose number is none, that comes again, has no row, no text, a masked value, no whole bytes, or a value that
 /// its row refuses. Nothing is dropped silently.
 pub fn read_json(alloc: Global, table: &Table, text: &[u8]) -> Result<Message, Refusal>
+    // At `Ok` the text is JSON, nothing of it is refused, and the message is the one that it says.
     ensures ok { IfOk result (λ m. IsMessage table.now text.now m) }
+    // Memory aside, a refusal tells all that is wrong: that the text is no JSON, with a line and a
+    // column, or each thing in it that is refused.
     ensures refused { IfErr result (λ e. AreOf table.now text.now e) }
     // A message that the table takes comes back from its JSON in clear, unless memory runs out.
     ensures comes_back { ComesBack table.now text.now result }

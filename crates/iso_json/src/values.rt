@@ -43,6 +43,7 @@ fn element_number(number: u64) -> Option<u8>
 
 /// The number of an element that one to three digits write; leading zeros don't count.
 pub fn number_of(key: &[u8]) -> Option<u8>
+    // A number exactly for one to three digits that write one of 2 to 128 but 65.
     ensures { result ≡ number_of key.now }
 {
     element_number(number_in(key, 1, 3)?)
@@ -131,7 +132,10 @@ fn value_under(alloc: Global, row: &FieldSpec, text: &[u8]) -> Result<Vec<u8>, S
 
 /// The value that a text stands for as element `n`.
 pub fn value_of(alloc: Global, table: &Table, n: u8, text: &[u8]) -> Result<Vec<u8>, Stop>
+    // At `Ok` it is the value that the text stands for, and the element's row takes it.
     ensures ok { IfOk result (λ v. value_of (row_at table.now.rows n) n text.now ≡ Ok v.items) }
+    // Memory aside, a stop tells the first thing that is wrong: no row, a mask's stars, no pairs of
+    // hexadecimal digits for class `B`, or what the row refuses.
     ensures stop { IfErr result (λ e. IsStop e (value_of (row_at table.now.rows n) n text.now)) }
 {
     let Some(row) = table.row(n) else {

@@ -258,7 +258,10 @@ pub fn append_json(
     clear: bool,
     out: &mut Vec<u8>,
 ) -> Result<(), NoMemory>
+    // Memory aside, it appends the line of the message, character for character: its type, and each
+    // element with what a description shows of it, in clear or masked.
     ensures appended { OnOk result (out.new.items ≡ out.old.items ++ json_of clear table.now message.now) }
+    // Where memory runs out, the buffer holds the bytes that it held before.
     ensures unchanged { OnErr result (out.new.items ≡ out.old.items) }
 {
     let start = out.len();

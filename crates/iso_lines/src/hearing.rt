@@ -214,6 +214,7 @@ impl<S: Read + Write + Drop> Peer<'_, S> {
         ensures heard { EntersHeard host.old.host host.new.host }
         // The log isn't called, and stays in step with the journal.
         ensures log { host.new.log ≡ host.old.log }
+        // A log in step with the journal stays in step.
         ensures step { IsInStep L.is_ready L.synced L.pending host.old
             → IsInStep L.is_ready L.synced L.pending host.new }
     {

@@ -29,7 +29,10 @@ impl Filling {
 
     /// What is to be told now, if anything is: the hundredths that are reached, once each.
     pub fn rises(&mut self, entries: u32, limit: u32) -> Option<u8>
+        // It tells 90 or 99 hundredths where so many are reached and fewer were told
+        // before, and else nothing.
         ensures told { result ≡ rising (reached entries limit) self.old.told }
+        // What it tells now counts as told from then on, so it tells it once.
         ensures once { self.new.told ≡ told_after (reached entries limit) self.old.told }
     {
         let hundredths = reached(entries, limit);

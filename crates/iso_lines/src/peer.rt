@@ -58,8 +58,11 @@ impl<'l, S: Read + Write + Drop> Peer<'l, S> {
         number: u64,
         now: u64,
     ) -> Peer<'l, S>
+        // The peer is on that stream.
         ensures stream { result.stream ≡ stream }
+        // No byte of a frame is held of it.
         ensures held { (result.connection.peer.held ≡ []) × (result.guarded.held ≡ []) }
+        // No byte of an answer waits for it.
         ensures none { (result.connection.waiting ≡ []) × (result.guarded.waiting ≡ []) }
     {
         Peer {
@@ -80,6 +83,7 @@ impl<'l, S: Read + Write + Drop> Peer<'l, S> {
 
     /// How many bytes of answers wait to be written.
     pub fn waiting(&self) -> usize
+        // It is 0 exactly where no byte of an answer waits.
         ensures none { (result ≡ 0) ↔ ((self.now.connection.waiting ≡ []) × (self.now.guarded.waiting ≡ [])) }
     {
         self.connection
@@ -96,6 +100,8 @@ impl<'l, S: Read + Write + Drop> Peer<'l, S> {
 
     /// What is done with it at this moment.
     pub fn doing(&self, now: u64) -> Doing
+        // It is closed where `closing` tells why. Else it is read from exactly where it hasn't
+        // ended and fewer bytes wait for it than are allowed.
         ensures { result ≡ doing_of self.now.line.terms.now.limits self.now.standing now }
     {
         self.standing.doing(&self.line.terms.limits, now)
@@ -103,6 +109,8 @@ impl<'l, S: Read + Write + Drop> Peer<'l, S> {
 
     /// Why it is to be closed at this moment, if it is.
     pub fn closing(&self, now: u64) -> Option<Closing>
+        // The reasons: it takes no answer for too long; it ended, and has all of them; or else,
+        // unless too much waits for it, its frame isn't whole, or nothing comes, for too long.
         ensures { result ≡ closing_of self.now.line.terms.now.limits self.now.standing now }
     {
         self.standing.closing(&self.line.terms.limits, now)
@@ -118,7 +126,10 @@ impl<'l, S: Read + Write + Drop> Peer<'l, S> {
 
     /// Nothing more is read of it, and it is closed once it has its answers.
     pub fn end(&mut self, why: Closing)
+        // Its stream and its line stay, and so do the bytes that it holds
+        // and those that wait for it.
         ensures bytes { KeepsBytes self.old self.new }
+        // It has ended, for that reason.
         ensures ended { self.new.standing.ended ≡ Some why }
     {
         self.may_have_come = false;
@@ -127,8 +138,12 @@ impl<'l, S: Read + Write + Drop> Peer<'l, S> {
 
     /// Its connection failed: what waits for it is of no use.
     pub fn fail(&mut self)
+        // Its stream and its line stay, and so do the bytes that it holds
+        // and those that wait for it.
         ensures bytes { KeepsBytes self.old self.new }
+        // It has ended, because its connection failed.
         ensures ended { self.new.standing.ended ≡ Some Failed }
+        // It counts as ended.
         ensures over { IsSome self.new.standing.ended }
     {
         self.end(Closing::Failed);
@@ -139,6 +154,7 @@ impl<'l, S: Read + Write + Drop> Peer<'l, S> {
 
     /// Gives back the memory of its buffers, once so many bytes went through them and none is in use.
     pub fn rest(&mut self)
+        // Its stream, its line, its bytes and how it stands stay the same.
         ensures same { IsSame self.old self.new }
     {
         if self.used <= KEPT || self.waiting() > 0 || !self.is_whole() {

@@ -136,7 +136,10 @@ impl<'l, S: Read + Write + Drop> Peers<'l, S> {
     ) -> Option<usize>
         // Under the key no peer was, and now is this one; every other peer is as it was.
         ensures vacant { IfSome result (λ key. peer_at self.old key ≡ None) }
+        // Under the key that it gives is now a peer on that stream, of which nothing came
+        // and for which nothing waits.
         ensures let_in { IfSome result (λ key. IsLetIn stream (peer_at self.new key)) }
+        // Where one is let in, every peer under another key is as it was.
         ensures others { IfSome result (λ key. OthersStay key self.old self.new) }
         // Where it is refused, every peer is as it was.
         ensures refused { IfNone result (AllStay self.old self.new) }
@@ -234,6 +237,7 @@ impl<'l, S: Read + Write + Drop> Peers<'l, S> {
         ensures heard { EntersHeard host.old.host host.new.host }
         // The log isn't called, and stays in step with the journal.
         ensures log { host.new.log ≡ host.old.log }
+        // A log in step with the journal stays in step.
         ensures step { IsInStep L.is_ready L.synced L.pending host.old
             → IsInStep L.is_ready L.synced L.pending host.new }
         // Every peer that isn't listed is as it was.
@@ -306,6 +310,7 @@ impl<'l, S: Read + Write + Drop> Peers<'l, S> {
 
     /// Closes a peer, and tells why.
     pub fn close<N: Lines>(&mut self, key: usize, why: Closing, now: Moment, log: &mut N)
+        // No peer is under the key any more.
         ensures gone { peer_at self.new key ≡ None }
         // Every other peer is as it was.
         ensures others { OthersStay key self.old self.new }

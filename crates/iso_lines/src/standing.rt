@@ -113,6 +113,7 @@ fn begun_anew(began: Option<u64>, now: u64) -> Option<u64>
 impl Standing {
     /// A peer that is let in now.
     pub fn new(now: u64) -> Standing
+        // It was heard of now, no frame is unfinished, no byte waits for it, and it hasn't ended.
         ensures { result ≡ record { heard = now; frame = None; unread = None; waiting = 0; ended = None } }
     {
         Standing {
@@ -126,6 +127,8 @@ impl Standing {
 
     /// Bytes came: whether no frame is unfinished now, and whether they end one.
     pub fn hears(&mut self, now: u64, is_whole: bool, ends: bool)
+        // It was heard of now. An unfinished frame counts from the piece with its
+        // first byte, however many come.
         ensures { self.new ≡ hearing_of self.old now is_whole ends }
     {
         self.heard = now;
@@ -144,6 +147,8 @@ impl Standing {
 
     /// It was written to: how many bytes wait still, and whether it took some.
     pub fn takes(&mut self, limits: &Limits, now: u64, waiting: usize, some: bool)
+        // Bytes wait unread since some were last taken, or since they began to wait. Where too many
+        // waited for it to be read from, its other times begin anew.
         ensures { self.new ≡ writing_of limits.now self.old now waiting some }
     {
         self.pauses(limits, now);
@@ -170,6 +175,8 @@ impl Standing {
 
     /// Why it is to be closed at this moment, if it is.
     pub fn closing(&self, limits: &Limits, now: u64) -> Option<Closing>
+        // The reasons: it takes no answer for too long; it ended, and has all of them; or else,
+        // unless too much waits for it, its frame isn't whole, or nothing comes, for too long.
         ensures { result ≡ closing_of limits.now self.now now }
     {
         if lasts_too_long(limits.unread, self.unread, now) {
@@ -199,6 +206,8 @@ impl Standing {
 
     /// What is done with it at this moment.
     pub fn doing(&self, limits: &Limits, now: u64) -> Doing
+        // It is closed where `closing` tells why. Else it is read from exactly where it hasn't
+        // ended and fewer bytes wait for it than are allowed.
         ensures { result ≡ doing_of limits.now self.now now }
     {
         match self.closing(limits, now) {

@@ -41,6 +41,7 @@ pub struct Visiting {
 
 /// Whether one more visitor is let in beside so many.
 pub fn lets_visit(count: usize) -> bool
+    // It is true exactly beside fewer visitors than 16.
     ensures { (result ≡ true) ↔ (count < MOST_VISITORS) }
 {
     count < MOST_VISITORS
@@ -82,6 +83,8 @@ impl Visiting {
 
     /// What is done with it at this moment.
     pub fn doing(&self, now: u64) -> Visit
+        // It is closed once its connection is over, 10 seconds passed, or its answer is written.
+        // Till then its request is read, up to 8 KiB, and then it is written to.
         ensures { result ≡ visit_of self.now now }
     {
         if self.is_over || has_passed(STAY, self.since, now) {

@@ -31,6 +31,7 @@ impl Limits {
 
     /// Whether one more peer is let in beside so many.
     pub fn lets_in(&self, count: usize) -> bool
+        // It is true exactly beside fewer peers than are allowed.
         ensures { (result ≡ true) ↔ (count < self.now.peers) }
     {
         count < self.peers

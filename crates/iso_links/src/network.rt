@@ -77,6 +77,8 @@ impl Network {
     /// The network of the addresses that begin as this one does, with so many bits: 0 to 32 of an IPv4 address, 0 to 128 of an
     /// IPv6 address. The bits behind them are zeros.
     pub fn new(address: IpAddr, size: u8) -> Option<Network>
+        // There is one exactly where the size is at most the address's 32 or 128 bits, and none of
+        // its bits behind the size is set.
         ensures { result ≡ network_of address size }
     {
         let first = Number::of(address);
@@ -89,7 +91,10 @@ impl Network {
 
     /// The network that a text writes: as `10.0.0.0/8`, `2001:db8::/32`, or `192.0.2.7` for one address.
     pub fn from_text(text: &str) -> Option<Network>
+        // The network is the one that the text writes: an address, a slash and a
+        // size, or one address alone.
         ensures found { IfSome result (IsNetworkText text.now) }
+        // `None` is told only of a text that writes no network.
         ensures none { IsNone result → (n : Network) → IsNetworkText text.now n → ⊥ }
     {
         match text.split_once('/') {
@@ -101,6 +106,8 @@ impl Network {
     /// Whether an address is in the network. An IPv6 address that holds an IPv4 address, as `::ffff:10.0.0.1`, counts as that
     /// one.
     pub fn has(&self, address: IpAddr) -> bool
+        // It is true exactly where both are of one family, and the address
+        // begins with the network's bits.
         ensures { result ≡ has self.now address }
     {
         begin_alike(self.size, self.first, Number::of(address))

@@ -61,6 +61,7 @@ impl Number {
 
     /// How many bits it has.
     pub fn width(self) -> u8
+        // An IPv4 address has 32 bits, and any other 128.
         ensures { result ≡ width_of self }
     {
         match self {

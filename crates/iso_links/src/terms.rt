@@ -44,6 +44,7 @@ fn is_in_one(networks: &[Network], address: IpAddr) -> bool
 impl Terms {
     /// Whether a peer of this address may connect.
     pub fn lets_connect(&self, address: IpAddr) -> bool
+        // It is true exactly where the address is in one of the networks, or none is named.
         ensures { result ≡ lets_connect self.now.networks.items address }
     {
         self.networks.is_empty() || is_in_one(&self.networks, address)
@@ -51,6 +52,7 @@ impl Terms {
 
     /// Whether the peers may speak for an acquirer (element 32).
     pub fn speaks_for(&self, acquirer: u64) -> bool
+        // It is true exactly where the acquirer is one of those that are named, or none is named.
         ensures { result ≡ speaks_for self.now.acquirers.items acquirer }
     {
         self.acquirers.is_empty() || self.acquirers.contains(&acquirer)

@@ -64,12 +64,19 @@ pub struct RecordLog<D: Disk> {
 impl<D: Disk> RecordLog<D> {
     /// Adds a record, which then waits for a sync. After an `Err` the log is to be opened again.
     pub fn append(&mut self, bytes: &[u8]) -> Result<(), LogError>
+        // The record has 128 bytes, and none of them is zero.
         requires { is_whole bytes.now ≡ true }
+        // However it ends, the log has as many slots as before.
         ensures slots { self.new.slots ≡ self.old.slots }
+        // However it ends, the call takes no wrong answer of the disk as true.
         ensures clean { D.is_clean self.new.disk ≡ D.is_clean self.old.disk }
+        // However it ends, as many records count as synced as before.
         ensures synced { self.new.synced ≡ self.old.synced }
+        // At `Ok` a sound log stays sound: whole records, zeros behind them, and a
+        // crash keeps the synced ones.
         ensures log { OnOk result (IsLog D.seen D.may_leave D.is_usable self.old
             → IsLog D.seen D.may_leave D.is_usable self.new) }
+        // At `Ok` a sound log has the records that it had, and this one behind them.
         ensures records { OnOk result (IsLog D.seen D.may_leave D.is_usable self.old
             → records_of (D.seen self.new.disk)
             ≡ records_of (D.seen self.old.disk) ++ bytes.now ∷ []) }
@@ -98,14 +105,22 @@ impl<D: Disk> RecordLog<D> {
 
     /// After it, a crash leaves all records. After an `Err` the log is to be opened again.
     pub fn sync(&mut self) -> Result<(), LogError>
+        // However it ends, the log has as many slots as before.
         ensures slots { self.new.slots ≡ self.old.slots }
+        // However it ends, the call takes no wrong answer of the disk as true.
         ensures clean { D.is_clean self.new.disk ≡ D.is_clean self.old.disk }
+        // At `Ok` a sound log stays sound: whole records, zeros behind them, and a
+        // crash keeps the synced ones.
         ensures log { OnOk result (IsLog D.seen D.may_leave D.is_usable self.old
             → IsLog D.seen D.may_leave D.is_usable self.new) }
+        // At `Ok` a sound log counts all of its records as synced.
         ensures synced { OnOk result (IsLog D.seen D.may_leave D.is_usable self.old
             → self.new.synced ≡ length (records_of (D.seen self.new.disk))) }
+        // At `Ok` a read shows the same records as before.
         ensures records { OnOk result (records_of (D.seen self.new.disk)
             ≡ records_of (D.seen self.old.disk)) }
+        // However it ends, a crash leaves the records of a sound log that were synced before, and
+        // of those behind them some from the front.
         ensures crash { IsLog D.seen D.may_leave D.is_usable self.old
             → LeavesRecords (D.may_leave self.new.disk) self.old.synced
             (records_of (D.seen self.old.disk)) }

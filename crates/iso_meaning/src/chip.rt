@@ -137,6 +137,8 @@ fn next(item: &Item) -> usize
 /// behind. A tag has one to three bytes, and a length too. The first fault tells at which byte it stands; then, and
 /// where memory ran out, nothing is left behind.
 pub fn items(alloc: Global, bytes: &[u8]) -> Result<Vec<Item>, ChipFault>
+    // At `Ok` the objects lie within the bytes and cover them: each begins where the one before it
+    // ends, or at that one's value, where it is a template.
     ensures { IfOk result (λ items. AreItemsOf bytes.now items.items) }
 {
     let mut items = Vec::new(alloc);

@@ -51,7 +51,10 @@ pub fn push_chip_value(
     is_clear: bool,
     out: &mut Vec<u8>,
 ) -> Result<(), AllocError>
+    // Memory aside, it appends the value's hexadecimal digits, or two stars for each byte where it
+    // isn't in clear and a bystander shouldn't read it.
     ensures text { OnOk result (out.new.items ≡ out.old.items ++ chip_text is_clear tag value.now) }
+    // Where memory runs out, the buffer holds the bytes that it held before.
     ensures unchanged { OnErr result (out.new.items ≡ out.old.items) }
 {
     let start = out.len();

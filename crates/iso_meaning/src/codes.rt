@@ -151,6 +151,7 @@ fn response_of(number: u8) -> Option<&'static str>
 
 /// The transaction type of the first two digits of a processing code (3).
 pub fn transaction_type(code: &[u8]) -> Option<&'static str>
+    // Words exactly for the codes 00 to 09, 20 to 24, 30, 31 and 40.
     ensures { is_some result ≡ is_code is_transaction code.now }
 {
     transaction_of(two_digits(code)?)
@@ -159,6 +160,7 @@ pub fn transaction_type(code: &[u8]) -> Option<&'static str>
 /// The account type of the third and fourth digits of a processing code, from which account, of the fifth and sixth, to
 /// which account, and of an additional amount.
 pub fn account_type(code: &[u8]) -> Option<&'static str>
+    // Words exactly for the codes 00, 10, 20, 30, 40 and 50.
     ensures { is_some result ≡ is_code is_account code.now }
 {
     account_of(two_digits(code)?)
@@ -166,6 +168,7 @@ pub fn account_type(code: &[u8]) -> Option<&'static str>
 
 /// The amount type of an additional amount (54).
 pub fn amount_type(code: &[u8]) -> Option<&'static str>
+    // Words exactly for the codes 01 to 04.
     ensures { is_some result ≡ is_code is_amount code.now }
 {
     amount_of(two_digits(code)?)
@@ -173,6 +176,7 @@ pub fn amount_type(code: &[u8]) -> Option<&'static str>
 
 /// The meaning of a response code (39).
 pub fn response_code(code: &[u8]) -> Option<&'static str>
+    // Words exactly for the codes 00 to 44, 51 to 68, 75 and 90 to 96.
     ensures { is_some result ≡ is_code is_response code.now }
 {
     response_of(two_digits(code)?)

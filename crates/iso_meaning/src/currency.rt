@@ -282,8 +282,11 @@ fn minor_digits_of(number: u16) -> Option<u8>
 
 /// The currency of a code of three digits. An unknown code, and any other text, gives none.
 pub fn currency_of(code: &[u8]) -> Option<Currency>
+    // A currency comes only of three digits, and nothing else.
     ensures digits { IfSome result (λ _. IsTrue (is_three_digits code.now)) }
+    // The letters of a currency are three capitals.
     ensures letters { IfSome result (λ found. IsTrue (is_alphabetic found.letters.now)) }
+    // A currency that has a number of minor digits has four at most.
     ensures minor { IfSome result (λ found. IfSome found.minor_digits (λ digits. digits ≤ 4)) }
 {
     let number = three_digits(code)?;

@@ -103,7 +103,9 @@ fn amounts(size: usize) -> &'static [Part]
 /// additional amounts (54, from one to six of twenty bytes each), original data elements (90, 42 bytes) and
 /// replacement amounts (95, 42 bytes). A value of another element or size isn't split.
 pub fn parts(element: u8, value: &[u8]) -> &'static [Part]
+    // There are no parts, or they lie side by side, none of them empty, and fill the whole value.
     ensures parts { ArePartsOf (length value.now) result.now }
+    // Parts exactly for element 3 with 6 bytes, 54 with one to six times 20, and 90 and 95 with 42.
     ensures split { (length result.now == 0) ≡ not (has_parts element (length value.now)) }
 {
     match (element, value.len()) {

@@ -145,6 +145,7 @@ fn behind_9f(tag: u8) -> Option<&'static str>
 
 /// The name of a tag, its bytes taken as a number: 0x9F02 is `Amount, authorised (numeric)`.
 pub fn tag_name(tag: u32) -> Option<&'static str>
+    // A name exactly for the listed tags: of one byte, of two that begin with 5F or 9F, and BF0C.
     ensures { is_some result ≡ has_name tag }
 {
     let last = (tag % 256) as u8;
@@ -160,6 +161,8 @@ pub fn tag_name(tag: u32) -> Option<&'static str>
 /// Whether the value of a tag is card data: a track, an account number, its sequence number or expiry, a service code,
 /// a name or PIN data.
 pub fn is_card_data(tag: u32) -> bool
+    // Card data are exactly the values of the tags 56, 57, 5A, 5F20, 5F24, 5F30, 5F34, 5F53, 99,
+    // 9F0B, 9F1F, 9F20 and 9F6B.
     ensures { result ≡ is_card_data tag }
 {
     matches!(

@@ -88,8 +88,11 @@ fn push_text(moment: Moment, out: &mut Vec<u8>) -> Result<(), AllocError>
 /// Appends the moment that a value tells as text, as `02 January, 03:04:05` and `02 January of year 26, 03:04:05`, and
 /// says whether it tells one (see [`moment_of`]). Where it tells none, or memory ran out, nothing is appended.
 pub fn push_moment(value: &[u8], out: &mut Vec<u8>) -> Result<bool, AllocError>
+    // Memory aside, it answers true exactly where the value tells a moment.
     ensures known { IfOk result (λ known. known ≡ is_some (moment_of value.now)) }
+    // Memory aside, it appends the text of the value's moment, and nothing where it tells none.
     ensures text { OnOk result (out.new.items ≡ out.old.items ++ text_if moment_text (moment_of value.now)) }
+    // Where memory runs out, the buffer holds the bytes that it held before.
     ensures unchanged { OnErr result (out.new.items ≡ out.old.items) }
 {
     let Some(moment) = moment_of(value) else {

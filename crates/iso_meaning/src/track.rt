@@ -55,8 +55,11 @@ fn part(start: usize, end: usize, name: &'static str) -> Part
 
 /// The parts of track 2 data. A value without a separator has none.
 pub fn track2(value: &[u8]) -> Option<Track>
+    // There are parts exactly where the value has a separator, `=` or `D`.
     ensures split { is_some result ≡ is_some (separator_at value.now) }
+    // The separator is the first one that the value has.
     ensures separator { IfSome result (λ track. Some track.separator.start ≡ separator_at value.now) }
+    // The parts lie side by side, from the first byte to the last one; some may be empty.
     ensures parts { IfSome result (λ track. AreOrdered 0 (length value.now) (track_parts track)) }
 {
     let at = separator_at(value)?;
@@ -121,7 +124,10 @@ fn push_masked(value: &[u8], out: &mut Vec<u8>) -> Result<(), AllocError>
 /// an account number of 13 or more, and the separator; all else is stars, as is a value without a separator. Without
 /// memory nothing is appended.
 pub fn push_track2(value: &[u8], is_clear: bool, out: &mut Vec<u8>) -> Result<(), AllocError>
+    // Memory aside, it appends the value in clear; or of the account number what `masked` shows,
+    // the separator, and stars; or stars alone, without a separator.
     ensures text { OnOk result (out.new.items ≡ out.old.items ++ track_text is_clear value.now) }
+    // Where memory runs out, the buffer holds the bytes that it held before.
     ensures unchanged { OnErr result (out.new.items ≡ out.old.items) }
 {
     if is_clear {

@@ -7,6 +7,7 @@ ghost use Rattle.iso_meaning.specs.Words.{word_of};
 /// The word for the version, the first digit of a message type. A reserved digit has none.
 #[tactic(auto, unfolding(iso_wire::specs::Describing::version_word))]
 pub fn version_word(digit: u8) -> Option<&'static str>
+    // It is the word that `describe` writes for the digit, and none where that says `Reserved`.
     ensures { word_of digit result ≡ version_word digit }
 {
     match digit {
@@ -21,6 +22,7 @@ pub fn version_word(digit: u8) -> Option<&'static str>
 /// The word for the class, the second digit of a message type. A reserved digit has none.
 #[tactic(auto, unfolding(iso_wire::specs::Describing::class_word))]
 pub fn class_word(digit: u8) -> Option<&'static str>
+    // It is the word that `describe` writes for the digit, and none where that says `Reserved`.
     ensures { word_of digit result ≡ class_word digit }
 {
     match digit {
@@ -39,6 +41,7 @@ pub fn class_word(digit: u8) -> Option<&'static str>
 /// The word for the function, the third digit of a message type. A reserved digit has none.
 #[tactic(auto, unfolding(iso_wire::specs::Describing::function_word))]
 pub fn function_word(digit: u8) -> Option<&'static str>
+    // It is the word that `describe` writes for the digit, and none where that says `Reserved`.
     ensures { word_of digit result ≡ function_word digit }
 {
     match digit {
@@ -53,6 +56,7 @@ pub fn function_word(digit: u8) -> Option<&'static str>
 /// The word for the origin, the fourth digit of a message type. A reserved digit has none.
 #[tactic(auto, unfolding(iso_wire::specs::Describing::origin_word))]
 pub fn origin_word(digit: u8) -> Option<&'static str>
+    // It is the word that `describe` writes for the digit, and none where that says `Reserved`.
     ensures { word_of digit result ≡ origin_word digit }
 {
     match digit {

@@ -48,6 +48,8 @@ impl Mix {
 
     /// Whether there are no more than a hundred of a hundred. Takes no memory.
     pub fn is_fair(&self) -> bool
+        // It is so exactly where holds, completions, inquiries and partial reversals
+        // add up to at most a hundred.
         ensures { result ≡ is_fair self.now }
     {
         let halves = u32::from(self.hold) + u32::from(self.complete);

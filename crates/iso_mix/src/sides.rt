@@ -51,7 +51,10 @@ pub struct Sides {
 impl Sides {
     /// None yet. Each answer is waited for so long, in milliseconds. Takes no memory.
     pub fn new(alloc: Global, patience: u64) -> Sides
+        // No order was made yet.
         ensures none { sides_in result ≡ [] }
+        // The books are in order: each order lies under its own trace number, and each one without
+        // an answer waits once, the one due first in front.
         ensures kept { IsKept result }
     {
         Sides {
@@ -121,12 +124,17 @@ impl Sides {
         draft: &Draft,
         now: u64,
     ) -> Result<Option<Order>, AllocError>
+        // Books in order stay so: each order lies under its own trace number, and each one without
+        // an answer waits once, the one due first in front.
         ensures kept { IsKept self.old → IsKept self.new }
+        // A hold or an inquiry begins under the next trace number, or what follows a granted hold
+        // that nothing followed; nothing only where no number is left or no message can carry it.
         ensures begins { IfOk result (λ o.
             Begins kind draft.now (sides_in self.old) (sides_in self.new) o) }
         // No order had the trace number.
         ensures new_number { IfOk result (λ r. IfSome r (λ o.
             asked_at (sides_in self.old) o.key.stan ≡ None)) }
+        // Without memory the orders stay as they were.
         ensures unchanged { OnErr result (sides_in self.new ≡ sides_in self.old) }
     {
         if let Kind::Complete | Kind::Undo = kind {
@@ -140,11 +148,18 @@ impl Sides {
     /// The order that waits first, if it is due at a moment: it is to be sent again, and waits again behind all others.
     /// Takes no memory.
     pub fn next(&mut self, now: u64) -> Option<Order>
+        // Books in order stay so: each order lies under its own trace number, and each one without
+        // an answer waits once, the one due first in front.
         ensures kept { IsKept self.old → IsKept self.new }
+        // The order that waits first is given where it is due at this moment, or at the latest one
+        // that was told; else none.
         ensures order { result
             ≡ due_order (max self.old.clock now) (waiting_in self.old) (sides_in self.old) }
+        // An order that is due waits again, behind all others and as long as any answer is waited
+        // for; where none is due, all wait as before.
         ensures waiting { let clock = max self.old.clock now in waiting_in self.new
             ≡ asked_again clock (moment_after clock self.old.patience) (waiting_in self.old) }
+        // The orders and their answers stay as they were.
         ensures sides { sides_in self.new ≡ sides_in self.old }
     {
         self.clock = self.clock.max(now);
@@ -184,15 +199,25 @@ impl Sides {
     /// later one changes nothing, and so does one that says that nothing was done (94, 96), or that is to another key. An
     /// `Err` leaves all as it was: the answer may be heard again.
     pub fn hear(&mut self, told: &Told) -> Result<Hearing, AllocError>
+        // Books in order stay so: each order lies under its own trace number, and each one without
+        // an answer waits once, the one due first in front.
         ensures kept { IsKept self.old → IsKept self.new }
+        // It tells whether the answer is the first to the order of its trace number, nothing new
+        // (94 and 96 too), another code than the first, or not to that order's key.
         ensures comes { IfOk result (λ h. h ≡ hearing_of
             (asked_at (sides_in self.old) told.now.key.stan) told.now.key told.now.code) }
+        // The first answer to an order is kept with it; any other answer
+        // leaves all orders as they were.
         ensures sides { IfOk result (λ h. sides_in self.new
             ≡ sides_heard h told.now.key.stan told.now.code (sides_in self.old)) }
+        // An order that got its first answer waits no longer; any other answer leaves
+        // all waiting as they were.
         ensures waiting { IfOk result (λ h. waiting_in self.new
             ≡ waiting_heard h told.now.key.stan (waiting_in self.old)) }
+        // In books that are in order, `Foreign` is told only where no order has that key.
         ensures foreign { result ≡ Ok Hearing.Foreign → IsKept self.old
             → HasNoKey (sides_in self.old) told.now.key }
+        // Without memory the orders and their answers stay as they were.
         ensures unchanged { OnErr result (sides_in self.new ≡ sides_in self.old) }
     {
         let asked = asked_at(&self.made, told.key.stan);
@@ -210,7 +235,9 @@ impl Sides {
 
     /// The moment at which the next order is due: no other is due before. `None` where all are answered. Takes no memory.
     pub fn next_due(&self) -> Option<u64>
+        // It is the moment at which the order is due that waits first; `None` where no order waits.
         ensures first { result ≡ option_map (λ d. d.at) (slice_get (waiting_in self.now) 0) }
+        // In books that are in order, no order that waits is due before that moment.
         ensures none_before { IfSome result (λ at. IsKept self.now
             → AllByRecursion (λ d. at ≤ d.at) (waiting_in self.now)) }
     {
@@ -229,7 +256,9 @@ impl Sides {
 
     /// Whether each order has its answer. Takes no memory.
     pub fn is_closed(&self) -> bool
+        // It is so exactly where no order waits.
         ensures none { IsTrue result ↔ (waiting_in self.now ≡ []) }
+        // In books that are in order, it is so exactly where each order has its answer.
         ensures closed { IsKept self.now → (IsTrue result ↔ AreAllAnswered (sides_in self.now)) }
     {
         is_empty(&self.waiting)
@@ -237,6 +266,7 @@ impl Sides {
 
     /// From this one on upwards trace numbers are taken, or kept for what follows a hold. Takes no memory.
     pub fn lowest(&self) -> u32
+        // No order has a lower trace number.
         ensures { (stan : ℕ) (a : Asked) → asked_at (sides_in self.now) stan ≡ Some a → result ≤ stan }
     {
         ABOVE - self.made.len().saturating_mul(2).min(ABOVE as usize) as u32
@@ -252,6 +282,8 @@ impl Sides {
 
     /// How far the orders of a kind got. Takes no memory, and time by how many orders there are.
     pub fn counts(&self, kind: Kind) -> Counts
+        // It tells how many orders of the kind wait for an answer, were granted with 00, and were
+        // refused with another code.
         ensures { result ≡ counts_of kind (sides_in self.now) }
     {
         counts_of(&self.made, kind)

@@ -7,6 +7,7 @@ use crate::edition93::name93;
 
 /// The name of an element. Those that the list of [`crate::name`] leaves out have none.
 pub fn name03(element: u8) -> Option<&'static str>
+    // A name exactly for the elements 2 to 128 but for 50, 51, 65, 74 to 90 and 105 to 110.
     ensures { is_some result ≡ has_name03 element }
 {
     match element {

@@ -142,6 +142,7 @@ fn fourth(element: u8) -> Option<&'static str>
 
 /// The name of an element.
 pub fn name87(element: u8) -> Option<&'static str>
+    // A name exactly for the elements 2 to 128 but for 65.
     ensures { is_some result ≡ is_element element }
 {
     match element {

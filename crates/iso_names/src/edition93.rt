@@ -7,6 +7,7 @@ use crate::edition87::name87;
 
 /// The name of an element.
 pub fn name93(element: u8) -> Option<&'static str>
+    // A name exactly for the elements 2 to 128 but for 65.
     ensures { is_some result ≡ is_element element }
 {
     match element {

@@ -14,6 +14,7 @@ pub struct OwnName {
 
 /// The first own name of an element.
 pub fn own_name(own: &[OwnName], element: u8) -> Option<&str>
+    // It is the name in the element's first row, and none exactly where the element has no row.
     ensures { option_map (λ name. name.now) result ≡ own_name (map own_view own.now) element }
 {
     for name in own {

@@ -93,8 +93,11 @@ fn owns_in(alloc: Global, members: &Map<String, Value>) -> Result<Vec<OwnName>, 
 
 /// The own names that a JSON value is.
 pub fn own_names(alloc: Global, value: &Value) -> Result<Vec<OwnName>, NamesFault>
+    // At `Ok` the names are those that the value says, each of an element by its number.
     ensures ok { IfOk result (λ own. own_names (view value.now) ≡ Ok (map own_view own.items)) }
+    // Memory aside, a fault is the first thing that is wrong with the value.
     ensures wrong { IfErr result (λ e. IfSome (wrong_of e) (λ wrong. own_names (view value.now) ≡ Err wrong)) }
+    // No fault says that a text is no JSON.
     ensures json { IfErr result (λ e. is_of_text e ≡ false) }
 {
     match value.as_object() {
@@ -105,8 +108,11 @@ pub fn own_names(alloc: Global, value: &Value) -> Result<Vec<OwnName>, NamesFaul
 
 /// The JSON value of a text.
 pub fn value_of(alloc: Global, text: &[u8]) -> Result<Value, NamesFault>
+    // At `Ok` the text is JSON, and stands for this value.
     ensures ok { IfOk result (λ value. StandsFor text.now (view value)) }
+    // A fault says that the text is no JSON, or that memory ran out, and nothing of a value.
     ensures wrong { IfErr result (λ e. wrong_of e ≡ None) }
+    // `NotJson` comes only of a text that is no JSON.
     ensures json { IfErr result (λ e. is_of_text e ≡ true → IsNotJson text.now) }
 {
     match Value::from_slice(alloc, text) {

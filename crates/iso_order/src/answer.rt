@@ -32,6 +32,7 @@ impl Answer {
 
     /// A response code alone: the order has no place in the journal, and no balance is shown.
     pub fn only(code: u8) -> Answer
+        // A response code has two digits.
         requires { code ≤ 99 }
         ensures { result ≡ code_alone code }
     {

@@ -10,6 +10,7 @@ use iso_parts::laws::{bitmaps, parts};
 
 /// Keys, account numbers, acts and orders that compare alike are one.
 pub fn comparisons()
+    // Keys, account numbers, amounts, acts and orders compare alike exactly where they are one.
     ensures { Comparisons }
 {}
 
@@ -28,6 +29,8 @@ pub fn responses_fit()
 
 /// Such a response, as `pack` writes it, has at most 9,999 bytes: each header can tell its length.
 pub fn responses_are_short()
+    // A response has at most 9,999 bytes where its message was read under a table that is ready for
+    // a host, and it is written under that table.
     ensures { ResponsesAreShort }
 {
     parts();

@@ -52,7 +52,9 @@ impl Order {
 
     /// The key under which it is asked. Takes no memory.
     pub fn key(&self) -> TxKey
+        // It is the key of this order.
         ensures value { result ≡ self.now.key }
+        // The order is one that a message can carry.
         ensures valid { IsTrue (is_valid self.now) }
     {
         self.key
@@ -61,8 +63,11 @@ impl Order {
     /// What is asked. Takes no memory.
     #[tactic(auto, unfolding(crate::specs::Order::is_valid))]
     pub fn act(&self) -> Act
+        // It is what this order asks.
         ensures value { result ≡ self.now.act }
+        // The order is one that a message can carry.
         ensures valid { IsTrue (is_valid self.now) }
+        // The amount that it names, or that a reversal leaves, is below 10^12.
         ensures bounded { amount_of self.now.act < 1000000000000 }
     {
         self.act
@@ -77,7 +82,9 @@ impl Order {
 
     /// Whether two orders ask the same under the same key. Takes no memory.
     pub fn is_same(&self, other: &Order) -> bool
+        // It is so exactly where the keys compare alike, and what is asked under them too.
         ensures same { result ≡ same_order self.now other.now }
+        // It is so exactly where the two are one order.
         ensures equal { IsTrue result ↔ (self.now ≡ other.now) }
     {
         self.is_same_order(other)

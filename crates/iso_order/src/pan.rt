@@ -43,7 +43,9 @@ impl Pan {
 
     /// The digits, as a number. Takes no memory.
     pub fn digits(&self) -> u64
+        // It is the number that the digits spell; zeros in front don't show in it.
         ensures value { result ≡ self.now.digits }
+        // The account number is one of 1 to 19 digits.
         ensures valid { is_pan self.now ≡ true }
     {
         self.digits
@@ -51,7 +53,9 @@ impl Pan {
 
     /// How many digits there are. Takes no memory.
     pub fn len(&self) -> u8
+        // It is the count of the digits, zeros in front included.
         ensures value { result ≡ self.now.len }
+        // The account number is one of 1 to 19 digits.
         ensures valid { is_pan self.now ≡ true }
     {
         self.len

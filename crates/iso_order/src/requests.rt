@@ -228,6 +228,8 @@ fn add_all(key: &TxKey, act: &Act, numbers: &[u8], request: &mut Message) -> Res
 /// A reversal names its original, a completion its hold, in 90; what a reversal leaves of the amount stands in 95. Refuses
 /// only for want of memory.
 pub fn request(alloc: Global, order: &Order) -> Result<Message, NoMemory>
+    // Memory aside, the message is the request for this order: the message type of its key, the
+    // elements that tell it, and no other.
     ensures whole { IfOk result (λ made. made ≡ request order.now) }
     // Element by element.
     ensures each { IfOk result (λ made. (n : ℕ) → 2 ≤ n → n ≤ 128

@@ -189,10 +189,14 @@ pub fn respond_into(message: &Message, answer: &Answer, into: &mut Message) -> R
     requires asks { is_answered (function message.now) ≡ true }
     // A balance of at most twelve digits, shown where the verdict is an inquiry.
     requires shown { is_showable message.now answer.now.shown ≡ true }
+    // Memory aside, the message becomes the whole response: what is given back, 38, 39
+    // and 54, and nothing else.
     ensures whole { OnOk result (into.new ≡ response message.now answer.now) }
     // Element by element.
     ensures each { OnOk result ((n : ℕ) → 2 ≤ n → n ≤ 128
         → value_in into.new.elements n ≡ element message.now answer.now n) }
+    // Without memory the message has the response's type and, from the front
+    // on, some of its elements.
     ensures begun { OnErr result (IsBegun into.new (response message.now answer.now)) }
 {
     let mti = response_type(message);
@@ -209,6 +213,8 @@ pub fn respond(alloc: Global, message: &Message, answer: &Answer) -> Result<Mess
     requires asks { is_answered (function message.now) ≡ true }
     // A balance of at most twelve digits, shown where the verdict is an inquiry.
     requires shown { is_showable message.now answer.now.shown ≡ true }
+    // Memory aside, the message is the whole response: what is given back, 38, 39
+    // and 54, and nothing else.
     ensures whole { IfOk result (λ made. made ≡ response message.now answer.now) }
     // Element by element.
     ensures each { IfOk result (λ made. (n : ℕ) → 2 ≤ n → n ≤ 128

@@ -42,6 +42,8 @@ fn answered_base(mti: Mti) -> u16
 /// What a response to a request or an advice of class 1, 2 or 4 tells: whose it is, and the response code. `None` for every
 /// other message, and where element 7 isn't ten digits, 11 six, 32 one to eleven, or 39 two. Takes no memory.
 pub fn answer_of(message: &Message) -> Option<Told>
+    // A key and a code are told exactly of a response of version 0, class 1, 2 or 4 and origin 0 to
+    // 5, whose elements 7, 11, 32 and 39 are digits of the right count.
     ensures told { result ≡ told_of message.now }
     // A message that asks can have the key.
     ensures valid { IfSome result (λ told. is_valid_key told.key ≡ true) }

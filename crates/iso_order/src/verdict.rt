@@ -329,7 +329,9 @@ fn verdict_of(message: &Message) -> Verdict
 
 /// What a message asks: the verdict of the first line of the table that holds. Takes no memory.
 pub fn order_of(message: &Message) -> Verdict
+    // The verdict is that of the first line of the table in ORDERS.md that holds.
     ensures verdict { result ≡ verdict message.now }
+    // An order that is told is one that a message can carry.
     ensures valid { IfOrder result (λ o. IsTrue (is_valid o)) }
     // Each delivery of a transaction has one key: its type has no repeat, its acquirer no leading zeros.
     ensures key { IfOrder result (λ o. o.key ≡ key_of message.now) }

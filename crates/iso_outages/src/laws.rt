@@ -14,8 +14,13 @@ use iso_order::laws::comparisons;
 pub fn crashes_only_lose()
     // Each run with crashes is a run without: what a crash took was never delivered there, or never heard.
     ensures without { CrashesOnlyLose }
+    // After each run, whenever the host crashes in it, both ends agree on each transaction, by the
+    // orders on the disk and by those too that wait for a sync.
     ensures agree { AgreeOverCrashes }
+    // What is closed stays in its state, over any crashes that follow.
     ensures closed { StayClosedOverCrashes }
+    // After each run, whenever the host crashes in it, both books agree where all is closed and no
+    // order of others is entered, by the disk and with what waits for a sync too.
     ensures books { BalanceOverCrashes }
     // A call of `DurableIssuer::answer_all` is one of the runs that this speaks of.
     ensures calls { CallsAreRuns }

@@ -130,9 +130,14 @@ impl Bitmap {
 
     /// The set of a primary and a secondary bitmap's words, without the primary one's first bit.
     pub fn from_words(primary: u64, secondary: u64) -> Bitmap
+        // The first bit of the secondary word isn't set: it tells of no third bitmap.
         requires { secondary < 2 ^ 63 }
+        // The set has exactly the numbers from 2 to 128 whose bits the two words have.
         ensures members { members result ≡ numbers_in primary secondary }
+        // Each number of the set is one that an element may have: 2 to 64 or 66 to 128.
         ensures numbers { AreElements (contains result) }
+        // Where the first bit of the primary word isn't set, the set has exactly the numbers whose
+        // bits the two words have.
         ensures set { primary < 2 ^ 63 → (n : ℕ) → contains result n ≡ in_words primary secondary n }
     {
         if primary < FIRST_BIT {
@@ -147,6 +152,7 @@ impl Bitmap {
     /// Whether the number is in the set.
     #[tactic(auto, using(crate::proofs::BitmapLaws::set_numbers))]
     pub fn has(&self, n: u8) -> bool
+        // True comes exactly for the numbers of the set.
         ensures has { result ≡ contains self.now n }
         // No set has a number that is none of an element.
         ensures numbers { AreElements (contains self.now) }
@@ -175,6 +181,7 @@ impl Bitmap {
 
     /// The least number that isn't in another set.
     pub fn missing_from(self, other: &Bitmap) -> Option<u8>
+        // It is the least number of this set that the other one lacks; `None` where it lacks none.
         ensures { result ≡ first_missing (contains other.now) (members self) }
     {
         if other.has_all(&self) {
@@ -227,10 +234,15 @@ impl Bitmap {
 
     /// Puts a number into the set.
     pub fn set(&mut self, n: u8)
+        // The number is at least 2.
         requires low { 2 ≤ n }
+        // The number is at most 128.
         requires high { n ≤ 128 }
+        // The number isn't 65, whose bit tells of a third bitmap.
         requires not_65 { n ≢ 65 }
+        // The number is in the set then.
         ensures added { contains self.new n ≡ true }
+        // Every other number is in the set exactly where it was in it before.
         ensures others { (k : ℕ) → k ≢ n → contains self.new k ≡ contains self.old k }
     {
         if n <= 64 {
@@ -242,10 +254,15 @@ impl Bitmap {
 
     /// Takes a number out of the set.
     pub fn unset(&mut self, n: u8)
+        // The number is at least 2.
         requires low { 2 ≤ n }
+        // The number is at most 128.
         requires high { n ≤ 128 }
+        // The number isn't 65, whose bit tells of a third bitmap.
         requires not_65 { n ≢ 65 }
+        // The number isn't in the set then.
         ensures removed { contains self.new n ≡ false }
+        // Every other number is in the set exactly where it was in it before.
         ensures others { (k : ℕ) → k ≢ n → contains self.new k ≡ contains self.old k }
     {
         if n <= 64 {
@@ -271,8 +288,11 @@ impl Bitmap {
     /// Writes the bitmaps as raw bytes, 8 of them or, where a number above 64 is in the set, 16. Says how many;
     /// the later bytes stay.
     pub fn write_raw(&self, out: &mut [u8; 16]) -> usize
+        // 8 bytes are written, or 16, and 16 only where the set has a number above 64.
         ensures used { (result ≡ 8) ⊎ ((result ≡ 16) × HasAbove (contains self.now)) }
+        // What is written is the raw bitmaps of the set: the primary one, and in 16 bytes both.
         ensures bytes { Bitmaps BitmapCoding.Raw (result == 16) (contains self.now) (take result out.new) }
+        // The bytes behind those that are written stay.
         ensures rest { drop result out.new ≡ drop result out.old }
     {
         if self.secondary == 0 {
@@ -287,7 +307,10 @@ impl Bitmap {
     /// Appends the bitmaps under a coding, hexadecimal digits in upper case. Where memory runs out, the vector stays
     /// as it was.
     pub fn append(&self, coding: BitmapCoding, out: &mut Vec<u8>) -> Result<(), AllocError>
+        // Memory aside, the bitmaps of the set are appended as they are written: a secondary one
+        // only where the set has a number above 64.
         ensures ok { OnOk result ((b : List ℕ) × PlainBitmaps coding (contains self.now) b × (out.new.items ≡ out.old.items ++ b)) }
+        // Without memory nothing is appended.
         ensures unchanged { OnErr result (out.new.items ≡ out.old.items) }
     {
         let mut maps = [0; 16];

@@ -11,7 +11,9 @@ pub(crate) const FIRST_BIT: u64 = 0x8000_0000_0000_0000;
 /// Whether the first bit of a bitmap's word is set. Bit 1 tells of the secondary bitmap, and bit 65 of a third one.
 #[inline(always)]
 pub fn tells_another(word: u64) -> bool
+    // True comes exactly where the first bit of the word, the most significant one, is set.
     ensures exact { result ≡ nat_le top word }
+    // A word whose first bit isn't set is below 2 to the power of 63.
     ensures low { result ≡ false → word < 2 ^ 63 }
 {
     FIRST_BIT <= word

@@ -52,8 +52,12 @@ fn decode_judged_body(
 /// [`decode_value`](crate::decode_value) does, but judges neither its characters nor its digits: the caller has judged
 /// the part good. Only the growth of `out` takes memory, and where there is none `out` stays as it was.
 pub fn decode_judged(spec: &FieldSpec, bytes: &[u8], out: &mut Vec<u8>) -> Result<usize, AllocError>
+    // The bytes begin with a good part of the row, as `judge_field` tells.
     requires { IsPart (part_at spec.now bytes.now) }
+    // Memory aside, the value of that part is appended, and how many bytes the part takes is told;
+    // without memory nothing is appended.
     ensures exact { BuildsValue out.old.items out.new.items result (part_at spec.now bytes.now) }
+    // Memory aside, the part lies within the bytes.
     ensures room { IfOk result (λ used. used ≤ length bytes.now) }
 {
     let front = spec.length.prefix_size();

@@ -177,7 +177,10 @@ impl Coding {
 
     /// How many bytes so many characters take.
     pub fn body_size(self, n: u16) -> usize
+        // A character takes a byte in ASCII and raw and two bytes as hexadecimal digits; packed,
+        // two characters take a byte, and an odd count is rounded up.
         ensures size { result ≡ body_size self n }
+        // A character never takes more than two bytes.
         ensures few { result ≤ 2 * n }
     {
         if self.is_plain() {

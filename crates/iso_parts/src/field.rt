@@ -125,15 +125,22 @@ fn encode_part(spec: &FieldSpec, value: &[u8], out: &mut Vec<u8>) -> Result<(), 
 /// Appends the part of a value: its length where the row has one, and its body, with filler 0 and upper-case
 /// digits. A fault is the first of `WrongLength`, `NotInClass`, `PadEnd`, and leaves the vector as it was.
 pub fn encode_field(spec: &FieldSpec, value: &[u8], out: &mut Vec<u8>) -> Result<(), FieldFault>
+    // The row is one that a table may have.
     requires { IsGood spec.now }
     // A value that is written fits, and one that fits is written, unless memory runs out.
     ensures fits { OnOk result (Fits spec.now value.now) }
+    // A value that fits the row is written, unless memory runs out.
     ensures only { Fits spec.now value.now → IfErr result (λ e. e ≡ Memory) }
+    // At `Ok` the plain part of the value stands behind what was there.
     ensures part { OnOk result (out.new.items ≡ out.old.items ++ plain_part spec.now value.now) }
+    // The plain part of a value that is written is a part of that value under the row.
     ensures spelled { OnOk result (Part spec.now value.now (plain_part spec.now value.now)) }
     // Which fault it is, unless memory ran out.
     ensures accepted { OnOk result (refusal spec.now value.now ≡ None) }
+    // Memory aside, the fault is the first reason why the value doesn't fit: its length, a
+    // character, or a pad at its padded end.
     ensures refused { IfErr result (λ e. e ≢ Memory → refusal spec.now value.now ≡ Some e) }
+    // After a fault the vector holds what it held before.
     ensures unchanged { OnErr result (out.new.items ≡ out.old.items) }
 {
     if let Some(fault) = spec.refusal(value) {
@@ -222,8 +229,12 @@ pub fn decode_value(
     bytes: &[u8],
     out: &mut Vec<u8>,
 ) -> Result<Option<usize>, FieldFault>
+    // The row is one that a table may have.
     requires { IsGood spec.now }
+    // Memory aside, the answer is what reading the part gives: its value is appended, or bytes are
+    // missing, or it has a fault. Only a value changes the vector.
     ensures exact { DecodesValue out.old.items out.new.items result (part_at spec.now bytes.now) }
+    // A part whose value is appended lies within the bytes.
     ensures room { IfOk result (λ got. IfSome got (λ used. used ≤ length bytes.now)) }
 {
     let n = match judge_length(spec, bytes) {
@@ -264,6 +275,7 @@ fn step_of(alloc: Global, spec: &FieldSpec, bytes: &[u8]) -> Result<Step, FieldF
 /// the faults are `BadLengthDigits` and `LengthOver`; where the body is whole `BadFiller`, `BadHex` and, without
 /// the padding, `NotInClass`; the first of them comes.
 pub fn decode_field(alloc: Global, spec: &FieldSpec, bytes: &[u8]) -> Result<Step, FieldFault>
+    // The row is one that a table may have.
     requires { IsGood spec.now }
     // A value that is got is that of the part at the front.
     ensures found { IfGot result (λ value used. (used ≤ length bytes.now) × Part spec.now value (take used bytes.now)) }

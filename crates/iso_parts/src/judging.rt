@@ -181,9 +181,14 @@ fn judge_prefix_apart(spec: &FieldSpec, bytes: &[u8]) -> Result<Option<u16>, Fie
 /// maximum; `None` where bytes are missing. Without a length the count is the maximum. Takes no memory.
 #[inline(always)]
 pub fn judge_length(spec: &FieldSpec, bytes: &[u8]) -> Result<Option<u16>, FieldFault>
+    // The answer is the count that a whole length tells, the maximum where none is written, or the
+    // length's fault; `None` comes where bytes are missing.
     ensures exact { result ≡ count_at spec.now bytes.now }
+    // The count is at most the row's maximum.
     ensures few { IfOk result (λ got. IfSome got (λ n. n ≤ spec.now.max)) }
+    // A count comes only where the bytes have the whole length.
     ensures room { IfOk result (λ got. IfSome got (λ n. prefix_size spec.now.length ≤ length bytes.now)) }
+    // Want of memory is never the fault.
     ensures memory { IfErr result (λ e. e ≢ Memory) }
 {
     if spec.length == Length::Fixed {
@@ -197,10 +202,16 @@ pub fn judge_length(spec: &FieldSpec, bytes: &[u8]) -> Result<Option<u16>, Field
 /// bytes are missing. Takes no memory.
 #[inline(always)]
 pub fn judge_body(spec: &FieldSpec, n: u16, bytes: &[u8]) -> Result<Option<usize>, FieldFault>
+    // The row is one that a table may have.
     requires good { IsGood spec.now }
+    // The count of characters is at most the row's maximum.
     requires few { n ≤ spec.now.max }
+    // The answer is how many bytes a whole good body takes, or the body's fault; `None` comes where
+    // bytes are missing.
     ensures exact { result ≡ size_at spec.now n bytes.now }
+    // A body that is judged good lies within the bytes.
     ensures room { IfOk result (λ got. IfSome got (λ size. size ≤ length bytes.now)) }
+    // Want of memory is never the fault.
     ensures memory { IfErr result (λ e. e ≢ Memory) }
 {
     let size = spec.coding.body_size(n);
@@ -286,6 +297,7 @@ fn judged_of(spec: &FieldSpec, bytes: &[u8]) -> Result<Judged, FieldFault>
 /// Judges the part that the bytes begin with, as [`decode_field`](crate::decode_field) does, but without its value
 /// and without memory: where its body begins, and how many bytes it takes.
 pub fn judge_field(spec: &FieldSpec, bytes: &[u8]) -> Result<Judged, FieldFault>
+    // The row is one that a table may have.
     requires { IsGood spec.now }
     // What is judged good is a part of some value,
     ensures found { IfJudged result (λ body used. (used ≤ length bytes.now) × ((value : List ℕ) × Part spec.now value (take used bytes.now))) }
@@ -299,6 +311,7 @@ pub fn judge_field(spec: &FieldSpec, bytes: &[u8]) -> Result<Judged, FieldFault>
     ensures stops { (e : FieldFault) → (result ≡ Err e) ↔ IsBadPart spec.now bytes.now e }
     // and there is always memory.
     ensures memory { IfErr result (λ e. e ≢ Memory) }
+    // A part that is judged good lies within the bytes, and its body within the part.
     ensures room { IfJudged result (λ body used. (body ≤ used) × (used ≤ length bytes.now)) }
 {
     judged_of(spec, bytes)

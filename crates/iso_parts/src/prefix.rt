@@ -68,7 +68,10 @@ impl Length {
 
     /// How many bytes the length takes.
     pub fn prefix_size(self) -> usize
+        // It is a byte for each ASCII digit, and in BCD one byte for two digits and two bytes for
+        // three or four; none without a length.
         ensures size { result ≡ prefix_size self }
+        // No length takes more than four bytes.
         ensures few { result ≤ 4 }
     {
         match self {

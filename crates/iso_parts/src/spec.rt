@@ -75,7 +75,9 @@ impl FieldSpec {
 
     /// Whether the row is one that a table may have; else the first thing that is wrong with it.
     pub fn good(&self) -> Result<(), SpecFault>
+        // `Ok` comes exactly for a row whose maximum, coding and padding are all allowed.
         ensures good { IsOk result ↔ IsGood self.now }
+        // A fault tells the first that isn't allowed: the maximum, the coding or the padding.
         ensures fault { IfErr result (λ e. spec_fault self.now ≡ Some e) }
     {
         if self.max < 1 || self.max > self.length.limit() {

@@ -24,7 +24,9 @@ impl<'l> Model for Connection<'l> {
 impl<'l> Connection<'l> {
     /// A peer on that link, before its first byte. Takes no memory.
     pub fn new(alloc: Global, link: &'l Link) -> Connection<'l>
+        // It is on that link, and holds no byte of a frame.
         ensures link { result.peer ≡ record { table = link.now.table; header = link.now.header; held = [] } }
+        // No byte of an answer waits.
         ensures none { result.waiting ≡ [] }
     {
         Connection {
@@ -49,8 +51,11 @@ impl<'l> Connection<'l> {
 
     /// So many of the bytes that were handed out are written: they wait no more.
     pub fn written(&mut self, count: usize)
+        // At least so many bytes wait to be written.
         requires { count ≤ length self.old.waiting }
+        // So many bytes from the front wait no more, and the others wait still.
         ensures waiting { self.new.waiting ≡ drop count self.old.waiting }
+        // The link stays, and so do the bytes that are held of a frame.
         ensures peer { self.new.peer ≡ self.old.peer }
     {
         let left = self.waiting.len() - count;

@@ -34,13 +34,18 @@ pub struct DurableHost<L: Log> {
 impl<L: Log> DurableHost<L> {
     /// A host of an issuer whose log was opened. Takes no memory.
     pub fn new(alloc: Global, durable: DurableIssuer<L>) -> DurableHost<L>
+        // Its issuer is the one whose log was opened, with its journal.
         ensures host { result.host ≡ durable.issuer }
+        // Its log is the one that was opened.
         ensures log { result.log ≡ durable.log }
+        // It counts as failed exactly where the log failed before.
         ensures failed { result.has_failed ≡ durable.has_failed }
         // Where no order waits in the log, it is in step with the journal, and nothing waits.
         ensures step { IsConsistent L.is_ready L.synced L.pending durable
             → L.pending durable.log ≡ []
             → IsInStep L.is_ready L.synced L.pending result }
+        // Over an opened log in which no order waits, the accounts, the limit and the orders on the
+        // disk are those of the issuer, and none waits.
         ensures state { IsConsistent L.is_ready L.synced L.pending durable
             → L.pending durable.log ≡ []
             → durable_of L.synced result ≡ state_of L.synced L.pending durable }
@@ -75,19 +80,31 @@ impl<L: Log> DurableHost<L> {
         connection: &mut Connection<'_>,
         bytes: &[u8],
     ) -> Result<Taken, TurnFault>
+        // At `Ok` the bytes stay behind those that were held, or they end a frame, whose body is
+        // entered, and whose answer waits behind the others.
         ensures took { IfOk result (TakesOf connection.old connection.new self.old.host self.new.host bytes.now) }
+        // It succeeds only where the log didn't fail before.
         ensures sound { OnOk result (self.old.has_failed ≡ false) }
+        // A refusal is a log that failed before, a header that isn't of digits, or want of memory,
+        // where the order of a frame's body may be entered.
         ensures refused { IfErr result (RefusesTurn self.old.has_failed connection.old.peer self.old.host self.new.host bytes.now) }
+        // A refusal leaves what the connection holds, and what waits for it.
         ensures unchanged { OnErr result (connection.new ≡ connection.old) }
+        // The connection's table stays the same.
         ensures table { connection.new.peer.table ≡ connection.old.peer.table }
+        // The header of the connection's frames stays the same.
         ensures header { connection.new.peer.header ≡ connection.old.peer.header }
         // The log isn't called: what a crash leaves stays the same.
         ensures log { self.new.log ≡ self.old.log }
+        // The count of orders that are kept on the disk stays.
         ensures kept { self.new.kept ≡ self.old.kept }
+        // Whether the log failed stays as it was.
         ensures failed { self.new.has_failed ≡ self.old.has_failed }
         // However it ends, the log stays in step, and the orders that enter the books come to the host.
         ensures step { IsInStep L.is_ready L.synced L.pending self.old
             → IsInStep L.is_ready L.synced L.pending self.new }
+        // Over a log in step, whatever orders enter the books come to the host: each new
+        // one waits for the next sync.
         ensures comes { IsInStep L.is_ready L.synced L.pending self.old
             → (orders : List Instruction) → self.new.host ≡ books_after self.old.host orders
             → durable_of L.synced self.new ≡ come_all (durable_of L.synced self.old) orders }
@@ -112,17 +129,30 @@ impl<L: Log> DurableHost<L> {
         connection: &mut Connection<'_>,
         bytes: &[u8],
     ) -> Result<Turned, LogFailed>
+        // At `Ok` the bodies of all whole frames are entered, one after the other, and their
+        // answers wait in this order, also where a later frame is refused.
         ensures took { IfOk result (TakesAll connection.old connection.new self.old.host self.new.host bytes.now) }
+        // It succeeds only where the log didn't fail before.
         ensures sound { OnOk result (self.old.has_failed ≡ false) }
+        // It fails only where the log failed before.
         ensures refused { OnErr result (self.old.has_failed ≡ true) }
+        // A failure leaves what the connection holds, and what waits for it.
         ensures unchanged { OnErr result (connection.new ≡ connection.old) }
+        // The connection's table stays the same.
         ensures table { connection.new.peer.table ≡ connection.old.peer.table }
+        // The header of the connection's frames stays the same.
         ensures header { connection.new.peer.header ≡ connection.old.peer.header }
+        // The log isn't called: what a crash leaves stays the same.
         ensures log { self.new.log ≡ self.old.log }
+        // The count of orders that are kept on the disk stays.
         ensures kept { self.new.kept ≡ self.old.kept }
+        // Whether the log failed stays as it was.
         ensures failed { self.new.has_failed ≡ self.old.has_failed }
+        // However it ends, a log in step with the journal stays in step.
         ensures step { IsInStep L.is_ready L.synced L.pending self.old
             → IsInStep L.is_ready L.synced L.pending self.new }
+        // Over a log in step, whatever orders enter the books come to the host: each new
+        // one waits for the next sync.
         ensures comes { IsInStep L.is_ready L.synced L.pending self.old
             → (orders : List Instruction) → self.new.host ≡ books_after self.old.host orders
             → durable_of L.synced self.new ≡ come_all (durable_of L.synced self.old) orders }
@@ -137,9 +167,12 @@ impl<L: Log> DurableHost<L> {
 
     /// Keeps all orders that wait, with one sync. Where none waits, the log isn't called.
     pub fn keep(&mut self) -> Result<(), LogFailed>
+        // At `Ok` the log never failed, and every order of the journal is kept.
         ensures kept { OnOk result (IsKept self.new) }
+        // At `Ok` a log in step with the journal stays in step.
         ensures step { OnOk result (IsInStep L.is_ready L.synced L.pending self.old
             → IsInStep L.is_ready L.synced L.pending self.new) }
+        // At `Ok`, over a log in step, all orders that waited are on the disk, and none waits.
         ensures synced { OnOk result (IsInStep L.is_ready L.synced L.pending self.old
             → durable_of L.synced self.new ≡ syncs (durable_of L.synced self.old)) }
         // However it ends, a crash leaves what it may leave before.
@@ -148,6 +181,7 @@ impl<L: Log> DurableHost<L> {
             → MayLeave (durable_of L.synced self.old) c }
         // After a failure each call fails, and nothing is handed out.
         ensures stops { Stops self.old.has_failed self.new.has_failed result }
+        // However it ends, the issuer and its journal are as before.
         ensures host { self.new.host ≡ self.old.host }
     {
         if self.has_failed {
@@ -167,7 +201,10 @@ impl<L: Log> DurableHost<L> {
     /// The bytes that may be written to a peer now: all that wait, where every order is kept. Nothing, where an order waits
     /// for the next `keep`, or the log failed.
     pub fn hand_out<'c>(&self, connection: &'c Connection<'_>) -> Option<&'c [u8]>
+        // What it gives are all the bytes that wait for the peer, and nothing else.
         ensures waiting { IfSome result (λ bytes. bytes.now ≡ connection.now.waiting) }
+        // Bytes are handed out exactly where the log never failed and every
+        // order of the journal is kept.
         ensures kept { IsSome result ↔ IsKept self.now }
         // Then every order that came is on the disk.
         ensures synced { IsSome result → (durable_of L.synced self.now).pending ≡ [] }

@@ -30,10 +30,16 @@ impl<L: Log> DurableHost<L> {
         connection: &mut Connection<'_>,
         bytes: &[u8],
     ) -> Result<Turned, LogFailed>
+        // At `Ok` the bodies of all whole frames are entered, one after the other, and their
+        // answers wait in this order, also where a later frame is refused.
         ensures took { IfOk result (TakesAll connection.old connection.new self.old.host self.new.host bytes.now) }
+        // At `Ok` the log never failed, and every order of the journal is kept.
         ensures kept { OnOk result (IsKept self.new) }
+        // The connection's table stays the same.
         ensures table { connection.new.peer.table ≡ connection.old.peer.table }
+        // The header of the connection's frames stays the same.
         ensures header { connection.new.peer.header ≡ connection.old.peer.header }
+        // At `Ok` a log in step with the journal stays in step.
         ensures step { OnOk result (IsInStep L.is_ready L.synced L.pending self.old
             → IsInStep L.is_ready L.synced L.pending self.new) }
         // The orders that entered the books came to the host, and were synced.
@@ -45,6 +51,7 @@ impl<L: Log> DurableHost<L> {
             → (orders c : List Instruction) → self.new.host ≡ books_after self.old.host orders
             → L.may_leave self.new.log c
             → MayLeave (come_all (durable_of L.synced self.old) orders) c }
+        // It succeeds only where no call failed before, and after a failure each call fails.
         ensures stops { Stops self.old.has_failed self.new.has_failed result }
     {
         let turned = self.take_all(connection, bytes)?;

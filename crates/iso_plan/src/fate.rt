@@ -118,6 +118,8 @@ fn coming(generator: &mut Pcg32, faults: &Faults) -> Comes
 impl Fates {
     /// The draws of a seed, in one of many directions.
     pub fn new(seed: u64, direction: u64, faults: Faults) -> Fates
+        // It draws from PCG's generator of the seed, in the stream of that
+        // direction, under these faults.
         ensures { result ≡ drawing_from seed direction faults }
     {
         Fates {
@@ -130,6 +132,7 @@ impl Fates {
     pub fn next(&mut self) -> Fate
         // It is a function of what is drawn from, and of nothing else: so the same seed draws the same.
         ensures drawn { result ≡ fate_at self.old }
+        // The generator goes on by five words, or by none where no fault is asked for.
         ensures next { self.new ≡ drawing_after self.old }
         // What has no chance doesn't happen, what is certain does, and each delay is within its bounds.
         ensures fate { IsFateUnder self.old.faults result }

@@ -54,6 +54,7 @@ impl Late {
         // Behind what waits for that moment or an earlier one, before all else: of the first 18446744073709551615.
         ensures held { OnOk result (self.old.count < 18446744073709551615
             → self.new.waits ≡ put at held self.old.waits) }
+        // Without memory all that is held back is as before.
         ensures unchanged { OnErr result (self.new ≡ self.old) }
     {
         let number = self.count.saturating_add(1);
@@ -64,7 +65,9 @@ impl Late {
 
     /// The moment at which the next one is due. Takes no memory.
     pub fn next_due(&self) -> Option<u64>
+        // It is the moment of the first that waits, and `None` where none waits.
         ensures first { result ≡ option_map (λ w. w.0) (slice_get self.now.waits 0) }
+        // Nothing that waits is due before that moment.
         ensures none_before { IfSome result (λ at. AllByRecursion (λ w. at ≤ w.0) self.now.waits) }
     {
         match self.by_moment.first_key_value() {
@@ -79,6 +82,7 @@ impl Late {
         ensures due { IfSome result (λ held. IsFirstDue now held self.old.waits self.new.waits) }
         // Where none is taken, none is due.
         ensures none { IfNone result (AllByRecursion (λ w. now < w.0) self.old.waits) }
+        // Where none is taken, all wait as before.
         ensures unchanged { IfNone result (self.new ≡ self.old) }
     {
         let at = self.next_due()?;

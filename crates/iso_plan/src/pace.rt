@@ -44,6 +44,8 @@ fn allowed(pace: &Pace, elapsed: u64) -> u64
 /// How many purchases begin at a moment of the run, in milliseconds, where so many have begun and so many transactions are
 /// open.
 pub fn due_purchases(pace: &Pace, elapsed: u64, begun: u64, opened: usize) -> u64
+    // Those that the rate and the count allow and that haven't begun, as far as there is room for
+    // open ones; none before the opening, and none from the closing on.
     ensures { result ≡ due_purchases pace.now elapsed begun opened }
 {
     if elapsed < pace.opening || elapsed >= pace.closing {
@@ -55,6 +57,7 @@ pub fn due_purchases(pace: &Pace, elapsed: u64, begun: u64, opened: usize) -> u6
 
 /// How many milliseconds after the opening the rate allows one more purchase than so many. `None` where there is no rate.
 pub fn next_moment(rate: Option<u32>, begun: u64) -> Option<u64>
+    // By that moment the rate allows one purchase more, and not a millisecond before.
     ensures { IfSome result (λ at. IsNextMoment rate begun at) }
 {
     let rate = u64::from(rate?);

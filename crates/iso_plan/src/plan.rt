@@ -149,6 +149,8 @@ fn are_faults(faults: &Faults) -> bool
 impl Plan<'_> {
     /// What is wrong with it, if anything is. Takes no memory.
     pub fn fault(&self) -> Option<PlanFault>
+        // It is the first of these that is wrong: the acquirer's number, connections, room for open
+        // ones, rate, amounts, mix, faults, accounts; `None` exactly where none is.
         ensures { result ≡ plan_fault self.now }
     {
         if self.acquirer > MOST_ACQUIRER {

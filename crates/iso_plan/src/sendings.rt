@@ -62,7 +62,10 @@ fn make_room(by_trace: &mut Vec<Sending>, stan: u32) -> Result<(), AllocError>
 impl Sendings {
     /// Those of a run that goes on with so many orders of earlier runs, under the first trace numbers.
     pub fn new(alloc: Global, earlier: usize) -> Result<Sendings, AllocError>
+        // Memory aside, it knows how many orders are of earlier runs.
         ensures earlier { IfOk result (λ s. s.earlier ≡ earlier) }
+        // Memory aside, each order of an earlier run, by its trace number, counts as sent
+        // once, and no other as sent.
         ensures each { IfOk result (λ s. (n : ℕ) → sending_at s.by_trace n ≡ earlier_or_none earlier n) }
     {
         let mut by_trace = Vec::new(alloc);
@@ -82,10 +85,15 @@ impl Sendings {
 
     /// The order of a trace number is sent at a moment, in microseconds: whether for the first time.
     pub fn send(&mut self, stan: u32, now: u64) -> Result<bool, AllocError>
+        // Memory aside, it is true exactly where the order wasn't sent before.
         ensures first { IfOk result (λ first. first ≡ ((sending_at self.old.by_trace stan).times == 0)) }
+        // Memory aside, the order counts as sent once more, and keeps the moment of its first
+        // sending; what is known of other orders stays.
         ensures sent { OnOk result ((n : ℕ) → sending_at self.new.by_trace n
             ≡ (if n == stan then sent_again now (sending_at self.old.by_trace n) else sending_at self.old.by_trace n)) }
+        // The count of orders of earlier runs stays.
         ensures earlier { self.new.earlier ≡ self.old.earlier }
+        // Without memory what is known of each order stays.
         ensures unchanged { OnErr result ((n : ℕ) → sending_at self.new.by_trace n ≡ sending_at self.old.by_trace n) }
     {
         make_room(&mut self.by_trace, stan)?;
@@ -114,8 +122,11 @@ impl Sendings {
 
     /// An answer of that digest to the order of a trace number closed a transaction.
     pub fn close(&mut self, stan: u32, answer: u64)
+        // The answer's digest is noted of the order of that trace number, if there is a place for
+        // it; what is known of other orders stays.
         ensures closed { (n : ℕ) → sending_at self.new.by_trace n
             ≡ (if n == stan then closed_by answer self.old.by_trace n else sending_at self.old.by_trace n) }
+        // The count of orders of earlier runs stays.
         ensures earlier { self.new.earlier ≡ self.old.earlier }
     {
         if let Some(of) = self.by_trace.get_mut(stan as usize) {

@@ -30,6 +30,8 @@ pub struct Standing {
 
 /// What a run does next.
 pub fn next_stage(stage: Stage, stands: &Standing) -> Stage
+    // A run buys until it closes and each transaction is closed. Before, and after if it checks, it
+    // asks for balances until all are told or given up.
     ensures { result ≡ next_stage stage stands.now }
 {
     match stage {

@@ -50,7 +50,9 @@ fn date_and_time(since_1970: u64) -> Option<DateTime>
 /// The date and time in UTC at so many milliseconds since 1970, as element 7 has it: MMDDhhmmss, a number of at most ten
 /// digits. `None` where the clock is past the year 9999.
 pub fn stamp(since_1970: u64) -> Option<u64>
+    // It has the month, day, hour, minute and second in UTC of that moment, in two digits each.
     ensures stamp { IfSome result (IsStampAt since_1970) }
+    // It has at most ten digits, as element 7 asks.
     ensures fits { IfSome result (λ sent. sent ≤ 9999999999) }
 {
     let at = date_and_time(since_1970)?;

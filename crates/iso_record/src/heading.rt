@@ -59,6 +59,7 @@ impl Heading {
     /// The heading of a journal under these rules, of the accounts in a document: the bytes as they were read. Takes no
     /// memory.
     pub fn of(rules: u16, document: &[u8]) -> Heading
+        // It has the version of the rules, and the SHA-256 digest of the document as four numbers.
         ensures { result ≡ heading_for rules document.now }
     {
         let digest = Sha256::digest(document);
@@ -74,7 +75,10 @@ impl Heading {
 
 /// The first record of a journal. Takes no memory.
 pub fn heading_bytes(heading: &Heading) -> [u8; RECORD]
+    // It has a journal's words, the version of the records, that of the rules and the digest of the
+    // accounts, then blanks and the end of the line.
     ensures bytes { result ≡ heading_bytes heading.now }
+    // It has 128 bytes, and none of them is zero.
     ensures whole { is_whole result ≡ true }
 {
     headings_are_whole();
@@ -102,7 +106,10 @@ fn are_same(first: &[u8; RECORD], second: &[u8; RECORD], at: usize, len: usize) 
 /// What a first record tells otherwise than this heading. `None` where it is the heading's record, to the byte. Takes no
 /// memory.
 pub fn heading_fault(first: &[u8; RECORD], heading: &Heading) -> Option<HeadingFault>
+    // Nothing is told of the heading's very bytes; else `Format` where the first 28 differ, else
+    // `Rules` where those of the rules do, else `Accounts`.
     ensures fault { result ≡ heading_fault first.now (heading_bytes heading.now) }
+    // `None` comes only for the very bytes of the heading's record.
     ensures none { result ≡ None → first.now ≡ heading_bytes heading.now }
 {
     let wanted = heading_bytes(heading);

@@ -146,11 +146,14 @@ fn row_in(text: &[u8; RECORD]) -> Option<Row>
 
 /// The order and the answer that a record is, `None` for any other bytes. Takes no memory.
 pub fn read_row(text: &[u8; RECORD]) -> Option<Row>
+    // It is the order and the answer that the bytes tell, and `None` where they are no such record.
     ensures value { result ≡ row_in text.now }
     // what was written comes back,
     ensures back { (r : Row) → is_row r ≡ true → row_bytes r ≡ text.now → result ≡ Some r }
     // and nothing else is read
     ensures only { IfSome result (λ r. row_bytes r ≡ text.now) }
+    // What is read can be written: an order that a message can ask, a code of at most 99, a
+    // place of at most 999,999.
     ensures row { IfSome result (λ r. is_row r ≡ true) }
 {
     rows_come_back();

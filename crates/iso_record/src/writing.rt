@@ -186,8 +186,12 @@ fn put_answer(bytes: &mut [u8; RECORD], answer: &Answer)
 
 /// The record of an order and its answer. Takes no memory.
 pub fn row_bytes(row: &Row) -> [u8; RECORD]
+    // It has the order in 99 bytes, and the answer in the 29 behind them, in a journal's columns.
     ensures bytes { result ≡ row_bytes row.now }
+    // Each order and answer can be written: a message can ask the order, the code is at most 99,
+    // and the place at most 999,999.
     ensures row { is_row row.now ≡ true }
+    // It has 128 bytes, and none of them is zero.
     ensures whole { is_whole result ≡ true }
 {
     rows_are_whole();

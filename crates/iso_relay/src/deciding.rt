@@ -97,6 +97,8 @@ pub fn send(
     body: &[u8],
     room: &mut Message,
 ) -> Result<Sending, NoMemory>
+    // Memory aside, an order goes to its account's shard, a reversal to all, what asks for no order
+    // or is on no shard's account to the first, and nowhere what wants no answer or isn't read.
     ensures goes { IfOk result (λ s.
         s ≡ sending_of (route_of shards.now (asked_in table.now body.now))) }
     // A reversal is noted before it goes to all.
@@ -106,6 +108,7 @@ pub fn send(
           count = pending.old.count;
           entries = asked (Route.All key) pending.old.count pending.old.entries;
         }) }
+    // For want of memory nothing changes in what waits.
     ensures unchanged { OnErr result (pending.new ≡ pending.old) }
 {
     let route = shards.route(table, body, room)?;
@@ -140,6 +143,8 @@ pub fn take(
     body: &[u8],
     room: &mut Vec<u8>,
 ) -> Result<Decision, NoMemory>
+    // Memory aside, an answer to a reversal is decided by what all shards say, and any other is
+    // passed on as it comes.
     ensures taken { IfOk result (λ d.
         d ≡ taken shard (told_in table.now body.now) pending.old.entries) }
     // What is passed on to a reversal was said by every shard that was asked.
@@ -149,6 +154,7 @@ pub fn take(
         → pending.old.entries ≡ entries_after pending.old.count events
         → IsSaidByAll pending.old.count shard told.key told.code
         (Says shard told.key told.code ∷ events)) }
+    // For want of memory nothing changes in what waits.
     ensures unchanged { OnErr result (pending.new ≡ pending.old) }
 {
     match answer_in(table, body, room) {

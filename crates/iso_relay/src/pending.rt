@@ -142,7 +142,9 @@ impl Pending {
 
     /// How many wait.
     pub fn len(&self) -> usize
+        // The number is that of the requests that wait.
         ensures value { result ≡ length self.now.entries }
+        // At most 1,024 requests wait.
         ensures few { result ≤ most_pending }
     {
         self.entries.len()
@@ -158,10 +160,13 @@ impl Pending {
     /// Notes that a request goes to the shards of its route. What was heard under its key before doesn't count. Where too many
     /// wait then, the first one ends. Refuses only for want of memory.
     pub fn ask(&mut self, route: &Route) -> Result<(), NoMemory>
+        // Memory aside, what is asked under a key waits, nothing heard yet, in place of the one of
+        // its key or behind all others; beyond 1,024 the first one ends.
         ensures asked { OnOk result (self.new ≡ record {
           count = self.old.count;
           entries = asked route.now self.old.count self.old.entries;
         }) }
+        // For want of memory nothing changes in what waits.
         ensures unchanged { OnErr result (self.new ≡ self.old) }
         // Those under other keys stay, where there is room.
         ensures others { OnOk result (IfSome (key_of route.now) (λ key. (other : TxKey)
@@ -176,7 +181,11 @@ impl Pending {
 
     /// What becomes of a shard's answer of this code to the request under this key. Takes no memory.
     pub fn hear(&mut self, shard: usize, key: &TxKey, code: u8) -> Decision
+        // What becomes of the answer is decided by what was heard under its key: it is passed on,
+        // held, given up or dropped.
         ensures decided { result ≡ decided shard code (heard_under key.now self.old.entries) }
+        // A request of which an answer is held waits on with what was heard; one that each asked
+        // shard answered waits no more; all others are as they were.
         ensures left { self.new ≡ record {
           count = self.old.count;
           entries = answered shard key.now code self.old.entries;

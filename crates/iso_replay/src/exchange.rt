@@ -86,6 +86,7 @@ impl<'a> Exchange<'a> {
     /// The host took so many of the bytes that are to be sent.
     pub fn sends(&mut self, count: usize, now: u64)
         requires { count ≤ length self.old.unsent }
+        // Those bytes are sent, a byte moved last at this moment, and nothing else changes.
         ensures { self.new ≡ record self.old { unsent = drop count self.old.unsent; moved = now } }
     {
         let (_, later) = self.unsent.split_at(count);
@@ -95,9 +96,13 @@ impl<'a> Exchange<'a> {
 
     /// A piece came.
     pub fn hears(&mut self, piece: &[u8], now: u64) -> Result<(), AllocError>
+        // Memory aside, the piece stands behind the bytes that came before.
         ensures came { OnOk result (self.new.heard.bytes ≡ self.old.heard.bytes ++ piece.now) }
+        // Memory aside, a byte moved last at this moment; of the rest only what came changes.
         ensures others { OnOk result (self.new ≡ record self.old { heard = self.new.heard; moved = now }) }
+        // The header of the frames that come stays the same.
         ensures header { self.new.heard.header ≡ self.old.heard.header }
+        // Without memory the exchange is as it was.
         ensures unchanged { OnErr result (self.new ≡ self.old) }
     {
         self.heard.hear(piece)?;
@@ -107,6 +112,7 @@ impl<'a> Exchange<'a> {
 
     /// The host ended its side, or its connection failed.
     pub fn ends(&mut self)
+        // The exchange keeps that the host has ended, and nothing else changes.
         ensures { self.new ≡ record self.old { has_ended = true } }
     {
         self.has_ended = true;
@@ -114,6 +120,8 @@ impl<'a> Exchange<'a> {
 
     /// How it ends at a moment, if it does.
     pub fn ending(&self, now: u64) -> Option<Ending>
+        // `Whole`: all is sent and enough frames came; else `BadHeader`: a header isn't of digits;
+        // else `Closed`: the host ended; else `Silent`: no byte moved for the patience; else none.
         ensures { (bodies : List (List ℕ)) (rest : List ℕ) → Splits self.now.heard.header self.now.heard.bytes bodies rest
             → result ≡ ending_of self.now bodies rest now }
     {
@@ -134,6 +142,7 @@ impl<'a> Exchange<'a> {
 
     /// How many milliseconds it may wait at a moment for a byte to move.
     pub fn pause(&self, now: u64) -> u64
+        // It is what is left of the patience since a byte moved last, 0 where none is left.
         ensures { result ≡ self.now.patience - (now - self.now.moved) }
     {
         self.patience.saturating_sub(now.saturating_sub(self.moved))

@@ -44,7 +44,9 @@ fn begins_badly(header: Header, bytes: &[u8]) -> bool
 impl Heard {
     /// No bytes. Takes no memory.
     pub fn new(alloc: Global, header: Header) -> Heard
+        // The frames that come have this header.
         ensures header { result.header ≡ header }
+        // No byte has come.
         ensures bytes { result.bytes ≡ [] }
     {
         Heard {
@@ -56,8 +58,11 @@ impl Heard {
 
     /// Puts a piece behind the bytes that came.
     pub fn hear(&mut self, piece: &[u8]) -> Result<(), AllocError>
+        // Memory aside, the piece stands behind the bytes that came before.
         ensures ok { OnOk result (self.new.bytes ≡ self.old.bytes ++ piece.now) }
+        // The header of the frames stays the same.
         ensures header { self.new.header ≡ self.old.header }
+        // Without memory nothing is changed.
         ensures unchanged { OnErr result (self.new ≡ self.old) }
     {
         self.bytes.extend_from_slice(piece)?;

@@ -14,6 +14,8 @@ const BYTES_AT_ONCE: u64 = 1_048_576;
 
 /// How many batches to ask for after a page of so many, with so many bytes.
 pub fn most_after(batches: u64, bytes: u64) -> u32
+    // As many batches of that mean size as make 1,048,576 bytes, but at least 4 and at most 1,024;
+    // after an empty page 4.
     ensures { result ≡ most_after batches bytes }
 {
     if batches == 0 {

@@ -59,7 +59,9 @@ pub struct EtcdStore<D: Dial + Drop> {
 impl<D: Dial + Drop> EtcdStore<D> {
     /// The store that a cluster is, of which nothing was heard.
     pub fn new(alloc: Global, cluster: Cluster<D>) -> EtcdStore<D>
+        // The store has heard of no batch.
         ensures kept { heard result.heard.items ≡ [] }
+        // No batch was sent through the store.
         ensures sent { heard result.sent.items ≡ [] }
     {
         EtcdStore {

@@ -78,12 +78,19 @@ impl<L: NoteLog> DurableAcquirer<L> {
         notes: &[Note],
         log: L,
     ) -> Result<DurableAcquirer<L>, (Fault, L)>
+        // The acquirer's number (element 32) has at most eleven digits.
         requires { id ≤ 99999999999 }
+        // Over a log that was opened with these notes, the acquirer is in step with it: the log is
+        // ready, and the notes make the acquirer and what it has to send.
         ensures consistent { IfOk result (λ a. IsOpened L.is_ready L.synced L.pending log notes.now
             → IsConsistent L.is_ready L.synced L.pending a) }
+        // Over a log that was opened with these notes, the acquirer has that number, these notes on
+        // the disk, and none that waits for a sync.
         ensures diary { IfOk result (λ a. IsOpened L.is_ready L.synced L.pending log notes.now
             → diary_of L.synced L.pending a ≡ record { id = id; synced = notes.now; pending = [] }) }
+        // An acquirer that starts knows of no failure of its log.
         ensures ready { IfOk result (λ a. a.has_failed ≡ false) }
+        // An `Err` hands back the very log that was given.
         ensures log { IfErr result (λ e. e.1 ≡ log) }
         // `Damaged` only where no acquirer can have written these notes.
         ensures damaged { IfErr result (λ e. e.0 ≡ Fault.Damaged
@@ -111,8 +118,12 @@ impl<L: NoteLog> DurableAcquirer<L> {
     /// The state of the transaction of that trace number, where there is one, by what is kept: a start after a crash
     /// tells the same, if nothing comes between. `Unkept` where something was written since the last `keep`.
     pub fn state(&self, stan: u32) -> Result<Option<State>, Fault>
+        // An acquirer in step with its log tells the state by the notes on the disk, and none where
+        // these have no such transaction.
         ensures kept { IfOk result (λ state. IsConsistent L.is_ready L.synced L.pending self.now
             → state ≡ state_of (on_disk (diary_of L.synced L.pending self.now)).slots stan) }
+        // An acquirer in step with its log tells `Unkept` only where a note waits for a sync, `Log`
+        // only after a failure of the log, and no other fault.
         ensures fault { IfErr result (λ e. IsConsistent L.is_ready L.synced L.pending self.now
             → IsUntold (diary_of L.synced L.pending self.now) self.now.has_failed e) }
     {
@@ -160,11 +171,19 @@ impl<L: NoteLog> DurableAcquirer<L> {
         currency: [u8; 3],
         sent: u64,
     ) -> Result<u32, Fault>
+        // The amount is 1 to 999,999,999,999 minor units, the currency three letters or digits, and
+        // the time has at most ten digits.
         requires { IsFair amount currency sent }
+        // An acquirer in step with its log gives the next trace number: one more
+        // than the orders that it made.
         ensures trace { IfOk result (λ stan. IsConsistent L.is_ready L.synced L.pending self.old
             → stan ≡ length (in_memory (diary_of L.synced L.pending self.old)).slots + 1) }
+        // Where it succeeds, an acquirer that was in step with its log stays so: the log is ready,
+        // and the notes make the acquirer and what it has to send.
         ensures consistent { OnOk result (IsConsistent L.is_ready L.synced L.pending self.old
             → IsConsistent L.is_ready L.synced L.pending self.new) }
+        // Where it succeeds, an acquirer in step with its log has one note more, which waits for a
+        // sync: this debit began under the next trace number.
         ensures begins { OnOk result (IsConsistent L.is_ready L.synced L.pending self.old
             → let old = diary_of L.synced L.pending self.old in
             diary_of L.synced L.pending self.new
@@ -174,8 +193,12 @@ impl<L: NoteLog> DurableAcquirer<L> {
             → (c : List Note) → L.may_leave self.new.log c
             → let old = diary_of L.synced L.pending self.old in
             MayLeave (begins old (debit_of (in_memory old) pan amount currency sent)) c }
+        // An acquirer in step with its log tells `Refused` only as `NoMoreTrace`, after 999,999
+        // orders, and never `Unkept` or `Damaged`.
         ensures refused { IfErr result (λ e. IsConsistent L.is_ready L.synced L.pending self.old
             → IsRefusedBegin (in_memory (diary_of L.synced L.pending self.old)) e) }
+        // Any fault but `Log` leaves the notes as they were, and the acquirer in
+        // step with its log, if it was.
         ensures unchanged { IfErr result (λ e. e ≢ Fault.Log
             → Stays L.is_ready L.synced L.pending self.old self.new) }
         // After a failure of the log each call fails.
@@ -200,8 +223,12 @@ impl<L: NoteLog> DurableAcquirer<L> {
     /// Takes that no answer came in time to the transaction of that trace number, as `Acquirer::timeout` does, and writes
     /// it down. The order to send is given by the next `keep`.
     pub fn timed_out(&mut self, stan: u32) -> Result<(), Fault>
+        // Where it succeeds, an acquirer that was in step with its log stays so: the log is ready,
+        // and the notes make the acquirer and what it has to send.
         ensures consistent { OnOk result (IsConsistent L.is_ready L.synced L.pending self.old
             → IsConsistent L.is_ready L.synced L.pending self.new) }
+        // Where it succeeds, an acquirer in step with its log has one note more, which waits for a
+        // sync: no answer came in time to this transaction.
         ensures times_out { OnOk result (IsConsistent L.is_ready L.synced L.pending self.old
             → diary_of L.synced L.pending self.new
             ≡ times_out (diary_of L.synced L.pending self.old) stan) }
@@ -209,8 +236,12 @@ impl<L: NoteLog> DurableAcquirer<L> {
         ensures crash { IsConsistent L.is_ready L.synced L.pending self.old
             → (c : List Note) → L.may_leave self.new.log c
             → MayLeave (times_out (diary_of L.synced L.pending self.old) stan) c }
+        // An acquirer in step with its log tells `Refused` only as `Acquirer::timeout` refuses, and
+        // never `Unkept` or `Damaged`.
         ensures refused { IfErr result (λ e. IsConsistent L.is_ready L.synced L.pending self.old
             → IsRefusedTimeout (in_memory (diary_of L.synced L.pending self.old)) stan e) }
+        // Any fault but `Log` leaves the notes as they were, and the acquirer in
+        // step with its log, if it was.
         ensures unchanged { IfErr result (λ e. e ≢ Fault.Log
             → Stays L.is_ready L.synced L.pending self.old self.new) }
         // After a failure of the log each call fails.
@@ -231,8 +262,12 @@ impl<L: NoteLog> DurableAcquirer<L> {
 
     /// Takes an answer, as `Acquirer::answer` does, and writes it down. It counts once it is kept.
     pub fn told(&mut self, key: TxKey, code: u8) -> Result<(), Fault>
+        // Where it succeeds, an acquirer that was in step with its log stays so: the log is ready,
+        // and the notes make the acquirer and what it has to send.
         ensures consistent { OnOk result (IsConsistent L.is_ready L.synced L.pending self.old
             → IsConsistent L.is_ready L.synced L.pending self.new) }
+        // Where it succeeds, an acquirer in step with its log has one note more, which waits for a
+        // sync: an order of this key got this code.
         ensures hears { OnOk result (IsConsistent L.is_ready L.synced L.pending self.old
             → diary_of L.synced L.pending self.new
             ≡ hears (diary_of L.synced L.pending self.old) key code) }
@@ -240,6 +275,7 @@ impl<L: NoteLog> DurableAcquirer<L> {
         ensures crash { IsConsistent L.is_ready L.synced L.pending self.old
             → (c : List Note) → L.may_leave self.new.log c
             → MayLeave (hears (diary_of L.synced L.pending self.old) key code) c }
+        // The only fault is `Log`.
         ensures fault { IfErr result (λ e. e ≡ Fault.Log) }
         // After a failure of the log each call fails.
         ensures stops { Stops self.old.has_failed self.new.has_failed result }
@@ -254,10 +290,16 @@ impl<L: NoteLog> DurableAcquirer<L> {
 
     /// Has all that was written kept, with one sync, and gives the orders that may be sent now, in their order.
     pub fn keep(&mut self) -> Result<Vec<Order>, Fault>
+        // An acquirer in step with its log gives the orders of the notes that waited,
+        // each once, in their order.
         ensures orders { IfOk result (λ orders. IsConsistent L.is_ready L.synced L.pending self.old
             → orders.items ≡ unsent (diary_of L.synced L.pending self.old)) }
+        // Where it succeeds, an acquirer that was in step with its log stays so: the log is ready,
+        // and the notes make the acquirer and what it has to send.
         ensures consistent { OnOk result (IsConsistent L.is_ready L.synced L.pending self.old
             → IsConsistent L.is_ready L.synced L.pending self.new) }
+        // Where it succeeds, an acquirer in step with its log has all its notes on the disk,
+        // and none waits for a sync.
         ensures keeps { OnOk result (IsConsistent L.is_ready L.synced L.pending self.old
             → diary_of L.synced L.pending self.new
             ≡ keeps (diary_of L.synced L.pending self.old)) }
@@ -265,6 +307,7 @@ impl<L: NoteLog> DurableAcquirer<L> {
         ensures crash { IsConsistent L.is_ready L.synced L.pending self.old
             → (c : List Note) → L.may_leave self.new.log c
             → MayLeave (diary_of L.synced L.pending self.old) c }
+        // The only fault is `Log`.
         ensures fault { IfErr result (λ e. e ≡ Fault.Log) }
         // After a failure of the log each call fails.
         ensures stops { Stops self.old.has_failed self.new.has_failed result }

@@ -16,8 +16,14 @@ pub fn both_may_crash()
     ensures without { CrashesOnlyLose }
     // And each run with crashes of either is a run without any.
     ensures without_any { CrashesOfBothOnlyLose }
+    // After each run, with crashes of either end at any moments, both ends agree on each
+    // transaction, by what is on both disks and by what either or both have in memory.
     ensures agree { AgreeOverCrashes }
+    // What is closed on the acquirer's disk stays in its state, on the disk and in memory,
+    // over any crashes that follow.
     ensures closed { StayClosedOverCrashes }
+    // After each run, with crashes of either end, both books agree where all is closed and no order
+    // of others is entered, by both disks and by what either or both have in memory.
     ensures books { BalanceOverCrashes }
     // No trace number is used for two orders, over any crashes.
     ensures numbers { SentAsKept }

@@ -18,7 +18,9 @@ pub struct MemoryNotes {
 impl MemoryNotes {
     /// A log with nothing in it.
     pub fn new(alloc: Global) -> MemoryNotes
+        // No note is kept yet.
         ensures kept { result.kept.items ≡ [] }
+        // No note waits for a sync.
         ensures waiting { result.waiting.items ≡ [] }
     {
         MemoryNotes {

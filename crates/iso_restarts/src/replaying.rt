@@ -55,8 +55,12 @@ fn go_through(acquirer: &mut Acquirer, note: Note) -> Result<(), Fault>
 /// The acquirer of that number to whom all this happened, as a log that is opened gives it. `Damaged` where no acquirer
 /// can have written it.
 pub fn replay(alloc: Global, id: u64, notes: &[Note]) -> Result<Acquirer, Fault>
+    // The acquirer's number (element 32) has at most eleven digits.
     requires { id ≤ 99999999999 }
+    // The acquirer that is got is the one of that number to whom all of
+    // this happened, in this order.
     ensures acquirer { IfOk result (λ acquirer. acquirer ≡ party_after id notes.now) }
+    // `Damaged` is told only of notes that no acquirer of that number can have written.
     ensures damaged { IsErrOf result Fault.Damaged
         → CanBeWritten (party_after id []) notes.now → ⊥ }
 {

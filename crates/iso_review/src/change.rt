@@ -217,8 +217,13 @@ fn put_row(rows: &mut Vec<Row>, row: Row) -> Result<(), AllocError>
 /// version and the codings. The row stands where the old one stood, a new one behind all. Whether a table may have it,
 /// [`Table::check`](iso_table::Table::check) judges. A refusal changes nothing.
 pub fn apply(draft: &mut Draft, change: &RowChange) -> Result<(), RowFault>
+    // At `Ok` the draft has the row that the change makes, in the place of the first row of its
+    // number or behind all, and is else as it was.
     ensures ok { OnOk result (applied (contents draft.old) change.now ≡ Ok (contents draft.new)) }
+    // Memory aside, the fault tells why the change makes no row: the first member that is missing,
+    // or digits for a fixed length.
     ensures fault { IfErr result (λ e. e ≢ Memory → applied (contents draft.old) change.now ≡ Err e) }
+    // After any fault the draft is as it was.
     ensures unchanged { OnErr result (contents draft.new ≡ contents draft.old) }
 {
     let old = row_of(&draft.rows, change.number);
@@ -236,7 +241,9 @@ pub fn apply(draft: &mut Draft, change: &RowChange) -> Result<(), RowFault>
 /// Takes the row of an element out of a draft, and says whether it had one. Every other row stays, in its order, and so do the
 /// version and the codings.
 pub fn drop_row(draft: &mut Draft, number: u16) -> bool
+    // The draft has exactly its rows of other numbers, in their order, and is else as it was.
     ensures rows { contents draft.new ≡ without_row (contents draft.old) number }
+    // It answers true exactly where the draft had a row of this number.
     ensures found { result ≡ is_some (row_of draft.old.rows.items number) }
 {
     let is_there = row_of(&draft.rows, number).is_some();

@@ -200,9 +200,13 @@ pub fn append_differences(
     names: &Names,
     out: &mut Vec<u8>,
 ) -> Result<bool, NoMemory>
+    // Memory aside, it answers false exactly where the tables are equal.
     ensures differ { IfOk result (λ differ. (differ ≡ false) ↔ (a.now ≡ b.now)) }
+    // Where it answers false, nothing is appended.
     ensures silent { IfOk result (λ differ. differ ≡ false → out.new.items ≡ out.old.items) }
+    // However it ends, what was there stays in front.
     ensures kept { Keeps out.old.items out.new.items }
+    // Where memory runs out, the buffer holds the bytes that it held before.
     ensures unchanged { OnErr result (out.new.items ≡ out.old.items) }
 {
     if *a == *b {

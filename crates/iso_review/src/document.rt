@@ -220,7 +220,10 @@ fn refused(alloc: Global, text: &[u8], fault: TableFault) -> Result<Vec<Complain
 /// row. There is no complaint exactly where [`Table::from_json`] gives a table. A text that is no JSON has one complaint. Of
 /// a member that is given twice the last one is judged.
 pub fn complaints(alloc: Global, text: &[u8]) -> Result<Vec<Complaint>, NoMemory>
+    // Memory aside, there is no complaint exactly where the text stands for a table.
     ensures none { IfOk result (λ told. (told.items ≡ []) ↔ IsTable text.now) }
+    // Memory aside, a complaint about the i-th row is about a row that the document has, and tells
+    // the number that this row tells.
     ensures places { IfOk result (λ told. All (IsPlaced text.now) told.items) }
 {
     match Table::from_json(alloc, text) {

@@ -23,6 +23,7 @@ pub enum LengthKind {
 impl LengthKind {
     /// The kind of a length.
     pub fn of(length: Length) -> LengthKind
+        // It is `Fixed` of a fixed length, and `LL`, `LLL` or `LLLL` of two, three or four digits.
         ensures { result ≡ kind_of length }
     {
         match length {
@@ -47,6 +48,7 @@ impl LengthKind {
 
     /// The greatest maximum of a row with such a length.
     pub fn limit(self) -> u16
+        // It is 99 for two digits, 999 for three and for a fixed length, and 9,999 for four.
         ensures { result ≡ limit (with_digits self Digits.Ascii) }
     {
         match self {

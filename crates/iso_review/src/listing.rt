@@ -98,7 +98,9 @@ fn push_rows(
 /// Appends a table for human eyes: what it says beside its rows, how long a message can be, and then a line for each row, in
 /// columns and by ascending element. Without memory nothing is changed.
 pub fn append_table(table: &Table, names: &Names, out: &mut Vec<u8>) -> Result<(), NoMemory>
+    // However it ends, what was there stays in front.
     ensures kept { Keeps out.old.items out.new.items }
+    // Where memory runs out, the buffer holds the bytes that it held before.
     ensures unchanged { OnErr result (out.new.items ≡ out.old.items) }
 {
     let mut lines = String::new(*out.allocator());

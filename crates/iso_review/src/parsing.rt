@@ -138,7 +138,9 @@ fn change_of(words: &[&str]) -> Result<RowChange, RowFault>
 /// and each member at most once. Blanks stand between them, none before the number. Else the first thing that is wrong with
 /// the text.
 pub fn parse_row(alloc: Global, text: &str) -> Result<RowChange, RowFault>
+    // At `Ok` it is the change that the words of the text write.
     ensures ok { IfOk result (λ change. row_change text.now ≡ Ok change) }
+    // Memory aside, the fault is the first one among the words of the text.
     ensures fault { IfErr result (λ e. e ≢ Memory → row_change text.now ≡ Err e) }
 {
     let words: Vec<&str> = text.split(' ').collect(alloc)?;

@@ -37,7 +37,9 @@ impl Code {
 
     /// Its number.
     pub fn number(self) -> u8
+        // It is the number that the code's two digits write.
         ensures value { result ≡ self }
+        // It is at most 99.
         ensures two_digits { self ≤ 99 }
     {
         self.number

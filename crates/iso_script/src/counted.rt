@@ -28,6 +28,8 @@ impl Counted {
 
     /// Whether it decides at a message, if no rule before it does. Takes no memory.
     pub fn is_due(&self, message: &Message) -> bool
+        // It is true exactly where the message fits the rule, and no message that fits is
+        // to be passed over before.
         ensures { result ≡ is_due message.now self.now }
     {
         self.rule.pattern.fits(message) && self.left == 0
@@ -36,6 +38,8 @@ impl Counted {
     /// Counts a message that came.
     #[tactic(auto, unfolding(crate::specs::Turns::counted))]
     pub fn count(&mut self, message: &Message)
+        // A message that fits was the rule's turn, or brings it one nearer. One that
+        // doesn't fit changes nothing.
         ensures { self.new ≡ counted message.now self.old }
     {
         if !self.rule.pattern.fits(message) {

@@ -89,6 +89,8 @@ impl Pattern {
 
     /// Whether a message fits: it has all that is given. Takes no memory.
     pub fn fits(&self, message: &Message) -> bool
+        // The account number (element 2), the amount (element 4) and the type without its repeat
+        // digit are as given, each where it is given.
         ensures { result ≡ fits self.now message.now }
     {
         self.fits_account(message) && self.fits_amount(message) && self.fits_type(message)

@@ -142,7 +142,9 @@ impl Scripted {
         // Without memory the books are as they were, or the order is entered, and has an answer.
         ensures memory { OnErr result (EntersOrKeeps link.now.table link.now.header self.old.books self.new.books
             (message_in link.now.table body.now)) }
+        // Without memory no rule counts the message.
         ensures rules { OnErr result (self.new.rules ≡ self.old.rules) }
+        // Without memory `out` is as it was.
         ensures unchanged { OnErr result (out.new.items ≡ out.old.items) }
     {
         match answer_body(

@@ -29,6 +29,8 @@ fn going_by(deed: &Deed, now: u64) -> Going
 
 /// When what was written for a message goes out, that came at a moment in milliseconds.
 pub fn going_of(behaviour: &Behaviour, now: u64) -> Going
+    // It goes out at once, or after the rule's delay. A rule that cuts closes
+    // the connection in its place.
     ensures { result ≡ going behaviour.now now }
 {
     match behaviour {

@@ -15,6 +15,7 @@ pub struct Bounds {
 impl Bounds {
     /// Whether one more peer is let in beside so many.
     pub fn lets_in(&self, count: usize) -> bool
+        // It is true exactly beside fewer peers than are allowed.
         ensures { (result ≡ true) ↔ (count < self.now.peers) }
     {
         count < self.peers
@@ -22,6 +23,8 @@ impl Bounds {
 
     /// Whether nothing is taken of a peer: so many bytes wait for it, and so many are held back.
     pub fn is_full(&self, waiting: usize, held: usize) -> bool
+        // It is true exactly where the bytes that wait and those held back
+        // together reach the bound.
         ensures { result ≡ is_full self.now waiting held }
     {
         waiting >= self.waiting || held >= self.waiting - waiting
@@ -44,6 +47,8 @@ pub enum Standing {
 /// Whether a peer is closed now that stands so, for which so many bytes wait and so many are held back, and which takes bytes
 /// or not.
 pub fn is_done(standing: Standing, waiting: usize, held: usize, takes: bool) -> bool
+    // An open peer isn't closed; one that ended is once no byte waits or is held back; one that is
+    // cut is once none waits or it takes none now; a closed one is.
     ensures { result ≡ is_done standing waiting held takes }
 {
     match standing {

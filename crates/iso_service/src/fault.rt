@@ -33,6 +33,8 @@ pub enum StartFault {
 impl StartFault {
     /// Whether what was given is refused, and it isn't a device, the right to it, or memory.
     pub fn is_refusal(&self) -> bool
+        // True exactly where something has the new file's name, or the file isn't a whole and sound
+        // journal of these accounts.
         ensures { result ≡ is_refusal self.now }
     {
         match self {

@@ -52,6 +52,8 @@ fn heading_told(fault: HeadingFault) -> FrontFault
 /// What the first bytes of a file tell otherwise than a journal under this heading: as many as a heading has, or all, where
 /// it has fewer. Takes no memory.
 pub fn front_fault(front: &[u8], heading: &Heading) -> Option<FrontFault>
+    // Nothing is told of the heading's own bytes; else that there are no bytes, fewer than 128, or
+    // zeros alone, or the first thing that another heading tells otherwise.
     ensures { result ≡ front_fault front.now (heading_bytes heading.now) }
 {
     if front.is_empty() {

@@ -66,7 +66,9 @@ pub fn start<J: Journals, W: Watch>(
     accounts: Accounts,
     watch: &mut W,
 ) -> Result<DurableIssuer<JournalLog<J::Disk>>, StartFault>
+    // At `Ok` the issuer has the accounts that were given.
     ensures accounts { IfOk result (λ host. host.issuer.accounts ≡ accounts) }
+    // At `Ok` the limit of the journal is 999,999 orders.
     ensures limit { IfOk result (λ host. host.issuer.limit ≡ 999999) }
     // The host has the orders of the file that was opened, each record is what a host writes, and nothing waits.
     ensures started { IfOk result (λ host. (disk : J.Disk) × IsStarted J.Disk.seen J.Disk.may_leave J.Disk.is_usable J.Disk.is_clean disk host) }

@@ -29,10 +29,14 @@ fn add_rows(out: &mut Vec<u8>, rows: &[Row]) -> Result<(), AllocError>
 
 /// Writes a batch as bytes, in place of those that are there.
 pub fn write_batch(out: &mut Vec<u8>, heading: &Heading, rows: &[Row]) -> Result<(), Why>
+    // Where it succeeds, the bytes are the record of the heading, and then a record of 128 bytes
+    // for each order with its answer.
     ensures bytes { OnOk result (out.new.items
         ≡ batch_bytes (record { heading = heading.now; rows = rows.now })) }
     // It can be written, so it comes back.
     ensures filed { OnOk result (is_filed (record { heading = heading.now; rows = rows.now }) ≡ true) }
+    // It fails only where the batch has too many orders or names a place behind the last one, or
+    // for want of memory.
     ensures fault { IfErr result (λ why. IsUnwritten (record { heading = heading.now; rows = rows.now }) why) }
 {
     if heading.place > MOST_PLACES || rows.len() > MOST_ROWS {

@@ -62,8 +62,12 @@ fn writer_digits(writer: &Writer) -> [u8; 32]
 
 /// The first record of a batch. Takes no memory.
 pub fn heading_bytes(heading: &Heading) -> [u8; RECORD]
+    // The record has the words that a batch begins with, their version, the place in ten digits,
+    // the writer in 32 hex digits, blanks, and a newline.
     ensures bytes { result ≡ heading_bytes heading.now }
+    // The writer that is named has 16 bytes.
     ensures writer { is_writer heading.now.writer ≡ true }
+    // The record is whole: 128 bytes, none of which is zero.
     ensures whole { is_whole result ≡ true }
 {
     headings_are_whole();

@@ -42,10 +42,15 @@ pub struct SharedLog<S: Store + Drop, P: Patience + Drop> {
 impl<S: Store + Drop, P: Patience + Drop> SharedLog<S, P> {
     /// A log behind the first `seen` batches of a store. Takes no memory.
     pub fn new(alloc: Global, store: S, patience: P, writer: Writer, seen: u64) -> SharedLog<S, P>
+        // The log writes to the store that is given.
         ensures store { result.store ≡ store }
+        // The log writes as the writer that is given.
         ensures writer { result.writer ≡ writer }
+        // The log counts the first `seen` batches of the store as known.
         ensures seen { result.seen ≡ seen }
+        // The log counts the first `seen` batches of the store as synced.
         ensures synced { result.synced ≡ seen }
+        // No order waits in the batch that is being made.
         ensures rows { result.rows.items ≡ [] }
     {
         SharedLog {

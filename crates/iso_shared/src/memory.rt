@@ -104,7 +104,9 @@ fn found_at(alloc: Global, batches: &[Vec<u8>], place: u64) -> Looked
 impl MemoryStore {
     /// An empty one.
     pub fn new(alloc: Global) -> MemoryStore
+        // The store keeps no batch.
         ensures kept { texts result.batches.items ≡ [] }
+        // No batch was sent through the store.
         ensures sent { texts result.sent.items ≡ [] }
     {
         MemoryStore {

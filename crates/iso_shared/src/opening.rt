@@ -42,18 +42,26 @@ pub fn open<S: Store + Drop, P: Patience + Drop>(
     accounts: Accounts,
     limit: u32,
 ) -> Result<DurableIssuer<SharedLog<S, P>>, (OpenError, S)>
+    // The limit is at least one order.
     requires least { 1 ≤ limit }
+    // The limit is at most 999,999 orders.
     requires most { limit ≤ 999999 }
     // It has the orders of the batches that were read, and nothing waits.
     ensures consistent { IfOk result (λ host. IsConsistent (λ l. IsReady S.kept l)
         (λ l. synced_orders S.kept l) (λ l. pending_orders S.kept l) host) }
+    // Where it succeeds, the host has the accounts that are given.
     ensures accounts { IfOk result (λ host. host.issuer.accounts ≡ accounts) }
+    // Where it succeeds, the host has the limit that is given.
     ensures limit { IfOk result (λ host. host.issuer.limit ≡ limit) }
     // No two of them have one key, and there are no more than the limit.
     ensures start { IfOk result (λ host. IsStart limit host.issuer.orders) }
+    // Where it succeeds, the host's log writes as the writer that is given.
     ensures writer { IfOk result (λ host. host.log.writer ≡ writer) }
+    // Where it succeeds, no order waits in the batch that is being made.
     ensures none { IfOk result (λ host. host.log.rows.items ≡ []) }
+    // Where it succeeds, every batch that the host knows counts as synced.
     ensures synced { IfOk result (λ host. host.log.synced ≡ host.log.seen) }
+    // Where it succeeds, the host hasn't failed.
     ensures good { IfOk result (λ host. host.has_failed ≡ false) }
     // What the store kept before is kept.
     ensures grows { IfOk result (λ host. Grows (S.kept store) (S.kept host.log.store)) }

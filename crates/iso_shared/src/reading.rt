@@ -99,7 +99,9 @@ fn batch_in(alloc: Global, text: &[u8]) -> Result<Batch, ReadFault>
 
 /// The batch that bytes are.
 pub fn read_batch(alloc: Global, text: &[u8]) -> Result<Batch, ReadFault>
+    // A batch that is read is the one that the bytes are, record by record.
     ensures value { IfOk result (λ b. batch_in text.now ≡ Some (filed_of b)) }
+    // Bytes are refused as no batch only where they are none.
     ensures none { IsErrOf result ReadFault.Format → batch_in text.now ≡ None }
     // What was written comes back,
     ensures back { (b : Filed) → is_filed b ≡ true → batch_bytes b ≡ text.now

@@ -12,8 +12,13 @@ pub fn settle<S: Store, P: Patience>(
     place: u64,
     bytes: &[u8],
 ) -> Result<(), Why>
+    // What the store kept is kept, each batch at its place; others may have put more behind it.
     ensures grows { Grows (S.kept store.old) (S.kept store.new) }
+    // Nothing but this batch was sent, however often, and nothing at all where the call fails as
+    // `Away`.
     ensures sent { AreSent (S.sent store.old) (S.sent store.new) bytes.now result }
+    // Where it succeeds, this batch stands at the place; where it fails as `Fenced`, other bytes
+    // do. It fails else as `InDoubt` or `Away` alone, and these say nothing of the place.
     ensures settled { IsSettled (S.kept store.new) place bytes.now result }
 {
     patience.begin();

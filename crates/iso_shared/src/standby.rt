@@ -111,12 +111,20 @@ pub struct Standby<S: Store + Drop> {
 impl<S: Store + Drop> Standby<S> {
     /// One that has read nothing.
     pub fn new(accounts: Accounts, limit: u32, store: S) -> Standby<S>
+        // The limit is at least one order.
         requires least { 1 ≤ limit }
+        // The limit is at most 999,999 orders.
         requires most { limit ≤ 999999 }
+        // The standby follows its store: its journal has the orders of the batches that it has
+        // read, each key once, and within the limit.
         ensures following { IsFollowing S.kept result }
+        // The standby has the accounts that are given.
         ensures accounts { result.issuer.accounts ≡ accounts }
+        // The standby has the limit that is given.
         ensures limit { result.issuer.limit ≡ limit }
+        // The standby reads the store that is given.
         ensures store { result.store ≡ store }
+        // The standby hasn't failed.
         ensures failed { result.has_failed ≡ false }
     {
         Standby {
@@ -153,13 +161,24 @@ impl<S: Store + Drop> Standby<S> {
 
     /// Reads the next batch, if it is there, and tells whether it was.
     pub fn read_on(&mut self, alloc: Global) -> Result<bool, OpenError>
+        // Where a batch was found, it stands at the next place, is one that a host writes there,
+        // and counts as read; where none was, the books and the count are as they were.
         ensures reads { IfOk result (λ b. ReadsOn S.kept self.old self.new b) }
+        // Where it succeeds, a standby that followed its store still does: its journal has the
+        // orders of the batches that it has read, each key once, and within the limit.
         ensures following { OnOk result (IsFollowing S.kept self.old → IsFollowing S.kept self.new) }
+        // Where it succeeds, the accounts are as they were.
         ensures accounts { OnOk result (self.new.issuer.accounts ≡ self.old.issuer.accounts) }
+        // Where it succeeds, the limit is as it was.
         ensures limit { OnOk result (self.new.issuer.limit ≡ self.old.issuer.limit) }
+        // What the store kept is kept, each batch at its place.
         ensures grows { Grows (S.kept self.old.store) (S.kept self.new.store) }
+        // Nothing is sent.
         ensures sent { S.sent self.new.store ≡ S.sent self.old.store }
+        // Where it succeeds, whether the standby has failed is as it was.
         ensures good { OnOk result (self.new.has_failed ≡ self.old.has_failed) }
+        // `Damaged` names the next place, where bytes stand that no host writes there; `Failed`
+        // comes only after an earlier failure; at `Away` nothing was taken.
         ensures fault { IfErr result (λ e. IsRefusal S.kept self.old self.new e) }
     {
         if self.has_failed {
@@ -205,10 +224,16 @@ impl<S: Store + Drop> Standby<S> {
         alloc: Global,
         patience: &mut P,
     ) -> Result<(), OpenError>
+        // Where it succeeds, a standby that followed its store still does: its journal has the
+        // orders of the batches that it has read, each key once, and within the limit.
         ensures following { OnOk result (IsFollowing S.kept self.old → IsFollowing S.kept self.new) }
+        // Where it succeeds, the accounts are as they were.
         ensures accounts { OnOk result (self.new.issuer.accounts ≡ self.old.issuer.accounts) }
+        // Where it succeeds, the limit is as it was.
         ensures limit { OnOk result (self.new.issuer.limit ≡ self.old.issuer.limit) }
+        // Where it succeeds, what the store kept is kept, each batch at its place.
         ensures grows { OnOk result (Grows (S.kept self.old.store) (S.kept self.new.store)) }
+        // Where it succeeds, whether the standby has failed is as it was.
         ensures good { OnOk result (self.new.has_failed ≡ self.old.has_failed) }
     {
         patience.begin();
@@ -227,15 +252,24 @@ impl<S: Store + Drop> Standby<S> {
         patience: P,
         writer: Writer,
     ) -> DurableIssuer<SharedLog<S, P>>
+        // Where the standby follows its store, the host is in step with its log: the log knows only
+        // batches that are kept, and the host has their orders.
         ensures consistent { IsFollowing S.kept self
             → IsConsistent (λ l. IsReady S.kept l) (λ l. synced_orders S.kept l)
             (λ l. pending_orders S.kept l) result }
+        // The host has the accounts, the limit and the orders of the standby.
         ensures issuer { result.issuer ≡ self.issuer }
+        // The host has failed exactly where the standby had.
         ensures failed { result.has_failed ≡ self.has_failed }
+        // The host's log writes to the standby's store.
         ensures store { result.log.store ≡ self.store }
+        // The host's log knows as many batches as the standby has read.
         ensures seen { result.log.seen ≡ self.seen }
+        // The host's log writes as the writer that is given.
         ensures writer { result.log.writer ≡ writer }
+        // No order waits in the batch that is being made.
         ensures rows { result.log.rows.items ≡ [] }
+        // The host's log counts the batches that the standby has read as synced.
         ensures synced { result.log.synced ≡ self.seen }
     {
         DurableIssuer {

@@ -124,11 +124,16 @@ impl Asked {
     /// What a request asks for that comes to this port, whose digits are given. What is wrong with the host is told first, then
     /// with the page that makes it, the path, the method, and the type of what it brings.
     pub fn of_heads(port: &[u8], heads: Heads<'_>) -> Asked
+        // A request that names another host than 127.0.0.1, localhost or [::1] with this port is
+        // refused as such, whatever else it says.
         ensures host { ¬ (IsOwnHost port.now heads.entry.host.now)
             → result ≡ Asked.Refused Refusal.ForeignHost }
+        // A request that names this host and port, but that another page makes, is refused as such.
         ensures origin { IsOwnHost port.now heads.entry.host.now
             → ¬ (IsNoOther port.now (origin_of heads.entry))
             → result ≡ Asked.Refused Refusal.ForeignOrigin }
+        // A request that is let in asks for the page by `/` and GET or HEAD, or for a call by its
+        // path, POST and JSON; else what is wrong is told: the path, the method or the type.
         ensures asked { IsLetIn port.now heads.entry
             → IsAskedAt heads.entry.path.now heads.entry.method.now heads.entry.content_type.now result }
     {

@@ -22,7 +22,9 @@ pub enum Call {
 impl Call {
     /// The call that is made at a path.
     pub fn at(path: &[u8]) -> Option<Call>
+        // A call that is found is the one that is made at this path.
         ensures found { IfSome result (λ call. path.now ≡ path_of call) }
+        // `None` comes only where no call is made at the path.
         ensures none { result ≡ None → ¬ (IsCallPath path.now) }
     {
         if path == b"/api/table".as_slice() {

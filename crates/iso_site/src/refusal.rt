@@ -20,6 +20,8 @@ pub enum Refusal {
 impl Refusal {
     /// The status of its answer.
     pub fn status(self) -> u16
+        // It is 421 for a foreign host, 403 for a foreign page, 404 for an unknown path, 405 for
+        // another method, and 415 for what isn't said to be JSON.
         ensures { result ≡ status_of self }
     {
         match self {

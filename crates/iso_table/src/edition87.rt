@@ -181,7 +181,9 @@ fn row87(digits: Digits, number: usize) -> Option<FieldSpec>
 
 /// The rows at their numbers in the table of these digits.
 pub fn places87(digits: Digits) -> [Option<FieldSpec>; PLACES]
+    // There is a place for each number from 0 to 128.
     ensures size { length result ≡ 129 }
+    // Each element has exactly its row of the built-in list of the 1987 edition, in these digits.
     ensures rows { (n : ℕ) → row_at result n ≡ row87 digits n }
 {
     let mut places = [None; PLACES];
@@ -193,6 +195,7 @@ pub fn places87(digits: Digits) -> [Option<FieldSpec>; PLACES]
 
 /// How the bitmaps are written in the table of these digits.
 pub fn bitmap87(digits: Digits) -> BitmapCoding
+    // With ASCII digits bitmaps are written in hexadecimal digits, with BCD as raw bytes.
     ensures { result ≡ bitmap87 digits }
 {
     match digits {

@@ -18,6 +18,7 @@ pub fn has_members(value: &Value, size: usize) -> bool
 
 /// The text at a member.
 pub fn text_at<'a>(value: &'a Value, key: &str) -> Option<&'a str>
+    // `None` comes where there is no such member, or it is no text.
     ensures { option_map (λ text. text.now) result ≡ text_at key.now (view value.now) }
 {
     value.get(key)?.as_str()

@@ -15,6 +15,7 @@ use iso_parts::{Bitmap, FieldSpec, PLACES, is_element};
 
 /// Whether there are tables of the version.
 pub fn is_version(version: u8) -> bool
+    // There are tables of the versions 0, 1, 2 and 9, and of no other.
     ensures { result ≡ is_version version }
 {
     matches!(version, 0 | 1 | 2 | 9)
@@ -60,9 +61,14 @@ fn place(places: &mut [Option<FieldSpec>], row: &Row) -> Result<(), TableFault>
 
 /// The rows at their numbers, or the first fault among them.
 pub fn places_of(rows: &[Row]) -> Result<[Option<FieldSpec>; PLACES], TableFault>
+    // At `Ok` there is a place for each number from 0 to 128.
     ensures size { IfOk result (λ places. length places ≡ 129) }
+    // At `Ok` each place has the row with its number, and none where no row has that number.
     ensures rows { IfOk result (λ places. (n : ℕ) → row_at places n ≡ row_of rows.now n) }
+    // `Ok` comes only where nothing is wrong with any row.
     ensures good { OnOk result (rows_fault [] rows.now ≡ None) }
+    // A fault tells the first thing that is wrong, row by row: a number that no element may have,
+    // one that stood earlier, or a row that isn't good.
     ensures fault { IfErr result (λ e. rows_fault [] rows.now ≡ Some e) }
 {
     let mut places = [None; PLACES];

@@ -302,8 +302,12 @@ fn contents_in(alloc: Global, profile: Profile, value: &Value) -> Result<Draft, 
 
 /// The draft that a JSON value is.
 pub fn draft_in(alloc: Global, value: &Value) -> Result<Draft, TableFault>
+    // At `Ok` the draft is exactly the one that the JSON value stands for.
     ensures ok { IfOk result (λ d. draft_in (view value.now) ≡ Ok (contents d)) }
+    // Memory aside, the fault is the first thing wrong with the value: another profile than 1 and
+    // 2, or a member that is missing, unknown or of another kind.
     ensures fault { IfErr result (λ e. e ≢ Memory → draft_in (view value.now) ≡ Err e) }
+    // `NotJson` never comes: a value is JSON.
     ensures json { IsErrOf result TableFault.NotJson → ⊥ }
 {
     let Some(number) = u16_at(value, "profile") else {
@@ -317,8 +321,11 @@ pub fn draft_in(alloc: Global, value: &Value) -> Result<Draft, TableFault>
 
 /// The JSON value of a text.
 pub fn value_of(alloc: Global, text: &[u8]) -> Result<Value, TableFault>
+    // At `Ok` the text is JSON in UTF-8, and stands for that value.
     ensures ok { IfOk result (λ value. StandsFor text.now (view value)) }
+    // Memory aside, `NotJson` is the only fault.
     ensures fault { IfErr result (λ e. e ≢ Memory → e ≡ NotJson) }
+    // `NotJson` comes only for a text that is no JSON.
     ensures not_json { IsErrOf result TableFault.NotJson → IsNotJson text.now }
 {
     match Value::from_slice(alloc, text) {

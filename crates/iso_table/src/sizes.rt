@@ -27,8 +27,11 @@ fn place_bytes(place: Option<FieldSpec>) -> u64
 
 /// The bytes of the longest fields at all places.
 pub fn places_bytes(places: &[Option<FieldSpec>]) -> u64
+    // There are at most 129 places, for the numbers 0 to 128.
     requires { length places.now ≤ 129 }
+    // It is the sum of the longest fields of all rows, each of its length and its most characters.
     ensures exact { result ≡ sum_by place_bytes places.now }
+    // The sum is at most 129 times 131,074 bytes.
     ensures bound { result ≤ 129 * 131074 }
 {
     let mut bytes = 0;

@@ -89,9 +89,14 @@ impl Table {
     /// number, of a number that stood earlier, of the maximum, the coding and the padding. A draft
     /// that is refused is dropped.
     pub fn check(alloc: Global, draft: Draft) -> Result<Table, TableFault>
+        // At `Ok` the draft is an accepted one, and the table has its version, codings and rows.
         ensures ok { IfOk result (λ t. Accepted (contents draft) × Holds t (contents draft)) }
+        // At `Ok` the table is an accepted one: a version that tables may have, and good rows, each
+        // at the number of an element.
         ensures accepted { IfOk result IsAccepted }
+        // Memory aside, only a draft that isn't an accepted one is refused.
         ensures refused { IfErr result (λ e. e ≢ Memory → ¬ Accepted (contents draft)) }
+        // Memory aside, the fault tells the first thing wrong: the version, and then row by row.
         ensures fault { IfErr result (λ e. e ≢ Memory → draft_fault (contents draft) ≡ Some e) }
     {
         if !is_version(draft.version) {
@@ -126,10 +131,14 @@ impl Table {
     /// gives that very table, unless memory ran out. A refusal leaves nothing behind: the text is
     /// only read.
     pub fn from_json(alloc: Global, text: &[u8]) -> Result<Table, TableFault>
+        // At `Ok` the table is the one that the text stands for.
         ensures ok { IfOk result (IsTableOf text.now) }
+        // A text that stands for an accepted table gives that very table, unless memory runs out.
         ensures only { (t : Layout) → IsAccepted t → IsTableOf text.now t
             → MatchResult result (λ u. u ≡ t) (λ e. e ≡ Memory) }
+        // `NotJson` comes only for a text that is no JSON.
         ensures not_json { IsErrOf result TableFault.NotJson → IsNotJson text.now }
+        // Any fault but `NotJson` and `Memory` is the first thing that is wrong with a JSON text.
         ensures fault { IfErr result (λ e. e ≢ Memory → e ≢ NotJson → IsDocumentFault text.now e) }
     {
         Table::read(alloc, text)
@@ -139,7 +148,10 @@ impl Table {
     /// rows in the order of their numbers and pads in upper-case digits. The table stays as it is,
     /// also where memory ran out.
     pub fn to_json(&self, alloc: Global) -> Result<Vec<u8>, NoMemory>
+        // Memory aside, the text is exactly the document of profile 2: compact, its members by name
+        // and its rows by number.
         ensures text { IfOk result (λ text. text.items ≡ compact_text (document self.now)) }
+        // Memory aside, the text stands for this very table.
         ensures read_back { IfOk result (λ text. IsTableOf text.items self.now) }
     {
         let value = document(alloc, self.version, self.mti, self.bitmap, &self.rows)?;
@@ -151,6 +163,8 @@ impl Table {
     /// digits. The rows are this project's own reading of the edition. Where memory ran out, nothing
     /// is left behind.
     pub fn ascii87(alloc: Global) -> Result<Table, NoMemory>
+        // Memory aside, the version is 0, digits are ASCII, bitmaps are hexadecimal digits, and
+        // each element has exactly its row of docs/ELEMENTS.md.
         ensures { IfOk result (IsEdition87 Digits.Ascii) }
     {
         Table::edition87(alloc, Digits::Ascii)
@@ -159,6 +173,8 @@ impl Table {
     /// The same table in BCD: type, lengths and numbers in BCD, bitmaps and bytes as they are. Where
     /// memory ran out, nothing is left behind.
     pub fn bcd87(alloc: Global) -> Result<Table, NoMemory>
+        // Memory aside, the version is 0, digits are BCD, bitmaps are raw bytes, and each element
+        // has exactly its row of docs/ELEMENTS.md.
         ensures { IfOk result (IsEdition87 Digits.Bcd) }
     {
         Table::edition87(alloc, Digits::Bcd)
@@ -181,8 +197,12 @@ impl Table {
 
     /// The row of an element, if it has one.
     pub fn row(&self, number: u8) -> Option<&FieldSpec>
+        // It is the element's row, and `None` exactly where the table has none.
         ensures row { option_copied result ≡ row_at self.now.rows number }
+        // Each row of the table is good: its maximum, coding and padding are allowed.
         ensures good { AreGood self.now.rows }
+        // The whole table is an accepted one: its version is one that tables may have, and each row
+        // is good and at the number of an element.
         ensures accepted { IsAccepted self.now }
     {
         row_at(&self.rows, usize::from(number))
@@ -197,7 +217,9 @@ impl Table {
 
     /// The first digit of the message types that the table is for.
     pub fn version(&self) -> u8
+        // It is the table's version.
         ensures version { result ≡ self.now.version }
+        // Each row of the table is good: its maximum, coding and padding are allowed.
         ensures good { AreGood self.now.rows }
     {
         self.version
@@ -234,9 +256,11 @@ impl Table {
     /// A draft that says what the table says, its rows in ascending order: checked again it gives an equal table. The
     /// table stays as it is, also where memory ran out.
     pub fn to_draft(&self, alloc: Global) -> Result<Draft, NoMemory>
+        // Memory aside, the draft has the table's version, codings and rows, in ascending order.
         ensures contents { IfOk result (λ draft. contents draft ≡ draft_of self.now) }
         // It is accepted, and no other table can be made of it.
         ensures accepted { IfOk result (λ draft. Accepted (contents draft) × Holds self.now (contents draft)) }
+        // Memory aside, each accepted table that says what the draft says is this very table.
         ensures again { IfOk result (λ draft. (t : Layout) → IsAccepted t → Holds t (contents draft) → t ≡ self.now) }
     {
         Ok(Draft {
@@ -260,7 +284,11 @@ impl Table {
     /// rows that every response fits. Else the first thing that is wrong: the version, then by ascending element.
     /// Takes no memory, and a refusal changes nothing: the table can be used as before.
     pub fn host_ready(&self) -> Result<(), HostTableFault>
+        // `Ok` comes exactly where the version is 0, no row that a host needs is missing, and each
+        // row that it looks at has its shape.
         ensures ready { IsOk result ↔ IsHostReady self.now }
+        // A fault tells the first thing that is wrong: the version, then by ascending element a row
+        // that is missing or of another shape.
         ensures fault { IfErr result (λ e. host_fault self.now ≡ Some e) }
     {
         if self.version != 0 {

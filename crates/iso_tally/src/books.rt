@@ -39,7 +39,10 @@ fn is_left(opening: i64, spent: u128, told: i64) -> bool
 impl AccountBooks {
     /// Whether both ends agree on the account.
     pub fn verdict(&self) -> Verdict
+        // Both ends agree exactly where the host told the opening amount less what the
+        // acquirer's own books spent of it.
         ensures agree { (result ≡ Agree) ↔ IsAgreed self.now }
+        // It is untold exactly where the host told no amount.
         ensures untold { (result ≡ Untold) ↔ (self.now.told ≡ None) }
     {
         match self.told {

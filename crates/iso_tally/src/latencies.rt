@@ -57,7 +57,9 @@ impl Latencies {
 
     /// Adds a value, in microseconds. After an `Err` the values are as before.
     pub fn add(&mut self, micros: u64) -> Result<(), AllocError>
+        // Memory aside, the value stands behind those before it.
         ensures added { OnOk result (self.new ≡ self.old ++ micros ∷ []) }
+        // Without memory no value is added.
         ensures unchanged { OnErr result (self.new ≡ self.old) }
     {
         self.values.push(micros)?;
@@ -66,8 +68,12 @@ impl Latencies {
 
     /// The percentiles of the values; `None` where there are none. The values are sorted by it. Takes no memory.
     pub fn summary(&mut self) -> Option<Summary>
+        // Each percentile is one of the values: at least its share of all is at most it, and less
+        // is below it. The least and the most are values, and none is beyond them.
         ensures summary { IfSome result (IsSummary self.old) }
+        // There is no summary only where no value was added.
         ensures none { IfNone result (length self.old ≡ 0) }
+        // The values stay the same, but for their order.
         ensures same { IsPermutation self.old self.new }
     {
         sort(&mut self.values);
@@ -77,8 +83,12 @@ impl Latencies {
     /// The buckets of a histogram of the values, which end at `BOUNDS`: each with the count of all values in it. The values are
     /// sorted by it.
     pub fn buckets(&mut self, alloc: Global) -> Result<Vec<Bucket>, AllocError>
+        // Memory aside, the buckets stand in a row from 0 on, each with the count of all values
+        // that are at least its beginning and below its bound.
         ensures buckets { IfOk result (λ b. b.items ≡ buckets_from 0 BOUNDS self.old) }
+        // Memory aside, the buckets together count every value once.
         ensures all { IfOk result (λ b. counted b.items ≡ length self.old) }
+        // The values stay the same, but for their order.
         ensures same { IsPermutation self.old self.new }
     {
         sort(&mut self.values);

@@ -208,6 +208,8 @@ impl<'a> View<'a> {
     /// Where the body of an element lies in the bytes, behind its length and with its padding, if the message has it.
     /// Takes no memory.
     pub fn place(&self, n: u8) -> Option<Range<usize>>
+        // The range lies within the message and is the body's own, though equal bytes may stand
+        // elsewhere. `None` comes exactly where the message hasn't the element.
         ensures { MatchOption result (value_in self.now.wires n ≡ None) (λ r. LiesAt self.now n r.start r.end) }
     {
         place_of(&self.outline, &self.bodies, n)
@@ -216,6 +218,7 @@ impl<'a> View<'a> {
     /// The body of an element as it lies there, behind its length and with its padding, if the message has it. Takes
     /// no memory.
     pub fn wire(&self, n: u8) -> Option<&'a [u8]>
+        // It is the body of that element, and `None` exactly where the message hasn't the element.
         ensures body { MatchOption result (value_in self.now.wires n ≡ None)
             (λ v. value_in self.now.wires n ≡ Some v.now) }
         // It is no copy, but lies in the caller's bytes, where `place` says.

@@ -7,9 +7,13 @@ ghost use Rattle.iso_wire.specs.Decimal.{decimal, are_digits, number, number_in}
 
 /// How many decimal digits the number has: one for 0. Takes no memory.
 pub fn digits_of(v: u64) -> u8
+    // Each number has at least one digit, 0 too.
     ensures some { 1 ≤ result }
+    // No number of 64 bits has more than 20 digits.
     ensures most { result ≤ 20 }
+    // The number can be written in so many digits.
     ensures fits { v < 10 ^ result }
+    // The number can't be written in one digit fewer, unless it has only one.
     ensures least { (result ≡ 1) ⊎ (10 ^ (result - 1) ≤ v) }
 {
     match v.checked_ilog10() {
@@ -90,9 +94,13 @@ pub fn are_digits(text: &[u8], least: usize, most: usize) -> bool
 /// The number that a text of at most 19 decimal digits writes, 0 where there is none; leading zeros don't count. Takes no
 /// memory.
 pub fn number(text: &[u8]) -> u64
+    // The text has no other characters than decimal digits.
     requires digits { list_all is_digit text.now ≡ true }
+    // The text has at most 19 characters.
     requires few { length text.now ≤ 19 }
+    // The result is the number that the digits write; leading zeros don't count.
     ensures value { result ≡ number text.now }
+    // The result is below ten to the power of the count of digits: below 1,000 for three digits.
     ensures below { result < 10 ^ length text.now }
 {
     let mut so_far = 0;
@@ -105,9 +113,13 @@ pub fn number(text: &[u8]) -> u64
 /// The number that a text of `least` to `most` decimal digits writes; leading zeros don't count. `None` for any other text.
 /// Takes no memory.
 pub fn number_in(text: &[u8], least: usize, most: usize) -> Option<u64>
+    // At most 19 digits may be asked for.
     requires { most ≤ 19 }
+    // It is the number that `least` to `most` digits write, and `None` exactly for other texts.
     ensures value { result ≡ number_in least most text.now }
+    // A number that is given is below ten to the power of `most`.
     ensures below { IfSome result (λ n. n < 10 ^ most) }
+    // A number that is given is below ten to the power of how many digits the text has.
     ensures within { IfSome result (λ n. n < 10 ^ length text.now) }
 {
     if are_digits(text, least, most) {

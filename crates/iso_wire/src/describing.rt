@@ -154,6 +154,8 @@ pub fn describe_clear(
     table: &Table,
     message: &Message,
 ) -> Result<Vec<u8>, AllocError>
+    // Memory aside, the lines are those of `describe`, with the whole of each value in place of
+    // what `masked` shows.
     ensures { IfOk result (λ lines. lines.items ≡ description true table.now message.now) }
 {
     lines_of(alloc, table, true, message)
@@ -186,7 +188,10 @@ fn push_used(used: usize, total: usize, out: &mut Vec<u8>) -> Result<(), AllocEr
 /// Appends the line that tells how many bytes a message took, and of how many: `USED=116/120`. Without memory nothing is
 /// changed.
 pub fn append_used(used: usize, total: usize, out: &mut Vec<u8>) -> Result<(), AllocError>
+    // Memory aside, what is appended is one line: `USED=` and both counts, in decimal without
+    // leading zeros.
     ensures ok { OnOk result ((line : List ℕ) × IsUsedLine used total line × (out.new.items ≡ out.old.items ++ line)) }
+    // Without memory the buffer holds what it held before.
     ensures unchanged { OnErr result (out.new.items ≡ out.old.items) }
 {
     let start = out.len();

@@ -92,8 +92,11 @@ fn same_bytes(bytes: &[u8], others: &[u8]) -> bool
 impl Elements {
     /// No element. Takes no memory.
     pub fn new(alloc: Global) -> Elements
+        // There is no element.
         ensures none { views result ≡ [] }
+        // Each number of the set has its value, and each byte of the buffer belongs to a value.
         ensures whole { IsWhole result }
+        // The set has exactly the numbers of the elements.
         ensures numbered { IsNumbered result }
     {
         Elements {
@@ -105,10 +108,15 @@ impl Elements {
 
     /// No element, and room for some.
     pub fn with_room(alloc: Global, elements: usize, bytes: usize) -> Result<Elements, AllocError>
+        // Memory aside, each number has its value, and each byte of the buffer belongs to a value.
         ensures whole { IfOk result IsWhole }
+        // Memory aside, the set has exactly the numbers of the elements.
         ensures numbered { IfOk result IsNumbered }
+        // Memory aside, there is no byte of a value, and no end of one.
         ensures empty { IfOk result (λ made. IsMadeOf made [] []) }
+        // Memory aside, there is room for the ends of so many values.
         ensures ends_room { IfOk result (λ made. elements ≤ vec_capacity made.ends) }
+        // Memory aside, there is room for so many bytes of values.
         ensures values_room { IfOk result (λ made. bytes ≤ vec_capacity made.values) }
     {
         let values = Vec::with_capacity(alloc, bytes)?;
@@ -124,8 +132,11 @@ impl Elements {
     /// Drops all elements. The memory that was there is kept.
     #[inline(always)]
     pub fn clear(&mut self)
+        // Then each number has its value, and each byte of the buffer belongs to a value.
         ensures whole { IsWhole self.new }
+        // Then the set has exactly the numbers of the elements.
         ensures numbered { IsNumbered self.new }
+        // No byte of a value is left, and no end of one.
         ensures empty { IsMadeOf self.new [] [] }
     {
         self.values.clear();
@@ -135,8 +146,11 @@ impl Elements {
 
     /// Drops all elements and makes room for some. The memory that was there is kept, and is enough where it has the room.
     pub fn start_over(&mut self, elements: usize, bytes: usize) -> Result<(), AllocError>
+        // Then each number has its value, and each byte belongs to a value, also without memory.
         ensures whole { IsWhole self.new }
+        // Then the set has exactly the numbers of the elements, also without memory.
         ensures numbered { IsNumbered self.new }
+        // No byte of a value is left, and no end of one, also without memory.
         ensures empty { IsMadeOf self.new [] [] }
     {
         self.clear();
@@ -163,8 +177,11 @@ impl Elements {
     /// Makes the bytes behind the last value the value of the next element. Whoever reads all elements of a message knows
     /// the set of their numbers, and puts it there first.
     pub fn close(&mut self) -> Result<(), AllocError>
+        // Memory aside, one value more ends where the bytes end; other ends and the bytes stay.
         ensures ok { OnOk result (IsMadeOf self.new (self.old.ends.items ++ length self.old.values.items ∷ []) self.old.values.items) }
+        // Without memory the numbers, the ends and the bytes are as before.
         ensures err { OnErr result (IsSame self.old self.new) }
+        // The set of numbers stays as it was, with and without memory.
         ensures numbers { self.new.numbers ≡ self.old.numbers }
     {
         self.ends.push(self.values.len())?;
@@ -218,13 +235,21 @@ impl Elements {
 
     /// Adds an element behind the others.
     pub fn append(&mut self, n: u8, value: &[u8]) -> Result<(), AllocError>
+        // The number is one that an element may have: 2 to 64 or 66 to 128.
         requires number { is_element n ≡ true }
+        // Each number of the set has its value, and each byte of the buffer belongs to a value.
         requires whole { IsWhole self.old }
+        // The set has exactly the numbers of the elements.
         requires numbered { IsNumbered self.old }
+        // Each element that is there has a lower number.
         requires behind { IsBelow n (views self.old) }
+        // Memory aside, the element stands behind the others, and these stay.
         ensures ok { OnOk result (views self.new ≡ views self.old ++ (n, value.now) ∷ []) }
+        // Then each number has its value, and each byte belongs to a value, also without memory.
         ensures whole { IsWhole self.new }
+        // Then the set has exactly the numbers of the elements, also without memory.
         ensures numbered { IsNumbered self.new }
+        // Without memory the numbers, the ends and the bytes are as before.
         ensures err { OnErr result (IsSame self.old self.new) }
     {
         let from = self.values.len();
@@ -243,13 +268,21 @@ impl Elements {
 
     /// Puts a value at its number, in place of the one that was there.
     pub fn put(&mut self, n: u8, value: &[u8]) -> Result<(), AllocError>
+        // The number is one that an element may have: 2 to 64 or 66 to 128.
         requires number { is_element n ≡ true }
+        // Each number of the set has its value, and each byte of the buffer belongs to a value.
         requires whole { IsWhole self.old }
+        // The elements stand in ascending order, with numbers that elements may have.
         requires ascending { IsAscending 2 (views self.old) }
+        // The set has exactly the numbers of the elements.
         requires numbered { IsNumbered self.old }
+        // Memory aside, the element has that value, at its place in the order; the others stay.
         ensures ok { OnOk result (views self.new ≡ put n value.now (views self.old)) }
+        // Then each number has its value, and each byte belongs to a value, also without memory.
         ensures whole { IsWhole self.new }
+        // Then the set has exactly the numbers of the elements, also without memory.
         ensures numbered { IsNumbered self.new }
+        // Without memory the numbers, the ends and the bytes are as before.
         ensures err { OnErr result (IsSame self.old self.new) }
     {
         let at = self.numbers.count_below(n);
@@ -264,12 +297,19 @@ impl Elements {
 
     /// Removes an element, and tells whether it was there. Takes no memory.
     pub fn remove(&mut self, n: u8) -> bool
+        // Each number of the set has its value, and each byte of the buffer belongs to a value.
         requires whole { IsWhole self.old }
+        // The elements stand in ascending order, with numbers that elements may have.
         requires ascending { IsAscending 2 (views self.old) }
+        // The set has exactly the numbers of the elements.
         requires numbered { IsNumbered self.old }
+        // True comes exactly where the element was there.
         ensures found { result ≡ has (views self.old) n }
+        // The element isn't there any more, and the others stay in their order.
         ensures left { views self.new ≡ without n (views self.old) }
+        // Then each number has its value, and each byte of the buffer belongs to a value.
         ensures whole { IsWhole self.new }
+        // Then the set has exactly the numbers of the elements.
         ensures numbered { IsNumbered self.new }
     {
         if !self.numbers.has(n) {

@@ -86,9 +86,13 @@ impl fmt::Debug for Framed<'_> {
 
 /// Appends a frame: the header of the body, and the body. On a fault nothing is changed.
 pub fn append_frame(header: Header, body: &[u8], out: &mut Vec<u8>) -> Result<(), FrameFault>
+    // At `Ok` the header stands behind what was there, and then the body that it counts.
     ensures ok { OnOk result (out.new.items ≡ out.old.items ++ frame_of header body.now) }
+    // After a fault the buffer holds what it held before.
     ensures err { OnErr result (out.new.items ≡ out.old.items) }
+    // `TooLong` comes exactly where the body is longer than the header can count.
     ensures too_long { IsErrOf result faults.TooLong ↔ (largest header < length body.now) }
+    // A body that the header can count is appended, unless memory runs out.
     ensures memory { length body.now ≤ largest header → IsOkUnless result faults.Memory }
 {
     if body.len() > header.limit() {
@@ -107,6 +111,7 @@ pub fn append_frame(header: Header, body: &[u8], out: &mut Vec<u8>) -> Result<()
 pub fn frame(alloc: Global, header: Header, body: &[u8]) -> Result<Vec<u8>, FrameFault>
     // What is made is the frame of the one body.
     ensures framed { IfOk result (λ out. Frames header (body.now ∷ []) out.items) }
+    // `TooLong` comes exactly where the body is longer than the header can count.
     ensures too_long { IsErrOf result faults.TooLong ↔ (largest header < length body.now) }
     // A body that fits is framed, unless memory runs out.
     ensures memory { length body.now ≤ largest header → IsOkUnless result faults.Memory }
@@ -119,7 +124,9 @@ pub fn frame(alloc: Global, header: Header, body: &[u8]) -> Result<Vec<u8>, Fram
 /// Appends room for a header, which is zeros. A body is then written behind it, and [`close_frame`] makes both a frame.
 /// Without memory nothing is changed.
 pub fn open_frame(header: Header, out: &mut Vec<u8>) -> Result<(), AllocError>
+    // Memory aside, zeros are appended, as many as the header has bytes.
     ensures ok { OnOk result (out.new.items ≡ out.old.items ++ replicate (header_size header) 0) }
+    // Without memory nothing is appended.
     ensures err { OnErr result (out.new.items ≡ out.old.items) }
 {
     out.resize(out.len() + header.size(), 0)
@@ -132,9 +139,13 @@ pub fn open_frame(header: Header, out: &mut Vec<u8>) -> Result<(), AllocError>
 pub fn close_frame(header: Header, frame: &mut [u8]) -> Result<(), FrameFault>
     // The header's room is there.
     requires { header_size header ≤ length frame.old }
+    // At `Ok` the room holds the header that counts what lies behind it, and that stays as it was.
     ensures ok { OnOk result (frame.new ≡ frame_of header (drop (header_size header) frame.old)) }
+    // After a fault every byte is as before.
     ensures err { OnErr result (frame.new ≡ frame.old) }
+    // `TooLong` comes exactly where what lies behind the room is longer than the header can count.
     ensures too_long { IsErrOf result faults.TooLong ↔ (header_size header + largest header < length frame.old) }
+    // No other fault than `TooLong` comes, so none for want of memory.
     ensures memory { IsOkUnless result faults.TooLong }
 {
     let (front, body) = frame.split_at_mut(header.size());
@@ -167,12 +178,15 @@ pub fn body_length(header: Header, input: &[u8]) -> Result<Option<usize>, FrameF
 ///
 /// The only fault is `BadDigits`.
 pub fn unframe<'a>(header: Header, input: &'a [u8]) -> Result<Framed<'a>, FrameFault>
+    // The header is read when it is whole, and is the fault where it isn't of digits. The body is
+    // got when it is whole. Until then more is wanted.
     ensures read { Unframes result (frame_at header input.now) }
     // A frame that is got begins the input; more is wanted where neither a frame nor a bad header does.
     ensures front { AnswersFront header input.now result }
     // Each whole frame that begins the input is got.
     ensures got { (body more : List ℕ) → length body ≤ largest header → input.now ≡ frame_of header body ++ more
         → IsGot result body (header_size header + length body) }
+    // `BadDigits` comes exactly where a whole header that isn't of digits begins the input.
     ensures bad { IsErrOf result faults.BadDigits ↔ (is_bad_header header input.now ≡ true) }
 {
     let size = header.size();

@@ -98,8 +98,12 @@ fn known_word(element: u8, at: usize, word: u64, unknown: Option<u8>) -> Result<
 
 /// The word of the primary bitmap.
 pub fn primary_of(table: &Table, at: usize, bytes: &[u8]) -> Result<u64, UnpackFault>
+    // The answer is the bitmap's word, or the first fault: bytes are missing, a byte is no
+    // hexadecimal digit, or the lowest element without a row.
     ensures exact { result ≡ primary_at table.now at bytes.now }
+    // A word comes only where the bytes have a whole bitmap.
     ensures room { IfOk result (λ word. map_size table.now.bitmap ≤ length bytes.now) }
+    // Want of memory is never the fault.
     ensures no_memory { IfErr result (λ e. e.cause ≢ Memory) }
 {
     let word = word_of(table.bitmap(), 0, at, bytes)?;
@@ -108,9 +112,14 @@ pub fn primary_of(table: &Table, at: usize, bytes: &[u8]) -> Result<u64, UnpackF
 
 /// The word of the secondary bitmap.
 pub fn secondary_of(table: &Table, at: usize, bytes: &[u8]) -> Result<u64, UnpackFault>
+    // The answer is the bitmap's word, or the first fault: bytes are missing, a byte is no
+    // hexadecimal digit, a third bitmap is told of, or the lowest element without a row.
     ensures exact { result ≡ secondary_at table.now at bytes.now }
+    // A word comes only where the bytes have a whole bitmap.
     ensures room { IfOk result (λ word. map_size table.now.bitmap ≤ length bytes.now) }
+    // Want of memory is never the fault.
     ensures no_memory { IfErr result (λ e. e.cause ≢ Memory) }
+    // The first bit of a word that is given isn't set: it tells of no third bitmap.
     ensures low { IfOk result (λ word. word < 2 ^ 63) }
 {
     let word = word_of(table.bitmap(), 1, at, bytes)?;
@@ -123,11 +132,18 @@ pub fn secondary_of(table: &Table, at: usize, bytes: &[u8]) -> Result<u64, Unpac
 /// The words of the bitmaps that the bytes begin with, and how many bytes they take.
 #[inline(always)]
 pub fn words_of(table: &Table, at: usize, bytes: &[u8]) -> Result<(u64, u64, usize), UnpackFault>
+    // The bitmaps begin at offset 4 at most, behind the message type.
     requires { at ≤ 4 }
+    // The answer is both bitmaps' words, 0 for a secondary one that isn't there, and how many bytes
+    // they take; or the fault of the first that is bad or not whole.
     ensures exact { result ≡ words_at table.now at bytes.now }
+    // Want of memory is never the fault.
     ensures no_memory { IfErr result (λ e. e.cause ≢ Memory) }
+    // The bitmaps that are read lie within the bytes.
     ensures used { IfOk result (λ x. x.2 ≤ length bytes.now) }
+    // The bitmaps take at most 32 bytes, as two of 16 hexadecimal digits do.
     ensures short { IfOk result (λ x. x.2 ≤ 32) }
+    // The first bit of the secondary word isn't set: it tells of no third bitmap.
     ensures low { IfOk result (λ x. x.1 < 2 ^ 63) }
 {
     let size = table.bitmap().size();

@@ -50,10 +50,16 @@ pub fn body_end(
     at: usize,
     bytes: &[u8],
 ) -> Result<usize, UnpackFault>
+    // The row is one that a table may have.
     requires good { IsGood row.now }
+    // The count of characters is at most the row's maximum.
     requires few { count ≤ row.now.max }
+    // The body begins within the bytes, or at their end.
     requires within { at ≤ length bytes.now }
+    // The answer is the offset behind the body; or a fault at its start: bytes are missing, or the
+    // first thing that is wrong with it.
     ensures exact { result ≡ body_end row.now n count at bytes.now }
+    // An end that is told lies within the bytes.
     ensures room { IfOk result (λ end. end ≤ length bytes.now) }
 {
     let (_, body) = bytes.split_at(at);
@@ -231,6 +237,8 @@ pub fn judge_from(
     bytes: &[u8],
 ) -> (ResumePoint, Result<usize, UnpackFault>)
     requires { IsPointWithin table.now point bytes.now }
+    // These bytes, read on from the point that is told, give that answer. Whatever bytes follow
+    // them, reading comes to the same from there as from the first point.
     ensures { Resumes table.now point bytes.now result.0 result.1 }
 {
     match point {

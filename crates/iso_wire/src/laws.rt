@@ -32,6 +32,7 @@ pub fn well_formed(message: &Message)
 
 /// Reading gives a message and a length exactly where the first bytes, so many of them, are a spelling of the message.
 pub fn reads_spellings()
+    // Under good rows, a message and a length are read exactly where so many first bytes spell it.
     ensures exact { ReadsSpellings }
     // A message that is read, and a fault but for missing bytes, stay whatever bytes follow.
     ensures stays { ReadingStays }
@@ -73,11 +74,18 @@ pub fn spelled_once()
 
 /// A stream of bytes is frames and a rest in one way.
 pub fn splits_once()
+    // Each stream of bytes can be split into whole frames and a rest that begins with none.
     ensures some { SplitsSomehow }
+    // No stream of bytes can be split so in two ways.
     ensures once { SplitsOnce }
+    // Whole frames that begin a stream are the first ones of its split.
     ensures first { FirstOfSplit }
+    // Whole frames before a stream come before the frames of its split, and its rest stays.
     ensures behind { SplitsBehind }
+    // Where a whole header isn't of digits, no frame begins.
     ensures bad { BadIsNoFrame }
+    // A whole header that isn't of digits stays bad, whatever bytes follow.
     ensures stays { BadStays }
+    // A header and fewer bytes than it counts are no frame yet and no fault: more is wanted.
     ensures cut { CutNeedsMore }
 {}

@@ -233,12 +233,16 @@ impl Message {
 
     /// Puts a value at its number, in place of the one that was there.
     pub fn set(&mut self, n: u8, value: &[u8]) -> Result<(), SetFault>
+        // At `Ok` the element has that value, and the type and every other element stay.
         ensures ok { OnOk result (self.new ≡ record self.old { elements = put n value.now self.old.elements }) }
         // `get` gives that value then, and of every other element what it gave before.
         ensures alone { OnOk result
             (ChangesAlone n (Some value.now) self.old.elements self.new.elements) }
+        // `BadNumber` comes, with the number, where no element may have it: 0, 1, 65 and above 128.
         ensures bad_number { is_element n ≡ false → result ≡ Err (SetFault.BadNumber n) }
+        // At a number that an element may have, no fault comes but for want of memory.
         ensures memory { is_element n ≡ true → IsOkUnless result SetFault.Memory }
+        // After a fault the message is as it was.
         ensures unchanged { OnErr result (self.new ≡ self.old) }
     {
         if !is_element(u16::from(n)) {
@@ -250,12 +254,20 @@ impl Message {
 
     /// Sets a number in decimal, with leading zeros up to that many digits.
     pub fn set_number(&mut self, n: u8, v: u64, digits: u8) -> Result<(), SetFault>
+        // At least one digit is asked for.
         requires some { 1 ≤ digits }
+        // At most 19 digits are asked for.
         requires few { digits ≤ 19 }
+        // The number has no more digits than are asked for.
         requires fits { v < 10 ^ digits }
+        // At `Ok` the element's value is the number in so many digits, with zeros in front; the
+        // type and every other element stay.
         ensures ok { OnOk result (self.new ≡ record self.old { elements = put n (decimal digits v) self.old.elements }) }
+        // `BadNumber` comes, with the number, where no element may have it: 0, 1, 65 and above 128.
         ensures bad_number { is_element n ≡ false → result ≡ Err (SetFault.BadNumber n) }
+        // At a number that an element may have, no fault comes but for want of memory.
         ensures memory { is_element n ≡ true → IsOkUnless result SetFault.Memory }
+        // After a fault the message is as it was.
         ensures unchanged { OnErr result (self.new ≡ self.old) }
     {
         let mut room = [0; 19];
@@ -266,9 +278,13 @@ impl Message {
 
     /// Adds an element behind the others.
     pub fn append(&mut self, n: u8, value: &[u8]) -> Result<(), AllocError>
+        // The number is one that an element may have: 2 to 64 or 66 to 128.
         requires number { is_element n ≡ true }
+        // Each element of the message has a lower number.
         requires behind { IsBelow n self.old.elements }
+        // Memory aside, the element stands behind the others; these and the type stay.
         ensures ok { OnOk result (self.new ≡ record self.old { elements = self.old.elements ++ (n, value.now) ∷ [] }) }
+        // Without memory the message is as it was.
         ensures unchanged { OnErr result (self.new ≡ self.old) }
     {
         self.elements.append(n, value)
@@ -276,7 +292,9 @@ impl Message {
 
     /// Removes an element, and tells whether it was there. Takes no memory.
     pub fn unset(&mut self, n: u8) -> bool
+        // True comes exactly where the message had the element.
         ensures found { result ≡ has self.old.elements n }
+        // The message hasn't the element any more; its type and every other element stay.
         ensures left { self.new ≡ record self.old { elements = without n self.old.elements } }
         // `get` gives none of it then, and of every other element what it gave before.
         ensures alone { ChangesAlone n None self.old.elements self.new.elements }

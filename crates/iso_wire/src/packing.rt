@@ -133,6 +133,7 @@ fn append_spelling(table: &Table, message: &Message, out: &mut Vec<u8>) -> Resul
 pub fn append_message(table: &Table, message: &Message, out: &mut Vec<u8>) -> Result<(), PackFault>
     // What is appended is the plain spelling of the message.
     ensures packed { OnOk result ((b : List ℕ) × PlainSpelling table.now message.now b × (out.new.items ≡ out.old.items ++ b)) }
+    // What is appended has the table's version, and each of its values fits its element's row.
     ensures accepted { OnOk result (message_refusal table.now message.now ≡ None) }
     // A message that has a spelling is appended, unless memory runs out.
     ensures only { (b : List ℕ) → Spelling table.now message.now b → IfErr result (λ e. e ≡ pack.Memory) }
@@ -162,6 +163,7 @@ pub fn append_message(table: &Table, message: &Message, out: &mut Vec<u8>) -> Re
 pub fn pack(alloc: Global, table: &Table, message: &Message) -> Result<Vec<u8>, PackFault>
     // What is written is the plain spelling of the message.
     ensures packed { IfOk result (λ out. PlainSpelling table.now message.now out.items) }
+    // What is written has the table's version, and each of its values fits its element's row.
     ensures accepted { OnOk result (message_refusal table.now message.now ≡ None) }
     // A message that has a spelling is written, unless memory runs out.
     ensures only { (b : List ℕ) → Spelling table.now message.now b → IfErr result (λ e. e ≡ pack.Memory) }

@@ -340,6 +340,7 @@ impl<'a> Model for Pieces<'a> {
 ///
 /// A walk over all of them comes to the end of the message that `unpack` gives, or to the fault that it tells.
 pub fn pieces_of<'a>(table: &'a Table, bytes: &'a [u8]) -> Pieces<'a>
+    // The walk begins at the first byte, and the message type is the piece that comes next.
     ensures { result ≡ record { table = table.now; bytes = bytes.now; at = 0; ahead = next type } }
 {
     Pieces {

@@ -101,6 +101,7 @@ impl<'t> Unpacker<'t> {
 
     /// An unpacker at the start of a message. Takes no memory.
     pub fn new(alloc: Global, table: &'t Table) -> Unpacker<'t>
+        // The unpacker goes by that table, nothing is taken, and no fault is kept.
         ensures { result ≡ record { table = table.now; taken = []; stopped = None } }
     {
         Unpacker {
@@ -185,6 +186,7 @@ impl<'t> Unpacker<'t> {
 
     /// How many bytes of the current message are taken. Takes no memory.
     pub fn held(&self) -> usize
+        // Each byte that `feed` took of the unfinished message is counted, and no other.
         ensures held { result ≡ length self.now.taken }
         // They are never more than the longest message has.
         ensures most { result ≤ max_bytes self.now.table }

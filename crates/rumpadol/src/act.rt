@@ -144,6 +144,7 @@ pub fn act<S: Source + Journals + Diaries + System, I: Read, O: Write, F: Write>
     output: &mut O,
     faults: &mut F,
 ) -> u8
+    // The status is at most 3.
     ensures { result ≤ 3 }
 {
     match perform_words(alloc, words, source, terminals, input, output, faults) {

@@ -15,6 +15,7 @@ const PART: usize = RECORD * MOST_ORDERS;
 
 /// How many batches a copy of these records has.
 pub fn batches_of(records: &[u8]) -> usize
+    // They are the fewest batches of 1,024 records that hold all of them.
     ensures { result ≡ batches_of records.now }
 {
     records.len().div_ceil(PART)
@@ -35,6 +36,8 @@ pub fn batch_at(
     records: &[u8],
     before: u32,
 ) -> Result<(), AllocError>
+    // Memory aside, the batch is the heading of its place and writer, and then its records: the
+    // next 1,024 of the journal, or as many as are left.
     ensures { OnOk result (batch.new.items
         ≡ heading_bytes (record { place = before + 1; writer = writer }) ++ part_at records.now before) }
 {

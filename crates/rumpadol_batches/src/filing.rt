@@ -12,6 +12,7 @@ use sqlite_disk::Disk;
 /// For how many records the file of so many orders has room: as a host's file, which has room for so many at first, and doubles
 /// where none is left behind the heading and the orders.
 pub fn slots_for(orders: usize, first: usize) -> usize
+    // There is room for the heading, for the orders, and for one record more (up to 2^56 records).
     ensures room { orders + 2 ≤ 2 ^ 56 → orders + 2 ≤ result }
 {
     let mut slots = first.max(1);
@@ -60,11 +61,17 @@ pub fn write_journal<D: Disk + Drop>(
     heading: &[u8; RECORD],
     records: &[u8],
 ) -> Result<JournalLog<D>, LogError>
+    // At `Ok`, where no wrong answer of the disk was taken as true, the file is a log
+    // that is ready for orders.
     ensures ready { IfOk result (λ l. IsTrue (D.is_clean l.log.disk)
         → IsReady D.seen D.may_leave D.is_usable l.log) }
+    // At `Ok`, where no wrong answer of the disk was taken as true, the records of the file are the
+    // heading and then those that were given, in their order.
     ensures records { IfOk result (λ l. IsTrue (D.is_clean l.log.disk)
         → records_of (D.seen l.log.disk)
         ≡ heading.now ∷ slots_of (length records.now / 128) records.now) }
+    // At `Ok`, where no wrong answer of the disk was taken as true, all
+    // records of the file are synced.
     ensures synced { IfOk result (λ l. IsTrue (D.is_clean l.log.disk)
         → l.log.synced ≡ length (records_of (D.seen l.log.disk))) }
 {

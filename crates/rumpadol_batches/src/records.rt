@@ -48,7 +48,11 @@ pub fn add_batch(
     place: u32,
     bytes: &[u8],
 ) -> Result<Option<u32>, AllocError>
+    // Memory aside, there is a count exactly where the bytes are a batch that names this place, and
+    // its answers tell the places that come next; it counts all orders then.
     ensures counted { IfOk result (λ o. o ≡ counted_in orders (named place (batch_in bytes.now))) }
+    // Memory aside, where there is a count, the records of the batch's orders stand behind the
+    // others, and nothing else was added.
     ensures added { IfOk result (λ o. IfSome o (λ n.
         records.new.items ≡ records.old.items ++ records_in (batch_in bytes.now))) }
 {

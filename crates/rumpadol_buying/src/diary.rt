@@ -47,6 +47,8 @@ pub enum DiaryFault {
 impl DiaryFault {
     /// Whether what was given is refused, and it isn't a device, the right to it, or memory.
     pub fn is_refusal(&self) -> bool
+        // It is true exactly where the path is taken, or the file is no diary of this acquirer
+        // that can be gone on with.
         ensures { result ≡ is_refusal self.now }
     {
         matches!(

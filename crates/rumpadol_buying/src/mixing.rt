@@ -51,6 +51,7 @@ fn with_share(mix: &Mix, kind: Kind, share: u8) -> Option<Mix> {
 /// The mix that a text writes: shares with commas between them, as `hold=20,complete=10,inquiry=5,undo=5`, in any order, and
 /// a hundred together at most. A kind that isn't named has none.
 pub fn mix_of(text: &str) -> Option<Mix>
+    // No mix of more than a hundred is read.
     ensures { IfSome result (λ mix. is_fair mix ≡ true) }
 {
     let mut mix = Mix::NONE;

@@ -57,6 +57,8 @@ fn joined(whole: &[u8], part: Option<u64>) -> Option<u32>
 
 /// The millionths of a decimal fraction from 0 to 1 with at most six digits behind its point, as 0, 1, 0.05 or 0.000001.
 pub fn millionths_of(text: &str) -> Option<u32>
+    // A text has some exactly where it is 1 to 9 digits, or these, a point and 1 to 6
+    // more, and makes 1 at most.
     ensures { result ≡ millionths_of text.now }
 {
     let text = text.as_bytes();
@@ -93,6 +95,8 @@ fn range_behind(least: &[u8], behind: &[u8]) -> Option<(u64, u64)>
 
 /// A range of whole numbers, as `50..200`, the least first; one number alone is the range of it.
 pub fn range_of(text: &str) -> Option<(u64, u64)>
+    // A text is one exactly where it is two numbers of 1 to 19 digits with two points between them,
+    // the least first, or one such number, which is both.
     ensures { result ≡ range_of text.now }
 {
     let text = text.as_bytes();

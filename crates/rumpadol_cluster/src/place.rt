@@ -12,6 +12,7 @@ const SCHEME: &[u8] = b"etcd://";
 
 /// Whether a word names a journal on etcd.
 pub fn is_on_etcd(word: &str) -> bool
+    // It is true exactly where the word begins with `etcd://`.
     ensures { result ≡ is_on_etcd word.now }
 {
     word.as_bytes().starts_with(SCHEME)
@@ -19,7 +20,9 @@ pub fn is_on_etcd(word: &str) -> bool
 
 /// Where the journal on etcd is that a word names. The word has no password: whoever lists the processes would read it.
 pub fn place_of(alloc: Global, word: &str) -> Result<Endpoints, Stop>
+    // At `Ok` the members and the name are those that the word writes.
     ensures found { IfOk result (IsEndpoints word.now) }
+    // At `Ok` no user is taken from the word.
     ensures nobody { IfOk result (λ place. place.user ≡ None) }
 {
     match Endpoints::from_text(alloc, word) {

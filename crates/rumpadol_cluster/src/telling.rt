@@ -39,6 +39,8 @@ fn is_whole(bytes: &[u8]) -> bool
 
 /// What the bytes say that came so far.
 pub fn heard(bytes: &[u8]) -> Told
+    // `TakeOver` is told exactly by the first line `take over`. Another whole line, or 64 bytes
+    // without an end, are `Other`; anything less needs more.
     ensures { result ≡ heard bytes.now }
 {
     if is_told(bytes) {

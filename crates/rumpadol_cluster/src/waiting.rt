@@ -7,6 +7,7 @@ const LEASES: u64 = 3;
 
 /// How long is waited for the host before, in milliseconds, where a lease has so many seconds.
 pub fn longest_wait(seconds: u32) -> u64
+    // It is three leases.
     ensures { result ≡ longest_wait seconds }
 {
     u64::from(seconds) * 1_000 * LEASES
@@ -14,6 +15,7 @@ pub fn longest_wait(seconds: u32) -> u64
 
 /// The milliseconds of a call about a lease of so many seconds: a call that waits is to leave time for another one.
 pub fn lease_timeout(timeout: u64, seconds: u32) -> u64
+    // It is the timeout of a call, but at most a third of the lease.
     ensures { result ≡ lease_timeout timeout seconds }
 {
     timeout.min(u64::from(seconds) * 1_000 / 3)

@@ -38,6 +38,7 @@ pub struct ReplicaWords<'a> {
 impl<'a> ReplicaWords<'a> {
     /// How long its lease lasts where it isn't kept, in seconds.
     pub fn lease(&self) -> u32
+        // It is what the word says, and 5 seconds without one.
         ensures { result ≡ lease_of self.now.lease }
     {
         self.lease.unwrap_or(LEASE)
@@ -45,6 +46,7 @@ impl<'a> ReplicaWords<'a> {
 
     /// How long one call of a member may take, in milliseconds.
     pub fn timeout(&self) -> u64
+        // It is what the word says, and 1,000 milliseconds without one.
         ensures { result ≡ timeout_of self.now.timeout }
     {
         u64::from(self.timeout.unwrap_or(TIMEOUT))
@@ -52,6 +54,7 @@ impl<'a> ReplicaWords<'a> {
 
     /// How long it goes on asking for a batch in doubt, in milliseconds.
     pub fn give_up(&self) -> u64
+        // It is what the word says, and 30,000 milliseconds without one.
         ensures { result ≡ give_up_of self.now.give_up }
     {
         u64::from(self.give_up.unwrap_or(GIVE_UP)) * 1_000
@@ -59,7 +62,9 @@ impl<'a> ReplicaWords<'a> {
 
     /// A word that says something of a journal on etcd alone, if there is one.
     pub fn given(&self) -> Option<&'static str>
+        // `None` is told only where no word says anything of a journal on etcd.
         ensures none { IsNone result → SaysNothing self.now }
+        // A word is told only where one says something of a journal on etcd.
         ensures some { IsSome result → SaysNothing self.now → ⊥ }
     {
         if self.is_standby {
@@ -83,9 +88,13 @@ impl<'a> ReplicaWords<'a> {
 
 /// Refuses words about a journal on etcd where the journal is a file, or there is none.
 pub fn check_words(alloc: Global, journal: &str, words: &ReplicaWords<'_>) -> Result<(), Stop>
+    // At `Ok` the journal is on etcd, or no word says anything of one there.
     ensures fits { OnOk result ((is_on_etcd journal.now ≡ true) ⊎ SaysNothing words.now) }
+    // The words are refused only where the journal isn't on etcd.
     ensures file { OnErr result (is_on_etcd journal.now ≡ false) }
+    // The words are refused only where one says something of a journal on etcd.
     ensures given { OnErr result (SaysNothing words.now → ⊥) }
+    // A refusal has status 2, or else 3.
     ensures status { IfErr result (λ stop. (status_of stop ≡ 2) ⊎ (status_of stop ≡ 3)) }
 {
     match words.given() {

@@ -64,6 +64,7 @@ pub fn perform_journal<S: Source + Journals, R: Net + Clock + RandomSource, O: W
     output: &mut O,
     faults: &mut F,
 ) -> Result<u8, Stop>
+    // Where it ends with a status, that is 0 or 1.
     ensures { IfOk result (λ status. status ≤ 1) }
 {
     match job {

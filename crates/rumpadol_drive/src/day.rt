@@ -83,6 +83,7 @@ pub fn perform_day<R: Net + Clock, S: Source, I: Read, O: Write>(
     input: &mut I,
     output: &mut O,
 ) -> Result<u8, Stop>
+    // Where it ends with a status, it is 0 or 1.
     ensures { IfOk result (λ status. status ≤ 1) }
 {
     let address = address_of(alloc, words.address)?;

@@ -301,6 +301,7 @@ pub fn perform_drive<R: Net + Clock + Files, S: Source + Diaries, I: Read, O: Wr
     output: &mut O,
     faults: &mut F,
 ) -> Result<u8, Stop>
+    // Where it ends with a status, it is 0 or 1.
     ensures { IfOk result (λ status. status ≤ 1) }
 {
     match job {

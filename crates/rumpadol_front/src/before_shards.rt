@@ -37,6 +37,7 @@ pub fn perform_before_shards<S: Source + System, I: Read, F: Write>(
     input: &mut I,
     faults: &mut F,
 ) -> Result<u8, Stop>
+    // A front that served to its end has status 0.
     ensures { IfOk result (λ status. status ≡ 0) }
 {
     let runtime = source.runtime();

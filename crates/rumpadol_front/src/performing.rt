@@ -82,6 +82,7 @@ pub fn perform_front<R: Net + Clock, C: Control, F: Write>(
     control: &mut C,
     faults: &mut F,
 ) -> Result<u8, Stop>
+    // A front that served to its end has status 0.
     ensures { IfOk result (λ status. status ≡ 0) }
 {
     let mut port = match Port::open(runtime, alloc, words.address) {

@@ -23,6 +23,7 @@ pub fn perform_host<S: Source + Journals + System, I: Read, O: Write, F: Write>(
     output: &mut O,
     faults: &mut F,
 ) -> Result<u8, Stop>
+    // A host that served to its end has status 0.
     ensures { IfOk result (λ status. status ≡ 0) }
 {
     check_words(alloc, words.kept.journal, &words.replica)?;

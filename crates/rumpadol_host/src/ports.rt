@@ -299,6 +299,7 @@ pub fn perform_ports<S: Source + Journals + System, I: Read, F: Write>(
     input: &mut I,
     faults: &mut F,
 ) -> Result<u8, Stop>
+    // A host that served to its end has status 0.
     ensures { IfOk result (λ status. status ≡ 0) }
 {
     // for a standby the stop file is there, and goes when it is to take over

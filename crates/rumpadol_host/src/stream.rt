@@ -141,6 +141,7 @@ pub fn perform_stream<S: Source + Journals + System, I: Read, O: Write, F: Write
     output: &mut O,
     faults: &mut F,
 ) -> Result<u8, Stop>
+    // A host that served to its end has status 0.
     ensures { IfOk result (λ status. status ≡ 0) }
 {
     let (kept, is_shown) = (words.kept, terminals.faults);

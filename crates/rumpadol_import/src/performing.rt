@@ -77,6 +77,7 @@ pub fn perform_import<S: Source, I: Read, O: Write, F: Write>(
     output: &mut O,
     faults: &mut F,
 ) -> Result<u8, Stop>
+    // Where it ends with a status, it is 0 or 1.
     ensures { IfOk result (λ status. status ≤ 1) }
 {
     let text = text_of(alloc, source, input, words.path)?;

@@ -178,6 +178,7 @@ pub fn perform_books<K: Keeper, S: Source, O: Write>(
     source: &S,
     output: &mut O,
 ) -> Result<u8, Stop>
+    // Where it ends with a status, it is 0 or 1.
     ensures { IfOk result (λ status. status ≤ 1) }
 {
     perform_one(alloc, job, keeper, source, output)?;

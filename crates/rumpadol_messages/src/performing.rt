@@ -309,6 +309,7 @@ pub fn perform_messages<S: Source, I: Read, O: Write, F: Write>(
     output: &mut O,
     faults: &mut F,
 ) -> Result<u8, Stop>
+    // Where it ends with a status, it is 0 or 1.
     ensures { IfOk result (λ status. status ≤ 1) }
 {
     let path = job.input();

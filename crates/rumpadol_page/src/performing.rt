@@ -61,6 +61,7 @@ pub fn perform_page<R: Net + Clock + RandomSource, F: Write>(
     words: PageWords,
     faults: &mut F,
 ) -> Result<u8, Stop>
+    // A page that was served to its end has status 0.
     ensures { IfOk result (λ status. status ≡ 0) }
 {
     match RandomState::new(runtime) {

@@ -10,7 +10,9 @@ use std::alloc::Global;
 
 /// What both ends of the stream have agreed on, under the table that a word names.
 pub fn link_under(alloc: Global, word: &str, table: Table, header: Header) -> Result<Link, Stop>
+    // At `Ok` the link has the table that was given.
     ensures table { IfOk result (λ link. link.table ≡ table) }
+    // At `Ok` the link has the header that was given.
     ensures header { IfOk result (λ link. link.header ≡ header) }
 {
     match HostTable::new(table) {

@@ -31,6 +31,7 @@ pub fn perform_by_script<S: Source + System, I: Read, F: Write>(
     input: &mut I,
     faults: &mut F,
 ) -> Result<u8, Stop>
+    // A host that served to its end has status 0.
     ensures { IfOk result (λ status. status ≡ 0) }
 {
     let runtime = source.runtime();

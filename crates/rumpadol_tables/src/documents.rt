@@ -42,7 +42,9 @@ pub fn document_at<S: Source>(
     path: &str,
     wanted: &str,
 ) -> Result<Vec<u8>, Stop>
+    // At `Ok` the text is what the file holds, where that is known.
     ensures text { IfOk result (λ text. IfSome (S.file source.now path.now) (λ held. held ≡ text.items)) }
+    // The status is 1 only where the file is longer than 1,048,576 bytes, as far as that is known.
     ensures stop { IfErr result (λ stop. status_of stop ≡ 1
         → IfSome (S.file source.now path.now) (λ held. 1048576 < length held)) }
 {
@@ -72,7 +74,10 @@ pub fn document_named<S: Source, I: Read>(
     word: &str,
     wanted: &str,
 ) -> Result<Vec<u8>, Stop>
+    // At `Ok` the text is what the file holds, or the input for the word `-`, where that is known.
     ensures text { IfOk result (λ text. Held (S.file source.now) (I.remaining input.old) word.now (λ held. held ≡ text.items)) }
+    // The status is 1 only where the document is longer than 1,048,576
+    // bytes, as far as that is known.
     ensures stop { IfErr result (λ stop. status_of stop ≡ 1
         → Held (S.file source.now) (I.remaining input.old) word.now (λ held. 1048576 < length held)) }
 {

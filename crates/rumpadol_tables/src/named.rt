@@ -72,7 +72,9 @@ pub fn table_named<S: Source, I: Read>(
     input: &mut I,
     word: &str,
 ) -> Result<Table, Stop>
+    // At `Ok` it is the built-in table of the word, or the table that the document says.
     ensures ok { IfOk result (IsNamed (S.file source.now) (I.remaining input.old) word.now) }
+    // The status is 1 only where the word names a document that is too long, or that is no table.
     ensures stop { IfErr result (λ stop. status_of stop ≡ 1
         → NamesNone (S.file source.now) (I.remaining input.old) word.now) }
 {
@@ -102,6 +104,8 @@ pub fn names_named<S: Source>(
     path: Option<&str>,
     version: u8,
 ) -> Result<Names, Stop>
+    // At `Ok` these are the names of the version, with those of the document at the path, if one
+    // is given, laid over them.
     ensures { IfOk result (AreNames (S.file source.now) (option_map (λ path. path.now) path.entry) version) }
 {
     let Some(path) = path else {

@@ -40,6 +40,7 @@ pub trait Source {
 
 /// The bytes of a reader, or its first ones where there are more than `MOST_BYTES`.
 pub fn read_front<R: Read + Drop>(alloc: Global, reader: R) -> Result<Vec<u8>, SourceFault>
+    // At `Ok` these are the reader's bytes, where they are known, up to one more than `MOST_BYTES`.
     ensures { IfOk result (λ bytes. IfSome (R.remaining reader) (λ held. bytes.items ≡ read_of held)) }
 {
     let mut bytes = Vec::new(alloc);

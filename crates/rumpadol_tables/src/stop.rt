@@ -27,7 +27,10 @@ pub enum Stop {
 impl Stop {
     /// The status: 1 where an input is refused, 2 where the command line is, 3 where a device or memory failed.
     pub fn status(&self) -> u8
+        // It is 1 where an input is refused, 2 where the command line is, and 3 where a device,
+        // the output or memory failed.
         ensures status { result ≡ status_of self.now }
+        // It is 1, 2 or 3.
         ensures range { (1 ≤ result) × (result ≤ 3) }
     {
         match self {
@@ -74,6 +77,7 @@ impl From<NoMemory> for Stop {
 
 /// An input is refused with this text, unless there is no memory for it.
 pub fn refused(text: Result<String, AllocError>) -> Stop
+    // The status is 1, or else 3.
     ensures { (status_of result ≡ 1) ⊎ (status_of result ≡ 3) }
 {
     match text {
@@ -84,6 +88,7 @@ pub fn refused(text: Result<String, AllocError>) -> Stop
 
 /// The command line is refused with this text, unless there is no memory for it.
 pub fn misused(text: Result<String, AllocError>) -> Stop
+    // The status is 2, or else 3.
     ensures { (status_of result ≡ 2) ⊎ (status_of result ≡ 3) }
 {
     match text {
@@ -94,6 +99,7 @@ pub fn misused(text: Result<String, AllocError>) -> Stop
 
 /// A device failed, with this text, unless there is no memory for it.
 pub fn failed(text: Result<String, AllocError>) -> Stop
+    // The status is 3.
     ensures { status_of result ≡ 3 }
 {
     match text {
@@ -104,7 +110,9 @@ pub fn failed(text: Result<String, AllocError>) -> Stop
 
 /// An input is refused, or else a device failed, with this text, unless there is no memory for it.
 pub fn refused_or_failed(is_refused: bool, text: Result<String, AllocError>) -> Stop
+    // The status is 1 only where an input is refused.
     ensures refused { status_of result ≡ 1 → is_refused ≡ true }
+    // Where no input is refused, the status is 3.
     ensures failed { is_refused ≡ false → status_of result ≡ 3 }
 {
     if is_refused {
@@ -115,7 +123,9 @@ pub fn refused_or_failed(is_refused: bool, text: Result<String, AllocError>) -> 
 
 /// Tells the error stream why the program stops, and gives the status: 3 where the stream itself fails.
 pub fn tell<F: Write>(faults: &mut F, stop: &Stop) -> u8
+    // The status is 1, 2 or 3.
     ensures range { (1 ≤ result) × (result ≤ 3) }
+    // The status is that of the stop, or 3.
     ensures status { (result ≡ status_of stop.now) ⊎ (result ≡ 3) }
 {
     match faults.write_all(stop.text().as_bytes()) {
@@ -126,7 +136,9 @@ pub fn tell<F: Write>(faults: &mut F, stop: &Stop) -> u8
 
 /// Writes to the output whole, and flushes it.
 pub fn write_output<O: Write>(output: &mut O, bytes: &[u8]) -> Result<(), Stop>
+    // At `Ok` the output grew by all the bytes, and by nothing else.
     ensures written { OnOk result (Appends (O.contents output.old) (O.contents output.new) bytes.now) }
+    // A failure has status 3.
     ensures status { IfErr result (λ stop. status_of stop ≡ 3) }
 {
     if output.write_all(bytes).is_err() || output.flush().is_err() {

@@ -35,8 +35,11 @@ pub fn perform_table<S: Source, I: Read, O: Write>(
     input: &mut I,
     output: &mut O,
 ) -> Result<u8, Stop>
+    // Where it ends with a status, the output grew by what the job says; the status is 0, or 1 of a
+    // `diff` of tables that differ.
     ensures done { IfOk result (Does job.now (S.file source.now) (I.remaining input.old)
         (O.contents output.old) (O.contents output.new)) }
+    // Where it ends with a status, it is 0 or 1.
     ensures range { IfOk result (λ status. status ≤ 1) }
 {
     match job {

@@ -22,6 +22,8 @@ pub fn diff<S: Source, I: Read, O: Write>(
     input: &mut I,
     output: &mut O,
 ) -> Result<bool, Stop>
+    // At `Ok` it is true exactly where the named tables differ, and where they are equal nothing
+    // was written. Of a second one on the input nothing is said.
     ensures { IfOk result (Compares (S.file source.now) (I.remaining input.old) first.now second.now
         (O.contents output.old) (O.contents output.new)) }
 {

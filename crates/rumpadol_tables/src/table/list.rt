@@ -41,6 +41,7 @@ fn line_of(alloc: Global, name: &str, table: &Table) -> Result<String, AllocErro
 
 /// Lists the built-in tables, a line each.
 pub fn list<O: Write>(alloc: Global, output: &mut O) -> Result<(), Stop>
+    // At `Ok` the output grew by the lines of `ascii87` and `bcd87`, and by nothing else.
     ensures { OnOk result (ListsOver (O.contents output.old) (O.contents output.new)) }
 {
     let ascii = Table::ascii87(alloc)?;

@@ -109,6 +109,8 @@ pub fn make<S: Source, I: Read, O: Write>(
     input: &mut I,
     output: &mut O,
 ) -> Result<(), Stop>
+    // At `Ok` the output grew by the document of an accepted table, and a newline: the named table
+    // without the dropped rows, and then with each row that is set.
     ensures { OnOk result (MakesOver (S.file source.now) (I.remaining input.old)
         words.now.from.now words.now.drops.items (map (λ text. text.now) words.now.rows.items)
         (O.contents output.old) (O.contents output.new)) }

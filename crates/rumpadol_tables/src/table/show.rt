@@ -19,6 +19,7 @@ pub fn show<S: Source, I: Read, O: Write>(
     input: &mut I,
     output: &mut O,
 ) -> Result<(), Stop>
+    // At `Ok` some bytes were appended to the output. It doesn't say which.
     ensures { OnOk result ((lines : List ℕ) × Appends (O.contents output.old) (O.contents output.new) lines) }
 {
     let table = table_named(alloc, source, input, word)?;
