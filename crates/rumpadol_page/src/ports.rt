@@ -110,7 +110,7 @@ fn let_in(
         return;
     }
     if let Some(place) = visitors.get_mut(free) {
-        *place = Some(Visitor::new(alloc, keys, stream, now));
+        place.replace(Visitor::new(alloc, keys, stream, now));
     }
 }
 
@@ -138,7 +138,9 @@ fn take_turn(poll: &Poll, token: Token, place: &mut Option<Visitor>, site: &mut 
         return;
     };
     match visitor.turn(site, now) {
-        Turn::Ended => *place = None,
+        Turn::Ended => {
+            place.take();
+        }
         Turn::Waits => {}
         // an event comes at a change alone, so this asks again for what is ready
         Turn::Busy => {
@@ -148,13 +150,19 @@ fn take_turn(poll: &Poll, token: Token, place: &mut Option<Visitor>, site: &mut 
     }
 }
 
+/// Whether nothing passed on the connection at a place for too long.
+fn is_silent(place: &Option<Visitor>, now: u64) -> bool {
+    match place {
+        Some(visitor) => visitor.is_silent(now),
+        None => false,
+    }
+}
+
 /// Closes the connections on which nothing passed for too long.
 fn close_silent(visitors: &mut [Option<Visitor>], now: u64) {
     for place in visitors.iter_mut() {
-        if let Some(visitor) = place
-            && visitor.is_silent(now)
-        {
-            *place = None;
+        if is_silent(place, now) {
+            place.take();
         }
     }
 }
