@@ -89,12 +89,13 @@ def owner_of(header):
 
 
 def path_of(names, module, owner, name):
-    """The name by which the check calls a function, where only one fits."""
-    fits = [it for it in names if it.split("::")[-1] == name and it.split("::")[:-1][: len(module)] == module]
-    fits = [it for it in fits if len(it.split("::")) == len(module) + (2 if owner else 1)]
+    """The name by which the check calls a function, where only one fits. A method goes by the module of its type."""
+    fits = [it.split("::") for it in names if it.endswith(f"::{name}") and "::fn::" not in it]
     if owner:
-        fits = [it for it in fits if it.split("::")[-2].startswith("".join(owner)) and (owner[1] or it.split("::")[-2] == owner[0])]
-    return fits[0] if len(fits) == 1 else None
+        fits = [it for it in fits if len(it) > 2 and (it[-2] == owner[0] if not owner[1] else it[-2].startswith("".join(owner)))]
+    here = [it for it in fits if it[: len(module)] == module and len(it) == len(module) + (2 if owner else 1)]
+    fits = here or (fits if owner else [])
+    return "::".join(fits[0]) if len(fits) == 1 else None
 
 
 def functions_of(crate, folder, names):
@@ -210,24 +211,21 @@ def goals_of(path, verdict):
 class Crate:
     """A proved crate, whose edits are tried."""
 
-    def __init__(self, tree, name, needs, folder, log):
-        self.tree, self.name, self.needs, self.folder, self.log = tree, name, needs, folder, log
+    def __init__(self, tree, name, folder, log):
+        self.tree, self.name, self.folder, self.log = tree, name, folder, log
         self.room = Path(tempfile.mkdtemp(prefix=f"edits-{name}-"))
         self.checks = 0
 
     def try_all(self):
         """What is told of each edit, and whether all are refused."""
         begun = time.time()
+        edits = edits_of(self.name, self.folder)
         try:
-            self.names = sorted(set(re.findall(rf"^fn ({self.name}::\S+): proved", self.log, re.M)))
-            self.functions = functions_of(self.name, self.folder, self.names)
-            edits = edits_of(self.name, self.folder)
-            for it in edits:
-                place(it, self.folder, self.functions)
-            told = self.try_together([it for it in edits if it.is_one_body])
-            for it in edits:
-                if it.name not in told and it.turned:
-                    told |= self.try_some([it])
+            try:
+                told = self.try_quickly(edits)
+            except (OSError, ValueError, LookupError, re.error) as error:
+                print(f"{self.name}: its edits are tried one by one: {error!r}", file=sys.stderr, flush=True)
+                told = {}
             told |= {it.name: self.try_whole(it) for it in edits if it.name not in told}
         finally:
             shutil.rmtree(self.room, ignore_errors=True)
@@ -235,6 +233,18 @@ class Crate:
         refused = sum(bool(it) for it in told.values())
         lines.append(f"{self.name}: {refused} of {len(edits)} refused, in {self.checks} checks and {time.time() - begun:.0f} seconds")
         return lines, refused, len(edits)
+
+    def try_quickly(self, edits):
+        """Tries edits by checks of the functions that they turn alone. Tells of those that are refused."""
+        self.names = sorted(set(re.findall(rf"^fn ({self.name}::\S+): proved", self.log, re.M)))
+        self.functions = functions_of(self.name, self.folder, self.names)
+        for it in edits:
+            place(it, self.folder, self.functions)
+        told = self.try_together([it for it in edits if it.is_one_body])
+        for it in edits:
+            if it.name not in told and it.turned:
+                told |= self.try_some([it])
+        return told
 
     def try_together(self, edits):
         """Tries edits of other bodies in one check, and what waits in the next one."""
@@ -381,7 +391,7 @@ def main(folder, log, *names):
 
     def work(name, said):
         nonlocal passed, failed
-        lines, refused, count = Crate(tree, name, tree.below[name], sources / name, said).try_all()
+        lines, refused, count = Crate(tree, name, sources / name, said).try_all()
         with printing:
             print("\n".join(lines), flush=True)
             passed, failed = passed + refused, failed + count - refused

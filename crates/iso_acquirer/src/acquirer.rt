@@ -165,6 +165,7 @@ fn next_reversal(used: usize, order: Order) -> Order
 impl Acquirer {
     /// An acquirer of that number (element 32), of at most 11 digits, with no transaction. Takes no memory.
     pub fn new(alloc: Global, id: u64) -> Acquirer
+        // The number has at most eleven digits.
         requires { id ≤ 99999999999 }
         ensures { result ≡ record { id = id; slots = [] } }
     {

@@ -64,6 +64,7 @@ pub extern "C" fn rumpadol_slot_size() -> usize
 /// Makes an empty slot of the memory at the address, which has room for `RUMPADOL_SLOT_BYTES` bytes, aligned to 8.
 #[unsafe(no_mangle)]
 pub unsafe extern "C" fn rumpadol_slot_init(at: *mut u8)
+    // At the address there is room for a table, which nobody else uses.
     requires* { sem 𝓛 (room_at slot at) }
     ensures* { sem 𝓛 (slot_lies_at at None) }
 {

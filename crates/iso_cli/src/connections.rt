@@ -114,6 +114,7 @@ pub fn serve_connections<O: Outlet, F: Outlet>(
     output: &mut O,
     faults: &mut F,
 ) -> u8
+    // A host can serve under the table: `Table::host_ready` tells.
     requires { IsHostReady table.now }
     // The books are those after the bodies of at most `count` connections, in turn. With status 0
     // exactly `count` were served and told, and none ended for want of memory; else it is 3.

@@ -92,16 +92,22 @@ impl<D: Disk + Drop> NoteLog for DiaryLog<D> {
 
     /// Adds the record of a note and its place.
     fn append(&mut self, note: Note) -> Result<(), LogFailed>
+        // After a call that succeeds, a log that was ready still is.
         ensures ready { OnOk result (IsReady D.seen D.may_leave D.is_usable self.old.log
             → IsReady D.seen D.may_leave D.is_usable self.new.log) }
+        // At `Ok` the synced notes are those of before.
         ensures synced { OnOk result (IsReady D.seen D.may_leave D.is_usable self.old.log
             → synced_notes D.seen self.new.log ≡ synced_notes D.seen self.old.log) }
+        // At `Ok` the note waits behind the others.
         ensures pending { OnOk result (IsReady D.seen D.may_leave D.is_usable self.old.log
             → pending_notes D.seen self.new.log
             ≡ pending_notes D.seen self.old.log ++ note ∷ []) }
+        // However it ends, a crash leaves the synced notes, and of those behind them some from the
+        // front.
         ensures crash { IsReady D.seen D.may_leave D.is_usable self.old.log
             → LeavesFront (LeavesNotes D.may_leave self.new.log) (synced_notes D.seen self.old.log)
             (pending_notes D.seen self.old.log ++ note ∷ []) }
+        // At `Ok` the file has one record more: the line of the note and its place.
         ensures line { OnOk result (IsReady D.seen D.may_leave D.is_usable self.old.log
             → records_of (D.seen self.new.log.disk)
             ≡ records_of (D.seen self.old.log.disk)

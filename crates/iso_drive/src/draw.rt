@@ -33,6 +33,7 @@ impl Draw {
 
     /// One of so many places, from 0 on.
     pub fn place(&mut self, count: usize) -> usize
+        // There is at least one place.
         requires { 0 < count }
         ensures { result < count }
     {

@@ -29,8 +29,11 @@ pub trait Log {
 
     /// Adds an order with its answer, which then waits for a sync.
     fn append(&mut self, order: Order, answer: Answer) -> Result<(), LogFailed>
+        // After a call that succeeds, a log that was ready still is.
         ensures ready { OnOk result (is_ready self.old → is_ready self.new) }
+        // At `Ok` the synced orders are those of before.
         ensures synced { OnOk result (is_ready self.old → synced self.new ≡ synced self.old) }
+        // At `Ok` the order waits behind the others.
         ensures pending { OnOk result (is_ready self.old
             → pending self.new ≡ pending self.old ++ order ∷ []) }
         // however it ends
@@ -39,9 +42,12 @@ pub trait Log {
 
     /// After it, each crash keeps all orders.
     fn sync(&mut self) -> Result<(), LogFailed>
+        // After a call that succeeds, a log that was ready still is.
         ensures ready { OnOk result (is_ready self.old → is_ready self.new) }
+        // At `Ok` every order that waited is synced, behind those that were.
         ensures synced { OnOk result (is_ready self.old
             → synced self.new ≡ synced self.old ++ pending self.old) }
+        // At `Ok` nothing waits for a sync any more.
         ensures none { OnOk result (is_ready self.old → pending self.new ≡ []) }
         // however it ends
         ensures crash { is_ready self.old
@@ -49,9 +55,13 @@ pub trait Log {
 
     /// Makes room for so many orders more, as far as a log can say, and has each crash keep all orders.
     fn make_room(&mut self, orders: usize) -> Result<(), LogFailed>
+        // After a call that succeeds, a log that was ready still is.
         ensures ready { OnOk result (is_ready self.old → is_ready self.new) }
+        // At `Ok` every order that waited is synced, behind those that were. That there is room
+        // then is not said.
         ensures synced { OnOk result (is_ready self.old
             → synced self.new ≡ synced self.old ++ pending self.old) }
+        // At `Ok` nothing waits for a sync any more.
         ensures none { OnOk result (is_ready self.old → pending self.new ≡ []) }
         // however it ends
         ensures crash { is_ready self.old

@@ -4,6 +4,7 @@ ghost use Rattle.iso_etcd.specs.Members.{Has, Lacks, before, behind};
 
 /// What stands before the first mark and behind it. The mark is a character of ASCII.
 pub fn cut(text: &str, mark: char) -> Option<(&str, &str)>
+    // The mark is a character of ASCII.
     requires { mark < 128 }
     // The parts are what stands before the first mark and behind it; `None` comes exactly where the
     // text has no such mark.

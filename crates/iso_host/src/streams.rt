@@ -22,8 +22,12 @@ pub trait Inlet {
     ///
     /// A read into at least one byte that gives none is the end of the input. One that fails gave nothing.
     fn read(&mut self, buffer: &mut [u8]) -> Result<usize, Failed>
+        // It gives no more bytes than the buffer has.
         ensures bound { ReadsAtMost result buffer.new }
+        // What it gives is the front of what was still to come, where that is known; a failure
+        // gives nothing.
         ensures bytes { ReadConsumes (remaining self.old) (remaining self.new) result buffer.new }
+        // One more read is counted with its bytes, or a failure.
         ensures counts { CountsRead (counts self.old) (counts self.new) result };
 }
 
@@ -39,13 +43,20 @@ pub trait Outlet {
     ///
     /// A write that fails took nothing.
     fn write(&mut self, bytes: &[u8]) -> Result<usize, Failed>
+        // It takes no more bytes than it was given.
         ensures bound { WritesAtMost result bytes.now }
+        // Of some bytes it takes at least one.
         ensures some { TakesSome result bytes.now }
+        // What it takes stands behind what the writer had, where that is known; a failure takes
+        // nothing.
         ensures bytes { WriteAppends (contents self.old) (contents self.new) result bytes.now }
+        // One more write is counted with its bytes, which wait for a flush, or a failure.
         ensures counts { CountsWrite (counts self.old) (counts self.new) result };
 
     /// Passes on what the writer still keeps back.
     fn flush(&mut self) -> Result<(), Failed>
+        // What the writer has stays, where that is known.
         ensures bytes { Keeps (contents self.old) (contents self.new) }
+        // After a flush no byte waits; one that fails is counted as a failure.
         ensures counts { CountsFlush (counts self.old) (counts self.new) result };
 }

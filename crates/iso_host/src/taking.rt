@@ -42,6 +42,7 @@ pub const NOT_BEGUN: Begun = Begun {
 
 /// How many bytes of a header came.
 pub fn head_len(begun: &Begun) -> usize
+    // At most four bytes of the header came.
     requires { begun.now.count ≤ 4 }
     ensures { result ≡ length (head_of begun.now) }
 {

@@ -51,6 +51,7 @@ impl Window {
 
     /// Goes past the first bytes, which are taken.
     pub fn pass(&mut self, count: usize)
+        // The window has so many bytes.
         requires { count ≤ length self.old }
         ensures { self.new ≡ drop count self.old }
     {

@@ -55,7 +55,9 @@ impl Issuer {
     /// An issuer with an empty journal, which takes at most `limit` orders, 1 to `MOST_ENTRIES`. Takes no memory. The
     /// journal grows by the allocator of the accounts.
     pub fn new(accounts: Accounts, limit: u32) -> Issuer
+        // The limit is at least 1.
         requires least { 1 ≤ limit }
+        // The limit is at most 999,999 (`MOST_ENTRIES`).
         requires most { limit ≤ 999999 }
         ensures { result ≡ record { accounts = accounts; limit = limit; orders = [] } }
     {

@@ -186,6 +186,7 @@ impl Journal {
 
     /// The entry at a place, from 0 on, that has one.
     pub fn at(&self, place: usize) -> Entry
+        // There is an entry at the place.
         requires { place < length self.now }
         ensures { slice_get self.now place ≡ Some result }
     {
@@ -265,7 +266,10 @@ impl Journal {
 
     /// Whether an entry stands. What its order does is handed in, and what the first reversal of it leaves.
     pub fn is_standing(&self, entry: &Entry, effect: &Option<Effect>, left: Option<u64>) -> bool
+        // The effect is that of the entry's order.
         requires effect { effect.now ≡ effect_of entry.now.order }
+        // Where the order has an effect, what is handed in is what the first reversal of its key
+        // leaves.
         requires left { is_some (effect_of entry.now.order) ≡ true
             → left ≡ left_at self.now entry.now.order.key }
         ensures { result ≡ is_standing self.now entry.now }

@@ -101,6 +101,7 @@ impl BitmapCoding {
 
     /// The word of a whole bitmap, its first bit the most significant; `None` where the digits are none.
     pub fn word(self, bytes: &[u8]) -> Option<u64>
+        // The bytes are those of one bitmap: `size` tells how many.
         requires { length bytes.now ≡ map_size self }
         ensures { result ≡ word_in self bytes.now }
     {
@@ -222,7 +223,9 @@ impl Bitmap {
 
     /// How many numbers of the set are below a number of 2 to 128.
     pub fn count_below(&self, n: u8) -> usize
+        // The number is at least 2.
         requires low { 2 ≤ n }
+        // The number is at most 128.
         requires high { n ≤ 128 }
         ensures { result ≡ length (members_below self.now n) }
     {

@@ -60,6 +60,7 @@ pub fn four_digits_in(digits: Digits, bytes: &[u8]) -> Option<u16>
 
 /// A number in four ASCII digits. Takes no memory.
 pub fn four_ascii_digits(n: usize) -> [u8; 4]
+    // The number is at most 9,999.
     requires { n ≤ longest_value }
     ensures { result ≡ four_digits_of Digits.Ascii n }
 {
@@ -73,6 +74,7 @@ pub fn four_ascii_digits(n: usize) -> [u8; 4]
 
 /// A number in four BCD digits, two a byte. Takes no memory.
 pub fn four_bcd_digits(n: usize) -> [u8; 2]
+    // The number is at most 9,999.
     requires { n ≤ longest_value }
     ensures { result ≡ four_digits_of Digits.Bcd n }
 {

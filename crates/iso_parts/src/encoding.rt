@@ -69,6 +69,7 @@ pub(crate) fn are_hex_digits(bytes: &[u8]) -> bool
 /// A hexadecimal digit, in upper case.
 #[inline(always)]
 pub fn hex_digit(d: u8) -> u8
+    // The number is below 16.
     requires { d < 16 }
     ensures { result ≡ slice_index upper_digits d }
 {

@@ -85,6 +85,7 @@ impl<'a> Exchange<'a> {
 
     /// The host took so many of the bytes that are to be sent.
     pub fn sends(&mut self, count: usize, now: u64)
+        // No more bytes are told than are still to be sent.
         requires { count ≤ length self.old.unsent }
         // Those bytes are sent, a byte moved last at this moment, and nothing else changes.
         ensures { self.new ≡ record self.old { unsent = drop count self.old.unsent; moved = now } }

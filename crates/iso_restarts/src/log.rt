@@ -29,8 +29,11 @@ pub trait NoteLog {
 
     /// Adds a note, which then waits for a sync.
     fn append(&mut self, note: Note) -> Result<(), LogFailed>
+        // After a call that succeeds, a log that was ready still is.
         ensures ready { OnOk result (is_ready self.old → is_ready self.new) }
+        // At `Ok` the synced notes are those of before.
         ensures synced { OnOk result (is_ready self.old → synced self.new ≡ synced self.old) }
+        // At `Ok` the note waits behind the others.
         ensures pending { OnOk result (is_ready self.old
             → pending self.new ≡ pending self.old ++ note ∷ []) }
         // however it ends
@@ -39,9 +42,12 @@ pub trait NoteLog {
 
     /// After it, each crash keeps all notes.
     fn sync(&mut self) -> Result<(), LogFailed>
+        // After a call that succeeds, a log that was ready still is.
         ensures ready { OnOk result (is_ready self.old → is_ready self.new) }
+        // At `Ok` every note that waited is synced, behind those that were.
         ensures synced { OnOk result (is_ready self.old
             → synced self.new ≡ synced self.old ++ pending self.old) }
+        // At `Ok` nothing waits for a sync any more.
         ensures none { OnOk result (is_ready self.old → pending self.new ≡ []) }
         // however it ends
         ensures crash { is_ready self.old

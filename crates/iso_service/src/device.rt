@@ -65,7 +65,9 @@ pub trait Journals {
 
     /// Opens the file at a path, which has to be there.
     fn open(&self, path: &str) -> Result<Self::Disk, FileFault>
+        // A read shows the bytes of the file, where these are known.
         ensures seen { IfOk result (λ disk. IfSome (held_at self.now path.now) (λ held. Self.Disk.seen disk ≡ held)) }
+        // A start after a crash finds these bytes and no others.
         ensures only { IfOk result (λ disk. IfSome (held_at self.now path.now) (λ held. Only held (Self.Disk.may_leave disk))) };
 
     /// Makes an empty file, which its owner alone may read, for the one that is to have this path. Until `finish` it has
@@ -74,6 +76,7 @@ pub trait Journals {
 
     /// Gives the file that was begun for a path its name, so that it stays after a crash. The journal in it is made.
     fn finish(&self, path: &str, made: &JournalLog<Self::Disk>) -> Result<(), FileFault>
+        // A disk that gave no wrong answer holds the journal, made and synced.
         requires { IsTrue (Self.Disk.is_clean made.now.log.disk)
             → IsReady Self.Disk.seen Self.Disk.may_leave Self.Disk.is_usable made.now.log };
 

@@ -152,11 +152,16 @@ impl<S: Store + Drop, P: Patience + Drop> Log for SharedLog<S, P> {
 
     /// Adds an order with its answer to the batch that is being made. A full one is sent first.
     fn append(&mut self, order: Order, answer: Answer) -> Result<(), LogFailed>
+        // After a call that succeeds, a log that was ready still is.
         ensures ready { OnOk result (IsReady S.kept self.old → IsReady S.kept self.new) }
+        // At `Ok` the synced orders are those of before.
         ensures synced { OnOk result (IsReady S.kept self.old
             → synced_orders S.kept self.new ≡ synced_orders S.kept self.old) }
+        // At `Ok` the order waits behind the others.
         ensures pending { OnOk result (IsReady S.kept self.old
             → pending_orders S.kept self.new ≡ pending_orders S.kept self.old ++ order ∷ []) }
+        // However it ends, a crash of a sole writer leaves the synced orders, and of those behind
+        // them some from the front.
         ensures crash { IsReady S.kept self.old
             → LeavesFront (MayLeave S.kept self.new) (synced_orders S.kept self.old)
             (pending_orders S.kept self.old ++ order ∷ []) }
@@ -165,6 +170,7 @@ impl<S: Store + Drop, P: Patience + Drop> Log for SharedLog<S, P> {
             (record { order = order; answer = answer })) }
         // After a failure the log is as it was, and each call fails.
         ensures stays { OnErr result (Stays S.kept S.sent self.old self.new) }
+        // A failure has a reason. After it each call fails, with the same one.
         ensures fails { Fails S.kept S.sent self.old self.new result }
     {
         batches_come_back();
@@ -182,16 +188,26 @@ impl<S: Store + Drop, P: Patience + Drop> Log for SharedLog<S, P> {
 
     /// Has the batch that is being made stand at the next place. Where it has no order, the store isn't asked.
     fn sync(&mut self) -> Result<(), LogFailed>
+        // After a call that succeeds, a log that was ready still is.
         ensures ready { OnOk result (IsReady S.kept self.old → IsReady S.kept self.new) }
+        // At `Ok` every order that waited is synced, behind those that were.
         ensures synced { OnOk result (IsReady S.kept self.old
             → synced_orders S.kept self.new
             ≡ synced_orders S.kept self.old ++ pending_orders S.kept self.old) }
+        // At `Ok` nothing waits for a sync any more.
         ensures none { OnOk result (IsReady S.kept self.old → pending_orders S.kept self.new ≡ []) }
+        // However it ends, a crash of a sole writer leaves the synced orders, and of those behind
+        // them some from the front.
         ensures crash { IsReady S.kept self.old
             → LeavesFront (MayLeave S.kept self.new) (synced_orders S.kept self.old)
             (pending_orders S.kept self.old) }
+        // At `Ok` the batch that was made, if it has orders, stands at the next place, and all that
+        // was seen is synced.
         ensures flushes { OnOk result (Flushes S.kept S.sent self.old self.new) }
+        // After a failure the orders are as they were, and nothing was sent but the batch that was
+        // made.
         ensures stays { OnErr result (Stays S.kept S.sent self.old self.new) }
+        // A failure has a reason. After it each call fails, with the same one.
         ensures fails { Fails S.kept S.sent self.old self.new result }
     {
         batches_come_back();

@@ -37,13 +37,19 @@ pub trait Store {
 
     /// Asks once that these bytes stand at a place, if it has none.
     fn ask(&mut self, place: u64, bytes: &[u8]) -> Asked
+        // What was kept stays at its place; others may have put more behind it.
         ensures grows { Grows (kept self.old) (kept self.new) }
+        // The bytes were sent once, and not at all where the answer is `Unsent`.
         ensures sent { IsSent (sent self.old) (sent self.new) bytes.now result }
+        // `Stands` says that these bytes stand at the place, and `Other` that others do.
         ensures asked { IsAsked (kept self.new) place bytes.now result };
 
     /// Looks once what stands at a place.
     fn look(&mut self, place: u64) -> Looked
+        // What was kept stays at its place; others may have put more behind it.
         ensures grows { Grows (kept self.old) (kept self.new) }
+        // Nothing was sent.
         ensures sent { sent self.new ≡ sent self.old }
+        // Bytes that are found stand at the place; that nothing was found settles nothing.
         ensures looked { IsLooked (kept self.new) place result };
 }

@@ -80,6 +80,7 @@ pub fn places_of(rows: &[Row]) -> Result<[Option<FieldSpec>; PLACES], TableFault
 
 /// The numbers that have a row.
 pub fn known_in(places: &[Option<FieldSpec>]) -> Bitmap
+    // Rows stand only at the numbers of elements.
     requires { (n : ℕ) (s : FieldSpec) → row_at places.now n ≡ Some s → IsTrue (is_element n) }
     ensures { Knows (contains result) places.now }
 {

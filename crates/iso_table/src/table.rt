@@ -72,7 +72,9 @@ impl PartialEq for Table {
     ghost laws = { partial_equiv_from_equiv same_layout_equiv };
 
     fn eq(&self, other: &Table) -> bool
+        // The version, the codings and the rows are compared.
         ensures same { result ≡ same_layout self.now other.now }
+        // It is true exactly where the tables are equal.
         ensures equal { IsTrue result ↔ (self.now ≡ other.now) }
     {
         (self.version == other.version && self.mti == other.mti)

@@ -161,7 +161,9 @@ impl Elements {
 
     /// The value of an element, if it is there: the set of numbers tells this at once.
     pub fn get(&self, n: u8) -> Option<&[u8]>
+        // Each number has an end, and every byte belongs to a value.
         requires whole { IsWhole self.now }
+        // The set has exactly the numbers of the elements.
         requires numbered { IsNumbered self.now }
         ensures { MatchOption result (value_in (views self.now) n ≡ None)
             (λ v. value_in (views self.now) n ≡ Some v.now) }
@@ -333,9 +335,13 @@ impl Elements {
 
     /// Whether these are the same elements.
     pub fn equals(&self, other: &Elements) -> bool
+        // Each number has an end, and every byte belongs to a value.
         requires whole { IsWhole self.now }
+        // The set has exactly the numbers of the elements.
         requires numbered { IsNumbered self.now }
+        // The same of the other elements: each number has an end.
         requires other_whole { IsWhole other.now }
+        // Their set has exactly their numbers.
         requires other_numbered { IsNumbered other.now }
         ensures { IsTrue result ↔ (views self.now ≡ views other.now) }
     {

@@ -236,6 +236,8 @@ pub fn judge_from(
     point: ResumePoint,
     bytes: &[u8],
 ) -> (ResumePoint, Result<usize, UnpackFault>)
+    // The bytes reach up to the piece of the point, and a count of a body is one that its row
+    // takes.
     requires { IsPointWithin table.now point bytes.now }
     // These bytes, read on from the point that is told, give that answer. Whatever bytes follow
     // them, reading comes to the same from there as from the first point.

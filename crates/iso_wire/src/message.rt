@@ -97,6 +97,7 @@ impl PartialEq for Message {
     ghost laws = { partial_equiv_from_equiv same_contents_equiv };
 
     fn eq(&self, other: &Message) -> bool
+        // The type and the elements are compared.
         ensures same { result ≡ same_contents self.now other.now }
         // The answer of `equals`.
         ensures equal { IsTrue result ↔ (self.now ≡ other.now) }
