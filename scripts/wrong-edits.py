@@ -52,6 +52,7 @@ class Function:
     last: int
     text: str
     in_cycle: bool
+    is_const: bool
 
 
 @dataclass
@@ -115,7 +116,8 @@ def functions_of(crate, folder, names):
                 in_cycle = any("#[cycle(" in it for it in lines[max(at - 3, 0) : at])
                 body = body_of(lines, at, last, begins[1])
                 text = "\n".join(lines[at : last + 1])
-                found.append(Function(path, str(file.relative_to(folder)), begins[2], at, body, last, text, in_cycle))
+                is_const = "const fn" in line
+                found.append(Function(path, str(file.relative_to(folder)), begins[2], at, body, last, text, in_cycle, is_const))
     return found
 
 
@@ -166,7 +168,8 @@ def place(edit, folder, functions):
         bodies += there[-1:]
         if not there:
             wide.append(name_at(text.split("\n"), first, functions))
-    edit.is_one_body = not wide and len({it.path for it in bodies}) == 1 and bodies[0].path is not None
+    # what a `const fn` gives may stand in a constant that others use
+    edit.is_one_body = not wide and len({it.path for it in bodies}) == 1 and bodies[0].path is not None and not bodies[0].is_const
     named = [it for it in functions for name in wide if name and re.search(rf"\b{name}\b", it.text)]
     edit.turned = sorted({it.path for it in bodies + named if it.path})
 
