@@ -228,7 +228,7 @@ impl Acquirer {
         // It succeeds only where fewer than 999,999 trace numbers are used.
         ensures few { OnOk result (length self.old.slots < 999999) }
 
-        // It has used all trace numbers, or memory ran out.
+        // `NoMoreTrace` comes exactly where all 999,999 trace numbers are used.
         ensures no_more { (result ≡ Err NoMoreTrace) ↔ (length self.old.slots ≡ 999999) }
         // Any fault but `NoMoreTrace` is want of memory.
         ensures memory { IfErr result (λ e. e ≢ NoMoreTrace → e ≡ Memory) }
@@ -308,7 +308,8 @@ impl Acquirer {
         // The acquirer's number (element 32) stays.
         ensures own { self.new.id ≡ self.old.id }
 
-        // No such transaction, it is closed, or all trace numbers are used.
+        // The fault is `NoSuch` without such a transaction, `Closed` of a closed one, and
+        // `NoMoreTrace` where its reversal finds no trace number left.
         ensures fault { IfErr result (λ e. timeout self.old.slots stan ≡ Err e) }
         // A refusal changes nothing.
         ensures unchanged { OnErr result (self.new ≡ self.old) }

@@ -60,38 +60,42 @@ pub fn act<S: Source, I: Inlet, O: Outlet, F: Outlet>(
     output: &mut O,
     faults: &mut F,
 ) -> u8
-    // Without words: the lines of the message, in which what a bystander shouldn't read is hidden, and then the response that
-    // the message decides, or `none`.
+    // Without words, at status 0, the output grew by the message's lines, what a bystander
+    // shouldn't read hidden, and by `ANSWER=` with the response that it decides itself, or `none`.
     ensures echo { words.now ≡ [] → result ≡ 0
         → EchoesOver (I.remaining input.old) (O.contents output.old) (O.contents output.new) }
-    // `check`: the line of the table that is named: its version, how many rows it has, and how many bytes a message may take.
+    // At status 0 of `check`, the output grew by the line of the table that is named: its version,
+    // how many rows it has, and how many bytes a message may take.
     ensures check { result ≡ 0 → ChecksAsked (map (λ w. w.now) words.now) (S.file source.now)
         (O.contents output.old) (O.contents output.new) }
-    // `show`: the lines of the message that the input begins with; what a bystander shouldn't read is hidden without `--clear`.
+    // At status 0 of `show`, the output grew by the lines of the message that the input begins
+    // with; without `--clear`, what a bystander shouldn't read is hidden.
     ensures show { result ≡ 0 → ShowsAsked (map (λ w. w.now) words.now) (S.file source.now)
         (I.remaining input.old) (O.contents output.old) (O.contents output.new) }
-    // `convert`: the plain spelling under the second table of what the input spells under the first.
+    // At status 0 of `convert`, the output grew by the plain spelling, under the second table, of
+    // the message that the whole input spells under the first.
     ensures convert { result ≡ 0 → ConvertsAsked (map (λ w. w.now) words.now) (S.file source.now)
         (I.remaining input.old) (O.contents output.old) (O.contents output.new) }
-    // `run`: the output for the bodies of the whole input, for the accounts of the document, with an empty journal; and on the fault
-    // stream the line of the report, which counts these bodies by kind.
+    // At status 0 of `run`, the output grew by that for the bodies of the whole input, from an
+    // empty journal, and the fault stream by the report that counts them.
     ensures run { result ≡ 0 → RunsAsked (map (λ w. w.now) words.now) (S.file source.now)
         (I.remaining input.old) (O.contents output.old) (O.contents output.new)
         (F.contents faults.old) (F.contents faults.new) }
-    // With status 1, of each command but `run`: the line of the first thing that is refused, be it the document of a table, an
-    // input that is too long, or what the input holds.
+    // At status 1 the line of a stop is told: but for `run`, of the first thing that is refused, be
+    // it a table, too long an input, or what the input holds.
     ensures refused { result ≡ 1 → IsRefused (map (λ w. w.now) words.now) (S.file source.now)
         (I.remaining input.old) (F.contents faults.old) (F.contents faults.new) }
-    // With status 2, the words are no command line.
+    // At status 2 the words spell no job.
     ensures words { result ≡ 2 → AsksNothing (map (λ w. w.now) words.now) }
-    // With status 3, the line of what failed is told, or the fault stream failed. `failed: TooManyTurns` comes of `run` alone,
-    // after exactly 100,000,000 reads and writes. The 2,000,000 reads of a whole input always suffice.
+    // At status 3 the line of what failed is told, or the fault stream failed. `TooManyTurns` is
+    // told of `run` alone, after exactly 100,000,000 reads and writes.
     ensures failed { result ≡ 3 → HasFailed (map (λ w. w.now) words.now)
         (I.counts input.old) (I.counts input.new) (O.counts output.old) (O.counts output.new)
         (F.contents faults.old) (F.contents faults.new) (F.counts faults.old) (F.counts faults.new) }
     // The status is 0 to 3.
     ensures status { result ≤ 3 }
-    // The fault stream has nothing more, the report of `run`, or the line of a stop, and the status is that of what was told.
+    // The fault stream got nothing, at status 0; or the report of `run` or a stop's line, with its
+    // status; or no more than a front of one, with status 3.
     ensures told { TellsEnding (F.contents faults.old) (F.contents faults.new) (F.counts faults.old) (F.counts faults.new) result }
 {
     match perform(alloc, words, source, input, output) {

@@ -57,15 +57,17 @@ pub fn prepare<S: Source, F: Outlet>(
     source: &S,
     faults: &mut F,
 ) -> Result<Serving, u8>
-    // What the words spell: the table and the accounts that they name, with an empty journal, the port and the count.
+    // Where it succeeds, the host is the one that the words name: its table and accounts, an empty
+    // journal, its header, port and count.
     ensures prepared { IfOk result (Prepares (map (λ w. w.now) words.now) (S.file source.now)) }
     // Where there is no host to serve with, the status is 1 to 3.
     ensures status { IfErr result (λ status. (1 ≤ status) × (status ≤ 3)) }
     // Status 2 comes of words alone that name no host.
     ensures words { IfErr result (λ status. status ≡ 2 → AsksNoServe (map (λ w. w.now) words.now)) }
-    // The line of a stop is told, and its status given;
+    // Where it fails, the line of one stop is told, with the status of that stop; or a write
+    // failed, and the status is 3.
     ensures told { IfErr result (TellsStop (F.contents faults.old) (F.contents faults.new) (F.counts faults.old) (F.counts faults.new)) }
-    // else nothing is told.
+    // Where it succeeds, nothing is told.
     ensures quiet { OnOk result (F.contents faults.new ≡ F.contents faults.old) }
 {
     match host_named(alloc, words, source) {

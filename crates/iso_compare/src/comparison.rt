@@ -56,9 +56,10 @@ pub fn compare_frames(
     expected: &[u8],
     came: &[u8],
 ) -> Result<Comparison, NoMemory>
-    // The same bytes, whatever they are,
+    // Memory aside, `Same` comes exactly where both bodies are the same bytes, whatever they are.
     ensures same { IfOk result (λ c. (c ≡ comparisons.Same) ↔ (expected.now ≡ came.now)) }
-    // or how the two messages differ, or which bytes are no message and why.
+    // Memory aside, other bodies are two messages, which differ as is told; or it is told which one
+    // is the first that is no message, and why.
     ensures exact { IfOk result (Compares table.now expected.now came.now) }
 {
     if expected == came {

@@ -23,7 +23,8 @@ pub fn split_frames<'a>(
     header: Header,
     bytes: &'a [u8],
 ) -> Result<Split<'a>, AllocError>
-    // The one split that the bytes have.
+    // Memory aside, it is the split of the bytes into whole frames and a rest that begins with
+    // none.
     ensures { IfOk result (λ split. Splits header bytes.now (map (λ b. b.now) split.bodies.items) split.rest.now) }
 {
     splits_once();

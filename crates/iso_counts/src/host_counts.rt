@@ -42,7 +42,7 @@ impl HostCounts {
 
     /// Counts an event.
     pub fn count(&mut self, event: &Event)
-        // It changes exactly its own counts.
+        // An event changes its own counts of the host, and no other.
         ensures { self.new ≡ host_counted_of self.old event.now }
     {
         match *event {

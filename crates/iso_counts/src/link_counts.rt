@@ -109,7 +109,7 @@ impl LinkCounts {
 
     /// Counts an event of the link.
     pub fn count(&mut self, event: &Event)
-        // It changes exactly its own counts.
+        // An event changes its own counts of the link, and no other.
         ensures { self.new ≡ counted_of self.old event.now }
     {
         match *event {

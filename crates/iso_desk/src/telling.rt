@@ -65,7 +65,8 @@ pub fn tell_messages(
 
 /// The bytes of the messages that a text says.
 pub fn make_bytes(alloc: Global, table: &Table, form: Form, text: &[u8]) -> Result<Told, DeskFault>
-    // They are the plain spelling of each message, up to the first text that is refused.
+    // At `Ok` the bytes are the plain spelling of each message, up to the first text that is
+    // refused.
     ensures made { IfOk result (λ told. MakesAll table.now form text.now
         (Some []) (Some told.text.items) told.is_good) }
 {

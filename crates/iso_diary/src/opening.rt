@@ -116,12 +116,14 @@ pub fn open<D: Disk + Drop>(
     heading: &Heading,
     group: usize,
 ) -> Result<Opened<D>, (OpenError, D)>
-    // The log is ready, it holds these notes, and nothing waits.
+    // At `Ok`, on a disk that didn't lie and shows what is on it, the log is ready, it holds these
+    // notes, and nothing waits.
     ensures opened { IfOk result (λ o. IsTrue (D.is_clean o.log.log.disk)
         → Only (D.seen disk) (D.may_leave disk)
         → IsOpened (λ l. IsReady D.seen D.may_leave D.is_usable l.log) (λ l. synced_notes D.seen l.log)
         (λ l. pending_notes D.seen l.log) o.log o.notes.items) }
-    // They are those of the file, each of whose records is a note at its place.
+    // At `Ok`, on a disk that didn't lie and shows what is on it, the notes are those of the file's
+    // records behind the heading.
     ensures notes { IfOk result (λ o. IsTrue (D.is_clean o.log.log.disk)
         → Only (D.seen disk) (D.may_leave disk)
         → o.notes.items ≡ diary_notes (records_of (D.seen disk))) }
@@ -130,7 +132,8 @@ pub fn open<D: Disk + Drop>(
     ensures read { IfOk result (λ o. IsTrue (D.is_clean o.log.log.disk)
         → Only (D.seen disk) (D.may_leave disk)
         → AreNotes (records_of (D.seen disk))) }
-    // Each refusal has its reason, and leaves the records.
+    // On a disk that didn't lie and shows what is on it, `Other` tells what the heading has
+    // otherwise, and `Damaged` the first record that is no note at its place.
     ensures fault { IfErr result (λ e. IsTrue (D.is_clean e.1)
         → Only (D.seen disk) (D.may_leave disk)
         → IsWhy (heading_bytes heading.now) (D.seen disk) e.0) }

@@ -162,9 +162,9 @@ fn line_in(text: &[u8; RECORD]) -> Option<Line>
 pub fn read_line(text: &[u8; RECORD]) -> Option<Line>
     // It is the note and the place that the bytes tell, and `None` where they are no such record.
     ensures value { result ≡ line_in text.now }
-    // what was written comes back,
+    // The record of a note and a place that the code can hold is read as that note at that place.
     ensures back { (l : Line) → IsLine l → line_bytes l ≡ text.now → result ≡ Some l }
-    // and nothing else is read
+    // Bytes that are read as a note and a place are the very bytes of their record.
     ensures only { IfSome result (λ l. line_bytes l ≡ text.now) }
 {
     lines_come_back();

@@ -102,7 +102,7 @@ impl<L: NoteLog> Driver<L> {
             → IsStarted id notes.now patience (driving_of L.synced L.pending d)) }
         // An `Err` hands the log back as it was.
         ensures log { IfErr result (λ e. e.1 ≡ log) }
-        // `Damaged` only where no acquirer can have written these notes.
+        // `Damaged` comes only where no acquirer can have written these notes.
         ensures damaged { IfErr result (λ e. e.0 ≡ Fault.Damaged
             → CanBeWritten (party_after id []) notes.now → ⊥) }
     {

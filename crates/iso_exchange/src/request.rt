@@ -49,7 +49,8 @@ pub fn write_request(
     // What is written is the plain spelling of the request.
     ensures packed { OnOk result ((b : List ℕ) × PlainSpelling table.now (request order.now) b
         × (out.new.items ≡ replicate room 0 ++ b)) }
-    // Which fault it is, unless memory ran out.
+    // Memory aside, the fault is the first reason to refuse the request: its version, or an
+    // element, by ascending number.
     ensures fault { IfErr result (λ e. e ≢ pack.Memory
         → message_refusal table.now (request order.now) ≡ Some e) }
 {

@@ -124,7 +124,8 @@ pub fn append_named(
     is_clear: bool,
     out: &mut Vec<u8>,
 ) -> Result<(), NoMemory>
-    // The lines of the description, each with the name of its element before its end.
+    // Memory aside, the lines of the description are appended, each with the name of its element
+    // before its end.
     ensures appended { OnOk result ((text : List ℕ) × NamedDescription is_clear table.now names.now message.now text
         × (out.new.items ≡ out.old.items ++ text)) }
     // Where memory runs out, the buffer holds the bytes that it held before.

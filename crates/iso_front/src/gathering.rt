@@ -145,9 +145,9 @@ impl Gathering {
         // What comes of it is `Waits` while a shard that was asked is silent, else `Same` where all
         // that were asked said this code, and `Differ` where not.
         ensures value { result ≡ joint code self.now.heard }
-        // What is passed on is the answer of each shard that was asked,
+        // `Same` comes only where every shard that was asked said this code.
         ensures same { result ≡ Joint.Same → list_all (agrees code) self.now.heard ≡ true }
-        // and while one of them is silent, nothing is.
+        // While a shard that was asked is silent, `Waits` comes.
         ensures waits { list_any is_nothing self.now.heard ≡ true → result ≡ Joint.Waits }
     {
         joined(code, &self.heard)

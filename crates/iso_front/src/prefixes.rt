@@ -109,11 +109,12 @@ impl Prefixes {
 
     /// Whether an account number can begin with one of these and with one of those.
     pub fn meets(&self, other: &Prefixes) -> bool
-        // Where it says so there is one.
+        // Where the answer is true, of prefixes that `new` can make, some account number begins
+        // with one of each.
         ensures meeting { result ≡ true
             → are_prefixes self.now ≡ true → are_prefixes other.now ≡ true
             → Meeting self.now other.now }
-        // Where it doesn't, there is none.
+        // Where the answer is false, no account number begins with one of each.
         ensures apart { result ≡ false → AreApart self.now other.now }
     {
         meets(self, other)

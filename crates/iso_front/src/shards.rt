@@ -123,7 +123,8 @@ impl Shards {
           given = self.old.given
               ++ record { prefixes = prefixes; shard = self.old.count - 1 } ∷ [];
         }) }
-        // It refuses those that no account number can have, beside others.
+        // Prefixes are refused as meeting others only where an account number begins with one of
+        // each.
         ensures met { are_prefixes prefixes ≡ true
             → AllByRecursion (λ g. are_prefixes g.prefixes ≡ true) self.old.given
             → IfErr result (λ e. IfMeets e (λ g. Meeting g.prefixes prefixes)) }
@@ -186,9 +187,9 @@ impl Shards {
         // The answer is the shard of the first given prefixes with which the account number begins,
         // and `None` where it begins with none.
         ensures value { result ≡ shard_of self.now pan.now }
-        // The one that is told has it,
+        // The shard that is told has the account number: a prefix that is given to it begins it.
         ensures found { IfSome result (Belongs self.now pan.now) }
-        // and the one that has it is told: there is no other.
+        // A shard that has the account number is the one that is told, so no two have it.
         ensures only { (shard : ℕ) → Belongs self.now pan.now shard → result ≡ Some shard }
         // The shard that is told is one of those that there are.
         ensures there { IfSome result (λ shard. shard < self.now.count) }

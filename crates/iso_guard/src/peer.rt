@@ -85,7 +85,7 @@ impl<'l> GuardedPeer<'l> {
         // The table, the header, the acquirers and the count of bytes
         // before a message stay the same.
         ensures guard { self.new.guard ≡ self.old.guard }
-        // The log isn't called, and stays in step with the journal.
+        // The log isn't called: what a crash leaves stays the same.
         ensures log { host.new.log ≡ host.old.log }
         // The count of orders that are kept on the disk stays.
         ensures kept { host.new.kept ≡ host.old.kept }

@@ -63,7 +63,8 @@ impl Host {
         body: &[u8],
         out: &mut Vec<u8>,
     ) -> Result<Handled, NoMemory>
-        // The journal has the order, and `out` grows by the answer and by nothing else.
+        // Memory aside, the order that the body asks enters the journal, up to its limit, and `out`
+        // grows by the frame of the response, or by nothing where none is due.
         ensures answered { OnOk result (Answers link.now.table link.now.header self.old self.new body.now out.old.items out.new.items) }
         // What a log may tell is what came of the body.
         ensures handled { IfOk result (IsHandled link.now.table self.old body.now) }

@@ -112,7 +112,7 @@ impl<'l> Peer<'l> {
         ensures table { self.new.table ≡ self.old.table }
         // The header of the peer's frames stays the same.
         ensures header { self.new.header ≡ self.old.header }
-        // A refusal leaves what the peer holds, and what came out.
+        // A refusal leaves the bytes of a frame that the peer holds.
         ensures held { OnErr result (self.new.held ≡ self.old.held) }
         // A refusal leaves `out` as it was.
         ensures unchanged { OnErr result (out.new.items ≡ out.old.items) }

@@ -112,7 +112,8 @@ pub fn serve<R: Inlet, W: Outlet>(
 ) -> Result<Report, ServeFault>
     // A host can serve under the table: `Table::host_ready` accepts it.
     requires { IsHostReady table.now }
-    // What was read, written and entered, by how it ends.
+    // At `Ok`, `Read`, `BadHeader` and `CutFrame` all whole frames are entered and answered; at
+    // each other end the last answer may be missing or cut short.
     ensures leaves { Leaves table.now header (R.remaining reader.old) (R.remaining reader.new)
         (W.contents writer.old) (W.contents writer.new) issuer.old issuer.new result }
     // Each answer is flushed: where it ends inside one, only what was written of that one waits for a flush.

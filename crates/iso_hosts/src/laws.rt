@@ -30,7 +30,8 @@ pub fn no_host_is_wrong()
     ensures gaps { NoGaps }
     // No host has seen more batches than are kept.
     ensures seen { SeenIsKept }
-    // What a host that reads the next batch tells, and what it forgets.
+    // A host that reads the batch that it is in doubt of tells the answers that waited for it, and
+    // goes on with what it decided behind.
     ensures own { OwnIsTold }
     // A host that reads another batch than the one it is in doubt of tells nothing,
     // and forgets what it decided.
@@ -41,7 +42,8 @@ pub fn no_host_is_wrong()
     // What other hosts do, and a batch that arrives, leaves a host as it was that has
     // seen no more than is kept.
     ensures others { OthersLeaveIt }
-    // A `DurableIssuer`'s `start` and `answer_all` are among the runs that this speaks of.
+    // A host that restarts on the first batches of the log is as `DurableIssuer::start` leaves it:
+    // their orders are synced, and none waits.
     ensures starts { StartsAreEvents }
     // Where a host has seen all that is kept, and its batch is sent, arrives next and is read, the
     // batch is kept and the answers that waited for it are told.

@@ -47,9 +47,10 @@ impl<R: Read + Drop> Window<R> {
 
     /// The bytes that are held.
     pub fn held(&self) -> &[u8]
-        // They are exactly the bytes that the window holds.
+        // The result is exactly the bytes that the window holds.
         ensures held { result.now ≡ self.now.held }
-        // They are the first ones of all that are still to be had.
+        // The result is the first ones of all bytes that are still to be had, where these are
+        // known.
         ensures front { IfSome self.now.ahead (λ all. (rest : List ℕ) × (all ≡ result.now ++ rest)) }
     {
         self.held.bytes()
@@ -80,7 +81,7 @@ impl<R: Read + Drop> Window<R> {
         requires { count ≤ length self.old.held }
         // The first bytes, so many, are held no more, and the others are.
         ensures held { self.new.held ≡ drop count self.old.held }
-        // The same bytes are gone from what is ahead, and nothing else is.
+        // Of all that is ahead the first bytes, so many, are gone, and nothing else is.
         ensures ahead { self.new.ahead ≡ option_map (drop count) self.old.ahead }
     {
         self.held.drop_front(count);

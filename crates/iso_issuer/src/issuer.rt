@@ -122,7 +122,7 @@ impl Issuer {
     /// and another order of a known key 94. A new key is entered with its code, its place in the
     /// journal and, for an inquiry, what is available. A known key and a full journal take no memory.
     pub fn handle(&mut self, order: Order) -> Result<Answer, Refused>
-        // A key that is known takes no memory.
+        // An order of a known key is answered: it takes no memory.
         ensures repeat { IsTrue (is_entered self.old.orders order.key) → IsOk result }
 
         // The answer is that of the rules on the whole journal: a known key gets its first answer
@@ -139,7 +139,7 @@ impl Issuer {
         ensures kept { result ≢ Err Refused.Memory →
             self.new ≡ record self.old { orders = take self.old.limit (firsts (self.old.orders ++ order ∷ [])) } }
 
-        // A new key at the limit is refused as such, and nothing else is.
+        // `Full` comes exactly for a new key where the journal is at its limit.
         ensures full { (result ≡ Err Refused.Full) ↔ IsFullFor self.old order.key }
         // Want of memory is told only of a new key, and only where the journal has room for it.
         ensures memory { result ≡ Err Refused.Memory → IsRoomFor self.old order.key }

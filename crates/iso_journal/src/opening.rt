@@ -120,7 +120,8 @@ pub fn open<D: Disk + Drop, W: Watch>(
     requires least { 1 ≤ limit }
     // The journal's limit is at most 999,999 orders.
     requires most { limit ≤ 999999 }
-    // The issuer has the orders of the file, each record is what a host writes, and nothing waits.
+    // At `Ok`, on a disk that didn't lie and shows what is on it, the log is ready, and the issuer
+    // has exactly its orders.
     ensures consistent { IfOk result (λ host. IsTrue (D.is_clean host.log.log.disk)
         → Only (D.seen disk) (D.may_leave disk)
         → IsConsistent (λ l. IsReady D.seen D.may_leave D.is_usable l.log) (λ l. synced_orders D.seen l.log) (λ l. pending_orders D.seen l.log) host) }
@@ -142,7 +143,8 @@ pub fn open<D: Disk + Drop, W: Watch>(
     ensures none { IfOk result (λ host. IsTrue (D.is_clean host.log.log.disk)
         → Only (D.seen disk) (D.may_leave disk)
         → pending_orders D.seen host.log.log ≡ []) }
-    // Each refusal has its reason, and leaves the records.
+    // On a disk that didn't lie and shows what is on it, `Other` tells what the heading has
+    // otherwise, and `Damaged` the first record that no host writes there.
     ensures fault { IfErr result (λ e. IsTrue (D.is_clean e.1)
         → Only (D.seen disk) (D.may_leave disk)
         → IsWhy accounts limit (heading_bytes heading.now) (D.seen disk) e.0) }

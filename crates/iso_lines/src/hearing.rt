@@ -212,7 +212,7 @@ impl<S: Read + Write + Drop> Peer<'_, S> {
             → (key : ℕ) → HearsAlone S.remaining key self.old self.new host.old.host host.new.host }
         // The books grow by bodies, one after the other, and by nothing else.
         ensures heard { EntersHeard host.old.host host.new.host }
-        // The log isn't called, and stays in step with the journal.
+        // The log isn't called: what a crash leaves stays the same.
         ensures log { host.new.log ≡ host.old.log }
         // A log in step with the journal stays in step.
         ensures step { IsInStep L.is_ready L.synced L.pending host.old

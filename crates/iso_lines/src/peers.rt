@@ -134,7 +134,7 @@ impl<'l, S: Read + Write + Drop> Peers<'l, S> {
         now: Moment,
         log: &mut N,
     ) -> Option<usize>
-        // Under the key no peer was, and now is this one; every other peer is as it was.
+        // Under the key that it gives no peer was before.
         ensures vacant { IfSome result (λ key. peer_at self.old key ≡ None) }
         // Under the key that it gives is now a peer on that stream, of which nothing came
         // and for which nothing waits.
@@ -181,7 +181,7 @@ impl<'l, S: Read + Write + Drop> Peers<'l, S> {
     /// Something may have come of a peer, or it may take bytes again: whether its end came too. One that is gone is passed
     /// over.
     pub fn notice(&mut self, key: usize, ends: bool)
-        // It is the same but for when it is looked at.
+        // The peer under the key is the same but for when it is looked at.
         ensures same { SameAt (peer_at self.old key) (peer_at self.new key) }
         // Every other peer is as it was.
         ensures others { OthersStay key self.old self.new }
@@ -235,7 +235,7 @@ impl<'l, S: Read + Write + Drop> Peers<'l, S> {
         ensures turn { HearsTurn S.remaining self.old self.new host.old.host host.new.host }
         // The books grow by bodies, one after the other, and by nothing else.
         ensures heard { EntersHeard host.old.host host.new.host }
-        // The log isn't called, and stays in step with the journal.
+        // The log isn't called: what a crash leaves stays the same.
         ensures log { host.new.log ≡ host.old.log }
         // A log in step with the journal stays in step.
         ensures step { IsInStep L.is_ready L.synced L.pending host.old

@@ -231,12 +231,13 @@ pub fn request(alloc: Global, order: &Order) -> Result<Message, NoMemory>
     // Memory aside, the message is the request for this order: the message type of its key, the
     // elements that tell it, and no other.
     ensures whole { IfOk result (λ made. made ≡ request order.now) }
-    // Element by element.
+    // Memory aside, each element from 2 to 128 has the value that the order's key and act give it,
+    // and is missing where they give none.
     ensures each { IfOk result (λ made. (n : ℕ) → 2 ≤ n → n ≤ 128
         → value_in made.elements n ≡ request_value order.now.key order.now.act n) }
-    // What it asks is that very order.
+    // Memory aside, what the message asks is that very order.
     ensures order { IfOk result (λ made. AsksFor made order.now) }
-    // Both built-in tables can write it.
+    // Memory aside, neither built-in table refuses the message.
     ensures fits { IfOk result FitsEdition87 }
 {
     // the laws that a request asks for its order, and that both built-in tables can write it, for the prover

@@ -185,14 +185,15 @@ fn add_all(
 /// enough where it has the room. Where memory runs out, it has the response's type and the first of its elements. The
 /// other message and the answer are lent to be read, and stay.
 pub fn respond_into(message: &Message, answer: &Answer, into: &mut Message) -> Result<(), NoMemory>
-    // A request or an advice.
+    // The message is a request or an advice.
     requires asks { is_answered (function message.now) ≡ true }
-    // A balance of at most twelve digits, shown where the verdict is an inquiry.
+    // A balance that is to be shown has at most twelve digits, and the message is an inquiry.
     requires shown { is_showable message.now answer.now.shown ≡ true }
     // Memory aside, the message becomes the whole response: what is given back, 38, 39
     // and 54, and nothing else.
     ensures whole { OnOk result (into.new ≡ response message.now answer.now) }
-    // Element by element.
+    // Memory aside, each element from 2 to 128 has the value that the message and the answer give
+    // it, and is missing where they give none.
     ensures each { OnOk result ((n : ℕ) → 2 ≤ n → n ≤ 128
         → value_in into.new.elements n ≡ element message.now answer.now n) }
     // Without memory the message has the response's type and, from the front
@@ -209,14 +210,15 @@ pub fn respond_into(message: &Message, answer: &Answer, into: &mut Message) -> R
 /// response code (element 39), where a payment is granted its approval number (38), and the balance that is
 /// shown (54). Refuses only for want of memory: the message and the answer are lent to be read, and stay.
 pub fn respond(alloc: Global, message: &Message, answer: &Answer) -> Result<Message, NoMemory>
-    // A request or an advice.
+    // The message is a request or an advice.
     requires asks { is_answered (function message.now) ≡ true }
-    // A balance of at most twelve digits, shown where the verdict is an inquiry.
+    // A balance that is to be shown has at most twelve digits, and the message is an inquiry.
     requires shown { is_showable message.now answer.now.shown ≡ true }
     // Memory aside, the message is the whole response: what is given back, 38, 39
     // and 54, and nothing else.
     ensures whole { IfOk result (λ made. made ≡ response message.now answer.now) }
-    // Element by element.
+    // Memory aside, each element from 2 to 128 has the value that the message and the answer give
+    // it, and is missing where they give none.
     ensures each { IfOk result (λ made. (n : ℕ) → 2 ≤ n → n ≤ 128
         → value_in made.elements n ≡ element message.now answer.now n) }
 {

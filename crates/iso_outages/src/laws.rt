@@ -22,7 +22,8 @@ pub fn crashes_only_lose()
     // After each run, whenever the host crashes in it, both books agree where all is closed and no
     // order of others is entered, by the disk and with what waits for a sync too.
     ensures books { BalanceOverCrashes }
-    // A call of `DurableIssuer::answer_all` is one of the runs that this speaks of.
+    // Sent orders that are delivered one after another, and a sync behind them, leave the host as
+    // `answer_all` leaves it, and its answers are given.
     ensures calls { CallsAreRuns }
 {
     runs_agree();

@@ -327,16 +327,19 @@ impl Bitmap {
     pub fn read_raw(bytes: &[u8]) -> Result<BitmapStep, BitmapFault>
         // A set that is got is the one that the first bytes spell.
         ensures found { FoundMaps BitmapCoding.Raw bytes.now result }
-        // The set that bytes at the front spell is got.
+        // Where the first bytes spell a set without 65, its numbers from 2 to 128 are got, and how
+        // many bytes spell it.
         ensures only { (two : Bool) (set : ℕ → Bool) (front rest : List ℕ) → set 65 ≡ false → Bitmaps BitmapCoding.Raw two set front
             → bytes.now ≡ front ++ rest → IsSetRead set (length front) result }
-        // It has neither number 1, whose bit tells of the secondary bitmap, nor 0, 65 or one above 128.
+        // A set that is got has only numbers that elements may have: 2 to 64 and 66 to 128.
         ensures numbers { IfRead result AreElements }
-        // Which fault it is, and that bytes are missing.
+        // The answer is what reading gives, bitmap by bitmap: a set and its bytes, `More`, or the
+        // first fault and its offset.
         ensures exact { ReadsMaps result (maps_at BitmapCoding.Raw bytes.now) }
-        // `More` comes exactly where the bytes end inside the bitmaps,
+        // `More` comes exactly where the bytes end inside the bitmaps.
         ensures more { (result ≡ Ok BitmapStep.More) ↔ EndsInMaps BitmapCoding.Raw bytes.now }
-        // and a fault exactly where a whole one is bad, at its offset.
+        // A fault comes exactly where a whole bitmap behind good ones is bad: it tells its offset,
+        // and what is wrong with it.
         ensures stops { (e : BitmapFault) → (result ≡ Err e)
             ↔ AreBadMaps BitmapCoding.Raw bytes.now e.at e.cause }
     {
@@ -348,16 +351,19 @@ impl Bitmap {
     pub fn read_hex(bytes: &[u8]) -> Result<BitmapStep, BitmapFault>
         // A set that is got is the one that the first bytes spell.
         ensures found { FoundMaps BitmapCoding.Hex bytes.now result }
-        // The set that bytes at the front spell is got.
+        // Where the first bytes spell a set without 65, its numbers from 2 to 128 are got, and how
+        // many bytes spell it.
         ensures only { (two : Bool) (set : ℕ → Bool) (front rest : List ℕ) → set 65 ≡ false → Bitmaps BitmapCoding.Hex two set front
             → bytes.now ≡ front ++ rest → IsSetRead set (length front) result }
-        // It has neither number 1, whose bit tells of the secondary bitmap, nor 0, 65 or one above 128.
+        // A set that is got has only numbers that elements may have: 2 to 64 and 66 to 128.
         ensures numbers { IfRead result AreElements }
-        // Which fault it is, and that bytes are missing.
+        // The answer is what reading gives, bitmap by bitmap: a set and its bytes, `More`, or the
+        // first fault and its offset.
         ensures exact { ReadsMaps result (maps_at BitmapCoding.Hex bytes.now) }
-        // `More` comes exactly where the bytes end inside the bitmaps,
+        // `More` comes exactly where the bytes end inside the bitmaps.
         ensures more { (result ≡ Ok BitmapStep.More) ↔ EndsInMaps BitmapCoding.Hex bytes.now }
-        // and a fault exactly where a whole one is bad, at its offset.
+        // A fault comes exactly where a whole bitmap behind good ones is bad: it tells its offset,
+        // and what is wrong with it.
         ensures stops { (e : BitmapFault) → (result ≡ Err e)
             ↔ AreBadMaps BitmapCoding.Hex bytes.now e.at e.cause }
     {

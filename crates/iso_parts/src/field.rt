@@ -127,7 +127,7 @@ fn encode_part(spec: &FieldSpec, value: &[u8], out: &mut Vec<u8>) -> Result<(), 
 pub fn encode_field(spec: &FieldSpec, value: &[u8], out: &mut Vec<u8>) -> Result<(), FieldFault>
     // The row is one that a table may have.
     requires { IsGood spec.now }
-    // A value that is written fits, and one that fits is written, unless memory runs out.
+    // A value that is written fits the row.
     ensures fits { OnOk result (Fits spec.now value.now) }
     // A value that fits the row is written, unless memory runs out.
     ensures only { Fits spec.now value.now → IfErr result (λ e. e ≡ Memory) }
@@ -135,7 +135,8 @@ pub fn encode_field(spec: &FieldSpec, value: &[u8], out: &mut Vec<u8>) -> Result
     ensures part { OnOk result (out.new.items ≡ out.old.items ++ plain_part spec.now value.now) }
     // The plain part of a value that is written is a part of that value under the row.
     ensures spelled { OnOk result (Part spec.now value.now (plain_part spec.now value.now)) }
-    // Which fault it is, unless memory ran out.
+    // No value is written that is to be refused for its length, a character, or a pad at its padded
+    // end.
     ensures accepted { OnOk result (refusal spec.now value.now ≡ None) }
     // Memory aside, the fault is the first reason why the value doesn't fit: its length, a
     // character, or a pad at its padded end.
@@ -277,17 +278,19 @@ fn step_of(alloc: Global, spec: &FieldSpec, bytes: &[u8]) -> Result<Step, FieldF
 pub fn decode_field(alloc: Global, spec: &FieldSpec, bytes: &[u8]) -> Result<Step, FieldFault>
     // The row is one that a table may have.
     requires { IsGood spec.now }
-    // A value that is got is that of the part at the front.
+    // Where a value is got, the first bytes, as many as are told, are a part of it under the row.
     ensures found { IfGot result (λ value used. (used ≤ length bytes.now) × Part spec.now value (take used bytes.now)) }
     // The value of a part at the front is got, unless memory runs out.
     ensures only { (value part rest : List ℕ) → Part spec.now value part → bytes.now ≡ part ++ rest → Reads result (got value (length part)) }
-    // Which fault it is, and that bytes are missing.
+    // Memory aside, the answer is what reading the part gives: its value and how many bytes it
+    // takes, `More`, or its first fault.
     ensures exact { Reads result (part_at spec.now bytes.now) }
-    // By its whole pieces, `More` says that the bytes end inside a part, and a fault that a piece is bad.
+    // `More` comes only where the bytes end inside a part, and a fault, but want of memory, only
+    // where a whole piece has it.
     ensures stops { StopsPart spec.now bytes.now result }
-    // Where they end inside a part,
+    // Where the bytes end inside a part, `More` comes, unless memory runs out.
     ensures more { EndsInPart spec.now bytes.now → Reads result more }
-    // or a piece is bad, that is told, unless memory runs out.
+    // Where a whole piece is bad, its fault comes, unless memory runs out.
     ensures told { (e : FieldFault) → IsBadPart spec.now bytes.now e → Reads result (fault e) }
     // No part of the row begins with another one, and two values have no part in common.
     ensures one_part { (v w a b x y : List ℕ) → Part spec.now v a → Part spec.now w b → a ++ x ≡ b ++ y → (v ≡ w) × (a ≡ b) }

@@ -299,17 +299,19 @@ fn judged_of(spec: &FieldSpec, bytes: &[u8]) -> Result<Judged, FieldFault>
 pub fn judge_field(spec: &FieldSpec, bytes: &[u8]) -> Result<Judged, FieldFault>
     // The row is one that a table may have.
     requires { IsGood spec.now }
-    // What is judged good is a part of some value,
+    // What is judged good lies within the bytes, and is a part of some value under the row.
     ensures found { IfJudged result (λ body used. (used ≤ length bytes.now) × ((value : List ℕ) × Part spec.now value (take used bytes.now))) }
-    // and its value can be decoded without judging it again.
+    // Of what is judged good, reading gives a value: it can be decoded without judging it again.
     ensures part { IfJudged result (λ body used. IsPart (part_at spec.now bytes.now)) }
-    // It is judged as reading the value judges it,
+    // The judgement is that of reading the value: good, with the offset of the body, or `More`, or
+    // the same fault.
     ensures exact { Judges (prefix_size spec.now.length) result (part_at spec.now bytes.now) }
-    // with `More` exactly where, by its whole pieces, the bytes end inside a part,
+    // `More` comes exactly where, by its whole pieces, the bytes end inside a part.
     ensures more { (result ≡ Ok Judged.More) ↔ EndsInPart spec.now bytes.now }
-    // and a fault exactly where a piece is bad, and first for it,
+    // A fault comes exactly where a whole piece behind good ones is bad, and is the first thing
+    // that is wrong with it.
     ensures stops { (e : FieldFault) → (result ≡ Err e) ↔ IsBadPart spec.now bytes.now e }
-    // and there is always memory.
+    // Want of memory is never the fault.
     ensures memory { IfErr result (λ e. e ≢ Memory) }
     // A part that is judged good lies within the bytes, and its body within the part.
     ensures room { IfJudged result (λ body used. (body ≤ used) × (used ≤ length bytes.now)) }

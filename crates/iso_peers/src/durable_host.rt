@@ -100,7 +100,7 @@ impl<L: Log> DurableHost<L> {
         ensures kept { self.new.kept ≡ self.old.kept }
         // Whether the log failed stays as it was.
         ensures failed { self.new.has_failed ≡ self.old.has_failed }
-        // However it ends, the log stays in step, and the orders that enter the books come to the host.
+        // However it ends, a log in step with the journal stays in step.
         ensures step { IsInStep L.is_ready L.synced L.pending self.old
             → IsInStep L.is_ready L.synced L.pending self.new }
         // Over a log in step, whatever orders enter the books come to the host: each new
@@ -206,7 +206,7 @@ impl<L: Log> DurableHost<L> {
         // Bytes are handed out exactly where the log never failed and every
         // order of the journal is kept.
         ensures kept { IsSome result ↔ IsKept self.now }
-        // Then every order that came is on the disk.
+        // Where bytes are handed out, every order that came is on the disk.
         ensures synced { IsSome result → (durable_of L.synced self.now).pending ≡ [] }
     {
         if self.has_failed {

@@ -42,7 +42,8 @@ impl<L: Log> DurableHost<L> {
         // At `Ok` a log in step with the journal stays in step.
         ensures step { OnOk result (IsInStep L.is_ready L.synced L.pending self.old
             → IsInStep L.is_ready L.synced L.pending self.new) }
-        // The orders that entered the books came to the host, and were synced.
+        // At `Ok`, over a log in step, the orders that entered the books came to the host, and are
+        // synced.
         ensures comes { OnOk result (IsInStep L.is_ready L.synced L.pending self.old
             → (orders : List Instruction) → self.new.host ≡ books_after self.old.host orders
             → durable_of L.synced self.new ≡ syncs (come_all (durable_of L.synced self.old) orders)) }

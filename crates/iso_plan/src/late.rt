@@ -51,7 +51,8 @@ impl Late {
 
     /// Holds something back until a moment, in milliseconds. After an `Err` nothing changed.
     pub fn hold(&mut self, at: u64, held: Held) -> Result<(), AllocError>
-        // Behind what waits for that moment or an earlier one, before all else: of the first 18446744073709551615.
+        // At `Ok`, for the first 2^64 - 1 that are held, it waits behind what waits for that moment
+        // or an earlier one, and before all else.
         ensures held { OnOk result (self.old.count < 18446744073709551615
             → self.new.waits ≡ put at held self.old.waits) }
         // Without memory all that is held back is as before.

@@ -44,7 +44,7 @@ fn allowed(pace: &Pace, elapsed: u64) -> u64
 /// How many purchases begin at a moment of the run, in milliseconds, where so many have begun and so many transactions are
 /// open.
 pub fn due_purchases(pace: &Pace, elapsed: u64, begun: u64, opened: usize) -> u64
-    // Those that the rate and the count allow and that haven't begun, as far as there is room for
+    // It is how many more the rate and the count allow than have begun, as far as there is room for
     // open ones; none before the opening, and none from the closing on.
     ensures { result ≡ due_purchases pace.now elapsed begun opened }
 {

@@ -148,9 +148,9 @@ fn row_in(text: &[u8; RECORD]) -> Option<Row>
 pub fn read_row(text: &[u8; RECORD]) -> Option<Row>
     // It is the order and the answer that the bytes tell, and `None` where they are no such record.
     ensures value { result ≡ row_in text.now }
-    // what was written comes back,
+    // The record of an order and an answer that can be written is read as that order and answer.
     ensures back { (r : Row) → is_row r ≡ true → row_bytes r ≡ text.now → result ≡ Some r }
-    // and nothing else is read
+    // Bytes that are read as an order and its answer are the very bytes of their record.
     ensures only { IfSome result (λ r. row_bytes r ≡ text.now) }
     // What is read can be written: an order that a message can ask, a code of at most 99, a
     // place of at most 999,999.

@@ -168,7 +168,7 @@ impl Pending {
         }) }
         // For want of memory nothing changes in what waits.
         ensures unchanged { OnErr result (self.new ≡ self.old) }
-        // Those under other keys stay, where there is room.
+        // Requests under other keys stay, where there is room.
         ensures others { OnOk result (IfSome (key_of route.now) (λ key. (other : TxKey)
             → same_key key other ≡ false → length self.old.entries < most_pending
             → heard_under other self.new.entries ≡ heard_under other self.old.entries)) }
@@ -190,19 +190,20 @@ impl Pending {
           count = self.old.count;
           entries = answered shard key.now code self.old.entries;
         } }
-        // What is passed on was said by every shard that was asked, whatever happened before;
+        // What is passed on was said last by every shard that was asked, since it was asked,
+        // whatever happened before.
         ensures said { result ≡ Decision.PassOn → (events : List Event)
             → self.old.entries ≡ entries_after self.old.count events
             → IsSaidByAll self.old.count shard key.now code (Says shard key.now code ∷ events) }
-        // while one of them is silent, nothing is passed on,
+        // While a shard that was asked is silent, the answer of one that was asked is held.
         ensures silent { (heard : List Heard) → heard_under key.now self.old.entries ≡ Some heard
             → list_any is_nothing (heard_from shard code heard) ≡ true
             → is_asked shard heard ≡ true → result ≡ Decision.Hold }
-        // and nothing where none was asked under the key.
+        // An answer under a key under which no request waits is dropped.
         ensures unasked { heard_under key.now self.old.entries ≡ None → result ≡ Decision.Drop }
-        // After it no other is passed on, until shards are asked again.
+        // Once an answer is passed on, no request waits under its key any more.
         ensures once { result ≡ Decision.PassOn → heard_under key.now self.new.entries ≡ None }
-        // Those under other keys stay.
+        // Requests under other keys stay.
         ensures others { (other : TxKey) → same_key key.now other ≡ false
             → heard_under other self.new.entries ≡ heard_under other self.old.entries }
     {

@@ -68,7 +68,8 @@ pub fn exchange_over<I: Read, O: Write, W: Waiting>(
     ensures came { IfOk result (λ done. Consumes (I.remaining input.old) (I.remaining input.new) done.came.items) }
     // A front of the frames was sent, and nothing else.
     ensures sent { IfOk result (λ done. IsSent (O.contents output.old) (O.contents output.new) plan.entry.frames.now done.unsent) }
-    // How it ended.
+    // At `Whole` all is sent, and as many frames came as are wanted; at `BadHeader` a header that
+    // came isn't of digits; of other ends it says nothing.
     ensures ends { IfOk result (Ends plan.entry) }
 {
     splits_once();

@@ -92,7 +92,7 @@ impl<L: NoteLog> DurableAcquirer<L> {
         ensures ready { IfOk result (λ a. a.has_failed ≡ false) }
         // An `Err` hands back the very log that was given.
         ensures log { IfErr result (λ e. e.1 ≡ log) }
-        // `Damaged` only where no acquirer can have written these notes.
+        // `Damaged` comes only where no acquirer can have written these notes.
         ensures damaged { IfErr result (λ e. e.0 ≡ Fault.Damaged
             → CanBeWritten (party_after id []) notes.now → ⊥) }
     {

@@ -14,7 +14,8 @@ use iso_outages::laws::crashes_only_lose;
 pub fn both_may_crash()
     // Each run with crashes of the acquirer is a run without: what a crash took was never sent there, or never heard.
     ensures without { CrashesOnlyLose }
-    // And each run with crashes of either is a run without any.
+    // After each run with crashes of either end, both disks are as after a run without any, where
+    // all that was sent is sent, and all answers but those of 96 are given.
     ensures without_any { CrashesOfBothOnlyLose }
     // After each run, with crashes of either end at any moments, both ends agree on each
     // transaction, by what is on both disks and by what either or both have in memory.
@@ -29,7 +30,8 @@ pub fn both_may_crash()
     ensures numbers { SentAsKept }
     // A start goes on with whatever a crash leaves: it calls none of it damaged.
     ensures starts { StartsGoOn }
-    // The calls of `DurableAcquirer` are the events that this speaks of.
+    // The events of a run do to the acquirer's notes, and send, what `begin`, `timed_out`, `told`,
+    // `keep` and `start` of `DurableAcquirer` do.
     ensures calls { CallsAreEvents }
 {
     crashes_only_lose();

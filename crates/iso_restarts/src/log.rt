@@ -36,7 +36,8 @@ pub trait NoteLog {
         // At `Ok` the note waits behind the others.
         ensures pending { OnOk result (is_ready self.old
             → pending self.new ≡ pending self.old ++ note ∷ []) }
-        // however it ends
+        // However it ends, a crash leaves the synced notes, and of those behind them, this one too,
+        // some from the front.
         ensures crash { is_ready self.old
             → LeavesFront (may_leave self.new) (synced self.old) (pending self.old ++ note ∷ []) };
 
@@ -49,7 +50,8 @@ pub trait NoteLog {
             → synced self.new ≡ synced self.old ++ pending self.old) }
         // At `Ok` nothing waits for a sync any more.
         ensures none { OnOk result (is_ready self.old → pending self.new ≡ []) }
-        // however it ends
+        // However it ends, a crash leaves the synced notes, and of those that waited some from the
+        // front.
         ensures crash { is_ready self.old
             → LeavesFront (may_leave self.new) (synced self.old) (pending self.old) };
 

@@ -71,7 +71,8 @@ impl Script {
     /// How the host behaves to a message: the first rule decides that the message fits, and whose turn it is. Takes no
     /// memory.
     pub fn behaviour(&self, message: &Message) -> Behaviour
-        // No rule before that one decides, and where none does, the host is honest.
+        // It is the deed of the first rule that decides at the message; where none does, the host
+        // is honest.
         ensures { IsBehaviour self.now message.now result }
     {
         behaviour_by(&self.rules, message)

@@ -136,7 +136,8 @@ impl Scripted {
         body: &[u8],
         out: &mut Vec<u8>,
     ) -> Result<Behaviour, NoMemory>
-        // The first rule decides whose turn it is; books and answer are as it says; each rule counts the message.
+        // Memory aside, the first rule that decides at the message says what enters the books and
+        // goes out, honestly without one; each rule counts the message.
         ensures misbehaves { IfOk result (Misbehaves link.now.table link.now.header self.old self.new
             body.now out.old.items out.new.items) }
         // Without memory the books are as they were, or the order is entered, and has an answer.

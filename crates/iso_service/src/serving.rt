@@ -67,7 +67,8 @@ pub fn serve_kept<L: Log, R: Inlet, W: Outlet>(
     ensures kept { IsInStep L.is_ready L.synced L.pending host.old → IsKept host.old
         → AreKept link.now.table link.now.header (W.contents writer.old) (W.contents writer.new)
         host.old.host (L.may_leave host.new.log) }
-    // What was read, entered and answered, by how it ends.
+    // At `Ok`, `Read`, `BadHeader` and `CutFrame` all whole frames are entered and answered, at
+    // `Memory` those in front; of `Write` and `Log` it says nothing.
     ensures leaves { Leaves link.now.table link.now.header (R.remaining reader.old) (R.remaining reader.new)
         (W.contents writer.old) (W.contents writer.new) host.old.host host.new.host result }
 {

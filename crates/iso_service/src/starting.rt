@@ -70,9 +70,10 @@ pub fn start<J: Journals, W: Watch>(
     ensures accounts { IfOk result (λ host. host.issuer.accounts ≡ accounts) }
     // At `Ok` the limit of the journal is 999,999 orders.
     ensures limit { IfOk result (λ host. host.issuer.limit ≡ 999999) }
-    // The host has the orders of the file that was opened, each record is what a host writes, and nothing waits.
+    // At `Ok`, on a disk that didn't lie and shows what is on it, the log is ready, and the host
+    // has exactly the orders of its file, of which none waits.
     ensures started { IfOk result (λ host. (disk : J.Disk) × IsStarted J.Disk.seen J.Disk.may_leave J.Disk.is_usable J.Disk.is_clean disk host) }
-    // A file that is no journal of these accounts is told as what its first bytes are.
+    // Where the file's bytes are known, a fault about its front is what its first 128 bytes tell.
     ensures fault { IfErr result (λ e. IfSome (J.held_at journals.now path.now) (λ held. IsWhy (heading_bytes heading.now) held e)) }
 {
     check_front(alloc, journals, path, heading)?;

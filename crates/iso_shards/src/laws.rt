@@ -23,11 +23,13 @@ pub fn shards_are_apart()
     // Entry by entry, reversals too, the shard has those of the whole that are sent to it, with the
     // same answers but for their places.
     ensures entries { EntriesAreTheSame }
-    // What `Issuer::balances`, `ledger`, `available` and `held` tell of a shard.
+    // The balances of a shard are those that the whole has on the shard's accounts, in the same
+    // order.
     ensures balances { BalancesAreTheSame }
     // A shard finds its own accounts as the whole does, and no other.
     ensures accounts { AccountsAreFound }
-    // As `Issuer::new`, `handle` and `run` leave it.
+    // Before any order comes, the books of some accounts are a shard of those of all, whatever the
+    // limits.
     ensures begins { ShardsBegin }
     // An order that is sent to the shard gets the same answer there, but for its place, and leaves
     // it a shard of the whole, as long as orders of one key go together.
@@ -46,7 +48,8 @@ pub fn shards_are_apart()
     // Where orders with one key name one account, or none, they go together,
     // however the accounts are split.
     ensures together { OneAccountGoesTogether }
-    // A reversal comes to every shard, and what it reverses to one.
+    // Two shards of one whole give one answer to a reversal, but for its place, as long as orders
+    // of one key go together.
     ensures reversals { ReversalsAreTheSame }
     // A reversal is answered with code 0, unless an order was entered under its key.
     ensures granted { ReversalsAreGranted }
@@ -58,7 +61,8 @@ pub fn shards_are_apart()
     // Whatever orders shards took, there are books of all accounts that have what concerns each
     // shard, in its order, and agree with it, if no key was given twice.
     ensures whole { ShardsHaveAWhole }
-    // A completion comes to the shard of its account, as its hold does.
+    // A completion of a hold that isn't there, under a new key of class 2, is answered as a debit
+    // would be, leaves the same balances, and ends no hold.
     ensures completions { StrayCompletionsAreDebits }
 {
     journals_grow();

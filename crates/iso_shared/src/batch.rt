@@ -33,7 +33,8 @@ pub fn write_batch(out: &mut Vec<u8>, heading: &Heading, rows: &[Row]) -> Result
     // for each order with its answer.
     ensures bytes { OnOk result (out.new.items
         ≡ batch_bytes (record { heading = heading.now; rows = rows.now })) }
-    // It can be written, so it comes back.
+    // Where it succeeds, the batch is one that can be written: at most 8,191 orders, and a place of
+    // at most ten digits.
     ensures filed { OnOk result (is_filed (record { heading = heading.now; rows = rows.now }) ≡ true) }
     // It fails only where the batch has too many orders or names a place behind the last one, or
     // for want of memory.

@@ -57,13 +57,14 @@ pub fn calls_are_events<S: Store + Drop, P: Patience + Drop>()
     // A sync is, among what others do, the batch that its host sends and reads, if it has an order.
     // Then the answers that waited are told, and no others.
     ensures syncs { (old new : SharedLog S P) → SyncsAreEvents S.kept S.sent old new }
-    // So each answer that a sync hands out is the one that the log gives, whatever others did.
+    // Each answer that a sync hands out is the one that the log gives to its order, whatever others
+    // did.
     ensures tells { (old new : SharedLog S P) → SyncsTellTheLog S.kept S.sent old new }
     // Whatever a call sends, also one that fails, is the batch that its host sends.
     ensures sends { (log : SharedLog S P) → SendsItsBatch S.kept log }
-    // What others do between the calls leaves it the log of its host.
+    // What others do between the calls of a log leaves it the log of its host.
     ensures others { (log : SharedLog S P) → OthersLeaveLogs S.kept log }
-    // A start is a restart, reading on is a host that reads, and such a host goes on as one that writes.
+    // A start on what a standby has read is the event that its host restarts on so many batches.
     ensures starts { (standby : Standby S) → StartsAreRestarts S.kept standby }
     // Reading on is the event that a host reads the next batch, and no answer is told by it.
     ensures reads { (old new : Standby S) → ReadingIsAnEvent S.kept old new }

@@ -165,10 +165,12 @@ impl<S: Store + Drop, P: Patience + Drop> Log for SharedLog<S, P> {
         ensures crash { IsReady S.kept self.old
             → LeavesFront (MayLeave S.kept self.new) (synced_orders S.kept self.old)
             (pending_orders S.kept self.old ++ order ∷ []) }
-        // What it does, step by step.
+        // At `Ok` the order joins the batch that is being made; where that was full, it stands at
+        // the next place, and the order begins another.
         ensures adds { OnOk result (Adds S.kept S.sent self.old self.new
             (record { order = order; answer = answer })) }
-        // After a failure the log is as it was, and each call fails.
+        // After a failure the orders are as they were, and nothing was sent but the batch that was
+        // made.
         ensures stays { OnErr result (Stays S.kept S.sent self.old self.new) }
         // A failure has a reason. After it each call fails, with the same one.
         ensures fails { Fails S.kept S.sent self.old self.new result }

@@ -46,14 +46,16 @@ pub fn open<S: Store + Drop, P: Patience + Drop>(
     requires least { 1 ≤ limit }
     // The limit is at most 999,999 orders.
     requires most { limit ≤ 999999 }
-    // It has the orders of the batches that were read, and nothing waits.
+    // Where it succeeds, the host is in step with its log: the log knows only batches that are
+    // kept, and the host has their orders.
     ensures consistent { IfOk result (λ host. IsConsistent (λ l. IsReady S.kept l)
         (λ l. synced_orders S.kept l) (λ l. pending_orders S.kept l) host) }
     // Where it succeeds, the host has the accounts that are given.
     ensures accounts { IfOk result (λ host. host.issuer.accounts ≡ accounts) }
     // Where it succeeds, the host has the limit that is given.
     ensures limit { IfOk result (λ host. host.issuer.limit ≡ limit) }
-    // No two of them have one key, and there are no more than the limit.
+    // Where it succeeds, no two orders of the host have one key, and there are no more than the
+    // limit.
     ensures start { IfOk result (λ host. IsStart limit host.issuer.orders) }
     // Where it succeeds, the host's log writes as the writer that is given.
     ensures writer { IfOk result (λ host. host.log.writer ≡ writer) }
@@ -63,7 +65,7 @@ pub fn open<S: Store + Drop, P: Patience + Drop>(
     ensures synced { IfOk result (λ host. host.log.synced ≡ host.log.seen) }
     // Where it succeeds, the host hasn't failed.
     ensures good { IfOk result (λ host. host.has_failed ≡ false) }
-    // What the store kept before is kept.
+    // Where it succeeds, what the store kept is kept, each batch at its place.
     ensures grows { IfOk result (λ host. Grows (S.kept store) (S.kept host.log.store)) }
 {
     let mut standby = Standby::new(accounts, limit, store);

@@ -103,10 +103,10 @@ pub fn read_batch(alloc: Global, text: &[u8]) -> Result<Batch, ReadFault>
     ensures value { IfOk result (λ b. batch_in text.now ≡ Some (filed_of b)) }
     // Bytes are refused as no batch only where they are none.
     ensures none { IsErrOf result ReadFault.Format → batch_in text.now ≡ None }
-    // What was written comes back,
+    // Of the bytes that are written for a batch, no other batch is read.
     ensures back { (b : Filed) → is_filed b ≡ true → batch_bytes b ≡ text.now
         → IfOk result (λ r. filed_of r ≡ b) }
-    // and nothing else is read.
+    // Bytes that are read as a batch are those that are written for it.
     ensures only { IfOk result (λ b. batch_bytes (filed_of b) ≡ text.now) }
 {
     batches_come_back();

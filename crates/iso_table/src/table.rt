@@ -260,7 +260,7 @@ impl Table {
     pub fn to_draft(&self, alloc: Global) -> Result<Draft, NoMemory>
         // Memory aside, the draft has the table's version, codings and rows, in ascending order.
         ensures contents { IfOk result (λ draft. contents draft ≡ draft_of self.now) }
-        // It is accepted, and no other table can be made of it.
+        // Memory aside, the draft is an accepted one, and says what the table says.
         ensures accepted { IfOk result (λ draft. Accepted (contents draft) × Holds self.now (contents draft)) }
         // Memory aside, each accepted table that says what the draft says is this very table.
         ensures again { IfOk result (λ draft. (t : Layout) → IsAccepted t → Holds t (contents draft) → t ≡ self.now) }

@@ -239,10 +239,11 @@ impl<'a> View<'a> {
     /// The value of an element, if the message has it. The table is the one that the message was viewed under; another
     /// one reads something else there, or gives its fault.
     pub fn value(&self, alloc: Global, table: &Table, n: u8) -> Result<Option<Vec<u8>>, UnpackFault>
-        // It is the value that the message has, which `unpack` reads of the bytes,
+        // Under the table of the view, it is the element's value in the message that the bytes
+        // begin with, and `None` where that has none.
         ensures value { (m : Contents) (size : ℕ) → IsViewed table.now self.now self.now.bytes → BeginsWith table.now m size self.now.bytes
             → IfOk result (λ got. MatchOption got (value_in m.elements n ≡ None) (λ v. value_in m.elements n ≡ Some v.items)) }
-        // and is always given, unless memory runs out.
+        // Under the table of the view, want of memory is the only fault.
         ensures memory { IsViewed table.now self.now self.now.bytes → IfErr result (λ e. e ≡ out_of_memory) }
     {
         reads_spellings();

@@ -339,9 +339,9 @@ impl Elements {
         requires whole { IsWhole self.now }
         // The set has exactly the numbers of the elements.
         requires numbered { IsNumbered self.now }
-        // The same of the other elements: each number has an end.
+        // Each number of the other set has an end, and every byte there belongs to a value.
         requires other_whole { IsWhole other.now }
-        // Their set has exactly their numbers.
+        // The other set has exactly the numbers of the other elements.
         requires other_numbered { IsNumbered other.now }
         ensures { IsTrue result ↔ (views self.now ≡ views other.now) }
     {

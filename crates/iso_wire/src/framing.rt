@@ -109,7 +109,7 @@ pub fn append_frame(header: Header, body: &[u8], out: &mut Vec<u8>) -> Result<()
 
 /// The frame of a body.
 pub fn frame(alloc: Global, header: Header, body: &[u8]) -> Result<Vec<u8>, FrameFault>
-    // What is made is the frame of the one body.
+    // What is made is the frame of this body alone.
     ensures framed { IfOk result (λ out. Frames header (body.now ∷ []) out.items) }
     // `TooLong` comes exactly where the body is longer than the header can count.
     ensures too_long { IsErrOf result faults.TooLong ↔ (largest header < length body.now) }

@@ -44,15 +44,17 @@ pub fn reads_spellings()
 /// Bytes begin with a spelling, or they stop at one place, at one element, for one cause: behind some good pieces, at
 /// the first piece that isn't whole or is bad.
 pub fn stops()
-    // Reading gives a fault exactly where the bytes stop.
+    // Under good rows, reading gives a fault exactly where the bytes stop: at that place and
+    // element, for that cause.
     ensures exact { StopsAsRead }
-    // They begin with a spelling, or they stop,
+    // Under good rows, any bytes begin with a spelling, or stop somewhere.
     ensures some { SpellsOrStops }
-    // and not both,
+    // Under good rows, no bytes begin with a spelling and stop as well.
     ensures either { NeverBoth }
-    // and they stop once.
+    // Under good rows, bytes stop at one place at most, at one element, for one cause.
     ensures once { StopsOnce }
-    // They go on to stop there whatever bytes follow, unless they are too short.
+    // Under good rows, bytes that stop, but not for being too short, stop there for that cause
+    // whatever bytes follow.
     ensures stay { StopsStay }
 {
     reads_spellings();
@@ -63,9 +65,9 @@ pub fn stops()
 
 /// A well-formed message that the table doesn't refuse has one plain spelling, which `pack` writes.
 pub fn spelled_once()
-    // It has one.
+    // Each well-formed message that a table with good rows doesn't refuse has a plain spelling.
     ensures some { HasPlain }
-    // No message has two.
+    // Under one table no message has two plain spellings.
     ensures once { PlainOnce }
 {
     iso_parts::laws::parts();

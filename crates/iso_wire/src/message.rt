@@ -99,7 +99,7 @@ impl PartialEq for Message {
     fn eq(&self, other: &Message) -> bool
         // The type and the elements are compared.
         ensures same { result ≡ same_contents self.now other.now }
-        // The answer of `equals`.
+        // It is true exactly where the messages are equal.
         ensures equal { IsTrue result ↔ (self.now ≡ other.now) }
     {
         self.equals(other)
@@ -140,7 +140,7 @@ impl Message {
     /// Makes it a message of that type with no elements, and with room for so many elements whose values have so many
     /// bytes. The memory that it has is kept, and is enough where it has the room.
     pub fn start_over(&mut self, mti: Mti, elements: usize, bytes: usize) -> Result<(), AllocError>
-        // Where memory runs out too.
+        // Whether memory suffices or not, the message then has this type and no elements.
         ensures { self.new ≡ record { mti = mti_number mti; elements = [] } }
     {
         self.mti = mti;
@@ -297,7 +297,7 @@ impl Message {
         ensures found { result ≡ has self.old.elements n }
         // The message hasn't the element any more; its type and every other element stay.
         ensures left { self.new ≡ record self.old { elements = without n self.old.elements } }
-        // `get` gives none of it then, and of every other element what it gave before.
+        // `get` then gives no value of the element, and of every other one what it gave before.
         ensures alone { ChangesAlone n None self.old.elements self.new.elements }
     {
         self.elements.remove(n)

@@ -137,7 +137,8 @@ pub fn append_message(table: &Table, message: &Message, out: &mut Vec<u8>) -> Re
     ensures accepted { OnOk result (message_refusal table.now message.now ≡ None) }
     // A message that has a spelling is appended, unless memory runs out.
     ensures only { (b : List ℕ) → Spelling table.now message.now b → IfErr result (λ e. e ≡ pack.Memory) }
-    // Which fault it is, unless memory ran out.
+    // Memory aside, the fault is the first reason to refuse the message: its version, or an
+    // element, by ascending number.
     ensures fault { IfErr result (λ e. e ≢ pack.Memory → message_refusal table.now message.now ≡ Some e) }
     // After a fault nothing is appended.
     ensures unchanged { OnErr result (out.new.items ≡ out.old.items) }
@@ -167,7 +168,8 @@ pub fn pack(alloc: Global, table: &Table, message: &Message) -> Result<Vec<u8>, 
     ensures accepted { OnOk result (message_refusal table.now message.now ≡ None) }
     // A message that has a spelling is written, unless memory runs out.
     ensures only { (b : List ℕ) → Spelling table.now message.now b → IfErr result (λ e. e ≡ pack.Memory) }
-    // Which fault it is, unless memory ran out.
+    // Memory aside, the fault is the first reason to refuse the message: its version, or an
+    // element, by ascending number.
     ensures fault { IfErr result (λ e. e ≢ pack.Memory → message_refusal table.now message.now ≡ Some e) }
     // Whatever bytes follow it, what is written reads as the message, and no byte more.
     ensures again { IfOk result (λ out. (rest : List ℕ) → AreBytes rest →

@@ -121,20 +121,24 @@ impl<'t> Unpacker<'t> {
     /// the fault again until [`Unpacker::reset`]. Where memory ran out no byte of the piece is taken: the same piece
     /// can be fed again. Memory is taken for bytes of the message alone, however long the piece is.
     pub fn feed(&mut self, alloc: Global, piece: &[u8]) -> Result<Fed, UnpackFault>
-        // A fault that was answered is answered again, until `reset`.
+        // A fault that is kept is answered again, and nothing changes.
         ensures stopped { StaysStopped self.old self.new result }
-        // The answer is what `unpack` reads of the bytes taken and then the piece.
+        // Unless a fault is kept, and memory aside, the answer is what `unpack` reads of the bytes
+        // taken and then the piece.
         ensures exact { self.old.stopped ≡ None → Feeds (length self.old.taken) result (message_at self.old.table (self.old.taken ++ piece.now)) }
-        // How the unpacker stands afterwards.
+        // Unless a fault is kept: a message leaves no bytes taken, `More` those and the piece; a
+        // fault leaves none and is kept; without memory nothing changes.
         ensures state { self.old.stopped ≡ None → IsAfterFeed self.old self.new piece.now result }
-        // A fault tells where the bytes taken and then the piece stop, and why; more is wanted where they are too short;
+        // Unless a fault is kept, and memory aside, a fault tells where the bytes taken and then
+        // the piece stop, and why; `More` says that they are too short.
         ensures stops { self.old.stopped ≡ None → StopsFed self.old.table (self.old.taken ++ piece.now) result }
-        // and where they stop is answered.
+        // Unless a fault is kept, and memory aside, where the bytes taken and then the piece stop
+        // is answered: `More` where they are too short, else that fault.
         ensures told { self.old.stopped ≡ None → (at element : ℕ) (cause : UnpackCause)
             → Stops self.old.table (self.old.taken ++ piece.now) at element cause
             → Feeds (length self.old.taken) result (halt element at cause) }
-        // What is done is spelled by the first bytes, more is wanted only where none of them spells a message, and
-        // a fault comes only where no continuation begins with a spelling.
+        // Unless a fault is kept: `Done` is spelled by the first bytes; `More` comes only where
+        // these begin with no spelling; a fault, memory aside, only where no continuation does.
         ensures found { self.old.stopped ≡ None → FoundFed self.old.table (length self.old.taken) (self.old.taken ++ piece.now) result }
     {
         if let Some(fault) = self.stopped {
@@ -188,7 +192,7 @@ impl<'t> Unpacker<'t> {
     pub fn held(&self) -> usize
         // Each byte that `feed` took of the unfinished message is counted, and no other.
         ensures held { result ≡ length self.now.taken }
-        // They are never more than the longest message has.
+        // No more bytes are taken than the longest message has.
         ensures most { result ≤ max_bytes self.now.table }
     {
         iso_parts::laws::parts();
@@ -199,13 +203,14 @@ impl<'t> Unpacker<'t> {
     /// alone, with the element and the offset of the piece that isn't whole. A fault that was answered is that fault, until
     /// [`Unpacker::reset`]. Takes no memory.
     pub fn missing(&self) -> UnpackFault
-        // What `unpack` reads of the bytes taken is this fault,
+        // Unless a fault is kept, it is the fault that `unpack` gives of the bytes taken.
         ensures exact { self.now.stopped ≡ None → message_at self.now.table self.now.taken ≡ Err result }
-        // they are too short,
+        // Unless a fault is kept, it says that the bytes taken are too short.
         ensures short { self.now.stopped ≡ None → result.cause ≡ Short }
-        // and it tells where they stop.
+        // Unless a fault is kept, it tells the offset and the element at which the bytes taken are
+        // too short.
         ensures stops { self.now.stopped ≡ None → Stops self.now.table self.now.taken result.at result.element Short }
-        // A fault that was answered is told again.
+        // A fault that is kept is told again.
         ensures stopped { (fault : UnpackFault) → self.now.stopped ≡ Some fault → result ≡ fault }
     {
         if let Some(fault) = self.stopped {

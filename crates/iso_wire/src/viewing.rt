@@ -38,24 +38,26 @@ fn view_of<'a>(table: &Table, bytes: &'a [u8]) -> Result<View<'a>, UnpackFault>
 pub fn view<'a>(table: &Table, bytes: &'a [u8]) -> Result<View<'a>, UnpackFault>
     // What is viewed is spelled by the first bytes, and its bodies are those of that spelling.
     ensures found { IfOk result (λ v. IsViewed table.now v bytes.now) }
-    // The bodies lie in the bytes that are given,
+    // The bytes of the view are those that are given.
     ensures bytes { IfOk result (λ v. v.bytes ≡ bytes.now) }
-    // and those are the caller's own, not a copy.
+    // The view lies where the caller's bytes lie: it is no copy.
     ensures address { IfOk result (λ v. v.address ≡ bytes.entry.ref_ptr) }
     // What the first bytes spell is viewed.
     ensures only { ViewsSpelled table.now bytes.now result }
-    // The bodies are those of the message that reading gives. Which fault it is, and where;
+    // The answer is that of reading: the message's type, its length and the bodies of its elements;
+    // or the same fault.
     ensures exact { Views table.now bytes.now result (message_at table.now bytes.now) }
-    // it is never want of memory.
+    // Want of memory is never the fault.
     ensures memory { IfErr result (λ e. e.cause ≢ Memory) }
-    // A fault tells where the bytes stop, by their whole pieces, and why,
+    // A fault tells where the bytes stop, by their whole pieces, and why.
     ensures stops { IfErr result (λ e. Stops table.now bytes.now e.at e.element e.cause) }
-    // and where they stop is told.
+    // Where the bytes stop, that very fault is told.
     ensures told { (at element : ℕ) (cause : UnpackCause) → Stops table.now bytes.now at element cause
         → Views table.now bytes.now result (halt element at cause) }
-    // A fault comes only where the bytes begin with no spelling,
+    // A fault comes only where the bytes begin with no spelling.
     ensures refused { IfErr result (λ e. BeginsWithNone table.now bytes.now) }
-    // and where a whole piece is bad, no continuation begins with one either.
+    // Where the fault is another than missing bytes, no continuation of the bytes begins with a
+    // spelling.
     ensures settled { IfErr result (λ e. e.cause ≢ Short → (x : List ℕ) → AreBytes x → BeginsWithNone table.now (bytes.now ++ x)) }
     // Bodies with their lengths before them are the parts of the elements.
     ensures parts { (es ws : List (ℕ × List ℕ)) (b : List ℕ) → Wired table.now.rows es ws b → Parts table.now.rows es b }
