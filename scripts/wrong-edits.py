@@ -229,11 +229,12 @@ class Crate:
             except (OSError, ValueError, LookupError, re.error) as error:
                 print(f"{self.name}: its edits are tried one by one: {error!r}", file=sys.stderr, flush=True)
                 told = {}
+            told = {name: (True, why) for name, why in told.items()}
             told |= {it.name: self.try_whole(it) for it in edits if it.name not in told}
         finally:
             shutil.rmtree(self.room, ignore_errors=True)
-        lines = [f"{self.name}/{it.name}: {told[it.name] or 'NOT REFUSED: the crate is still proved with this edit'}" for it in edits]
-        refused = sum(bool(it) for it in told.values())
+        lines = [f"{self.name}/{it.name}: {told[it.name][1]}" for it in edits]
+        refused = sum(is_refused for is_refused, _ in told.values())
         lines.append(f"{self.name}: {refused} of {len(edits)} refused, in {self.checks} checks and {time.time() - begun:.0f} seconds")
         return lines, refused, len(edits)
 
@@ -329,12 +330,14 @@ class Crate:
         return None
 
     def try_whole(self, edit):
-        """Tries an edit by a check of the whole crate from nothing, as the gate does."""
+        """Tries an edit by a check of the whole crate from nothing, as the gate does. Tells whether it is refused."""
         ran = self.check(self.copy([edit]), [])
         lines = ran.stdout.rstrip("\n").split("\n")
         if ran.returncode == 1 and lines[-1].startswith("logic=not-proved"):
-            return "refused by a check of the whole crate"
-        return None
+            return True, "refused by a check of the whole crate"
+        if ran.returncode == 0:
+            return False, "NOT REFUSED: the crate is still proved with this edit"
+        return False, f"BAD EDIT: it did not reach the prover: {' | '.join(lines[-3:])[:300]}"
 
 
 class Tree:
