@@ -377,16 +377,14 @@ class Tree:
         words += ["--antt-project", f"{self.kit}/rattle/logic/antt-project.json", "--logic-built", f"{self.kit}/logic_built"]
         return words + (["--crate-type", "staticlib"] if "staticlib" in self.flags[name] else [])
 
-    def said_of(self, name):
-        """What the gate said of a crate, once it has proved it."""
-        text = self.log.read_text(errors="replace") if self.log.exists() else ""
-        if not re.search(rf"^rt: {name} proved$", text, re.M):
-            return None
-        return "".join(re.findall(rf"^== {name}\n(.*?)^rt: {name} proved$", text, re.M | re.S))
+    def said(self):
+        """What the gate has said so far."""
+        return self.log.read_text(errors="replace") if self.log.exists() else ""
 
-    def has_ended(self):
-        text = self.log.read_text(errors="replace") if self.log.exists() else ""
-        return re.search(r"^\d+ passed, \d+ failed$", text, re.M) is not None
+
+def said_of(name, text):
+    """What the gate said of a crate that it has proved."""
+    return "".join(re.findall(rf"^== {name}\n(.*?)^rt: {name} proved$", text, re.M | re.S))
 
 
 def main(folder, log, *names):
@@ -405,13 +403,13 @@ def main(folder, log, *names):
     with ThreadPoolExecutor(len(os.sched_getaffinity(0))) as pool:
         runs = []
         while waiting:
-            is_last = tree.has_ended()
-            ready = [(it, said) for it in waiting if (said := tree.said_of(it)) is not None]
-            runs += [pool.submit(work, *it) for it in ready]
-            waiting = [it for it in waiting if it not in dict(ready)]
-            if is_last and not ready:
+            text = tree.said()
+            proved = set(re.findall(r"^rt: (\w+) proved$", text, re.M))
+            runs += [pool.submit(work, it, said_of(it, text)) for it in waiting if it in proved]
+            waiting = [it for it in waiting if it not in proved]
+            if re.search(r"^\d+ passed, \d+ failed$", text, re.M):
                 break
-            time.sleep(2)
+            time.sleep(5)
         for it in runs:
             it.result()
     for it in waiting:
