@@ -219,11 +219,9 @@ impl Acquirer {
         // The amount is 1 to 999,999,999,999 minor units, the currency three letters or digits, and
         // the time has at most ten digits.
         requires { IsFair amount currency sent }
-        // The order is a debit 0200 of that account, amount and currency,
-        // under the next trace number.
+        // The order is a debit 0200 of account, amount and currency, under the next trace number.
         ensures order { IfOk result (λ order. order ≡ debit_of self.old pan amount currency sent) }
-        // Where it succeeds, the transaction waits and was sent once; all other
-        // transactions stay as they were.
+        // Where it succeeds, the transaction waits, sent once; all others stay as they were.
         ensures begun { OnOk result (self.new ≡ record self.old { slots = slots_with self.old.slots (debit_of self.old pan amount currency sent) }) }
         // It succeeds only where fewer than 999,999 trace numbers are used.
         ensures few { OnOk result (length self.old.slots < 999999) }

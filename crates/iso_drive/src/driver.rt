@@ -132,8 +132,7 @@ impl<L: NoteLog> Driver<L> {
         // those of all the acquirer's orders.
         ensures trace { IfOk result (λ stan. IsDriving L.is_ready L.synced L.pending self.old
             → stan ≡ length (slots_in (driving_of L.synced L.pending self.old)) + 1) }
-        // At `Ok` the driver still has the orders of its acquirer, and each
-        // open transaction waits once.
+        // At `Ok` the driver has the orders of its acquirer, and each open transaction waits once.
         ensures driving { OnOk result (IsDriving L.is_ready L.synced L.pending self.old
             → IsDriving L.is_ready L.synced L.pending self.new) }
         // At `Ok`, over a log that was opened well, the purchase's debit is noted; the purchase
@@ -217,8 +216,7 @@ impl<L: NoteLog> Driver<L> {
         ensures count { IfOk result (λ n.
             let old = at_moment now (driving_of L.synced L.pending self.old) in
             n ≡ length (due_by old.clock old.waiting)) }
-        // At `Ok` the driver still has the orders of its acquirer, and each
-        // open transaction waits once.
+        // At `Ok` the driver has the orders of its acquirer, and each open transaction waits once.
         ensures driving { OnOk result (IsDriving L.is_ready L.synced L.pending self.old
             → IsDriving L.is_ready L.synced L.pending self.new) }
         // At `Ok`, over a log that was opened well, exactly the due ones are timed out, in the
@@ -256,8 +254,7 @@ impl<L: NoteLog> Driver<L> {
         ensures comes { IfOk result (λ heard. IsDriving L.is_ready L.synced L.pending self.old
             → ComesTo (slots_in (driving_of L.synced L.pending self.old))
             told.now.key told.now.code heard) }
-        // At `Ok` the driver still has the orders of its acquirer, and each
-        // open transaction waits once.
+        // At `Ok` the driver has the orders of its acquirer, and each open transaction waits once.
         ensures driving { OnOk result (IsDriving L.is_ready L.synced L.pending self.old
             → IsDriving L.is_ready L.synced L.pending self.new) }
         // At `Ok`, over a log that was opened well, an answer that closes a transaction is noted,
@@ -290,8 +287,7 @@ impl<L: NoteLog> Driver<L> {
         // to be sent, in their order.
         ensures orders { IfOk result (λ orders. IsDriving L.is_ready L.synced L.pending self.old
             → orders.items ≡ unsent (driving_of L.synced L.pending self.old).diary) }
-        // At `Ok` the driver still has the orders of its acquirer, and each
-        // open transaction waits once.
+        // At `Ok` the driver has the orders of its acquirer, and each open transaction waits once.
         ensures driving { OnOk result (IsDriving L.is_ready L.synced L.pending self.old
             → IsDriving L.is_ready L.synced L.pending self.new) }
         // At `Ok`, over a log that was opened well, all notes are on the disk, and the
