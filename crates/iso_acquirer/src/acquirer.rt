@@ -216,8 +216,7 @@ impl Acquirer {
         currency: [u8; 3],
         sent: u64,
     ) -> Result<Order, AcqFault>
-        // The amount is 1 to 999,999,999,999 minor units, the currency three letters or digits, and
-        // the time has at most ten digits.
+        // Amount: 1 to 999,999,999,999. Currency: 3 letters or digits. Time: at most 10 digits.
         requires { IsFair amount currency sent }
         // The order is a debit 0200 of account, amount and currency, under the next trace number.
         ensures order { IfOk result (λ order. order ≡ debit_of self.old pan amount currency sent) }
@@ -225,7 +224,6 @@ impl Acquirer {
         ensures begun { OnOk result (self.new ≡ record self.old { slots = slots_with self.old.slots (debit_of self.old pan amount currency sent) }) }
         // It succeeds only where fewer than 999,999 trace numbers are used.
         ensures few { OnOk result (length self.old.slots < 999999) }
-
         // `NoMoreTrace` comes exactly where all 999,999 trace numbers are used.
         ensures no_more { (result ≡ Err NoMoreTrace) ↔ (length self.old.slots ≡ 999999) }
         // Any fault but `NoMoreTrace` is want of memory.
@@ -306,8 +304,7 @@ impl Acquirer {
         // The acquirer's number (element 32) stays.
         ensures own { self.new.id ≡ self.old.id }
 
-        // The fault is `NoSuch` without such a transaction, `Closed` of a closed one, and
-        // `NoMoreTrace` where its reversal finds no trace number left.
+        // `NoSuch`: no such transaction. `Closed`: it is closed. `NoMoreTrace`: no number is left.
         ensures fault { IfErr result (λ e. timeout self.old.slots stan ≡ Err e) }
         // A refusal changes nothing.
         ensures unchanged { OnErr result (self.new ≡ self.old) }

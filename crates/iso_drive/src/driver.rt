@@ -152,12 +152,10 @@ impl<L: NoteLog> Driver<L> {
         // Any other `Err` is want of memory or a failure of the log.
         ensures refused { IfErr result (λ e. IsDriving L.is_ready L.synced L.pending self.old
             → IsRefusedBegin (in_memory (driving_of L.synced L.pending self.old).diary) e) }
-        // A refusal and want of memory leave the driver as it was, with
-        // what waits and what is noted.
+        // A refusal and want of memory leave the driver, what waits and what is noted as they were.
         ensures unchanged { IfErr result (λ e. e ≢ Fault.Log
             → Remains L.is_ready L.synced L.pending self.old self.new) }
-        // After a failure of the log no call succeeds. A call that succeeds
-        // leaves the driver running.
+        // After a failure of the log no call succeeds; one that succeeds leaves the driver running.
         ensures stops { Stops (is_stopped self.old) (is_stopped self.new) result }
     {
         if self.board.made.len() >= MOST_STAN as usize {
@@ -211,8 +209,7 @@ impl<L: NoteLog> Driver<L> {
     /// the orders. Each waits again from now on. One for whose reversal no trace number is left just waits again. After an
     /// `Err` some from the front are timed out, and the others are due as before.
     pub fn wake(&mut self, now: u64) -> Result<usize, Fault>
-        // The count is that of the transactions that are due by the latest moment
-        // that the driver was told.
+        // It counts the transactions that are due by the latest moment that the driver was told.
         ensures count { IfOk result (λ n.
             let old = at_moment now (driving_of L.synced L.pending self.old) in
             n ≡ length (due_by old.clock old.waiting)) }
@@ -301,8 +298,7 @@ impl<L: NoteLog> Driver<L> {
             → MayLeave (driving_of L.synced L.pending self.old).diary c }
         // Only a failure of the log is told as a fault.
         ensures fault { IfErr result (λ e. e ≡ Fault.Log) }
-        // After a failure of the log no call succeeds. A call that succeeds
-        // leaves the driver running.
+        // After a failure of the log no call succeeds; one that succeeds leaves the driver running.
         ensures stops { Stops (is_stopped self.old) (is_stopped self.new) result }
     {
         self.acquirer.keep()
