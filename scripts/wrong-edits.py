@@ -4,7 +4,7 @@
     wrong-edits.py FOLDER LOG [NAME ..]
 
 The gate (`rt ci`) proves the tree FOLDER and prints LOG, at this moment or before. The edits of a crate are tried as soon as LOG says
-that it is proved. With names, only those crates.
+that it is proved, or that its proof is kept from an earlier run. With names, only those crates.
 
 The gate itself tries one edit after the other, each by a check of the whole crate, and proves the crate once more for it. Here one
 check tries many edits, each in the body of another function, and looks at these functions alone: whatever else they call is taken to
@@ -14,6 +14,7 @@ body is tried alone, over all functions that name what it turns. What isn't refu
 
 The last line is 'N passed, M failed'.
 """
+import json
 import os
 import re
 import shutil
@@ -36,6 +37,10 @@ REFUSED = re.compile(r"it stands on ((?:`[^`]*`(?:, | and )?)+),? which antt ref
 # a proof file that names what the edit took away
 NAMES = re.compile(r"has no field|is not in scope|has no `")
 PARTS = ("src", "specs", "proofs")
+# what a check says of each function that it proves
+PROVED = re.compile(r"^fn (\S+): proved", re.M)
+# what the gate says of a crate that it proves, or whose proof is kept from an earlier run
+IS_PROVED = re.compile(r"^rt: (\w+) (?:proved|is kept: .*)$", re.M)
 # kB of memory that are left to the gate's checks when one of edits begins
 ROOM = 6_000_000
 
@@ -215,9 +220,15 @@ class Crate:
     """A proved crate, whose edits are tried."""
 
     def __init__(self, tree, name, folder, log):
-        self.tree, self.name, self.folder, self.log = tree, name, folder, log
+        self.tree, self.name, self.folder = tree, name, folder
+        # where the proof is kept from an earlier run, the gate names no function
+        self.names = self.names_in(log) if log else None
         self.room = Path(tempfile.mkdtemp(prefix=f"edits-{name}-"))
         self.checks = 0
+
+    def names_in(self, said):
+        """The functions that a check says it has proved."""
+        return sorted(it for it in set(PROVED.findall(said)) if it.startswith(f"{self.name}::"))
 
     def try_all(self):
         """What is told of each edit, and whether all are refused."""
@@ -240,7 +251,8 @@ class Crate:
 
     def try_quickly(self, edits):
         """Tries edits by checks of the functions that they turn alone. Tells of those that are refused."""
-        self.names = sorted(set(re.findall(rf"^fn ({self.name}::\S+): proved", self.log, re.M)))
+        if self.names is None:
+            self.names = self.tree.names(self.name) or self.names_in(self.check(self.copy([]), []).stdout)
         self.functions = functions_of(self.name, self.folder, self.names)
         for it in edits:
             place(it, self.folder, self.functions)
@@ -365,6 +377,13 @@ class Tree:
     def rlib(self, name):
         return self.folder / "crates" / name / "out/rlib" / f"{name}.rlib"
 
+    def names(self, name):
+        """The functions of a library, as its built code names them. A program's aren't kept."""
+        code = self.rlib(name) / "toolchain/mir.json"
+        if not code.exists():
+            return []
+        return sorted(it[0] for it in json.loads(code.read_text()) if it[0].startswith(f"{name}::"))
+
     def words(self, name):
         """The words of a check of a crate."""
         is_program = (self.folder / "crates" / name / "src/main.rt").exists()
@@ -383,7 +402,7 @@ class Tree:
 
 
 def said_of(name, text):
-    """What the gate said of a crate that it has proved."""
+    """What the gate said of a crate that it has proved; nothing, where its proof is kept from an earlier run."""
     return "".join(re.findall(rf"^== {name}\n(.*?)^rt: {name} proved$", text, re.M | re.S))
 
 
@@ -404,7 +423,7 @@ def main(folder, log, *names):
         runs = []
         while waiting:
             text = tree.said()
-            proved = set(re.findall(r"^rt: (\w+) proved$", text, re.M))
+            proved = set(IS_PROVED.findall(text))
             runs += [pool.submit(work, it, said_of(it, text)) for it in waiting if it in proved]
             waiting = [it for it in waiting if it not in proved]
             if re.search(r"^\d+ passed, \d+ failed$", text, re.M):
