@@ -30,23 +30,6 @@ key_tied k q = grind (arith, common_steps)
 pub pan_tied : (p q : AccountNumber) → is_eq (pan_cmp p q) ≡ same_pan p q
 pan_tied p q = grind (arith, common_steps)
 
-not_entered : (entries : List Entry) (k q : TxKey) → entry_at entries k ≡ None → same_key k q ≡ true → entry_at entries q ≡ None
-not_entered entries k q new h = subst (λ k. entry_at entries k ≡ None) (same_key_is k q h) new
-
--- the places, after one entry more under a new key
-pub place_of-push : (entries : List Entry) (e : Entry) (q : TxKey) → entry_at entries e.order.key ≡ None →
-    place_of (entries ++ e ∷ []) q ≡ cond (same_key e.order.key q) (Some (length entries)) (place_of entries q)
-place_of-push entries e q new = place-push (λ x. same_key x.order.key q) entries e (not_entered entries e.order.key q new)
-
--- what is added under a new key and taken away again leaves the places as they were
-pub place-back : (places : BTreeMap TxKey ℕ) (k q : TxKey) (v : ℕ) → tree.get key_cmp places k ≡ None →
-    cond (is_eq (key_cmp k q)) None (cond (is_eq (key_cmp k q)) (Some v) (tree.get key_cmp places q)) ≡ tree.get key_cmp places q
-place-back places k q v new = by_test (is_eq (key_cmp k q)) refl
-  where
-    by_test : (b : Bool) → is_eq (key_cmp k q) ≡ b → cond b None (cond b (Some v) (tree.get key_cmp places q)) ≡ tree.get key_cmp places q
-    by_test true h = sym (ap (tree.get key_cmp places) (sym (same_key_is k q (sym (key_tied k q) ∙ h))) ∙ new)
-    by_test false h = refl
-
 -- a key of no entry has no place
 pub place_of-none : (entries : List Entry) (k : TxKey) → entry_at entries k ≡ None → place_of entries k ≡ None
 place_of-none entries k none = none_from (λ x. same_key x.order.key k) 0 entries none

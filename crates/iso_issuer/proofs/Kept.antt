@@ -71,10 +71,10 @@ distinct_firsts : (xs : List Instruction) → HasDistinctKeys (firsts xs)
 distinct_firsts [] = tt
 distinct_firsts (x ∷ xs) = (none_of_others x.key (firsts xs), distinct_filtered (is_other x.key) (firsts xs) (distinct_firsts xs))
 
-distinct_taken : (n : ℕ) (xs : List Instruction) → HasDistinctKeys xs → HasDistinctKeys (take n xs)
-distinct_taken zero xs distinct = tt
-distinct_taken (suc n) [] distinct = tt
-distinct_taken (suc n) (x ∷ xs) distinct = (none_taken n x.key xs distinct.0, distinct_taken n xs distinct.1)
+pub distinct-taken : (n : ℕ) (xs : List Instruction) → HasDistinctKeys xs → HasDistinctKeys (take n xs)
+distinct-taken zero xs distinct = tt
+distinct-taken (suc n) [] distinct = tt
+distinct-taken (suc n) (x ∷ xs) distinct = (none_taken n x.key xs distinct.0, distinct-taken n xs distinct.1)
 
 -- ---- one order more
 
@@ -135,7 +135,7 @@ one-more limit xs o = by_room (cases_lt (length (firsts xs)) limit)
     by_room : (length (firsts xs) < limit) ⊎ (limit ≤ length (firsts xs)) → take limit (firsts (take limit (firsts xs) ++ o ∷ [])) ≡ take limit (firsts (xs ++ o ∷ []))
     by_room (inl below) = roomy limit xs o below (is_entered xs o.key) refl
     by_room (inr full) =
-        kept_at_limit limit (take limit (firsts xs)) o (distinct_taken limit (firsts xs) (distinct_firsts xs)) (length-take-le limit (firsts xs) full)
+        kept_at_limit limit (take limit (firsts xs)) o (distinct-taken limit (firsts xs) (distinct_firsts xs)) (length-take-le limit (firsts xs) full)
         ∙ sym (above limit xs o full (is_entered xs o.key) refl)
 
 few-taken : (limit : ℕ) (xs : List Instruction) → length (take limit xs) ≤ limit
@@ -148,7 +148,7 @@ pub firsts-go-on : (limit : ℕ) (earlier later : List Instruction) → take lim
 firsts-go-on limit earlier [] =
     let kept = take limit (firsts earlier) in
     ap (λ (l : List Instruction). take limit (firsts l)) (append-nil kept)
-    ∙ firsts-stay limit kept (distinct_taken limit (firsts earlier) (distinct_firsts earlier)) (few-taken limit (firsts earlier))
+    ∙ firsts-stay limit kept (distinct-taken limit (firsts earlier) (distinct_firsts earlier)) (few-taken limit (firsts earlier))
     ∙ sym (ap (λ (l : List Instruction). take limit (firsts l)) (append-nil earlier))
 firsts-go-on limit earlier (o ∷ later) =
     let kept = take limit (firsts earlier) in

@@ -1,10 +1,11 @@
 pub mod Keys
 pub mod Places
 pub mod ByKey
-pub mod Claims
+pub mod Slots
+pub mod Placed
 pub mod Changes
 pub mod Firsts
-mod Kept
+pub mod Kept
 mod GoesOn
 mod Standing
 mod AnyOrder
@@ -15,6 +16,7 @@ pub mod Touched
 pub mod Completions
 pub mod Counts
 pub mod Stored
+pub mod Keyed
 pub mod Seen
 pub mod Sums
 pub mod Summed

@@ -1,5 +1,5 @@
 -- The entries as they are kept, and one more.
-use Rattle.std.proofs.Common.{◌≡◌, ℕ, zero, suc, ◌+◌, ◌-◌, ◌<◌, ◌≤◌, Bool, true, false, cond, refl, arith, ap, sym, ◌∙◌, List, [], ◌∷◌, ◌++◌, length, get_or, length-append, subst}
+use Rattle.std.proofs.Common.{◌≡◌, ℕ, zero, suc, ◌+◌, ◌-◌, ◌<◌, ◌≤◌, Bool, true, false, cond, refl, arith, ap, sym, ◌∙◌, List, [], ◌∷◌, ◌++◌, length, get_or, length-append}
 use Rattle.std.specs.Prelude.{ℤ, Option, Some, None, map, ◌==◌, Result, Ok, Err, OnErr}
 use Rattle.std.specs.Option.{option_or}
 use Rattle.std.specs.Ordering.{nat_cmp, is_eq}
@@ -15,9 +15,9 @@ use Rattle.iso_order.specs.Outcome.{Outcome}
 use Rattle.iso_issuer.specs.declared.index.Index.{Index}
 use Rattle.iso_issuer.specs.declared.journal.Entry.{Entry}
 use Rattle.iso_issuer.specs.Effect.{is_key}
-use Rattle.iso_issuer.specs.Journal.{entry_at, undone_key, left_by, HasDistinctKeys}
-use Rattle.iso_issuer.specs.Index.{key_cmp, hold_count, mark_at, added_by, dropped_by, entries_from, place_of, claimed_place, IsFresh, AreStored, IsIndexOf, AnswersAlike}
-use Rattle.iso_issuer.proofs.ByKey.{place_of-push, left-push}
+use Rattle.iso_issuer.specs.Journal.{undone_key, left_by, HasDistinctKeys}
+use Rattle.iso_issuer.specs.Index.{key_cmp, hold_count, mark_at, added_by, dropped_by, entries_from, AreStored, IsIndexOf, AnswersAlike}
+use Rattle.iso_issuer.proofs.ByKey.{left-push}
 use Rattle.iso_issuer.proofs.Counts.{counts-entered}
 
 -- an entry for each order
@@ -111,18 +111,12 @@ entries-entered os cs s t o a same seq put =
     ∙ ap (λ z. entries_from 0 os cs s ++ entry o a.code (length os) z ∷ []) (put-there (length os) a.shown s t put)
     ∙ ap (λ n. entries_from 0 os cs s ++ record { order = o; answer = record { code = a.code; seq = n; shown = a.shown } } ∷ []) (sym seq)
 
--- the index, once it has what an entry changes whose key claimed its place
-pub index-entered : (es : List Entry) (e : Entry) (old new : Index) → IsIndexOf old es → entry_at es e.order.key ≡ None → HasDistinctKeys (map (λ e. e.order) es) →
-    old.claimed ≡ Some e.order.key → new.places ≡ old.places → new.claimed ≡ None →
+-- the index, once it has what an entry changes
+pub index-entered : (es : List Entry) (e : Entry) (old new : Index) → IsIndexOf old es → HasDistinctKeys (map (λ e. e.order) es) →
     ((q : TxKey) → tree.get key_cmp new.lefts q ≡ option_or (tree.get key_cmp old.lefts q) (cond (is_key (undone_key e.order.act) q) (Some (left_by e.order.act)) None)) →
     ((q : TxKey) (pan : AccountNumber) → hold_count new.counts q pan ≡ hold_count old.counts q pan - mark_at (dropped_by es e.order.act) q pan + mark_at (added_by es e) q pan) →
     IsIndexOf new (es ++ e ∷ [])
-index-entered es e old new is fresh distinct claimed places settled lefts counts = record {
-  places = λ q.
-      ap (λ (m : BTreeMap TxKey ℕ). tree.get key_cmp m q) places ∙ is.places q
-      ∙ ap (λ (c : Option TxKey). claimed_place c (length es) q (place_of es q)) claimed ∙ sym (place_of-push es e q fresh)
-      ∙ sym (ap (λ (c : Option TxKey). claimed_place c (length (es ++ e ∷ [])) q (place_of (es ++ e ∷ []) q)) settled);
-  fresh = subst (λ (c : Option TxKey). IsFresh c (es ++ e ∷ [])) (sym settled) tt;
+index-entered es e old new is distinct lefts counts = record {
   lefts = λ q.
       lefts q ∙ ap (λ o. option_or o (cond (is_key (undone_key e.order.act) q) (Some (left_by e.order.act)) None)) (is.lefts q) ∙ sym (left-push es e q);
   counts = λ q pan.
@@ -131,16 +125,7 @@ index-entered es e old new is fresh distinct claimed places settled lefts counts
 
 -- an index that finds the same
 index-alike : (es : List Entry) (a b : Index) → AnswersAlike a b → IsIndexOf b es → IsIndexOf a es
-index-alike es a b alike is = record {
-  places = λ q. alike.places q ∙ is.places q ∙ sym (ap (λ (c : Option TxKey). claimed_place c (length es) q (place_of es q)) alike.claimed);
-  fresh = subst (λ (c : Option TxKey). IsFresh c es) (sym alike.claimed) is.fresh;
-  lefts = λ q. alike.lefts q ∙ is.lefts q;
-  counts = λ q pan. alike.counts q pan ∙ is.counts q pan;
-}
-
--- what is kept, with another index of it
-pub stored-indexed : (os : List Instruction) (cs : List ℕ) (s : BTreeMap ℕ ℤ) (old new : Index) → AreStored os cs s old → IsIndexOf new (entries_from 0 os cs s) → AreStored os cs s new
-stored-indexed os cs s old new are is = record { coded = are.coded; two_digits = are.two_digits; few = are.few; ended = are.ended; indexed = is }
+index-alike es a b alike is = record { lefts = λ q. alike.lefts q ∙ is.lefts q; counts = λ q pan. alike.counts q pan ∙ is.counts q pan }
 
 -- what is kept, with one entry more
 pub stored-entered : (os : List Instruction) (cs : List ℕ) (s t : BTreeMap ℕ ℤ) (old new : Index) (o : Instruction) (a : Outcome) → AreStored os cs s old → length os < 999999 →

@@ -1,4 +1,4 @@
--- The index that the issuer answers from: places, what reversals leave, completions and sums, and how they stand for the journal.
+-- The index that the issuer answers from: what reversals leave, completions and sums, and how they stand for the journal.
 -- Inner: bodies and proofs cite it, and no public clause does.
 use Rattle.std.specs.Prelude.{◌≡◌, ◌≤◌, ℕ, ℤ, ◌+◌, ◌*◌, Bool, ◌&&◌, ◌==◌, if◌then◌else◌, List, [], ◌∷◌, length, sum_by, Option, None, Some, unwrap_or, All, map}
 use Rattle.std.specs.List.{position_from}
@@ -33,25 +33,6 @@ key_cmp a b = ordering_then (nat_cmp a.sent b.sent) (ordering_then (nat_cmp a.st
 -- the place of the entry of this key, where there is one
 abbrev pub place_of : List Entry → TxKey → Option ℕ
 place_of entries key = position_from (λ e. same_key e.order.key key) 0 entries
-
--- the place of a key, where this new key has claimed the next one
-abbrev pub claimed_place : Option TxKey → ℕ → TxKey → Option ℕ → Option ℕ
-claimed_place None next key place = place
-claimed_place (Some k) next key place = if same_key k key then Some next else place
-
--- the place of a key, once the claim is given up
-abbrev pub cleared : Option TxKey → TxKey → Option ℕ → Option ℕ
-cleared None key place = place
-cleared (Some k) key place = if same_key k key then None else place
-
--- the map has the place of each entered key and of the claimed one, and no other key
-abbrev pub ArePlaces : BTreeMap TxKey ℕ → Option TxKey → List Entry → Type 0
-ArePlaces places claimed entries = (key : TxKey) → tree.get key_cmp places key ≡ claimed_place claimed (length entries) key (place_of entries key)
-
--- the claimed key is new
-abbrev pub IsFresh : Option TxKey → List Entry → Type 0
-IsFresh None entries = Unit {0}
-IsFresh (Some key) entries = entry_at entries key ≡ None
 
 -- the map has what the first reversal of each key leaves, and no other key
 abbrev pub AreLefts : BTreeMap TxKey ℕ → List Entry → Type 0
@@ -119,15 +100,11 @@ dropped_by entries (Complete m hold) = None
 
 -- the index of these entries
 pub record IsIndexOf (index : Index) (entries : List Entry) : Type 0 where
-  pub places : ArePlaces index.places index.claimed entries
-  pub fresh : IsFresh index.claimed entries
   pub lefts : AreLefts index.lefts entries
   pub counts : AreCounts index.counts entries
 
 -- two indexes find the same
 pub record AnswersAlike (a b : Index) : Type 0 where
-  pub places : (key : TxKey) → tree.get key_cmp a.places key ≡ tree.get key_cmp b.places key
-  pub claimed : a.claimed ≡ b.claimed
   pub lefts : (key : TxKey) → tree.get key_cmp a.lefts key ≡ tree.get key_cmp b.lefts key
   pub counts : (key : TxKey) (pan : AccountNumber) → hold_count a.counts key pan ≡ hold_count b.counts key pan
 

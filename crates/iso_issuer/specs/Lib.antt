@@ -10,6 +10,7 @@ pub mod Posting
 pub mod Decision
 pub mod Books
 pub mod Index
+pub mod Places
 pub mod Found
 pub mod Document
 pub mod Laws

@@ -165,6 +165,7 @@ impl Balances {
         }
     }
 
+    /// The allocator by which the balances grow.
     pub fn allocator(&self) -> Global {
         *self.rows.allocator()
     }

@@ -1,29 +1,23 @@
-//! The index of the journal: what is found of a key and of a hold without looking through the entries.
+//! The index of the journal: what reversals leave of a key, and how often a hold is completed, without looking through the entries.
 
 ghost use Rattle.iso_order.specs.Pan.{AccountNumber};
 ghost use Rattle.iso_issuer.specs.Effect.{is_key};
-ghost use Rattle.std.specs.Prelude.{◌≡◌, ◌≤◌, ◌<◌, ◌+◌, ◌-◌, IfSome, Some, None, [], if◌then◌else◌, OnOk, OnErr, IfOk, is_some, true, List, length};
-ghost use Rattle.std.specs.Ordering.{is_eq};
+ghost use Rattle.std.specs.Prelude.{◌≡◌, ◌≤◌, ◌<◌, ◌+◌, ◌-◌, IfSome, Some, None, [], if◌then◌else◌, OnOk, OnErr};
 ghost use Rattle.std.specs.BTreeMap as tree;
 ghost use Rattle.std.specs.Option.{option_or};
-ghost use Rattle.iso_order.specs.Key.{same_key};
-ghost use Rattle.iso_issuer.specs.Index.{key_cmp, hold_count, mark_at, IsIndexOf, cleared, place_of};
-ghost use Rattle.iso_issuer.specs.Journal.{undone_key, left_by, entry_at};
-ghost use Rattle.iso_issuer.specs.declared.journal.Entry.{Entry};
+ghost use Rattle.iso_issuer.specs.Index.{key_cmp, hold_count, mark_at, IsIndexOf};
+ghost use Rattle.iso_issuer.specs.Journal.{undone_key, left_by};
 
 use crate::effect::Hold;
 use iso_order::{Act, Order, TxKey};
 use std::alloc::{AllocError, Global};
 use std::collections::BTreeMap;
 
-/// The place of each key in the journal, what the first reversal of each key leaves, and how many
-/// entries that count complete each hold. A new key can claim the next place, before its order is entered.
+/// What the first reversal of each key leaves, and how many entries that count complete each hold.
 #[derive(Drop)]
 pub struct Index {
-    places: BTreeMap<TxKey, u32>,
     lefts: BTreeMap<TxKey, u64>,
     counts: BTreeMap<Hold, u64>,
-    claimed: Option<TxKey>,
 }
 
 /// How many entries complete a hold.
@@ -106,54 +100,15 @@ fn keep(
     Ok(())
 }
 
-/// Gives a key the place again that it had.
-fn put_back(places: &mut BTreeMap<TxKey, u32>, key: &TxKey, place: u32)
-    requires { is_some (tree.get key_cmp places.old key.now) ≡ true }
-    ensures { (q : TxKey) → tree.get key_cmp places.new q
-        ≡ (if is_eq (key_cmp key.now q) then Some place else tree.get key_cmp places.old q) }
-{
-    if let Some(known) = places.get_mut(key) {
-        *known = place;
-    }
-}
-
-/// Takes the place of the claimed key away.
-fn clear(places: &mut BTreeMap<TxKey, u32>, claimed: &Option<TxKey>)
-    ensures { (q : TxKey) → tree.get key_cmp places.new q ≡ cleared claimed.now q (tree.get key_cmp places.old q) }
-{
-    if let Some(key) = claimed {
-        places.remove(key);
-    }
-}
-
-/// Whether it is the claimed key.
-fn is_claimed(claimed: &Option<TxKey>, key: &TxKey) -> bool
-    ensures { result ≡ is_key claimed.now key.now }
-{
-    match claimed {
-        Some(claimed) => claimed.is_same(key),
-        None => false,
-    }
-}
-
 impl Index {
     /// The index of no entry. Takes no memory.
     pub fn new(alloc: Global) -> Index
         ensures { IsIndexOf result [] }
     {
         Index {
-            places: BTreeMap::new(alloc),
             lefts: BTreeMap::new(alloc),
             counts: BTreeMap::new(alloc),
-            claimed: None,
         }
-    }
-
-    /// The place of a key.
-    pub fn place(&self, key: TxKey) -> Option<u32>
-        ensures { result ≡ tree.get key_cmp self.now.places key }
-    {
-        Some(*self.places.get(&key)?)
     }
 
     /// What the first reversal of a key leaves.
@@ -170,48 +125,8 @@ impl Index {
         hold_count(&self.counts, hold)
     }
 
-    /// Gives a new key the next place, which no other key claims any longer. Where the key has a place, that is
-    /// told.
-    pub fn claim(&mut self, key: &TxKey, next: u32) -> Result<Option<u32>, AllocError>
-        // The index of some entries stays their index, however the call ends, if
-        // `next` is how many they are.
-        ensures kept { (es : List Entry) → IsIndexOf self.old es → next ≡ length es → IsIndexOf self.new es }
-        // The place that is told is that of the key's entry; none where the key has no entry.
-        ensures known { IfOk result (λ known. (es : List Entry) → IsIndexOf self.old es
-            → known ≡ place_of es key.now) }
-        // Where no place is told, this key is the one that claims the next place.
-        ensures claimed { IfOk result (λ known. known ≡ None → self.new.claimed ≡ Some key.now) }
-        // Memory runs out only where the key has no entry.
-        ensures new { OnErr result ((es : List Entry) → IsIndexOf self.old es → place_of es key.now ≡ None) }
-    {
-        clear(&mut self.places, &self.claimed);
-        self.claimed = None;
-        if let Some(known) = self.places.insert(*key, next)? {
-            put_back(&mut self.places, key, known);
-            return Ok(Some(known));
-        }
-        self.claimed = Some(*key);
-        Ok(None)
-    }
-
-    /// As `claim`, unless the key claims the next place already.
-    pub fn secure(&mut self, key: &TxKey, next: u32) -> Result<(), AllocError>
-        // The index of some entries stays their index, however the call ends, if
-        // `next` is how many they are.
-        ensures kept { (es : List Entry) → IsIndexOf self.old es → next ≡ length es → IsIndexOf self.new es }
-        // Memory aside, a key that has no entry claims the next place.
-        ensures claimed { OnOk result ((es : List Entry) → IsIndexOf self.old es
-            → entry_at es key.now ≡ None → self.new.claimed ≡ Some key.now) }
-    {
-        if is_claimed(&self.claimed, key) {
-            return Ok(());
-        }
-        self.claim(key, next)?;
-        Ok(())
-    }
-
     /// Keeps what an order leaves of the key that it names, and the hold that one more or one fewer entry
-    /// completes. All of it, or nothing where there is no memory for it. No key claims a place then.
+    /// completes. All of it, or nothing where there is no memory for it.
     pub fn keep(
         &mut self,
         order: &Order,
@@ -224,12 +139,6 @@ impl Index {
         requires few { IfSome added (λ h. hold_count self.old.counts h.key h.pan < 1000000) }
         // A completion that is taken back was counted.
         requires counted { IfSome dropped (λ h. 1 ≤ hold_count self.old.counts h.key h.pan) }
-        // The places of the keys stay as they were, however the call ends.
-        ensures places { self.new.places ≡ self.old.places }
-        // Memory aside, no key claims a place any longer.
-        ensures settled { OnOk result (self.new.claimed ≡ None) }
-        // Without memory the claim of the next place stays as it was.
-        ensures claimed { OnErr result (self.new.claimed ≡ self.old.claimed) }
         // Memory aside, the key that a reversal names has what its first reversal leaves; all
         // other keys stay as they were.
         ensures lefts { OnOk result ((key : TxKey) → tree.get key_cmp self.new.lefts key
@@ -244,8 +153,6 @@ impl Index {
         // Without memory each hold has as many completions as before.
         ensures counts_kept { OnErr result ((key : TxKey) → (pan : AccountNumber) → hold_count self.new.counts key pan ≡ hold_count self.old.counts key pan) }
     {
-        keep(&mut self.lefts, &mut self.counts, order, added, dropped)?;
-        self.claimed = None;
-        Ok(())
+        keep(&mut self.lefts, &mut self.counts, order, added, dropped)
     }
 }

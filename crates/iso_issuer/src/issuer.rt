@@ -101,23 +101,6 @@ impl Issuer {
         Ok(answer)
     }
 
-    /// Answers an order where the journal is at its limit: a repeat gets the first answer again.
-    fn answer_full(&self, order: Order) -> Result<Answer, Refused>
-        requires { length self.now.orders ≡ self.now.limit }
-        ensures repeat { IsTrue (is_entered self.now.orders order.key) → IsOk result }
-        ensures answer { IfOk result (λ answer. answer ≡ answer_for self.now.accounts (journal self.now) order) }
-        ensures shown { IfOk result (λ answer. is_shown_for order.act answer.shown ≡ true) }
-        ensures entered { OnOk result (firsts (self.now.orders ++ order ∷ []) ≡ self.now.orders) }
-        ensures kept { take self.now.limit (firsts (self.now.orders ++ order ∷ [])) ≡ self.now.orders }
-        ensures full { (result ≡ Err Refused.Full) ↔ IsFullFor self.now order.key }
-        ensures refused { IfErr result (λ e. e ≡ Full) }
-    {
-        match self.journal.get(order.key()) {
-            Some(entry) => Ok(repeat_answer(entry, order)),
-            None => Err(Refused::Full),
-        }
-    }
-
     /// Answers an order: decides it once, however often it comes. A repeat gets the first answer again,
     /// and another order of a known key 94. A new key is entered with its code, its place in the
     /// journal and, for an inquiry, what is available. A known key and a full journal take no memory.
@@ -146,14 +129,13 @@ impl Issuer {
         // An order that is refused changes nothing.
         ensures unchanged { OnErr result (self.new ≡ self.old) }
     {
+        if let Some(entry) = self.journal.get(order.key()) {
+            return Ok(repeat_answer(entry, order));
+        }
         if self.journal.len() >= self.limit as usize {
-            return self.answer_full(order);
+            return Err(Refused::Full);
         }
-        match self.journal.claim(&order.key()) {
-            Ok(Some(entry)) => Ok(repeat_answer(entry, order)),
-            Ok(None) => self.enter(&order),
-            Err(_) => Err(Refused::Memory),
-        }
+        self.enter(&order)
     }
 
     /// Answers a list of orders, each as `handle` does. The room for the answers is taken first; where

@@ -18,6 +18,7 @@ ghost use Rattle.iso_issuer.specs.Found.{reversed_by, ended_key, released_by};
 use crate::effect::{Effect, Hold, Side, effect_amount, effect_of, ended_by, hold_by};
 use crate::found::{Found, Touched};
 use crate::index::Index;
+use crate::key_places::KeyPlaces;
 use crate::storing::store;
 use iso_order::{Act, Answer, Order, Pan, TxKey};
 use std::alloc::{AllocError, Global};
@@ -31,7 +32,7 @@ pub struct Entry {
     pub answer: Answer,
 }
 
-/// The entries in order, no two of one key, and an index beside them. Of an answer the code is kept,
+/// The entries in order, no two of one key, and beside them an index and the place of each key. Of an answer the code is kept,
 /// and, by its place, the balance that it shows: few answers show one. Its number is its place from 1 on.
 #[derive(Drop)]
 pub struct Journal {
@@ -39,6 +40,7 @@ pub struct Journal {
     codes: Vec<u8>,
     shown: BTreeMap<u32, i64>,
     index: Index,
+    places: KeyPlaces,
 }
 
 impl Model for Journal {
@@ -48,10 +50,11 @@ impl Model for Journal {
     ghost Value = { List Entry };
 
     ghost use Rattle.iso_issuer.specs.Index.{entries_from, AreStored};
+    ghost use Rattle.iso_issuer.specs.Places.{TellsPlaces};
 
     ghost view = { λ j. entries_from 0 j.orders.items j.codes.items j.shown };
 
-    ghost invariant = { λ j. AreStored j.orders.items j.codes.items j.shown j.index };
+    ghost invariant = { λ j. AreStored j.orders.items j.codes.items j.shown j.index × TellsPlaces j.places.slots.items j.places.others j.orders.items };
 }
 
 /// The key that a reversal names.
@@ -167,6 +170,7 @@ impl Journal {
             codes: Vec::new(alloc),
             shown: BTreeMap::new(alloc),
             index: Index::new(alloc),
+            places: KeyPlaces::new(alloc),
         }
     }
 
@@ -217,24 +221,8 @@ impl Journal {
     pub fn get(&self, key: TxKey) -> Option<Entry>
         ensures { result ≡ entry_at self.now key }
     {
-        let place = self.index.place(key)?;
+        let place = self.places.find(&self.orders, &key)?;
         self.entry(place as usize)
-    }
-
-    /// The entry of a key, where there is one. A new key claims the next place, before its order is entered.
-    pub fn claim(&mut self, key: &TxKey) -> Result<Option<Entry>, AllocError>
-        // The entries stay as they were, however the call ends.
-        ensures same { self.new ≡ self.old }
-        // Memory aside, it tells the entry that has this key; none where no entry has it.
-        ensures entry { IfOk result (λ entry. entry ≡ entry_at self.old key.now) }
-        // Memory runs out only where no entry has this key.
-        ensures new { OnErr result (entry_at self.old key.now ≡ None) }
-    {
-        let next = self.orders.len() as u32;
-        match self.index.claim(key, next)? {
-            Some(place) => Ok(self.entry(place as usize)),
-            None => Ok(None),
-        }
     }
 
     /// What the first reversal of this key leaves, where there is one.
@@ -451,9 +439,10 @@ impl Journal {
         };
         let added = added_by(found.left, &entry, effect);
         let dropped = dropped_by(order, &found.reversed);
-        let next = self.orders.len() as u32;
-        self.index.secure(&order.key(), next)?;
-        store(
+        let key = order.key();
+        let place = self.orders.len() as u32;
+        let slot = self.places.prepare(&self.orders, &key)?;
+        match store(
             &mut self.orders,
             &mut self.codes,
             &mut self.shown,
@@ -461,7 +450,15 @@ impl Journal {
             entry,
             added,
             dropped,
-        )?;
-        Ok(())
+        ) {
+            Ok(()) => {
+                self.places.settle(&key, place, slot);
+                Ok(())
+            }
+            Err(fault) => {
+                self.places.withdraw(&key);
+                Err(fault)
+            }
+        }
     }
 }

@@ -14,6 +14,7 @@ mod holds;
 mod index;
 mod issuer;
 mod journal;
+mod key_places;
 pub mod laws;
 mod posting;
 mod storing;

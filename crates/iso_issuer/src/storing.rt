@@ -60,12 +60,6 @@ pub fn store(
     // of all other places stay.
     ensures shown { OnOk result ((at : ℕ) → tree.get nat_cmp shown.new at
         ≡ (if at == length orders.old.items then entry.answer.shown else tree.get nat_cmp shown.old at)) }
-    // The places of the keys stay as they were, however the call ends.
-    ensures places { index.new.places ≡ index.old.places }
-    // Memory aside, no key claims a place any longer.
-    ensures settled { OnOk result (index.new.claimed ≡ None) }
-    // Without memory the claim of the next place stays as it was.
-    ensures claimed { OnErr result (index.new.claimed ≡ index.old.claimed) }
     // Memory aside, the key that a reversal names has what its first reversal leaves; all
     // other keys stay as they were.
     ensures lefts { OnOk result ((key : TxKey) → tree.get key_cmp index.new.lefts key

@@ -12,5 +12,5 @@ returns c =
     let i = c.self.inside in
     let es = entries_from 0 i.orders.items i.codes.items i.shown in
     rw (← c.self.view_is)
-    (ap (λ n. not (n == 0)) (c.count.ensures ∙ c.self.invariant.indexed.counts c.args.key c.args.pan)
+    (ap (λ n. not (n == 0)) (c.count.ensures ∙ c.self.invariant.0.indexed.counts c.args.key c.args.pan)
     ∙ sym (any-counted (λ (x : Entry). is_counted es x && is_end_of c.args.key c.args.pan (effect_of x.order)) es))

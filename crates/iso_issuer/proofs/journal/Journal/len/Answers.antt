@@ -7,4 +7,4 @@ pub returns : goal.returns
 returns c =
     let i = c.self.inside in
     let count : c.len.result ≡ length i.orders.items = grind (arith, common_steps) in
-    rw (← c.self.view_is) (count ∙ sym (length-entries 0 i.orders.items i.codes.items i.shown c.self.invariant.coded))
+    rw (← c.self.view_is) (count ∙ sym (length-entries 0 i.orders.items i.codes.items i.shown c.self.invariant.0.coded))
