@@ -48,7 +48,8 @@ FN = re.compile(r"\bfn\s+(\w+)")
 CLAUSE = re.compile(r"\b(?:ensures|requires)\b\s*\*?\s*\w*\s*(?=\{)")
 GHOST = re.compile(r"\bghost\s+(?:view|invariant)\s*=\s*(?=\{)")
 LOOP = re.compile(r"\b(?:for\b(?!\s*<)|while\b|loop\b)")
-PUBLIC = re.compile(r"^[ \t]*pub\s+(?:(?:const|unsafe|async)\s+(?=fn))?(fn|struct|enum|union|trait|type|const|static|mod)\s+(\w+)", re.MULTILINE)
+PUBLIC = re.compile(
+    r"^[ \t]*pub\s+(?:(?:const|unsafe|async)\s+(?=fn))?(fn|struct|enum|union|trait|type|const|static|mod)\s+(\w+)", re.MULTILINE)
 TRAIT = re.compile(r"^[ \t]*pub\s+(?:unsafe\s+)?trait\s+\w+", re.MULTILINE)
 
 # the head of a definition: its marks and its name; what isn't one
