@@ -47,7 +47,8 @@ is_key key None = false
 is_key key (Some found) = bytes_eq found key
 
 abbrev pub value_at : List ℕ → Data → Option (List ℕ)
-value_at key pair = if is_key key (bytes_in (codes "key") pair) then bytes_in (codes "value") pair else None
+value_at key pair =
+    if is_key key (bytes_in (codes "key") pair) then bytes_in (codes "value") pair else None
 
 -- what became of a value that was to be put at a key
 pub data Outcome : Type 0 where
@@ -64,7 +65,8 @@ outcome_of (answers.Stands value) = Stands value.items
 abbrev pub Tells : List ℕ → Data → Outcome → Type 0
 Tells key answer Put = IsTrue (is_true (codes "succeeded") answer)
 Tells key answer (Stands value) =
-    (is_true (codes "succeeded") answer ≡ false) × (option_and_then (value_at key) (standing answer) ≡ Some value)
+    (is_true (codes "succeeded") answer ≡ false)
+    × (option_and_then (value_at key) (standing answer) ≡ Some value)
 
 -- what the body of its response tells of it
 abbrev pub IsTold : List ℕ → List ℕ → Outcome → Type 0
@@ -82,7 +84,8 @@ pairs_in answer = pairs_of (get (codes "kvs") answer)
 abbrev pub batches_from : List ℕ → ℕ → Items → Option (List (List ℕ))
 batches_from name place no_items = Some []
 batches_from name place (item pair pairs) =
-    option_and_then (λ batch. option_map (λ batches. batch ∷ batches) (batches_from name (place + 1) pairs))
+    option_and_then
+    (λ batch. option_map (λ batches. batch ∷ batches) (batches_from name (place + 1) pairs))
     (value_at (batch_key name place) pair)
 
 -- the batches of an answer, from a place on

@@ -13,7 +13,8 @@ use Rattle.iso_etcd.specs.declared.response.Loss.TheVariants as losses
 
 -- the body is the JSON of an error with these words
 abbrev pub HasMessage : List ℕ → List ℕ → Type 0
-HasMessage words body = (answer : Data) × IsJson body answer × (option_and_then as_str (get (codes "message") answer) ≡ Some words)
+HasMessage words body = (answer : Data) × IsJson body answer
+    × (option_and_then as_str (get (codes "message") answer) ≡ Some words)
 
 -- what etcd says where it has no space left
 abbrev pub no_space : List ℕ
@@ -52,7 +53,8 @@ IsUnread key body doubts.Lost = ⊥
 -- what an answer tells of the batch: it stands where it was put now, or where it is what stands there
 abbrev pub IsAnswered : List ℕ → List ℕ → List ℕ → Append → Type 0
 IsAnswered key batch body Appended = IsTold key body Put ⊎ IsTold key body (Stands batch)
-IsAnswered key batch body (Taken other) = IsTold key body (Stands other.items) × (other.items ≢ batch)
+IsAnswered key batch body (Taken other) = IsTold key body (Stands other.items)
+    × (other.items ≢ batch)
 IsAnswered key batch body (Unknown doubt) = IsUnread key body doubt
 IsAnswered key batch body (Unsent cause) = ⊥
 

@@ -25,20 +25,24 @@ AddsMembers text most old new =
 -- a name, a colon and a password; neither is empty
 abbrev pub IsUser : List ℕ → User → Type 0
 IsUser text user =
-    Has 58 text × (string_bytes user.name ≡ before 58 text) × (string_bytes user.password ≡ behind 58 text)
+    Has 58 text × (string_bytes user.name ≡ before 58 text)
+    × (string_bytes user.password ≡ behind 58 text)
     × (0 < length (string_bytes user.name)) × (0 < length (string_bytes user.password))
 
 -- the members, behind a user and an at sign where there is a user
 abbrev pub IsWho : List ℕ → Option User → List Member → Type 0
 IsWho text None members = Lacks 64 text × AreMembers text members
-IsWho text (Some user) members = Has 64 text × IsUser (before 64 text) user × AreMembers (behind 64 text) members
+IsWho text (Some user) members = Has 64 text × IsUser (before 64 text) user
+    × AreMembers (behind 64 text) members
 
 -- the user and the members, a slash and the journal's name
 abbrev pub IsBehindScheme : List ℕ → Endpoints → Type 0
 IsBehindScheme text endpoints =
     Has 47 text × (name_text endpoints.name ≡ behind 47 text)
-    × IsWho (before 47 text) endpoints.user endpoints.members.items × (vec_len endpoints.members ≤ 16)
+    × IsWho (before 47 text) endpoints.user endpoints.members.items
+    × (vec_len endpoints.members ≤ 16)
 
 -- all of it, behind etcd://
 abbrev pub IsEndpoints : List ℕ → Endpoints → Type 0
-IsEndpoints text endpoints = (rest : List ℕ) × (text ≡ codes "etcd://" ++ rest) × IsBehindScheme rest endpoints
+IsEndpoints text endpoints = (rest : List ℕ) × (text ≡ codes "etcd://" ++ rest)
+    × IsBehindScheme rest endpoints

@@ -12,7 +12,8 @@ text_in name answer = option_and_then as_str (get name answer)
 -- decimal digits write a number of at most 64 bits
 abbrev pub Writes : List ℕ → ℕ → Type 0
 Writes text number =
-    (IsNumeral 10 (without_leading_plus text) × (digits_value 10 (without_leading_plus text) < 2 ^ 64))
+    (IsNumeral 10 (without_leading_plus text)
+    × (digits_value 10 (without_leading_plus text) < 2 ^ 64))
     × (number ≡ digits_value 10 (without_leading_plus text))
 
 -- the number of a member, which is written as a text
@@ -25,7 +26,8 @@ IsNumber name answer number = IsWritten (text_in name answer) number
 
 -- the body tells this token
 abbrev pub IsToken : List ℕ → List ℕ → Type 0
-IsToken body token = (answer : Data) × IsJson body answer × (text_in (codes "token") answer ≡ Some token)
+IsToken body token = (answer : Data) × IsJson body answer
+    × (text_in (codes "token") answer ≡ Some token)
 
 -- the body tells this lease, which is granted
 abbrev pub IsLease : List ℕ → ℕ → Type 0
@@ -37,4 +39,5 @@ KeepsFor None seconds = ⊥
 KeepsFor (Some kept) seconds = IsNumber (codes "TTL") kept seconds
 
 abbrev pub IsKept : List ℕ → ℕ → Type 0
-IsKept body seconds = (answer : Data) × IsJson body answer × KeepsFor (get (codes "result") answer) seconds
+IsKept body seconds = (answer : Data) × IsJson body answer
+    × KeepsFor (get (codes "result") answer) seconds

@@ -25,7 +25,8 @@ behind mark text = after_first (λ byte. byte == mark) text
 -- a digit, a letter, '-', '.' or '_'
 abbrev pub is_host_byte : ℕ → Bool
 is_host_byte byte =
-    is_from_to 48 57 byte || is_from_to 65 90 byte || is_from_to 97 122 byte || byte == 45 || byte == 46 || byte == 95
+    is_from_to 48 57 byte || is_from_to 65 90 byte || is_from_to 97 122 byte || byte == 45 || byte
+    == 46 || byte == 95
 
 -- the name of a host, or an address of IPv4: 1 to 253 of these
 abbrev pub is_host : List ℕ → Bool
@@ -38,7 +39,8 @@ leads (first ∷ rest) = is_from_to 49 57 first
 
 -- a port: 1 to 65535 in decimal digits, without leading zeros
 abbrev pub IsPort : List ℕ → ℕ → Type 0
-IsPort text port = IsTrue (leads text) × IsNumeral 10 text × (digits_value 10 text < 2 ^ 16) × (port ≡ digits_value 10 text)
+IsPort text port = IsTrue (leads text) × IsNumeral 10 text × (digits_value 10 text < 2 ^ 16)
+    × (port ≡ digits_value 10 text)
 
 -- a port behind a colon
 abbrev pub IsPortBehind : List ℕ → ℕ → Type 0
@@ -46,18 +48,22 @@ IsPortBehind text port = Has 58 text × (before 58 text ≡ []) × IsPort (behin
 
 -- a host, a colon and a port
 abbrev pub IsNamed : List ℕ → List ℕ → ℕ → Type 0
-IsNamed text host port = Has 58 text × (host ≡ before 58 text) × IsTrue (is_host host) × IsPort (behind 58 text) port
+IsNamed text host port = Has 58 text × (host ≡ before 58 text) × IsTrue (is_host host)
+    × IsPort (behind 58 text) port
 
 -- an address of IPv6, a closing bracket, a colon and a port
 abbrev pub IsBracketed : List ℕ → List ℕ → ℕ → Type 0
 IsBracketed text host port =
-    Has 93 text × (host ≡ before 93 text) × ((address : Ipv6Addr) × IsIpv6Text host address) × IsPortBehind (behind 93 text) port
+    Has 93 text × (host ≡ before 93 text) × ((address : Ipv6Addr) × IsIpv6Text host address)
+    × IsPortBehind (behind 93 text) port
 
 -- a text writes a host and a port, either way
 abbrev pub IsHostAndPort : List ℕ → List ℕ → ℕ → Type 0
 IsHostAndPort text host port =
-    (Has 91 text × (before 91 text ≡ []) × IsBracketed (behind 91 text) host port) ⊎ (Lacks 91 text × IsNamed text host port)
+    (Has 91 text × (before 91 text ≡ []) × IsBracketed (behind 91 text) host port)
+    ⊎ (Lacks 91 text × IsNamed text host port)
 
 -- a text writes a member
 abbrev pub IsMember : List ℕ → Member → Type 0
-IsMember text member = IsHostAndPort text (string_bytes member.host) member.port × (string_bytes member.text ≡ text)
+IsMember text member = IsHostAndPort text (string_bytes member.host) member.port
+    × (string_bytes member.text ≡ text)

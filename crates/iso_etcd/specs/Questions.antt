@@ -23,7 +23,8 @@ is_free key =
 -- what stands at a key is to be told
 abbrev pub told_of : Data → Data
 told_of key =
-    object (member (codes "request_range") (object (member (codes "key") key no_members)) no_members)
+    object
+    (member (codes "request_range") (object (member (codes "key") key no_members)) no_members)
 
 -- a transaction: where nothing stands at the key something is put, and else what stands there is told
 abbrev pub transaction : Data → Data → Data
@@ -51,7 +52,8 @@ abbrev pub put_data : List ℕ → List ℕ → Data
 put_data key value = transaction (base64 key) (lasting (base64 key) (base64 value))
 
 abbrev pub put_leased_data : List ℕ → List ℕ → ℕ → Data
-put_leased_data key value lease = transaction (base64 key) (leased (base64 key) (base64 value) lease)
+put_leased_data key value lease =
+    transaction (base64 key) (leased (base64 key) (base64 value) lease)
 
 -- the values from a key on, before another key, at most so many
 abbrev pub range_of : Data → Data → ℕ → Data
@@ -73,7 +75,8 @@ look_data key = look_of (base64 key)
 -- a token for a user
 abbrev pub login_data : List ℕ → List ℕ → Data
 login_data user password =
-    object (member (codes "name") (string user) (member (codes "password") (string password) no_members))
+    object
+    (member (codes "name") (string user) (member (codes "password") (string password) no_members))
 
 -- a lease of so many seconds
 abbrev pub grant_data : ℕ → Data

@@ -40,7 +40,8 @@ fn number_in(answer: &Value, name: &str) -> Option<u64>
 /// A text of its own.
 fn token_of(alloc: Global, answer: &Value) -> Result<Option<String>, AllocError>
     ensures { IfOk result
-        (λ token. option_map (λ t. string_bytes t) token ≡ text_in (codes "token") (view answer.now)) }
+        (λ token. option_map (λ t. string_bytes t) token
+        ≡ text_in (codes "token") (view answer.now)) }
 {
     match text_in(answer, "token") {
         Some(text) => Ok(Some(String::from_str(alloc, text)?)),
@@ -78,7 +79,8 @@ pub fn read_lease(alloc: Global, body: &[u8]) -> Result<Option<u64>, AllocError>
 /// For how many seconds more a lease is kept, if it is.
 fn seconds_of(answer: &Value) -> Option<u64>
     ensures found { IfSome result (KeepsFor (get (codes "result") (view answer.now))) }
-    ensures none { IsNone result → (seconds : ℕ) → KeepsFor (get (codes "result") (view answer.now)) seconds → ⊥ }
+    ensures none { IsNone result → (seconds : ℕ)
+        → KeepsFor (get (codes "result") (view answer.now)) seconds → ⊥ }
 {
     match answer.get("result") {
         Some(kept) => number_in(kept, "TTL"),

@@ -130,7 +130,8 @@ fn bracketed(text: &str) -> Option<(&str, u16)>
 /// The host and the port of a member. Where the text has an opening bracket, it stands at the front.
 fn host_and_port(text: &str) -> Option<(&str, u16)>
     ensures found { IfSome result (λ p. IsHostAndPort text.now p.0.now p.1) }
-    ensures none { IsNone result → (host : List ℕ) (port : ℕ) → IsHostAndPort text.now host port → ⊥ }
+    ensures none { IsNone result → (host : List ℕ) (port : ℕ) → IsHostAndPort text.now host port
+        → ⊥ }
 {
     match cut(text, '[') {
         Some((front, rest)) if front.is_empty() => bracketed(rest),

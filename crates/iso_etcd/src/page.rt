@@ -93,7 +93,8 @@ fn page_of(
     first: u32,
     answer: &Value,
 ) -> Result<Option<Page>, AllocError>
-    ensures found { IfOk result (λ o. IfSome o (IsPage (name_text name.now) first (view answer.now))) }
+    ensures found { IfOk result
+        (λ o. IfSome o (IsPage (name_text name.now) first (view answer.now))) }
     ensures none { IfOk result
         (λ o. IsNone o → batches_in (name_text name.now) first (view answer.now) ≡ None) }
 {

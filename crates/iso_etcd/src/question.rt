@@ -48,7 +48,8 @@ fn add_condition(
 ) -> Result<(), AllocError>
     ensures { OnOk result (members_view members.new.entries
         ≡ with_member (codes "failure") (one (told_of (base64 key.now)))
-        (with_member (codes "compare") (one (is_free (base64 key.now))) (members_view members.old.entries))) }
+        (with_member (codes "compare") (one (is_free (base64 key.now)))
+        (members_view members.old.entries))) }
 {
     add_one(members, alloc, "compare", free_value(alloc, key)?)?;
     add_one(members, alloc, "failure", told_value(alloc, key)?)

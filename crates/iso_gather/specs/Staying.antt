@@ -4,7 +4,8 @@ use Rattle.sqlite_disk.proofs.EventLemmas.{Holds-overlaid, Torn-overlaid, Mixed-
 use Rattle.sqlite_disk.specs.Events.{overlaid}
 use Rattle.iso_gather.specs.Shown.{shown, Left}
 
-pub shown_may_stay : (at : ℕ) (waiting : List ℕ) (may_leave : List ℕ → Type 0) (file : List ℕ) → may_leave file → Left at waiting may_leave (shown at waiting file)
+pub shown_may_stay : (at : ℕ) (waiting : List ℕ) (may_leave : List ℕ → Type 0) (file : List ℕ)
+    → may_leave file → Left at waiting may_leave (shown at waiting file)
 shown_may_stay at [] may_leave file may = may
 shown_may_stay at (byte ∷ more) may_leave file may =
     let bytes = byte ∷ more in

@@ -11,8 +11,10 @@ tight text = filter (λ b. not (is_spacing b)) text
 
 -- a text that is no dump stands for the bytes that it decodes to without its spacing, and for none where it doesn't decode
 abbrev pub IsDecoded : Type 0
-IsDecoded = (text : List ℕ) → is_dump text ≡ false → result_ok (hex_bytes text) ≡ result_ok (decode_of (tight text))
+IsDecoded = (text : List ℕ) → is_dump text ≡ false
+    → result_ok (hex_bytes text) ≡ result_ok (decode_of (tight text))
 
 -- the digits of bytes, in either case and without spacing, stand for the bytes
 abbrev pub ComesBack : Type 0
-ComesBack = (bytes : List ℕ) → IsBytes bytes → (hex_bytes (encode_lower bytes) ≡ Ok bytes) × (hex_bytes (encode_upper bytes) ≡ Ok bytes)
+ComesBack = (bytes : List ℕ) → IsBytes bytes
+    → (hex_bytes (encode_lower bytes) ≡ Ok bytes) × (hex_bytes (encode_upper bytes) ≡ Ok bytes)

@@ -8,7 +8,8 @@ use Rattle.iso_input.specs.declared.place.Digit.{Digit}
 
 -- the place behind a byte
 abbrev pub behind_byte : Place → ℕ → Place
-behind_byte p b = if b == 10 then record { line = p.line + 1; column = 1 } else record { line = p.line; column = p.column + 1 }
+behind_byte p b = if b == 10 then record { line = p.line + 1; column = 1 }
+    else record { line = p.line; column = p.column + 1 }
 
 -- blanks, tabs, ends of lines, commas and colons
 abbrev pub is_spacing : ℕ → Bool
@@ -22,14 +23,16 @@ with_digit d (Ok ds) = Ok (d ∷ ds)
 with_digit d (Err e) = Err e
 
 -- a byte at a place with the digits behind it: a digit if it has a value
-abbrev pub digit_or_fault : Place → ℕ → Option ℕ → Result (List Digit) HexFault → Result (List Digit) HexFault
+abbrev pub digit_or_fault : Place → ℕ → Option ℕ → Result (List Digit) HexFault
+    → Result (List Digit) HexFault
 digit_or_fault p b None rest = Err (NotDigit p.line p.column b)
 digit_or_fault p b (Some v) rest = with_digit (record { value = v; place = p }) rest
 
 -- the digits of a text whose first byte stands at a place, or the first byte that is neither digit nor spacing
 abbrev pub digits_at : Place → List ℕ → Result (List Digit) HexFault
 digits_at p [] = Ok []
-digits_at p (b ∷ bs) = if is_spacing b then digits_at (behind_byte p b) bs else digit_or_fault p b (hex_digit_value b) (digits_at (behind_byte p b) bs)
+digits_at p (b ∷ bs) = if is_spacing b then digits_at (behind_byte p b) bs
+    else digit_or_fault p b (hex_digit_value b) (digits_at (behind_byte p b) bs)
 
 -- ---- bytes
 

@@ -43,7 +43,8 @@ begins_gap (a ∷ bs) = is_blank a && begins is_blank bs
 
 -- a line begins a dump: four or more zeros, a colon or two blanks behind them, and then a digit
 abbrev pub begins_dump : List ℕ → Bool
-begins_dump l = nat_le 4 (prefix_len is_zero l) && (begins (λ b. b == 58) (behind is_zero l) || begins_gap (behind is_zero l)) && begins is_hex_digit (behind is_margin (behind is_zero l))
+begins_dump l = nat_le 4 (prefix_len is_zero l) && (begins (λ b. b == 58) (behind is_zero l)
+    || begins_gap (behind is_zero l)) && begins is_hex_digit (behind is_margin (behind is_zero l))
 
 -- a text is a dump if its first line that isn't blank begins one
 abbrev pub is_dump : List ℕ → Bool
@@ -65,12 +66,14 @@ begins_byte (a ∷ b ∷ bs) = is_hex_digit a && is_hex_digit b && ends_byte bs
 -- the text column begins behind two blanks. But where the offset has no colon, two blanks behind eight bytes with another
 -- byte behind them stand between the halves of a line
 abbrev pub begins_column : Bool → ℕ → List ℕ → Bool
-begins_column colon digits l = begins_gap l && (colon || not (digits == 16) || not (begins_byte (drop 2 l)))
+begins_column colon digits l =
+    begins_gap l && (colon || not (digits == 16) || not (begins_byte (drop 2 l)))
 
 -- how much of a line stands in front of its text column, where so many digits stand before it
 abbrev pub column_from : Bool → ℕ → List ℕ → ℕ
 column_from colon digits [] = 0
-column_from colon digits (b ∷ bs) = if begins_column colon digits (b ∷ bs) then 0 else 1 + column_from colon (if is_hex_digit b then digits + 1 else digits) bs
+column_from colon digits (b ∷ bs) = if begins_column colon digits (b ∷ bs) then 0
+    else 1 + column_from colon (if is_hex_digit b then digits + 1 else digits) bs
 
 -- ---- the bytes of a line
 
@@ -80,7 +83,8 @@ further p n = record { line = p.line; column = p.column + n }
 
 -- the number that hexadecimal digits write, at most 2 ^ 64 - 1
 abbrev pub offset_of : List ℕ → ℕ
-offset_of digits = fold (λ n b. min (16 * n + unwrap_or (hex_digit_value b) 0) (2 ^ 64 - 1)) 0 digits
+offset_of digits =
+    fold (λ n b. min (16 * n + unwrap_or (hex_digit_value b) 0) (2 ^ 64 - 1)) 0 digits
 
 -- the bytes of a part behind the margin: those in front of the text column
 abbrev pub part_bytes : Place → Bool → List ℕ → Result (List ℕ) HexFault
@@ -88,30 +92,35 @@ part_bytes p colon l = bytes_at p (take (column_from colon 0 l) l)
 
 -- the bytes of what stands behind an offset
 abbrev pub margin_bytes : Place → List ℕ → Result (List ℕ) HexFault
-margin_bytes p l = part_bytes (further p (prefix_len is_margin l)) (begins (λ b. b == 58) l) (behind is_margin l)
+margin_bytes p l =
+    part_bytes (further p (prefix_len is_margin l)) (begins (λ b. b == 58) l) (behind is_margin l)
 
 -- the bytes of a line from its offset on, which is to be the count of the bytes before it; none of an empty line
 abbrev pub offset_bytes : Place → ℕ → List ℕ → Result (List ℕ) HexFault
 offset_bytes p count [] = Ok []
 offset_bytes p count (b ∷ bs) =
     let size = prefix_len is_hex_digit (b ∷ bs) in let found = offset_of (take size (b ∷ bs)) in
-    if size == 0 then Err (NotDigit p.line p.column b) else if found == count then margin_bytes (further p size) (drop size (b ∷ bs)) else Err (Gap p.line count found)
+    if size == 0 then Err (NotDigit p.line p.column b) else if found == count
+    then margin_bytes (further p size) (drop size (b ∷ bs)) else Err (Gap p.line count found)
 
 -- the bytes of a line
 abbrev pub row_bytes : ℕ → ℕ → List ℕ → Result (List ℕ) HexFault
-row_bytes line count l = offset_bytes (record { line = line; column = 1 + prefix_len is_blank l }) count (behind is_blank l)
+row_bytes line count l = offset_bytes
+    (record { line = line; column = 1 + prefix_len is_blank l }) count (behind is_blank l)
 
 -- ---- the bytes of all lines
 
 -- bytes with those behind them, which depend on how many they are
-abbrev pub followed : Result (List ℕ) HexFault → (ℕ → Result (List ℕ) HexFault) → Result (List ℕ) HexFault
+abbrev pub followed : Result (List ℕ) HexFault → (ℕ → Result (List ℕ) HexFault)
+    → Result (List ℕ) HexFault
 followed (Ok bytes) rest = after bytes (rest (length bytes))
 followed (Err e) rest = Err e
 
 -- the bytes of lines, with the number of the first and the count of the bytes before it
 abbrev pub rows : ℕ → ℕ → List (List ℕ) → Result (List ℕ) HexFault
 rows line count [] = Ok []
-rows line count (l ∷ ls) = followed (row_bytes line count l) (λ size. rows (line + 1) (count + size) ls)
+rows line count (l ∷ ls) =
+    followed (row_bytes line count l) (λ size. rows (line + 1) (count + size) ls)
 
 -- the bytes of a dump
 abbrev pub dump_bytes : List ℕ → Result (List ℕ) HexFault
@@ -121,4 +130,5 @@ dump_bytes text = rows 1 0 (slice_split is_newline text)
 
 -- the bytes that a text of hexadecimal digits stands for, a dump or digits in any spacing
 abbrev pub hex_bytes : List ℕ → Result (List ℕ) HexFault
-hex_bytes text = if is_dump text then dump_bytes text else bytes_at (record { line = 1; column = 1 }) text
+hex_bytes text =
+    if is_dump text then dump_bytes text else bytes_at (record { line = 1; column = 1 }) text

@@ -44,7 +44,8 @@ pub record IsLine (count : ℕ) (bytes line : List ℕ) : Type 0 where
   pub starts : begins is_hex_digit part ≡ true
   pub dense : HasNoGap part ⊎ ((begins_colon margin ≡ false) × AreHalves part)
   pub decoded : decode_of (tight part) ≡ Ok bytes
-  pub column : (text ≡ []) ⊎ (begins_column (begins_colon margin) (count_by is_hex_digit part) text ≡ true)
+  pub column : (text ≡ [])
+      ⊎ (begins_column (begins_colon margin) (count_by is_hex_digit part) text ≡ true)
 
 -- a line without bytes: an empty one, or an offset alone
 abbrev pub IsBare : ℕ → List ℕ → Type 0
@@ -55,8 +56,10 @@ abbrev pub AreLines : ℕ → List ℕ → List (List ℕ) → Type 0
 AreLines count bytes [] = bytes ≡ []
 AreLines count bytes (l ∷ ls) =
     (IsBare count l × AreLines count bytes ls)
-    ⊎ ((first : List ℕ) × (rest : List ℕ) × (bytes ≡ first ++ rest) × IsLine count first l × AreLines (count + length first) rest ls)
+    ⊎ ((first : List ℕ) × (rest : List ℕ) × (bytes ≡ first ++ rest) × IsLine count first l
+    × AreLines (count + length first) rest ls)
 
 -- a dump stands for the bytes of its lines, whatever their text columns show
 abbrev pub DumpsComeBack : Type 0
-DumpsComeBack = (text bytes : List ℕ) → is_dump text ≡ true → AreLines 0 bytes (slice_split is_newline text) → hex_bytes text ≡ Ok bytes
+DumpsComeBack = (text bytes : List ℕ) → is_dump text ≡ true
+    → AreLines 0 bytes (slice_split is_newline text) → hex_bytes text ≡ Ok bytes

@@ -32,7 +32,8 @@ fn is_spacing(byte: u8) -> bool
 pub(crate) fn append_digits(place: Place, text: &[u8], out: &mut Vec<u8>) -> Result<(), HexFault>
     requires line { place.line + length text.now < 2 ^ 64 }
     requires column { place.column + length text.now < 2 ^ 64 }
-    ensures appended { OnOk result (after out.old.items (bytes_at place text.now) ≡ Ok out.new.items) }
+    ensures appended { OnOk result
+        (after out.old.items (bytes_at place text.now) ≡ Ok out.new.items) }
     ensures fault { IfErr result (λ e. e ≢ HexFault.Memory → bytes_at place text.now ≡ Err e) }
     ensures kept { OnErr result (take (length out.old.items) out.new.items ≡ out.old.items) }
 {

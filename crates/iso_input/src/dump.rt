@@ -26,8 +26,10 @@ fn offset_of(digits: &[u8]) -> u64
 fn append_part(place: Place, colon: bool, text: &[u8], out: &mut Vec<u8>) -> Result<(), HexFault>
     requires line { place.line + length text.now < 2 ^ 64 }
     requires column { place.column + length text.now < 2 ^ 64 }
-    ensures appended { OnOk result (after out.old.items (part_bytes place colon text.now) ≡ Ok out.new.items) }
-    ensures fault { IfErr result (λ e. e ≢ HexFault.Memory → part_bytes place colon text.now ≡ Err e) }
+    ensures appended { OnOk result
+        (after out.old.items (part_bytes place colon text.now) ≡ Ok out.new.items) }
+    ensures fault { IfErr result
+        (λ e. e ≢ HexFault.Memory → part_bytes place colon text.now ≡ Err e) }
     ensures kept { OnErr result (take (length out.old.items) out.new.items ≡ out.old.items) }
 {
     append_digits(place, text.split_at(column_of(colon, text)).0, out)
@@ -37,7 +39,8 @@ fn append_part(place: Place, colon: bool, text: &[u8], out: &mut Vec<u8>) -> Res
 fn append_margin(place: Place, text: &[u8], out: &mut Vec<u8>) -> Result<(), HexFault>
     requires line { place.line + length text.now < 2 ^ 64 }
     requires column { place.column + length text.now < 2 ^ 64 }
-    ensures appended { OnOk result (after out.old.items (margin_bytes place text.now) ≡ Ok out.new.items) }
+    ensures appended { OnOk result
+        (after out.old.items (margin_bytes place text.now) ≡ Ok out.new.items) }
     ensures fault { IfErr result (λ e. e ≢ HexFault.Memory → margin_bytes place text.now ≡ Err e) }
     ensures kept { OnErr result (take (length out.old.items) out.new.items ≡ out.old.items) }
 {
@@ -50,8 +53,10 @@ fn append_margin(place: Place, text: &[u8], out: &mut Vec<u8>) -> Result<(), Hex
 fn append_offset(place: Place, count: u64, text: &[u8], out: &mut Vec<u8>) -> Result<(), HexFault>
     requires line { place.line + length text.now < 2 ^ 64 }
     requires column { place.column + length text.now < 2 ^ 64 }
-    ensures appended { OnOk result (after out.old.items (offset_bytes place count text.now) ≡ Ok out.new.items) }
-    ensures fault { IfErr result (λ e. e ≢ HexFault.Memory → offset_bytes place count text.now ≡ Err e) }
+    ensures appended { OnOk result
+        (after out.old.items (offset_bytes place count text.now) ≡ Ok out.new.items) }
+    ensures fault { IfErr result
+        (λ e. e ≢ HexFault.Memory → offset_bytes place count text.now ≡ Err e) }
     ensures kept { OnErr result (take (length out.old.items) out.new.items ≡ out.old.items) }
 {
     let [first, ..] = text else {
@@ -80,8 +85,10 @@ fn append_offset(place: Place, count: u64, text: &[u8], out: &mut Vec<u8>) -> Re
 /// Appends the bytes of a line.
 fn append_row(line: usize, count: u64, text: &[u8], out: &mut Vec<u8>) -> Result<(), HexFault>
     requires { line + length text.now < 2 ^ 64 }
-    ensures appended { OnOk result (after out.old.items (row_bytes line count text.now) ≡ Ok out.new.items) }
-    ensures fault { IfErr result (λ e. e ≢ HexFault.Memory → row_bytes line count text.now ≡ Err e) }
+    ensures appended { OnOk result
+        (after out.old.items (row_bytes line count text.now) ≡ Ok out.new.items) }
+    ensures fault { IfErr result
+        (λ e. e ≢ HexFault.Memory → row_bytes line count text.now ≡ Err e) }
     ensures kept { OnErr result (take (length out.old.items) out.new.items ≡ out.old.items) }
 {
     let size = blanks(text);

@@ -88,10 +88,12 @@ impl Held {
 
     /// Reads once behind the bytes. Gives how many bytes were read, which is none only at the end of the input.
     pub(crate) fn read_more<R: Read>(&mut self, input: &mut R) -> Result<usize, InputFault>
-        ensures read { IfOk result (IsRead (slice_range self.old.block.items self.old.start self.old.end)
+        ensures read { IfOk result
+            (IsRead (slice_range self.old.block.items self.old.start self.old.end)
             (slice_range self.new.block.items self.new.start self.new.end)
             (R.remaining input.old) (R.remaining input.new)) }
-        ensures unchanged { OnErr result (slice_range self.new.block.items self.new.start self.new.end
+        ensures unchanged { OnErr result
+            (slice_range self.new.block.items self.new.start self.new.end
             ≡ slice_range self.old.block.items self.old.start self.old.end) }
         ensures fault { IfErr result (λ e. e ≢ InputFault.TooLong) }
         ensures kept { OnErr result (Keeps (R.remaining input.old) (R.remaining input.new)) }

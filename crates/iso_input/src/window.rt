@@ -27,7 +27,8 @@ impl<R: Read> Model for Window<R> {
 
     ghost view = { λ w. record {
       held = slice_range w.held.block.items w.held.start w.held.end;
-      ahead = prepend_known (slice_range w.held.block.items w.held.start w.held.end) (R.remaining w.input);
+      ahead = prepend_known (slice_range w.held.block.items w.held.start w.held.end)
+          (R.remaining w.input);
     } };
 }
 
@@ -51,7 +52,8 @@ impl<R: Read + Drop> Window<R> {
         ensures held { result.now ≡ self.now.held }
         // The result is the first ones of all bytes that are still to be had, where these are
         // known.
-        ensures front { IfSome self.now.ahead (λ all. (rest : List ℕ) × (all ≡ result.now ++ rest)) }
+        ensures front { IfSome self.now.ahead
+            (λ all. (rest : List ℕ) × (all ≡ result.now ++ rest)) }
     {
         self.held.bytes()
     }
@@ -65,7 +67,8 @@ impl<R: Read + Drop> Window<R> {
         // What is held and still to come stays the same, where it is known, after a fault too.
         ensures kept { Keeps self.old.ahead self.new.ahead }
         // Where the answer is false, all that is ahead is held: the input has ended.
-        ensures end { IfOk result (λ more. more ≡ false → IfSome self.new.ahead (λ all. all ≡ self.new.held)) }
+        ensures end { IfOk result
+            (λ more. more ≡ false → IfSome self.new.ahead (λ all. all ≡ self.new.held)) }
         // The fault is never `TooLong`.
         ensures fault { IfErr result (λ e. e ≢ InputFault.TooLong) }
         // After a fault exactly the bytes are held that were held before.

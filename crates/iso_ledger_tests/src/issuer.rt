@@ -28,6 +28,7 @@ macro_rules! shows {
 }
 
 mod balances;
+mod crowded;
 mod days;
 mod documents;
 mod holds;

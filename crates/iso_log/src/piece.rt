@@ -72,11 +72,14 @@ pub(crate) fn write_zeros<D: Disk>(disk: &mut D, place: usize, count: usize) -> 
     requires some { 1 ≤ count }
     requires most { count ≤ 64 }
     requires small { 128 * (place + count) < 2 ^ 63 }
-    ensures written { OnOk result (Holds (D.seen disk.new) (128 * place) (replicate (128 * count) 0)) }
+    ensures written { OnOk result
+        (Holds (D.seen disk.new) (128 * place) (replicate (128 * count) 0)) }
     ensures others { Torn (128 * place) (128 * count) (D.seen disk.old) (D.seen disk.new) }
     ensures mixed { IsTrue (D.is_mixing disk.old)
-        → Follows (Mixed (128 * place) (replicate (128 * count) 0)) (D.may_leave disk.old) (D.may_leave disk.new) }
-    ensures crash { Follows (Torn (128 * place) (128 * count)) (D.may_leave disk.old) (D.may_leave disk.new) }
+        → Follows (Mixed (128 * place) (replicate (128 * count) 0))
+        (D.may_leave disk.old) (D.may_leave disk.new) }
+    ensures crash { Follows (Torn (128 * place) (128 * count))
+        (D.may_leave disk.old) (D.may_leave disk.new) }
     ensures usable { IsTrue (D.is_usable disk.new) }
     ensures clean { D.is_clean disk.new ≡ D.is_clean disk.old }
 {
@@ -116,7 +119,8 @@ pub(crate) fn clear_slots<D: Disk>(disk: &mut D, place: usize, count: usize) -> 
     ensures written { OnOk result (IsTrue (D.is_clean disk.new)
         → Holds (D.seen disk.new) (128 * place) (replicate (128 * count) 0)) }
     ensures others { Torn (128 * place) (128 * count) (D.seen disk.old) (D.seen disk.new) }
-    ensures mixed { Follows (Mixed (128 * place) (replicate (128 * count) 0)) (D.may_leave disk.old) (D.may_leave disk.new) }
+    ensures mixed { Follows (Mixed (128 * place) (replicate (128 * count) 0))
+        (D.may_leave disk.old) (D.may_leave disk.new) }
     ensures usable { IsTrue (D.is_usable disk.new) }
     ensures clean { IsTrue (D.is_clean disk.new) → IsTrue (D.is_clean disk.old) }
 {

@@ -11,11 +11,13 @@ use Rattle.iso_site.specs.declared.refusal.Refusal.TheVariants as refusals
 
 -- this machine by one of its names, at this port
 abbrev pub IsOwnHost : List ℕ → List ℕ → Type 0
-IsOwnHost port host = (host ≡ codes "127.0.0.1:" ++ port) ⊎ (host ≡ codes "localhost:" ++ port) ⊎ (host ≡ codes "[::1]:" ++ port)
+IsOwnHost port host = (host ≡ codes "127.0.0.1:" ++ port) ⊎ (host ≡ codes "localhost:" ++ port)
+    ⊎ (host ≡ codes "[::1]:" ++ port)
 
 -- the page of this machine at this port
 abbrev pub IsOwnOrigin : List ℕ → List ℕ → Type 0
-IsOwnOrigin port origin = (origin ≡ codes "http://127.0.0.1:" ++ port) ⊎ (origin ≡ codes "http://localhost:" ++ port)
+IsOwnOrigin port origin = (origin ≡ codes "http://127.0.0.1:" ++ port)
+    ⊎ (origin ≡ codes "http://localhost:" ++ port)
     ⊎ (origin ≡ codes "http://[::1]:" ++ port)
 
 -- no page is told, or this one
@@ -57,11 +59,15 @@ IsCallPath path = (call : Call) × (path ≡ path_of call)
 -- what each answer says of the path, the method and the type of what the request brings
 abbrev pub IsAskedAt : List ℕ → List ℕ → List ℕ → Asked → Type 0
 IsAskedAt path method content_type asked.Page = (path ≡ codes "/") × IsRead method
-IsAskedAt path method content_type (asked.Call call) = (path ≡ path_of call) × (method ≡ codes "POST") × IsJson content_type
-IsAskedAt path method content_type (asked.Refused refusals.NotFound) = (path ≢ codes "/") × (¬ (IsCallPath path))
-IsAskedAt path method content_type (asked.Refused refusals.NotAllowed) = ((path ≡ codes "/") × (¬ (IsRead method)))
+IsAskedAt path method content_type (asked.Call call) = (path ≡ path_of call)
+    × (method ≡ codes "POST") × IsJson content_type
+IsAskedAt path method content_type (asked.Refused refusals.NotFound) = (path ≢ codes "/")
+    × (¬ (IsCallPath path))
+IsAskedAt path method content_type (asked.Refused refusals.NotAllowed) =
+    ((path ≡ codes "/") × (¬ (IsRead method)))
     ⊎ (IsCallPath path × (method ≢ codes "POST"))
-IsAskedAt path method content_type (asked.Refused refusals.NotJson) = IsCallPath path × (method ≡ codes "POST")
+IsAskedAt path method content_type (asked.Refused refusals.NotJson) = IsCallPath path
+    × (method ≡ codes "POST")
     × (¬ (IsJson content_type))
 IsAskedAt path method content_type (asked.Refused refusals.ForeignHost) = ⊥
 IsAskedAt path method content_type (asked.Refused refusals.ForeignOrigin) = ⊥

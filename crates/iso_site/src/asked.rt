@@ -135,7 +135,8 @@ impl Asked {
         // A request that is let in asks for the page by `/` and GET or HEAD, or for a call by its
         // path, POST and JSON; else what is wrong is told: the path, the method or the type.
         ensures asked { IsLetIn port.now heads.entry
-            → IsAskedAt heads.entry.path.now heads.entry.method.now heads.entry.content_type.now result }
+            → IsAskedAt heads.entry.path.now heads.entry.method.now heads.entry.content_type.now
+            result }
     {
         match stranger(port, heads.host, heads.origin) {
             Some(refusal) => Asked::Refused(refusal),
