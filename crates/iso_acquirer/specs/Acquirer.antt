@@ -25,11 +25,13 @@ pub record Party : Type 0 where
 abbrev pub slot_at : List Slot → ℕ → Option Slot
 slot_at slots stan = find (λ s. s.order.key.stan == stan) slots
 
+-- the order made under a trace number, if one was
 abbrev pub order_at : List Slot → ℕ → Option Instruction
 order_at slots stan = option_map (λ s. s.order) (slot_at slots stan)
 
 -- ---- states
 
+-- the state of a transaction at a stage
 abbrev pub state_by : Stage → State
 state_by (stage.Waiting n) = Waiting n
 state_by (stage.Reversing u) = Reversing
@@ -61,6 +63,7 @@ abbrev pub on_stage : (Stage → Stage) → Role → Role
 on_stage step (Transaction stage) = Transaction (step stage)
 on_stage step (Reversal stan) = Reversal stan
 
+-- a slot whose transaction comes to another stage; that of a reversal stays
 abbrev pub slot_at_stage : (Stage → Stage) → Slot → Slot
 slot_at_stage step s = record { order = s.order; role = on_stage step s.role }
 
@@ -120,14 +123,17 @@ timeout_by slots o stage.Approved = Err Closed
 timeout_by slots o (stage.Declined c) = Err Closed
 timeout_by slots o (stage.Reversed u) = Err Closed
 
+-- the same of a transaction; a reversal doesn't wait by itself
 abbrev pub timeout_in : List Slot → Instruction → Role → Result (Instruction × List Slot) AcqFault
 timeout_in slots o (Transaction stage) = timeout_by slots o stage
 timeout_in slots o (Reversal stan) = Err NoSuch
 
+-- the same of what is kept under a trace number, if anything is
 abbrev pub timeout_at : List Slot → Option Slot → Result (Instruction × List Slot) AcqFault
 timeout_at slots None = Err NoSuch
 timeout_at slots (Some s) = timeout_in slots s.order s.role
 
+-- what is sent and kept where no answer to that trace number came in time
 abbrev pub timeout : List Slot → ℕ → Result (Instruction × List Slot) AcqFault
 timeout slots stan = timeout_at slots (slot_at slots stan)
 
@@ -158,6 +164,7 @@ abbrev pub slots_after_answer_in : List Slot → ℕ → ℕ → Role → List S
 slots_after_answer_in slots stan code (Transaction stage) = slots_at_stage (stage_after code) stan slots
 slots_after_answer_in slots stan code (Reversal original) = slots_at_stage (stage_after_undo code) original slots
 
+-- an answer counts only where the order of its trace number has its key
 abbrev pub slots_after_answer_at : List Slot → TxKey → ℕ → Option Slot → List Slot
 slots_after_answer_at slots key code None = slots
 slots_after_answer_at slots key code (Some s) = if same_key s.order.key key then slots_after_answer_in slots key.stan code s.role else slots

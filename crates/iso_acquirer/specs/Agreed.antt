@@ -24,6 +24,7 @@ use Rattle.iso_acquirer.specs.World.{World}
 abbrev pub answer_at : List Entry → TxKey → Option Outcome
 answer_at entries key = option_map (λ e. e.answer) (entry_at entries key)
 
+-- the response code that the issuer kept for a key
 abbrev pub code_at : List Entry → TxKey → Option ℕ
 code_at entries key = option_map (λ a. a.code) (answer_at entries key)
 
@@ -52,10 +53,12 @@ pub record IsReversal (slots : List Slot) (stan : ℕ) (undo : Instruction) : Ty
   pub kept : undo_of stage ≡ Some undo
   pub names : undo.act ≡ Undo original.order.key 0
 
+-- the order is what its role says: a transaction's, or the reversal of one
 abbrev pub IsRole : List Entry → List Slot → Instruction → Role → Type 0
 IsRole entries slots o (Transaction stage) = IsTransaction entries slots o stage
 IsRole entries slots o (Reversal stan) = IsReversal slots stan o
 
+-- a kept order is of this acquirer, and what its role says
 pub record IsSlot (id : ℕ) (entries : List Entry) (slots : List Slot) (s : Slot) : Type 0 where
   pub own : s.order.key.acquirer ≡ id
   pub role : IsRole entries slots s.order s.role
@@ -73,6 +76,7 @@ pub record IsAgreed (id : ℕ) (slots : List Slot) (sent : List Instruction) (gi
   pub sent_known : AllByRecursion (λ o. order_at slots o.key.stan ≡ Some o) sent
   pub given_kept : AllByRecursion (λ g. answer_at entries g.key ≡ Some g.answer) given
 
+-- acquirer and issuer agree, and no two orders of the issuer have one key
 pub record IsSound (w : World) : Type 0 where
   pub agreed : IsAgreed w.acquirer.id w.acquirer.slots w.sent w.given (journal w.issuer)
   pub distinct : HasDistinctKeys w.issuer.orders

@@ -67,6 +67,7 @@ debit_amount pan (Inquiry m) = 0
 debit_amount pan (Undo original left) = 0
 debit_amount pan (Complete m hold) = 0
 
+-- there is a transaction, and it was granted
 abbrev pub is_state_approved : Option State → Bool
 is_state_approved (Some Approved) = true
 is_state_approved (Some (Waiting n)) = false

@@ -84,6 +84,7 @@ pub record IsOther (old : World) (o : Instruction) (new : World) : Type 0 where
   pub room : IsFullFor old.issuer o.key → ⊥
   pub after : new ≡ with_other_order old o
 
+-- an event happens, and this is the world after it
 abbrev pub IsMade : World → Event → World → Type 0
 IsMade old (Begin pan amount currency sent) new = IsBegun old (debit_of old.acquirer pan amount currency sent) new
 IsMade old (Timeout stan) new = IsAsked old stan new
@@ -140,6 +141,7 @@ IsNotOther old o fault.Memory = ⊥
 IsNotOther old o fault.NoSuch = ⊥
 IsNotOther old o (fault.Acquirer e) = ⊥
 
+-- why an event doesn't happen
 abbrev pub IsNotMade : World → Event → StepFault → Type 0
 IsNotMade old (Begin pan amount currency sent) e = IsNotBegun old e
 IsNotMade old (Timeout stan) e = IsNotAsked old stan e
@@ -162,6 +164,7 @@ abbrev pub IsStep : World → Event → World → Option StepFault → Type 0
 IsStep old event new None = IsMade old event new
 IsStep old event new (Some e) = IsNotMade old event e × (new ≡ old)
 
+-- one for an event that was refused, else none
 abbrev pub refusal_count : Option StepFault → ℕ
 refusal_count None = 0
 refusal_count (Some e) = 1

@@ -9,6 +9,7 @@ Between Holds None new = Unit
 Between Holds (Some file) None = ⊥
 Between Holds (Some file) (Some rest) = Holds file rest
 
+-- a byte that no record has
 abbrev pub is_zero : ℕ → Bool
 is_zero b = b == 0
 

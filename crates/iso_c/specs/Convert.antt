@@ -26,11 +26,13 @@ IsConvertFault f t all e = e ≢ no_memory → convert_refusal f t all ≡ Some 
 
 -- ---- the same under the tables that two slots hold
 
+-- the bytes are converted; neither slot is empty
 abbrev pub ConvertsHeld : Option Layout → Option Layout → List ℕ → List ℕ → Type 0
 ConvertsHeld (Some f) (Some t) all b = Converts f t all b
 ConvertsHeld None to all b = ⊥
 ConvertsHeld (Some f) None all b = ⊥
 
+-- why they aren't; an empty slot is told before all else
 abbrev pub IsConvertFaultHeld : Option Layout → Option Layout → List ℕ → RumpadolFault → Type 0
 IsConvertFaultHeld (Some f) (Some t) all e = IsConvertFault f t all e
 IsConvertFaultHeld None to all e = e ≡ empty_slot

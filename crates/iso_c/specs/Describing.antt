@@ -10,6 +10,7 @@ abbrev pub Describes : Layout → List ℕ → List ℕ → Type 0
 Describes t b lines =
     (m : Contents) × (used : ℕ) × BeginsWith t m used b × AreLinesOf false t m used (length b) lines
 
+-- the same under the table that a slot holds; under none nothing is described
 abbrev pub DescribesHeld : Option Layout → List ℕ → List ℕ → Type 0
 DescribesHeld (Some t) b lines = Describes t b lines
 DescribesHeld None b lines = ⊥

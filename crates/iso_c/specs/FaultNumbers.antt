@@ -34,12 +34,15 @@ at_offset n offset = record { number = n; element = 0; offset = offset }
 
 -- ---- the faults of this library alone
 
+-- memory ran out
 abbrev pub no_memory : RumpadolFault
 no_memory = only 1
 
+-- the slot holds no table
 abbrev pub empty_slot : RumpadolFault
 empty_slot = only 2
 
+-- no built-in table has the number
 abbrev pub no_such_table : RumpadolFault
 no_such_table = only 3
 
@@ -51,6 +54,7 @@ short_room wanted = at_offset 4 wanted
 abbrev pub trailing_bytes : ℕ → RumpadolFault
 trailing_bytes used = at_offset 5 used
 
+-- the message doesn't have the element
 abbrev pub no_element : ℕ → RumpadolFault
 no_element n = at_element 6 n
 
@@ -58,9 +62,11 @@ no_element n = at_element 6 n
 abbrev pub bad_part : ℕ → ℕ → RumpadolFault
 bad_part element start = record { number = 7; element = element; offset = start }
 
+-- the message type has more than four digits
 abbrev pub bad_type : RumpadolFault
 bad_type = only 8
 
+-- no kind of header has the number
 abbrev pub no_such_header : RumpadolFault
 no_such_header = only 9
 
@@ -70,15 +76,18 @@ short_parts wanted = at_offset 10 wanted
 
 -- ---- the faults of the libraries below: a hundred for the type, and the fault's own number; want of memory is 1 everywhere
 
+-- the number of what is wrong with a value or its bytes
 abbrev pub field_code : FieldFault → ℕ
 field_code fields.Memory = no_memory.number
 field_code e = 200 + field_fault_number e
 
+-- the number of why bytes are no message
 abbrev pub unpack_code : UnpackCause → ℕ
 unpack_code causes.Memory = no_memory.number
 unpack_code (causes.Field e) = field_code e
 unpack_code e = 100 + unpack_cause_number e
 
+-- where bytes stop being a message: why, at which element, and at which offset
 abbrev pub unpack_fault : UnpackFault → RumpadolFault
 unpack_fault f = record { number = unpack_code f.cause; element = f.element; offset = f.at }
 
@@ -87,10 +96,12 @@ abbrev pub pack_fault : PackFault → RumpadolFault
 pack_fault pack.Memory = no_memory
 pack_fault e = at_element (300 + pack_fault_number e) (unwrap_or (pack_fault_element e) 0)
 
+-- what is wrong with a table; the element is 0 where none is named
 abbrev pub table_fault : TableFault → RumpadolFault
 table_fault tables.Memory = no_memory
 table_fault e = at_element (400 + table_fault_number e) (unwrap_or (table_fault_element e) 0)
 
+-- what is wrong with a frame
 abbrev pub frame_fault : FrameFault → RumpadolFault
 frame_fault frame.Memory = no_memory
 frame_fault e = only (500 + frame_fault_number e)
@@ -99,6 +110,7 @@ frame_fault e = only (500 + frame_fault_number e)
 abbrev pub bad_number : ℕ → RumpadolFault
 bad_number n = at_element (600 + set_fault_number (set.BadNumber n)) n
 
+-- why an element isn't set
 abbrev pub set_fault : SetFault → RumpadolFault
 set_fault (set.BadNumber n) = bad_number n
 set_fault set.Memory = no_memory

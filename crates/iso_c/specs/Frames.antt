@@ -29,6 +29,7 @@ UnframedBy h b (pos zero) old new f = NeedsMore h b × (new ≡ old)
 UnframedBy h b (pos (suc k)) old new f = Begins h b (bytes_in b new) (suc k) × (new.start + new.length ≡ suc k) × (new.element ≡ 0)
 UnframedBy h b (negsuc k) old new f = (k ≡ 0) × (f ≡ frame_fault BadDigits) × (is_bad_header h b ≡ true) × (new ≡ old)
 
+-- the same where the number names a header; where it names none, -1
 abbrev pub Unframed : Option Header → List ℕ → ℤ → RumpadolPart → RumpadolPart → RumpadolFault → Type 0
 Unframed (Some h) b n old new f = UnframedBy h b n old new f
 Unframed None b (pos n) old new f = ⊥

@@ -1,6 +1,7 @@
 -- The names of faults, by their numbers: no bytes where no fault has the number.
 use Rattle.std.specs.Prelude.{ℕ, ◌==◌, nat_lt, if◌then◌else◌, List, [], codes}
 
+-- the faults of this library alone
 abbrev pub own_name : ℕ → List ℕ
 own_name n =
     if n == 1 then codes "Memory"
@@ -15,6 +16,7 @@ own_name n =
     else if n == 10 then codes "ShortParts"
     else []
 
+-- why bytes are no message
 abbrev pub unpack_name : ℕ → List ℕ
 unpack_name n =
     if n == 101 then codes "Short"
@@ -25,6 +27,7 @@ unpack_name n =
     else if n == 106 then codes "UnknownElement"
     else []
 
+-- what is wrong with a value or its bytes
 abbrev pub field_name : ℕ → List ℕ
 field_name n =
     if n == 201 then codes "WrongLength"
@@ -36,6 +39,7 @@ field_name n =
     else if n == 207 then codes "BadHex"
     else []
 
+-- why a message isn't written, or an element isn't set
 abbrev pub pack_name : ℕ → List ℕ
 pack_name n =
     if n == 301 then codes "WrongVersion"
@@ -46,6 +50,7 @@ pack_name n =
     else if n == 601 then codes "BadNumber"
     else []
 
+-- what is wrong with a table
 abbrev pub table_name : ℕ → List ℕ
 table_name n =
     if n == 401 then codes "NotJson"
@@ -59,6 +64,7 @@ table_name n =
     else if n == 409 then codes "Profile"
     else []
 
+-- what is wrong with a frame
 abbrev pub frame_name : ℕ → List ℕ
 frame_name n =
     if n == 501 then codes "TooLong"

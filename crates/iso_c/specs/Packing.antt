@@ -17,6 +17,7 @@ pack_refusal (Some e) = Some (pack_fault e)
 
 -- ---- a message of a type, with the elements that parts tell of
 
+-- the message of a type and these elements, unless a part was refused
 abbrev pub message_by : ℕ → Result (List (ℕ × List ℕ)) RumpadolFault → Result Contents RumpadolFault
 message_by mti (Ok es) = Ok (record { mti = mti; elements = es })
 message_by mti (Err f) = Err f
@@ -31,6 +32,7 @@ message_of mti parts values = if nat_le mti 9999 then message_by mti (elements_o
 abbrev pub Packs : Layout → Result Contents RumpadolFault → List ℕ → Type 0
 Packs t made b = (m : Contents) × (made ≡ Ok m) × PlainSpelling t m b
 
+-- why nothing is written: the type or a part is refused, or the table refuses the message
 abbrev pub packing_refusal : Layout → Result Contents RumpadolFault → Option RumpadolFault
 packing_refusal t (Ok m) = pack_refusal (message_refusal t m)
 packing_refusal t (Err f) = Some f
@@ -39,10 +41,12 @@ packing_refusal t (Err f) = Some f
 abbrev pub IsPackingFault : Layout → Result Contents RumpadolFault → RumpadolFault → Type 0
 IsPackingFault t made f = f ≢ no_memory → packing_refusal t made ≡ Some f
 
+-- the plain spelling under the table that a slot holds; an empty slot gives none
 abbrev pub PacksHeld : Option Layout → Result Contents RumpadolFault → List ℕ → Type 0
 PacksHeld (Some t) made b = Packs t made b
 PacksHeld None made b = ⊥
 
+-- why nothing is written under a slot's table, or that the slot is empty
 abbrev pub IsPackingFaultHeld : Option Layout → Result Contents RumpadolFault → RumpadolFault → Type 0
 IsPackingFaultHeld (Some t) made f = IsPackingFault t made f
 IsPackingFaultHeld None made f = f ≡ empty_slot

@@ -14,15 +14,18 @@ bytes_in b p = take p.length (drop p.start b)
 abbrev pub element_in : List ℕ → RumpadolPart → ℕ × List ℕ
 element_in b p = (p.element, bytes_in b p)
 
+-- the elements that parts tell of, one for each
 abbrev pub elements_in : List ℕ → List RumpadolPart → List (ℕ × List ℕ)
 elements_in b ps = map (element_in b) ps
 
 -- ---- values that lie end to end
 
+-- the values of elements, each right behind the one before
 abbrev pub values_of : List (ℕ × List ℕ) → List ℕ
 values_of [] = []
 values_of (e ∷ es) = e.1 ++ values_of es
 
+-- what tells of a value of that size at an offset
 abbrev pub part_of : ℕ → ℕ → ℕ → RumpadolPart
 part_of n start size = record { element = n; start = start; length = size }
 
@@ -43,6 +46,7 @@ part_refusal size p =
     if is_part_within size p then (if is_element p.element then None else Some (bad_number p.element))
     else Some (bad_part p.element p.start)
 
+-- a refusal, where there is one, comes before all else
 abbrev pub unless_refused : {A : Type 0} → Option RumpadolFault → Result A RumpadolFault → Result A RumpadolFault
 unless_refused None r = r
 unless_refused (Some f) r = Err f

@@ -41,5 +41,6 @@ IsBuiltInFault name f = f ≡ (if nat_lt name 2 then no_memory else no_such_tabl
 abbrev pub IsTextFault : List ℕ → TableFault → Type 0
 IsTextFault text e = (e ≡ NotJson → IsNotJson text) × (e ≢ Memory → e ≢ NotJson → IsDocumentFault text e)
 
+-- the same, as C is told it
 abbrev pub IsTableFault : List ℕ → RumpadolFault → Type 0
 IsTableFault text f = (e : TableFault) × (f ≡ table_fault e) × IsTextFault text e

@@ -21,6 +21,7 @@ pub record IsSpread (t : Layout) (b : List ℕ) (found : SpreadMessage) : Type 0
   pub parts : found.parts.items ≡ parts_from 0 m.elements
   pub values : found.values.items ≡ values_of m.elements
 
+-- the same under the table that a slot holds; under none nothing is found
 abbrev pub IsSpreadHeld : Option Layout → List ℕ → SpreadMessage → Type 0
 IsSpreadHeld (Some t) b found = IsSpread t b found
 IsSpreadHeld None b found = ⊥
@@ -36,6 +37,7 @@ pub record GivesSpread (found : SpreadMessage) (used : ℕ) (told : RumpadolMess
   pub parts_behind : drop (length found.parts.items) parts ≡ drop (length found.parts.items) parts_old
   pub values_behind : drop (length found.values.items) values ≡ drop (length found.values.items) values_old
 
+-- what was found is given; or -1, why there is no room for it, and all stays
 abbrev pub GivesMessage : SpreadMessage → ℤ → RumpadolMessage → RumpadolMessage → List RumpadolPart → List RumpadolPart → List ℕ → List ℕ → RumpadolFault → Type 0
 GivesMessage found (pos used) old new parts_old parts values_old values f = GivesSpread found used new parts_old parts values_old values
 GivesMessage found (negsuc k) old new parts_old parts values_old values f =

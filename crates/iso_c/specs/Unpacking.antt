@@ -16,9 +16,11 @@ abbrev pub read_fault : {A : Type 0} → Result A UnpackFault → Option Rumpado
 read_fault (Ok x) = None
 read_fault (Err e) = Some (unpack_fault e)
 
+-- the bytes aren't read for this reason, unless memory ran out
 abbrev pub IsReadFault : Layout → List ℕ → RumpadolFault → Type 0
 IsReadFault t b f = f ≢ no_memory → read_fault (message_at t b) ≡ Some f
 
+-- the same under the table that a slot holds, or that the slot is empty
 abbrev pub IsReadFaultHeld : Option Layout → List ℕ → RumpadolFault → Type 0
 IsReadFaultHeld (Some t) b f = IsReadFault t b f
 IsReadFaultHeld None b f = f ≡ empty_slot
@@ -50,14 +52,17 @@ abbrev pub room_fault : ℕ → ℕ → ℕ → ℕ → Option RumpadolFault
 room_fault parts bytes places room =
     if nat_lt places parts then Some (short_parts parts) else if nat_lt room bytes then Some (short_room bytes) else None
 
+-- why a message isn't given: the bytes begin with none, or there is no room for it
 abbrev pub given_fault : Result (Contents × ℕ) UnpackFault → ℕ → ℕ → Option RumpadolFault
 given_fault (Ok x) places room = room_fault (length x.0.elements) (length (values_of x.0.elements)) places room
 given_fault (Err e) places room = Some (unpack_fault e)
 
+-- the same under the table that a slot holds, unless memory ran out; or the slot is empty
 abbrev pub IsGivenFault : Option Layout → List ℕ → ℕ → ℕ → RumpadolFault → Type 0
 IsGivenFault (Some t) b places room f = f ≢ no_memory → given_fault (message_at t b) places room ≡ Some f
 IsGivenFault None b places room f = f ≡ empty_slot
 
+-- the rooms have the message under the table that a slot holds; under none there is none
 abbrev pub UnpackedHeld : Option Layout → List ℕ → ℕ → RumpadolMessage → List RumpadolPart → List RumpadolPart → List ℕ → List ℕ → Type 0
 UnpackedHeld (Some t) b used told parts_old parts values_old values = Unpacked t b used told parts_old parts values_old values
 UnpackedHeld None b used told parts_old parts values_old values = ⊥

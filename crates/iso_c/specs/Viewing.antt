@@ -22,13 +22,16 @@ abbrev pub body_fault : ℕ → Result (Contents × ℕ) UnpackFault → Option 
 body_fault n (Err e) = Some (unpack_fault e)
 body_fault n (Ok x) = if has x.0.elements n then None else Some (no_element n)
 
+-- the body isn't told for this reason
 abbrev pub IsViewFault : Layout → List ℕ → ℕ → RumpadolFault → Type 0
 IsViewFault t b n f = body_fault n (message_at t b) ≡ Some f
 
+-- where the body lies, under the table that a slot holds; under none there is no body
 abbrev pub IsBodyAtHeld : Option Layout → List ℕ → ℕ → RumpadolPart → Type 0
 IsBodyAtHeld (Some t) b n p = IsBodyAt t b n p
 IsBodyAtHeld None b n p = ⊥
 
+-- why the body isn't told, under the table that a slot holds; or the slot is empty
 abbrev pub IsViewFaultHeld : Option Layout → List ℕ → ℕ → RumpadolFault → Type 0
 IsViewFaultHeld (Some t) b n f = IsViewFault t b n f
 IsViewFaultHeld None b n f = f ≡ empty_slot

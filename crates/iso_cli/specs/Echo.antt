@@ -19,6 +19,7 @@ AnswersBy t m (Reply code) b = PlainSpelling t (response m (code_alone code)) b
 AnswersBy t m (Order o) b = b ≡ codes "none"
 AnswersBy t m Silent b = b ≡ codes "none"
 
+-- these bytes are the answer to the message
 abbrev pub Answers : Layout → Contents → List ℕ → Type 0
 Answers t m b = AnswersBy t m (verdict m) b
 

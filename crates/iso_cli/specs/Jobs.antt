@@ -53,6 +53,7 @@ pub record IsStopOf (words : List (List ℕ)) (file : List ℕ → Option (List 
 
 -- the job was done, or something stopped it
 module _ (words : List (List ℕ)) (file : List ℕ → Option (List ℕ)) (input old new : Option (List ℕ)) (input_old input_new output_old output_new : Counts) where
+  -- what it means that this was reported, or that it stopped so
   abbrev pub Performs : Result (Option Report) Stop → Type 0
   Performs (Ok report) = DoesAsked words file input old new report
   Performs (Err stop) = IsStopOf words file input input_old input_new output_old output_new stop

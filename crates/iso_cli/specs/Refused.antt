@@ -58,6 +58,7 @@ reply_stop t m (Reply code) = option_map Pack (message_refusal t (response m (co
 reply_stop t m (Order o) = None
 reply_stop t m Silent = None
 
+-- why what was read isn't echoed: it is no message, or its response isn't written
 abbrev pub echo_stop : Layout → Result (Contents × ℕ) UnpackFault → Option Stop
 echo_stop t (Err e) = Some (Unpack e)
 echo_stop t (Ok x) = reply_stop t x.0 (verdict x.0)
@@ -81,13 +82,16 @@ ConvertStops file from to input stop =
 
 -- ---- the stops of the command that the words ask for
 
+-- if the words ask for `check`, it stops so
 abbrev pub CheckStopsAsked : List (List ℕ) → (List ℕ → Option (List ℕ)) → Stop → Type 0
 CheckStopsAsked words file stop = (table : List ℕ) → IsTrue (is_name table) → words ≡ codes "check" ∷ table ∷ [] → NamesNone file table stop
 
+-- if the words ask for `show`, it stops so
 abbrev pub ShowStopsAsked : List (List ℕ) → (List ℕ → Option (List ℕ)) → Option (List ℕ) → Stop → Type 0
 ShowStopsAsked words file input stop =
     (table : List ℕ) (is_clear : Bool) → IsTrue (is_name table) → AsksShow words table is_clear → ShowStops file table input stop
 
+-- if the words ask for `convert`, it stops so
 abbrev pub ConvertStopsAsked : List (List ℕ) → (List ℕ → Option (List ℕ)) → Option (List ℕ) → Stop → Type 0
 ConvertStopsAsked words file input stop = (from to : List ℕ) → words ≡ codes "convert" ∷ from ∷ to ∷ [] → ConvertStops file from to input stop
 

@@ -78,6 +78,7 @@ abbrev pub account_end : Option ℕ → List ℕ
 account_end None = codes "\n"
 account_end (Some i) = codes " " ++ (decimal i ++ codes "\n")
 
+-- the line of what is wrong with accounts, and of the account that is named
 abbrev pub accounts_line : AccountsFault → List ℕ
 accounts_line fault = codes "refused: accounts " ++ (accounts_fault_name fault ++ account_end (accounts_fault_account fault))
 
@@ -130,14 +131,17 @@ abbrev pub stop_of_accounts : AccountsFault → Stop
 stop_of_accounts accounts.Memory = Memory
 stop_of_accounts fault = Accounts fault
 
+-- the stop where there is no table
 abbrev pub stop_of_table : TableFault → Stop
 stop_of_table table.Memory = Memory
 stop_of_table fault = Table fault
 
+-- the stop where bytes aren't read as a message, for this cause
 abbrev pub stop_of_unpack : UnpackFault → UnpackCause → Stop
 stop_of_unpack fault cause.Memory = Memory
 stop_of_unpack fault why = Unpack fault
 
+-- the stop where a message isn't written
 abbrev pub stop_of_pack : PackFault → Stop
 stop_of_pack pack.Memory = Memory
 stop_of_pack fault = Pack fault

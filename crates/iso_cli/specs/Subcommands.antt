@@ -21,6 +21,7 @@ abbrev pub with_clear : Bool → App → App
 with_clear true app = with_rule app clear_rule
 with_clear false app = app
 
+-- the command that a row of the table stands for
 abbrev pub subcommand_app : Subcommand → App
 subcommand_app row = with_clear row.clear (named_app row.name.now row.arguments.now)
 

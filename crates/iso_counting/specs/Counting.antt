@@ -18,6 +18,7 @@ counted_as t (Closed stan state) differs = t
 counted_as t Known differs = counted_late t differs
 counted_as t Foreign differs = record t { foreign = one_more t.foreign }
 
+-- an answer comes, whose bytes differ from those of the one that closed, or don't
 abbrev pub counted : Tally → Heard → Bool → Tally
 counted t heard differs = counted_as (record t { answers = one_more t.answers }) heard differs
 

@@ -8,6 +8,7 @@ abbrev pub path_at : List ℕ → Option ℕ → List ℕ
 path_at target None = target
 path_at target (Some at) = take at target
 
+-- the target without its query
 abbrev pub path_of : List ℕ → List ℕ
 path_of target = path_at target (position (λ byte. byte == 63) target)
 

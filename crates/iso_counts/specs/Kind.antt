@@ -15,6 +15,7 @@ class_of class function =
     else if class == 8 then Network
     else Other
 
+-- the kind of a message, by the number of its type
 abbrev pub kind_of : ℕ → Kind
 kind_of number = class_of (number / 100 % 10) (number / 10 % 10)
 

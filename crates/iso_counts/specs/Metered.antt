@@ -28,5 +28,6 @@ abbrev pub changed_at : List LinkCounts → ℕ → Event → Option LinkCounts 
 changed_at links link event None = links
 changed_at links link event (Some counts) = slice_set links link (counted_of counts event)
 
+-- the counts of all links after an event at one of them
 abbrev pub link_counted : List LinkCounts → ℕ → Event → List LinkCounts
 link_counted links link event = changed_at links link event (slice_get links link)

@@ -17,6 +17,7 @@ use Rattle.iso_diary.specs.Notes.{note_of, note_or_nothing, notes_of, diary_note
 pub note_is : (r : Line) (bytes : List ℕ) → bytes ≡ line_bytes r → line_in (line_bytes r) ≡ Some r → note_of bytes ≡ r.note
 note_is r bytes is back = ap note_of is ∙ ap note_or_nothing back
 
+-- the notes of records, and of more records behind them
 pub notes_append : (xs ys : List (List ℕ)) → notes_of (xs ++ ys) ≡ notes_of xs ++ notes_of ys
 notes_append [] ys = refl
 notes_append (x ∷ xs) ys = ap (λ (l : List Note). note_of x ∷ l) (notes_append xs ys)
@@ -30,6 +31,7 @@ front_split (suc s) (suc m) (x ∷ xs) le =
     let rest = front_split s m xs (omega (arith, le)) in
     (rest.0, ap (λ (l : List (List ℕ)). x ∷ l) rest.1)
 
+-- the notes of a front of records are a front of their notes
 notes_take : (n : ℕ) (xs : List (List ℕ)) → notes_of (take n xs) ≡ take n (notes_of xs)
 notes_take zero xs = refl
 notes_take (suc n) [] = refl
@@ -40,6 +42,7 @@ diary_append : (xs ys : List (List ℕ)) → 1 ≤ length xs → diary_notes (xs
 diary_append [] ys some = absurd (omega (arith, some))
 diary_append (x ∷ xs) ys some = notes_append xs ys
 
+-- a front of one record or more isn't empty
 take_some : (s : ℕ) (xs : List (List ℕ)) → 1 ≤ s → s ≤ length xs → 1 ≤ length (take s xs)
 take_some zero xs least le = absurd (omega (arith, least))
 take_some (suc s) [] least le = absurd (omega (arith, le))
@@ -61,6 +64,7 @@ module _ {D : Type 0} (seen : D → List ℕ) (may_leave : D → List ℕ → Ty
   pub synced_few : (log : RecordLog D) → IsLog seen may_leave is_usable log → log.synced ≤ length (records_of (seen log.disk))
   synced_few log is = omega (arith, is.some, count_is log.slots log.count (seen log.disk) is.file)
 
+  -- a crash leaves the synced notes, and a front of those that wait
   pub ready_leaves : (log : RecordLog D) → IsReady seen may_leave is_usable log → LeavesFront (LeavesNotes may_leave log) (synced_notes seen log) (pending_notes seen log)
   ready_leaves log is =
       leaves_front log log (records_of (seen log.disk)) is.headed (synced_few log is.log_is) (λ c here. left_records log.slots log.count log.synced (seen log.disk) c is.log_is.file is.log_is.some (is.log_is.left c here))
@@ -73,6 +77,7 @@ module _ {D : Type 0} (seen : D → List ℕ) (may_leave : D → List ℕ → Ty
       ap (λ n. diary_notes (take n (records_of (seen new.disk)))) synced ∙ ap (λ (l : List (List ℕ)). diary_notes (take old.synced l)) more
       ∙ ap diary_notes (take-append-le old.synced rs (bytes ∷ []) (synced_few old is))
 
+  -- a record more adds its note behind those that wait
   pub pending_more : (old : RecordLog D) (bytes : List ℕ) (o : Note) → IsLog seen may_leave is_usable old → note_of bytes ≡ o
       → notes_of (drop old.synced (records_of (seen old.disk) ++ bytes ∷ [])) ≡ pending_notes seen old ++ o ∷ []
   pending_more old bytes o is same =
@@ -80,6 +85,7 @@ module _ {D : Type 0} (seen : D → List ℕ) (may_leave : D → List ℕ → Ty
       ap notes_of (drop-append-le old.synced rs (bytes ∷ []) (synced_few old is)) ∙ notes_append (drop old.synced rs) (bytes ∷ [])
       ∙ ap (λ (p : Note). pending_notes seen old ++ p ∷ []) same
 
+  -- so it does in the log that has the record, where nothing was synced meanwhile
   pub pending_new : (old new : RecordLog D) (bytes : List ℕ) (o : Note) → IsLog seen may_leave is_usable old → note_of bytes ≡ o → new.synced ≡ old.synced
       → records_of (seen new.disk) ≡ records_of (seen old.disk) ++ bytes ∷ [] → pending_notes seen new ≡ pending_notes seen old ++ o ∷ []
   pending_new old new bytes o is same synced more =
@@ -111,6 +117,7 @@ module _ {D : Type 0} (seen : D → List ℕ) (may_leave : D → List ℕ → Ty
   pub still_headed : (old new : RecordLog D) → IsReady seen may_leave is_usable old → new.synced ≡ length (records_of (seen new.disk)) → records_of (seen new.disk) ≡ records_of (seen old.disk) → 1 ≤ new.synced
   still_headed old new is count same = omega (arith, is.headed, synced_few old is.log_is, count, ap length same)
 
+  -- where all records are synced, no note waits
   pub none_pending : (new : RecordLog D) → new.synced ≡ length (records_of (seen new.disk)) → pending_notes seen new ≡ []
   none_pending new count =
       let now = records_of (seen new.disk) in

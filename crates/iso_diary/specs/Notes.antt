@@ -12,6 +12,7 @@ use Rattle.iso_diary.specs.Line.{line_in}
 abbrev pub nothing : Note
 nothing = TimedOut 0
 
+-- the note of a line, if there is one
 abbrev pub note_or_nothing : Option Line → Note
 note_or_nothing (Some l) = l.note
 note_or_nothing None = nothing
@@ -20,6 +21,7 @@ note_or_nothing None = nothing
 abbrev pub note_of : List ℕ → Note
 note_of bytes = note_or_nothing (line_in bytes)
 
+-- what records tell, in their order
 abbrev pub notes_of : List (List ℕ) → List Note
 notes_of records = map note_of records
 
@@ -28,12 +30,15 @@ abbrev pub diary_notes : List (List ℕ) → List Note
 diary_notes records = notes_of (drop 1 records)
 
 module _ {D : Type 0} (seen : D → List ℕ) (log : RecordLog D) where
+  -- what is in the log's file
   abbrev pub records : List (List ℕ)
   records = records_of (seen log.disk)
 
+  -- the notes that no crash takes away
   abbrev pub synced_notes : List Note
   synced_notes = diary_notes (take log.synced records)
 
+  -- the notes that wait for a sync
   abbrev pub pending_notes : List Note
   pending_notes = notes_of (drop log.synced records)
 

@@ -15,6 +15,7 @@ abbrev pub has_key : Option Slot → TxKey → Bool
 has_key None key = false
 has_key (Some s) key = same_key s.order.key key
 
+-- an order of that key is among these
 abbrev pub is_made : List Slot → TxKey → Bool
 is_made slots key = has_key (slot_at slots key.stan) key
 

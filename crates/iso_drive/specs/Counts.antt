@@ -8,6 +8,7 @@ use Rattle.iso_drive.specs.declared.counts.Counts.{Counts}
 use Rattle.iso_drive.specs.declared.made.Role.{Role}
 use Rattle.iso_drive.specs.declared.made.Role.TheVariants.{Payment, Reversal}
 
+-- no answer decided it, and no reversal of it was sent
 abbrev pub is_waiting : State → Bool
 is_waiting (Waiting n) = true
 is_waiting Reversing = false
@@ -15,6 +16,7 @@ is_waiting Approved = false
 is_waiting (Declined c) = false
 is_waiting Reversed = false
 
+-- its reversal was sent, and no answer granted it
 abbrev pub is_reversing : State → Bool
 is_reversing (Waiting n) = false
 is_reversing Reversing = true
@@ -22,6 +24,7 @@ is_reversing Approved = false
 is_reversing (Declined c) = false
 is_reversing Reversed = false
 
+-- it was granted
 abbrev pub is_approved : State → Bool
 is_approved (Waiting n) = false
 is_approved Reversing = false
@@ -29,6 +32,7 @@ is_approved Approved = true
 is_approved (Declined c) = false
 is_approved Reversed = false
 
+-- it was refused, with whatever code
 abbrev pub is_declined : State → Bool
 is_declined (Waiting n) = false
 is_declined Reversing = false
@@ -36,6 +40,7 @@ is_declined Approved = false
 is_declined (Declined c) = true
 is_declined Reversed = false
 
+-- it was refused with that code
 abbrev pub is_declined_with : ℕ → State → Bool
 is_declined_with code (Waiting n) = false
 is_declined_with code Reversing = false
@@ -43,6 +48,7 @@ is_declined_with code Approved = false
 is_declined_with code (Declined c) = c == code
 is_declined_with code Reversed = false
 
+-- its reversal was granted
 abbrev pub is_reversed : State → Bool
 is_reversed (Waiting n) = false
 is_reversed Reversing = false
@@ -64,6 +70,7 @@ is_such such (Some state) = such state
 abbrev pub count_of : (State → Bool) → List Slot → ℕ
 count_of such slots = count_by (λ s. is_such such (state_in s.role)) slots
 
+-- how many transactions are in each state
 abbrev pub counts_of : List Slot → Counts
 counts_of slots = record {
   waiting = count_of is_waiting slots;

@@ -28,6 +28,7 @@ takes_from pan (Inquiry m) = false
 takes_from pan (Undo original left) = false
 takes_from pan (Complete m hold) = false
 
+-- a transaction on the account that no answer to its own order decided
 abbrev pub is_doubtful_of : AccountNumber → Slot → Bool
 is_doubtful_of pan s = is_such is_doubtful (state_in s.role) && takes_from pan s.order.act
 
@@ -37,12 +38,15 @@ doubtful_of pan slots = map (λ (s : Slot). s.order.key.stan) (filter (is_doubtf
 
 -- ---- inner: the same of the orders as the driver has them
 
+-- there is a debit, and it is of the account
 abbrev pub debit_is_of : Option Money → AccountNumber → Bool
 debit_is_of None pan = false
 debit_is_of (Some m) pan = same_pan m.pan pan
 
+-- a transaction on the account that no answer to its own order decided
 abbrev pub made_is_doubtful : AccountNumber → Made → Bool
 made_is_doubtful pan m = role_is is_doubtful m.role && debit_is_of m.debit pan
 
+-- their trace numbers
 abbrev pub doubtful_in : AccountNumber → List Made → List ℕ
 doubtful_in pan made = map (λ (m : Made). m.key.stan) (filter (made_is_doubtful pan) made)

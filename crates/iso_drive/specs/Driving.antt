@@ -88,6 +88,7 @@ keeps_all d = record { diary = keeps d.diary; waiting = d.waiting; patience = d.
 
 -- ---- a driver over the log of its notes
 
+-- the driver as contracts see it, with the notes that its log has
 abbrev pub driving_of : {L : Type 0} → (L → List Note) → (L → List Note) → Driver L → Driving
 driving_of synced pending d = record {
   diary = diary_of synced pending d.acquirer;
@@ -128,6 +129,7 @@ pub record Stops {T : Type 0} (old new : Bool) (result : Result T Fault) : Type 
 abbrev pub WakesSome : Driving → Driving → Type 0
 WakesSome old new = (n : ℕ) × (n ≤ length (due_by old.clock old.waiting)) × (new ≡ wakes_first n old)
 
+-- a crash leaves these notes, when some of those that are due were timed out
 abbrev pub MayLeaveSome : Driving → List Note → Type 0
 MayLeaveSome old notes = (n : ℕ) × MayLeave (wakes_first n old).diary notes
 

@@ -17,6 +17,7 @@ is_due now d = nat_le d.at now
 abbrev pub due_by : ℕ → List Due → List Due
 due_by now waiting = filter (is_due now) waiting
 
+-- those that aren't due by that moment, in their order
 abbrev pub due_later : ℕ → List Due → List Due
 due_later now waiting = filter (λ d. not (is_due now d)) waiting
 

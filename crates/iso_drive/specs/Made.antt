@@ -15,6 +15,7 @@ use Rattle.iso_drive.specs.declared.made.Made.{Made}
 use Rattle.iso_drive.specs.declared.made.Role.{Role}
 use Rattle.iso_drive.specs.declared.made.Role.TheVariants.{Payment, Reversal}
 
+-- what an order is to the driver: a payment and its state, or a reversal
 abbrev pub role_of : Part → Role
 role_of (part.Transaction stage) = Payment (state_by stage)
 role_of (part.Reversal stan) = Reversal stan
@@ -52,6 +53,7 @@ own_end Approved code = None
 own_end (Declined c) code = None
 own_end Reversed code = None
 
+-- the state in which an answer to its reversal closes a transaction, if it does
 abbrev pub undo_end : State → ℕ → Option State
 undo_end (Waiting n) code = None
 undo_end Reversing code = if code == 0 then Some Reversed else None
@@ -59,10 +61,12 @@ undo_end Approved code = None
 undo_end (Declined c) code = None
 undo_end Reversed code = None
 
+-- the same by a role: only a payment is closed
 abbrev pub undo_end_in : Role → ℕ → Option State
 undo_end_in (Payment state) code = undo_end state code
 undo_end_in (Reversal stan) code = None
 
+-- the same of the order that was made, if one was
 abbrev pub undo_end_at : Option Made → ℕ → Option State
 undo_end_at None code = None
 undo_end_at (Some m) code = undo_end_in m.role code

@@ -28,6 +28,7 @@ abbrev pub bytes_of : Option Data → Option (List ℕ)
 bytes_of None = Some []
 bytes_of (Some member) = option_and_then decoded (as_str member)
 
+-- the bytes of the member of that name
 abbrev pub bytes_in : List ℕ → Data → Option (List ℕ)
 bytes_in name answer = bytes_of (get name answer)
 
@@ -46,6 +47,7 @@ abbrev pub is_key : List ℕ → Option (List ℕ) → Bool
 is_key key None = false
 is_key key (Some found) = bytes_eq found key
 
+-- what a pair has, if it is the pair at this key
 abbrev pub value_at : List ℕ → Data → Option (List ℕ)
 value_at key pair =
     if is_key key (bytes_in (codes "key") pair) then bytes_in (codes "value") pair else None
@@ -57,6 +59,7 @@ pub data Outcome : Type 0 where
   -- nothing was put, as this stands there
   Stands : (value : List ℕ) → Outcome
 
+-- what became of the value, as an answer that was read tells it
 abbrev pub outcome_of : PutAnswer → Outcome
 outcome_of answers.Put = Put
 outcome_of (answers.Stands value) = Stands value.items
@@ -77,6 +80,7 @@ abbrev pub pairs_of : Option Data → Option Items
 pairs_of None = Some no_items
 pairs_of (Some pairs) = as_array pairs
 
+-- the pairs that an answer tells
 abbrev pub pairs_in : Data → Option Items
 pairs_in answer = pairs_of (get (codes "kvs") answer)
 
@@ -97,5 +101,6 @@ abbrev pub value_of : List ℕ → Items → Option (Option (List ℕ))
 value_of key no_items = Some None
 value_of key (item pair pairs) = option_map Some (value_at key pair)
 
+-- what an answer tells of a key: what stands there, or nothing
 abbrev pub value_in : List ℕ → Data → Option (Option (List ℕ))
 value_in key answer = option_and_then (value_of key) (pairs_in answer)

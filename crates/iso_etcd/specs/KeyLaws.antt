@@ -10,6 +10,7 @@ use Rattle.iso_etcd.specs.Keys.{batch_key, end_key, heading_key, active_key}
 abbrev pub IsBefore : List ℕ → List ℕ → Type 0
 IsBefore one other = slice_cmp nat_cmp one other ≡ Less
 
+-- what holds of the keys of each journal
 pub record KeyLaws : Type 0 where
   -- the batches' keys are in the order of their places
   pub in_order : (name : List ℕ) (one other : ℕ) → one < other → other < 2 ^ 32

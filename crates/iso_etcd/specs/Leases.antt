@@ -21,6 +21,7 @@ abbrev pub IsWritten : Option (List ℕ) → ℕ → Type 0
 IsWritten None number = ⊥
 IsWritten (Some text) number = Writes text number
 
+-- the member of that name has this number
 abbrev pub IsNumber : List ℕ → Data → ℕ → Type 0
 IsNumber name answer number = IsWritten (text_in name answer) number
 
@@ -38,6 +39,7 @@ abbrev pub KeepsFor : Option Data → ℕ → Type 0
 KeepsFor None seconds = ⊥
 KeepsFor (Some kept) seconds = IsNumber (codes "TTL") kept seconds
 
+-- the body tells that its lease is kept for so many seconds more
 abbrev pub IsKept : List ℕ → ℕ → Type 0
 IsKept body seconds = (answer : Data) × IsJson body answer
     × KeepsFor (get (codes "result") answer) seconds

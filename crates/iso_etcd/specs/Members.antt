@@ -19,6 +19,7 @@ Lacks mark text = position_or_len (λ byte. byte == mark) text ≡ length text
 abbrev pub before : ℕ → List ℕ → List ℕ
 before mark text = before_first (λ byte. byte == mark) text
 
+-- what stands behind the first mark
 abbrev pub behind : ℕ → List ℕ → List ℕ
 behind mark text = after_first (λ byte. byte == mark) text
 

@@ -48,9 +48,11 @@ leased key value lease =
     (member (codes "lease") (number (unsigned lease))
     (member (codes "value") value no_members)))
 
+-- where nothing stands at the key, the value is to be put there, and stays
 abbrev pub put_data : List ℕ → List ℕ → Data
 put_data key value = transaction (base64 key) (lasting (base64 key) (base64 value))
 
+-- where nothing stands at the key, the value is to be put there for as long as the lease
 abbrev pub put_leased_data : List ℕ → List ℕ → ℕ → Data
 put_leased_data key value lease =
     transaction (base64 key) (leased (base64 key) (base64 value) lease)
@@ -62,6 +64,7 @@ range_of first end limit =
     (member (codes "limit") (number (unsigned limit))
     (member (codes "range_end") end no_members)))
 
+-- the same of keys in bytes
 abbrev pub range_data : List ℕ → List ℕ → ℕ → Data
 range_data first end limit = range_of (base64 first) (base64 end) limit
 
@@ -69,6 +72,7 @@ range_data first end limit = range_of (base64 first) (base64 end) limit
 abbrev pub look_of : Data → Data
 look_of key = object (member (codes "key") key no_members)
 
+-- the same of a key in bytes
 abbrev pub look_data : List ℕ → Data
 look_data key = look_of (base64 key)
 

@@ -63,6 +63,7 @@ is_number_of version (Some n) = n / 1000 == version
 abbrev pub has_type : Digits → ℕ → List ℕ → Bool
 has_type d version b = is_number_of version (four_digits_in d (take (mti_size d) b))
 
+-- two digits to a byte
 abbrev pub is_bcd : Digits → Bool
 is_bcd digits.Bcd = true
 is_bcd digits.Ascii = false
@@ -74,6 +75,7 @@ begins_tpdu (b ∷ bs) = b == 96
 
 -- ---- when each mistake is likely
 
+-- the bytes look as if they were what the hint says
 abbrev pub is_likely : Layout → List ℕ → Hint → Bool
 is_likely t b (hints.Framed h) = is_framed t h b
 is_likely t b hints.Behind2 = fills t (drop 2 b) && not (is_framed t headers.Binary2 b) && not (is_framed t headers.Bcd2 b)

@@ -26,6 +26,7 @@ abbrev pub read_as : ℕ → Result (Contents × ℕ) UnpackFault → Read
 read_as size (Err e) = Unreadable
 read_as size (Ok (m, used)) = if used == size then read_told m (told_of m) else Unreadable
 
+-- what the body of a frame tells
 abbrev pub read_of : Layout → List ℕ → Read
 read_of t body = read_as (length body) (message_at t body)
 

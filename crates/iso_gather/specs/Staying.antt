@@ -4,6 +4,7 @@ use Rattle.sqlite_disk.proofs.EventLemmas.{Holds-overlaid, Torn-overlaid, Mixed-
 use Rattle.sqlite_disk.specs.Events.{overlaid}
 use Rattle.iso_gather.specs.Shown.{shown, Left}
 
+-- where a crash may leave a file, it may leave it as it is shown
 pub shown_may_stay : (at : ℕ) (waiting : List ℕ) (may_leave : List ℕ → Type 0) (file : List ℕ)
     → may_leave file → Left at waiting may_leave (shown at waiting file)
 shown_may_stay at [] may_leave file may = may

@@ -47,6 +47,7 @@ pairs [] = Ok []
 pairs (d ∷ []) = Err (Odd d.place.line d.place.column)
 pairs (high ∷ low ∷ ds) = after ((16 * high.value + low.value) ∷ []) (pairs ds)
 
+-- the same of digits that were read, or why there are none
 abbrev pub pairs_of : Result (List Digit) HexFault → Result (List ℕ) HexFault
 pairs_of (Ok ds) = pairs ds
 pairs_of (Err e) = Err e

@@ -7,6 +7,7 @@ use Rattle.iso_input.specs.declared.fault.HexFault.TheVariants.{NotDigit, Gap}
 use Rattle.iso_input.specs.declared.place.Place.{Place}
 use Rattle.iso_input.specs.Digits.{after, bytes_at}
 
+-- the end of a line
 abbrev pub is_newline : ℕ → Bool
 is_newline b = b == 10
 
@@ -18,6 +19,7 @@ is_blank b = b == 32 || b == 9 || b == 13
 abbrev pub is_white : ℕ → Bool
 is_white b = is_blank b || is_newline b
 
+-- the digit 0
 abbrev pub is_zero : ℕ → Bool
 is_zero b = b == 48
 

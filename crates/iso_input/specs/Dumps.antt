@@ -21,6 +21,7 @@ pub record AreHalves (part : List ℕ) : Type 0 where
   pub second_dense : HasNoGap second
   pub more : begins_byte second ≡ true
 
+-- a colon stands first
 abbrev pub begins_colon : List ℕ → Bool
 begins_colon l = begins (λ b. b == 58) l
 

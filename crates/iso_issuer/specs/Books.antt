@@ -24,6 +24,7 @@ journal b = journal_of b.accounts b.orders
 abbrev pub is_full : Books → TxKey → Bool
 is_full b key = not (is_entered b.orders key) && nat_le b.limit (length b.orders)
 
+-- there is no room for an order of this key
 abbrev pub IsFullFor : Books → TxKey → Type 0
 IsFullFor b key = is_full b key ≡ true
 

@@ -40,6 +40,7 @@ money_code accounts before o (Some m) =
     if is_reversed before o.key then 21
     else account_code before o m (account_of accounts m.pan)
 
+-- the response code of a new order
 abbrev pub code_of : List Account → List Entry → Instruction → ℕ
 code_of accounts before o = money_code accounts before o (money_of o.act)
 
@@ -64,6 +65,7 @@ new_answer accounts before o =
 
 -- ---- the journal of orders
 
+-- a new order and its answer
 abbrev pub new_entry : List Account → List Entry → Instruction → Entry
 new_entry accounts before o = record { order = o; answer = new_answer accounts before o }
 
@@ -72,6 +74,7 @@ abbrev pub entries_after : List Account → List Entry → List Instruction → 
 entries_after accounts before [] = before
 entries_after accounts before (o ∷ os) = entries_after accounts (before ++ new_entry accounts before o ∷ []) os
 
+-- the entries of these orders, with none before them
 abbrev pub journal_of : List Account → List Instruction → List Entry
 journal_of accounts orders = entries_after accounts [] orders
 
@@ -81,6 +84,7 @@ journal_of accounts orders = entries_after accounts [] orders
 abbrev pub repeat_answer : Entry → Instruction → Outcome
 repeat_answer e o = if same_order e.order o then e.answer else code_alone 94
 
+-- the answer to an order whose key has this entry, or none
 abbrev pub answer_by : List Account → List Entry → Instruction → Option Entry → Outcome
 answer_by accounts journal o None = new_answer accounts journal o
 answer_by accounts journal o (Some e) = repeat_answer e o

@@ -19,6 +19,7 @@ use Rattle.iso_issuer.specs.declared.fault.AccountsFault.TheVariants.{Shape, Twi
 abbrev pub i64_at : List ℕ → Data → Option ℤ
 i64_at key d = option_and_then (λ m. option_and_then as_i64 (as_number m)) (get key d)
 
+-- an account as it is listed, if none of the three is missing
 abbrev pub listed_of : Option AccountNumber → Option (List ℕ) → Option ℤ → Option Listed
 listed_of (Some pan) (Some currency) (Some opening) = Some (record { pan = pan; currency = currency; opening = opening })
 listed_of (Some pan) (Some currency) None = None
@@ -58,16 +59,19 @@ account_fault earlier row =
     else if is_listed earlier row.pan then Some (Twice (length earlier))
     else None
 
+-- the first fault of some accounts, behind those before them
 abbrev pub accounts_fault : List Listed → List Listed → Option AccountsFault
 accounts_fault earlier [] = None
 accounts_fault earlier (row ∷ rows) = option_or (account_fault earlier row) (accounts_fault (earlier ++ row ∷ []) rows)
 
 -- ---- the document
 
+-- the accounts, if nothing is wrong with them
 abbrev pub unless : List Listed → Option AccountsFault → Result (List Listed) AccountsFault
 unless rows None = Ok rows
 unless rows (Some e) = Err e
 
+-- the accounts, if the document has its shape and nothing is wrong with them
 abbrev pub list_or_fault : Option (List Listed) → Result (List Listed) AccountsFault
 list_or_fault None = Err Shape
 list_or_fault (Some rows) = unless rows (accounts_fault [] rows)

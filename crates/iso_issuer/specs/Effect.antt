@@ -14,6 +14,7 @@ use Rattle.iso_issuer.specs.declared.effect.Side.TheVariants.{Credited, Debited,
 abbrev pub side_of : TxKey → Side
 side_of key = if class_digit key == 1 then Held else Debited
 
+-- what such an order under this key does to an account by itself
 abbrev pub effect_by : TxKey → Act → Option Effect
 effect_by key (Debit m) = Some (record { pan = m.pan; side = side_of key; amount = m.amount; ends = None })
 effect_by key (Credit m) = Some (record { pan = m.pan; side = Credited; amount = m.amount; ends = None })
@@ -36,6 +37,7 @@ is_drawn Credited = false
 is_drawn Debited = true
 is_drawn Held = true
 
+-- an amount counts the same way
 abbrev pub same_side : Side → Side → Bool
 same_side Credited Credited = true
 same_side Debited Debited = true

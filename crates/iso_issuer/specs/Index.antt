@@ -48,6 +48,7 @@ pan_cmp a b = ordering_then (nat_cmp a.digits b.digits) (nat_cmp a.len b.len)
 abbrev pub hold_cmp : Hold → Hold → Ordering
 hold_cmp a b = ordering_then (key_cmp a.key b.key) (pan_cmp a.pan b.pan)
 
+-- one where it is so, else none
 abbrev pub bit : Bool → ℕ
 bit b = if b then 1 else 0
 
@@ -55,6 +56,7 @@ bit b = if b then 1 else 0
 abbrev pub completions : List Entry → TxKey → AccountNumber → ℕ
 completions entries key pan = sum_by (λ c. bit (is_counted entries c && is_end_of key pan (effect_of c.order))) entries
 
+-- how many completions the map has for the hold of this key on this account
 abbrev pub hold_count : BTreeMap Hold ℕ → TxKey → AccountNumber → ℕ
 hold_count counts key pan = unwrap_or (tree.get hold_cmp counts (record { key = key; pan = pan })) 0
 
@@ -67,6 +69,7 @@ abbrev pub hold_on : AccountNumber → Option TxKey → Option Hold
 hold_on pan None = None
 hold_on pan (Some key) = Some (record { key = key; pan = pan })
 
+-- the hold that an effect ends, if there is one
 abbrev pub hold_by : Option Effect → Option Hold
 hold_by None = None
 hold_by (Some f) = hold_on f.pan f.ends
@@ -85,10 +88,12 @@ abbrev pub dropped_of : Option ℕ → ℕ → Entry → Option Hold
 dropped_of (Some n) left r = None
 dropped_of None left r = if is_counted_with None r && (left == 0) then hold_by (effect_of r.order) else None
 
+-- the same of the entry of this key, if there is one
 abbrev pub dropped_at : List Entry → TxKey → ℕ → Option Entry → Option Hold
 dropped_at entries key left None = None
 dropped_at entries key left (Some r) = dropped_of (left_at entries key) left r
 
+-- the hold that is no longer completed once this is asked
 abbrev pub dropped_by : List Entry → Act → Option Hold
 dropped_by entries (Undo original left) = dropped_at entries original left (entry_at entries original)
 dropped_by entries (Debit m) = None

@@ -58,6 +58,7 @@ reversal_of journal key = find (λ r. is_key (undone_key r.order.act) key) journ
 abbrev pub left_at : List Entry → TxKey → Option ℕ
 left_at journal key = option_map (λ r. left_by r.order.act) (reversal_of journal key)
 
+-- it is told what is left, and nothing is
 abbrev pub is_nothing : Option ℕ → Bool
 is_nothing None = false
 is_nothing (Some left) = left == 0

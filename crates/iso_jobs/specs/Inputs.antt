@@ -16,6 +16,7 @@ use Rattle.iso_jobs.specs.declared.work.Work.{Work}
 abbrev pub most_of : Form → ℕ
 most_of form = if form.is_hex then 16777216 else 1048576
 
+-- the bytes of an input, or those that the digits of hexadecimal text stand for
 abbrev pub HasBytesBy : Bool → List ℕ → List ℕ → Type 0
 HasBytesBy true all bytes = hex_bytes all ≡ Ok bytes
 HasBytesBy false all bytes = bytes ≡ all
@@ -49,6 +50,7 @@ abbrev pub WorksOnBy : Option Header → Work → Form → List ℕ → Option (
 WorksOnBy None w form bytes old new good = (text : List ℕ) × Tells w form bytes (good, text) × Appends old new text
 WorksOnBy (Some h) w form bytes old new good = WorksOn w form h bytes old new good
 
+-- the same by the header that the form has, or has not
 abbrev pub WorksOnBytes : Work → Form → List ℕ → Option (List ℕ) → Option (List ℕ) → Bool → Type 0
 WorksOnBytes w form bytes old new good = WorksOnBy form.header w form bytes old new good
 

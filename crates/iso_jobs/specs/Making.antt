@@ -54,6 +54,7 @@ abbrev pub SpellsBy : Bool → Layout → List ℕ → List ℕ → Type 0
 SpellsBy true t text b = (m : Contents) × IsMessage t (line_of text) m × PlainSpelling t m b
 SpellsBy false t text b = (m : Contents) × PlainSpelling t m b
 
+-- the same of any text, which is JSON or isn't
 abbrev pub Spells : Layout → List ℕ → List ℕ → Type 0
 Spells t text b = SpellsBy (is_json text) t text b
 
@@ -70,6 +71,7 @@ abbrev pub RefusesBy : Bool → Layout → Form → List ℕ → Type 0
 RefusesBy true t form text = (m : Contents) → IsClearJson t m (line_of text) → IsTooLong t form m
 RefusesBy false t form text = Unit {0}
 
+-- the same of any text, which is JSON or isn't
 abbrev pub Refuses : Layout → Form → List ℕ → Type 0
 Refuses t form text = RefusesBy (is_json text) t form text
 

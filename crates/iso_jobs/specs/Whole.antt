@@ -14,6 +14,7 @@ use Rattle.iso_jobs.specs.declared.refusal.Trouble.TheVariants as troubles
 abbrev pub IsNoMessage : Layout → List ℕ → Type 0
 IsNoMessage t b = (m : Contents) → Spelling t m b → ⊥
 
+-- by its cause: want of memory, or what is wrong with the bytes
 abbrev pub refusal_by : UnpackFault → UnpackCause → Refusal
 refusal_by e causes.Memory = refusals.Memory
 refusal_by e cause = refusals.Refused (troubles.Unpack e)

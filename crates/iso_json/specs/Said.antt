@@ -35,10 +35,12 @@ complained place (Some trouble) = complaint place trouble ∷ []
 
 -- ---- the type
 
+-- the type of these digits, if it is of the version
 abbrev pub of_version : ℕ → ℕ × ℕ × ℕ × ℕ → Result ℕ Trouble
 of_version version d =
     if d.0 == version then Ok (1000 * d.0 + 100 * d.1 + 10 * d.2 + d.3) else Err troubles.WrongVersion
 
+-- the same of the digits that were found, if any were
 abbrev pub type_of : ℕ → Option (ℕ × ℕ × ℕ × ℕ) → Result ℕ Trouble
 type_of version None = Err troubles.BadMti
 type_of version (Some d) = of_version version d
@@ -47,6 +49,7 @@ type_of version (Some d) = of_version version d
 abbrev pub type_in : ℕ → List ℕ → Result ℕ Trouble
 type_in version text = type_of version (digits_in text)
 
+-- the type of a member's text, if the member is one
 abbrev pub type_by : ℕ → Option (List ℕ) → Result ℕ Trouble
 type_by version None = Err troubles.BadMti
 type_by version (Some text) = type_in version text
@@ -66,6 +69,7 @@ abbrev pub or_zero : Result ℕ Trouble → ℕ
 or_zero (Ok n) = n
 or_zero (Err t) = 0
 
+-- why the type is refused, if it is
 abbrev pub trouble_in : Result ℕ Trouble → Option Trouble
 trouble_in (Ok n) = None
 trouble_in (Err t) = Some t
@@ -81,6 +85,7 @@ pub record Heard : Type 0 where
 abbrev pub heard : {A : Type 0} → Contents → Vec Complaint A → Heard
 heard m cs = record { elements = m.elements; complaints = cs.items }
 
+-- the value that a text says of element n, if there is a text
 abbrev pub text_value : List (Option FieldSpec) → ℕ → Option (List ℕ) → Result (List ℕ) Trouble
 text_value rows n None = Err troubles.NotText
 text_value rows n (Some text) = value_of (row_at rows n) n text
@@ -111,6 +116,7 @@ abbrev pub with_entry : List (Option FieldSpec) → (ℕ → Bool) → ℕ → O
 with_entry rows seen at None j heard = with_complaint (complaint (places.Entry (at + 1)) troubles.BadNumber) heard
 with_entry rows seen at (Some n) j heard = with_value (places.Entry (at + 1)) n (entry_value rows seen n j) heard
 
+-- the number that a name stands for is seen too, if it stands for one
 abbrev pub seen_with : Option ℕ → (ℕ → Bool) → ℕ → Bool
 seen_with None seen = seen
 seen_with (Some n) seen = also n seen
@@ -130,18 +136,22 @@ with_elements_of rows (string s) heard = with_complaint (complaint places.Whole 
 with_elements_of rows (array js) heard = with_complaint (complaint places.Whole troubles.BadElements) heard
 with_elements_of rows (object ms) heard = with_entries rows none_seen 0 ms heard
 
+-- the elements that the member says, which may be missing
 abbrev pub with_elements : List (Option FieldSpec) → Option Json → Heard → Heard
 with_elements rows None heard = with_complaint (complaint places.Whole troubles.NoElements) heard
 with_elements rows (Some j) heard = with_elements_of rows j heard
 
 -- ---- the members of a message
 
+-- the name of the member that says the type
 abbrev pub mti_key : List ℕ
 mti_key = codes "mti"
 
+-- the name of the member that says the elements
 abbrev pub elements_key : List ℕ
 elements_key = codes "elements"
 
+-- a name that stands there again is wrong
 abbrev pub twice_if : Bool → Option Trouble
 twice_if again = if again then Some troubles.Twice else None
 
@@ -170,6 +180,7 @@ abbrev pub contents_of : Layout → Members → Contents
 contents_of t ms =
     record { mti = or_zero (type_at t.version (get_member mti_key ms)); elements = (heard_in t ms).elements }
 
+-- what is wrong with a value that isn't an object
 abbrev pub not_object : List Complaint
 not_object = complaint places.Whole troubles.NotObject ∷ []
 

@@ -43,6 +43,7 @@ abbrev pub hex_trouble : FromHexError → Trouble
 hex_trouble hex.OddLength = troubles.OddHex
 hex_trouble e = troubles.BadHex
 
+-- the bytes that were decoded, or why there are none
 abbrev pub decoded : Result (List ℕ) FromHexError → Result (List ℕ) Trouble
 decoded (Ok bytes) = Ok bytes
 decoded (Err e) = Err (hex_trouble e)
@@ -58,6 +59,7 @@ field_trouble fields.NotInClass = troubles.NotInClass
 field_trouble fields.PadEnd = troubles.PadEnd
 field_trouble e = troubles.WrongLength
 
+-- the value, if the row doesn't refuse it
 abbrev pub unless_refused : List ℕ → Option FieldFault → Result (List ℕ) Trouble
 unless_refused v None = Ok v
 unless_refused v (Some e) = Err (field_trouble e)

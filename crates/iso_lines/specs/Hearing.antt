@@ -132,6 +132,7 @@ pub record HearsBytes (key : ℕ) (d e : Dealing) (before after : Books) (bytes 
   pub heard : IsHeardAs key d e before bytes arrivals
 
 module _ {S : Type 0} where
+  -- what a peer is heard by, of all that it has
   abbrev pub dealing_of : Peer S → Dealing
   dealing_of p = dealing_by (is_guarded p.line.terms.now) p.line p.connection p.guarded p.standing.ended
 
@@ -180,5 +181,6 @@ module _ {S : Type 0} where
       pub order : InTurn (take count (looked_at old)) arrivals
       pub peers : (key : ℕ) → HearsAt key (peer_at old key) (peer_at new key) before arrivals
 
+    -- a turn, which hears any number of the peers that it looks at, the first ones
     abbrev pub HearsTurn : Peers S → Peers S → Books → Books → Type 0
     HearsTurn old new before after = (count : ℕ) × HearsFirst count old new before after

@@ -42,6 +42,7 @@ abbrev pub doing_by : Limits → Standing → Option Closing → Doing
 doing_by l s (Some why) = Closes why
 doing_by l s None = staying_of l s
 
+-- the same of a peer as it stands at a moment
 abbrev pub doing_of : Limits → Standing → ℕ → Doing
 doing_of l s now = doing_by l s (closing_of l s now)
 

@@ -16,10 +16,12 @@ place_of stan = (999999 - stan) / 2
 abbrev pub follows : ℕ → Bool
 follows stan = (999999 - stan) % 2 == 1
 
+-- the first order of a place, or its follower
 abbrev pub part_of : Bool → Side → Option Asked
 part_of true s = s.follower
 part_of false s = Some s.first
 
+-- the same of a place at which something lies, if it does
 abbrev pub part_in : Bool → Option Side → Option Asked
 part_in f None = None
 part_in f (Some s) = part_of f s
@@ -41,6 +43,7 @@ abbrev pub is_unanswered : Option ℕ → Bool
 is_unanswered None = true
 is_unanswered (Some code) = false
 
+-- an order waits for its answer
 abbrev pub is_open : Option Asked → Bool
 is_open None = false
 is_open (Some a) = is_unanswered a.code
@@ -62,6 +65,7 @@ is_hold (Inquiry m) = false
 is_hold (Undo original left) = false
 is_hold (Complete m hold) = false
 
+-- no order was made
 abbrev pub is_nothing : Option Asked → Bool
 is_nothing None = true
 is_nothing (Some a) = false
@@ -70,10 +74,12 @@ is_nothing (Some a) = false
 abbrev pub is_free : Side → Bool
 is_free s = is_hold s.first.order.act && is_granted s.first.code && is_nothing s.follower
 
+-- such a hold lies there
 abbrev pub is_free_in : Option Side → Bool
 is_free_in None = false
 is_free_in (Some s) = is_free s
 
+-- such a hold lies at that place
 abbrev pub is_free_at : List Side → ℕ → Bool
 is_free_at sides place = is_free_in (slice_get sides place)
 
@@ -84,12 +90,15 @@ abbrev pub changed_in : (Side → Side) → ℕ → List Side → Option Side �
 changed_in step place sides None = sides
 changed_in step place sides (Some s) = slice_set sides place (step s)
 
+-- a change of what lies at that place, if anything does
 abbrev pub changed_at : (Side → Side) → ℕ → List Side → List Side
 changed_at step place sides = changed_in step place sides (slice_get sides place)
 
+-- the order got its answer, of that code
 abbrev pub with_code : ℕ → Asked → Asked
 with_code code a = record { order = a.order; code = Some code }
 
+-- the first order of a place got its answer, or its follower did
 abbrev pub answered : Bool → ℕ → Side → Side
 answered true code s = record { place = s.place; first = s.first; follower = option_map (with_code code) s.follower }
 answered false code s = record { place = s.place; first = with_code code s.first; follower = s.follower }
@@ -102,6 +111,7 @@ sides_answered stan code sides = changed_at (answered (follows stan) code) (plac
 abbrev pub unanswered : Instruction → Asked
 unanswered o = record { order = o; code = None }
 
+-- an order follows the first one of a place
 abbrev pub followed : Instruction → Side → Side
 followed o s = record { place = s.place; first = s.first; follower = Some (unanswered o) }
 

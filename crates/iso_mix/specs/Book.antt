@@ -26,9 +26,11 @@ pub record IsBook (sides : List Side) (waiting : List Due) (last : ℕ) : Type 0
   pub awaited : AreAwaited waiting sides
   pub in_time : AreInTime last waiting
 
+-- the orders, two at most for each place
 abbrev pub sides_in : Sides → List Side
 sides_in b = b.made.items
 
+-- the trace numbers that wait for an answer, and until when
 abbrev pub waiting_in : Sides → List Due
 waiting_in b = b.waiting.items
 

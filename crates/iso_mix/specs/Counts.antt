@@ -15,6 +15,7 @@ abbrev pub standing_of : Option ℕ → Standing
 standing_of None = Waiting
 standing_of (Some code) = if code == 0 then Granted else Refused
 
+-- a debit of class 1
 abbrev pub is_hold_kind : Kind → Bool
 is_hold_kind Hold = true
 is_hold_kind Purchase = false
@@ -22,6 +23,7 @@ is_hold_kind Complete = false
 is_hold_kind Inquiry = false
 is_hold_kind Undo = false
 
+-- the completion of a hold
 abbrev pub is_completion_kind : Kind → Bool
 is_completion_kind Complete = true
 is_completion_kind Purchase = false
@@ -29,6 +31,7 @@ is_completion_kind Hold = false
 is_completion_kind Inquiry = false
 is_completion_kind Undo = false
 
+-- what is available
 abbrev pub is_inquiry_kind : Kind → Bool
 is_inquiry_kind Inquiry = true
 is_inquiry_kind Purchase = false
@@ -36,6 +39,7 @@ is_inquiry_kind Hold = false
 is_inquiry_kind Complete = false
 is_inquiry_kind Undo = false
 
+-- a reversal of a hold that leaves a part of it
 abbrev pub is_undo_kind : Kind → Bool
 is_undo_kind Undo = true
 is_undo_kind Purchase = false
@@ -43,6 +47,7 @@ is_undo_kind Hold = false
 is_undo_kind Complete = false
 is_undo_kind Inquiry = false
 
+-- a debit of class 2
 abbrev pub is_purchase_kind : Kind → Bool
 is_purchase_kind Purchase = true
 is_purchase_kind Hold = false
@@ -58,6 +63,7 @@ asks kind (act.Inquiry m) = is_inquiry_kind kind
 asks kind (act.Undo original left) = is_undo_kind kind
 asks kind (act.Complete m hold) = is_completion_kind kind
 
+-- both got equally far
 abbrev pub same_standing : Standing → Standing → Bool
 same_standing Waiting Waiting = true
 same_standing Granted Granted = true
@@ -68,6 +74,7 @@ same_standing _ _ = false
 abbrev pub is_such : Kind → Standing → Asked → Bool
 is_such kind state a = asks kind a.order.act && same_standing (standing_of a.code) state
 
+-- there is a follower, of that kind, and it got so far
 abbrev pub is_such_follower : Kind → Standing → Option Asked → Bool
 is_such_follower kind state None = false
 is_such_follower kind state (Some a) = is_such kind state a
@@ -76,9 +83,11 @@ is_such_follower kind state (Some a) = is_such kind state a
 abbrev pub is_such_side : Kind → Standing → Side → Bool
 is_such_side kind state s = is_such kind state s.first || is_such_follower kind state s.follower
 
+-- how many places have an order of that kind that got so far
 abbrev pub count_of : Kind → Standing → List Side → ℕ
 count_of kind state sides = count_by (is_such_side kind state) sides
 
+-- how far the orders of that kind got
 abbrev pub counts_of : Kind → List Side → Counts
 counts_of kind sides = record {
   waiting = count_of kind Waiting sides;

@@ -20,6 +20,7 @@ abbrev pub next_stan : ℕ → ℕ → Option ℕ
 next_stan count highest =
     if nat_lt (highest + 2 * count + 1) 999999 then Some (999999 - 2 * count) else None
 
+-- no amount, of the same account and currency
 abbrev pub nothing_of : Money → Money
 nothing_of m = record { pan = m.pan; amount = 0; currency = m.currency }
 
@@ -35,6 +36,7 @@ opening_act Undo m = act.Debit m
 abbrev pub opening_key : Draft → ℕ → TxKey
 opening_key d stan = record { base = 100; stan = stan; sent = d.sent; acquirer = d.acquirer }
 
+-- the order, where a trace number is left and a message can carry it
 abbrev pub opening_by : Kind → Draft → Option ℕ → Option Instruction
 opening_by kind d None = None
 opening_by kind d (Some stan) = valid_order (opening_key d stan) (opening_act kind d.money)
@@ -53,15 +55,18 @@ completed held share = share % held + 1
 abbrev pub left_of : ℕ → ℕ → ℕ
 left_of held share = share % (held - 1) + 1
 
+-- a completion of some or all of a hold, where it holds anything
 abbrev pub completion : Money → TxKey → ℕ → Option Act
 completion held hold share =
     if held.amount == 0 then None
     else Some (act.Complete (record { pan = held.pan; amount = completed held.amount share; currency = held.currency }) hold)
 
+-- a reversal that leaves a part of a hold, where it can be parted
 abbrev pub undoing : Money → TxKey → ℕ → Option Act
 undoing held hold share =
     if nat_lt held.amount 2 then None else Some (act.Undo hold (left_of held.amount share))
 
+-- what is asked behind a hold of that money, by its kind
 abbrev pub follower_by : Kind → Money → TxKey → ℕ → Option Act
 follower_by Complete held hold share = completion held hold share
 follower_by Undo held hold share = undoing held hold share
@@ -69,6 +74,7 @@ follower_by Purchase held hold share = None
 follower_by Hold held hold share = None
 follower_by Inquiry held hold share = None
 
+-- the same behind what was asked first, which has to be a debit
 abbrev pub follower_in : Kind → TxKey → ℕ → Act → Option Act
 follower_in kind hold share (act.Debit held) = follower_by kind held hold share
 follower_in kind hold share (act.Credit m) = None
@@ -93,6 +99,7 @@ abbrev pub follower_stan : ℕ → ℕ → Option ℕ
 follower_stan place highest =
     if nat_lt (highest + 2 * place + 1) 999999 then Some (999998 - 2 * place) else None
 
+-- the key of the order that follows the hold: that of an advice
 abbrev pub follower_key : Kind → Draft → ℕ → TxKey
 follower_key kind d stan = record { base = follower_base kind; stan = stan; sent = d.sent; acquirer = d.acquirer }
 

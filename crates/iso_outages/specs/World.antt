@@ -85,6 +85,7 @@ receives_other w o =
       given = w.given;
     }
 
+-- what the world is once that passed between both ends
 abbrev pub passes : World → Passing → World
 passes w (Begin pan amount currency sent) = begins w (debit_of w.acquirer pan amount currency sent)
 passes w (Timeout stan) = asks w (timeout w.acquirer.slots stan)

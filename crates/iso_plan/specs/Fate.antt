@@ -20,11 +20,13 @@ AreDelays least most Never = ⊤
 AreDelays least most (Once d) = IsDelayOf least most d
 AreDelays least most (Twice d e) = IsDelayOf least most d × IsDelayOf least most e
 
+-- it never comes
 abbrev pub is_lost : Comes → Bool
 is_lost Never = true
 is_lost (Once d) = false
 is_lost (Twice d e) = false
 
+-- it comes two times
 abbrev pub is_twice : Comes → Bool
 is_twice Never = false
 is_twice (Once d) = false
@@ -54,6 +56,7 @@ pub record IsFateUnder (f : Faults) (fate : Fate) : Type 0 where
 abbrev pub word_of : Lcg → ℕ
 word_of g = (pcg32 g).0
 
+-- the generator behind one word
 abbrev pub next_of : Lcg → Lcg
 next_of g = (pcg32 g).1
 
@@ -112,5 +115,6 @@ fate_drawn d = record {
 abbrev pub fate_at : Drawing → Fate
 fate_at d = if is_none d.faults then good else fate_drawn d
 
+-- what the fates of the frames behind it are drawn from
 abbrev pub drawing_after : Drawing → Drawing
 drawing_after d = if is_none d.faults then d else record d { generator = after_words 5 d.generator }

@@ -20,6 +20,7 @@ abbrev pub by_rate : Option ℕ → ℕ → ℕ → ℕ
 by_rate None count elapsed = count
 by_rate (Some rate) count elapsed = min (elapsed * rate / 1000) count
 
+-- how many may have begun at a moment of the run
 abbrev pub allowed : Pace → ℕ → ℕ
 allowed p elapsed = by_rate p.rate p.count (elapsed - p.opening)
 
@@ -34,6 +35,7 @@ abbrev pub IsNextAt : ℕ → ℕ → ℕ → Type 0
 IsNextAt rate begun at =
     (begun + 1 ≤ at * rate / 1000) × ((before : ℕ) → before < at → before * rate / 1000 ≤ begun)
 
+-- the same where a rate is given; without one there is no such moment
 abbrev pub IsNextMoment : Option ℕ → ℕ → ℕ → Type 0
 IsNextMoment None begun at = ⊥
 IsNextMoment (Some rate) begun at = IsNextAt rate begun at

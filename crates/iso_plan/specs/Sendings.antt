@@ -16,6 +16,7 @@ unsent = record { times = 0; first = 0; answer = None }
 abbrev pub of_earlier : Sending
 of_earlier = record { times = 1; first = 0; answer = None }
 
+-- the order of a trace number before this run sends anything
 abbrev pub earlier_or_none : ℕ → ℕ → Sending
 earlier_or_none earlier n = if nat_le n earlier then of_earlier else unsent
 

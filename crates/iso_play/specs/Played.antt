@@ -20,5 +20,6 @@ AreAnsweredFrom t h books earlier (body ∷ bodies) [] = ⊥
 AreAnsweredFrom t h books earlier (body ∷ bodies) (a ∷ answers) =
     IsAnswered t h (books_after_bodies t books earlier) body a × AreAnsweredFrom t h books (earlier ++ body ∷ []) bodies answers
 
+-- the bodies were answered so from these books on
 unfoldable pub AreAnswered : Layout → Header → Books → List (List ℕ) → List Answered → Type 0
 AreAnswered t h books bodies answers = AreAnsweredFrom t h books [] bodies answers

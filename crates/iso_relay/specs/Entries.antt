@@ -88,6 +88,7 @@ abbrev pub asked_under : Route → ℕ → List Entry → Option TxKey → List 
 asked_under route count es None = es
 asked_under route count es (Some key) = newest (put (entry key (first_heard route count)) es)
 
+-- what waits after a request was routed
 abbrev pub asked : Route → ℕ → List Entry → List Entry
 asked route count es = asked_under route count es (key_of route)
 
@@ -109,6 +110,7 @@ left_by Waits key heard es = put (entry key heard) es
 left_by Same key heard es = without key es
 left_by Differ key heard es = without key es
 
+-- what waits after an answer of a shard, by what was heard under its key
 abbrev pub left : ℕ → TxKey → ℕ → List Entry → Option (List Heard) → List Entry
 left shard key code es None = es
 left shard key code es (Some heard) =

@@ -22,6 +22,7 @@ entries_after count (Says shard key code ∷ es) = answered shard key code (entr
 
 -- ---- what is to be so, in words that know of no table
 
+-- there is a key, and it is this one
 abbrev pub is_key_of : TxKey → Option TxKey → Bool
 is_key_of key None = false
 is_key_of key (Some k) = same_key k key

@@ -23,5 +23,6 @@ EndsBy plan done BadHeader = (bodies : List (List ℕ)) (rest : List ℕ) → Sp
 EndsBy plan done Closed = Unit {0}
 EndsBy plan done Silent = Unit {0}
 
+-- what holds of an exchange, by how it ended
 abbrev pub Ends : Plan → Exchanged → Type 0
 Ends plan done = EndsBy plan done done.ending

@@ -15,6 +15,7 @@ abbrev pub slots_asked : List Slot → Result (Instruction × List Slot) AcqFaul
 slots_asked slots (Ok asked) = asked.1
 slots_asked slots (Err fault) = slots
 
+-- the order to send after a time-out, if it isn't refused
 abbrev pub orders_asked : Result (Instruction × List Slot) AcqFault → List Instruction
 orders_asked (Ok asked) = asked.0 ∷ []
 orders_asked (Err fault) = []
@@ -88,6 +89,7 @@ abbrev pub times_out_by : Diary → ℕ → Result (Instruction × List Slot) Ac
 times_out_by d stan (Ok asked) = writes d (TimedOut stan)
 times_out_by d stan (Err fault) = d
 
+-- no answer to the transaction of that trace number came in time
 abbrev pub times_out : Diary → ℕ → Diary
 times_out d stan = times_out_by d stan (timeout (in_memory d).slots stan)
 

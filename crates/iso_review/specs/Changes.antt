@@ -24,6 +24,7 @@ use Rattle.iso_review.specs.Kinds.{kind_of, with_digits}
 
 -- what a step gives, handed to the next one
 infixl 10 ◌>>=◌
+-- a step, and the next one where the first gave something
 abbrev pub ◌>>=◌ : {X Y : Type 0} → Result X RowFault → (X → Result Y RowFault) → Result Y RowFault
 Err e >>= f = Err e
 Ok x >>= f = f x

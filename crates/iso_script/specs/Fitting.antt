@@ -40,10 +40,12 @@ abbrev pub fits_account : Option AccountNumber → Contents → Bool
 fits_account None m = true
 fits_account (Some a) m = is_account a (account_in m)
 
+-- the message's amount is in the range, if one is given
 abbrev pub fits_amount : Option Amounts → Contents → Bool
 fits_amount None m = true
 fits_amount (Some amounts) m = is_within amounts (amount_in m)
 
+-- the message is of the type, if one is given
 abbrev pub fits_type : Option ℕ → Contents → Bool
 fits_type None m = true
 fits_type (Some mti) m = base_in m == mti

@@ -19,6 +19,7 @@ going_by deeds.Silent now = Now
 going_by deeds.Cut now = Cut
 going_by deeds.Garbage now = Now
 
+-- when an answer goes out, if it does, by the rule that decided it or by none
 abbrev pub going : Behaviour → ℕ → Going
 going Honest now = Now
 going (Ruled number deed) now = going_by deed now

@@ -7,6 +7,7 @@ use Rattle.iso_record.specs.declared.heading.HeadingFault.TheVariants as heading
 use Rattle.iso_service.specs.declared.front.FrontFault.{FrontFault}
 use Rattle.iso_service.specs.declared.front.FrontFault.TheVariants.{Empty, Short, Zeros, Foreign, OtherRules, OtherAccounts}
 
+-- a byte that no heading has
 abbrev pub is_zero : ℕ → Bool
 is_zero b = b == 0
 

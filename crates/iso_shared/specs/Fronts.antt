@@ -16,6 +16,7 @@ orders_both [] ys = refl
 orders_both (x ∷ xs) ys =
     ap (λ (l : List Instruction). x.orders ++ l) (orders_both xs ys) ∙ sym (append_assoc x.orders (orders_in xs) (orders_in ys))
 
+-- the same of batches as they are kept
 pub orders_of_both : (xs ys : List (List ℕ)) → orders_in (batches_of (xs ++ ys)) ≡ orders_in (batches_of xs) ++ orders_in (batches_of ys)
 orders_of_both xs ys = ap orders_in (map-append batch_of xs ys) ∙ orders_both (batches_of xs) (batches_of ys)
 
@@ -46,6 +47,7 @@ module _ {S P : Type 0} (kept : S → List (List ℕ)) (log : SharedLog S P) whe
   abbrev pub since : List Instruction
   since = orders_in (batches_of (drop log.synced (take log.seen (kept log.store))))
 
+  -- a crash leaves the synced orders, and a front of those that wait
   pub ready_leaves : IsReady kept log → LeavesFront (MayLeave kept log) (synced_orders kept log) (pending_orders kept log)
   ready_leaves is = λ c left.
       let known : known_orders kept log ≡ synced_orders kept log ++ since = known_is (kept log.store) log.synced log.seen is.behind in

@@ -42,6 +42,7 @@ range_behind least [] = None
 range_behind least (a ∷ []) = None
 range_behind least (a ∷ b ∷ most) = if a == 46 then (if b == 46 then range_between least most else None) else None
 
+-- a range with its first point there
 abbrev pub range_at : List ℕ → Option ℕ → Option (ℕ × ℕ)
 range_at text None = range_between text text
 range_at text (Some at) = range_behind (take at text) (drop at text)
