@@ -37,16 +37,19 @@ orders_of t (body ∷ bodies) = orders_in (asked_of t body) ++ orders_of t bodie
 
 -- ---- the kinds of bodies
 
+-- it is no message
 abbrev pub is_unreadable : Option Verdict → Bool
 is_unreadable None = true
 is_unreadable (Some v) = false
 
+-- it is a message that gets no response
 abbrev pub is_silent : Option Verdict → Bool
 is_silent (Some Silent) = true
 is_silent (Some (Reply code)) = false
 is_silent (Some (Order o)) = false
 is_silent None = false
 
+-- it is a message that gets a response
 abbrev pub has_answer : Option Verdict → Bool
 has_answer (Some (Order o)) = true
 has_answer (Some (Reply code)) = true

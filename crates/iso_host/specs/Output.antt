@@ -30,6 +30,7 @@ outcome_of books (Order o) = Some (outcome_for books o)
 outcome_of books (Reply code) = Some (code_alone code)
 outcome_of books Silent = None
 
+-- the response with this answer, where there is one
 abbrev pub response_with : Contents → Option Outcome → Option Contents
 response_with m outcome = option_map (response m) outcome
 

@@ -50,6 +50,7 @@ EndsReads old new before left BadHeader = new.failures ≡ old.failures
 EndsReads old new before left Memory = new.failures ≡ old.failures
 EndsReads old new before left Write = ⊥
 
+-- what reading spends, where it gave something and where it failed
 abbrev pub SpendsOnReads : {T : Type 0} → Counts → Counts → ℕ → ℕ → List ℕ → List ℕ → ℕ → Result T ServeFault → Type 0
 SpendsOnReads old new before left window after taken (Ok x) = TakesReads old new before left window after taken
 SpendsOnReads old new before left window after taken (Err e) = EndsReads old new before left e

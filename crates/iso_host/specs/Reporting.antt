@@ -11,6 +11,7 @@ use Rattle.iso_host.specs.declared.fault.Report.{Report}
 abbrev pub count_with : Bool → ℕ → ℕ
 count_with is_kind n = if is_kind then u64_saturate (n + 1) else n
 
+-- the report counts one body more, of which this was asked
 pub record ReportsOneMore (old new : Report) (asked : Option Verdict) : Type 0 where
   pub frames : new.frames ≡ u64_saturate (old.frames + 1)
   pub answered : new.answered ≡ count_with (has_answer asked) old.answered

@@ -30,6 +30,7 @@ pub record Served (t : Layout) (h : Header) (unread left held written : Option (
 abbrev pub front : List (List ℕ) → List (List ℕ)
 front bodies = take (length bodies - 1) bodies
 
+-- the second bytes begin with the first
 abbrev pub IsPrefix : List ℕ → List ℕ → Type 0
 IsPrefix xs ys = (more : List ℕ) × (ys ≡ xs ++ more)
 

@@ -46,6 +46,7 @@ abbrev pub GoesOn : (ℕ → Agreed) → List Call → Peers → Peers → Type 
 GoesOn links [] old new = new ≡ old
 GoesOn links (call ∷ calls) old new = (mid : Peers) × Goes links call old mid × GoesOn links calls mid new
 
+-- what a call took of its bytes: nothing where memory ran out
 abbrev pub taken_of : Result (Option Handled) (Unit {0}) → List ℕ → List ℕ
 taken_of (Ok handled) bytes = bytes
 taken_of (Err e) bytes = []

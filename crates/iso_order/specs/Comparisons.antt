@@ -7,6 +7,7 @@ use Rattle.iso_order.specs.Pan.{AccountNumber}
 use Rattle.iso_order.specs.Key.{same_key}
 use Rattle.iso_order.specs.Order.{Instruction, same_pan, same_money, same_act, same_order}
 
+-- what it means that two things compare alike
 pub record Comparisons : Type 0 where
   -- keys that compare alike are one, and only they,
   pub keys : (a b : TxKey) → (same_key a b ≡ true) ↔ (a ≡ b)

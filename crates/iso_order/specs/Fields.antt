@@ -9,15 +9,19 @@ use Rattle.iso_wire.specs.Decimal.{are_digits, number}
 
 -- ---- its type: version, class, function and origin (ISO 8583:1987, message type identifier)
 
+-- the edition of the standard: 0 is that of 1987
 abbrev pub version : Contents → ℕ
 version m = m.mti / 1000
 
+-- what it is about: 1 authorizes, 2 moves money, 4 takes back, 8 is of the network
 abbrev pub class : Contents → ℕ
 class m = m.mti / 100 % 10
 
+-- what it does: it requests, advises or responds
 abbrev pub function : Contents → ℕ
 function m = m.mti / 10 % 10
 
+-- who sent it, and whether it is a repeat
 abbrev pub origin : Contents → ℕ
 origin m = m.mti % 10
 
@@ -53,12 +57,15 @@ message_money m amount = record { pan = record { digits = number (text m 2); len
 abbrev pub original_mti : Contents → ℕ
 original_mti m = number_from 0 4 (text m 90)
 
+-- the trace number that is named
 abbrev pub original_stan : Contents → ℕ
 original_stan m = number_from 4 6 (text m 90)
 
+-- the transmission date and time that are named
 abbrev pub original_sent : Contents → ℕ
 original_sent m = number_from 10 10 (text m 90)
 
+-- the acquirer that is named, in eleven digits
 abbrev pub original_acquirer : Contents → ℕ
 original_acquirer m = number_from 20 11 (text m 90)
 
@@ -104,11 +111,14 @@ left_of m = if has m.elements 95 then number (take 12 (text m 95)) else 0
 abbrev pub kind : Contents → ℕ
 kind m = number_from 0 2 (text m 3)
 
+-- goods and services (00), or cash (01)
 abbrev pub is_debit : ℕ → Bool
 is_debit k = k == 0 || k == 1
 
+-- returns (20), or deposits (21)
 abbrev pub is_credit : ℕ → Bool
 is_credit k = k == 20 || k == 21
 
+-- what is available (31)
 abbrev pub is_inquiry : ℕ → Bool
 is_inquiry k = k == 31

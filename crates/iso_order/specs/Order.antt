@@ -17,6 +17,7 @@ pub record Instruction : Type 0 where
 
 -- ---- which orders are valid
 
+-- a byte that a currency code may have
 abbrev pub is_letter_or_digit : ℕ → Bool
 is_letter_or_digit b = is_digit b || is_letter b
 
@@ -65,15 +66,19 @@ is_valid o = is_valid_key o.key && is_valid_act o.key o.act
 
 -- ---- which orders are one
 
+-- the same digits, zeros in front included
 abbrev pub same_pan : AccountNumber → AccountNumber → Bool
 same_pan a b = a.digits == b.digits && a.len == b.len
 
+-- the same letters or digits
 abbrev pub same_currency : List ℕ → List ℕ → Bool
 same_currency a b = bytes_eq a b
 
+-- the same amount of one currency on one account
 abbrev pub same_money : Money → Money → Bool
 same_money a b = same_pan a.pan b.pan && a.amount == b.amount && same_currency a.currency b.currency
 
+-- the same is asked
 abbrev pub same_act : Act → Act → Bool
 same_act (Debit a) (Debit b) = same_money a b
 same_act (Credit a) (Credit b) = same_money a b

@@ -41,6 +41,7 @@ sign z = if int_lt z (pos 0) then 68 else 67
 abbrev pub additional : List ℕ → ℤ → List ℕ
 additional currency z = 48 ∷ 48 ∷ 48 ∷ 50 ∷ (currency ++ sign z ∷ decimal 12 (unsigned_abs z))
 
+-- what is available as element 54 says it, where the answer shows it
 abbrev pub balance : Contents → Outcome → Option (List ℕ)
 balance m a = option_map (additional (text m 49)) a.shown
 

@@ -50,6 +50,7 @@ primary_by c b (Some primary) =
     else if nat_lt (length b) (map_size c + map_size c) then more
     else secondary_by c (primary - top) (word_in c (take (map_size c) (drop (map_size c) b)))
 
+-- the bitmaps that the bytes begin with
 abbrev pub maps_at : BitmapCoding → List ℕ → Maps
 maps_at c b = if nat_lt (length b) (map_size c) then more else primary_by c b (word_in c (take (map_size c) b))
 

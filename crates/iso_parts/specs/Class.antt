@@ -4,12 +4,15 @@ use Rattle.std.specs.List.{list_all}
 use Rattle.iso_parts.specs.declared.class.CharClass.{CharClass}
 use Rattle.iso_parts.specs.declared.class.CharClass.TheVariants.{N, A, AN, ANS, Z, ZD, XN, B}
 
+-- from one byte to another, both included
 abbrev pub is_within : ℕ → ℕ → ℕ → Bool
 is_within low high b = nat_le low b && nat_le b high
 
+-- 0 to 9
 abbrev pub is_digit : ℕ → Bool
 is_digit b = is_within 0x30 0x39 b
 
+-- A to Z, a to z
 abbrev pub is_letter : ℕ → Bool
 is_letter b = is_within 0x41 0x5A b || is_within 0x61 0x7A b
 

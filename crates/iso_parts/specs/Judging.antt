@@ -6,6 +6,7 @@ use Rattle.iso_parts.specs.declared.judging.Judged.{Judged}
 use Rattle.iso_parts.specs.declared.judging.Judged.TheVariants as judgements
 use Rattle.iso_parts.specs.Reading.{FieldReading, got, more, fault, prefix_size, prefix_of, body_size, body_of}
 
+-- the count of a length that is whole, or what is wrong with it
 abbrev pub some_count : Result ℕ FieldFault → Result (Option ℕ) FieldFault
 some_count (Ok n) = Ok (Some n)
 some_count (Err e) = Err e
@@ -14,6 +15,7 @@ some_count (Err e) = Err e
 abbrev pub count_at : FieldSpec → List ℕ → Result (Option ℕ) FieldFault
 count_at s b = if nat_lt (length b) (prefix_size s.length) then Ok None else some_count (prefix_of s (take (prefix_size s.length) b))
 
+-- the size of a body that is whole, or what is wrong with it
 abbrev pub some_size : ℕ → Result (List ℕ) FieldFault → Result (Option ℕ) FieldFault
 some_size size (Ok v) = Ok (Some size)
 some_size size (Err e) = Err e

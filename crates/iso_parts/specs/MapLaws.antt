@@ -18,6 +18,7 @@ pub record IsWordOf (c : BitmapCoding) (set : ℕ → Bool) (b : List ℕ) : Typ
   pub size : length b ≡ map_size c
   pub bits : (k : ℕ) → 0 < k → k ≤ 64 → has_bit word k ≡ set k
 
+-- what holds of every bitmap
 pub record MapLaws : Type 0 where
   -- a bitmap of a set is read as a word with its bits
   pub again : (c : BitmapCoding) (set : ℕ → Bool) (b : List ℕ) → IsBytes b → BitsIn c set b → IsWordOf c set b

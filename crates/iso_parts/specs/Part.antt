@@ -27,6 +27,7 @@ with_padding s v = with_pads s.pad (s.max - length v) v
 abbrev pub nibbles : ℕ → List ℕ
 nibbles b = (48 + b / 16) ∷ (48 + b % 16) ∷ []
 
+-- the characters of bytes, two of each
 abbrev pub characters : List ℕ → List ℕ
 characters bytes = flat_map nibbles bytes
 
@@ -66,11 +67,13 @@ pairs [] = []
 pairs (h ∷ []) = []
 pairs (h ∷ l ∷ rest) = (16 * (h % 16) + l % 16) ∷ pairs rest
 
+-- the body that is written for characters
 abbrev pub plain : Coding → List ℕ → List ℕ
 plain codings.Ascii w = w
 plain codings.Raw w = w
 plain codings.Bcd w = pairs (with_filler 48 w)
 plain codings.HexText w = encode_upper w
 
+-- the length, where one is written, and the body
 abbrev pub plain_part : FieldSpec → List ℕ → List ℕ
 plain_part s v = prefix s.length (length v) ++ plain s.coding (with_padding s v)

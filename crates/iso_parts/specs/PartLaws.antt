@@ -33,6 +33,7 @@ IsBodyFault BadHex = Unit {0}
 IsBodyFault NotInClass = Unit {0}
 IsBodyFault other = ⊥
 
+-- what holds of every part of a value
 pub record PartLaws : Type 0 where
   -- a part of a value is read as that value and no byte more, whatever bytes follow
   pub again : (s : FieldSpec) (v b rest : List ℕ) → IsGood s → Part s v b → part_at s (b ++ rest) ≡ got v (length b)

@@ -7,6 +7,7 @@ use Rattle.iso_parts.specs.Pieces.{IsCount, IsBadCount, IsBadBody}
 use Rattle.iso_parts.specs.Reading.{prefix_size, prefix_of, body_size, body_of}
 use Rattle.iso_parts.specs.Spec.{IsGood}
 
+-- what holds of every length and every body
 pub record PieceLaws : Type 0 where
   -- a length is read as the count that it tells, if the row allows so many characters
   pub count : (s : FieldSpec) (c : ℕ) (p : List ℕ) → IsGood s → IsBytes p → length p ≡ prefix_size s.length

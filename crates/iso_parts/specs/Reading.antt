@@ -19,6 +19,7 @@ use Rattle.iso_parts.specs.Digits.{four_digits}
 use Rattle.iso_parts.specs.Part.{characters}
 
 infixl 10 ◌>>=◌
+-- a step, and the next one where the first gave something
 abbrev pub ◌>>=◌ : {A B : Type 0} → Result A FieldFault → (A → Result B FieldFault) → Result B FieldFault
 (Ok x) >>= f = f x
 (Err e) >>= f = Err e
@@ -35,6 +36,7 @@ prefix_size (lengths.LLL digits.Bcd) = 2
 prefix_size (lengths.LLLL digits.Ascii) = 4
 prefix_size (lengths.LLLL digits.Bcd) = 2
 
+-- the count, or that its digits are bad
 abbrev pub or_bad_length : Option ℕ → Result ℕ FieldFault
 or_bad_length (Some n) = Ok n
 or_bad_length None = Err BadLengthDigits
@@ -76,6 +78,7 @@ abbrev pub behind_filler : List ℕ → Result (List ℕ) FieldFault
 behind_filler [] = Err BadFiller
 behind_filler (f ∷ w) = if f == 48 || f == 63 then Ok w else Err BadFiller
 
+-- the characters, or that the hexadecimal digits are bad
 abbrev pub or_bad_hex : Result (List ℕ) FromHexError → Result (List ℕ) FieldFault
 or_bad_hex (Ok w) = Ok w
 or_bad_hex (Err e) = Err BadHex
@@ -98,6 +101,7 @@ without_padding pads.None w = w
 without_padding (pads.Left p) w = without_front p w
 without_padding (pads.Right p) w = reverse (without_front p (reverse w))
 
+-- the value without its padding, if it is in the class
 abbrev pub value_of : FieldSpec → List ℕ → Result (List ℕ) FieldFault
 value_of s w = if is_in_class s.class (without_padding s.pad w) then Ok (without_padding s.pad w) else Err NotInClass
 
@@ -113,10 +117,12 @@ pub data FieldReading : Type 0 where
   more : FieldReading
   fault : FieldFault → FieldReading
 
+-- what is read once the body is whole
 abbrev pub at_body : ℕ → Result (List ℕ) FieldFault → FieldReading
 at_body used (Ok v) = got v used
 at_body used (Err e) = fault e
 
+-- what is read once the length is whole
 abbrev pub at_prefix : FieldSpec → List ℕ → Result ℕ FieldFault → FieldReading
 at_prefix s b (Err e) = fault e
 at_prefix s b (Ok n) =
@@ -125,6 +131,7 @@ at_prefix s b (Ok n) =
     if nat_lt (length b) (front + size) then more
     else at_body (front + size) (body_of s n (take size (drop front b)))
 
+-- what is read of the part that the bytes begin with
 abbrev pub part_at : FieldSpec → List ℕ → FieldReading
 part_at s b =
     let front = prefix_size s.length in
@@ -138,6 +145,7 @@ DecodesValue old new (Ok (Some used)) o = (value : List ℕ) × (o ≡ got value
 DecodesValue old new (Ok None) o = (o ≡ more) × (new ≡ old)
 DecodesValue old new (Err e) o = (e ≢ Memory → o ≡ fault e) × (new ≡ old)
 
+-- a function answers what is read; nothing is said where memory ran out
 abbrev pub Reads : Result Step FieldFault → FieldReading → Type 0
 Reads (Ok (steps.Got value used)) o = o ≡ got value.items used
 Reads (Ok steps.More) o = o ≡ more

@@ -28,9 +28,11 @@ limit (lengths.LLL d) = 999
 limit (lengths.LLLL d) = longest_value
 limit lengths.Fixed = 999
 
+-- whether the length can tell the row's maximum, which isn't 0
 abbrev pub is_good_max : FieldSpec → Bool
 is_good_max s = is_within 1 (limit s.length) s.max
 
+-- whether values of the class may be coded so
 abbrev pub is_coded : Coding → CharClass → Bool
 is_coded codings.Ascii classes.B = false
 is_coded codings.Ascii c = true
@@ -55,12 +57,14 @@ is_text classes.XN = false
 is_text classes.B = false
 is_text c = true
 
+-- whether values of the class may be padded under that length
 abbrev pub is_padded : CharClass → Length → Bool
 is_padded c lengths.Fixed = is_text c
 is_padded c (lengths.LL d) = false
 is_padded c (lengths.LLL d) = false
 is_padded c (lengths.LLLL d) = false
 
+-- whether the row may have this padding
 abbrev pub is_good_pad : FieldSpec → Pad → Bool
 is_good_pad s pads.None = true
 is_good_pad s (pads.Left p) = is_padded s.class s.length && is_pad_byte s.coding p
@@ -91,6 +95,7 @@ is_exact l p = false
 abbrev pub is_length : FieldSpec → ℕ → Bool
 is_length s n = if is_exact s.length s.pad then n == s.max else nat_le n s.max
 
+-- whether the byte stands first
 abbrev pub begins_with : ℕ → List ℕ → Bool
 begins_with p [] = false
 begins_with p (x ∷ xs) = x == p

@@ -129,6 +129,7 @@ pad_named t = if bytes_eq t (codes "none") then Some pads.None else pad_behind (
 
 -- what a step gives, handed to the next one
 infixl 10 ◌>>=◌
+-- a step, and the next one where the first gave something
 abbrev pub ◌>>=◌ : {X Y : Type 0} → Option X → (X → Option Y) → Option Y
 None >>= f = None
 Some x >>= f = f x

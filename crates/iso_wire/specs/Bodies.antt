@@ -19,6 +19,7 @@ use Rattle.iso_wire.specs.Viewing.{Viewed, front_of, starts_of}
 abbrev pub start_at : Bodies → ℕ → ℕ
 start_at bodies n = slice_index_or bodies.starts n 0
 
+-- how many bytes it is
 abbrev pub body_size_at : Bodies → ℕ → ℕ
 body_size_at bodies n = slice_index_or bodies.sizes n 0
 
@@ -30,6 +31,7 @@ body_in b bodies n = take (body_size_at bodies n) (drop (start_at bodies n) b)
 abbrev pub wire_of : List ℕ → Bodies → ℕ → ℕ × List ℕ
 wire_of b bodies n = (n, body_in b bodies n)
 
+-- the bodies of all elements with these numbers
 abbrev pub wires_in : List ℕ → Bodies → List ℕ → List (ℕ × List ℕ)
 wires_in b bodies ns = map (wire_of b bodies) ns
 
@@ -37,6 +39,7 @@ wires_in b bodies ns = map (wire_of b bodies) ns
 abbrev pub start_of : Bodies → ℕ → ℕ × ℕ
 start_of bodies n = (n, start_at bodies n)
 
+-- where the bodies of all elements with these numbers begin
 abbrev pub starts_in : Bodies → List ℕ → List (ℕ × ℕ)
 starts_in bodies ns = map (start_of bodies) ns
 

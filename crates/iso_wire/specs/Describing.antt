@@ -17,6 +17,7 @@ use Rattle.iso_wire.specs.Masking.{shown_front, shown_end}
 abbrev pub reserved_word : ℕ → List ℕ
 reserved_word d = codes "Reserved(" ++ (48 + d) ∷ 41 ∷ []
 
+-- the edition of the standard, in a word
 unfoldable pub version_word : ℕ → List ℕ
 version_word d =
     if d == 0 then codes "1987"
@@ -25,6 +26,7 @@ version_word d =
     else if d == 9 then codes "Private"
     else reserved_word d
 
+-- what the message is about, in a word
 unfoldable pub class_word : ℕ → List ℕ
 class_word d =
     if d == 1 then codes "Authorization"
@@ -37,6 +39,7 @@ class_word d =
     else if d == 8 then codes "NetworkManagement"
     else reserved_word d
 
+-- what the message does, in a word
 unfoldable pub function_word : ℕ → List ℕ
 function_word d =
     if d == 0 then codes "Request"
@@ -45,6 +48,7 @@ function_word d =
     else if d == 3 then codes "AdviceResponse"
     else reserved_word d
 
+-- who sent the message, in a word
 unfoldable pub origin_word : ℕ → List ℕ
 origin_word d =
     if d == 0 then codes "Acquirer"
@@ -83,9 +87,11 @@ value_text class n v =
 abbrev pub shown_text : Bool → CharClass → ℕ → List ℕ → List ℕ
 shown_text is_clear class n v = if is_clear then clear_text class v else value_text class n v
 
+-- the line of an element: its number, and what is shown of its value
 abbrev pub element_line : Bool → List (Option FieldSpec) → ℕ → List ℕ → List ℕ
 element_line is_clear rows n v = codes "DE" ++ (decimal 3 n ++ (61 ∷ shown_text is_clear (class_by (row_at rows n)) n v ++ 10 ∷ []))
 
+-- the lines of elements, in their order
 abbrev pub element_lines : Bool → List (Option FieldSpec) → List (ℕ × List ℕ) → List ℕ
 element_lines is_clear rows [] = []
 element_lines is_clear rows (e ∷ es) = element_line is_clear rows e.0 e.1 ++ element_lines is_clear rows es

@@ -14,6 +14,7 @@ elements_of ns start [] b = []
 elements_of [] start (e ∷ es) b = []
 elements_of (n ∷ ns) start (e ∷ es) b = (n, take (e - start) (drop start b)) ∷ elements_of ns e es b
 
+-- the elements as a list, in their order
 abbrev pub views : Elements → List (ℕ × List ℕ)
 views x = elements_of (members x.numbers) 0 x.ends.items x.values.items
 

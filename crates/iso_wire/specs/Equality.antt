@@ -14,6 +14,7 @@ same_element d e = nat_eq d.0 e.0 && pointwise nat_eq d.1 e.1
 abbrev pub same_contents : Contents → Contents → Bool
 same_contents m n = nat_eq m.mti n.mti && pointwise same_element m.elements n.elements
 
+-- equal elements are the same ones, and no others
 same_element_decides : (d e : ℕ × List ℕ) → Decides (same_element d e) (d ≡ e)
 same_element_decides d e = (
   (λ h i. ((unsigned_Decides d.0 e.0).0 (first_so (nat_eq d.0 e.0) (pointwise nat_eq d.1 e.1) h) i, (bytes_decides d.1 e.1).0 (second_so (nat_eq d.0 e.0) (pointwise nat_eq d.1 e.1) h) i)),
@@ -30,5 +31,6 @@ same_contents_decides m n = (
   λ h i. (unsigned_Decides m.mti n.mti).1 (ap (λ (x : Contents). x.mti) h) i && (pointwise_decides same_element_decides m.elements n.elements).1 (ap (λ (x : Contents). x.elements) h) i,
 )
 
+-- equality of messages is an equivalence
 pub same_contents_equiv : IsEquivalence same_contents
 same_contents_equiv = decided same_contents same_contents_decides

@@ -38,6 +38,7 @@ fills pads.None b = false
 fills (pads.Left pad) b = b == pad
 fills (pads.Right pad) b = b == pad
 
+-- there is a byte that fills values up
 abbrev pub is_padded : Pad → Bool
 is_padded pads.None = false
 is_padded (pads.Left pad) = true
@@ -55,6 +56,7 @@ is_half s half = nat_le half 9 || fills s.pad (48 + half)
 abbrev pub is_packed : FieldSpec → ℕ → ℕ → Bool
 is_packed s i b = is_half s (b % 16) && (is_half s (b / 16) || (i == 0 && b / 16 == 15))
 
+-- the byte at place i of a body may stand there under that coding
 abbrev pub is_coded : Coding → FieldSpec → ℕ → ℕ → Bool
 is_coded codings.Ascii s i b = is_of_class s i b
 is_coded codings.Raw s i b = is_of_class s i b

@@ -131,12 +131,14 @@ pub data FrameReading : Type 0 where
   more : FrameReading
   bad : FrameReading
 
+-- what is read behind a header that tells so many bytes, or isn't of digits
 abbrev pub at_length : Header → List ℕ → Option ℕ → FrameReading
 at_length h bytes None = bad
 at_length h bytes (Some n) =
     if nat_lt (length bytes) (header_size h + n) then more
     else got (take n (drop (header_size h) bytes)) (header_size h + n)
 
+-- what is read of the frame that the bytes begin with
 abbrev pub frame_at : Header → List ℕ → FrameReading
 frame_at h bytes =
     if nat_lt (length bytes) (header_size h) then more

@@ -32,9 +32,11 @@ end_by n at (Ok (Some size)) = Ok (at + size)
 end_by n at (Ok None) = halt n at Short
 end_by n at (Err e) = halt n at (Field e)
 
+-- where the body of element n ends, of so many characters, under its row
 abbrev pub body_end : FieldSpec → ℕ → ℕ → ℕ → List ℕ → Result ℕ UnpackFault
 body_end s n count at b = end_by n at (size_at s count (drop at b))
 
+-- the same where element n may have no row
 abbrev pub body_end_under : Option FieldSpec → ℕ → ℕ → ℕ → List ℕ → Result ℕ UnpackFault
 body_end_under None n count at b = halt n at (UnknownElement n)
 body_end_under (Some s) n count at b = body_end s n count at b

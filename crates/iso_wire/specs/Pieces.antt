@@ -32,6 +32,7 @@ StandsBefore t b at (next piece) = CallFor t (take at b) piece
 StandsBefore t b at whole = (m : Contents) × BeginsWith t m at b
 StandsBefore t b at (stopped e) = Stops t b e.at e.element e.cause
 
+-- a walk stands inside its bytes, and what lies before it is so
 abbrev pub Stands : Walk → Type 0
 Stands w = (w.at ≤ length w.bytes) × StandsBefore w.table w.bytes w.at w.ahead
 

@@ -22,6 +22,7 @@ use Rattle.iso_parts.specs.Numbers.{numbers_in}
 use Rattle.iso_wire.specs.Numbers.{unknown}
 
 infixl 10 ◌>>=◌
+-- a step, and the next one where the first gave something
 abbrev pub ◌>>=◌ : {A B : Type 0} → Result A UnpackFault → (A → Result B UnpackFault) → Result B UnpackFault
 (Ok x) >>= f = f x
 (Err e) >>= f = Err e
@@ -32,10 +33,12 @@ halt element at cause = Err (record { at = at; element = element; cause = cause 
 
 -- ---- the message type
 
+-- the type, if its digits are good and it is of the version
 abbrev pub of_version : ℕ → Option ℕ → Result ℕ UnpackFault
 of_version version None = halt 0 0 BadMti
 of_version version (Some n) = if n / 1000 == version then Ok n else halt 0 0 WrongVersion
 
+-- the message type that the bytes begin with
 abbrev pub type_at : Layout → List ℕ → Result ℕ UnpackFault
 type_at t b =
     if nat_lt (length b) (mti_size t.mti) then halt 0 0 Short
@@ -43,6 +46,7 @@ type_at t b =
 
 -- ---- the bitmaps, as words
 
+-- the word that was read of a bitmap, or that its hexadecimal digits are bad
 abbrev pub word_by : ℕ → ℕ → Option ℕ → Result ℕ UnpackFault
 word_by element at None = halt element at BadHex
 word_by element at (Some w) = Ok w
@@ -58,14 +62,17 @@ abbrev pub known_by : ℕ → ℕ → ℕ → Option ℕ → Result ℕ UnpackFa
 known_by element at w None = Ok w
 known_by element at w (Some n) = halt element at (UnknownElement n)
 
+-- the word of the primary bitmap, if the table has a row for each of its elements
 abbrev pub primary_at : Layout → ℕ → List ℕ → Result ℕ UnpackFault
 primary_at t at b = do
   w ← word_at t.bitmap 0 at b
   known_by 0 at w (unknown t.rows (numbers_in w 0))
 
+-- the word, if it tells of no third bitmap and the table has a row for each of its elements
 abbrev pub secondary_known : Layout → ℕ → ℕ → Result ℕ UnpackFault
 secondary_known t at w = if nat_lt w top then known_by 1 at w (unknown t.rows (numbers_in 0 w)) else halt 1 at ThirdBitmap
 
+-- such a word of the secondary bitmap
 abbrev pub secondary_at : Layout → ℕ → List ℕ → Result ℕ UnpackFault
 secondary_at t at b = do
   w ← word_at t.bitmap 1 at b

@@ -17,10 +17,12 @@ as_pack n fields.NotInClass = NotInClass n
 as_pack n fields.PadEnd = PadEnd n
 as_pack n e = Memory
 
+-- the same, if it is refused
 abbrev pub refused_field : ℕ → Option FieldFault → Option PackFault
 refused_field n None = None
 refused_field n (Some e) = Some (as_pack n e)
 
+-- why element n with this value is refused under its row, if it is
 abbrev pub refused_by : Option FieldSpec → ℕ → List ℕ → Option PackFault
 refused_by None n v = Some (NoRow n)
 refused_by (Some s) n v = refused_field n (refusal s v)

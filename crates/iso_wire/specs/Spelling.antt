@@ -57,6 +57,7 @@ abbrev pub plain_by : Option FieldSpec → List ℕ → List ℕ
 plain_by None v = []
 plain_by (Some s) v = plain_part s v
 
+-- the part that is written for an element, under its row
 abbrev pub plain_of : List (Option FieldSpec) → ℕ × List ℕ → List ℕ
 plain_of rows e = plain_by (row_at rows e.0) e.1
 

@@ -33,14 +33,17 @@ abbrev pub length_under : ℕ → Option FieldSpec → Ahead
 length_under n None = whole
 length_under n (Some s) = next (count n s)
 
+-- the length of the next of these elements; where none is left, the message is whole
 abbrev pub length_ahead : List (Option FieldSpec) → List ℕ → Ahead
 length_ahead rows [] = whole
 length_ahead rows (n ∷ ns) = length_under n (row_at rows n)
 
+-- the body of element n, of so many characters
 abbrev pub body_under : ℕ → ℕ → Option FieldSpec → Ahead
 body_under n c None = whole
 body_under n c (Some s) = next (body n s c)
 
+-- the piece that begins at a point; where no element is left, the message is whole
 abbrev pub ahead_of : Layout → ResumePoint → Ahead
 ahead_of t points.Type = next type
 ahead_of t points.Primary = next primary
