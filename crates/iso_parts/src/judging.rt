@@ -278,8 +278,8 @@ fn judge_behind_length_apart(spec: &FieldSpec, bytes: &[u8]) -> Result<Judged, F
     judge_behind_length(spec, bytes)
 }
 
-/// What [`judge_field`] answers. Where a character is a byte, rows without a length and rows with one of two ASCII digits
-/// have code of their own, in which the compiler knows how long the length is: so most rows are laid out.
+/// What [`judge_field`] answers. Where a character is a byte, rows without a length and rows with one of two or three
+/// ASCII digits have code of their own, in which the compiler knows how long the length is: so most rows are laid out.
 #[inline(always)]
 fn judged_of(spec: &FieldSpec, bytes: &[u8]) -> Result<Judged, FieldFault>
     requires { IsGood spec.now }
@@ -290,6 +290,7 @@ fn judged_of(spec: &FieldSpec, bytes: &[u8]) -> Result<Judged, FieldFault>
     match spec.length {
         Length::Fixed if spec.coding.is_plain() => judge_fixed(spec, bytes),
         Length::LL(Digits::Ascii) if spec.coding.is_plain() => judge_behind_length(spec, bytes),
+        Length::LLL(Digits::Ascii) if spec.coding.is_plain() => judge_behind_length(spec, bytes),
         _ => judge_behind_length_apart(spec, bytes),
     }
 }
