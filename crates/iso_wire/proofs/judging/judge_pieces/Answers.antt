@@ -3,7 +3,7 @@ use Rattle.iso_parts.specs.Reading.{prefix_size}
 use Rattle.iso_wire.specs.declared.judging.ResumePoint.TheVariants as points
 use Rattle.iso_parts.specs.Numbers.{members}
 use Rattle.iso_wire.proofs.Resumes.{length_goes_on, length_ends, step_from}
-use Rattle.iso_wire.proofs.judging.judge_part.Goals as goal
+use Rattle.iso_wire.proofs.judging.judge_pieces.Goals as goal
 
 pub returns-in-Ok-Some : goal.returns-in-Ok-Some
 returns-in-Ok-Some c =
