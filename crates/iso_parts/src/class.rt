@@ -27,6 +27,7 @@ pub enum CharClass {
 
 /// Whether each byte lies from `low` up to `high`. The loop has no early end, so that many bytes are looked at at a
 /// time.
+#[inline(always)]
 fn are_within(low: u8, high: u8, bytes: &[u8]) -> bool
     ensures { result ≡ list_all (is_within low high) bytes.now }
 {
@@ -37,6 +38,21 @@ fn are_within(low: u8, high: u8, bytes: &[u8]) -> bool
         greatest = greatest.max(*b);
     }
     low <= least && greatest <= high
+}
+
+/// How many bytes stand in a block: so many are looked at at once.
+const BLOCK: usize = 32;
+
+/// Whether each byte lies from `low` up to `high`, by whole blocks from the first byte on and by the last block, which meet
+/// or overlap: so no byte is looked at alone.
+#[inline(always)]
+fn are_within_by_blocks(low: u8, high: u8, bytes: &[u8]) -> bool
+    requires { 32 ≤ length bytes.now }
+    ensures { result ≡ list_all (is_within low high) bytes.now }
+{
+    let (whole, _) = bytes.split_at(bytes.len() / BLOCK * BLOCK);
+    let (_, last) = bytes.split_at(bytes.len() - BLOCK);
+    are_within(low, high, whole) & are_within(low, high, last)
 }
 
 impl CharClass {
@@ -95,16 +111,21 @@ impl CharClass {
         }
     }
 
-    /// Whether each of many bytes is of the class: where the class is one range, the least and the greatest byte tell.
+    /// Whether each of many bytes is of the class: where the class is one range, the least and the greatest byte tell. Each
+    /// other class has code of its own.
     #[inline(never)]
     fn has_many(self, bytes: &[u8]) -> bool
+        requires { 32 ≤ length bytes.now }
         ensures { result ≡ list_all (is_member self) bytes.now }
     {
         match self {
-            CharClass::N | CharClass::XN => are_within(0x30, 0x39, bytes),
-            CharClass::ANS => are_within(0x20, 0x7E, bytes),
-            CharClass::Z => are_within(0x30, 0x3F, bytes),
-            _ => self.has_each(bytes),
+            CharClass::N | CharClass::XN => are_within_by_blocks(0x30, 0x39, bytes),
+            CharClass::ANS => are_within_by_blocks(0x20, 0x7E, bytes),
+            CharClass::Z => are_within_by_blocks(0x30, 0x3F, bytes),
+            CharClass::A => CharClass::A.has_each(bytes),
+            CharClass::AN => CharClass::AN.has_each(bytes),
+            CharClass::ZD => CharClass::ZD.has_each(bytes),
+            CharClass::B => CharClass::B.has_each(bytes),
         }
     }
 
@@ -131,7 +152,7 @@ impl CharClass {
             CharClass::A => CharClass::A.has_all(bytes),
             CharClass::AN => CharClass::AN.has_all(bytes),
             CharClass::ZD => CharClass::ZD.has_all(bytes),
-            _ => self.has_many(bytes),
+            _ => self.has_each(bytes),
         }
     }
 

@@ -2,7 +2,7 @@
 
 ghost use Rattle.std.specs.Prelude.{◌≡◌, ◌≢◌, ◌≤◌, ◌+◌, ◌*◌, ◌/◌, ℕ, List, take, drop, length};
 ghost use Rattle.std.specs.Prelude.{◌↔◌, IfErr, IfOk, IfSome, true, false};
-ghost use Rattle.iso_parts.specs.Judging.{Judges, IfJudged, count_at, size_at};
+ghost use Rattle.iso_parts.specs.Judging.{Judges, IfJudged, IsFront, count_at, size_at};
 ghost use Rattle.iso_parts.specs.Building.{IsPart};
 ghost use Rattle.iso_parts.specs.Class.{is_in_class};
 ghost use Rattle.iso_parts.specs.Spec.{IsGood};
@@ -222,24 +222,47 @@ pub fn judge_body(spec: &FieldSpec, n: u16, bytes: &[u8]) -> Result<Option<usize
     Ok(Some(size))
 }
 
-/// Judges the part of a row without a length, where a character is a byte: only its class is to be judged.
+/// Judges a length of so many bytes at the front.
 #[inline(always)]
-fn judge_fixed(spec: &FieldSpec, bytes: &[u8]) -> Result<Judged, FieldFault>
-    requires fixed { spec.now.length ≡ Length.Fixed }
-    requires plain { is_plain spec.now.coding ≡ true }
-    ensures exact { Judges 0 result (part_at spec.now bytes.now) }
-    ensures memory { IfErr result (λ e. e ≢ Memory) }
-    ensures room { IfJudged result (λ body used. (body ≤ used) × (used ≤ length bytes.now)) }
+fn judge_front_of(
+    front: usize,
+    spec: &FieldSpec,
+    bytes: &[u8],
+) -> Result<Option<(usize, u16)>, FieldFault>
+    requires { front ≡ prefix_size spec.now.length }
+    ensures { IsFront spec.now bytes.now result }
 {
-    let size = spec.max as usize;
-    if bytes.len() < size {
-        return Ok(Judged::More);
+    if bytes.len() < front {
+        return Ok(None);
     }
-    judge_text(spec, &bytes[..size])?;
-    Ok(Judged::Got {
-        body: 0,
-        used: size,
-    })
+    let (prefix, _) = bytes.split_at(front);
+    match prefix_of(spec, prefix) {
+        Ok(n) => Ok(Some((front, n))),
+        Err(fault) => Err(fault),
+    }
+}
+
+/// Judges the length that the bytes begin with, in code of its own: few rows come here.
+#[inline(never)]
+fn judge_front_apart(spec: &FieldSpec, bytes: &[u8]) -> Result<Option<(usize, u16)>, FieldFault>
+    ensures { IsFront spec.now bytes.now result }
+{
+    judge_front_of(spec.length.prefix_size(), spec, bytes)
+}
+
+/// Judges the length that the bytes begin with: how many bytes it takes, and the count of characters that it tells. Most
+/// rows have none, or one of two or three ASCII digits: each of these has code of its own, in which the compiler knows how
+/// long the length is.
+#[inline(always)]
+fn judge_front(spec: &FieldSpec, bytes: &[u8]) -> Result<Option<(usize, u16)>, FieldFault>
+    ensures { IsFront spec.now bytes.now result }
+{
+    match spec.length {
+        Length::Fixed => Ok(Some((0, spec.max))),
+        Length::LL(Digits::Ascii) => judge_front_of(2, spec, bytes),
+        Length::LLL(Digits::Ascii) => judge_front_of(3, spec, bytes),
+        _ => judge_front_apart(spec, bytes),
+    }
 }
 
 /// Judges the part of any row: its length, and then its body.
@@ -250,12 +273,11 @@ fn judge_behind_length(spec: &FieldSpec, bytes: &[u8]) -> Result<Judged, FieldFa
     ensures memory { IfErr result (λ e. e ≢ Memory) }
     ensures room { IfJudged result (λ body used. (body ≤ used) × (used ≤ length bytes.now)) }
 {
-    let n = match judge_prefix(spec, bytes) {
-        Ok(Some(n)) => n,
+    let (front, n) = match judge_front(spec, bytes) {
+        Ok(Some(told)) => told,
         Ok(None) => return Ok(Judged::More),
         Err(fault) => return Err(fault),
     };
-    let front = spec.length.prefix_size();
     let (_, rest) = bytes.split_at(front);
     match judge_body(spec, n, rest) {
         Ok(Some(size)) => Ok(Judged::Got {
@@ -278,8 +300,7 @@ fn judge_behind_length_apart(spec: &FieldSpec, bytes: &[u8]) -> Result<Judged, F
     judge_behind_length(spec, bytes)
 }
 
-/// What [`judge_field`] answers. Where a character is a byte, rows without a length and rows with one of two ASCII digits
-/// have code of their own, in which the compiler knows how long the length is: so most rows are laid out.
+/// What [`judge_field`] answers. Where a character is a byte, as in most rows, the part is judged in the code around it.
 #[inline(always)]
 fn judged_of(spec: &FieldSpec, bytes: &[u8]) -> Result<Judged, FieldFault>
     requires { IsGood spec.now }
@@ -287,15 +308,16 @@ fn judged_of(spec: &FieldSpec, bytes: &[u8]) -> Result<Judged, FieldFault>
     ensures memory { IfErr result (λ e. e ≢ Memory) }
     ensures room { IfJudged result (λ body used. (body ≤ used) × (used ≤ length bytes.now)) }
 {
-    match spec.length {
-        Length::Fixed if spec.coding.is_plain() => judge_fixed(spec, bytes),
-        Length::LL(Digits::Ascii) if spec.coding.is_plain() => judge_behind_length(spec, bytes),
-        _ => judge_behind_length_apart(spec, bytes),
+    if spec.coding.is_plain() {
+        judge_behind_length(spec, bytes)
+    } else {
+        judge_behind_length_apart(spec, bytes)
     }
 }
 
 /// Judges the part that the bytes begin with, as [`decode_field`](crate::decode_field) does, but without its value
 /// and without memory: where its body begins, and how many bytes it takes.
+#[inline(always)]
 pub fn judge_field(spec: &FieldSpec, bytes: &[u8]) -> Result<Judged, FieldFault>
     // The row is one that a table may have.
     requires { IsGood spec.now }

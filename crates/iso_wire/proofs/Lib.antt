@@ -16,6 +16,7 @@ pub mod Unpacks
 pub mod Built
 pub mod Loop
 pub mod Appends
+pub mod RunLaws
 pub mod Packs
 pub mod PlainLaws
 pub mod Endings

@@ -8,8 +8,8 @@ use Rattle.iso_parts.specs.declared.fault.FieldFault.TheVariants.{WrongLength, N
 use Rattle.iso_parts.specs.declared.spec.FieldSpec.{FieldSpec}
 use Rattle.iso_parts.specs.Bitmap.{map_size}
 use Rattle.iso_parts.specs.BitmapReading.{top}
-use Rattle.iso_parts.specs.PartLaws.{PartLaws, IsBodyFault, IsLengthFault}
-use Rattle.iso_parts.specs.Reading.{FieldReading, more, fault, prefix_size, prefix_of, body_size, body_of, at_body, at_prefix, part_at}
+use Rattle.iso_parts.specs.PartLaws.{PartLaws, IsBodyFault, IsLengthFault, IsMore}
+use Rattle.iso_parts.specs.Reading.{FieldReading, got, more, fault, prefix_size, prefix_of, body_size, body_of, at_body, at_prefix, part_at}
 use Rattle.iso_table.specs.Layout.{Layout, row_at}
 use Rattle.iso_wire.specs.declared.fault.UnpackFault.{UnpackFault}
 use Rattle.iso_wire.specs.declared.fault.UnpackCause.TheVariants as causes
@@ -153,6 +153,19 @@ module _ (laws : PartLaws) where
       ∙ ap (λ o. end_of (value_by o n at d >>= behind_value rows n ns at d)) row
       ∙ ap (λ (o : FieldReading). end_of (answer s n at (length d) o >>= behind_value rows n ns at d)) part
       ∙ ap (λ (k : ℕ). refused n k e) none
+
+  -- behind a part that is read, reading goes on at the next element
+  pub part_goes_on : (rows : List (Option FieldSpec)) (s : FieldSpec) (old ns v : List ℕ) (n used at : ℕ) (b : List ℕ) → old ≡ n ∷ ns → row_at rows n ≡ Some s → part_at s (drop at b) ≡ got v used → at ≤ length b
+      → (x : List ℕ) → end_of_elements rows old at (b ++ x) ≡ end_of_elements rows ns (at + used) (b ++ x)
+  part_goes_on rows s old ns v n used at b is row read within = λ x.
+      let d : List ℕ = drop at (b ++ x) in
+      let place : drop at (b ++ x) ≡ drop at b ++ x = drop-append-le at b x within in
+      let stays : part_at s (drop at (b ++ x)) ≡ got v used = ap (part_at s) place ∙ laws.stays s (drop at b) x (λ lacks. subst IsMore read lacks) ∙ read in
+      ap (λ (l : List ℕ). end_of_elements rows l at (b ++ x)) is
+      ∙ ap (λ o. end_of (value_by o n at d >>= behind_value rows n ns at d)) row
+      ∙ ap (λ (o : FieldReading). end_of (answer s n at (length d) o >>= behind_value rows n ns at d)) stays
+      ∙ end_behind n v (elements_at rows ns (at + used) (drop used d))
+      ∙ ap (λ (l : List ℕ). end_of (elements_at rows ns (at + used) l)) (drop-drop used at (b ++ x))
 
 -- bytes that end inside a length
 abbrev short : ℕ → ℕ → Result ℕ UnpackFault

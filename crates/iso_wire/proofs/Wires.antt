@@ -1,5 +1,5 @@
 -- Finding the bodies of elements one after the other, as a loop does, and looking one up.
-use Rattle.std.proofs.Common.{◌≡◌, ℕ, zero, suc, ◌+◌, ◌-◌, ◌*◌, ◌≤◌, ◌<◌, Bool, true, false, cond, eqb, leb, List, [], ◌∷◌, ◌++◌, length, take, drop, set, Option, Some, None, Result, Ok, Err, refl, sym, ap, subst, ◌∙◌, append_assoc, arith, inl, inr}
+use Rattle.std.proofs.Common.{◌≡◌, ℕ, zero, suc, ◌+◌, ◌-◌, ◌*◌, ◌≤◌, ◌<◌, Bool, true, false, cond, eqb, leb, List, [], ◌∷◌, ◌++◌, length, take, drop, set, Option, Some, None, Result, Ok, Err, IfOk, refl, sym, ap, subst, ◌∙◌, append_assoc, arith, inl, inr}
 use Rattle.std.proofs.lemmas.Bool.{cases_eq, cond-true, cond-false, and_parts, leb-true, eqb-true}
 use Rattle.std.proofs.lemmas.Bool.Decides.{nat_tests}
 use Rattle.std.proofs.lemmas.List.{drop-drop, length-drop, length-take-le, append-nil, get_or-set_same, get_or-set_other}
@@ -350,3 +350,7 @@ pub got_few : (laws : PartLaws) (s : FieldSpec) (b v : List ℕ) (used : ℕ) �
 got_few laws s b v used good is =
     let most = subst (IsUpTo (prefix_size s.length + body_size s.coding s.max) (length b)) is (laws.most s b) in
     omega (arith, most, part_few s good)
+
+pub judged_few : (laws : PartLaws) (s : FieldSpec) (b : List ℕ) (r : Result (ℕ × ℕ) UnpackFault) → IsGood s → IfOk r (λ x. (v : List ℕ) × (part_at s b ≡ got v x.1)) → IfOk r (λ x. x.1 ≤ longest_part)
+judged_few laws s b (Ok x) good read = got_few laws s b read.0 x.1 good read.1
+judged_few laws s b (Err e) good read = tt

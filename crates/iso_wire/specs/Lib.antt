@@ -11,6 +11,7 @@ pub mod Faults
 pub mod Reading
 pub mod Beginning
 pub mod Appending
+pub mod Runs
 pub mod Framing
 pub mod ReadingLaws
 pub mod Stops

@@ -1,11 +1,14 @@
 //! A message that lies in the caller's bytes, and where the bodies of its elements lie.
 
 ghost use Rattle.std.specs.Borrow.{Bor};
-ghost use Rattle.std.specs.Prelude.{◌≡◌, ℕ, ◌+◌, ◌*◌, ◌≤◌, List, drop, length, IfOk, IfErr, IfSome, OnOk, MatchOption, None, Some};
+ghost use Rattle.std.specs.Prelude.{◌≡◌, ◌≢◌, ℕ, ◌+◌, ◌*◌, ◌^◌, ◌<◌, ◌≤◌, List, drop, length, IfOk, IfErr, IfSome, OnOk, MatchOption, None, Some};
 ghost use Rattle.iso_parts.specs.Mti.{mti_number};
+ghost use Rattle.iso_parts.specs.Reading.{got, part_at};
+ghost use Rattle.iso_parts.specs.Spec.{IsGood};
 ghost use Rattle.iso_table.specs.Layout.{row_at, AreGood};
 ghost use Rattle.iso_wire.specs.Elements.{value_in};
-ghost use Rattle.iso_wire.specs.Reading.{value_at};
+ghost use Rattle.iso_wire.specs.Reading.{value_at, value_by};
+ghost use Rattle.iso_wire.specs.declared.fault.UnpackCause.TheVariants.{Memory};
 ghost use Rattle.iso_parts.specs.Numbers.{members};
 ghost use Rattle.iso_wire.specs.Bodies.{longest_part, AreWithin, BeginsThere, viewed_of, wires_at, view_at, JudgesWire, FindsBodies, Outlines};
 ghost use Rattle.iso_wire.specs.Contents.{Contents};
@@ -20,7 +23,7 @@ use crate::front::beginning_of;
 use crate::laws::{are_bytes, reads_spellings};
 use crate::unpacking::{fault_place, read_value};
 use crate::view_iteration::ViewIter;
-use iso_parts::{Bitmap, Judged, Mti, PLACES, judge_field};
+use iso_parts::{Bitmap, FieldSpec, Judged, Mti, PLACES, judge_field};
 use iso_table::Table;
 use std::alloc::Global;
 use std::fmt;
@@ -56,18 +59,22 @@ pub(crate) struct Outline {
     pub(crate) used: usize,
 }
 
-/// Judges the part of element `n`, which begins at `at`, at the front of the rest of the bytes: where its body begins in
-/// it, and how many bytes it takes.
-fn judge_wire(table: &Table, n: u8, at: usize, rest: &[u8]) -> Result<(usize, usize), UnpackFault>
-    requires { at ≤ 36 + longest_part * 127 }
-    ensures exact { JudgesWire (row_at table.now.rows n) result (value_at table.now.rows n at rest.now) }
+/// Judges the part of element `n` under its row, which begins at `at`, at the front of the rest of the bytes: where its body
+/// begins in it, and how many bytes it takes.
+#[inline(always)]
+pub(crate) fn judge_row(
+    row: &FieldSpec,
+    n: u8,
+    at: usize,
+    rest: &[u8],
+) -> Result<(usize, usize), UnpackFault>
+    requires good { IsGood row.now }
+    requires early { at < 2 ^ 63 }
+    ensures exact { JudgesWire (Some row.now) result (value_by (Some row.now) n at rest.now) }
     ensures room { IfOk result (λ x. (x.0 ≤ x.1) × (x.1 ≤ length rest.now)) }
-    ensures few { IfOk result (λ x. x.1 ≤ longest_part) }
+    ensures part { IfOk result (λ x. (value : List ℕ) × (part_at row.now rest.now ≡ got value x.1)) }
+    ensures no_memory { IfErr result (λ e. e.cause ≢ Memory) }
 {
-    iso_parts::laws::parts();
-    let Some(row) = table.row(n) else {
-        return Err(UnpackFault::stop(n, at, UnpackCause::UnknownElement(n)));
-    };
     match judge_field(row, rest) {
         Ok(Judged::Got { body, used }) => Ok((body, used)),
         Ok(Judged::More) => {
@@ -80,6 +87,21 @@ fn judge_wire(table: &Table, n: u8, at: usize, rest: &[u8]) -> Result<(usize, us
             Err(UnpackFault::stop(n, place, UnpackCause::Field(fault)))
         }
     }
+}
+
+/// Judges the part of element `n`, which begins at `at`, at the front of the rest of the bytes: where its body begins in
+/// it, and how many bytes it takes.
+fn judge_wire(table: &Table, n: u8, at: usize, rest: &[u8]) -> Result<(usize, usize), UnpackFault>
+    requires { at ≤ 36 + longest_part * 127 }
+    ensures exact { JudgesWire (row_at table.now.rows n) result (value_at table.now.rows n at rest.now) }
+    ensures room { IfOk result (λ x. (x.0 ≤ x.1) × (x.1 ≤ length rest.now)) }
+    ensures few { IfOk result (λ x. x.1 ≤ longest_part) }
+{
+    iso_parts::laws::parts();
+    let Some(row) = table.row(n) else {
+        return Err(UnpackFault::stop(n, at, UnpackCause::UnknownElement(n)));
+    };
+    judge_row(row, n, at, rest)
 }
 
 /// Finds the bodies of the elements with these numbers, whose parts begin at `start`, and gives the offset behind them.

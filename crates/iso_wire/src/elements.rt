@@ -176,6 +176,23 @@ impl Elements {
         Some(&self.values[start..self.ends[at]])
     }
 
+    /// Makes the bytes behind the last value and so many more, which are still to be copied, the value of the next element.
+    #[inline(always)]
+    pub fn close_behind(&mut self, waiting: usize) -> Result<(), AllocError>
+        // The bytes of all values can be counted.
+        requires { length self.old.values.items + waiting < 2 ^ 64 }
+        // Memory aside, one value more ends behind those bytes; other ends and the bytes stay.
+        ensures ok { OnOk result (IsMadeOf self.new (self.old.ends.items ++ (length self.old.values.items + waiting) ∷ []) self.old.values.items) }
+        // Without memory the numbers, the ends and the bytes are as before.
+        ensures err { OnErr result (IsSame self.old self.new) }
+        // The set of numbers stays as it was, with and without memory.
+        ensures numbers { self.new.numbers ≡ self.old.numbers }
+    {
+        let end = self.values.len() + waiting;
+        self.ends.push(end)?;
+        Ok(())
+    }
+
     /// Makes the bytes behind the last value the value of the next element. Whoever reads all elements of a message knows
     /// the set of their numbers, and puts it there first.
     pub fn close(&mut self) -> Result<(), AllocError>

@@ -9,7 +9,7 @@ ghost use Rattle.iso_parts.specs.Numbers.{members};
 
 use crate::fault::{UnpackCause, UnpackFault};
 use crate::front::{primary_of, secondary_of, type_of};
-use iso_parts::{Bitmap, FieldSpec, judge_body, judge_length, tells_another};
+use iso_parts::{Bitmap, FieldSpec, Judged, judge_body, judge_field, judge_length, tells_another};
 use iso_table::Table;
 
 /// The piece from which judging goes on, since it isn't whole yet.
@@ -94,8 +94,9 @@ fn judge_value(
     }
 }
 
-/// Judges the part of element `n`, the first of `from`, which begins at `at`; `rest` are the others.
-fn judge_part(
+/// Judges the part of element `n`, the first of `from`, which begins at `at`, piece by piece; `rest` are the others.
+#[cold]
+fn judge_pieces(
     table: &Table,
     n: u8,
     from: Bitmap,
@@ -126,6 +127,31 @@ fn judge_part(
             Err(JudgingStop { point, fault })
         }
     }
+}
+
+/// Judges the part of element `n`, the first of `from`, which begins at `at`; `rest` are the others. Most parts are good,
+/// and are judged at once.
+#[inline(always)]
+fn judge_part(
+    table: &Table,
+    n: u8,
+    from: Bitmap,
+    rest: Bitmap,
+    at: usize,
+    bytes: &[u8],
+) -> Result<usize, JudgingStop>
+    requires first { members from ≡ n ∷ members rest }
+    requires within { at ≤ length bytes.now }
+    ensures { Steps table.now (ResumePoint.Elements from at) bytes.now rest result }
+{
+    iso_parts::laws::parts();
+    if let Some(row) = table.row(n) {
+        let (_, part) = bytes.split_at(at);
+        if let Ok(Judged::Got { body: _, used }) = judge_field(row, part) {
+            return Ok(at + used);
+        }
+    }
+    judge_pieces(table, n, from, rest, at, bytes)
 }
 
 /// Judges the elements with these numbers, whose parts begin at `start`.

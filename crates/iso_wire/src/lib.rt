@@ -20,6 +20,7 @@ mod masking;
 mod message;
 mod packing;
 mod pieces;
+mod runs;
 mod taking;
 mod unpacker;
 mod unpacking;

@@ -1,11 +1,12 @@
 //! Reading a message.
 
-ghost use Rattle.std.specs.Prelude.{◌≡◌, ℕ, ◌+◌, ◌≤◌, ◌∷◌, [], List, length, drop, IfOk, OnOk, OnErr};
+ghost use Rattle.std.specs.Prelude.{◌≡◌, ◌+◌, ◌≤◌, [], length, drop, IfOk, OnOk, OnErr, Some};
 ghost use Rattle.iso_wire.specs.Elements.{IsAscending};
-ghost use Rattle.iso_wire.specs.Ends.{views, Awaits, IsWhole, IsNumbered};
+ghost use Rattle.iso_parts.specs.Spec.{IsGood};
+ghost use Rattle.iso_wire.specs.Ends.{views, IsWhole, IsNumbered};
 ghost use Rattle.iso_table.specs.Layout.{AreGood};
-ghost use Rattle.iso_wire.specs.Appending.{ReadsInto, AppendsPart, AppendsElement};
-ghost use Rattle.iso_wire.specs.Reading.{Gives, Unpacks, fault_place, value_at, elements_at, message_at};
+ghost use Rattle.iso_wire.specs.Appending.{ReadsInto, AppendsPart};
+ghost use Rattle.iso_wire.specs.Reading.{Gives, Unpacks, fault_place, value_at, value_by, elements_at, message_at};
 ghost use Rattle.iso_wire.specs.Unpacking.{IsUnpacked, read_into};
 ghost use Rattle.iso_parts.specs.Bitmap.{contains, AreElements};
 ghost use Rattle.iso_parts.specs.Numbers.{members};
@@ -15,7 +16,8 @@ use crate::fault::{UnpackCause, UnpackFault};
 use crate::front::beginning_of;
 use crate::laws::{reads_spellings, stops};
 use crate::message::Message;
-use iso_parts::{Bitmap, FieldFault, LONGEST_VALUE, Mti, decode_value};
+use crate::runs::{append_element, copy_run};
+use iso_parts::{Bitmap, FieldFault, FieldSpec, LONGEST_VALUE, Mti, decode_value};
 use iso_table::Table;
 use std::alloc::Global;
 
@@ -26,6 +28,35 @@ pub(crate) fn fault_place(fault: FieldFault, front: usize) -> usize
     match fault {
         FieldFault::BadLengthDigits | FieldFault::LengthOver => 0,
         _ => front,
+    }
+}
+
+/// Appends the value of element `n` under its row, whose part begins at `at`, and gives how many bytes the part takes.
+pub(crate) fn read_row(
+    row: &FieldSpec,
+    n: u8,
+    at: usize,
+    bytes: &[u8],
+    values: &mut Vec<u8>,
+) -> Result<usize, UnpackFault>
+    requires good { IsGood row.now }
+    requires within { at ≤ length bytes.now }
+    ensures exact { AppendsPart values.old.items values.new.items result (value_by (Some row.now) n at (drop at bytes.now)) }
+    ensures room { IfOk result (λ used. at + used ≤ length bytes.now) }
+{
+    let front = row.length.prefix_size();
+    let (_, rest) = bytes.split_at(at);
+    match decode_value(row, rest, values) {
+        Ok(Some(used)) => Ok(used),
+        Ok(None) => {
+            let place = if rest.len() < front { at } else { at + front };
+            Err(UnpackFault::stop(n, place, UnpackCause::Short))
+        }
+        Err(FieldFault::Memory) => Err(UnpackFault::memory()),
+        Err(fault) => {
+            let place = at + fault_place(fault, front);
+            Err(UnpackFault::stop(n, place, UnpackCause::Field(fault)))
+        }
     }
 }
 
@@ -44,40 +75,7 @@ pub(crate) fn read_value(
     let Some(row) = table.row(n) else {
         return Err(UnpackFault::stop(n, at, UnpackCause::UnknownElement(n)));
     };
-    let front = row.length.prefix_size();
-    let (_, rest) = bytes.split_at(at);
-    match decode_value(row, rest, values) {
-        Ok(Some(used)) => Ok(used),
-        Ok(None) => {
-            let place = if rest.len() < front { at } else { at + front };
-            Err(UnpackFault::stop(n, place, UnpackCause::Short))
-        }
-        Err(FieldFault::Memory) => Err(UnpackFault::memory()),
-        Err(fault) => {
-            let place = at + fault_place(fault, front);
-            Err(UnpackFault::stop(n, place, UnpackCause::Field(fault)))
-        }
-    }
-}
-
-/// Appends element `n`, whose part begins at `at`, and gives how many bytes the part takes.
-fn append_element(
-    table: &Table,
-    n: u8,
-    at: usize,
-    bytes: &[u8],
-    elements: &mut Elements,
-) -> Result<usize, UnpackFault>
-    requires within { at ≤ length bytes.now }
-    requires awaits { (later : List ℕ) × Awaits elements.old (n ∷ later) }
-    ensures exact { AppendsElement (views elements.old) (views elements.new) n result (value_at table.now.rows n at (drop at bytes.now)) }
-    ensures room { IfOk result (λ used. at + used ≤ length bytes.now) }
-    ensures awaits { OnOk result ((later : List ℕ) → Awaits elements.old (n ∷ later) → Awaits elements.new later) }
-    ensures kept { OnOk result (elements.new.numbers ≡ elements.old.numbers) }
-{
-    let used = read_value(table, n, at, bytes, &mut elements.values)?;
-    elements.close()?;
-    Ok(used)
+    read_row(row, n, at, bytes, values)
 }
 
 /// The most bytes that the values of so many elements can have, whose parts lie in so many bytes: a part has at most two
@@ -108,11 +106,14 @@ fn read_elements(
     elements.start_over(count, values_room(count, bytes.len() - start))?;
     elements.numbers = numbers;
     let mut rest = numbers;
+    let mut from = start;
     let mut at = start;
     while let Some(n) = rest.take_first() {
-        let used = append_element(table, n, at, bytes, elements)?;
-        at += used;
+        let (begun, end) = append_element(table, n, from, at, bytes, elements)?;
+        from = begun;
+        at = end;
     }
+    copy_run(bytes, from, at, elements)?;
     Ok(at)
 }
 

@@ -1,29 +1,21 @@
-use Rattle.std.proofs.Common.{ℕ, List, Err, ◌+◌, sym, ap, ◌∙◌, refl}
-use Rattle.iso_parts.specs.Reading.{prefix_size}
-use Rattle.iso_wire.specs.declared.judging.ResumePoint.TheVariants as points
+-- Behind a part that was judged good at once, the other elements go on.
+use Rattle.std.proofs.Common.{sym, ℕ, List, arith}
+use Rattle.std.proofs.lemmas.List.{length-drop}
 use Rattle.iso_parts.specs.Numbers.{members}
-use Rattle.iso_wire.proofs.Resumes.{length_goes_on, length_ends, step_from}
+use Rattle.iso_wire.proofs.Resumes.{part_goes_on}
 use Rattle.iso_wire.proofs.judging.judge_part.Goals as goal
 
-pub returns-in-Ok-Some : goal.returns-in-Ok-Some
-returns-in-Ok-Some c =
-    let t = c.args.table.now in
-    let s = c.in-Some.row.now in
-    let b : List ℕ = c.args.bytes.now in
-    let place : ℕ = c.args.at + prefix_size s.length in
-    let read = rw (c.in-Ok-Some.field-0-is, c.split_at.ensures.back) at c.in-Ok-Some.ensures.exact in
-    let on = length_goes_on c.parts.ensures t.rows s (members c.args.from) (members c.args.rest) c.args.n c.in-Ok-Some.count c.args.at b c.requires.first (sym c.in-Some.ensures.row) (sym read) c.requires.within in
-    let step = rw c.prefix_size-front.ensures.size at c.judge_value.ensures in
-    step_from t (points.Elements c.args.from c.args.at) (points.Body c.args.n c.in-Ok-Some.count c.args.rest place) c.args.rest b c.judge_value.result on step
+pub judge_field-requires : goal.judge_field-requires
+judge_field-requires c = c.row.ensures.good c.args.n c.in-Some.row.now (sym c.in-Some.ensures.row)
 
-pub returns-in-Err : goal.returns-in-Err
-returns-in-Err c =
-    let t = c.args.table.now in
+pub returns-in-Ok-Got : goal.returns-in-Ok-Got
+returns-in-Ok-Got c =
     let s = c.in-Some.row.now in
     let b : List ℕ = c.args.bytes.now in
-    let read = rw c.split_at.ensures.back at c.in-Err.ensures.exact in
-    record {
-      read = length_ends c.parts.ensures t.rows s (members c.args.from) (members c.args.rest) c.args.n c.args.at b c.in-Err.fault c.requires.first (sym c.in-Some.ensures.row) (sym read) ∙ ap Err (sym c.stop-fault-in-Err.ensures);
-      goes_on = λ x. refl;
-      within = c.requires.within;
-    }
+    let at = c.args.at in
+    let used = c.in-Ok-Got.used in
+    let read = rw (c.in-Ok-Got.field-0-is, c.split_at.ensures.back) at c.in-Ok-Got.ensures.exact in
+    let room = rw (c.in-Ok-Got.field-0-is, c.split_at.ensures.back) at c.in-Ok-Got.ensures.room in (
+      part_goes_on c.parts.ensures c.args.table.now.rows s (members c.args.from) (members c.args.rest) read.1.0 c.args.n used at b c.requires.first (sym c.in-Some.ensures.row) read.1.1 c.requires.within,
+      omega (arith, room.1, length-drop at b, c.requires.within),
+    )

@@ -1,5 +1,5 @@
 use Rattle.std.proofs.Common.{◌≡◌, ◌≤◌, length, drop}
-use Rattle.iso_wire.specs.Ends.{views, Awaits}
+use Rattle.iso_wire.specs.Runs.{run_in, views_with, AwaitsWith}
 use Rattle.iso_wire.specs.Reading.{elements_at}
 use Rattle.iso_parts.specs.Numbers.{members}
 use Rattle.iso_wire.proofs.Loop.{with_front}
@@ -7,10 +7,11 @@ use Rattle.iso_wire.proofs.unpacking.read_elements.Given as goal
 
 abbrev pub invariant-loop-n : goal.invariant-loop-n
 invariant-loop-n l = record {
-  read : with_front (views l.elements) (elements_at l.table.rows (members l.rest) l.at (drop l.at l.bytes)) ≡ elements_at l.table.rows (members l.fn.numbers) l.start (drop l.start l.bytes);
+  read : with_front (views_with l.elements (run_in l.bytes l.from l.at)) (elements_at l.table.rows (members l.rest) l.at (drop l.at l.bytes)) ≡ elements_at l.table.rows (members l.fn.numbers) l.start (drop l.start l.bytes);
+  order : l.from ≤ l.at;
   room : l.at ≤ length l.bytes;
   numbers : l.elements.numbers ≡ l.fn.numbers;
-  awaits : Awaits l.elements (members l.rest);
+  awaits : AwaitsWith l.elements (run_in l.bytes l.from l.at) (members l.rest);
 }
 
 abbrev pub decreases-loop-n : goal.decreases-loop-n
