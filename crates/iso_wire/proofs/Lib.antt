@@ -17,6 +17,7 @@ pub mod Built
 pub mod Loop
 pub mod Appends
 pub mod Packs
+pub mod Runs
 pub mod PlainLaws
 pub mod Endings
 pub mod FrameHeaders
