@@ -106,8 +106,8 @@ pub(crate) fn encode_hex(bytes: &[u8], out: &mut Vec<u8>) -> Result<(), AllocErr
     Ok(())
 }
 
-/// Appends two digits for each byte of one bitmap or two, in upper case. For these sizes the room is made beside the vector,
-/// so that it isn't cleared first.
+/// Appends two digits for each byte of one bitmap or two, in upper case. The size of one stands in the code, so that its
+/// room is cleared, and its digits are written, without a loop.
 #[inline(always)]
 pub(crate) fn encode_map_digits(bytes: &[u8], out: &mut Vec<u8>) -> Result<(), AllocError>
     requires { length bytes.now ≤ 65535 }
@@ -116,14 +116,11 @@ pub(crate) fn encode_map_digits(bytes: &[u8], out: &mut Vec<u8>) -> Result<(), A
 {
     match bytes.len() {
         8 => {
-            let mut digits = [0; 16];
-            write_hex(bytes, &mut digits);
-            out.extend_from_slice(&digits)
-        }
-        16 => {
-            let mut digits = [0; 32];
-            write_hex(bytes, &mut digits);
-            out.extend_from_slice(&digits)
+            let before = out.len();
+            out.extend_from_slice(&[0; 16])?;
+            let (_, room) = out.as_mut_slice().split_at_mut(before);
+            write_hex(bytes, room);
+            Ok(())
         }
         _ => encode_hex(bytes, out),
     }
