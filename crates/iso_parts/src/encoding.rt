@@ -1,6 +1,6 @@
 //! How characters are written.
 
-ghost use Rattle.std.specs.Prelude.{◌≡◌, ◌++◌, ◌≤◌, ◌<◌, ◌*◌, length, slice_index, OnOk, OnErr};
+ghost use Rattle.std.specs.Prelude.{◌≡◌, ◌++◌, ◌≤◌, ◌<◌, ◌+◌, ◌*◌, ◌%◌, length, slice_index, IfOk, OnOk, OnErr};
 ghost use Rattle.std.specs.List.{list_all};
 ghost use Rattle.hex.specs.Hex.{is_hex_digit, upper_digits};
 ghost use Rattle.iso_parts.specs.Spec.{is_coded, is_pad_byte};
@@ -27,17 +27,49 @@ pub enum Coding {
     HexText,
 }
 
-/// Appends a byte for two characters, the high nibble first.
-fn encode_pairs(text: &[u8], out: &mut Vec<u8>) -> Result<(), AllocError>
+/// The byte of two characters, the high nibble first.
+#[inline(always)]
+fn pair(high: u8, low: u8) -> u8
+    ensures { result ≡ 16 * (high % 16) + low % 16 }
+{
+    high % 16 * 16 + low % 16
+}
+
+/// Appends a byte for two characters, four bytes at a time, and gives the characters that are left: fewer than eight.
+#[inline(always)]
+fn encode_eights<'a>(text: &'a [u8], out: &mut Vec<u8>) -> Result<&'a [u8], AllocError>
+    ensures ok { IfOk result (λ rest. out.new.items ++ pairs rest.now ≡ out.old.items ++ pairs text.now) }
+    ensures kept { Keeps out.old.items out.new.items }
+{
+    let mut rest = text;
+    while let [a, b, c, d, e, f, g, h, after @ ..] = rest {
+        out.extend_from_slice(&[pair(*a, *b), pair(*c, *d), pair(*e, *f), pair(*g, *h)])?;
+        rest = after;
+    }
+    Ok(rest)
+}
+
+/// Appends a byte for two characters, one byte at a time.
+#[inline(always)]
+fn encode_twos(text: &[u8], out: &mut Vec<u8>) -> Result<(), AllocError>
     ensures ok { OnOk result (out.new.items ≡ out.old.items ++ pairs text.now) }
     ensures err { OnErr result (Keeps out.old.items out.new.items) }
 {
     let mut rest = text;
     while let [high, low, after @ ..] = rest {
-        out.push(*high % 16 * 16 + *low % 16)?;
+        out.push(pair(*high, *low))?;
         rest = after;
     }
     Ok(())
+}
+
+/// Appends a byte for two characters, the high nibble first.
+fn encode_pairs(text: &[u8], out: &mut Vec<u8>) -> Result<(), AllocError>
+    ensures ok { OnOk result (out.new.items ≡ out.old.items ++ pairs text.now) }
+    ensures err { OnErr result (Keeps out.old.items out.new.items) }
+{
+    let rest = encode_eights(text, out)?;
+    encode_twos(rest, out)
 }
 
 /// Appends packed characters, where the count is odd with the filler 0 in front.

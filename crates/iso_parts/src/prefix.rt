@@ -147,6 +147,10 @@ impl Length {
                 let few = n as u8;
                 out.extend_from_slice(&[b'0' + few / 10, b'0' + few % 10])
             }
+            Length::LL(Digits::Bcd) => {
+                let few = n as u8;
+                out.extend_from_slice(&[16 * (few / 10) + few % 10])
+            }
             _ => self.encode_digits(n, out),
         }
     }
