@@ -27,8 +27,13 @@ answered = 2 ∷ 3 ∷ 4 ∷ 7 ∷ 11 ∷ 12 ∷ 13 ∷ 32 ∷ 33 ∷ 37 ∷ 38 
 
 -- whether the message has an element that is given back, but isn't one of most payments
 abbrev pub is_rare_payment : Contents → Bool
-is_rare_payment m = ((((((has m.elements 12 || has m.elements 13) || has m.elements 33) || has m.elements 37) || has m.elements 41) || has m.elements 42) || has m.elements 70) || has m.elements 90
+is_rare_payment m =
+    ((((((has m.elements 12 || has m.elements 13) || has m.elements 33) || has m.elements 37)
+    || has m.elements 41) || has m.elements 42) || has m.elements 70) || has m.elements 90
 
 -- whether the message has an element that is given back, but isn't one of most network messages
 abbrev pub is_rare_network : Contents → Bool
-is_rare_network m = ((((((((((has m.elements 2 || has m.elements 3) || has m.elements 4) || has m.elements 12) || has m.elements 13) || has m.elements 32) || has m.elements 33) || has m.elements 37) || has m.elements 41) || has m.elements 42) || has m.elements 49) || has m.elements 90
+is_rare_network m =
+    ((((((((((has m.elements 2 || has m.elements 3) || has m.elements 4) || has m.elements 12)
+    || has m.elements 13) || has m.elements 32) || has m.elements 33) || has m.elements 37)
+    || has m.elements 41) || has m.elements 42) || has m.elements 49) || has m.elements 90

@@ -9,4 +9,5 @@ between values from to = take (to - from) (drop from values)
 -- with the bytes from `next` on up to the end of a value, what is there is what was there, the bytes that were still to be
 -- copied before the value, and its part
 abbrev pub Continues : List ℕ → List ℕ → List ℕ → ℕ → ℕ → ℕ → List ℕ → ℕ → Type 0
-Continues old new values from at end part next = (next ≤ end) × (new ++ between values next end ≡ old ++ (between values from at ++ part))
+Continues old new values from at end part next =
+    (next ≤ end) × (new ++ between values next end ≡ old ++ (between values from at ++ part))

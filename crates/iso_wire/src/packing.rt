@@ -50,7 +50,8 @@ fn append_apart(spec: &FieldSpec, n: u8, value: &[u8], out: &mut Vec<u8>) -> Res
     ensures written { OnOk result (out.new.items ≡ out.old.items ++ plain_part spec.now value.now) }
     ensures spelled { OnOk result (Part spec.now value.now (plain_part spec.now value.now)) }
     ensures fits { OnOk result (refusal spec.now value.now ≡ None) }
-    ensures fault { IfErr result (λ e. e ≢ pack.Memory → refused_field n (refusal spec.now value.now) ≡ Some e) }
+    ensures fault { IfErr result (λ e. e ≢ pack.Memory
+        → refused_field n (refusal spec.now value.now) ≡ Some e) }
     ensures unchanged { OnErr result (out.new.items ≡ out.old.items) }
 {
     match encode_field(spec, value, out) {
@@ -89,8 +90,8 @@ fn append_before(
     requires within { at + length value.now ≤ length values.now }
     requires value { value.now ≡ between values.now at (at + length value.now) }
     requires fits { Fits spec.now value.now }
-    ensures ok { IfOk result (Continues out.old.items out.new.items values.now from at (at + length value.now)
-        (prefix spec.now.length (length value.now) ++ value.now)) }
+    ensures ok { IfOk result (Continues out.old.items out.new.items values.now from at
+        (at + length value.now) (prefix spec.now.length (length value.now) ++ value.now)) }
     ensures kept { Keeps out.old.items out.new.items }
 {
     if spec.length == Length::Fixed {
@@ -119,9 +120,11 @@ fn append_by(
     requires within { end ≤ length values.now }
     ensures written { IfOk result (Continues out.old.items out.new.items values.now from at end
         (plain_part spec.now (between values.now at end))) }
-    ensures spelled { OnOk result (Part spec.now (between values.now at end) (plain_part spec.now (between values.now at end))) }
+    ensures spelled { OnOk result (Part spec.now (between values.now at end)
+        (plain_part spec.now (between values.now at end))) }
     ensures fits { OnOk result (refusal spec.now (between values.now at end) ≡ None) }
-    ensures fault { IfErr result (λ e. e ≢ pack.Memory → refused_field n (refusal spec.now (between values.now at end)) ≡ Some e) }
+    ensures fault { IfErr result (λ e. e ≢ pack.Memory
+        → refused_field n (refusal spec.now (between values.now at end)) ≡ Some e) }
     ensures kept { Keeps out.old.items out.new.items }
 {
     let value = &values[at..end];
@@ -155,9 +158,12 @@ fn append_part(
     requires within { end ≤ length values.now }
     ensures written { IfOk result (Continues out.old.items out.new.items values.now from at end
         (plain_of table.now.rows (n, between values.now at end))) }
-    ensures spelled { OnOk result (PartAs table.now.rows n (between values.now at end) (plain_of table.now.rows (n, between values.now at end))) }
-    ensures fits { OnOk result (refused_by (row_at table.now.rows n) n (between values.now at end) ≡ None) }
-    ensures fault { IfErr result (λ e. e ≢ pack.Memory → refused_by (row_at table.now.rows n) n (between values.now at end) ≡ Some e) }
+    ensures spelled { OnOk result (PartAs table.now.rows n (between values.now at end)
+        (plain_of table.now.rows (n, between values.now at end))) }
+    ensures fits { OnOk result
+        (refused_by (row_at table.now.rows n) n (between values.now at end) ≡ None) }
+    ensures fault { IfErr result (λ e. e ≢ pack.Memory
+        → refused_by (row_at table.now.rows n) n (between values.now at end) ≡ Some e) }
     ensures kept { Keeps out.old.items out.new.items }
 {
     let Some(row) = table.row(n) else {
@@ -183,10 +189,13 @@ fn append_fronts(
     requires count { length ends.now ≡ length (members numbers) }
     ensures written { IfOk result (λ from. (from ≤ length values.now)
         × (out.new.items ++ between values.now from (length values.now)
-        ≡ out.old.items ++ flat_map (plain_of table.now.rows) (elements_of (members numbers) 0 ends.now values.now))) }
-    ensures spelled { OnOk result (Parts table.now.rows (elements_of (members numbers) 0 ends.now values.now)
+        ≡ out.old.items ++ flat_map (plain_of table.now.rows)
+        (elements_of (members numbers) 0 ends.now values.now))) }
+    ensures spelled { OnOk result (Parts table.now.rows
+        (elements_of (members numbers) 0 ends.now values.now)
         (flat_map (plain_of table.now.rows) (elements_of (members numbers) 0 ends.now values.now))) }
-    ensures fits { OnOk result (first_refusal table.now.rows (elements_of (members numbers) 0 ends.now values.now) ≡ None) }
+    ensures fits { OnOk result
+        (first_refusal table.now.rows (elements_of (members numbers) 0 ends.now values.now) ≡ None) }
     ensures fault { IfErr result (λ e. e ≢ pack.Memory
         → first_refusal table.now.rows (elements_of (members numbers) 0 ends.now values.now) ≡ Some e) }
     ensures kept { Keeps out.old.items out.new.items }
