@@ -8,7 +8,7 @@ use Rattle.std.proofs.Math.Seq.{take-suc, take-append_seam}
 use Rattle.iso_wire.specs.Contents.{Contents}
 use Rattle.iso_wire.specs.Elements.{IsBelow, value_in}
 use Rattle.iso_order.specs.Listing.{element_where, elements_from}
-use Rattle.iso_order.specs.Adding.{elements_with_value, are_ascending}
+use Rattle.iso_order.specs.Adding.{elements_with_value, are_ascending, answered}
 use Rattle.iso_order.specs.Outcome.{Outcome}
 use Rattle.iso_order.specs.Response.{element, response, response_mti, IsBegun}
 
@@ -66,7 +66,7 @@ elements_with_value-append value (n ∷ ns) ks =
     ∙ sym (append_assoc (element_where n (value n)) (elements_with_value value ns) (elements_with_value value ks))
 
 -- the elements of the numbers in front are the first of all
-elements_with_value-front : (value : ℕ → Option (List ℕ)) (ns : List ℕ) (i : ℕ) →
+pub elements_with_value-front : (value : ℕ → Option (List ℕ)) (ns : List ℕ) (i : ℕ) →
     elements_with_value value (take i ns) ≡ take (length (elements_with_value value (take i ns))) (elements_with_value value ns)
 elements_with_value-front value ns i =
     let front = elements_with_value value (take i ns) in
@@ -118,14 +118,11 @@ pub response-listed : (m : Contents) (a : Outcome) → response m a ≡ record {
 unfolding response
 response-listed m a = refl
 
--- the elements of some numbers in front, under the type of the response
-pub response-begun : (m : Contents) (a : Outcome) (made : Contents) (i : ℕ)
-    → made ≡ record { mti = response_mti m.mti; elements = elements_with_value (element m a) (take i (2 ∷ 3 ∷ 4 ∷ 7 ∷ 11 ∷ 12 ∷ 13 ∷ 32 ∷ 33 ∷ 37 ∷ 38 ∷ 39 ∷ 41 ∷ 42 ∷ 49 ∷ 54 ∷ 70 ∷ 90 ∷ [])) }
+-- the first elements, under the type of the response
+pub response-begun : (m : Contents) (a : Outcome) (made : Contents) (count : ℕ)
+    → made ≡ record { mti = response_mti m.mti; elements = take count (elements_with_value (element m a) answered) }
     → IsBegun made (response m a)
-response-begun m a made i is =
-    let numbers : List ℕ = 2 ∷ 3 ∷ 4 ∷ 7 ∷ 11 ∷ 12 ∷ 13 ∷ 32 ∷ 33 ∷ 37 ∷ 38 ∷ 39 ∷ 41 ∷ 42 ∷ 49 ∷ 54 ∷ 70 ∷ 90 ∷ [] in
-    let count = length (elements_with_value (element m a) (take i numbers)) in (
-      count,
-      is ∙ ap (λ (es : Values). record { mti = response_mti m.mti; elements = es }) (elements_with_value-front (element m a) numbers i)
-          ∙ sym (ap (λ (whole : Contents). record whole { elements = take count whole.elements }) (response-listed m a)),
-    )
+response-begun m a made count is = (
+  count,
+  is ∙ sym (ap (λ (whole : Contents). record whole { elements = take count whole.elements }) (response-listed m a)),
+)

@@ -1,4 +1,5 @@
 mod Ascending
+mod Suffices
 mod Codes
 mod Decimals
 mod Digits

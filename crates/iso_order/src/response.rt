@@ -8,7 +8,7 @@ ghost use Rattle.iso_wire.specs.Elements.{value_in, IsBelow};
 ghost use Rattle.iso_order.specs.Fields.{class, function, text};
 ghost use Rattle.iso_parts.specs.Mti.{is_answered};
 ghost use Rattle.iso_order.specs.Listing.{element_where};
-ghost use Rattle.iso_order.specs.Adding.{elements_with_value, are_ascending};
+ghost use Rattle.iso_order.specs.Adding.{elements_with_value, are_ascending, answered, is_rare_payment, is_rare_network};
 ghost use Rattle.iso_order.specs.Response.{response, response_mti, is_approved, sign, approval, additional, balance, element, is_showable};
 ghost use Rattle.iso_order.specs.Response.{IsBegun};
 ghost use Rattle.iso_order.specs.Adding.{is_responded};
@@ -27,6 +27,12 @@ const USUAL_BYTES: usize = 256;
 const ANSWERED: [u8; 18] = [
     2, 3, 4, 7, 11, 12, 13, 32, 33, 37, 38, 39, 41, 42, 49, 54, 70, 90,
 ];
+
+/// Those of them that most payments suffice with.
+const PAID: [u8; 10] = [2, 3, 4, 7, 11, 32, 38, 39, 49, 54];
+
+/// Those of them that most network messages suffice with.
+const SIGNED: [u8; 6] = [7, 11, 38, 39, 54, 70];
 
 /// The type of the response: the next function, and no repeat.
 fn response_type(message: &Message) -> Mti
@@ -170,15 +176,76 @@ fn add_all(
     ensures whole { OnOk result (response.new ≡ record response.old {
       elements = elements_with_value (element message.now answer.now) numbers.now;
     }) }
-    // Where memory runs out, those of some numbers in front are there.
+    // Where memory runs out, the first of them are there.
     ensures begun { OnErr result ((count : ℕ) × (response.new ≡ record response.old {
-      elements = elements_with_value (element message.now answer.now) (take count numbers.now);
+      elements = take count (elements_with_value (element message.now answer.now) numbers.now);
     })) }
 {
     for n in numbers {
         add(message, answer, *n, response)?;
     }
     Ok(())
+}
+
+/// Whether the message has an element that is given back, but isn't one of most payments.
+#[inline(always)]
+fn is_rare_payment(message: &Message) -> bool
+    ensures { result ≡ is_rare_payment message.now }
+{
+    let numbers = message.elements();
+    numbers.has(12)
+        | numbers.has(13)
+        | numbers.has(33)
+        | numbers.has(37)
+        | numbers.has(41)
+        | numbers.has(42)
+        | numbers.has(70)
+        | numbers.has(90)
+}
+
+/// Whether the message has an element that is given back, but isn't one of most network messages.
+#[inline(always)]
+fn is_rare_network(message: &Message) -> bool
+    ensures { result ≡ is_rare_network message.now }
+{
+    let numbers = message.elements();
+    numbers.has(2)
+        | numbers.has(3)
+        | numbers.has(4)
+        | numbers.has(12)
+        | numbers.has(13)
+        | numbers.has(32)
+        | numbers.has(33)
+        | numbers.has(37)
+        | numbers.has(41)
+        | numbers.has(42)
+        | numbers.has(49)
+        | numbers.has(90)
+}
+
+/// Adds the elements of the response. Numbers that the message has no element of are left out, as far as most messages lack
+/// them.
+fn add_answered(
+    message: &Message,
+    answer: &Answer,
+    response: &mut Message,
+) -> Result<(), AllocError>
+    requires empty { response.old.elements ≡ [] }
+    requires shown { is_showable message.now answer.now.shown ≡ true }
+    ensures whole { OnOk result (response.new ≡ record response.old {
+      elements = elements_with_value (element message.now answer.now) answered;
+    }) }
+    ensures begun { OnErr result ((count : ℕ) × (response.new ≡ record response.old {
+      elements = take count (elements_with_value (element message.now answer.now) answered);
+    })) }
+{
+    if !is_rare_payment(message) {
+        return add_all(message, answer, &PAID, response);
+    }
+    if !is_rare_network(message) {
+        return add_all(message, answer, &SIGNED, response);
+    }
+    add_all(message, answer, &ANSWERED, response)
 }
 
 /// Makes a message the response to another, as [`respond`] does, in place of what it was. Its memory is kept, and is
@@ -202,7 +269,7 @@ pub fn respond_into(message: &Message, answer: &Answer, into: &mut Message) -> R
 {
     let mti = response_type(message);
     into.start_over(mti, ANSWERED.len(), USUAL_BYTES)?;
-    add_all(message, answer, &ANSWERED, into)?;
+    add_answered(message, answer, into)?;
     Ok(())
 }
 

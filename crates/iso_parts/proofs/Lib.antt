@@ -24,6 +24,7 @@ pub mod PartStops
 pub mod MapStops
 pub mod WordSets
 pub mod HexDigits
+pub mod HexPairs
 pub mod NumberLaws
 pub mod WalkLaws
 pub mod CountLaws

@@ -6,7 +6,7 @@ ghost use Rattle.std.specs.Prelude.{◌↔◌, ℕ, Bool, true, false, IsTrue, L
 
 use crate::bitmap_reading::{hex_word, raw_word, read};
 use crate::bits::{FIRST_BIT, bits_before, take_bit, with_bit, without_bit};
-use crate::encoding::encode_hex;
+use crate::encoding::encode_map_digits;
 use std::alloc::AllocError;
 use thiserror::Error;
 
@@ -95,7 +95,7 @@ impl BitmapCoding {
     {
         match self {
             BitmapCoding::Raw => out.extend_from_slice(maps),
-            BitmapCoding::Hex => encode_hex(maps, out),
+            BitmapCoding::Hex => encode_map_digits(maps, out),
         }
     }
 

@@ -1,6 +1,6 @@
 //! How characters are written.
 
-ghost use Rattle.std.specs.Prelude.{◌≡◌, ◌++◌, ◌≤◌, ◌<◌, ◌*◌, length, slice_index, OnOk, OnErr};
+ghost use Rattle.std.specs.Prelude.{◌≡◌, ◌++◌, ◌≤◌, ◌<◌, ◌+◌, ◌*◌, ◌%◌, length, slice_index, IfOk, OnOk, OnErr};
 ghost use Rattle.std.specs.List.{list_all};
 ghost use Rattle.hex.specs.Hex.{is_hex_digit, upper_digits};
 ghost use Rattle.iso_parts.specs.Spec.{is_coded, is_pad_byte};
@@ -27,17 +27,49 @@ pub enum Coding {
     HexText,
 }
 
-/// Appends a byte for two characters, the high nibble first.
-fn encode_pairs(text: &[u8], out: &mut Vec<u8>) -> Result<(), AllocError>
+/// The byte of two characters, the high nibble first.
+#[inline(always)]
+fn pair(high: u8, low: u8) -> u8
+    ensures { result ≡ 16 * (high % 16) + low % 16 }
+{
+    high % 16 * 16 + low % 16
+}
+
+/// Appends a byte for two characters, four bytes at a time, and gives the characters that are left: fewer than eight.
+#[inline(always)]
+fn encode_eights<'a>(text: &'a [u8], out: &mut Vec<u8>) -> Result<&'a [u8], AllocError>
+    ensures ok { IfOk result (λ rest. out.new.items ++ pairs rest.now ≡ out.old.items ++ pairs text.now) }
+    ensures kept { Keeps out.old.items out.new.items }
+{
+    let mut rest = text;
+    while let [a, b, c, d, e, f, g, h, after @ ..] = rest {
+        out.extend_from_slice(&[pair(*a, *b), pair(*c, *d), pair(*e, *f), pair(*g, *h)])?;
+        rest = after;
+    }
+    Ok(rest)
+}
+
+/// Appends a byte for two characters, one byte at a time.
+#[inline(always)]
+fn encode_twos(text: &[u8], out: &mut Vec<u8>) -> Result<(), AllocError>
     ensures ok { OnOk result (out.new.items ≡ out.old.items ++ pairs text.now) }
     ensures err { OnErr result (Keeps out.old.items out.new.items) }
 {
     let mut rest = text;
     while let [high, low, after @ ..] = rest {
-        out.push(*high % 16 * 16 + *low % 16)?;
+        out.push(pair(*high, *low))?;
         rest = after;
     }
     Ok(())
+}
+
+/// Appends a byte for two characters, the high nibble first.
+fn encode_pairs(text: &[u8], out: &mut Vec<u8>) -> Result<(), AllocError>
+    ensures ok { OnOk result (out.new.items ≡ out.old.items ++ pairs text.now) }
+    ensures err { OnErr result (Keeps out.old.items out.new.items) }
+{
+    let rest = encode_eights(text, out)?;
+    encode_twos(rest, out)
 }
 
 /// Appends packed characters, where the count is odd with the filler 0 in front.
@@ -76,14 +108,20 @@ pub fn hex_digit(d: u8) -> u8
     b"0123456789ABCDEF"[d as usize]
 }
 
+/// The two digits of each byte, in upper case, one byte after the other.
+static HEX_PAIRS: [u8; 512] =
+    *b"000102030405060708090A0B0C0D0E0F101112131415161718191A1B1C1D1E1F202122232425262728292A2B2C2D2E2F303132333435363738393A3B3C3D3E3F404142434445464748494A4B4C4D4E4F505152535455565758595A5B5C5D5E5F606162636465666768696A6B6C6D6E6F707172737475767778797A7B7C7D7E7F808182838485868788898A8B8C8D8E8F909192939495969798999A9B9C9D9E9FA0A1A2A3A4A5A6A7A8A9AAABACADAEAFB0B1B2B3B4B5B6B7B8B9BABBBCBDBEBFC0C1C2C3C4C5C6C7C8C9CACBCCCDCECFD0D1D2D3D4D5D6D7D8D9DADBDCDDDEDFE0E1E2E3E4E5E6E7E8E9EAEBECEDEEEFF0F1F2F3F4F5F6F7F8F9FAFBFCFDFEFF";
+
 /// Writes two digits for each byte, in upper case.
+#[inline(always)]
 fn write_hex(bytes: &[u8], room: &mut [u8])
     requires { length room.old ≡ 2 * length bytes.now }
     ensures { room.new ≡ plain Coding.HexText bytes.now }
 {
     for (i, byte) in bytes.iter().enumerate() {
-        room[2 * i] = hex_digit(*byte / 16);
-        room[2 * i + 1] = hex_digit(*byte % 16);
+        let place = *byte as usize * 2;
+        room[2 * i] = HEX_PAIRS[place];
+        room[2 * i + 1] = HEX_PAIRS[place + 1];
     }
 }
 
@@ -98,6 +136,26 @@ pub(crate) fn encode_hex(bytes: &[u8], out: &mut Vec<u8>) -> Result<(), AllocErr
     let (_, room) = out.as_mut_slice().split_at_mut(before);
     write_hex(bytes, room);
     Ok(())
+}
+
+/// Appends two digits for each byte of one bitmap or two, in upper case. The size of one stands in the code, so that its
+/// room is cleared, and its digits are written, without a loop.
+#[inline(always)]
+pub(crate) fn encode_map_digits(bytes: &[u8], out: &mut Vec<u8>) -> Result<(), AllocError>
+    requires { length bytes.now ≤ 65535 }
+    ensures ok { OnOk result (out.new.items ≡ out.old.items ++ plain Coding.HexText bytes.now) }
+    ensures err { OnErr result (out.new.items ≡ out.old.items) }
+{
+    match bytes.len() {
+        8 => {
+            let before = out.len();
+            out.extend_from_slice(&[0; 16])?;
+            let (_, room) = out.as_mut_slice().split_at_mut(before);
+            write_hex(bytes, room);
+            Ok(())
+        }
+        _ => encode_hex(bytes, out),
+    }
 }
 
 /// Appends the two characters of each byte.

@@ -6,7 +6,7 @@ ghost use Rattle.std.specs.Prelude.{OnOk, OnErr, IfErr, IsTrue, None, Some};
 ghost use Rattle.iso_parts.specs.declared.fault.FieldFault.{FieldFault};
 ghost use Rattle.iso_parts.specs.declared.fault.FieldFault.TheVariants.{Memory};
 ghost use Rattle.iso_parts.specs.Spec.{is_length, refusal, IsGood, Fits};
-ghost use Rattle.iso_parts.specs.Part.{with_pads, with_padding, pairs, plain, plain_part, Part};
+ghost use Rattle.iso_parts.specs.Part.{prefix, with_pads, with_padding, pairs, plain, plain_part, Part};
 ghost use Rattle.iso_parts.specs.Buffers.{Keeps};
 ghost use Rattle.iso_parts.specs.Debugging.{debug_step};
 ghost use Rattle.iso_parts.specs.Texts.{Decodes};
@@ -120,6 +120,37 @@ fn encode_part(spec: &FieldSpec, value: &[u8], out: &mut Vec<u8>) -> Result<(), 
         Coding::Bcd => encode_padded_bcd(spec, value, out),
         _ => encode_padded(spec.pad, spec.max as usize - value.len(), value, out),
     }
+}
+
+/// The first reason why a value can't be written under the row: its length, a character, or a pad at its padded end;
+/// `None` where it fits. Takes no memory.
+#[inline(always)]
+pub fn judge_value(spec: &FieldSpec, value: &[u8]) -> Option<FieldFault>
+    // The row is one that a table may have.
+    requires { IsGood spec.now }
+    // It is the first reason to refuse the value, and `None` where there is none.
+    ensures exact { result ≡ refusal spec.now value.now }
+    // A value that isn't refused fits the row.
+    ensures fits { result ≡ None → Fits spec.now value.now }
+    // The plain part of a value that isn't refused is a part of that value under the row.
+    ensures spelled { result ≡ None → Part spec.now value.now (plain_part spec.now value.now) }
+{
+    spec.refusal(value)
+}
+
+/// Appends the digits of a value's length, and nothing where the row has none. Without memory the vector stays as it was.
+#[inline(always)]
+pub fn encode_length(spec: &FieldSpec, value: &[u8], out: &mut Vec<u8>) -> Result<(), AllocError>
+    // The row is one that a table may have.
+    requires good { IsGood spec.now }
+    // The value fits the row.
+    requires fits { Fits spec.now value.now }
+    // Memory aside, the digits of the length stand behind what was there.
+    ensures ok { OnOk result (out.new.items ≡ out.old.items ++ prefix spec.now.length (length value.now)) }
+    // Without memory the vector holds what it held before.
+    ensures unchanged { OnErr result (out.new.items ≡ out.old.items) }
+{
+    spec.length.encode(value.len(), out)
 }
 
 /// Appends the part of a value: its length where the row has one, and its body, with filler 0 and upper-case

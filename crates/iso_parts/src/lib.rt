@@ -30,7 +30,7 @@ pub use digits::{
 };
 pub use encoding::{Coding, hex_digit};
 pub use fault::FieldFault;
-pub use field::{Step, decode_field, decode_value, encode_field};
+pub use field::{Step, decode_field, decode_value, encode_field, encode_length, judge_value};
 pub use iteration::BitmapIter;
 pub use judging::{Judged, judge_body, judge_field, judge_length};
 pub use mti::{Mti, MtiClass};

@@ -114,32 +114,44 @@ impl Length {
         ensures ok { OnOk result (out.new.items ≡ out.old.items ++ prefix self n) }
         ensures err { OnErr result (out.new.items ≡ out.old.items) }
     {
-        let (hundreds, tens, ones) = ((n / 100) as u8, (n / 10 % 10) as u8, (n % 10) as u8);
+        let ones = (n % 10) as u8;
         match self {
             Length::Fixed => Ok(()),
             Length::LL(Digits::Ascii) => {
                 out.extend_from_slice(&[b'0' + (n / 10) as u8, b'0' + ones])
             }
             Length::LL(Digits::Bcd) => out.push(16 * (n / 10) as u8 + ones).map_err(|_| AllocError),
-            Length::LLL(Digits::Ascii) => {
-                out.extend_from_slice(&[b'0' + hundreds, b'0' + tens, b'0' + ones])
+            Length::LLL(Digits::Ascii) => out.extend_from_slice(&[
+                b'0' + (n / 100) as u8,
+                b'0' + (n / 10 % 10) as u8,
+                b'0' + ones,
+            ]),
+            Length::LLL(Digits::Bcd) => {
+                out.extend_from_slice(&[(n / 100) as u8, 16 * (n / 10 % 10) as u8 + ones])
             }
-            Length::LLL(Digits::Bcd) => out.extend_from_slice(&[hundreds, 16 * tens + ones]),
             Length::LLLL(Digits::Ascii) => out.extend_from_slice(&four_ascii_digits(n)),
             Length::LLLL(Digits::Bcd) => out.extend_from_slice(&four_bcd_digits(n)),
         }
     }
 
-    /// Appends the length of a value, at once where the row has none.
+    /// Appends the length of a value, at once where the row has none or two digits.
     #[inline(always)]
     pub(crate) fn encode(self, n: usize, out: &mut Vec<u8>) -> Result<(), AllocError>
         requires { n ≤ limit self }
         ensures ok { OnOk result (out.new.items ≡ out.old.items ++ prefix self n) }
         ensures err { OnErr result (out.new.items ≡ out.old.items) }
     {
-        if self == Length::Fixed {
-            return Ok(());
+        match self {
+            Length::Fixed => Ok(()),
+            Length::LL(Digits::Ascii) => {
+                let few = n as u8;
+                out.extend_from_slice(&[b'0' + few / 10, b'0' + few % 10])
+            }
+            Length::LL(Digits::Bcd) => {
+                let few = n as u8;
+                out.extend_from_slice(&[16 * (few / 10) + few % 10])
+            }
+            _ => self.encode_digits(n, out),
         }
-        self.encode_digits(n, out)
     }
 }

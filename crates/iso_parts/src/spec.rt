@@ -1,7 +1,8 @@
 //! The row of an element: how its values are laid out, which rows are good, and which values fit one.
 
-ghost use Rattle.std.specs.Prelude.{◌≡◌, ◌↔◌, length, IsOk, IfErr};
+ghost use Rattle.std.specs.Prelude.{◌≡◌, ◌↔◌, ◌++◌, ℕ, List, length, IsOk, IfErr, IsTrue};
 ghost use Rattle.iso_parts.specs.Spec.{is_padded, is_good_pad, spec_fault, is_exact, is_length, refusal, IsGood};
+ghost use Rattle.iso_parts.specs.Part.{prefix, plain_part};
 
 use crate::class::CharClass;
 use crate::encoding::Coding;
@@ -90,6 +91,15 @@ impl FieldSpec {
             return Err(SpecFault::PadNotAllowed);
         }
         Ok(())
+    }
+
+    /// Whether a value stands on the wire as it is, behind its length: it isn't padded, and a character is a byte.
+    #[inline(always)]
+    pub fn is_plain(&self) -> bool
+        // Where it is so, what is written for a value is the digits of its length and then the value.
+        ensures { IsTrue result → (v : List ℕ) → plain_part self.now v ≡ prefix self.now.length (length v) ++ v }
+    {
+        self.pad == Pad::None && self.coding.is_plain()
     }
 
     fn is_exact(&self) -> bool

@@ -3,7 +3,7 @@ use Rattle.std.proofs.Common.{◌≡◌, ℕ, zero, suc, ◌+◌, ◌-◌, ◌*�
 use Rattle.std.proofs.Math.Nat.{pow-le-pow_right}
 use Rattle.std.proofs.Math.Seq.{take-suc}
 use native.Mathlib.Numerals.{unary_clauses}
-use Rattle.std.specs.Prelude.{◌&&◌, nat_le}
+use Rattle.std.specs.Prelude.{◌&&◌, nat_le, Option, Some, None, IfSome}
 use Rattle.std.specs.List.{list_all}
 use Rattle.std.proofs.lemmas.Bool.{and_parts, leb-true}
 use Rattle.std.proofs.lemmas.Bool.Decides.{nat_tests}
@@ -53,3 +53,8 @@ pub are_digits-most : (least most : ℕ) (text : List ℕ) → are_digits least 
 are_digits-most least most text h =
     let sizes = and_parts (nat_le least (length text) && nat_le (length text) most) (list_all is_digit text) h in
     leb-true (length text) most (and_parts (nat_le least (length text)) (nat_le (length text) most) sizes.0).1
+
+-- a number of few digits is one of at most so many
+pub below_most : (r : Option ℕ) (k most : ℕ) → k ≤ most → IfSome r (λ n. n < 10 ^ k) → IfSome r (λ n. n < 10 ^ most)
+below_most None k most le below = tt
+below_most (Some n) k most le below = power-up n k most below le

@@ -21,7 +21,7 @@ use Rattle.iso_wire.specs.Reading.{message_at, whole}
 use Rattle.iso_wire.specs.Refusal.{refused_field, refused_by, first_refusal, message_refusal}
 use Rattle.iso_wire.specs.Spelling.{AreBytes, PartAs, Parts, plain_of, Spelling, PlainSpelling}
 use Rattle.iso_wire.specs.ReadingLaws.{ReadsSpellings}
-use Rattle.std.proofs.lemmas.List.{drop_at, take_at, take_all, take-take, length-append}
+use Rattle.std.proofs.lemmas.List.{drop_at, take_at, take_all, take-take, take-append-drop, length-append}
 use Rattle.iso_wire.proofs.Bytes.{bytes_append, bytes_drop}
 use Rattle.iso_wire.proofs.Messages.{maps_agree}
 use Rattle.iso_wire.proofs.Unpacks.{spelled_is_read}
@@ -109,6 +109,13 @@ module _ (reads : ReadsSpellings) where
 Keeps-front : (old more new : List ℕ) → Keeps (old ++ more) new → Keeps old new
 Keeps-front old more new kept =
     sym (take-take (length old) (length (old ++ more)) new (omega (arith, length-append old more))) ∙ ap (take (length old)) kept ∙ take_at old more (length old) refl
+
+-- what is kept twice is kept
+pub kept_twice : (old mid new : List ℕ) → Keeps old mid → Keeps mid new → Keeps old new
+kept_twice old mid new one two =
+    let more = drop (length old) mid in
+    let whole : mid ≡ old ++ more = sym (take-append-drop (length old) mid) ∙ ap (λ (l : List ℕ). l ++ more) one in
+    Keeps-front old more new (subst (λ (l : List ℕ). Keeps l new) whole two)
 
 -- two pieces behind what was there
 pub kept_behind : (old none one two new a b : List ℕ) → none ≡ old → one ≡ none ++ a → two ≡ one ++ b → Keeps two new → Keeps old new

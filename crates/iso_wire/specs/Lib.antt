@@ -1,4 +1,5 @@
 pub mod Contents
+pub mod Packing
 pub mod Decimal
 pub mod Elements
 pub mod LookUps

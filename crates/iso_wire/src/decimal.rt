@@ -1,6 +1,6 @@
 //! Numbers in decimal.
 
-ghost use Rattle.std.specs.Prelude.{◌≡◌, ◌+◌, ◌-◌, ◌/◌, ◌%◌, ◌^◌, ◌<◌, ◌≤◌, ◌⊎◌, ◌∷◌, true, IfSome, length, take, drop};
+ghost use Rattle.std.specs.Prelude.{◌≡◌, ◌+◌, ◌-◌, ◌/◌, ◌%◌, ◌^◌, ◌<◌, ◌≤◌, ◌⊎◌, ◌∷◌, true, IfSome, Some, None, if◌then◌else◌, length, take, drop};
 ghost use Rattle.std.specs.List.{list_all};
 ghost use Rattle.iso_parts.specs.Class.{is_digit};
 ghost use Rattle.iso_wire.specs.Decimal.{decimal, are_digits, number, number_in};
@@ -110,6 +110,22 @@ pub fn number(text: &[u8]) -> u64
     so_far
 }
 
+/// The number that a text of at most 19 characters writes, where each is a decimal digit: each is looked at once.
+fn number_if_digits(text: &[u8]) -> Option<u64>
+    requires { length text.now ≤ 19 }
+    ensures value { result ≡ (if list_all is_digit text.now then Some (number text.now) else None) }
+    ensures below { IfSome result (λ n. n < 10 ^ length text.now) }
+{
+    let mut so_far = 0;
+    for byte in text {
+        if !is_digit(*byte) {
+            return None;
+        }
+        so_far = 10 * so_far + u64::from(*byte - b'0');
+    }
+    Some(so_far)
+}
+
 /// The number that a text of `least` to `most` decimal digits writes; leading zeros don't count. `None` for any other text.
 /// Takes no memory.
 pub fn number_in(text: &[u8], least: usize, most: usize) -> Option<u64>
@@ -122,9 +138,8 @@ pub fn number_in(text: &[u8], least: usize, most: usize) -> Option<u64>
     // A number that is given is below ten to the power of how many digits the text has.
     ensures within { IfSome result (λ n. n < 10 ^ length text.now) }
 {
-    if are_digits(text, least, most) {
-        Some(number(text))
-    } else {
-        None
+    if text.len() < least || most < text.len() {
+        return None;
     }
+    number_if_digits(text)
 }

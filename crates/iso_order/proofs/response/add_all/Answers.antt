@@ -1,9 +1,9 @@
-use Rattle.std.proofs.Common.{ℕ, List, ◌++◌, get_or, sym, ap, ◌∙◌}
+use Rattle.std.proofs.Common.{ℕ, List, ◌++◌, length, take, get_or, sym, ap, ◌∙◌}
 use Rattle.iso_wire.specs.Contents.{Contents}
 use Rattle.iso_order.specs.Listing.{element_where}
 use Rattle.iso_order.specs.Response.{element}
-use Rattle.iso_order.specs.Adding.{is_responded}
-use Rattle.iso_order.proofs.Ascending.{are_ascending-each, IsBelow-front, elements_with_value-more, on-err}
+use Rattle.iso_order.specs.Adding.{is_responded, elements_with_value}
+use Rattle.iso_order.proofs.Ascending.{are_ascending-each, IsBelow-front, elements_with_value-more, elements_with_value-front, on-err}
 use Rattle.iso_order.proofs.response.add_all.Goals as goal
 
 pub add-requires-clause-number : goal.add-requires-clause-number
@@ -22,4 +22,10 @@ loop-n-preserved c =
     ∙ ap (λ (es : List (ℕ × List ℕ)). record c.args.response.now { elements = es }) (sym (elements_with_value-more value c.args.numbers.now c.loop-n.n-index c.loop-n-test.true))
 
 pub returns-in_err-add-clause-begun : goal.returns-in_err-add-clause-begun
-returns-in_err-add-clause-begun c = on-err c.from_residual.result (c.loop-n.n-index, c.in_err-add.ensures.unchanged ∙ c.loop-n.invariant)
+returns-in_err-add-clause-begun c =
+    let value = element c.args.message.now c.args.answer.now in
+    let front = elements_with_value value (take c.loop-n.n-index c.args.numbers.now) in
+    on-err c.from_residual.result (
+      length front,
+      c.in_err-add.ensures.unchanged ∙ c.loop-n.invariant ∙ ap (λ (es : List (ℕ × List ℕ)). record c.args.response.now { elements = es }) (elements_with_value-front value c.args.numbers.now c.loop-n.n-index),
+    )

@@ -3,4 +3,4 @@ use Rattle.std.proofs.Common.{rules}
 use Rattle.iso_parts.proofs.bitmap.BitmapCoding.append.Goals as goal
 
 pub returns-in-Hex-clause-ok : goal.returns-in-Hex-clause-ok
-returns-in-Hex-clause-ok c = let written = c.encode_hex.ensures.ok in search rules
+returns-in-Hex-clause-ok c = let written = c.encode_map_digits.ensures.ok in search rules

@@ -1,7 +1,7 @@
 use Rattle.std.proofs.Common.{◌≡◌, ◌++◌, length}
 use Rattle.iso_parts.specs.Buffers.{Keeps}
 use Rattle.iso_parts.specs.Part.{pairs}
-use Rattle.iso_parts.proofs.encoding.encode_pairs.Given as goal
+use Rattle.iso_parts.proofs.encoding.encode_eights.Given as goal
 
 abbrev pub invariant-loop-rest : goal.invariant-loop-rest
 invariant-loop-rest l = record {

@@ -1,0 +1,56 @@
+-- Values that stand side by side, and are copied at once.
+use Rattle.std.proofs.Common.{◌≡◌, ℕ, ◌+◌, ◌-◌, ◌≤◌, List, [], ◌++◌, take, drop, sym, ap, ◌∙◌, arith, append_assoc, append-nil}
+use Rattle.std.proofs.Math.Seq.{take-add}
+use Rattle.std.proofs.lemmas.List.{drop-drop}
+use Rattle.iso_wire.specs.Packing.{between, Continues}
+
+-- two runs, one behind the other
+pub between-join : (l : List ℕ) (from at end : ℕ) → from ≤ at → at ≤ end → between l from end ≡ between l from at ++ between l at end
+between-join l from at end one two =
+    let whole : end - from ≡ (at - from) + (end - at) = omega (arith, one, two) in
+    let place : from + (at - from) ≡ at = omega (arith, one) in
+    ap (λ (n : ℕ). take n (drop from l)) whole
+    ∙ take-add (at - from) (end - at) (drop from l)
+    ∙ ap (λ (b : List ℕ). take (at - from) (drop from l) ++ take (end - at) b) (drop-drop (at - from) from l ∙ ap (λ (n : ℕ). drop n l) place)
+
+-- no bytes
+pub between-none : (l : List ℕ) (at : ℕ) → between l at at ≡ []
+between-none l at = let none : at - at ≡ 0 = omega arith in ap (λ (n : ℕ). take n (drop at l)) none
+
+-- a value that is still to be copied with those before it
+pub goes_on : (old values part : List ℕ) (from at end : ℕ) → from ≤ at → at ≤ end → part ≡ between values at end → Continues old old values from at end part from
+goes_on old values part from at end one two is = (
+  omega (arith, one, two),
+  ap (λ (l : List ℕ). old ++ l) (between-join values from at end one two) ∙ ap (λ (l : List ℕ). old ++ (between values from at ++ l)) (sym is),
+)
+
+-- a value that is still to be copied behind its length
+pub goes_behind : (old mid new values front value : List ℕ) (from at end : ℕ) → at ≤ end → mid ≡ old ++ between values from at → new ≡ mid ++ front → value ≡ between values at end
+    → Continues old new values from at end (front ++ value) at
+goes_behind old mid new values front value from at end le first second is =
+    let run = between values from at in
+    let b = between values at end in (
+      le,
+      ap (λ (l : List ℕ). l ++ b) (second ∙ ap (λ (l : List ℕ). l ++ front) first)
+          ∙ append_assoc (old ++ run) front b
+          ∙ append_assoc old run (front ++ b)
+          ∙ ap (λ (l : List ℕ). old ++ (run ++ (front ++ l))) (sym is),
+    )
+
+-- a part that is written whole
+pub goes_past : (old mid new values part : List ℕ) (from at end : ℕ) → mid ≡ old ++ between values from at → new ≡ mid ++ part → Continues old new values from at end part end
+goes_past old mid new values part from at end first second = (
+  omega arith,
+  ap (λ (l : List ℕ). new ++ l) (between-none values end) ∙ append-nil new ∙ second ∙ ap (λ (l : List ℕ). l ++ part) first ∙ append_assoc old (between values from at) part,
+)
+
+-- one part more, of all that is to be written
+pub one_more : (all now new values part rest : List ℕ) (from at end next : ℕ) → Continues now new values from at end part next
+    → now ++ (between values from at ++ (part ++ rest)) ≡ all → new ++ (between values next end ++ rest) ≡ all
+one_more all now new values part rest from at end next step said =
+    let run = between values from at in
+    sym (append_assoc new (between values next end) rest)
+    ∙ ap (λ (l : List ℕ). l ++ rest) step.1
+    ∙ append_assoc now (run ++ part) rest
+    ∙ ap (λ (l : List ℕ). now ++ l) (append_assoc run part rest)
+    ∙ said
