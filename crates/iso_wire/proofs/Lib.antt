@@ -18,7 +18,7 @@ pub mod Loop
 pub mod Appends
 pub mod RunLaws
 pub mod Packs
-pub mod Runs
+pub mod Adjacent
 pub mod PlainLaws
 pub mod Endings
 pub mod FrameHeaders

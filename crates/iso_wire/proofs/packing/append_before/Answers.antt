@@ -1,6 +1,6 @@
 use Rattle.std.proofs.Common.{◌≡◌, arith, rules}
 use Rattle.iso_parts.specs.declared.prefix.Length.TheVariants as lengths
-use Rattle.iso_wire.proofs.Runs.{goes_on}
+use Rattle.iso_wire.proofs.Adjacent.{goes_on}
 use Rattle.iso_wire.proofs.packing.append_before.Goals as goal
 
 pub returns-then-eq-clause-ok : goal.returns-then-eq-clause-ok

@@ -9,7 +9,7 @@ use Rattle.iso_wire.specs.Spelling.{plain_of, Parts}
 use Rattle.iso_wire.proofs.Buffers.{ascend_le}
 use Rattle.iso_wire.proofs.Orders.{Values}
 use Rattle.iso_wire.proofs.Packs.{kept_twice}
-use Rattle.iso_wire.proofs.Runs.{one_more}
+use Rattle.iso_wire.proofs.Adjacent.{one_more}
 use Rattle.iso_wire.proofs.packing.append_fronts.Goals as goal
 
 pub append_part-requires-clause-within : goal.append_part-requires-clause-within
