@@ -69,7 +69,8 @@ slot_at_stage step s = record { order = s.order; role = on_stage step s.role }
 
 -- the transaction of that trace number comes to another stage
 abbrev pub slots_at_stage : (Stage → Stage) → ℕ → List Slot → List Slot
-slots_at_stage step stan slots = map (λ s. if s.order.key.stan == stan then slot_at_stage step s else s) slots
+slots_at_stage step stan slots =
+    map (λ s. if s.order.key.stan == stan then slot_at_stage step s else s) slots
 
 -- an order that is made and sent for the first time
 abbrev pub transaction_of : Instruction → Slot
@@ -104,19 +105,26 @@ pub record IsFair (amount : ℕ) (currency : List ℕ) (sent : ℕ) : Type 0 whe
 -- the reversal of an order (message type 0420), under the next trace number; it leaves nothing
 abbrev pub next_reversal : List Slot → Instruction → Instruction
 next_reversal slots o = record {
-  key = record { base = 420; stan = length slots + 1; sent = o.key.sent; acquirer = o.key.acquirer };
+  key = record {
+    base = 420;
+    stan = length slots + 1;
+    sent = o.key.sent;
+    acquirer = o.key.acquirer;
+  };
   act = Undo o.key 0;
 }
 
 -- the transaction is reversed, by an order that is made
 abbrev pub slots_with_reversal : List Slot → ℕ → Instruction → List Slot
-slots_with_reversal slots stan undo = slots_at_stage (λ _. stage.Reversing undo) stan slots ++ reversal_for stan undo ∷ []
+slots_with_reversal slots stan undo =
+    slots_at_stage (λ _. stage.Reversing undo) stan slots ++ reversal_for stan undo ∷ []
 
 -- the order that is sent, and what is kept: the order again, after the second time its reversal, and then that again
 abbrev pub timeout_by : List Slot → Instruction → Stage → Result (Instruction × List Slot) AcqFault
 timeout_by slots o (stage.Waiting n) =
     if n == 1 then Ok (o, slots_at_stage (λ _. stage.Waiting 2) o.key.stan slots)
-    else if nat_lt (length slots) 999999 then Ok (next_reversal slots o, slots_with_reversal slots o.key.stan (next_reversal slots o))
+    else if nat_lt (length slots) 999999
+    then Ok (next_reversal slots o, slots_with_reversal slots o.key.stan (next_reversal slots o))
     else Err NoMoreTrace
 timeout_by slots o (stage.Reversing u) = Ok (u, slots)
 timeout_by slots o stage.Approved = Err Closed
@@ -145,7 +153,8 @@ timeout_fault slots stan = result_err (timeout slots stan)
 
 -- the stage after an answer to the transaction's own order: 0 grants it, 94 and 96 leave it open (element 39)
 abbrev pub stage_after : ℕ → Stage → Stage
-stage_after code (stage.Waiting n) = if code == 0 then stage.Approved else (if (code == 94) || (code == 96) then stage.Waiting n else stage.Declined code)
+stage_after code (stage.Waiting n) = if code == 0 then stage.Approved
+    else (if (code == 94) || (code == 96) then stage.Waiting n else stage.Declined code)
 stage_after code (stage.Reversing u) = stage.Reversing u
 stage_after code stage.Approved = stage.Approved
 stage_after code (stage.Declined c) = stage.Declined c
@@ -154,20 +163,24 @@ stage_after code (stage.Reversed u) = stage.Reversed u
 -- the stage after an answer to its reversal
 abbrev pub stage_after_undo : ℕ → Stage → Stage
 stage_after_undo code (stage.Waiting n) = stage.Waiting n
-stage_after_undo code (stage.Reversing u) = if code == 0 then stage.Reversed u else stage.Reversing u
+stage_after_undo code (stage.Reversing u) =
+    if code == 0 then stage.Reversed u else stage.Reversing u
 stage_after_undo code stage.Approved = stage.Approved
 stage_after_undo code (stage.Declined c) = stage.Declined c
 stage_after_undo code (stage.Reversed u) = stage.Reversed u
 
 -- an answer comes: to a transaction's order, or to the reversal of a transaction
 abbrev pub slots_after_answer_in : List Slot → ℕ → ℕ → Role → List Slot
-slots_after_answer_in slots stan code (Transaction stage) = slots_at_stage (stage_after code) stan slots
-slots_after_answer_in slots stan code (Reversal original) = slots_at_stage (stage_after_undo code) original slots
+slots_after_answer_in slots stan code (Transaction stage) =
+    slots_at_stage (stage_after code) stan slots
+slots_after_answer_in slots stan code (Reversal original) =
+    slots_at_stage (stage_after_undo code) original slots
 
 -- an answer counts only where the order of its trace number has its key
 abbrev pub slots_after_answer_at : List Slot → TxKey → ℕ → Option Slot → List Slot
 slots_after_answer_at slots key code None = slots
-slots_after_answer_at slots key code (Some s) = if same_key s.order.key key then slots_after_answer_in slots key.stan code s.role else slots
+slots_after_answer_at slots key code (Some s) =
+    if same_key s.order.key key then slots_after_answer_in slots key.stan code s.role else slots
 
 -- an answer to any other key changes nothing
 abbrev pub slots_after_answer : List Slot → TxKey → ℕ → List Slot

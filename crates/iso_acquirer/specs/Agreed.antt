@@ -37,7 +37,8 @@ IsStageOf entries key (Declined c) = (code_at entries key ≡ Some c) × (c ≢ 
 IsStageOf entries key (Reversed u) = is_reversed entries key ≡ true
 
 -- a transaction's order is a debit of class 2, and its reversal, where it has one, is made
-pub record IsTransaction (entries : List Entry) (slots : List Slot) (o : Instruction) (stage : Stage) : Type 0 where
+pub record IsTransaction (entries : List Entry) (slots : List Slot) (o : Instruction)
+    (stage : Stage) : Type 0 where
   pub base : o.key.base ≡ 200
   pub money : Money
   pub debit : o.act ≡ Debit money
@@ -69,7 +70,8 @@ pub record IsKnown (id : ℕ) (slots : List Slot) (e : Entry) : Type 0 where
   pub own : e.order.key.acquirer ≡ id → order_at slots e.order.key.stan ≡ Some e.order
 
 -- trace numbers are fresh, each slot is as the entries say, what is entered and sent was made, what is given is kept
-pub record IsAgreed (id : ℕ) (slots : List Slot) (sent : List Instruction) (given : List Given) (entries : List Entry) : Type 0 where
+pub record IsAgreed (id : ℕ) (slots : List Slot) (sent : List Instruction) (given : List Given)
+    (entries : List Entry) : Type 0 where
   pub numbered : AreNumbered 1 slots
   pub slots_hold : (n : ℕ) (s : Slot) → slot_at slots n ≡ Some s → IsSlot id entries slots s
   pub entries_known : AllByRecursion (IsKnown id slots) entries

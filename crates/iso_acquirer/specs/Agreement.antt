@@ -39,7 +39,8 @@ AgreesIn w o Reversed = NeverStands w.issuer.accounts w.issuer.orders o.key
 abbrev pub BothAgree : World → Type 0
 BothAgree w =
     (stan : ℕ) (o : Instruction) (state : State) →
-    order_at w.acquirer.slots stan ≡ Some o → state_of w.acquirer.slots stan ≡ Some state → AgreesIn w o state
+    order_at w.acquirer.slots stan ≡ Some o → state_of w.acquirer.slots stan ≡ Some state →
+    AgreesIn w o state
 
 -- ---- what is closed
 
@@ -55,7 +56,8 @@ is_closed Reversed = true
 abbrev pub StaysClosed : World → World → Type 0
 StaysClosed old new =
     (stan : ℕ) (state : State) →
-    state_of old.acquirer.slots stan ≡ Some state → is_closed state ≡ true → state_of new.acquirer.slots stan ≡ Some state
+    state_of old.acquirer.slots stan ≡ Some state → is_closed state ≡ true →
+    state_of new.acquirer.slots stan ≡ Some state
 
 -- ---- the books
 
@@ -78,11 +80,13 @@ is_state_approved None = false
 
 -- the amounts of the approved debits of the account, added up
 abbrev pub approved_total : AccountNumber → List Slot → ℕ
-approved_total pan slots = sum_by (λ s. if is_state_approved (state_in s.role) then debit_amount pan s.order.act else 0) slots
+approved_total pan slots = sum_by
+    (λ s. if is_state_approved (state_in s.role) then debit_amount pan s.order.act else 0) slots
 
 -- all transactions are closed, and no order of others is entered
 pub record IsSettled (w : World) : Type 0 where
-  pub closed : (stan : ℕ) (state : State) → state_of w.acquirer.slots stan ≡ Some state → is_closed state ≡ true
+  pub closed : (stan : ℕ) (state : State) → state_of w.acquirer.slots stan ≡ Some state
+      → is_closed state ≡ true
   pub no_others : AllByRecursion (λ o. o.key.acquirer ≡ w.acquirer.id) w.issuer.orders
 
 -- then each account has its opening amount less the amounts of its approved debits, and all of it is available

@@ -49,7 +49,8 @@ RunsAgree = AfterEachRun BothAgree
 -- what is closed stays, however the run goes on
 abbrev pub RunsStayClosed : Type 0
 RunsStayClosed =
-    AfterEachRun (λ w. (more : List Event) (m : ℕ) (later : World) → IsRun w more m later → StaysClosed w later)
+    AfterEachRun
+    (λ w. (more : List Event) (m : ℕ) (later : World) → IsRun w more m later → StaysClosed w later)
 
 -- once all is closed, the books agree
 abbrev pub RunsBalance : Type 0

@@ -35,14 +35,18 @@ abbrev pub with_delivery : World → Instruction → World
 with_delivery w o = record {
   acquirer = w.acquirer;
   sent = w.sent;
-  given = w.given ++ record { key = o.key; answer = answer_for w.issuer.accounts (journal w.issuer) o } ∷ [];
+  given = w.given
+      ++ record { key = o.key; answer = answer_for w.issuer.accounts (journal w.issuer) o } ∷ [];
   issuer = books_with w.issuer o;
 }
 
 -- the acquirer gets a given answer
 abbrev pub with_answer : World → Given → World
 with_answer w g = record {
-  acquirer = record { id = w.acquirer.id; slots = slots_after_answer w.acquirer.slots g.key g.answer.code };
+  acquirer = record {
+    id = w.acquirer.id;
+    slots = slots_after_answer w.acquirer.slots g.key g.answer.code;
+  };
   sent = w.sent;
   given = w.given;
   issuer = w.issuer;
@@ -50,7 +54,8 @@ with_answer w g = record {
 
 -- the issuer gets an order of another acquirer
 abbrev pub with_other_order : World → Instruction → World
-with_other_order w o = record { acquirer = w.acquirer; sent = w.sent; given = w.given; issuer = books_with w.issuer o }
+with_other_order w o =
+    record { acquirer = w.acquirer; sent = w.sent; given = w.given; issuer = books_with w.issuer o }
 
 -- ---- an event that is made
 
@@ -86,7 +91,8 @@ pub record IsOther (old : World) (o : Instruction) (new : World) : Type 0 where
 
 -- an event happens, and this is the world after it
 abbrev pub IsMade : World → Event → World → Type 0
-IsMade old (Begin pan amount currency sent) new = IsBegun old (debit_of old.acquirer pan amount currency sent) new
+IsMade old (Begin pan amount currency sent) new =
+    IsBegun old (debit_of old.acquirer pan amount currency sent) new
 IsMade old (Timeout stan) new = IsAsked old stan new
 IsMade old (Deliver place) new = IsDelivered old place new
 IsMade old (Answer place) new = IsAnswerGiven old place new
@@ -115,12 +121,14 @@ IsNotAsked old stan (fault.Issuer e) = ⊥
 
 -- an order was sent at that place, and the issuer has its key or room for it
 abbrev pub IsDue : World → ℕ → Type 0
-IsDue old place = (o : Instruction) × (slice_get old.sent place ≡ Some o) × (IsFullFor old.issuer o.key → ⊥)
+IsDue old place = (o : Instruction) × (slice_get old.sent place ≡ Some o)
+    × (IsFullFor old.issuer o.key → ⊥)
 
 -- no order was sent at that place; the issuer refuses it; or it is due, and memory ran out
 abbrev pub IsNotDelivered : World → ℕ → StepFault → Type 0
 IsNotDelivered old place fault.NoSuch = slice_get old.sent place ≡ None
-IsNotDelivered old place (fault.Issuer e) = (o : Instruction) × (slice_get old.sent place ≡ Some o) × IsAnswerFor old.issuer o (Err e)
+IsNotDelivered old place (fault.Issuer e) = (o : Instruction) × (slice_get old.sent place ≡ Some o)
+    × IsAnswerFor old.issuer o (Err e)
 IsNotDelivered old place fault.Memory = IsDue old place
 IsNotDelivered old place fault.OwnKey = ⊥
 IsNotDelivered old place (fault.Acquirer e) = ⊥
@@ -136,7 +144,8 @@ IsAnswerNotGiven old place (fault.Issuer e) = ⊥
 -- the order has this acquirer's number, or the issuer refuses it
 abbrev pub IsNotOther : World → Instruction → StepFault → Type 0
 IsNotOther old o fault.OwnKey = o.key.acquirer ≡ old.acquirer.id
-IsNotOther old o (fault.Issuer e) = (o.key.acquirer ≢ old.acquirer.id) × IsAnswerFor old.issuer o (Err e)
+IsNotOther old o (fault.Issuer e) = (o.key.acquirer ≢ old.acquirer.id)
+    × IsAnswerFor old.issuer o (Err e)
 IsNotOther old o fault.Memory = ⊥
 IsNotOther old o fault.NoSuch = ⊥
 IsNotOther old o (fault.Acquirer e) = ⊥
@@ -172,4 +181,5 @@ refusal_count (Some e) = 1
 -- the steps in order, and the number of refusals
 abbrev pub IsRan : World → List Event → ℕ → World → Type 0
 IsRan old [] n new = (n ≡ 0) × (new ≡ old)
-IsRan old (e ∷ es) n new = (mid : World) × (f : Option StepFault) × (m : ℕ) × IsStep old e mid f × IsRan mid es m new × (n ≡ refusal_count f + m)
+IsRan old (e ∷ es) n new = (mid : World) × (f : Option StepFault) × (m : ℕ) × IsStep old e mid f
+    × IsRan mid es m new × (n ≡ refusal_count f + m)

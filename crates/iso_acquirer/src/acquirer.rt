@@ -37,7 +37,8 @@ impl Model for Acquirer {
 
     ghost view = { λ a. record { id = a.id; slots = a.slots.items } };
 
-    ghost invariant = { λ a. IsRoomKept a.id a.slots.items a.reversals_left (vec_len a.slots) (vec_capacity a.slots) };
+    ghost invariant = { λ a.
+        IsRoomKept a.id a.slots.items a.reversals_left (vec_len a.slots) (vec_capacity a.slots) };
 }
 
 fn slot_in(slots: &[Slot], place: usize) -> Option<Slot>
@@ -221,7 +222,9 @@ impl Acquirer {
         // The order is a debit 0200 of account, amount and currency, under the next trace number.
         ensures order { IfOk result (λ order. order ≡ debit_of self.old pan amount currency sent) }
         // Where it succeeds, the transaction waits, sent once; all others stay as they were.
-        ensures begun { OnOk result (self.new ≡ record self.old { slots = slots_with self.old.slots (debit_of self.old pan amount currency sent) }) }
+        ensures begun { OnOk result (self.new ≡ record self.old {
+          slots = slots_with self.old.slots (debit_of self.old pan amount currency sent);
+        }) }
         // It succeeds only where fewer than 999,999 trace numbers are used.
         ensures few { OnOk result (length self.old.slots < 999999) }
         // `NoMoreTrace` comes exactly where all 999,999 trace numbers are used.
@@ -262,7 +265,8 @@ impl Acquirer {
         requires fewer { reversals_at stage ≤ reversals_of slot.now.role }
         requires transaction { (before : Stage) × (slot.now.role ≡ Transaction before) }
         ensures { (step : Stage → Stage) → on_stage step slot.now.role ≡ Transaction stage →
-            self.new ≡ record self.old { slots = slots_at_stage step slot.now.order.key.stan self.old.slots } }
+            self.new ≡
+            record self.old { slots = slots_at_stage step slot.now.order.key.stan self.old.slots } }
     {
         let before = reversals_of(&slot.role);
         let after = reversals_at(&stage);
@@ -276,7 +280,10 @@ impl Acquirer {
         requires asked { reversals_of slot.now.role ≡ 1 }
         ensures order { IfOk result (λ order. order ≡ next_reversal self.old.slots slot.now.order) }
         ensures reversing { let stan = slot.now.order.key.stan in
-            OnOk result (self.new ≡ record self.old { slots = slots_with_reversal self.old.slots stan (next_reversal self.old.slots slot.now.order) }) }
+            OnOk result (self.new ≡ record self.old {
+              slots = slots_with_reversal self.old.slots stan
+                  (next_reversal self.old.slots slot.now.order);
+            }) }
         ensures few { OnOk result (length self.old.slots < 999999) }
         ensures no_more { IfErr result (λ e. (e ≡ NoMoreTrace) × (length self.old.slots ≡ 999999)) }
         ensures unchanged { OnErr result (self.new ≡ self.old) }
@@ -300,7 +307,8 @@ impl Acquirer {
     pub fn timeout(&mut self, stan: u32) -> Result<Order, AcqFault>
         // The first time-out sends the order again, the second its whole reversal 0420 under the
         // next trace number, each later one that same reversal; all other transactions stay.
-        ensures ok { IfOk result (λ order. timeout self.old.slots stan ≡ Ok (order, self.new.slots)) }
+        ensures ok { IfOk result
+            (λ order. timeout self.old.slots stan ≡ Ok (order, self.new.slots)) }
         // The acquirer's number (element 32) stays.
         ensures own { self.new.id ≡ self.old.id }
 
@@ -341,7 +349,8 @@ impl Acquirer {
     fn timeout_by(&mut self, slot: &Slot, stage: Stage) -> Result<Order, AcqFault>
         requires there { slot_at self.old.slots slot.now.order.key.stan ≡ Some slot.now }
         requires transaction { slot.now.role ≡ Transaction stage }
-        ensures ok { IfOk result (λ order. timeout_by self.old.slots slot.now.order stage ≡ Ok (order, self.new.slots)) }
+        ensures ok { IfOk result
+            (λ order. timeout_by self.old.slots slot.now.order stage ≡ Ok (order, self.new.slots)) }
         ensures own { self.new.id ≡ self.old.id }
         ensures fault { IfErr result (λ e. timeout_by self.old.slots slot.now.order stage ≡ Err e) }
         ensures unchanged { OnErr result (self.new ≡ self.old) }
@@ -364,7 +373,8 @@ impl Acquirer {
     /// 0 approves, 94 and 96 leave it open, and any other code declines; to the reversal of one that is being reversed,
     /// 0 closes it. Any other answer changes nothing. Takes no memory.
     pub fn answer(&mut self, key: TxKey, code: u8)
-        ensures { self.new ≡ record self.old { slots = slots_after_answer self.old.slots key code } }
+        ensures { self.new
+            ≡ record self.old { slots = slots_after_answer self.old.slots key code } }
     {
         let Some(slot) = slot_at(&self.slots, key.stan) else {
             return;
@@ -376,7 +386,9 @@ impl Acquirer {
 
     fn answer_slot(&mut self, slot: &Slot, code: u8)
         requires there { slot_at self.old.slots slot.now.order.key.stan ≡ Some slot.now }
-        ensures { self.new ≡ record self.old { slots = slots_after_answer_in self.old.slots slot.now.order.key.stan code slot.now.role } }
+        ensures { self.new ≡ record self.old {
+          slots = slots_after_answer_in self.old.slots slot.now.order.key.stan code slot.now.role;
+        } }
     {
         match slot.role {
             Role::Transaction(stage) => self.bring(slot, stage_after(stage, code)),
@@ -386,7 +398,9 @@ impl Acquirer {
 
     /// Takes an answer to the reversal of the transaction of that trace number.
     fn answer_reversal(&mut self, original: u32, code: u8)
-        ensures { self.new ≡ record self.old { slots = slots_at_stage (stage_after_undo code) original self.old.slots } }
+        ensures { self.new ≡ record self.old {
+          slots = slots_at_stage (stage_after_undo code) original self.old.slots;
+        } }
     {
         let Some(slot) = slot_at(&self.slots, original) else {
             return;

@@ -34,9 +34,19 @@ impl Model for World {
 
     ghost Value = { Both };
 
-    ghost view = { λ w. record { acquirer = w.acquirer; sent = w.sent.items; given = w.given.items; issuer = w.issuer } };
+    ghost view = { λ w. record {
+      acquirer = w.acquirer;
+      sent = w.sent.items;
+      given = w.given.items;
+      issuer = w.issuer;
+    } };
 
-    ghost invariant = { λ w. IsSound (record { acquirer = w.acquirer; sent = w.sent.items; given = w.given.items; issuer = w.issuer }) };
+    ghost invariant = { λ w. IsSound (record {
+      acquirer = w.acquirer;
+      sent = w.sent.items;
+      given = w.given.items;
+      issuer = w.issuer;
+    }) };
 }
 
 fn sent_at(sent: &[Order], place: usize) -> Option<Order>
@@ -53,7 +63,10 @@ fn given_at(given: &[Given], place: usize) -> Option<Given>
 
 /// Hands a given answer to the acquirer.
 fn hand_answer(acquirer: &mut Acquirer, given: &Given)
-    ensures { acquirer.new ≡ record { id = acquirer.old.id; slots = slots_after_answer acquirer.old.slots given.now.key given.now.answer.code } }
+    ensures { acquirer.new ≡ record {
+      id = acquirer.old.id;
+      slots = slots_after_answer acquirer.old.slots given.now.key given.now.answer.code;
+    } }
 {
     acquirer.answer(given.key, given.answer.code);
 }
@@ -208,7 +221,8 @@ impl World {
         sent: u64,
     ) -> Result<(), StepFault>
         requires { IsFair amount currency sent }
-        ensures ok { OnOk result (IsBegun self.old (debit_of self.old.acquirer pan amount currency sent) self.new) }
+        ensures ok { OnOk result
+            (IsBegun self.old (debit_of self.old.acquirer pan amount currency sent) self.new) }
         ensures fault { IfErr result (IsNotBegun self.old) }
         ensures unchanged { OnErr result (self.new ≡ self.old) }
     {
@@ -280,7 +294,8 @@ impl World {
     /// How often an event is refused: once or not at all.
     fn refusals(&mut self, event: Event) -> u32
         requires { IsFairEvent event }
-        ensures step { (f : Option StepFault) × IsStep self.old event self.new f × (result ≡ refusal_count f) }
+        ensures step { (f : Option StepFault) × IsStep self.old event self.new f
+            × (result ≡ refusal_count f) }
         ensures closed { StaysClosed self.old self.new }
     {
         match self.step(event) {

@@ -10,8 +10,16 @@ use Rattle.iso_books.specs.declared.balances.AccountRow.{AccountRow}
 
 -- its ledger and what is available, how many holds are open, and what they hold together
 abbrev pub row_on : List Entry → Account → AccountRow
-row_on journal a = record { balance = balance_on journal a; holds = length (open_holds journal a.pan); held = total Held a.pan journal }
+row_on journal a = record {
+  balance = balance_on journal a;
+  holds = length (open_holds journal a.pan);
+  held = total Held a.pan journal;
+}
 
 -- a balance, with the holds of its account, and what it has less available than its ledger
 abbrev pub with_holds : List Entry → Balance → AccountRow
-with_holds journal b = record { balance = b; holds = length (open_holds journal b.account.pan); held = unsigned_abs (b.ledger -ℤ b.available) }
+with_holds journal b = record {
+  balance = b;
+  holds = length (open_holds journal b.account.pan);
+  held = unsigned_abs (b.ledger -ℤ b.available);
+}

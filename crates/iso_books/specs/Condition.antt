@@ -17,7 +17,8 @@ ended false count = Torn count
 -- behind so many orders: the first record that isn't the row of its place, else how all of them end
 abbrev pub condition_from : ℕ → List (List ℕ) → Bool → State
 condition_from count [] clear = ended clear count
-condition_from count (r ∷ rs) clear = if is_some (row_at (count + 1) r) then condition_from (count + 1) rs clear else Damaged (count + 1)
+condition_from count (r ∷ rs) clear = if is_some (row_at (count + 1) r)
+    then condition_from (count + 1) rs clear else Damaged (count + 1)
 
 -- of what is left of a file behind so many orders
 abbrev pub condition_left : ℕ → List ℕ → State

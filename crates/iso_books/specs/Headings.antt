@@ -19,7 +19,8 @@ format_alone None = None
 
 -- what a first record tells otherwise than is wanted: any heading, or this one
 abbrev pub told_by : Wanted → List ℕ → Option HeadingFault
-told_by Any first = format_alone (heading_fault first (heading_bytes (record { rules = 0; first = 0; second = 0; third = 0; fourth = 0 })))
+told_by Any first = format_alone (heading_fault first
+    (heading_bytes (record { rules = 0; first = 0; second = 0; third = 0; fourth = 0 })))
 told_by (Only heading) first = heading_fault first (heading_bytes heading)
 
 -- the same of all records: a file without any is no journal

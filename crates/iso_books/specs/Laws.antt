@@ -9,5 +9,6 @@ use Rattle.iso_books.specs.Rows.{row_at}
 -- the record that a host writes behind so many orders is the row of its place, whatever its accounts
 abbrev pub WrittenTellsItsPlace : Type 0
 WrittenTellsItsPlace =
-    (accounts : List Account) (limit : ℕ) (before : List Instruction) (bytes : List ℕ) → IsWritten accounts limit before bytes →
+    (accounts : List Account) (limit : ℕ) (before : List Instruction) (bytes : List ℕ) →
+    IsWritten accounts limit before bytes →
     row_at (length before + 1) bytes ≡ Some (row_after accounts before (order_of bytes))

@@ -18,11 +18,13 @@ row_at place bytes = row_if_at place (row_in bytes)
 
 -- an entry was taken from the front
 abbrev pub TakesEntry : ℕ → Row → List ℕ → List ℕ → Type 0
-TakesEntry place r file rest = (bytes : List ℕ) × IsTaken bytes file rest × (row_at place bytes ≡ Some r)
+TakesEntry place r file rest = (bytes : List ℕ) × IsTaken bytes file rest
+    × (row_at place bytes ≡ Some r)
 
 -- the record at the front is no row of this place
 abbrev pub IsBadAt : ℕ → List ℕ → Type 0
-IsBadAt place file = (bytes : List ℕ) × IsTaken bytes file (drop 128 file) × (row_at place bytes ≡ None)
+IsBadAt place file = (bytes : List ℕ) × IsTaken bytes file (drop 128 file)
+    × (row_at place bytes ≡ None)
 
 -- no record is left, and whether only zeros are
 abbrev pub IsAtEnd : Bool → List ℕ → Type 0

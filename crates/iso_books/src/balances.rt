@@ -44,7 +44,8 @@ fn rows_of(
     issuer: &Issuer,
     balances: &[Balance],
 ) -> Result<Vec<AccountRow>, NoMemory>
-    ensures { IfOk result (λ rows. rows.items ≡ map (with_holds (journal issuer.now)) balances.now) }
+    ensures { IfOk result
+        (λ rows. rows.items ≡ map (with_holds (journal issuer.now)) balances.now) }
 {
     let mut rows = Vec::new(alloc);
     for balance in balances {
@@ -59,7 +60,8 @@ fn rows_of(
 pub fn account_rows(alloc: Global, issuer: &Issuer) -> Result<Vec<AccountRow>, NoMemory>
     // Memory aside, a row for each account, in their order: its balances, how many holds are open,
     // and what they hold together.
-    ensures { IfOk result (λ rows. rows.items ≡ map (row_on (journal issuer.now)) issuer.now.accounts) }
+    ensures { IfOk result
+        (λ rows. rows.items ≡ map (row_on (journal issuer.now)) issuer.now.accounts) }
 {
     rows_of(alloc, issuer, issuer.balances())
 }

@@ -16,7 +16,8 @@ use std::io::Read;
 fn read_more<R: Read + Drop>(window: &mut Window<R>) -> Result<bool, BooksFault>
     ensures grown { IfOk result (Grows window.old.held window.new.held) }
     ensures kept { Keeps window.old.ahead window.new.ahead }
-    ensures end { IfOk result (λ more. more ≡ false → IfSome window.new.ahead (λ all. all ≡ window.new.held)) }
+    ensures end { IfOk result
+        (λ more. more ≡ false → IfSome window.new.ahead (λ all. all ≡ window.new.held)) }
     ensures fault { IfErr result IsPlain }
 {
     match window.read_more() {
@@ -30,7 +31,8 @@ fn read_more<R: Read + Drop>(window: &mut Window<R>) -> Result<bool, BooksFault>
 fn fill<R: Read + Drop>(window: &mut Window<R>) -> Result<bool, BooksFault>
     ensures kept { Keeps window.old.ahead window.new.ahead }
     ensures full { IfOk result (λ full. full ≡ true → 128 ≤ length window.new.held) }
-    ensures short { IfOk result (λ full. full ≡ false → IfSome window.new.ahead (λ all. length all < 128)) }
+    ensures short { IfOk result
+        (λ full. full ≡ false → IfSome window.new.ahead (λ all. length all < 128)) }
     ensures fault { IfErr result IsPlain }
 {
     for _ in 0..RECORD {
@@ -79,7 +81,8 @@ fn are_zeros(bytes: &[u8]) -> bool
 
 /// Whether all that is left of a file is zeros.
 pub(crate) fn is_clear<R: Read + Drop>(window: &mut Window<R>) -> Result<bool, BooksFault>
-    ensures clear { IfOk result (λ clear. IfSome window.old.ahead (λ all. clear ≡ list_all is_zero all)) }
+    ensures clear { IfOk result
+        (λ clear. IfSome window.old.ahead (λ all. clear ≡ list_all is_zero all)) }
     ensures fault { IfErr result IsPlain }
 {
     for _ in 0..u64::MAX {

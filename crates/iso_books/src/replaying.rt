@@ -43,7 +43,8 @@ fn enter_next<R: Read + Drop>(
     window: &mut Window<R>,
     issuer: &mut Issuer,
 ) -> Result<Next, BooksFault>
-    ensures enters { IfOk result (λ next. Enters issuer.old issuer.new next window.old.ahead window.new.ahead) }
+    ensures enters { IfOk result
+        (λ next. Enters issuer.old issuer.new next window.old.ahead window.new.ahead) }
     ensures fault { IfErr result IsPlain }
 {
     let Some(bytes) = first_record(window)? else {
@@ -64,7 +65,8 @@ fn replay_from<R: Read + Drop>(
     window: &mut Window<R>,
     accounts: Accounts,
 ) -> Result<Replayed, BooksFault>
-    ensures found { IfOk result (λ found. IfSome window.old.ahead (λ rest. IsFoundBehind accounts rest found)) }
+    ensures found { IfOk result
+        (λ found. IfSome window.old.ahead (λ rest. IsFoundBehind accounts rest found)) }
     ensures fault { IfErr result IsPlain }
 {
     let mut issuer = Issuer::new(accounts, MOST_ENTRIES);
@@ -104,10 +106,12 @@ pub fn replay<R: Read + Drop>(
 ) -> Result<Replayed, BooksFault>
     // Where the file's bytes are known: the issuer of its orders, each as a host writes it, and
     // whether zeros alone follow; or the first place whose record no host of these accounts writes.
-    ensures found { IfOk result (λ found. IfSome (R.remaining file) (λ all. IsFound accounts all found)) }
+    ensures found { IfOk result
+        (λ found. IfSome (R.remaining file) (λ all. IsFound accounts all found)) }
     // Where the file's bytes are known, a fault about the heading is the first thing that it tells
     // otherwise than is wanted.
-    ensures fault { IfErr result (λ e. IfSome (R.remaining file) (λ all. IsOther (Only heading.now) all e)) }
+    ensures fault { IfErr result
+        (λ e. IfSome (R.remaining file) (λ all. IsOther (Only heading.now) all e)) }
 {
     let mut window = Window::new(alloc, file);
     take_heading(&mut window, &Wanted::Only(*heading))?;

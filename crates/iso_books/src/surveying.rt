@@ -26,7 +26,8 @@ pub enum Condition {
 
 /// What is left of a file behind its heading.
 fn survey_from<R: Read + Drop>(window: &mut Window<R>) -> Result<Condition, BooksFault>
-    ensures condition { IfOk result (λ c. IfSome window.old.ahead (λ rest. c ≡ condition_left 0 rest)) }
+    ensures condition { IfOk result
+        (λ c. IfSome window.old.ahead (λ rest. c ≡ condition_left 0 rest)) }
     ensures fault { IfErr result IsPlain }
 {
     for count in 0..MOST_RECORDS {
@@ -50,10 +51,12 @@ pub fn survey<R: Read + Drop>(
 ) -> Result<Condition, BooksFault>
     // Where the file's bytes are known: its heading is wanted, and behind it are so many orders and
     // zeros, or a torn rest, or at this place the first record that isn't its place's row.
-    ensures surveyed { IfOk result (λ c. IfSome (R.remaining file) (λ all. IsSurveyed wanted.now all c)) }
+    ensures surveyed { IfOk result
+        (λ c. IfSome (R.remaining file) (λ all. IsSurveyed wanted.now all c)) }
     // Where the file's bytes are known, a fault about the heading is the first thing that it tells
     // otherwise than is wanted.
-    ensures fault { IfErr result (λ e. IfSome (R.remaining file) (λ all. IsOther wanted.now all e)) }
+    ensures fault { IfErr result
+        (λ e. IfSome (R.remaining file) (λ all. IsOther wanted.now all e)) }
 {
     let mut window = Window::new(alloc, file);
     take_heading(&mut window, wanted)?;

@@ -71,7 +71,8 @@ fn tell_from<R: Read + Drop, O: Write>(
     text: &mut Vec<u8>,
     output: &mut O,
 ) -> Result<Condition, BooksFault>
-    ensures condition { IfOk result (λ c. IfSome window.old.ahead (λ rest. c ≡ condition_left 0 rest)) }
+    ensures condition { IfOk result
+        (λ c. IfSome window.old.ahead (λ rest. c ≡ condition_left 0 rest)) }
 {
     for count in 0..MOST_RECORDS {
         match step(window, count + 1)? {

@@ -10,12 +10,15 @@ pub record Written (P : List ℕ → Type 0) (n : ℕ) (old new : List ℕ) : Ty
   pub behind : drop n new ≡ drop n old
 
 -- the room is as it was, and the fault has the property, or tells how many bytes with the other one are wanted
-pub record Unwritten (P : List ℕ → Type 0) (Q : RumpadolFault → Type 0) (old new : List ℕ) (fault : RumpadolFault) : Type 0 where
+pub record Unwritten (P : List ℕ → Type 0) (Q : RumpadolFault → Type 0) (old new : List ℕ)
+    (fault : RumpadolFault) : Type 0 where
   pub untouched : new ≡ old
-  pub reason : Q fault ⊎ ((b : List ℕ) × P b × (length old < length b) × (fault ≡ short_room (length b)))
+  pub reason : Q fault
+      ⊎ ((b : List ℕ) × P b × (length old < length b) × (fault ≡ short_room (length b)))
 
 -- a length and bytes with the one property, or -1 and a fault with the other
-abbrev pub Replies : (List ℕ → Type 0) → (RumpadolFault → Type 0) → ℤ → List ℕ → List ℕ → RumpadolFault → Type 0
+abbrev pub Replies : (List ℕ → Type 0) → (RumpadolFault → Type 0) → ℤ → List ℕ → List ℕ
+    → RumpadolFault → Type 0
 Replies P Q (pos n) old new fault = Written P n old new
 Replies P Q (negsuc k) old new fault = (k ≡ 0) × Unwritten P Q old new fault
 

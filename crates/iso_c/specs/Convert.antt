@@ -14,7 +14,8 @@ use Rattle.iso_c.specs.FaultNumbers.{no_memory, empty_slot, trailing_bytes, unpa
 abbrev pub read_refusal : Layout → List ℕ → Result (Contents × ℕ) UnpackFault → Option RumpadolFault
 read_refusal t all (Err e) = Some (unpack_fault e)
 read_refusal t all (Ok x) =
-    if nat_lt x.1 (length all) then Some (trailing_bytes x.1) else pack_refusal (message_refusal t x.0)
+    if nat_lt x.1 (length all) then Some (trailing_bytes x.1)
+    else pack_refusal (message_refusal t x.0)
 
 -- why bytes aren't converted: no message, bytes behind it, or no message of the second table
 abbrev pub convert_refusal : Layout → Layout → List ℕ → Option RumpadolFault

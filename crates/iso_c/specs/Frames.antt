@@ -11,7 +11,8 @@ use Rattle.iso_c.specs.Parts.{bytes_in}
 
 -- 0 names two bytes, 1 four ASCII digits, 2 four BCD digits
 abbrev pub header_named : ℕ → Option Header
-header_named name = if name == 0 then Some Binary2 else if name == 1 then Some Ascii4 else if name == 2 then Some Bcd2 else None
+header_named name = if name == 0 then Some Binary2 else if name == 1 then Some Ascii4
+    else if name == 2 then Some Bcd2 else None
 
 -- the bytes are the frame of the one body
 abbrev pub FramesBy : Option Header → List ℕ → List ℕ → Type 0
@@ -20,17 +21,21 @@ FramesBy None body b = ⊥
 
 -- a body that the header can't count is too long, and for any other memory ran out
 abbrev pub IsFrameFault : Option Header → List ℕ → RumpadolFault → Type 0
-IsFrameFault (Some h) body f = f ≡ (if nat_lt (largest h) (length body) then frame_fault TooLong else no_memory)
+IsFrameFault (Some h) body f =
+    f ≡ (if nat_lt (largest h) (length body) then frame_fault TooLong else no_memory)
 IsFrameFault None body f = f ≡ no_such_header
 
 -- a frame of so many bytes begins the input, and its body is told; 0 where neither a frame nor a bad header does; else -1
 abbrev pub UnframedBy : Header → List ℕ → ℤ → RumpadolPart → RumpadolPart → RumpadolFault → Type 0
 UnframedBy h b (pos zero) old new f = NeedsMore h b × (new ≡ old)
-UnframedBy h b (pos (suc k)) old new f = Begins h b (bytes_in b new) (suc k) × (new.start + new.length ≡ suc k) × (new.element ≡ 0)
-UnframedBy h b (negsuc k) old new f = (k ≡ 0) × (f ≡ frame_fault BadDigits) × (is_bad_header h b ≡ true) × (new ≡ old)
+UnframedBy h b (pos (suc k)) old new f = Begins h b (bytes_in b new) (suc k)
+    × (new.start + new.length ≡ suc k) × (new.element ≡ 0)
+UnframedBy h b (negsuc k) old new f = (k ≡ 0) × (f ≡ frame_fault BadDigits)
+    × (is_bad_header h b ≡ true) × (new ≡ old)
 
 -- the same where the number names a header; where it names none, -1
-abbrev pub Unframed : Option Header → List ℕ → ℤ → RumpadolPart → RumpadolPart → RumpadolFault → Type 0
+abbrev pub Unframed : Option Header → List ℕ → ℤ → RumpadolPart → RumpadolPart → RumpadolFault
+    → Type 0
 Unframed (Some h) b n old new f = UnframedBy h b n old new f
 Unframed None b (pos n) old new f = ⊥
 Unframed None b (negsuc k) old new f = (k ≡ 0) × (f ≡ no_such_header) × (new ≡ old)

@@ -24,7 +24,8 @@ message_by mti (Err f) = Err f
 
 -- a type of four digits, and then the parts in their order
 abbrev pub message_of : ℕ → List RumpadolPart → List ℕ → Result Contents RumpadolFault
-message_of mti parts values = if nat_le mti 9999 then message_by mti (elements_or_fault values parts []) else Err bad_type
+message_of mti parts values =
+    if nat_le mti 9999 then message_by mti (elements_or_fault values parts []) else Err bad_type
 
 -- ---- its bytes
 
@@ -47,6 +48,7 @@ PacksHeld (Some t) made b = Packs t made b
 PacksHeld None made b = ⊥
 
 -- why nothing is written under a slot's table, or that the slot is empty
-abbrev pub IsPackingFaultHeld : Option Layout → Result Contents RumpadolFault → RumpadolFault → Type 0
+abbrev pub IsPackingFaultHeld : Option Layout → Result Contents RumpadolFault → RumpadolFault
+    → Type 0
 IsPackingFaultHeld (Some t) made f = IsPackingFault t made f
 IsPackingFaultHeld None made f = f ≡ empty_slot

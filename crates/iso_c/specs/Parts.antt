@@ -43,15 +43,19 @@ is_part_within size p = nat_le p.start size && nat_le p.length (size - p.start)
 -- a part outside the bytes, or of a number that no element has
 abbrev pub part_refusal : ℕ → RumpadolPart → Option RumpadolFault
 part_refusal size p =
-    if is_part_within size p then (if is_element p.element then None else Some (bad_number p.element))
+    if is_part_within size p
+    then (if is_element p.element then None else Some (bad_number p.element))
     else Some (bad_part p.element p.start)
 
 -- a refusal, where there is one, comes before all else
-abbrev pub unless_refused : {A : Type 0} → Option RumpadolFault → Result A RumpadolFault → Result A RumpadolFault
+abbrev pub unless_refused : {A : Type 0} → Option RumpadolFault → Result A RumpadolFault
+    → Result A RumpadolFault
 unless_refused None r = r
 unless_refused (Some f) r = Err f
 
 -- elements, and then those of the parts, each in place of an earlier one of its number; or the first part's fault
-abbrev pub elements_or_fault : List ℕ → List RumpadolPart → List (ℕ × List ℕ) → Result (List (ℕ × List ℕ)) RumpadolFault
+abbrev pub elements_or_fault : List ℕ → List RumpadolPart → List (ℕ × List ℕ)
+    → Result (List (ℕ × List ℕ)) RumpadolFault
 elements_or_fault b [] es = Ok es
-elements_or_fault b (p ∷ ps) es = unless_refused (part_refusal (length b) p) (elements_or_fault b ps (put p.element (bytes_in b p) es))
+elements_or_fault b (p ∷ ps) es = unless_refused (part_refusal (length b) p)
+    (elements_or_fault b ps (put p.element (bytes_in b p) es))

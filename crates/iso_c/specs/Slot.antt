@@ -39,7 +39,8 @@ IsBuiltInFault name f = f ≡ (if nat_lt name 2 then no_memory else no_such_tabl
 
 -- the first fault of a text that stands for no table, unless memory ran out
 abbrev pub IsTextFault : List ℕ → TableFault → Type 0
-IsTextFault text e = (e ≡ NotJson → IsNotJson text) × (e ≢ Memory → e ≢ NotJson → IsDocumentFault text e)
+IsTextFault text e = (e ≡ NotJson → IsNotJson text)
+    × (e ≢ Memory → e ≢ NotJson → IsDocumentFault text e)
 
 -- the same, as C is told it
 abbrev pub IsTableFault : List ℕ → RumpadolFault → Type 0

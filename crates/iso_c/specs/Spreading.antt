@@ -27,18 +27,28 @@ IsSpreadHeld (Some t) b found = IsSpread t b found
 IsSpreadHeld None b found = ⊥
 
 -- what was found is given where there is room, and what lies behind it stays
-pub record GivesSpread (found : SpreadMessage) (used : ℕ) (told : RumpadolMessage) (parts_old parts : List RumpadolPart) (values_old values : List ℕ) : Type 0 where
+pub record GivesSpread (found : SpreadMessage) (used : ℕ) (told : RumpadolMessage)
+    (parts_old parts : List RumpadolPart) (values_old values : List ℕ) : Type 0 where
   pub used_is : used ≡ found.used
-  pub message : told ≡ record { mti = found.mti; parts = length found.parts.items; values = length found.values.items }
+  pub message : told ≡ record {
+    mti = found.mti;
+    parts = length found.parts.items;
+    values = length found.values.items;
+  }
   pub few : length found.parts.items ≤ length parts
   pub room : length found.values.items ≤ length values
   pub parts_are : take (length found.parts.items) parts ≡ found.parts.items
   pub values_are : take (length found.values.items) values ≡ found.values.items
-  pub parts_behind : drop (length found.parts.items) parts ≡ drop (length found.parts.items) parts_old
-  pub values_behind : drop (length found.values.items) values ≡ drop (length found.values.items) values_old
+  pub parts_behind : drop (length found.parts.items) parts
+      ≡ drop (length found.parts.items) parts_old
+  pub values_behind : drop (length found.values.items) values
+      ≡ drop (length found.values.items) values_old
 
 -- what was found is given; or -1, why there is no room for it, and all stays
-abbrev pub GivesMessage : SpreadMessage → ℤ → RumpadolMessage → RumpadolMessage → List RumpadolPart → List RumpadolPart → List ℕ → List ℕ → RumpadolFault → Type 0
-GivesMessage found (pos used) old new parts_old parts values_old values f = GivesSpread found used new parts_old parts values_old values
+abbrev pub GivesMessage : SpreadMessage → ℤ → RumpadolMessage → RumpadolMessage → List RumpadolPart
+    → List RumpadolPart → List ℕ → List ℕ → RumpadolFault → Type 0
+GivesMessage found (pos used) old new parts_old parts values_old values f =
+    GivesSpread found used new parts_old parts values_old values
 GivesMessage found (negsuc k) old new parts_old parts values_old values f =
-    (k ≡ 0) × RoomsKept old new parts_old parts values_old values × (room_fault (length found.parts.items) (length found.values.items) (length parts_old) (length values_old) ≡ Some f)
+    (k ≡ 0) × RoomsKept old new parts_old parts values_old values × (room_fault (length
+    found.parts.items) (length found.values.items) (length parts_old) (length values_old) ≡ Some f)

@@ -28,7 +28,8 @@ IsReadFaultHeld None b f = f ≡ empty_slot
 -- ---- what is given
 
 -- the rooms begin with the parts and the values of the message, which is so many bytes, and what lies behind these stays
-pub record Unpacked (t : Layout) (b : List ℕ) (used : ℕ) (told : RumpadolMessage) (parts_old parts : List RumpadolPart) (values_old values : List ℕ) : Type 0 where
+pub record Unpacked (t : Layout) (b : List ℕ) (used : ℕ) (told : RumpadolMessage)
+    (parts_old parts : List RumpadolPart) (values_old values : List ℕ) : Type 0 where
   pub m : Contents
   pub begins : BeginsWith t m used b
   pub mti : told.mti ≡ m.mti
@@ -42,7 +43,8 @@ pub record Unpacked (t : Layout) (b : List ℕ) (used : ℕ) (told : RumpadolMes
   pub lies : elements_in values (take told.parts parts) ≡ m.elements
 
 -- the rooms as they were
-pub record RoomsKept (old new : RumpadolMessage) (parts_old parts : List RumpadolPart) (values_old values : List ℕ) : Type 0 where
+pub record RoomsKept (old new : RumpadolMessage) (parts_old parts : List RumpadolPart)
+    (values_old values : List ℕ) : Type 0 where
   pub message : new ≡ old
   pub parts_kept : parts ≡ parts_old
   pub values_kept : values ≡ values_old
@@ -50,25 +52,33 @@ pub record RoomsKept (old new : RumpadolMessage) (parts_old parts : List Rumpado
 -- why so many parts and bytes aren't given: more are wanted than there are places, or than there is room
 abbrev pub room_fault : ℕ → ℕ → ℕ → ℕ → Option RumpadolFault
 room_fault parts bytes places room =
-    if nat_lt places parts then Some (short_parts parts) else if nat_lt room bytes then Some (short_room bytes) else None
+    if nat_lt places parts then Some (short_parts parts) else if nat_lt room bytes
+    then Some (short_room bytes) else None
 
 -- why a message isn't given: the bytes begin with none, or there is no room for it
 abbrev pub given_fault : Result (Contents × ℕ) UnpackFault → ℕ → ℕ → Option RumpadolFault
-given_fault (Ok x) places room = room_fault (length x.0.elements) (length (values_of x.0.elements)) places room
+given_fault (Ok x) places room =
+    room_fault (length x.0.elements) (length (values_of x.0.elements)) places room
 given_fault (Err e) places room = Some (unpack_fault e)
 
 -- the same under the table that a slot holds, unless memory ran out; or the slot is empty
 abbrev pub IsGivenFault : Option Layout → List ℕ → ℕ → ℕ → RumpadolFault → Type 0
-IsGivenFault (Some t) b places room f = f ≢ no_memory → given_fault (message_at t b) places room ≡ Some f
+IsGivenFault (Some t) b places room f = f ≢ no_memory
+    → given_fault (message_at t b) places room ≡ Some f
 IsGivenFault None b places room f = f ≡ empty_slot
 
 -- the rooms have the message under the table that a slot holds; under none there is none
-abbrev pub UnpackedHeld : Option Layout → List ℕ → ℕ → RumpadolMessage → List RumpadolPart → List RumpadolPart → List ℕ → List ℕ → Type 0
-UnpackedHeld (Some t) b used told parts_old parts values_old values = Unpacked t b used told parts_old parts values_old values
+abbrev pub UnpackedHeld : Option Layout → List ℕ → ℕ → RumpadolMessage → List RumpadolPart
+    → List RumpadolPart → List ℕ → List ℕ → Type 0
+UnpackedHeld (Some t) b used told parts_old parts values_old values =
+    Unpacked t b used told parts_old parts values_old values
 UnpackedHeld None b used told parts_old parts values_old values = ⊥
 
 -- how many bytes the message takes, or -1 and the first fault
-abbrev pub IsUnpackReply : Option Layout → List ℕ → ℤ → RumpadolMessage → RumpadolMessage → List RumpadolPart → List RumpadolPart → List ℕ → List ℕ → RumpadolFault → Type 0
-IsUnpackReply t b (pos used) old new parts_old parts values_old values f = UnpackedHeld t b used new parts_old parts values_old values
+abbrev pub IsUnpackReply : Option Layout → List ℕ → ℤ → RumpadolMessage → RumpadolMessage
+    → List RumpadolPart → List RumpadolPart → List ℕ → List ℕ → RumpadolFault → Type 0
+IsUnpackReply t b (pos used) old new parts_old parts values_old values f =
+    UnpackedHeld t b used new parts_old parts values_old values
 IsUnpackReply t b (negsuc k) old new parts_old parts values_old values f =
-    (k ≡ 0) × RoomsKept old new parts_old parts values_old values × IsGivenFault t b (length parts_old) (length values_old) f
+    (k ≡ 0) × RoomsKept old new parts_old parts values_old values
+    × IsGivenFault t b (length parts_old) (length values_old) f

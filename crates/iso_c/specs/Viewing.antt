@@ -14,7 +14,8 @@ use Rattle.iso_c.specs.Parts.{bytes_in}
 -- the body of element n of the message that the bytes begin with lies there, and begins there
 abbrev pub IsBodyAt : Layout → List ℕ → ℕ → RumpadolPart → Type 0
 IsBodyAt t b n p =
-    (v : Viewed) × IsViewed t v b × (p.element ≡ n) × (p.start + p.length ≤ v.used) × (value_in v.wires n ≡ Some (bytes_in b p)) × (length (bytes_in b p) ≡ p.length)
+    (v : Viewed) × IsViewed t v b × (p.element ≡ n) × (p.start + p.length ≤ v.used)
+    × (value_in v.wires n ≡ Some (bytes_in b p)) × (length (bytes_in b p) ≡ p.length)
     × (value_in v.starts n ≡ Some p.start)
 
 -- the bytes begin with no message, or with one that doesn't have the element
@@ -37,6 +38,7 @@ IsViewFaultHeld (Some t) b n f = IsViewFault t b n f
 IsViewFaultHeld None b n f = f ≡ empty_slot
 
 -- the length of the body, and where it lies; or -1 and the fault
-abbrev pub ViewsBody : Option Layout → List ℕ → ℕ → ℤ → RumpadolPart → RumpadolPart → RumpadolFault → Type 0
+abbrev pub ViewsBody : Option Layout → List ℕ → ℕ → ℤ → RumpadolPart → RumpadolPart → RumpadolFault
+    → Type 0
 ViewsBody t b n (pos size) old new f = IsBodyAtHeld t b n new × (size ≡ new.length)
 ViewsBody t b n (negsuc k) old new f = (k ≡ 0) × (new ≡ old) × IsViewFaultHeld t b n f

@@ -27,8 +27,11 @@ fn is_part_within(part: &RumpadolPart, size: usize) -> bool
 /// Puts the value that a part tells of at its element.
 fn put_part(message: &mut Message, part: &RumpadolPart, values: &[u8]) -> Result<(), RumpadolFault>
     ensures ok { OnOk result ((part_refusal (length values.now) part.now ≡ None)
-        × (message.new ≡ record message.old { elements = put part.now.element (bytes_in values.now part.now) message.old.elements })) }
-    ensures fault { IfErr result (λ e. e ≢ no_memory → part_refusal (length values.now) part.now ≡ Some e) }
+        × (message.new ≡ record message.old {
+          elements = put part.now.element (bytes_in values.now part.now) message.old.elements;
+        })) }
+    ensures fault { IfErr result
+        (λ e. e ≢ no_memory → part_refusal (length values.now) part.now ≡ Some e) }
 {
     if !is_part_within(part, values.len()) {
         return Err(RumpadolFault {
@@ -51,9 +54,11 @@ fn put_parts(
     parts: &[RumpadolPart],
     values: &[u8],
 ) -> Result<(), RumpadolFault>
-    ensures ok { OnOk result (elements_or_fault values.now parts.now message.old.elements ≡ Ok message.new.elements) }
+    ensures ok { OnOk result
+        (elements_or_fault values.now parts.now message.old.elements ≡ Ok message.new.elements) }
     ensures mti { OnOk result (message.new.mti ≡ message.old.mti) }
-    ensures fault { IfErr result (λ e. e ≢ no_memory → elements_or_fault values.now parts.now message.old.elements ≡ Err e) }
+    ensures fault { IfErr result
+        (λ e. e ≢ no_memory → elements_or_fault values.now parts.now message.old.elements ≡ Err e) }
 {
     for part in parts {
         if let Err(fault) = put_part(message, part, values) {
@@ -82,7 +87,8 @@ fn message_of(
     values: &[u8],
 ) -> Result<Message, RumpadolFault>
     ensures ok { IfOk result (λ m. message_of mti parts.now values.now ≡ Ok m) }
-    ensures fault { IfErr result (λ f. f ≢ no_memory → message_of mti parts.now values.now ≡ Err f) }
+    ensures fault { IfErr result
+        (λ f. f ≢ no_memory → message_of mti parts.now values.now ≡ Err f) }
 {
     let Some(mti) = type_of(mti) else {
         return Err(RumpadolFault::only(BAD_TYPE));
@@ -100,7 +106,8 @@ pub(crate) fn pack_parts(
     parts: &[RumpadolPart],
     values: &[u8],
 ) -> Result<Vec<u8>, RumpadolFault>
-    ensures ok { IfOk result (λ out. Packs table.now (message_of mti parts.now values.now) out.items) }
+    ensures ok { IfOk result
+        (λ out. Packs table.now (message_of mti parts.now values.now) out.items) }
     ensures fault { IfErr result (IsPackingFault table.now (message_of mti parts.now values.now)) }
 {
     let message = message_of(alloc, mti, parts, values)?;
@@ -115,8 +122,10 @@ fn pack_held(
     parts: &[RumpadolPart],
     values: &[u8],
 ) -> Result<Vec<u8>, RumpadolFault>
-    ensures ok { IfOk result (λ out. PacksHeld table.now (message_of mti parts.now values.now) out.items) }
-    ensures fault { IfErr result (IsPackingFaultHeld table.now (message_of mti parts.now values.now)) }
+    ensures ok { IfOk result
+        (λ out. PacksHeld table.now (message_of mti parts.now values.now) out.items) }
+    ensures fault { IfErr result
+        (IsPackingFaultHeld table.now (message_of mti parts.now values.now)) }
 {
     match table {
         Some(table) => pack_parts(alloc, table, mti, parts, values),
@@ -139,7 +148,8 @@ pub extern "C" fn rumpadol_pack(
     // The room begins with the plain spelling of the message of these parts, and the answer is its
     // length; or -1, an untouched room, and the first fault, memory aside, or how much is wanted.
     ensures reply { Replies (PacksHeld slot.old.value (message_of mti parts.now values.now))
-        (IsPackingFaultHeld slot.old.value (message_of mti parts.now values.now)) result out.old out.new fault.new }
+        (IsPackingFaultHeld slot.old.value (message_of mti parts.now values.now)) result
+        out.old out.new fault.new }
     // Where the answer isn't -1, the fault is as it was.
     ensures kept { KeepsFault result fault.old fault.new }
     // The slot keeps its table.

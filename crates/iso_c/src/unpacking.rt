@@ -30,7 +30,8 @@ fn add(
     parts: &mut Vec<RumpadolPart>,
     values: &mut Vec<u8>,
 ) -> Result<(), AllocError>
-    ensures parts { OnOk result (parts.new.items ≡ parts.old.items ++ part_of n (length values.old.items) (length value.now) ∷ []) }
+    ensures parts { OnOk result (parts.new.items
+        ≡ parts.old.items ++ part_of n (length values.old.items) (length value.now) ∷ []) }
     ensures values { OnOk result (values.new.items ≡ values.old.items ++ value.now) }
 {
     parts.push(RumpadolPart {
@@ -104,7 +105,8 @@ fn give_message(
     fault: &mut RumpadolFault,
 ) -> i64
     requires { found.now.used ≤ length bytes.now }
-    ensures reply { GivesMessage found.now result message.old message.new parts.old parts.new values.old values.new fault.new }
+    ensures reply { GivesMessage found.now result message.old message.new parts.old parts.new
+        values.old values.new fault.new }
     ensures kept { KeepsFault result fault.old fault.new }
 {
     if parts.len() < found.parts.len() {
@@ -145,7 +147,8 @@ pub extern "C" fn rumpadol_unpack(
 ) -> i64
     // The rooms get the message's type, its values end to end and where each lies, the answer is
     // its length; or -1, untouched rooms, and the first fault, memory aside, or how much is wanted.
-    ensures reply { IsUnpackReply slot.old.value bytes.now result message.old message.new parts.old parts.new values.old values.new fault.new }
+    ensures reply { IsUnpackReply slot.old.value bytes.now result message.old message.new
+        parts.old parts.new values.old values.new fault.new }
     // Where the answer isn't -1, the fault is as it was.
     ensures kept { KeepsFault result fault.old fault.new }
     // The slot keeps its table.

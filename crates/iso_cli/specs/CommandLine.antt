@@ -13,12 +13,17 @@ name_rule id = record (new_rule id) { required = true }
 
 -- the flag `--clear`
 abbrev pub clear_rule : Rule
-clear_rule = record (new_rule (codes "clear")) { long = Some (codes "clear"); action = Some SetTrue }
+clear_rule =
+    record (new_rule (codes "clear")) { long = Some (codes "clear"); action = Some SetTrue }
 
 -- a command with no help and no version of its own
 abbrev pub bare_app : Text → App
 bare_app name = record (new_app name) {
-  top = record (new_app name).top { disable_help_flag = true; disable_help_subcommand = true; disable_version_flag = true };
+  top = record (new_app name).top {
+    disable_help_flag = true;
+    disable_help_subcommand = true;
+    disable_version_flag = true;
+  };
 }
 
 -- `check TABLE`
@@ -31,11 +36,13 @@ show_app = with_rule (with_rule (bare_app (codes "show")) (name_rule (codes "tab
 
 -- `convert FROM TO`
 abbrev pub convert_app : App
-convert_app = with_rule (with_rule (bare_app (codes "convert")) (name_rule (codes "from"))) (name_rule (codes "to"))
+convert_app = with_rule (with_rule (bare_app (codes "convert")) (name_rule (codes "from")))
+    (name_rule (codes "to"))
 
 -- a command of this name that takes a table, accounts and a header
 abbrev pub host_app : Text → App
-host_app name = with_rule (with_rule (with_rule (bare_app name) (name_rule (codes "table"))) (name_rule (codes "accounts"))) (name_rule (codes "header"))
+host_app name = with_rule (with_rule (with_rule (bare_app name) (name_rule (codes "table")))
+    (name_rule (codes "accounts"))) (name_rule (codes "header"))
 
 -- `run TABLE ACCOUNTS HEADER`
 abbrev pub run_app : App
@@ -49,7 +56,8 @@ iso_alone = record (bare_app (codes "iso")) {
 
 -- the command with the subcommands that take one message, or none
 abbrev pub codec_app : App
-codec_app = with_subcommand (with_subcommand (with_subcommand iso_alone check_app.top) show_app.top) convert_app.top
+codec_app = with_subcommand
+    (with_subcommand (with_subcommand iso_alone check_app.top) show_app.top) convert_app.top
 
 -- the whole command
 abbrev pub iso_app : App
@@ -57,7 +65,8 @@ iso_app = with_subcommand codec_app run_app.top
 
 -- `serve TABLE ACCOUNTS HEADER PORT COUNT`
 abbrev pub serve_app : App
-serve_app = with_rule (with_rule (host_app (codes "serve")) (name_rule (codes "port"))) (name_rule (codes "count"))
+serve_app = with_rule (with_rule (host_app (codes "serve")) (name_rule (codes "port")))
+    (name_rule (codes "count"))
 
 -- the command of a host on a port
 abbrev pub port_app : App

@@ -31,9 +31,12 @@ answer_line b = codes "ANSWER=" ++ b ++ 10 ∷ []
 -- then its answer
 abbrev pub Echoes : Layout → List ℕ → List ℕ → Type 0
 Echoes t all b =
-    (m : Contents) × (n : ℕ) × (lines : List ℕ) × (answer : List ℕ) × (n ≤ length all) × Spelling t m (take n all) × AreLinesOf false t m n (length all) lines × Answers t m answer × (b ≡ lines ++ answer_line answer)
+    (m : Contents) × (n : ℕ) × (lines : List ℕ) × (answer : List ℕ) × (n ≤ length all)
+    × Spelling t m (take n all) × AreLinesOf false t m n (length all) lines × Answers t m answer
+    × (b ≡ lines ++ answer_line answer)
 
 -- what was appended is that, under the table of the 1987 edition in ASCII
 abbrev pub EchoesOver : Option (List ℕ) → Option (List ℕ) → Option (List ℕ) → Type 0
 EchoesOver input old new =
-    IfSome input (λ all. (t : Layout) × (b : List ℕ) × IsEdition87 Ascii t × Echoes t all b × Appends old new b)
+    IfSome input
+    (λ all. (t : Layout) × (b : List ℕ) × IsEdition87 Ascii t × Echoes t all b × Appends old new b)

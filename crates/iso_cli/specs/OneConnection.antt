@@ -11,17 +11,21 @@ use Rattle.iso_host.specs.Entering.{books_after_bodies}
 use Rattle.iso_cli.specs.Connections.{CountsBodies, output_line, fault_line}
 
 -- the orders of some bodies were entered, and no other
-pub record IsConnection (t : Layout) (old new : Books) (ended : Result Report ServeFault) : Type 0 where
+pub record IsConnection (t : Layout) (old new : Books)
+    (ended : Result Report ServeFault) : Type 0 where
   pub bodies : List (List ℕ)
   pub journal : new ≡ books_after_bodies t old bodies
   pub counted : CountsBodies t bodies ended
 
 -- the lines were written, and it didn't end for want of memory
-pub record EndTold (held written heard told : Option (List ℕ)) (ended : Result Report ServeFault) : Type 0 where
+pub record EndTold (held written heard told : Option (List ℕ))
+    (ended : Result Report ServeFault) : Type 0 where
   pub output : Appends held written (output_line ended)
   pub faults : Appends heard told (fault_line ended)
   pub memory : ended ≢ Err Memory
 
 -- the status is 0 where that is so, and else 3
-abbrev pub TellsConnectionEnd : Option (List ℕ) → Option (List ℕ) → Option (List ℕ) → Option (List ℕ) → Result Report ServeFault → ℕ → Type 0
-TellsConnectionEnd held written heard told ended status = ((status ≡ 0) × EndTold held written heard told ended) ⊎ (status ≡ 3)
+abbrev pub TellsConnectionEnd : Option (List ℕ) → Option (List ℕ) → Option (List ℕ)
+    → Option (List ℕ) → Result Report ServeFault → ℕ → Type 0
+TellsConnectionEnd held written heard told ended status =
+    ((status ≡ 0) × EndTold held written heard told ended) ⊎ (status ≡ 3)

@@ -10,7 +10,8 @@ use Rattle.iso_cli.specs.Run.{fresh_books}
 use Rattle.iso_cli.specs.Tables.{IsNamed}
 
 -- the host is what these words name, with an empty journal
-pub record Prepares (words : List (List ℕ)) (file : List ℕ → Option (List ℕ)) (host : Serving) : Type 0 where
+pub record Prepares (words : List (List ℕ)) (file : List ℕ → Option (List ℕ))
+    (host : Serving) : Type 0 where
   pub asked : Listening
   pub asks : AsksServe words asked
   pub header : host.header ≡ asked.header

@@ -26,7 +26,8 @@ use Rattle.iso_cli.specs.declared.stop.Stop.TheVariants.{InputTooLong, TrailingB
 -- the file has more bytes than one may have; or its text is no JSON, or stands for no good table, and this is the first fault
 abbrev pub HoldsNone : List ℕ → Stop → Type 0
 HoldsNone held InputTooLong = 1048576 < length held
-HoldsNone held (Table e) = (e ≡ table.NotJson → IsNotJson held) × (e ≢ table.NotJson → IsDocumentFault held e)
+HoldsNone held (Table e) = (e ≡ table.NotJson → IsNotJson held)
+    × (e ≢ table.NotJson → IsDocumentFault held e)
 HoldsNone held stop = ⊥
 
 -- the word names no built-in table, and the document that it names holds none
@@ -50,7 +51,8 @@ read_stop (Err e) = Some (Unpack e)
 -- why what was read isn't written under a table
 abbrev pub rewrite_stop : Layout → List ℕ → Result (Contents × ℕ) UnpackFault → Option Stop
 rewrite_stop t all (Err e) = Some (Unpack e)
-rewrite_stop t all (Ok x) = if nat_lt x.1 (length all) then Some TrailingBytes else option_map Pack (message_refusal t x.0)
+rewrite_stop t all (Ok x) =
+    if nat_lt x.1 (length all) then Some TrailingBytes else option_map Pack (message_refusal t x.0)
 
 -- why the response that a message decides isn't written
 abbrev pub reply_stop : Layout → Contents → Verdict → Option Stop
@@ -68,35 +70,46 @@ echo_stop t (Ok x) = reply_stop t x.0 (verdict x.0)
 -- the echo: the input is too long, or isn't echoed
 abbrev pub EchoStops : Option (List ℕ) → Stop → Type 0
 EchoStops input stop =
-    IsTooLong input stop ⊎ ((t : Layout) × IsEdition87 Ascii t × IfSome input (λ all. echo_stop t (message_at t all) ≡ Some stop))
+    IsTooLong input stop ⊎ ((t : Layout) × IsEdition87 Ascii t
+    × IfSome input (λ all. echo_stop t (message_at t all) ≡ Some stop))
 
 -- `show`: the table isn't named; else the input is too long, or begins with no message
 abbrev pub ShowStops : (List ℕ → Option (List ℕ)) → List ℕ → Option (List ℕ) → Stop → Type 0
 ShowStops file table input stop =
-    NamesNone file table stop ⊎ ((t : Layout) × IsNamed file table t × (IsTooLong input stop ⊎ IfSome input (λ all. read_stop (message_at t all) ≡ Some stop)))
+    NamesNone file table stop ⊎ ((t : Layout) × IsNamed file table t
+    × (IsTooLong input stop ⊎ IfSome input (λ all. read_stop (message_at t all) ≡ Some stop)))
 
 -- `convert`: the first table isn't named, or the second; else the input is too long, or isn't written under the second
-abbrev pub ConvertStops : (List ℕ → Option (List ℕ)) → List ℕ → List ℕ → Option (List ℕ) → Stop → Type 0
+abbrev pub ConvertStops : (List ℕ → Option (List ℕ)) → List ℕ → List ℕ → Option (List ℕ) → Stop
+    → Type 0
 ConvertStops file from to input stop =
-    NamesNone file from stop ⊎ ((f : Layout) × IsNamed file from f × (NamesNone file to stop ⊎ ((t : Layout) × IsNamed file to t × (IsTooLong input stop ⊎ IfSome input (λ all. rewrite_stop t all (message_at f all) ≡ Some stop)))))
+    NamesNone file from stop ⊎ ((f : Layout) × IsNamed file from f
+    × (NamesNone file to stop ⊎ ((t : Layout) × IsNamed file to t × (IsTooLong input stop
+    ⊎ IfSome input (λ all. rewrite_stop t all (message_at f all) ≡ Some stop)))))
 
 -- ---- the stops of the command that the words ask for
 
 -- if the words ask for `check`, it stops so
 abbrev pub CheckStopsAsked : List (List ℕ) → (List ℕ → Option (List ℕ)) → Stop → Type 0
-CheckStopsAsked words file stop = (table : List ℕ) → IsTrue (is_name table) → words ≡ codes "check" ∷ table ∷ [] → NamesNone file table stop
+CheckStopsAsked words file stop = (table : List ℕ) → IsTrue (is_name table)
+    → words ≡ codes "check" ∷ table ∷ [] → NamesNone file table stop
 
 -- if the words ask for `show`, it stops so
-abbrev pub ShowStopsAsked : List (List ℕ) → (List ℕ → Option (List ℕ)) → Option (List ℕ) → Stop → Type 0
+abbrev pub ShowStopsAsked : List (List ℕ) → (List ℕ → Option (List ℕ)) → Option (List ℕ) → Stop
+    → Type 0
 ShowStopsAsked words file input stop =
-    (table : List ℕ) (is_clear : Bool) → IsTrue (is_name table) → AsksShow words table is_clear → ShowStops file table input stop
+    (table : List ℕ) (is_clear : Bool) → IsTrue (is_name table) → AsksShow words table is_clear
+    → ShowStops file table input stop
 
 -- if the words ask for `convert`, it stops so
-abbrev pub ConvertStopsAsked : List (List ℕ) → (List ℕ → Option (List ℕ)) → Option (List ℕ) → Stop → Type 0
-ConvertStopsAsked words file input stop = (from to : List ℕ) → words ≡ codes "convert" ∷ from ∷ to ∷ [] → ConvertStops file from to input stop
+abbrev pub ConvertStopsAsked : List (List ℕ) → (List ℕ → Option (List ℕ)) → Option (List ℕ) → Stop
+    → Type 0
+ConvertStopsAsked words file input stop = (from to : List ℕ)
+    → words ≡ codes "convert" ∷ from ∷ to ∷ [] → ConvertStops file from to input stop
 
 -- what was told is the line of a stop with status 1, one of that command, `run` aside
-pub record IsRefused (words : List (List ℕ)) (file : List ℕ → Option (List ℕ)) (input held written : Option (List ℕ)) : Type 0 where
+pub record IsRefused (words : List (List ℕ)) (file : List ℕ → Option (List ℕ))
+    (input held written : Option (List ℕ)) : Type 0 where
   pub stop : Stop
   pub status : status_of stop ≡ 1
   pub line : Appends held written (line_of stop)

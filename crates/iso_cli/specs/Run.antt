@@ -21,7 +21,8 @@ fresh_books accounts = record { accounts = accounts; limit = 999999; orders = []
 
 -- the input is whole frames, the bytes are the output for their bodies, and the report counts these bodies, under a table that is
 -- ready for a host
-pub record Runs (t : Layout) (accounts : List Account) (h : Header) (all b : List ℕ) (report : Report) : Type 0 where
+pub record Runs (t : Layout) (accounts : List Account) (h : Header) (all b : List ℕ)
+    (report : Report) : Type 0 where
   pub ready : IsHostReady t
   pub bodies : List (List ℕ)
   pub frames : Frames h bodies all
@@ -29,13 +30,19 @@ pub record Runs (t : Layout) (accounts : List Account) (h : Header) (all b : Lis
   pub counted : Reports t report bodies
 
 -- what was appended is that, for the table and the accounts that are named
-abbrev pub RunsOver : (List ℕ → Option (List ℕ)) → List ℕ → List ℕ → Header → Option (List ℕ) → Option (List ℕ) → Option (List ℕ) → Report → Type 0
+abbrev pub RunsOver : (List ℕ → Option (List ℕ)) → List ℕ → List ℕ → Header → Option (List ℕ)
+    → Option (List ℕ) → Option (List ℕ) → Report → Type 0
 RunsOver file table accounts h input old new report =
-    IfSome input (λ all. (t : Layout) × (listed : List Account) × (b : List ℕ) × IsNamed file table t
-    × IfSome (file accounts) (λ text. ListsAccounts text listed) × Runs t listed h all b report × Appends old new b)
+    IfSome input
+    (λ all. (t : Layout) × (listed : List Account) × (b : List ℕ) × IsNamed file table t
+    × IfSome (file accounts) (λ text. ListsAccounts text listed) × Runs t listed h all b report
+    × Appends old new b)
 
 -- where the words ask to run, that was appended to the output, and the line of the report to the fault stream
-abbrev pub RunsAsked : List (List ℕ) → (List ℕ → Option (List ℕ)) → Option (List ℕ) → Option (List ℕ) → Option (List ℕ) → Option (List ℕ) → Option (List ℕ) → Type 0
+abbrev pub RunsAsked : List (List ℕ) → (List ℕ → Option (List ℕ)) → Option (List ℕ)
+    → Option (List ℕ) → Option (List ℕ) → Option (List ℕ) → Option (List ℕ) → Type 0
 RunsAsked words file input old new held written =
-    (table accounts : List ℕ) (header : Header) → words ≡ codes "run" ∷ table ∷ accounts ∷ header_name header ∷ []
-    → (report : Report) × RunsOver file table accounts header input old new report × Appends held written (report_text report)
+    (table accounts : List ℕ) (header : Header)
+    → words ≡ codes "run" ∷ table ∷ accounts ∷ header_name header ∷ []
+    → (report : Report) × RunsOver file table accounts header input old new report
+    × Appends held written (report_text report)

@@ -71,7 +71,8 @@ element_end (Some n) = codes " element " ++ (decimal n ++ codes "\n")
 
 -- the line of a fault that names an element, or none
 abbrev pub named_line : List ℕ → List ℕ → Option ℕ → List ℕ
-named_line what name element = codes "refused: " ++ (what ++ (codes " " ++ (name ++ element_end element)))
+named_line what name element =
+    codes "refused: " ++ (what ++ (codes " " ++ (name ++ element_end element)))
 
 -- the end of a line, with the account that is named, counted from 0
 abbrev pub account_end : Option ℕ → List ℕ
@@ -80,18 +81,23 @@ account_end (Some i) = codes " " ++ (decimal i ++ codes "\n")
 
 -- the line of what is wrong with accounts, and of the account that is named
 abbrev pub accounts_line : AccountsFault → List ℕ
-accounts_line fault = codes "refused: accounts " ++ (accounts_fault_name fault ++ account_end (accounts_fault_account fault))
+accounts_line fault = codes "refused: accounts "
+    ++ (accounts_fault_name fault ++ account_end (accounts_fault_account fault))
 
 -- the line of where bytes stop being a message: why, at which element, and at which offset
 abbrev pub unpack_line : UnpackFault → List ℕ
 unpack_line fault =
-    codes "refused: unpack " ++ (unpack_cause_name fault.cause ++ (codes " element " ++ (decimal fault.element ++ (codes " at " ++ (decimal fault.at ++ codes "\n")))))
+    codes "refused: unpack " ++ (unpack_cause_name fault.cause ++ (codes " element "
+    ++ (decimal fault.element ++ (codes " at " ++ (decimal fault.at ++ codes "\n")))))
 
 -- the line of a stop that names a fault of a table, of accounts, of an input or of a message
 abbrev pub refusal_line : Stop → List ℕ
-refusal_line (Table fault) = named_line (codes "table") (table_fault_name fault) (table_fault_element fault)
-refusal_line (Host fault) = named_line (codes "host") (host_table_fault_name fault) (host_table_fault_element fault)
-refusal_line (Pack fault) = named_line (codes "pack") (pack_fault_name fault) (pack_fault_element fault)
+refusal_line (Table fault) =
+    named_line (codes "table") (table_fault_name fault) (table_fault_element fault)
+refusal_line (Host fault) =
+    named_line (codes "host") (host_table_fault_name fault) (host_table_fault_element fault)
+refusal_line (Pack fault) =
+    named_line (codes "pack") (pack_fault_name fault) (pack_fault_element fault)
 refusal_line (Accounts fault) = accounts_line fault
 refusal_line (Unpack fault) = unpack_line fault
 refusal_line stop = []

@@ -15,7 +15,10 @@ pub record Gave (old new : Counts) (count : ℕ) : Type 0 where
 abbrev pub ReadCause : {A : Type 0} → Counts → Counts → ℕ → Result (Vec ℕ A) InputFault → Type 0
 ReadCause old new turns (Ok bytes) = Gave old new (vec_len bytes) × (new.calls ≤ old.calls + turns)
 ReadCause old new turns (Err Read) = new.failures ≡ old.failures + 1
-ReadCause old new turns (Err TooLong) = (new.failures ≡ old.failures) × (old.moved + 1048576 < new.moved)
+ReadCause old new turns (Err TooLong) = (new.failures ≡ old.failures)
+    × (old.moved + 1048576 < new.moved)
 ReadCause old new turns (Err TooManyTurns) =
-    (new.failures ≡ old.failures) × (new.calls ≡ old.calls + turns) × (new.moved ≤ old.moved + 1048576) × (old.moved + turns ≤ new.moved)
-ReadCause old new turns (Err Memory) = (new.failures ≡ old.failures) × (new.moved ≤ old.moved + 1048576)
+    (new.failures ≡ old.failures) × (new.calls ≡ old.calls + turns)
+    × (new.moved ≤ old.moved + 1048576) × (old.moved + turns ≤ new.moved)
+ReadCause old new turns (Err Memory) = (new.failures ≡ old.failures)
+    × (new.moved ≤ old.moved + 1048576)

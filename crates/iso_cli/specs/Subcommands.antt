@@ -28,8 +28,10 @@ subcommand_app row = with_clear row.clear (named_app row.name.now row.arguments.
 -- the command with these subcommands more
 abbrev pub with_subcommands : App → List Subcommand → App
 with_subcommands app [] = app
-with_subcommands app (row ∷ rows) = with_subcommands (with_subcommand app (subcommand_app row).top) rows
+with_subcommands app (row ∷ rows) =
+    with_subcommands (with_subcommand app (subcommand_app row).top) rows
 
 -- one command is the other with this subcommand more
 abbrev pub AddsRow : Subcommand → Command → Command → Type 0
-AddsRow row old new = (sub : Command) × IsCommand (subcommand_app row) sub × AddsSubcommand old sub new
+AddsRow row old new = (sub : Command) × IsCommand (subcommand_app row) sub
+    × AddsSubcommand old sub new

@@ -21,17 +21,21 @@ most_turns = 100000000
 -- the words ask for a host on a stream, and it took all of its turns
 abbrev pub RunTookTurns : List (List ℕ) → Counts → Counts → Counts → Counts → Type 0
 RunTookTurns words input_old input_new output_old output_new =
-    (table : List ℕ) × (accounts : List ℕ) × (header : Header) × (words ≡ codes "run" ∷ table ∷ accounts ∷ header_name header ∷ [])
+    (table : List ℕ) × (accounts : List ℕ) × (header : Header)
+    × (words ≡ codes "run" ∷ table ∷ accounts ∷ header_name header ∷ [])
     × TookTurns input_old input_new output_old output_new most_turns
 
 -- the line of what failed was told; of too many turns, only where `run` took all of them
-pub record TellsFailure (words : List (List ℕ)) (input_old input_new output_old output_new : Counts) (held written : Option (List ℕ)) : Type 0 where
+pub record TellsFailure (words : List (List ℕ)) (input_old input_new output_old output_new : Counts)
+    (held written : Option (List ℕ)) : Type 0 where
   pub stop : Stop
   pub status : status_of stop ≡ 3
   pub line : Appends held written (line_of stop)
   pub turns : stop ≡ TooManyTurns → RunTookTurns words input_old input_new output_old output_new
 
 -- that, or the fault stream itself failed
-abbrev pub HasFailed : List (List ℕ) → Counts → Counts → Counts → Counts → Option (List ℕ) → Option (List ℕ) → Counts → Counts → Type 0
+abbrev pub HasFailed : List (List ℕ) → Counts → Counts → Counts → Counts → Option (List ℕ)
+    → Option (List ℕ) → Counts → Counts → Type 0
 HasFailed words input_old input_new output_old output_new held written old new =
-    TellsFailure words input_old input_new output_old output_new held written ⊎ (new.failures ≡ old.failures + 1)
+    TellsFailure words input_old input_new output_old output_new held written
+    ⊎ (new.failures ≡ old.failures + 1)

@@ -14,7 +14,8 @@ is_name (byte ∷ rest) = not (byte == 45)
 abbrev pub AsksShow : List (List ℕ) → List ℕ → Bool → Type 0
 AsksShow words table false = words ≡ codes "show" ∷ table ∷ []
 AsksShow words table true =
-    (words ≡ codes "show" ∷ codes "--clear" ∷ table ∷ []) ⊎ (words ≡ codes "show" ∷ table ∷ codes "--clear" ∷ [])
+    (words ≡ codes "show" ∷ codes "--clear" ∷ table ∷ [])
+    ⊎ (words ≡ codes "show" ∷ table ∷ codes "--clear" ∷ [])
 
 -- the name of a header
 abbrev pub header_name : Header → List ℕ
@@ -28,9 +29,11 @@ Asks words Echo = words ≡ []
 Asks words (Check table) = IsTrue (is_name table.now) × (words ≡ codes "check" ∷ table.now ∷ [])
 Asks words (Show table clear) = IsTrue (is_name table.now) × AsksShow words table.now clear
 Asks words (Convert from to) =
-    IsTrue (is_name from.now) × IsTrue (is_name to.now) × (words ≡ codes "convert" ∷ from.now ∷ to.now ∷ [])
+    IsTrue (is_name from.now) × IsTrue (is_name to.now)
+    × (words ≡ codes "convert" ∷ from.now ∷ to.now ∷ [])
 Asks words (Run table accounts header) =
-    IsTrue (is_name table.now) × IsTrue (is_name accounts.now) × (words ≡ codes "run" ∷ table.now ∷ accounts.now ∷ header_name header ∷ [])
+    IsTrue (is_name table.now) × IsTrue (is_name accounts.now)
+    × (words ≡ codes "run" ∷ table.now ∷ accounts.now ∷ header_name header ∷ [])
 
 -- these words spell no job
 abbrev pub AsksNothing : List (List ℕ) → Type 0

@@ -34,7 +34,8 @@ fn perform<S: Source, I: Inlet, O: Outlet>(
 ) -> Result<Option<Report>, Stop>
     ensures { Performs (map (λ w. w.now) words.now) (S.file source.now)
         (I.remaining input.old) (O.contents output.old) (O.contents output.new)
-        (I.counts input.old) (I.counts input.new) (O.counts output.old) (O.counts output.new) result }
+        (I.counts input.old) (I.counts input.new)
+        (O.counts output.old) (O.counts output.new) result }
 {
     match parse(alloc, words)? {
         Job::Echo => echo(alloc, input, output)?,
@@ -91,12 +92,14 @@ pub fn act<S: Source, I: Inlet, O: Outlet, F: Outlet>(
     // told of `run` alone, after exactly 100,000,000 reads and writes.
     ensures failed { result ≡ 3 → HasFailed (map (λ w. w.now) words.now)
         (I.counts input.old) (I.counts input.new) (O.counts output.old) (O.counts output.new)
-        (F.contents faults.old) (F.contents faults.new) (F.counts faults.old) (F.counts faults.new) }
+        (F.contents faults.old) (F.contents faults.new)
+        (F.counts faults.old) (F.counts faults.new) }
     // The status is 0 to 3.
     ensures status { result ≤ 3 }
     // The fault stream got nothing, at status 0; or the report of `run` or a stop's line, with its
     // status; or no more than a front of one, with status 3.
-    ensures told { TellsEnding (F.contents faults.old) (F.contents faults.new) (F.counts faults.old) (F.counts faults.new) result }
+    ensures told { TellsEnding (F.contents faults.old) (F.contents faults.new)
+        (F.counts faults.old) (F.counts faults.new) result }
 {
     match perform(alloc, words, source, input, output) {
         Ok(None) => 0,

@@ -54,7 +54,8 @@ fn given_words<R: Env>(alloc: Global, given: &R) -> Result<Vec<String>, Stop>
 
 /// The words as texts.
 fn texts<'a>(alloc: Global, words: &'a [String]) -> Result<Vec<&'a str>, AllocError>
-    ensures { IfOk result (λ texts. map (λ text. text.now) texts.items ≡ map string_bytes words.now) }
+    ensures { IfOk result
+        (λ texts. map (λ text. text.now) texts.items ≡ map string_bytes words.now) }
 {
     let mut texts = Vec::new(alloc);
     for word in words {

@@ -31,10 +31,12 @@ pub fn check<S: Source, O: Outlet>(
 ) -> Result<(), Stop>
     // Where it succeeds, what was written is the line of the table that is named: its version, how
     // many rows it has, and how many bytes a message may take.
-    ensures line { OnOk result (ChecksOver (S.file source.now) table.now (O.contents output.old) (O.contents output.new)) }
+    ensures line { OnOk result
+        (ChecksOver (S.file source.now) table.now (O.contents output.old) (O.contents output.new)) }
     // A stop of status 1 tells what is wrong with the document that the word names: it is too long,
     // is no JSON, or has this first fault as a table.
-    ensures stop { IfErr result (λ stop. status_of stop ≡ 1 → NamesNone (S.file source.now) table.now stop) }
+    ensures stop { IfErr result
+        (λ stop. status_of stop ≡ 1 → NamesNone (S.file source.now) table.now stop) }
     // No stop says that the command line is refused.
     ensures words { IfErr result (λ stop. stop ≢ Words) }
     // No stop says that there were too many reads and writes.

@@ -118,7 +118,8 @@ pub fn serve_connections<O: Outlet, F: Outlet>(
     requires { IsHostReady table.now }
     // The books are those after the bodies of at most `count` connections, in turn. With status 0
     // exactly `count` were served and told, and none ended for want of memory; else it is 3.
-    ensures served { Serves table.now issuer.old issuer.new count (O.contents output.old) (O.contents output.new)
+    ensures served { Serves table.now issuer.old issuer.new count
+        (O.contents output.old) (O.contents output.new)
         (F.contents faults.old) (F.contents faults.new) result }
 {
     // the proof learns here that bodies behind those of another connection are handled as all of them on one stream

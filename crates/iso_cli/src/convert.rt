@@ -20,7 +20,8 @@ use std::alloc::Global;
 /// The plain bytes, under the second table, of the message that the bytes spell under the first.
 fn converted_bytes(alloc: Global, from: &Table, to: &Table, bytes: &[u8]) -> Result<Vec<u8>, Stop>
     ensures packed { IfOk result (λ packed. Converts from.now to.now bytes.now packed.items) }
-    ensures stop { IfErr result (λ stop. stop ≢ Memory → rewrite_stop to.now bytes.now (message_at from.now bytes.now) ≡ Some stop) }
+    ensures stop { IfErr result (λ stop. stop ≢ Memory
+        → rewrite_stop to.now bytes.now (message_at from.now bytes.now) ≡ Some stop) }
     ensures words { IfErr result (λ stop. stop ≢ Words) }
     ensures turns { IfErr result (λ stop. stop ≢ TooManyTurns) }
 {

@@ -20,7 +20,8 @@ use std::alloc::{AllocError, Global};
 /// The bytes of the response where the message itself decides it, else `none`.
 fn answer_bytes(alloc: Global, table: &Table, message: &Message) -> Result<Vec<u8>, Stop>
     ensures answer { IfOk result (λ answer. Answers table.now message.now answer.items) }
-    ensures stop { IfErr result (λ stop. stop ≢ Memory → reply_stop table.now message.now (verdict message.now) ≡ Some stop) }
+    ensures stop { IfErr result (λ stop. stop ≢ Memory
+        → reply_stop table.now message.now (verdict message.now) ≡ Some stop) }
     ensures words { IfErr result (λ stop. stop ≢ Words) }
     ensures turns { IfErr result (λ stop. stop ≢ TooManyTurns) }
 {
@@ -43,7 +44,8 @@ fn push_answer(answer: &[u8], text: &mut Vec<u8>) -> Result<(), AllocError>
 /// The lines of the message that the bytes begin with, and the line of its answer.
 fn echo_text(alloc: Global, table: &Table, bytes: &[u8]) -> Result<Vec<u8>, Stop>
     ensures text { IfOk result (λ text. Echoes table.now bytes.now text.items) }
-    ensures stop { IfErr result (λ stop. stop ≢ Memory → echo_stop table.now (message_at table.now bytes.now) ≡ Some stop) }
+    ensures stop { IfErr result
+        (λ stop. stop ≢ Memory → echo_stop table.now (message_at table.now bytes.now) ≡ Some stop) }
     ensures words { IfErr result (λ stop. stop ≢ Words) }
     ensures turns { IfErr result (λ stop. stop ≢ TooManyTurns) }
 {
@@ -59,10 +61,12 @@ fn echo_text(alloc: Global, table: &Table, bytes: &[u8]) -> Result<Vec<u8>, Stop
 pub fn echo<I: Inlet, O: Outlet>(alloc: Global, input: &mut I, output: &mut O) -> Result<(), Stop>
     // Where it succeeds, what was written is the message's lines, what a bystander shouldn't read
     // hidden, and then `ANSWER=` with the response that the message decides, or `none`.
-    ensures text { OnOk result (EchoesOver (I.remaining input.old) (O.contents output.old) (O.contents output.new)) }
+    ensures text { OnOk result
+        (EchoesOver (I.remaining input.old) (O.contents output.old) (O.contents output.new)) }
     // A stop of status 1 is the first fault there is: of too long an input, of reading the message
     // that it begins with, or of writing the response.
-    ensures stop { IfErr result (λ stop. status_of stop ≡ 1 → EchoStops (I.remaining input.old) stop) }
+    ensures stop { IfErr result
+        (λ stop. status_of stop ≡ 1 → EchoStops (I.remaining input.old) stop) }
     // No stop says that the command line is refused.
     ensures words { IfErr result (λ stop. stop ≢ Words) }
     // No stop says that there were too many reads and writes.

@@ -62,7 +62,8 @@ fn listening_by<'a>(
     count: &str,
 ) -> Option<Listening<'a>>
     ensures found { IfSome result (Listens table.now accounts.now header.now port.now count.now) }
-    ensures none { IfNone result ((l : Listening) → Listens table.now accounts.now header.now port.now count.now l → ⊥) }
+    ensures none { IfNone result
+        ((l : Listening) → Listens table.now accounts.now header.now port.now count.now l → ⊥) }
 {
     if !is_name(table) || !is_name(accounts) {
         return None;

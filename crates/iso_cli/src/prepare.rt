@@ -34,7 +34,8 @@ pub struct Serving {
 /// The host that the words name. The table is read before the accounts.
 fn host_named<S: Source>(alloc: Global, words: &[&str], source: &S) -> Result<Serving, Stop>
     ensures prepared { IfOk result (Prepares (map (λ w. w.now) words.now) (S.file source.now)) }
-    ensures words { IfErr result (λ stop. stop ≡ Stop.Words → AsksNoServe (map (λ w. w.now) words.now)) }
+    ensures words { IfErr result
+        (λ stop. stop ≡ Stop.Words → AsksNoServe (map (λ w. w.now) words.now)) }
 {
     let asked = parse_serve(alloc, words)?;
     let table = host_table(alloc, source, asked.table)?;
@@ -66,7 +67,8 @@ pub fn prepare<S: Source, F: Outlet>(
     ensures words { IfErr result (λ status. status ≡ 2 → AsksNoServe (map (λ w. w.now) words.now)) }
     // Where it fails, the line of one stop is told, with the status of that stop; or a write
     // failed, and the status is 3.
-    ensures told { IfErr result (TellsStop (F.contents faults.old) (F.contents faults.new) (F.counts faults.old) (F.counts faults.new)) }
+    ensures told { IfErr result (TellsStop (F.contents faults.old) (F.contents faults.new)
+        (F.counts faults.old) (F.counts faults.new)) }
     // Where it succeeds, nothing is told.
     ensures quiet { OnOk result (F.contents faults.new ≡ F.contents faults.old) }
 {

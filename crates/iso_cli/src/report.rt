@@ -30,7 +30,8 @@ pub fn tell_report<F: Outlet>(alloc: Global, faults: &mut F, report: Report) -> 
     ensures status { (result ≡ 0) ⊎ (result ≡ 3) }
     // The report's line is written, with status 0; or `failed: Memory`, with 3, for want of memory;
     // or a write failed behind no more than a front of such a line, with 3.
-    ensures told { TellsReport (F.contents faults.old) (F.contents faults.new) (F.counts faults.old) (F.counts faults.new) report result }
+    ensures told { TellsReport (F.contents faults.old) (F.contents faults.new)
+        (F.counts faults.old) (F.counts faults.new) report result }
 {
     match report_line(alloc, report) {
         Ok(line) => tell_line(faults, &line, 0),

@@ -42,7 +42,8 @@ pub fn host_table<S: Source>(alloc: Global, source: &S, word: &str) -> Result<Ta
 /// The accounts of the document at a path.
 pub fn accounts_at<S: Source>(alloc: Global, source: &S, path: &str) -> Result<Accounts, Stop>
     // Where it succeeds, the accounts are those that the document at the path lists.
-    ensures accounts { IfOk result (λ accounts. IfSome (S.file source.now path.now) (λ text. ListsAccounts text accounts)) }
+    ensures accounts { IfOk result
+        (λ accounts. IfSome (S.file source.now path.now) (λ text. ListsAccounts text accounts)) }
     // No stop says that the command line is refused.
     ensures words { IfErr result (λ stop. stop ≢ Words) }
     // No stop says that there were too many reads and writes.
@@ -73,7 +74,8 @@ pub fn run<S: Source, I: Inlet, O: Outlet>(
         (O.counts output.old) (O.counts output.new) most_turns }
     // It stops for too many turns only after exactly 100,000,000 reads and writes, which moved at
     // least as many bytes.
-    ensures turns { IfErr result (λ stop. stop ≡ TooManyTurns → TookTurns (I.counts input.old) (I.counts input.new)
+    ensures turns { IfErr result
+        (λ stop. stop ≡ TooManyTurns → TookTurns (I.counts input.old) (I.counts input.new)
         (O.counts output.old) (O.counts output.new) most_turns) }
 {
     let table = host_table(alloc, source, table)?;

@@ -20,7 +20,8 @@ use std::alloc::Global;
 /// The lines of the message that the bytes begin with.
 fn first_lines(alloc: Global, table: &Table, clear: bool, bytes: &[u8]) -> Result<Vec<u8>, Stop>
     ensures lines { IfOk result (λ lines. Shows table.now clear bytes.now lines.items) }
-    ensures stop { IfErr result (λ stop. stop ≢ Memory → read_stop (message_at table.now bytes.now) ≡ Some stop) }
+    ensures stop { IfErr result
+        (λ stop. stop ≢ Memory → read_stop (message_at table.now bytes.now) ≡ Some stop) }
     ensures words { IfErr result (λ stop. stop ≢ Words) }
     ensures turns { IfErr result (λ stop. stop ≢ TooManyTurns) }
 {
@@ -43,7 +44,8 @@ pub fn show<S: Source, I: Inlet, O: Outlet>(
         (I.remaining input.old) (O.contents output.old) (O.contents output.new)) }
     // A stop of status 1 is the first fault there is: of the table's document, of too long an
     // input, or of reading the message that it begins with.
-    ensures stop { IfErr result (λ stop. status_of stop ≡ 1 → ShowStops (S.file source.now) table.now (I.remaining input.old) stop) }
+    ensures stop { IfErr result (λ stop. status_of stop ≡ 1
+        → ShowStops (S.file source.now) table.now (I.remaining input.old) stop) }
     // No stop says that the command line is refused.
     ensures words { IfErr result (λ stop. stop ≢ Words) }
     // No stop says that there were too many reads and writes.

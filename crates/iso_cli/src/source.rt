@@ -26,7 +26,8 @@ pub trait Source {
 
     /// The file's bytes. Of one with more than `MOST_BYTES` only that many and one more, so that it can be told.
     fn read(&self, alloc: Global, path: &str) -> Result<Vec<u8>, SourceFault>
-        ensures bytes { IfOk result (λ bytes. IfSome (file self.now path.now) (λ held. bytes.items ≡ read_of held)) };
+        ensures bytes { IfOk result
+            (λ bytes. IfSome (file self.now path.now) (λ held. bytes.items ≡ read_of held)) };
 }
 
 /// The files of the system.
@@ -49,7 +50,8 @@ impl<'a, R: Files> Source for Disk<'a, R> {
 
 /// The bytes of an opened file, or its first ones where there are more than `MOST_BYTES`.
 fn read_front<R: Read + Drop>(alloc: Global, file: R) -> Result<Vec<u8>, SourceFault>
-    ensures { IfOk result (λ bytes. IfSome (R.remaining file) (λ held. bytes.items ≡ read_of held)) }
+    ensures { IfOk result
+        (λ bytes. IfSome (R.remaining file) (λ held. bytes.items ≡ read_of held)) }
 {
     let mut bytes = Vec::new(alloc);
     match file.take(MOST_BYTES + 1).read_to_end(&mut bytes) {

@@ -263,7 +263,8 @@ pub fn tell<F: Outlet>(alloc: Global, faults: &mut F, stop: Stop) -> u8
         (F.counts faults.old) (F.counts faults.new) stop (status_of stop) result }
     // What is told is the line of one stop, with the status of that stop; or a write failed, and
     // the status is 3.
-    ensures stop { TellsStop (F.contents faults.old) (F.contents faults.new) (F.counts faults.old) (F.counts faults.new) result }
+    ensures stop { TellsStop (F.contents faults.old) (F.contents faults.new)
+        (F.counts faults.old) (F.counts faults.new) result }
     // The status is 1 to 3.
     ensures range { (1 ≤ result) × (result ≤ 3) }
 {

@@ -30,13 +30,15 @@ pub enum InputFault {
 /// The last of the reads is the one that gives no byte. What was read before a fault is lost.
 pub fn read_all<I: Inlet>(alloc: Global, input: &mut I, turns: u32) -> Result<Vec<u8>, InputFault>
     // The bytes that are given are those that were taken off the front of the input.
-    ensures bytes { IfOk result (λ bytes. Consumes (I.remaining input.old) (I.remaining input.new) bytes.items) }
+    ensures bytes { IfOk result
+        (λ bytes. Consumes (I.remaining input.old) (I.remaining input.new) bytes.items) }
     // Where it succeeds, nothing of the input is left.
     ensures end { OnOk result (IsAtEnd (I.remaining input.new)) }
     // The bytes that are given are at most 1,048,576.
     ensures bound { IfOk result (λ bytes. vec_len bytes ≤ 1048576) }
     // An input is told to be too long only where it has more than 1,048,576 bytes.
-    ensures too_long { IsErrOf result InputFault.TooLong → IfSome (I.remaining input.old) (λ all. 1048576 < length all) }
+    ensures too_long { IsErrOf result InputFault.TooLong
+        → IfSome (I.remaining input.old) (λ all. 1048576 < length all) }
     // `Read` is told only where a read failed, and all else only where none did; `TooManyTurns`
     // only after all the reads, which gave at least as many bytes.
     ensures cause { ReadCause (I.counts input.old) (I.counts input.new) turns result }
@@ -68,11 +70,13 @@ const MOST_READS: u32 = 2_000_000;
 /// Reads the command's input to its end.
 pub fn read_input<I: Inlet>(alloc: Global, input: &mut I) -> Result<Vec<u8>, Stop>
     // Where it succeeds, the bytes are the whole input.
-    ensures bytes { IfOk result (λ bytes. IfSome (I.remaining input.old) (λ all. all ≡ bytes.items)) }
+    ensures bytes { IfOk result
+        (λ bytes. IfSome (I.remaining input.old) (λ all. all ≡ bytes.items)) }
     // The bytes that are given are at most 1,048,576.
     ensures bound { IfOk result (λ bytes. vec_len bytes ≤ 1048576) }
     // A stop of status 1 is that of too long an input, which has more than 1,048,576 bytes.
-    ensures stop { IfErr result (λ stop. status_of stop ≡ 1 → IsTooLong (I.remaining input.old) stop) }
+    ensures stop { IfErr result
+        (λ stop. status_of stop ≡ 1 → IsTooLong (I.remaining input.old) stop) }
     // No stop says that the command line is refused.
     ensures words { IfErr result (λ stop. stop ≢ Words) }
     // It takes at most 2,000,000 reads. They always suffice: each but the last gives a byte, and more bytes are too long.
@@ -89,7 +93,8 @@ pub fn read_input<I: Inlet>(alloc: Global, input: &mut I) -> Result<Vec<u8>, Sto
 /// Writes the command's output, and flushes it.
 pub fn write_output<O: Outlet>(output: &mut O, bytes: &[u8]) -> Result<(), Stop>
     // Where it succeeds, the output has grown by exactly these bytes.
-    ensures written { OnOk result (Appends (O.contents output.old) (O.contents output.new) bytes.now) }
+    ensures written { OnOk result
+        (Appends (O.contents output.old) (O.contents output.new) bytes.now) }
     // Every stop is that of an output that failed.
     ensures stop { IfErr result (λ stop. stop ≡ Write) }
 {

@@ -106,7 +106,8 @@ fn command<'a>(alloc: Global, subcommands: &[Subcommand]) -> Result<Command<'a>,
 
 /// Whether `clap` lets the words of this command pass.
 fn judge_by<'a>(command: Command<'a>, words: &'a [&'a str]) -> Result<(), WordsFault>
-    ensures passes { IfErr result (λ fault. takes (app_of command.entry) (map (λ w. w.now) words.now) ≡ true
+    ensures passes { IfErr result
+        (λ fault. takes (app_of command.entry) (map (λ w. w.now) words.now) ≡ true
         → fault ≡ WordsFault.Memory) }
 {
     match command.try_get_matches_from(words) {
@@ -123,7 +124,8 @@ pub fn judge_words<'a>(
     words: &'a [&'a str],
 ) -> Result<(), WordsFault>
     // Words that the command with these subcommands takes are refused only for want of memory.
-    ensures passes { IfErr result (λ fault. takes (with_subcommands iso_alone subcommands.now) (map (λ w. w.now) words.now) ≡ true
+    ensures passes { IfErr result (λ fault.
+        takes (with_subcommands iso_alone subcommands.now) (map (λ w. w.now) words.now) ≡ true
         → fault ≡ WordsFault.Memory) }
 {
     let Ok(command) = command(alloc, subcommands) else {

@@ -15,8 +15,10 @@ use std::alloc::Global;
 
 /// The table of the document at a path.
 fn table_at<S: Source>(alloc: Global, source: &S, path: &str) -> Result<Table, Stop>
-    ensures ok { IfOk result (λ table. IfSome (S.file source.now path.now) (λ text. IsTableOf text table)) }
-    ensures stop { IfErr result (λ stop. status_of stop ≡ 1 → IfSome (S.file source.now path.now) (λ held. HoldsNone held stop)) }
+    ensures ok { IfOk result
+        (λ table. IfSome (S.file source.now path.now) (λ text. IsTableOf text table)) }
+    ensures stop { IfErr result (λ stop. status_of stop ≡ 1
+        → IfSome (S.file source.now path.now) (λ held. HoldsNone held stop)) }
     ensures words { IfErr result (λ stop. stop ≢ Words) }
     ensures turns { IfErr result (λ stop. stop ≢ TooManyTurns) }
 {
@@ -31,7 +33,8 @@ pub fn table_named<S: Source>(alloc: Global, source: &S, word: &str) -> Result<T
     ensures ok { IfOk result (IsNamed (S.file source.now) word.now) }
     // A stop of status 1 tells what is wrong with the document that the word names: it is too long,
     // is no JSON, or has this first fault as a table.
-    ensures stop { IfErr result (λ stop. status_of stop ≡ 1 → NamesNone (S.file source.now) word.now stop) }
+    ensures stop { IfErr result
+        (λ stop. status_of stop ≡ 1 → NamesNone (S.file source.now) word.now stop) }
     // No stop says that the command line is refused.
     ensures words { IfErr result (λ stop. stop ≢ Words) }
     // No stop says that there were too many reads and writes.

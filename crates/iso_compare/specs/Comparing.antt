@@ -16,7 +16,8 @@ use Rattle.iso_compare.specs.declared.comparison.Comparison.TheVariants.{Same, D
 -- why the bytes are no message: they stop being one at a place, or bytes follow it
 abbrev pub IsNoMessage : Layout → List ℕ → NoMessage → Type 0
 IsNoMessage t b (Stopped e) = Stops t b e.at e.element e.cause
-IsNoMessage t b (Trailing used total) = ((m : Contents) × BeginsWith t m used b) × (used < total) × (total ≡ length b)
+IsNoMessage t b (Trailing used total) = ((m : Contents) × BeginsWith t m used b) × (used < total)
+    × (total ≡ length b)
 
 -- what the bytes are
 abbrev pub IsReading : Layout → List ℕ → Reading → Type 0
@@ -26,6 +27,8 @@ IsReading t b (readings.No why) = IsNoMessage t b why
 -- the bytes are the same; or two messages, which differ so; or the first that are no message, and why
 abbrev pub Compares : Layout → List ℕ → List ℕ → Comparison → Type 0
 Compares t expected came Same = expected ≡ came
-Compares t expected came (Differ d) = (m : Contents) × (n : Contents) × Spelling t m expected × Spelling t n came × Tells m n d
+Compares t expected came (Differ d) = (m : Contents) × (n : Contents) × Spelling t m expected
+    × Spelling t n came × Tells m n d
 Compares t expected came (Unreadable Expected why) = IsNoMessage t expected why
-Compares t expected came (Unreadable Came why) = ((m : Contents) × Spelling t m expected) × IsNoMessage t came why
+Compares t expected came (Unreadable Came why) = ((m : Contents) × Spelling t m expected)
+    × IsNoMessage t came why

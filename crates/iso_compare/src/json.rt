@@ -163,7 +163,8 @@ pub fn append_differences_json(
 ) -> Result<Tally, NoMemory>
     // Memory aside, the answer counts as `Tally::of` does: the places that were compared, those
     // with the same bytes, and what is missing or came beyond.
-    ensures counts { IfOk result (Counts (map (λ b. b.now) expected.now) (map (λ b. b.now) came.now)) }
+    ensures counts { IfOk result
+        (Counts (map (λ b. b.now) expected.now) (map (λ b. b.now) came.now)) }
     // What was there stays in front.
     ensures kept { Keeps out.old.items out.new.items }
     // Without memory the buffer holds what it held before.

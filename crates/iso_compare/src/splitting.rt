@@ -25,7 +25,8 @@ pub fn split_frames<'a>(
 ) -> Result<Split<'a>, AllocError>
     // Memory aside, it is the split of the bytes into whole frames and a rest that begins with
     // none.
-    ensures { IfOk result (λ split. Splits header bytes.now (map (λ b. b.now) split.bodies.items) split.rest.now) }
+    ensures { IfOk result
+        (λ split. Splits header bytes.now (map (λ b. b.now) split.bodies.items) split.rest.now) }
 {
     splits_once();
     let mut bodies = Vec::new(alloc);

@@ -21,7 +21,8 @@ pub struct Tally {
 /// How many of the bodies that came are as expected, each at its place.
 #[tactic(auto, using(crate::proofs::Pairs::none_beside))]
 fn count_same(expected: &[&[u8]], came: &[&[u8]]) -> usize
-    ensures { result ≡ count_by are_same (zip (map (λ b. b.now) expected.now) (map (λ b. b.now) came.now)) }
+    ensures { result
+        ≡ count_by are_same (zip (map (λ b. b.now) expected.now) (map (λ b. b.now) came.now)) }
 {
     let mut same = 0;
     let (mut wanted, mut given) = (expected, came);
@@ -42,7 +43,8 @@ impl Tally {
         // expected behind the last that came, and what came behind the last that is expected.
         ensures counts { Counts (map (λ b. b.now) expected.now) (map (λ b. b.now) came.now) result }
         // All is the same exactly where the same bodies came, in the same order.
-        ensures all_same { (is_all_same result ≡ true) ↔ (map (λ b. b.now) expected.now ≡ map (λ b. b.now) came.now) }
+        ensures all_same { (is_all_same result ≡ true)
+            ↔ (map (λ b. b.now) expected.now ≡ map (λ b. b.now) came.now) }
     {
         let compared = expected.len().min(came.len());
         Tally {

@@ -27,5 +27,9 @@ abbrev pub counted_beside : Tally → Hearing → Tally
 counted_beside t beside.First = record t { answers = one_more t.answers }
 counted_beside t beside.Known = record t { answers = one_more t.answers; late = one_more t.late }
 counted_beside t beside.Differs =
-    record t { answers = one_more t.answers; late = one_more t.late; differing = one_more t.differing }
+    record t {
+      answers = one_more t.answers;
+      late = one_more t.late;
+      differing = one_more t.differing;
+    }
 counted_beside t beside.Foreign = t

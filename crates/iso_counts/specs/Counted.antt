@@ -18,7 +18,11 @@ framed_of l kind = record l { frames = counted_at l.frames (kind_place kind) }
 -- one more frame of a kind, and its answer of a code, which took so many microseconds
 abbrev pub answered_of : LinkCounts → Kind → ℕ → ℕ → LinkCounts
 answered_of l kind code micros =
-    record l { frames = counted_at l.frames (kind_place kind); answers = counted_at l.answers code; times = added_to l.times micros }
+    record l {
+      frames = counted_at l.frames (kind_place kind);
+      answers = counted_at l.answers code;
+      times = added_to l.times micros;
+    }
 
 -- one more peer that isn't let in
 abbrev pub refused_of : LinkCounts → Refusal → LinkCounts
@@ -30,7 +34,8 @@ opened_of l = record l { opened = more_of l.opened 1; connected = more_of l.conn
 
 -- one peer less that is connected
 abbrev pub closed_of : LinkCounts → Closing → LinkCounts
-closed_of l why = record l { connected = l.connected - 1; closed = counted_at l.closed (closing_place why) }
+closed_of l why =
+    record l { connected = l.connected - 1; closed = counted_at l.closed (closing_place why) }
 
 -- so many more bytes that came and went
 abbrev pub moved_of : LinkCounts → ℕ → ℕ → LinkCounts
@@ -41,11 +46,14 @@ abbrev pub counted_of : LinkCounts → Event → LinkCounts
 counted_of l (Told.Connected link peer address) = opened_of l
 counted_of l (Told.Refused link address why) = refused_of l why
 counted_of l (Told.NotAccepted link) = record l { not_accepted = more_of l.not_accepted 1 }
-counted_of l (Told.Answered link peer kind key code entry micros) = answered_of l (kind_of_frame kind) code micros
-counted_of l (Told.Replied link peer kind code micros) = answered_of l (kind_of_frame kind) code micros
+counted_of l (Told.Answered link peer kind key code entry micros) =
+    answered_of l (kind_of_frame kind) code micros
+counted_of l (Told.Replied link peer kind code micros) =
+    answered_of l (kind_of_frame kind) code micros
 counted_of l (Told.Foreign link peer kind key micros) =
     record (answered_of l (kind_of_frame kind) 12 micros) { foreign = more_of l.foreign 1 }
-counted_of l (Told.Silent link peer kind) = record (framed_of l (kind_of_frame kind)) { silent = more_of l.silent 1 }
+counted_of l (Told.Silent link peer kind) =
+    record (framed_of l (kind_of_frame kind)) { silent = more_of l.silent 1 }
 counted_of l (Told.Unreadable link peer kind fault) = framed_of l Kinds.Unreadable
 counted_of l (Told.Closed link peer why counts) = closed_of l why
 counted_of l (Told.Moved link came went) = moved_of l came went

@@ -10,7 +10,8 @@ more_of count more = min (count + more) (2 ^ 64 - 1)
 -- the counts with one more at a place, if there is such a place
 abbrev pub counted_at : List ℕ → ℕ → List ℕ
 counted_at counts place =
-    if nat_lt place (length counts) then slice_set counts place (more_of (slice_index counts place) 1) else counts
+    if nat_lt place (length counts)
+    then slice_set counts place (more_of (slice_index counts place) 1) else counts
 
 -- the first bucket whose bound is at least the value, and behind all bounds the last one
 abbrev pub bucket_of : List ℕ → ℕ → ℕ
@@ -18,4 +19,5 @@ bucket_of bounds value = unwrap_or (position (λ bound. nat_le value bound) boun
 
 -- a histogram with one more value
 abbrev pub added_to : Histogram → ℕ → Histogram
-added_to h micros = record { counts = counted_at h.counts (bucket_of BOUNDS micros); sum = more_of h.sum micros }
+added_to h micros =
+    record { counts = counted_at h.counts (bucket_of BOUNDS micros); sum = more_of h.sum micros }

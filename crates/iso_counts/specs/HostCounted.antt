@@ -12,7 +12,9 @@ kept_of h orders micros = record h { syncs = added_to h.syncs micros; kept = mor
 -- what each event changes: an entry that is answered is in the journal, and a failed log can't be written
 abbrev pub host_counted_of : HostCounts → Event → HostCounts
 host_counted_of h (Told.Kept orders micros) = kept_of h orders micros
-host_counted_of h (Told.Answered link peer kind key code entry micros) = record h { entries = max h.entries entry }
-host_counted_of h (Told.Journal entries limit hundredths) = record h { entries = entries; limit = limit }
+host_counted_of h (Told.Answered link peer kind key code entry micros) =
+    record h { entries = max h.entries entry }
+host_counted_of h (Told.Journal entries limit hundredths) =
+    record h { entries = entries; limit = limit }
 host_counted_of h Told.LogFailed = record h { can_write = false }
 host_counted_of h _ = h

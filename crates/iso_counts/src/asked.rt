@@ -58,11 +58,14 @@ impl Asked {
     /// What a request asks for by its method and its target.
     pub fn of_line(method: &[u8], target: &[u8]) -> Asked
         // A GET or HEAD of the path `/metrics`, up to a question mark, asks for the metrics.
-        ensures metrics { IsRead method.now → path_of target.now ≡ codes "/metrics" → result ≡ Asked.Metrics }
+        ensures metrics { IsRead method.now → path_of target.now ≡ codes "/metrics"
+            → result ≡ Asked.Metrics }
         // A GET or HEAD of the path `/health`, up to a question mark, asks for the host's health.
-        ensures health { IsRead method.now → path_of target.now ≡ codes "/health" → result ≡ Asked.Health }
+        ensures health { IsRead method.now → path_of target.now ≡ codes "/health"
+            → result ≡ Asked.Health }
         // Any method but GET and HEAD isn't allowed on the paths `/metrics` and `/health`.
-        ensures not_allowed { ¬ (IsRead method.now) → IsPage (path_of target.now) → result ≡ Asked.NotAllowed }
+        ensures not_allowed { ¬ (IsRead method.now) → IsPage (path_of target.now)
+            → result ≡ Asked.NotAllowed }
         // Any path but `/metrics` and `/health` isn't found, whatever the method.
         ensures not_found { ¬ (IsPage (path_of target.now)) → result ≡ Asked.NotFound }
     {

@@ -14,7 +14,8 @@ use Rattle.iso_restarts.specs.Front.{LeavesFront}
 use Rattle.iso_diary.specs.Notes.{note_of, note_or_nothing, notes_of, diary_notes, IsReady, synced_notes, pending_notes, LeavesNotes}
 
 -- the note of the bytes of a line
-pub note_is : (r : Line) (bytes : List ℕ) → bytes ≡ line_bytes r → line_in (line_bytes r) ≡ Some r → note_of bytes ≡ r.note
+pub note_is : (r : Line) (bytes : List ℕ) → bytes ≡ line_bytes r → line_in (line_bytes r) ≡ Some r
+    → note_of bytes ≡ r.note
 note_is r bytes is back = ap note_of is ∙ ap note_or_nothing back
 
 -- the notes of records, and of more records behind them
@@ -23,7 +24,8 @@ notes_append [] ys = refl
 notes_append (x ∷ xs) ys = ap (λ (l : List Note). note_of x ∷ l) (notes_append xs ys)
 
 -- a front is the synced ones, and a front of the rest
-front_split : (s m : ℕ) (xs : List (List ℕ)) → s ≤ m → (n : ℕ) × (take m xs ≡ take s xs ++ take n (drop s xs))
+front_split : (s m : ℕ) (xs : List (List ℕ)) → s ≤ m
+    → (n : ℕ) × (take m xs ≡ take s xs ++ take n (drop s xs))
 front_split zero m xs le = (m, refl)
 front_split (suc s) zero xs le = absurd (omega (arith, le))
 front_split (suc s) (suc m) [] le = (0, refl)
@@ -38,7 +40,8 @@ notes_take (suc n) [] = refl
 notes_take (suc n) (x ∷ xs) = ap (λ (l : List Note). note_of x ∷ l) (notes_take n xs)
 
 -- behind the heading
-diary_append : (xs ys : List (List ℕ)) → 1 ≤ length xs → diary_notes (xs ++ ys) ≡ diary_notes xs ++ notes_of ys
+diary_append : (xs ys : List (List ℕ)) → 1 ≤ length xs
+    → diary_notes (xs ++ ys) ≡ diary_notes xs ++ notes_of ys
 diary_append [] ys some = absurd (omega (arith, some))
 diary_append (x ∷ xs) ys some = notes_append xs ys
 
@@ -48,77 +51,110 @@ take_some zero xs least le = absurd (omega (arith, least))
 take_some (suc s) [] least le = absurd (omega (arith, le))
 take_some (suc s) (x ∷ xs) least le = omega arith
 
-module _ {D : Type 0} (seen : D → List ℕ) (may_leave : D → List ℕ → Type 0) (is_usable : D → Bool) where
+module _ {D : Type 0} (seen : D → List ℕ) (may_leave : D → List ℕ → Type 0)
+    (is_usable : D → Bool) where
   -- what a log leaves whose records a crash leaves from the front
-  pub leaves_front : (old new : RecordLog D) (records : List (List ℕ)) → 1 ≤ old.synced → old.synced ≤ length records → LeavesRecords (may_leave new.disk) old.synced records
-      → LeavesFront (LeavesNotes may_leave new) (diary_notes (take old.synced records)) (notes_of (drop old.synced records))
+  pub leaves_front : (old new : RecordLog D) (records : List (List ℕ)) → 1 ≤ old.synced
+      → old.synced ≤ length records → LeavesRecords (may_leave new.disk) old.synced records
+      → LeavesFront (LeavesNotes may_leave new) (diary_notes (take old.synced records))
+      (notes_of (drop old.synced records))
   leaves_front old new records least few leaves = λ orders left.
       let found = leaves left.0 left.1 in
       let split = front_split old.synced found.0 records found.1 in (
         split.0,
-        left.2 ∙ ap diary_notes (found.2 ∙ split.1) ∙ diary_append (take old.synced records) (take split.0 (drop old.synced records)) (take_some old.synced records least few)
-            ∙ ap (λ (l : List Note). diary_notes (take old.synced records) ++ l) (notes_take split.0 (drop old.synced records)),
+        left.2 ∙ ap diary_notes (found.2 ∙ split.1) ∙ diary_append (take old.synced records)
+            (take split.0 (drop old.synced records)) (take_some old.synced records least few)
+            ∙ ap (λ (l : List Note). diary_notes (take old.synced records) ++ l)
+            (notes_take split.0 (drop old.synced records)),
       )
 
   -- the synced records are there
-  pub synced_few : (log : RecordLog D) → IsLog seen may_leave is_usable log → log.synced ≤ length (records_of (seen log.disk))
+  pub synced_few : (log : RecordLog D) → IsLog seen may_leave is_usable log
+      → log.synced ≤ length (records_of (seen log.disk))
   synced_few log is = omega (arith, is.some, count_is log.slots log.count (seen log.disk) is.file)
 
   -- a crash leaves the synced notes, and a front of those that wait
-  pub ready_leaves : (log : RecordLog D) → IsReady seen may_leave is_usable log → LeavesFront (LeavesNotes may_leave log) (synced_notes seen log) (pending_notes seen log)
+  pub ready_leaves : (log : RecordLog D) → IsReady seen may_leave is_usable log
+      → LeavesFront (LeavesNotes may_leave log) (synced_notes seen log) (pending_notes seen log)
   ready_leaves log is =
-      leaves_front log log (records_of (seen log.disk)) is.headed (synced_few log is.log_is) (λ c here. left_records log.slots log.count log.synced (seen log.disk) c is.log_is.file is.log_is.some (is.log_is.left c here))
+      leaves_front log log (records_of (seen log.disk)) is.headed (synced_few log is.log_is)
+      (λ c here. left_records log.slots log.count log.synced
+      (seen log.disk) c is.log_is.file is.log_is.some (is.log_is.left c here))
 
   -- a record more
-  pub synced_same : (old new : RecordLog D) (bytes : List ℕ) → IsLog seen may_leave is_usable old → new.synced ≡ old.synced
-      → records_of (seen new.disk) ≡ records_of (seen old.disk) ++ bytes ∷ [] → synced_notes seen new ≡ synced_notes seen old
+  pub synced_same : (old new : RecordLog D) (bytes : List ℕ) → IsLog seen may_leave is_usable old
+      → new.synced ≡ old.synced
+      → records_of (seen new.disk) ≡ records_of (seen old.disk) ++ bytes ∷ []
+      → synced_notes seen new ≡ synced_notes seen old
   synced_same old new bytes is synced more =
       let rs = records_of (seen old.disk) in
-      ap (λ n. diary_notes (take n (records_of (seen new.disk)))) synced ∙ ap (λ (l : List (List ℕ)). diary_notes (take old.synced l)) more
+      ap (λ n. diary_notes (take n (records_of (seen new.disk)))) synced
+      ∙ ap (λ (l : List (List ℕ)). diary_notes (take old.synced l)) more
       ∙ ap diary_notes (take-append-le old.synced rs (bytes ∷ []) (synced_few old is))
 
   -- a record more adds its note behind those that wait
-  pub pending_more : (old : RecordLog D) (bytes : List ℕ) (o : Note) → IsLog seen may_leave is_usable old → note_of bytes ≡ o
-      → notes_of (drop old.synced (records_of (seen old.disk) ++ bytes ∷ [])) ≡ pending_notes seen old ++ o ∷ []
+  pub pending_more : (old : RecordLog D) (bytes : List ℕ) (o : Note)
+      → IsLog seen may_leave is_usable old → note_of bytes ≡ o
+      → notes_of (drop old.synced (records_of (seen old.disk) ++ bytes ∷ []))
+      ≡ pending_notes seen old ++ o ∷ []
   pending_more old bytes o is same =
       let rs = records_of (seen old.disk) in
-      ap notes_of (drop-append-le old.synced rs (bytes ∷ []) (synced_few old is)) ∙ notes_append (drop old.synced rs) (bytes ∷ [])
+      ap notes_of (drop-append-le old.synced rs (bytes ∷ []) (synced_few old is))
+      ∙ notes_append (drop old.synced rs) (bytes ∷ [])
       ∙ ap (λ (p : Note). pending_notes seen old ++ p ∷ []) same
 
   -- so it does in the log that has the record, where nothing was synced meanwhile
-  pub pending_new : (old new : RecordLog D) (bytes : List ℕ) (o : Note) → IsLog seen may_leave is_usable old → note_of bytes ≡ o → new.synced ≡ old.synced
-      → records_of (seen new.disk) ≡ records_of (seen old.disk) ++ bytes ∷ [] → pending_notes seen new ≡ pending_notes seen old ++ o ∷ []
+  pub pending_new : (old new : RecordLog D) (bytes : List ℕ) (o : Note)
+      → IsLog seen may_leave is_usable old → note_of bytes ≡ o → new.synced ≡ old.synced
+      → records_of (seen new.disk) ≡ records_of (seen old.disk) ++ bytes ∷ []
+      → pending_notes seen new ≡ pending_notes seen old ++ o ∷ []
   pending_new old new bytes o is same synced more =
-      ap (λ n. notes_of (drop n (records_of (seen new.disk)))) synced ∙ ap (λ (l : List (List ℕ)). notes_of (drop old.synced l)) more ∙ pending_more old bytes o is same
+      ap (λ n. notes_of (drop n (records_of (seen new.disk)))) synced
+      ∙ ap (λ (l : List (List ℕ)). notes_of (drop old.synced l)) more
+      ∙ pending_more old bytes o is same
 
   -- a crash while a record is added
-  pub append_front : (old new : RecordLog D) (bytes : List ℕ) (o : Note) → IsReady seen may_leave is_usable old → note_of bytes ≡ o
+  pub append_front : (old new : RecordLog D) (bytes : List ℕ) (o : Note)
+      → IsReady seen may_leave is_usable old → note_of bytes ≡ o
       → LeavesRecords (may_leave new.disk) old.synced (records_of (seen old.disk) ++ bytes ∷ [])
-      → LeavesFront (LeavesNotes may_leave new) (synced_notes seen old) (pending_notes seen old ++ o ∷ [])
+      → LeavesFront (LeavesNotes may_leave new) (synced_notes seen old)
+      (pending_notes seen old ++ o ∷ [])
   append_front old new bytes o is same leaves = λ orders left.
       let rs = records_of (seen old.disk) in
       let found = leaves_front old new (rs ++ bytes ∷ []) is.headed (omega (arith, synced_few old is.log_is, length-append rs (bytes ∷ []))) leaves orders left in (
         found.0,
         found.1
-            ∙ ap (λ (l : List (List ℕ)). diary_notes l ++ take found.0 (notes_of (drop old.synced (rs ++ bytes ∷ [])))) (take-append-le old.synced rs (bytes ∷ []) (synced_few old is.log_is))
-            ∙ ap (λ (l : List Note). synced_notes seen old ++ take found.0 l) (pending_more old bytes o is.log_is same),
+            ∙ ap (λ (l : List (List ℕ)). diary_notes l
+            ++ take found.0 (notes_of (drop old.synced (rs ++ bytes ∷ []))))
+            (take-append-le old.synced rs (bytes ∷ []) (synced_few old is.log_is))
+            ∙ ap (λ (l : List Note). synced_notes seen old ++ take found.0 l)
+            (pending_more old bytes o is.log_is same),
       )
 
   -- after a sync
-  pub all_synced : (old new : RecordLog D) → IsReady seen may_leave is_usable old → new.synced ≡ length (records_of (seen new.disk)) → records_of (seen new.disk) ≡ records_of (seen old.disk)
+  pub all_synced : (old new : RecordLog D) → IsReady seen may_leave is_usable old
+      → new.synced ≡ length (records_of (seen new.disk))
+      → records_of (seen new.disk) ≡ records_of (seen old.disk)
       → synced_notes seen new ≡ synced_notes seen old ++ pending_notes seen old
   all_synced old new is count same =
       let rs = records_of (seen old.disk) in
       let now = records_of (seen new.disk) in
-      ap (λ n. diary_notes (take n now)) count ∙ ap diary_notes (take_all (length now) now (omega arith)) ∙ ap diary_notes same ∙ sym (ap diary_notes (take-append-drop old.synced rs))
-      ∙ diary_append (take old.synced rs) (drop old.synced rs) (take_some old.synced rs is.headed (synced_few old is.log_is))
+      ap (λ n. diary_notes (take n now)) count
+      ∙ ap diary_notes (take_all (length now) now (omega arith)) ∙ ap diary_notes same
+      ∙ sym (ap diary_notes (take-append-drop old.synced rs))
+      ∙ diary_append (take old.synced rs) (drop old.synced rs)
+      (take_some old.synced rs is.headed (synced_few old is.log_is))
 
   -- the heading stays synced
-  pub still_headed : (old new : RecordLog D) → IsReady seen may_leave is_usable old → new.synced ≡ length (records_of (seen new.disk)) → records_of (seen new.disk) ≡ records_of (seen old.disk) → 1 ≤ new.synced
-  still_headed old new is count same = omega (arith, is.headed, synced_few old is.log_is, count, ap length same)
+  pub still_headed : (old new : RecordLog D) → IsReady seen may_leave is_usable old
+      → new.synced ≡ length (records_of (seen new.disk))
+      → records_of (seen new.disk) ≡ records_of (seen old.disk) → 1 ≤ new.synced
+  still_headed old new is count same =
+      omega (arith, is.headed, synced_few old is.log_is, count, ap length same)
 
   -- where all records are synced, no note waits
-  pub none_pending : (new : RecordLog D) → new.synced ≡ length (records_of (seen new.disk)) → pending_notes seen new ≡ []
+  pub none_pending : (new : RecordLog D) → new.synced ≡ length (records_of (seen new.disk))
+      → pending_notes seen new ≡ []
   none_pending new count =
       let now = records_of (seen new.disk) in
       ap (λ n. notes_of (drop n now)) count ∙ ap notes_of (drop_all now)
@@ -128,9 +164,15 @@ module _ {D : Type 0} (seen : D → List ℕ) (may_leave : D → List ℕ → Ty
       drop_all (x ∷ xs) = drop_all xs
 
   -- where as many are synced as there are, none waits
-  pub none_waits : (log : RecordLog D) → IsReady seen may_leave is_usable log → log.synced ≡ log.count → pending_notes seen log ≡ []
-  none_waits log is all = none_pending log (omega (arith, all, count_is log.slots log.count (seen log.disk) is.log_is.file))
+  pub none_waits : (log : RecordLog D) → IsReady seen may_leave is_usable log
+      → log.synced ≡ log.count → pending_notes seen log ≡ []
+  none_waits log is all = none_pending log
+      (omega (arith, all, count_is log.slots log.count (seen log.disk) is.log_is.file))
 
   -- so all are synced
-  pub synced_already : (log : RecordLog D) → IsReady seen may_leave is_usable log → log.synced ≡ log.count → synced_notes seen log ≡ synced_notes seen log ++ pending_notes seen log
-  synced_already log is all = sym (ap (λ (l : List Note). synced_notes seen log ++ l) (none_waits log is all) ∙ append-nil (synced_notes seen log))
+  pub synced_already : (log : RecordLog D) → IsReady seen may_leave is_usable log
+      → log.synced ≡ log.count
+      → synced_notes seen log ≡ synced_notes seen log ++ pending_notes seen log
+  synced_already log is all =
+      sym (ap (λ (l : List Note). synced_notes seen log ++ l) (none_waits log is all)
+      ∙ append-nil (synced_notes seen log))

@@ -14,7 +14,8 @@ magic = codes "ISO 8583 ACQUIRER DIARY "
 
 -- the record of a heading
 unfoldable pub heading_bytes : Head → List ℕ
-heading_bytes h = magic ++ (decimal 4 1 ++ (decimal 5 h.rules ++ (decimal 11 h.acquirer ++ (blanks 83 ++ 10 ∷ []))))
+heading_bytes h = magic
+    ++ (decimal 4 1 ++ (decimal 5 h.rules ++ (decimal 11 h.acquirer ++ (blanks 83 ++ 10 ∷ []))))
 
 -- what a first record tells otherwise than the one that is wanted, looked at from the front
 abbrev pub heading_fault : List ℕ → List ℕ → Option HeadingFault
@@ -35,10 +36,12 @@ HeadingsAreWhole = (h : Head) → is_whole (heading_bytes h) ≡ true
 
 -- and those of two headings differ
 abbrev pub HeadingsDiffer : Type 0
-HeadingsDiffer = (a b : Head) → IsHeading a → IsHeading b → heading_bytes a ≡ heading_bytes b → a ≡ b
+HeadingsDiffer = (a b : Head) → IsHeading a → IsHeading b → heading_bytes a ≡ heading_bytes b
+    → a ≡ b
 
 -- what differs is told: the rules, or else the acquirer
 abbrev pub HeadingsAreToldApart : Type 0
 HeadingsAreToldApart =
     (a b : Head) → IsHeading a → IsHeading b → (a ≡ b → ⊥)
-    → heading_fault (heading_bytes a) (heading_bytes b) ≡ (if a.rules == b.rules then Some Acquirer else Some Rules)
+    → heading_fault (heading_bytes a) (heading_bytes b)
+    ≡ (if a.rules == b.rules then Some Acquirer else Some Rules)

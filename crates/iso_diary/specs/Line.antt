@@ -29,7 +29,8 @@ long_digits v = decimal 10 (v / 10 ^ 10) ++ decimal 10 (v % 10 ^ 10)
 -- the key of an order that got an answer, and the answer's code
 unfoldable pub answered_bytes : TxKey → ℕ → List ℕ
 answered_bytes k code =
-    decimal 5 k.base ++ (decimal 10 k.stan ++ (long_digits k.sent ++ (long_digits k.acquirer ++ (decimal 3 code ++ blanks 41))))
+    decimal 5 k.base ++ (decimal 10 k.stan
+    ++ (long_digits k.sent ++ (long_digits k.acquirer ++ (decimal 3 code ++ blanks 41))))
 
 -- what happened, in 99 bytes
 abbrev pub body : Note → List ℕ
@@ -94,7 +95,8 @@ answered_by _ _ _ _ _ = None
 -- the answer that came
 abbrev pub answered_in : List ℕ → Option Note
 answered_in text =
-    answered_by (below (2 ^ 16) (number_at text 0 5)) (below (2 ^ 32) (number_at text 5 10)) (long_at text 15) (long_at text 35)
+    answered_by (below (2 ^ 16) (number_at text 0 5)) (below (2 ^ 32) (number_at text 5 10))
+    (long_at text 15) (long_at text 35)
     (below (2 ^ 8) (number_at text 55 3))
 
 -- what happened, by its letter

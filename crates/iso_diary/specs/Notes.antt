@@ -44,9 +44,11 @@ module _ {D : Type 0} (seen : D → List ℕ) (log : RecordLog D) where
 
 -- the notes that a start finds in a file that a crash may leave
 abbrev pub LeavesNotes : {D : Type 0} → (D → List ℕ → Type 0) → RecordLog D → List Note → Type 0
-LeavesNotes may_leave log notes = (c : List ℕ) × may_leave log.disk c × (notes ≡ diary_notes (records_of c))
+LeavesNotes may_leave log notes = (c : List ℕ) × may_leave log.disk c
+    × (notes ≡ diary_notes (records_of c))
 
 -- a log of records, whose heading is synced
-pub record IsReady {D : Type 0} (seen : D → List ℕ) (may_leave : D → List ℕ → Type 0) (is_usable : D → Bool) (log : RecordLog D) : Type 0 where
+pub record IsReady {D : Type 0} (seen : D → List ℕ) (may_leave : D → List ℕ → Type 0)
+    (is_usable : D → Bool) (log : RecordLog D) : Type 0 where
   pub log_is : IsLog seen may_leave is_usable log
   pub headed : 1 ≤ log.synced

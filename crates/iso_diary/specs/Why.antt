@@ -10,7 +10,8 @@ use Rattle.iso_diary.specs.Kept.{AreNotes}
 
 -- what a file tells otherwise than the heading that is wanted. One with no record tells no format
 abbrev pub other_heading : List ℕ → List ℕ → Option HeadingFault
-other_heading wanted file = if nat_lt (length file) 128 then Some Format else heading_fault (take 128 file) wanted
+other_heading wanted file =
+    if nat_lt (length file) 128 then Some Format else heading_fault (take 128 file) wanted
 
 -- the records in front of this one are notes at their places, and this one isn't
 pub record IsDamaged (place : ℕ) (records : List (List ℕ)) : Type 0 where

@@ -62,11 +62,13 @@ pub fn open_after_a_crash<D: Disk + Drop>(
     // At `Ok`, on a disk that didn't lie and shows what is on it, the notes are the synced ones of
     // the acquirer that crashed, and of those behind them some from the front.
     ensures crashed { IfOk result (λ o. IsTrue (D.is_clean o.log.log.disk)
-        → IsConsistent (λ l. IsReady D.seen D.may_leave D.is_usable l.log) (λ l. synced_notes D.seen l.log)
+        → IsConsistent (λ l. IsReady D.seen D.may_leave D.is_usable l.log) (λ l.
+        synced_notes D.seen l.log)
         (λ l. pending_notes D.seen l.log) before.now
         → D.may_leave before.now.log.log.disk (D.seen disk)
         → Only (D.seen disk) (D.may_leave disk)
-        → MayLeave (diary_of (λ l. synced_notes D.seen l.log) (λ l. pending_notes D.seen l.log) before.now) o.notes.items) }
+        → MayLeave (diary_of (λ l. synced_notes D.seen l.log)
+        (λ l. pending_notes D.seen l.log) before.now) o.notes.items) }
 {
     match open(alloc, disk, heading, group) {
         Ok(opened) => Ok(opened),

@@ -71,7 +71,8 @@ fn load<D: Disk>(
 ) -> Result<Loaded, OpenError>
     ensures ready { IfOk result (λ l. IsTrue (D.is_clean disk.new)
         → Only (D.seen disk.old) (D.may_leave disk.old)
-        → IsReady D.seen D.may_leave D.is_usable (record { disk = disk.new; slots = l.slots; count = l.count; synced = l.count })) }
+        → IsReady D.seen D.may_leave D.is_usable
+        (record { disk = disk.new; slots = l.slots; count = l.count; synced = l.count })) }
     ensures notes { IfOk result (λ l. IsTrue (D.is_clean disk.new)
         → Only (D.seen disk.old) (D.may_leave disk.old)
         → l.notes.items ≡ diary_notes (records_of (D.seen disk.old))) }
@@ -120,7 +121,8 @@ pub fn open<D: Disk + Drop>(
     // notes, and nothing waits.
     ensures opened { IfOk result (λ o. IsTrue (D.is_clean o.log.log.disk)
         → Only (D.seen disk) (D.may_leave disk)
-        → IsOpened (λ l. IsReady D.seen D.may_leave D.is_usable l.log) (λ l. synced_notes D.seen l.log)
+        → IsOpened (λ l. IsReady D.seen D.may_leave D.is_usable l.log)
+        (λ l. synced_notes D.seen l.log)
         (λ l. pending_notes D.seen l.log) o.log o.notes.items) }
     // At `Ok`, on a disk that didn't lie and shows what is on it, the notes are those of the file's
     // records behind the heading.

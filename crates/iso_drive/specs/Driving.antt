@@ -33,7 +33,8 @@ slots_in d = (in_memory d.diary).slots
 
 -- it is told a moment; one before the latest counts as the latest
 abbrev pub at_moment : ℕ → Driving → Driving
-at_moment now d = record { diary = d.diary; waiting = d.waiting; patience = d.patience; clock = max d.clock now }
+at_moment now d =
+    record { diary = d.diary; waiting = d.waiting; patience = d.patience; clock = max d.clock now }
 
 -- when what happens now is due
 abbrev pub next_due : Driving → ℕ
@@ -84,7 +85,8 @@ hears_new d key code Foreign = d
 
 -- its notes are synced
 abbrev pub keeps_all : Driving → Driving
-keeps_all d = record { diary = keeps d.diary; waiting = d.waiting; patience = d.patience; clock = d.clock }
+keeps_all d =
+    record { diary = keeps d.diary; waiting = d.waiting; patience = d.patience; clock = d.clock }
 
 -- ---- a driver over the log of its notes
 
@@ -107,7 +109,8 @@ is_stopped d = d.acquirer.has_failed
 
 -- its acquirer is what its notes make it; the driver has its orders, and each open transaction waits once, in time
 pub record IsDriving
-    {L : Type 0} (is_ready : L → Type 0) (synced pending : L → List Note) (d : Driver L) : Type 0 where
+    {L : Type 0} (is_ready : L → Type 0) (synced pending : L → List Note)
+    (d : Driver L) : Type 0 where
   pub consistent : IsConsistent is_ready synced pending d.acquirer
   pub own : d.id ≡ d.acquirer.acquirer.id
   pub board : IsBoard d.board (slots_in (driving_of synced pending d))
@@ -115,7 +118,8 @@ pub record IsDriving
 
 -- it goes on as before
 pub record Remains
-    {L : Type 0} (is_ready : L → Type 0) (synced pending : L → List Note) (old new : Driver L) : Type 0 where
+    {L : Type 0} (is_ready : L → Type 0) (synced pending : L → List Note)
+    (old new : Driver L) : Type 0 where
   pub driving : IsDriving is_ready synced pending old → IsDriving is_ready synced pending new
   pub same : driving_of synced pending new ≡ driving_of synced pending old
 
@@ -127,7 +131,8 @@ pub record Stops {T : Type 0} (old new : Bool) (result : Result T Fault) : Type 
 
 -- some from the front of those that are due are timed out, and wait again
 abbrev pub WakesSome : Driving → Driving → Type 0
-WakesSome old new = (n : ℕ) × (n ≤ length (due_by old.clock old.waiting)) × (new ≡ wakes_first n old)
+WakesSome old new = (n : ℕ) × (n ≤ length (due_by old.clock old.waiting))
+    × (new ≡ wakes_first n old)
 
 -- a crash leaves these notes, when some of those that are due were timed out
 abbrev pub MayLeaveSome : Driving → List Note → Type 0

@@ -38,14 +38,17 @@ pub record CallsAreEvents : Type 0 where
       (w : World) (d : Driving) → d.diary ≡ w.acquirer →
       (run (time_outs (due_by d.clock d.waiting)) w).acquirer ≡ (wakes d).diary
   pub heard_new :
-      (w : World) (d : Driving) (place : ℕ) (g : Given) (stan : ℕ) (state : State) → d.diary ≡ w.acquirer →
+      (w : World) (d : Driving) (place : ℕ) (g : Given) (stan : ℕ) (state : State) →
+      d.diary ≡ w.acquirer →
       slice_get w.given place ≡ Some g →
       (happens w (Goes (Passes (Answer place)))).acquirer
       ≡ (hears_new d g.key g.answer.code (Closed stan state)).diary
   pub keep :
-      (w : World) (d : Driving) → d.diary ≡ w.acquirer → (happens w Keeps).acquirer ≡ (keeps_all d).diary
+      (w : World) (d : Driving) → d.diary ≡ w.acquirer →
+      (happens w Keeps).acquirer ≡ (keeps_all d).diary
   pub sent :
-      (w : World) (d : Driving) → d.diary ≡ w.acquirer → (happens w Keeps).sent ≡ w.sent ++ unsent d.diary
+      (w : World) (d : Driving) → d.diary ≡ w.acquirer →
+      (happens w Keeps).sent ≡ w.sent ++ unsent d.diary
 
 -- ---- so its own books are the issuer's
 
@@ -53,7 +56,8 @@ pub record CallsAreEvents : Type 0 where
 -- amount less what the driver's own books say was spent of it, and all of it is available.
 abbrev pub OwnBooksAgree : Type 0
 OwnBooksAgree =
-    AfterEachRun (λ id accounts limit w. (d : Driving) → d.diary ≡ w.acquirer → AreAllClosed (slots_in d) →
+    AfterEachRun
+    (λ id accounts limit w. (d : Driving) → d.diary ≡ w.acquirer → AreAllClosed (slots_in d) →
     AllByRecursion (λ o. o.key.acquirer ≡ w.acquirer.id) (entered w.host) → (a : Account) →
     (ledger (journal (both_with w (in_memory w.acquirer) (entered w.host)).issuer) a
     ≡ a.opening -ℤ pos (approved_total a.pan (slots_in d)))

@@ -47,7 +47,8 @@ pub record IsTabled (made : List Made) (slots : List Slot) : Type 0 where
 -- the state in which an answer closes a transaction, if it does: an answer to its own order, and one to its reversal
 abbrev pub own_end : State → ℕ → Option State
 own_end (Waiting n) code =
-    if code == 0 then Some Approved else (if (code == 94) || (code == 96) then None else Some (Declined code))
+    if code == 0 then Some Approved
+    else (if (code == 94) || (code == 96) then None else Some (Declined code))
 own_end Reversing code = None
 own_end Approved code = None
 own_end (Declined c) code = None

@@ -393,7 +393,8 @@ impl<L: NoteLog> Driver<L> {
         // Memory aside, over a log that was opened well, these are the trace numbers of the
         // account's debits that are open or reversed, in their order.
         ensures { IfOk result (λ stans. IsDriving L.is_ready L.synced L.pending self.now
-            → stans.items ≡ doubtful_of pan.now (slots_in (driving_of L.synced L.pending self.now))) }
+            → stans.items
+            ≡ doubtful_of pan.now (slots_in (driving_of L.synced L.pending self.now))) }
     {
         doubtful_of(alloc, &self.board.made, pan)
     }

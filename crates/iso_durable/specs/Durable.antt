@@ -28,11 +28,17 @@ MayLeave d orders = (n : ℕ) × (orders ≡ d.synced ++ take n d.pending)
 
 -- an order that comes waits for the sync, if its key is new and there is room
 abbrev pub pending_after : Durable → Instruction → List Instruction
-pending_after d o = if is_entered (entered d) o.key then d.pending else (if nat_le d.limit (length (entered d)) then d.pending else d.pending ++ o ∷ [])
+pending_after d o = if is_entered (entered d) o.key then d.pending
+    else (if nat_le d.limit (length (entered d)) then d.pending else d.pending ++ o ∷ [])
 
 -- an order comes
 abbrev pub comes : Durable → Instruction → Durable
-comes d o = record { accounts = d.accounts; limit = d.limit; synced = d.synced; pending = pending_after d o }
+comes d o = record {
+  accounts = d.accounts;
+  limit = d.limit;
+  synced = d.synced;
+  pending = pending_after d o;
+}
 
 -- orders come, one after another
 abbrev pub come_all : Durable → List Instruction → Durable
@@ -41,7 +47,8 @@ come_all d (o ∷ os) = come_all (comes d o) os
 
 -- the answer to an order: 96 where the journal is full
 abbrev pub outcome : Durable → Instruction → Outcome
-outcome d o = if is_full (books_of d) o.key then code_alone 96 else answer_for d.accounts (journal (books_of d)) o
+outcome d o = if is_full (books_of d) o.key then code_alone 96
+    else answer_for d.accounts (journal (books_of d)) o
 
 -- the answers to orders, each after those before it
 abbrev pub outcomes : Durable → List Instruction → List Outcome
@@ -54,4 +61,9 @@ syncs d = record { accounts = d.accounts; limit = d.limit; synced = entered d; p
 
 -- a crash, and the start after it
 abbrev pub crashes : ℕ → Durable → Durable
-crashes n d = record { accounts = d.accounts; limit = d.limit; synced = d.synced ++ take n d.pending; pending = [] }
+crashes n d = record {
+  accounts = d.accounts;
+  limit = d.limit;
+  synced = d.synced ++ take n d.pending;
+  pending = [];
+}

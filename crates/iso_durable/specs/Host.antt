@@ -9,16 +9,24 @@ use Rattle.iso_durable.specs.Durable.{Durable}
 use Rattle.iso_durable.specs.declared.host.DurableIssuer.{DurableIssuer}
 
 -- the accounts and the limit of the issuer, and the orders of the log
-abbrev pub state_of : {L : Type 0} → (L → List Instruction) → (L → List Instruction) → DurableIssuer L → Durable
-state_of synced pending d = record { accounts = d.issuer.accounts; limit = d.issuer.limit; synced = synced d.log; pending = pending d.log }
+abbrev pub state_of : {L : Type 0} → (L → List Instruction) → (L → List Instruction)
+    → DurableIssuer L → Durable
+state_of synced pending d = record {
+  accounts = d.issuer.accounts;
+  limit = d.issuer.limit;
+  synced = synced d.log;
+  pending = pending d.log;
+}
 
 -- the log is ready, and has the issuer's orders
-pub record IsConsistent {L : Type 0} (is_ready : L → Type 0) (synced pending : L → List Instruction) (d : DurableIssuer L) : Type 0 where
+pub record IsConsistent {L : Type 0} (is_ready : L → Type 0) (synced pending : L → List Instruction)
+    (d : DurableIssuer L) : Type 0 where
   pub ready : is_ready d.log
   pub same : d.issuer.orders ≡ synced d.log ++ pending d.log
 
 -- a log that was opened, and holds these orders
-pub record IsOpened {L : Type 0} (is_ready : L → Type 0) (synced pending : L → List Instruction) (log : L) (orders : List Instruction) : Type 0 where
+pub record IsOpened {L : Type 0} (is_ready : L → Type 0) (synced pending : L → List Instruction)
+    (log : L) (orders : List Instruction) : Type 0 where
   pub ready : is_ready log
   pub held : synced log ≡ orders
   pub none : pending log ≡ []
@@ -29,11 +37,14 @@ with_new is_new pending o = if is_new then pending ++ o ∷ [] else pending
 
 -- a new order is entered
 abbrev pub is_taken : Books → Instruction → Bool
-is_taken b o = if is_entered b.orders o.key then false else (if nat_le b.limit (length b.orders) then false else true)
+is_taken b o = if is_entered b.orders o.key then false
+    else (if nat_le b.limit (length b.orders) then false else true)
 
 -- the answer to an order, what it leaves, and whether the order is a new entry
-pub record AnswersOrder (old new : Books) (o : Instruction) (answer : Outcome) (is_new : Bool) : Type 0 where
-  pub answer_is : answer ≡ (if is_full old o.key then code_alone 96 else answer_for old.accounts (journal old) o)
+pub record AnswersOrder (old new : Books) (o : Instruction) (answer : Outcome)
+    (is_new : Bool) : Type 0 where
+  pub answer_is : answer
+      ≡ (if is_full old o.key then code_alone 96 else answer_for old.accounts (journal old) o)
   pub new_is : is_new ≡ is_taken old o
   pub same : new.accounts ≡ old.accounts
   pub limit : new.limit ≡ old.limit

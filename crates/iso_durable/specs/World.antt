@@ -32,7 +32,8 @@ pub data Event : Type 0 where
 abbrev pub waiting_after : World → Instruction → List Told
 waiting_after w o =
     if is_full (books_of w.host) o.key then w.waiting
-    else w.waiting ++ record { order = o; answer = answer_for w.host.accounts (journal (books_of w.host)) o } ∷ []
+    else w.waiting
+    ++ record { order = o; answer = answer_for w.host.accounts (journal (books_of w.host)) o } ∷ []
 
 -- an event
 abbrev pub happens : World → Event → World
@@ -47,10 +48,15 @@ run (e ∷ es) w = run es (happens w e)
 
 -- a host that starts on these orders
 abbrev pub begins : List Account → ℕ → List Instruction → World
-begins accounts limit orders = record { host = record { accounts = accounts; limit = limit; synced = orders; pending = [] }; waiting = []; told = [] }
+begins accounts limit orders = record {
+  host = record { accounts = accounts; limit = limit; synced = orders; pending = [] };
+  waiting = [];
+  told = [];
+}
 
 -- its order is entered among these, and they give it that answer
-pub record IsAnswered (accounts : List Account) (orders : List Instruction) (t : Told) : Type 0 where
+pub record IsAnswered (accounts : List Account) (orders : List Instruction)
+    (t : Told) : Type 0 where
   pub known : is_entered orders t.order.key ≡ true
   pub same : answer_for accounts (journal_of accounts orders) t.order ≡ t.answer
 
@@ -62,18 +68,22 @@ pub record IsStart (limit : ℕ) (orders : List Instruction) : Type 0 where
 -- each answer that was given is the one that the orders on the disk give to its order
 abbrev pub ToldOutlive : Type 0
 ToldOutlive =
-    (accounts : List Account) (limit : ℕ) (orders : List Instruction) (events : List Event) → IsStart limit orders →
-    AllByRecursion (IsAnswered accounts (run events (begins accounts limit orders)).host.synced) (run events (begins accounts limit orders)).told
+    (accounts : List Account) (limit : ℕ) (orders : List Instruction) (events : List Event) →
+    IsStart limit orders →
+    AllByRecursion (IsAnswered accounts (run events (begins accounts limit orders)).host.synced)
+    (run events (begins accounts limit orders)).told
 
 -- no two orders have one key, and there are no more than the limit
 abbrev pub EnteredOnce : Type 0
 EnteredOnce =
-    (accounts : List Account) (limit : ℕ) (orders : List Instruction) (events : List Event) → IsStart limit orders →
+    (accounts : List Account) (limit : ℕ) (orders : List Instruction) (events : List Event) →
+    IsStart limit orders →
     IsStart limit (entered (run events (begins accounts limit orders)).host)
 
 -- what is on the disk stays there, at its place
 abbrev pub OnlyGrows : Type 0
-OnlyGrows = (w : World) (events : List Event) → (more : List Instruction) × ((run events w).host.synced ≡ w.host.synced ++ more)
+OnlyGrows = (w : World) (events : List Event)
+    → (more : List Instruction) × ((run events w).host.synced ≡ w.host.synced ++ more)
 
 -- orders that come together, and the sync before their answers are given
 abbrev pub together : List Instruction → List Event
@@ -82,8 +92,10 @@ together (o ∷ os) = Comes o ∷ together os
 
 -- they leave what `answer_all` leaves
 abbrev pub CallsAreRuns : Type 0
-CallsAreRuns = (w : World) (orders : List Instruction) → (run (together orders) w).host ≡ syncs (come_all w.host orders)
+CallsAreRuns = (w : World) (orders : List Instruction)
+    → (run (together orders) w).host ≡ syncs (come_all w.host orders)
 
 -- orders that come one after another enter the books as orders do that are handled: the first of each key, up to the limit
 abbrev pub OrdersEnter : Type 0
-OrdersEnter = (d : Durable) (orders : List Instruction) → IsStart d.limit (entered d) → books_of (come_all d orders) ≡ books_after (books_of d) orders
+OrdersEnter = (d : Durable) (orders : List Instruction) → IsStart d.limit (entered d)
+    → books_of (come_all d orders) ≡ books_after (books_of d) orders

@@ -86,7 +86,8 @@ fn keep<L: Log>(log: &mut L, order: Order, answer: Answer, is_new: bool) -> Resu
     ensures pending { OnOk result (L.is_ready log.old
         → L.pending log.new ≡ with_new is_new (L.pending log.old) order) }
     ensures crash { L.is_ready log.old
-        → LeavesFront (L.may_leave log.new) (L.synced log.old) (with_new is_new (L.pending log.old) order) }
+        → LeavesFront (L.may_leave log.new) (L.synced log.old)
+        (with_new is_new (L.pending log.old) order) }
 {
     if is_new {
         log.append(order, answer)
@@ -109,12 +110,14 @@ impl<L: Log> DurableIssuer<L> {
         requires most { limit ≤ 999999 }
         // At `Ok`, over a log that was opened with these orders, the log is ready, and the
         // issuer has exactly its orders.
-        ensures consistent { IfOk result (λ host. IsOpened L.is_ready L.synced L.pending log orders.now
+        ensures consistent { IfOk result
+            (λ host. IsOpened L.is_ready L.synced L.pending log orders.now
             → IsConsistent L.is_ready L.synced L.pending host) }
         // At `Ok`, over a log that was opened with these orders, the host has the given accounts
         // and limit, these orders synced, and none that waits.
         ensures state { IfOk result (λ host. IsOpened L.is_ready L.synced L.pending log orders.now
-            → state_of L.synced L.pending host ≡ record { accounts = accounts; limit = limit; synced = orders.now; pending = [] }) }
+            → state_of L.synced L.pending host
+            ≡ record { accounts = accounts; limit = limit; synced = orders.now; pending = [] }) }
         // An `Err` hands back the log that was given.
         ensures log { IfErr result (λ e. e.1 ≡ log) }
     {
@@ -189,7 +192,8 @@ impl<L: Log> DurableIssuer<L> {
     pub fn answer_all(&mut self, alloc: Global, orders: &[Order]) -> Result<Vec<Answer>, Fault>
         // At `Ok` a host in step with its log gives the answers of its books, each after the orders
         // before it, and 96 for a new key where the journal is full.
-        ensures answers { IfOk result (λ answers. IsConsistent L.is_ready L.synced L.pending self.old
+        ensures answers { IfOk result
+            (λ answers. IsConsistent L.is_ready L.synced L.pending self.old
             → answers.items ≡ outcomes (state_of L.synced L.pending self.old) orders.now) }
         // At `Ok` a host in step with its log stays so: the log is ready, with the issuer's orders.
         ensures consistent { OnOk result (IsConsistent L.is_ready L.synced L.pending self.old
@@ -202,7 +206,8 @@ impl<L: Log> DurableIssuer<L> {
         // However it ends, a crash leaves what it may leave once some of the orders have come, the first ones.
         ensures crash { IsConsistent L.is_ready L.synced L.pending self.old
             → (c : List Instruction) → L.may_leave self.new.log c
-            → (n : ℕ) × MayLeave (come_all (state_of L.synced L.pending self.old) (take n orders.now)) c }
+            → (n : ℕ)
+            × MayLeave (come_all (state_of L.synced L.pending self.old) (take n orders.now)) c }
         // It succeeds only where no call failed before, and after a failure each call fails.
         ensures stops { Stops self.old.has_failed self.new.has_failed result }
     {

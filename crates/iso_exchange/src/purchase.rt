@@ -62,7 +62,8 @@ fn append_number(
     out: &mut Vec<u8>,
 ) -> Result<(), PackFault>
     requires few { digits ≤ 19 }
-    ensures { OnOk result (AddsPart table.now.rows n (decimal digits number) out.old.items out.new.items) }
+    ensures { OnOk result
+        (AddsPart table.now.rows n (decimal digits number) out.old.items out.new.items) }
 {
     let mut room = [0; 19];
     let text = &mut room[..digits];
@@ -93,7 +94,8 @@ fn append_digits(
 ) -> Result<(), PackFault>
     requires few { digits ≤ 19 }
     requires fits { number < 10 ^ digits }
-    ensures { OnOk result (AddsPart table.now.rows n (decimal digits number) out.old.items out.new.items) }
+    ensures { OnOk result
+        (AddsPart table.now.rows n (decimal digits number) out.old.items out.new.items) }
 {
     // the laws of parts, for the prover
     iso_parts::laws::parts();
@@ -147,7 +149,8 @@ fn append_numbers(
     amount: u64,
     out: &mut Vec<u8>,
 ) -> Result<(), PackFault>
-    ensures { OnOk result (AddsParts table.now.rows (four_elements amount key.now) out.old.items out.new.items) }
+    ensures { OnOk result
+        (AddsParts table.now.rows (four_elements amount key.now) out.old.items out.new.items) }
 {
     // the laws of parts, for the prover
     iso_parts::laws::parts();
@@ -197,7 +200,8 @@ fn put(numbers: Bitmap, n: u8) -> Bitmap
 
 /// The numbers of the elements of a purchase.
 fn numbers() -> Bitmap
-    ensures { (key : TxKey) (money : Money) (k : ℕ) → contains result k ≡ has (purchase_elements key money) k }
+    ensures { (key : TxKey) (money : Money) (k : ℕ)
+        → contains result k ≡ has (purchase_elements key money) k }
 {
     let last = put(put(put(Bitmap::new(), 49), 32), 11);
     put(put(put(put(last, 7), 4), 3), 2)
@@ -205,7 +209,8 @@ fn numbers() -> Bitmap
 
 /// Appends the four digits of a message type.
 fn append_type(digits: Digits, mti: Mti, out: &mut Vec<u8>) -> Result<(), AllocError>
-    ensures { OnOk result (out.new.items ≡ out.old.items ++ four_digits_of digits (mti_number mti)) }
+    ensures { OnOk result
+        (out.new.items ≡ out.old.items ++ four_digits_of digits (mti_number mti)) }
 {
     let number = usize::from(mti.number());
     match digits {

@@ -24,7 +24,8 @@ const MOST_CODE: u64 = 99;
 /// Reads the value whose part the bytes begin with, in place of what was there.
 fn decode_front(row: &FieldSpec, bytes: &[u8], value: &mut Vec<u8>) -> Result<(), AllocError>
     requires good { IsGood row.now }
-    ensures value { OnOk result ((v : List ℕ) (used : ℕ) → part_at row.now bytes.now ≡ got v used → value.new.items ≡ v) }
+    ensures value { OnOk result
+        ((v : List ℕ) (used : ℕ) → part_at row.now bytes.now ≡ got v used → value.new.items ≡ v) }
 {
     value.clear();
     match decode_value(row, bytes, value) {
@@ -45,7 +46,8 @@ fn read_text(
 ) -> Result<(), AllocError>
     requires viewed { Views table.now body.now (Ok message.now) (message_at table.now body.now) }
     requires all { message.now.used ≡ length body.now }
-    ensures text { OnOk result ((m : Contents) (size : ℕ) → message_at table.now body.now ≡ whole m size
+    ensures text { OnOk result
+        ((m : Contents) (size : ℕ) → message_at table.now body.now ≡ whole m size
         → value.new.items ≡ text m n) }
 {
     // the laws of parts, for the prover
@@ -68,7 +70,8 @@ fn packed_at(table: &Table, message: &View<'_>, body: &[u8], n: u8, bytes: u16) 
     requires viewed { Views table.now body.now (Ok message.now) (message_at table.now body.now) }
     requires all { message.now.used ≡ length body.now }
     requires few { bytes ≤ 9 }
-    ensures { IfSome result (λ v. (m : Contents) (size : ℕ) → message_at table.now body.now ≡ whole m size
+    ensures { IfSome result
+        (λ v. (m : Contents) (size : ℕ) → message_at table.now body.now ≡ whole m size
         → Some v ≡ number_in (2 * bytes) (2 * bytes) (text m n)) }
 {
     let row = table.row(n)?;
@@ -91,7 +94,8 @@ fn is_plain(row: &FieldSpec) -> bool
 fn plain_text<'a>(table: &Table, message: &View<'a>, body: &[u8], n: u8) -> Option<&'a [u8]>
     requires viewed { Views table.now body.now (Ok message.now) (message_at table.now body.now) }
     requires all { message.now.used ≡ length body.now }
-    ensures { IfSome result (λ v. (m : Contents) (size : ℕ) → message_at table.now body.now ≡ whole m size
+    ensures { IfSome result
+        (λ v. (m : Contents) (size : ℕ) → message_at table.now body.now ≡ whole m size
         → v.now ≡ text m n) }
 {
     let row = table.row(n)?;
@@ -114,7 +118,8 @@ fn number_of(
     requires viewed { Views table.now body.now (Ok message.now) (message_at table.now body.now) }
     requires all { message.now.used ≡ length body.now }
     requires few { most ≤ 19 }
-    ensures number { IfOk result (λ got. (m : Contents) (size : ℕ) → message_at table.now body.now ≡ whole m size
+    ensures number { IfOk result
+        (λ got. (m : Contents) (size : ℕ) → message_at table.now body.now ≡ whole m size
         → got ≡ number_in least most (text m n)) }
 {
     if let Some(text) = plain_text(table, message, body, n) {
@@ -136,7 +141,8 @@ fn digits_of(
     requires viewed { Views table.now body.now (Ok message.now) (message_at table.now body.now) }
     requires all { message.now.used ≡ length body.now }
     requires few { bytes ≤ 9 }
-    ensures { IfOk result (λ got. (m : Contents) (size : ℕ) → message_at table.now body.now ≡ whole m size
+    ensures { IfOk result
+        (λ got. (m : Contents) (size : ℕ) → message_at table.now body.now ≡ whole m size
         → got ≡ number_in (2 * bytes) (2 * bytes) (text m n)) }
 {
     if let Some(number) = packed_at(table, message, body, n, bytes) {
@@ -193,8 +199,10 @@ fn told_by(
     acquirer: Option<u64>,
     code: Option<u64>,
 ) -> Option<Told>
-    ensures { (m : Contents) → m.mti ≡ mti_number mti → sent ≡ number_in 10 10 (text m 7) → stan ≡ number_in 6 6 (text m 11)
-        → acquirer ≡ number_in 1 11 (text m 32) → code ≡ number_in 2 2 (text m 39) → result ≡ told_of m }
+    ensures { (m : Contents) → m.mti ≡ mti_number mti → sent ≡ number_in 10 10 (text m 7)
+        → stan ≡ number_in 6 6 (text m 11)
+        → acquirer ≡ number_in 1 11 (text m 32) → code ≡ number_in 2 2 (text m 39)
+        → result ≡ told_of m }
 {
     if !is_answer(mti) {
         return None;
@@ -224,7 +232,8 @@ pub(crate) fn told_of(
 ) -> Result<Option<Told>, AllocError>
     requires viewed { Views table.now body.now (Ok message.now) (message_at table.now body.now) }
     requires all { message.now.used ≡ length body.now }
-    ensures told { IfOk result (λ told. (m : Contents) (size : ℕ) → message_at table.now body.now ≡ whole m size
+    ensures told { IfOk result
+        (λ told. (m : Contents) (size : ℕ) → message_at table.now body.now ≡ whole m size
         → m.mti ≡ message.now.mti → told ≡ told_of m) }
 {
     let sent = digits_of(table, message, body, 7, 5, value)?;

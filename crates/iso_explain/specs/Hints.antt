@@ -78,7 +78,8 @@ begins_tpdu (b ∷ bs) = b == 96
 -- the bytes look as if they were what the hint says
 abbrev pub is_likely : Layout → List ℕ → Hint → Bool
 is_likely t b (hints.Framed h) = is_framed t h b
-is_likely t b hints.Behind2 = fills t (drop 2 b) && not (is_framed t headers.Binary2 b) && not (is_framed t headers.Bcd2 b)
+is_likely t b hints.Behind2 =
+    fills t (drop 2 b) && not (is_framed t headers.Binary2 b) && not (is_framed t headers.Bcd2 b)
 is_likely t b hints.Behind4 = fills t (drop 4 b) && not (is_framed t headers.Ascii4 b)
 is_likely t b hints.Tpdu = begins_tpdu b && reads t (drop 5 b)
 is_likely t b hints.HexText = is_hex_text t b
@@ -89,8 +90,10 @@ is_likely t b (hints.Edition version) = not (version == t.version) && has_type t
 -- the mistakes that are looked for, in this order
 abbrev pub all_hints : List Hint
 all_hints =
-    hints.Framed headers.Binary2 ∷ hints.Framed headers.Ascii4 ∷ hints.Framed headers.Bcd2 ∷ hints.Behind2 ∷ hints.Behind4 ∷ hints.Tpdu ∷ hints.HexText
-    ∷ hints.TextUnderBcd ∷ hints.BcdUnderText ∷ hints.Edition 0 ∷ hints.Edition 1 ∷ hints.Edition 2 ∷ []
+    hints.Framed headers.Binary2 ∷ hints.Framed headers.Ascii4 ∷ hints.Framed headers.Bcd2
+    ∷ hints.Behind2 ∷ hints.Behind4 ∷ hints.Tpdu ∷ hints.HexText
+    ∷ hints.TextUnderBcd ∷ hints.BcdUnderText ∷ hints.Edition 0 ∷ hints.Edition 1 ∷ hints.Edition 2
+    ∷ []
 
 -- the likely ones of these
 abbrev pub likely_of : Layout → List ℕ → List Hint → List Hint

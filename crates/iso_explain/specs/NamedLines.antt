@@ -22,15 +22,18 @@ pub record IsNoteOf (names : Laid) (n : ℕ) (note : List ℕ) : Type 0 where
 abbrev pub NamedLine : Bool → List (Option FieldSpec) → Laid → ℕ × List ℕ → List ℕ → Type 0
 NamedLine is_clear rows names e line =
     (note : List ℕ) × IsNoteOf names e.0 note
-    × (line ≡ codes "DE" ++ (decimal 3 e.0 ++ (61 ∷ shown_text is_clear (class_by (row_at rows e.0)) e.0 e.1 ++ (note ++ 10 ∷ []))))
+    × (line ≡ codes "DE" ++ (decimal 3 e.0
+    ++ (61 ∷ shown_text is_clear (class_by (row_at rows e.0)) e.0 e.1 ++ (note ++ 10 ∷ []))))
 
 -- the lines of the elements, one after another
 abbrev pub NamedLines : Bool → List (Option FieldSpec) → Laid → List (ℕ × List ℕ) → List ℕ → Type 0
 NamedLines is_clear rows names [] text = text ≡ []
 NamedLines is_clear rows names (e ∷ es) text =
-    (line : List ℕ) × (rest : List ℕ) × NamedLine is_clear rows names e line × NamedLines is_clear rows names es rest × (text ≡ line ++ rest)
+    (line : List ℕ) × (rest : List ℕ) × NamedLine is_clear rows names e line
+    × NamedLines is_clear rows names es rest × (text ≡ line ++ rest)
 
 -- the line of the type, and those of the elements
 abbrev pub NamedDescription : Bool → Layout → Laid → Contents → List ℕ → Type 0
 NamedDescription is_clear t names m text =
-    (lines : List ℕ) × NamedLines is_clear t.rows names m.elements lines × (text ≡ type_line m.mti ++ lines)
+    (lines : List ℕ) × NamedLines is_clear t.rows names m.elements lines
+    × (text ≡ type_line m.mti ++ lines)

@@ -33,4 +33,5 @@ pub record Sees (is_clear : Bool) (n : ℕ) (b v : List ℕ) (s : seen.Seen) : T
 
 -- what is shown as text, with a star for each byte that is hidden
 abbrev pub shown_as : CharClass → Shown → List ℕ
-shown_as class shown = clear_text class shown.front.now ++ (replicate shown.hidden 42 ++ clear_text class shown.end.now)
+shown_as class shown = clear_text class shown.front.now
+    ++ (replicate shown.hidden 42 ++ clear_text class shown.end.now)

@@ -37,7 +37,8 @@ fn shown_of<'a>(is_clear: bool, n: u8, value: &'a [u8]) -> Shown<'a>
 
 /// Appends a tab and the name of an element, if it has one.
 fn push_note(names: &Names, n: u8, out: &mut Vec<u8>) -> Result<(), AllocError>
-    ensures { OnOk result ((note : List ℕ) × IsNoteOf names.now n note × (out.new.items ≡ out.old.items ++ note)) }
+    ensures { OnOk result
+        ((note : List ℕ) × IsNoteOf names.now n note × (out.new.items ≡ out.old.items ++ note)) }
 {
     if let Some(name) = names.of(n) {
         out.push(b'\t')?;
@@ -69,7 +70,8 @@ fn push_line(
     value: &[u8],
     out: &mut Vec<u8>,
 ) -> Result<(), AllocError>
-    ensures { OnOk result ((line : List ℕ) × NamedLine is_clear table.now.rows names.now (n, value.now) line
+    ensures { OnOk result
+        ((line : List ℕ) × NamedLine is_clear table.now.rows names.now (n, value.now) line
         × (out.new.items ≡ out.old.items ++ line)) }
 {
     let mut number = [0; 3];
@@ -90,7 +92,8 @@ fn push_lines(
     message: &Message,
     out: &mut Vec<u8>,
 ) -> Result<(), AllocError>
-    ensures { OnOk result ((lines : List ℕ) × NamedLines is_clear table.now.rows names.now message.now.elements lines
+    ensures { OnOk result
+        ((lines : List ℕ) × NamedLines is_clear table.now.rows names.now message.now.elements lines
         × (out.new.items ≡ out.old.items ++ lines)) }
 {
     for (n, value) in message.iter() {
@@ -126,7 +129,8 @@ pub fn append_named(
 ) -> Result<(), NoMemory>
     // Memory aside, the lines of the description are appended, each with the name of its element
     // before its end.
-    ensures appended { OnOk result ((text : List ℕ) × NamedDescription is_clear table.now names.now message.now text
+    ensures appended { OnOk result
+        ((text : List ℕ) × NamedDescription is_clear table.now names.now message.now text
         × (out.new.items ≡ out.old.items ++ text)) }
     // Where memory runs out, the buffer holds the bytes that it held before.
     ensures unchanged { OnErr result (out.new.items ≡ out.old.items) }

@@ -10,7 +10,8 @@ use Rattle.iso_order.specs.declared.told.Told.{Told}
 -- an amount with its sign: 'C' for credit, 'D' for debit
 abbrev pub signed : ℕ → ℕ → Option ℤ
 signed sign amount =
-    if sign == 67 then Some (pos amount) else if sign == 68 then Some (pos 0 -ℤ pos amount) else None
+    if sign == 67 then Some (pos amount) else if sign == 68 then Some (pos 0 -ℤ pos amount)
+    else None
 
 -- what an additional amount tells (element 54): account type, amount type 02 for what is available, currency, sign, amount
 abbrev pub available_in : List ℕ → List ℕ → Option ℤ
@@ -30,7 +31,8 @@ balance_from (suc n) currency text =
 abbrev pub balance_in : Contents → Option ℤ
 balance_in m =
     option_and_then
-    (λ amounts. option_and_then (λ currency. balance_from 6 currency amounts) (value_in m.elements 49))
+    (λ amounts.
+    option_and_then (λ currency. balance_from 6 currency amounts) (value_in m.elements 49))
     (value_in m.elements 54)
 
 -- an answer to a message of class 1: inquiries are authorizations, and what other answers tell of balances isn't asked for

@@ -38,7 +38,8 @@ abbrev pub TakesFront : Layout → Header → List ℕ → List ℕ → Front �
 TakesFront t h old new More = NeedsMore h old × (new ≡ old)
 TakesFront t h old new Bad = (is_bad_header h old ≡ true) × (new ≡ old)
 TakesFront t h old new (Frame read) =
-    (body : List ℕ) × (old ≡ frame_of h body ++ new) × (length body ≤ largest h) × (read ≡ read_of t body)
+    (body : List ℕ) × (old ≡ frame_of h body ++ new) × (length body ≤ largest h)
+    × (read ≡ read_of t body)
 
 -- how the bytes go on behind the frames that were taken
 abbrev pub GoesOn : Header → List ℕ → Bool → Type 0
@@ -46,7 +47,8 @@ GoesOn h rest true = is_bad_header h rest ≡ true
 GoesOn h rest false = NeedsMore h rest
 
 -- the frames at the front of the bytes are taken, all of them and in their order, and each is read once, as the table says
-pub record TakesFrames (t : Layout) (h : Header) (old new : List ℕ) (read : List Read) : Type 0 where
+pub record TakesFrames (t : Layout) (h : Header) (old new : List ℕ)
+    (read : List Read) : Type 0 where
   pub bodies : List (List ℕ)
   pub joined : old ≡ frames_of h bodies ++ new
   pub fit : AllFit h bodies

@@ -22,7 +22,8 @@ fn unwritten(fault: PackFault) -> FramesFault {
 /// Makes a frame of the room for a header and the body behind it.
 fn close(header: Header, frame: &mut Vec<u8>) -> Result<(), FramesFault>
     requires { header_size header ≤ length frame.old.items }
-    ensures { OnOk result (frame.new.items ≡ frame_of header (drop (header_size header) frame.old.items)) }
+    ensures { OnOk result
+        (frame.new.items ≡ frame_of header (drop (header_size header) frame.old.items)) }
 {
     match close_frame(header, frame.as_mut_slice()) {
         Ok(()) => Ok(()),

@@ -105,7 +105,8 @@ pub fn take_frames(
 ) -> Result<bool, FramesFault>
     // Memory aside, all whole frames at the front are taken in their order, and each is read once;
     // true tells that a bad header follows.
-    ensures frames { IfOk result (λ bad. (more : List Reading) × TakesFrames table.now header came.old.items came.new.items more
+    ensures frames { IfOk result (λ bad. (more : List Reading)
+        × TakesFrames table.now header came.old.items came.new.items more
         × (read.new.items ≡ read.old.items ++ more) × GoesOn header came.new.items bad) }
     // Only want of memory is told as a fault.
     ensures fault { IfErr result (λ e. e ≡ fault.Memory) }

@@ -29,7 +29,8 @@ response_unless books (Some key) (Some m) = Some (response m (code_alone 12))
 abbrev pub response_behind : Guard → Books → List ℕ → Option Contents
 response_behind g books body =
     if nat_lt (length body) g.skip then None
-    else response_unless books (foreign_to g (drop g.skip body)) (message_in g.table (drop g.skip body))
+    else response_unless books (foreign_to g (drop g.skip body))
+    (message_in g.table (drop g.skip body))
 
 -- ---- its bytes
 
@@ -37,15 +38,19 @@ response_behind g books body =
 abbrev pub IsFramedBehind : Layout → Header → List ℕ → Option Contents → List ℕ → Type 0
 IsFramedBehind t h before None bytes = bytes ≡ []
 IsFramedBehind t h before (Some r) bytes =
-    (plain : List ℕ) × PlainSpelling t r plain × (length (before ++ plain) ≤ largest h) × (bytes ≡ frame_of h (before ++ plain))
+    (plain : List ℕ) × PlainSpelling t r plain × (length (before ++ plain) ≤ largest h)
+    × (bytes ≡ frame_of h (before ++ plain))
 
 -- what is written for a body at these books: the response behind the bytes that stood before the message
 unfoldable pub IsGuardedAnswer : Guard → Books → List ℕ → List ℕ → Type 0
-IsGuardedAnswer g books body bytes = IsFramedBehind g.table g.header (take g.skip body) (response_behind g books body) bytes
+IsGuardedAnswer g books body bytes =
+    IsFramedBehind g.table g.header (take g.skip body) (response_behind g books body) bytes
 
 -- a body entered, and the bytes grew by its answer
 abbrev pub AnswersGuarded : Guard → Books → Books → List ℕ → List ℕ → List ℕ → Type 0
-AnswersGuarded g old new body out grown = (new ≡ books_after_bodies g.table old (entering_of g body)) × GrowsBy (IsGuardedAnswer g old body) out grown
+AnswersGuarded g old new body out grown =
+    (new ≡ books_after_bodies g.table old (entering_of g body))
+    × GrowsBy (IsGuardedAnswer g old body) out grown
 
 -- ---- of bodies, one after the other
 
@@ -53,7 +58,8 @@ AnswersGuarded g old new body out grown = (new ≡ books_after_bodies g.table ol
 abbrev pub IsGuardedOutputFrom : Guard → Books → List (List ℕ) → List (List ℕ) → List ℕ → Type 0
 IsGuardedOutputFrom g books earlier [] bytes = bytes ≡ []
 IsGuardedOutputFrom g books earlier (body ∷ bodies) bytes =
-    (first : List ℕ) × (others : List ℕ) × IsGuardedAnswer g (books_after_guarded g books earlier) body first
+    (first : List ℕ) × (others : List ℕ)
+    × IsGuardedAnswer g (books_after_guarded g books earlier) body first
     × IsGuardedOutputFrom g books (earlier ++ body ∷ []) bodies others × (bytes ≡ first ++ others)
 
 -- what is written for these bodies: to each its answer at the books after those before it

@@ -17,7 +17,8 @@ foreign_to g message = foreign_of g.acquirers (asked_of g.table message)
 
 -- what enters of a body: its message, if that may be spoken for; nothing of one that ends before its message
 unfoldable pub entering_of : Guard → List ℕ → List (List ℕ)
-entering_of g body = if nat_lt (length body) g.skip then [] else entering_unless (foreign_to g (drop g.skip body)) (drop g.skip body)
+entering_of g body = if nat_lt (length body) g.skip then []
+    else entering_unless (foreign_to g (drop g.skip body)) (drop g.skip body)
 
 -- what enters of bodies, one after the other
 abbrev pub entering_all : Guard → List (List ℕ) → List (List ℕ)
@@ -30,4 +31,5 @@ books_after_guarded g books bodies = books_after_bodies g.table books (entering_
 
 -- the books are as they were, or they are those after this body
 abbrev pub EntersOrNot : Guard → Books → Books → List ℕ → Type 0
-EntersOrNot g old new body = (new ≡ old) ⊎ (new ≡ books_after_bodies g.table old (entering_of g body))
+EntersOrNot g old new body = (new ≡ old)
+    ⊎ (new ≡ books_after_bodies g.table old (entering_of g body))

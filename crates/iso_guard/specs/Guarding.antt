@@ -26,7 +26,12 @@ pub record Guard : Type 0 where
 
 -- the line of this link and these terms
 abbrev pub guard_of : Agreed → Terms → Guard
-guard_of link terms = record { table = link.table; header = link.header; acquirers = terms.acquirers.items; skip = terms.skip }
+guard_of link terms = record {
+  table = link.table;
+  header = link.header;
+  acquirers = terms.acquirers.items;
+  skip = terms.skip;
+}
 
 -- a peer of a guarded line: the line, the bytes of its frame that isn't whole, and those of its answers that aren't written
 pub record Guarded : Type 0 where
@@ -38,7 +43,8 @@ pub record Guarded : Type 0 where
 
 -- the key of an order that may not be spoken for
 abbrev pub foreign_of : List ℕ → Option Verdict → Option TxKey
-foreign_of acquirers (Some (Order o)) = if speaks_for acquirers o.key.acquirer then None else Some o.key
+foreign_of acquirers (Some (Order o)) =
+    if speaks_for acquirers o.key.acquirer then None else Some o.key
 foreign_of acquirers (Some (Reply code)) = None
 foreign_of acquirers (Some Silent) = None
 foreign_of acquirers None = None

@@ -13,17 +13,20 @@ use Rattle.iso_guard.specs.Answering.{IsGuardedOutput}
 abbrev pub WantsMemory : Guard → List ℕ → Books → Books → Type 0
 WantsMemory g held before after =
     (after ≡ before)
-    ⊎ ((body : List ℕ) × (more : List ℕ) × (held ≡ frame_of g.header body ++ more) × (length body ≤ largest g.header) × EntersOrNot g before after body)
+    ⊎ ((body : List ℕ) × (more : List ℕ) × (held ≡ frame_of g.header body ++ more)
+    × (length body ≤ largest g.header) × EntersOrNot g before after body)
 
 -- why no more frames are taken of the bytes that are held, and whether bytes are left: no whole frame begins; a header isn't
 -- of digits; or memory ran out
 abbrev pub StopsGuarded : Guard → List ℕ → List ℕ → Books → Books → Option PeerFault → Type 0
 StopsGuarded g held rest before after None = (rest ≡ []) × NoFrame g.header held × (after ≡ before)
-StopsGuarded g held rest before after (Some BadHeader) = (rest ≡ []) × (is_bad_header g.header held ≡ true) × (after ≡ before)
+StopsGuarded g held rest before after (Some BadHeader) = (rest ≡ [])
+    × (is_bad_header g.header held ≡ true) × (after ≡ before)
 StopsGuarded g held rest before after (Some Memory) = WantsMemory g held before after
 
 -- the messages of all whole frames come to the books, one after the other, and the answers wait behind the others
-pub record TakesGuarded (old new : Guarded) (before after : Books) (bytes : List ℕ) (turned : Turned) : Type 0 where
+pub record TakesGuarded (old new : Guarded) (before after : Books) (bytes : List ℕ)
+    (turned : Turned) : Type 0 where
   pub within : turned.used ≤ length bytes
   pub bodies : List (List ℕ)
   pub joined : old.held ++ take turned.used bytes ≡ frames_of old.guard.header bodies ++ new.held
@@ -31,10 +34,12 @@ pub record TakesGuarded (old new : Guarded) (before after : Books) (bytes : List
   pub answers : List ℕ
   pub output : IsGuardedOutput old.guard before bodies answers
   pub waits : new.waiting ≡ old.waiting ++ answers
-  pub stops : StopsGuarded old.guard new.held (drop turned.used bytes) (books_after_guarded old.guard before bodies) after turned.stopped
+  pub stops : StopsGuarded old.guard new.held (drop turned.used bytes)
+      (books_after_guarded old.guard before bodies) after turned.stopped
 
 -- inside: the same of bytes that are all held, of which so many are taken
-pub record TakesFrames (g : Guard) (before after : Books) (bytes old new : List ℕ) (turned : Turned) : Type 0 where
+pub record TakesFrames (g : Guard) (before after : Books) (bytes old new : List ℕ)
+    (turned : Turned) : Type 0 where
   pub within : turned.used ≤ length bytes
   pub bodies : List (List ℕ)
   pub joined : bytes ≡ frames_of g.header bodies ++ drop turned.used bytes
@@ -42,4 +47,5 @@ pub record TakesFrames (g : Guard) (before after : Books) (bytes old new : List 
   pub answers : List ℕ
   pub output : IsGuardedOutput g before bodies answers
   pub waits : new ≡ old ++ answers
-  pub stops : StopsGuarded g (drop turned.used bytes) [] (books_after_guarded g before bodies) after turned.stopped
+  pub stops : StopsGuarded g
+      (drop turned.used bytes) [] (books_after_guarded g before bodies) after turned.stopped

@@ -110,9 +110,12 @@ fn foreign_key(
     bytes: &[u8],
     request: &mut Message,
 ) -> Result<Option<TxKey>, NoMemory>
-    ensures key { IfOk result (λ key. key ≡ foreign_of terms.now.acquirers.items (asked_of link.now.table bytes.now)) }
-    ensures asks { IfOk result (λ key. IfSome key (λ _. is_answered (function request.new) ≡ true)) }
-    ensures read { IfOk result (λ key. IfSome key (λ _. message_in link.now.table bytes.now ≡ Some request.new)) }
+    ensures key { IfOk result
+        (λ key. key ≡ foreign_of terms.now.acquirers.items (asked_of link.now.table bytes.now)) }
+    ensures asks { IfOk result
+        (λ key. IfSome key (λ _. is_answered (function request.new) ≡ true)) }
+    ensures read { IfOk result
+        (λ key. IfSome key (λ _. message_in link.now.table bytes.now ≡ Some request.new)) }
 {
     if terms.acquirers.is_empty() {
         return Ok(None);
@@ -128,7 +131,8 @@ fn foreign_key(
 fn make_foreign(link: &Link, rooms: &mut Rooms) -> Result<(), NoMemory>
     requires asks { is_answered (function rooms.old.request) ≡ true }
     ensures made { OnOk result
-        (PlainSpelling link.now.table (response rooms.old.request (code_alone 12)) rooms.new.answer.items) }
+        (PlainSpelling link.now.table
+        (response rooms.old.request (code_alone 12)) rooms.new.answer.items) }
 {
     respond_into(&rooms.request, &Answer::only(FOREIGN), &mut rooms.response)?;
     rooms.answer.clear();
@@ -146,7 +150,8 @@ fn append_behind(
     body: &mut Vec<u8>,
     out: &mut Vec<u8>,
 ) -> Result<(), NoMemory>
-    ensures framed { OnOk result (out.new.items ≡ out.old.items ++ frame_of header (before.now ++ message.now)) }
+    ensures framed { OnOk result
+        (out.new.items ≡ out.old.items ++ frame_of header (before.now ++ message.now)) }
     ensures fits { OnOk result (length (before.now ++ message.now) ≤ largest header) }
     ensures unchanged { OnErr result (out.new.items ≡ out.old.items) }
 {
@@ -168,9 +173,12 @@ fn answer_own(
     rooms: &mut Rooms,
     waiting: &mut Vec<u8>,
 ) -> Result<Handled, NoMemory>
-    ensures enters { OnOk result (host.new ≡ books_after_bodies link.now.table host.old (message.now ∷ [])) }
-    ensures answered { OnOk result (GrowsBy (IsFramedBehind link.now.table link.now.header before.now
-        (response_to host.old (message_in link.now.table message.now))) waiting.old.items waiting.new.items) }
+    ensures enters { OnOk result
+        (host.new ≡ books_after_bodies link.now.table host.old (message.now ∷ [])) }
+    ensures answered { OnOk result
+        (GrowsBy (IsFramedBehind link.now.table link.now.header before.now
+        (response_to host.old (message_in link.now.table message.now)))
+        waiting.old.items waiting.new.items) }
     ensures memory { OnErr result ((host.new ≡ host.old)
         ⊎ (host.new ≡ books_after_bodies link.now.table host.old (message.now ∷ []))) }
     ensures unchanged { OnErr result (waiting.new.items ≡ waiting.old.items) }
@@ -197,14 +205,20 @@ fn answer_message(
     rooms: &mut Rooms,
     waiting: &mut Vec<u8>,
 ) -> Result<Came, NoMemory>
-    ensures enters { let foreign = foreign_of terms.now.acquirers.items (asked_of link.now.table message.now) in
-        OnOk result (host.new ≡ books_after_bodies link.now.table host.old (entering_unless foreign message.now)) }
-    ensures answered { let foreign = foreign_of terms.now.acquirers.items (asked_of link.now.table message.now) in
+    ensures enters { let foreign =
+        foreign_of terms.now.acquirers.items (asked_of link.now.table message.now) in
+        OnOk result (host.new
+        ≡ books_after_bodies link.now.table host.old (entering_unless foreign message.now)) }
+    ensures answered { let foreign =
+        foreign_of terms.now.acquirers.items (asked_of link.now.table message.now) in
         OnOk result (GrowsBy (IsFramedBehind link.now.table link.now.header before.now
-        (response_unless host.old foreign (message_in link.now.table message.now))) waiting.old.items waiting.new.items) }
-    ensures memory { let foreign = foreign_of terms.now.acquirers.items (asked_of link.now.table message.now) in
+        (response_unless host.old foreign (message_in link.now.table message.now)))
+        waiting.old.items waiting.new.items) }
+    ensures memory { let foreign =
+        foreign_of terms.now.acquirers.items (asked_of link.now.table message.now) in
         OnErr result ((host.new ≡ host.old)
-        ⊎ (host.new ≡ books_after_bodies link.now.table host.old (entering_unless foreign message.now))) }
+        ⊎ (host.new
+        ≡ books_after_bodies link.now.table host.old (entering_unless foreign message.now))) }
     ensures unchanged { OnErr result (waiting.new.items ≡ waiting.old.items) }
 {
     // the law that no bodies leave the books as they are, for the prover
@@ -234,10 +248,12 @@ pub(crate) fn answer_guarded(
     rooms: &mut Rooms,
     waiting: &mut Vec<u8>,
 ) -> Result<Came, NoMemory>
-    ensures answered { OnOk result (AnswersGuarded (guard_of link.now terms.now) host.old host.new body.now
+    ensures answered { OnOk result
+        (AnswersGuarded (guard_of link.now terms.now) host.old host.new body.now
         waiting.old.items waiting.new.items) }
     // Without memory the books are as they were, or its message is entered.
-    ensures memory { OnErr result (EntersOrNot (guard_of link.now terms.now) host.old host.new body.now) }
+    ensures memory { OnErr result
+        (EntersOrNot (guard_of link.now terms.now) host.old host.new body.now) }
     ensures unchanged { OnErr result (waiting.new.items ≡ waiting.old.items) }
 {
     one_journal(host.issuer());

@@ -31,7 +31,11 @@ impl<'l> Model for GuardedPeer<'l> {
 
     ghost Value = { Guarded };
 
-    ghost view = { λ p. record { guard = guard_of p.link.now p.terms.now; held = p.held.items; waiting = p.waiting.items } };
+    ghost view = { λ p. record {
+      guard = guard_of p.link.now p.terms.now;
+      held = p.held.items;
+      waiting = p.waiting.items;
+    } };
 }
 
 impl<'l> GuardedPeer<'l> {
@@ -73,9 +77,11 @@ impl<'l> GuardedPeer<'l> {
     ) -> Result<Turned, LogFailed>
         // At `Ok` the messages of all whole frames enter the books, but for those that may not be
         // spoken for, and the answers wait in the order of the frames.
-        ensures took { IfOk result (TakesGuarded self.old self.new host.old.host host.new.host bytes.now) }
+        ensures took { IfOk result
+            (TakesGuarded self.old self.new host.old.host host.new.host bytes.now) }
         // Only orders of acquirers that may be spoken for enter the books.
-        ensures allowed { EntersAllowed self.old.guard.acquirers self.old.guard.table host.old.host host.new.host }
+        ensures allowed { EntersAllowed self.old.guard.acquirers self.old.guard.table
+            host.old.host host.new.host }
         // It succeeds only where the log didn't fail before.
         ensures sound { OnOk result (host.old.has_failed ≡ false) }
         // It fails only where the log failed before.

@@ -79,8 +79,16 @@ pub(crate) fn take_held<N: Noting>(
     waiting: &mut Vec<u8>,
 ) -> Turned
     ensures took { TakesGuarded
-        (record { guard = guard_of link.now terms.now; held = held.old.items; waiting = waiting.old.items })
-        (record { guard = guard_of link.now terms.now; held = held.new.items; waiting = waiting.new.items })
+        (record {
+          guard = guard_of link.now terms.now;
+          held = held.old.items;
+          waiting = waiting.old.items;
+        })
+        (record {
+          guard = guard_of link.now terms.now;
+          held = held.new.items;
+          waiting = waiting.new.items;
+        })
         host.old host.new bytes.now result }
     // Only orders of acquirers that may be spoken for enter the books.
     ensures allowed { EntersAllowed terms.now.acquirers.items link.now.table host.old host.new }

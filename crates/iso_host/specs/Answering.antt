@@ -25,14 +25,16 @@ SpendsOnWrite old new before left (Err CutFrame) = ⊥
 SpendsOnWrite old new before left (Err Memory) = new ≡ old
 
 -- some bytes at the front of these were written, and wait for a flush
-pub record WritesPart (held written : Option (List ℕ)) (old new : Counts) (bytes : List ℕ) : Type 0 where
+pub record WritesPart (held written : Option (List ℕ)) (old new : Counts)
+    (bytes : List ℕ) : Type 0 where
   pub count : ℕ
   pub within : count ≤ length bytes
   pub appends : Appends held written (take count bytes)
   pub waits : new.unflushed ≡ old.unflushed + count
 
 -- at Ok the bytes were written, else some at their front
-abbrev pub WritesBytes : {T : Type 0} → Option (List ℕ) → Option (List ℕ) → Counts → Counts → List ℕ → Result T ServeFault → Type 0
+abbrev pub WritesBytes : {T : Type 0} → Option (List ℕ) → Option (List ℕ) → Counts → Counts → List ℕ
+    → Result T ServeFault → Type 0
 WritesBytes held written old new bytes (Ok x) = Appends held written bytes
 WritesBytes held written old new bytes (Err e) = WritesPart held written old new bytes
 
@@ -40,13 +42,15 @@ WritesBytes held written old new bytes (Err e) = WritesPart held written old new
 abbrev pub FlushesAll : Counts → Counts → List ℕ → Type 0
 FlushesAll old new bytes = (new.unflushed ≡ 0) ⊎ ((new ≡ old) × (bytes ≡ []))
 
-module _ (t : Layout) (h : Header) (books_old books_new : Books) (message : Option Contents) (held written : Option (List ℕ)) (old new : Counts) where
+module _ (t : Layout) (h : Header) (books_old books_new : Books) (message : Option Contents)
+    (held written : Option (List ℕ)) (old new : Counts) where
   -- at an error the books are as they were and the writer wasn't called, or the message's order was entered and some
   -- bytes at the front of its answer were written, or none
   abbrev pub AnswersPart : Type 0
   AnswersPart =
       ((books_new ≡ books_old) × (written ≡ held) × (new ≡ old))
-      ⊎ ((books_new ≡ entered_by books_old message) × ((bytes : List ℕ) × IsAnswerTo t h books_old message bytes × WritesPart held written old new bytes))
+      ⊎ ((books_new ≡ entered_by books_old message) × ((bytes : List ℕ)
+      × IsAnswerTo t h books_old message bytes × WritesPart held written old new bytes))
 
   -- the message's order was entered and its answer written and flushed
   pub record AnswersWhole : Type 0 where

@@ -64,4 +64,5 @@ count_asked t kind bodies = count_by (λ body. kind (asked_of t body)) bodies
 
 -- a body is read as a message exactly where the whole body spells the message
 abbrev pub BodiesAreSpellings : Type 0
-BodiesAreSpellings = (t : Layout) (m : Contents) (body : List ℕ) → AreGood t.rows → AreBytes body → (message_in t body ≡ Some m) ↔ Spelling t m body
+BodiesAreSpellings = (t : Layout) (m : Contents) (body : List ℕ) → AreGood t.rows → AreBytes body
+    → (message_in t body ≡ Some m) ↔ Spelling t m body

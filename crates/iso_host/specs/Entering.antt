@@ -16,4 +16,6 @@ StaysWithout books = (t : Layout) → books_after_bodies t books [] ≡ books
 -- bodies that follow others are handled as all of them, one after the other
 abbrev pub BodiesGoOn : Type 0
 BodiesGoOn =
-    (t : Layout) (books : Books) (earlier later : List (List ℕ)) → books_after_bodies t (books_after_bodies t books earlier) later ≡ books_after_bodies t books (earlier ++ later)
+    (t : Layout) (books : Books) (earlier later : List (List ℕ))
+    → books_after_bodies t (books_after_bodies t books earlier) later
+    ≡ books_after_bodies t books (earlier ++ later)

@@ -20,4 +20,5 @@ books_after_body t books body = entered_by books (message_in t body)
 
 -- the books are as they were, or the message's order was entered, and the message has an answer
 abbrev pub EntersOrKeeps : Layout → Header → Books → Books → Option Contents → Type 0
-EntersOrKeeps t h old new message = (new ≡ old) ⊎ ((new ≡ entered_by old message) × ((bytes : List ℕ) × IsAnswerTo t h old message bytes))
+EntersOrKeeps t h old new message = (new ≡ old)
+    ⊎ ((new ≡ entered_by old message) × ((bytes : List ℕ) × IsAnswerTo t h old message bytes))

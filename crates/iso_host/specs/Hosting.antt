@@ -26,7 +26,8 @@ GrowsBy P old new = (bytes : List ℕ) × P bytes × (new ≡ old ++ bytes)
 -- why a body isn't one whole message: where reading it stops and why, or where its message ends before it does
 abbrev pub IsBodyFault : Layout → List ℕ → BodyFault → Type 0
 IsBodyFault t body (Stops e) = message_at t body ≡ Err e
-IsBodyFault t body (Behind end) = ((m : Contents) × (message_at t body ≡ whole m end)) × (end < length body)
+IsBodyFault t body (Behind end) = ((m : Contents) × (message_at t body ≡ whole m end))
+    × (end < length body)
 
 -- what came of a message on which this is the verdict, at these books
 abbrev pub IsHandledBy : Books → Verdict → Handled → Type 0
@@ -34,7 +35,8 @@ IsHandledBy books v (handled.Unreadable fault) = ⊥
 IsHandledBy books v handled.Silent = v ≡ asks.Silent
 IsHandledBy books v (handled.Replied code) = v ≡ asks.Reply code
 IsHandledBy books v (handled.Ordered key code seq) =
-    (o : Instruction) × (v ≡ asks.Order o) × (key ≡ o.key) × (code ≡ (outcome_for books o).code) × (seq ≡ (outcome_for books o).seq)
+    (o : Instruction) × (v ≡ asks.Order o) × (key ≡ o.key) × (code ≡ (outcome_for books o).code)
+    × (seq ≡ (outcome_for books o).seq)
 
 -- what came of a body at these books
 unfoldable pub IsHandled : Layout → Books → List ℕ → Handled → Type 0
@@ -48,8 +50,10 @@ IsHandled t books body (handled.Ordered key code seq) =
 -- ---- one body
 
 -- the message that a body is, or none, was entered, and the bytes grew by the frame of its response
-abbrev pub AnswersMessage : Layout → Header → Books → Books → Option Contents → List ℕ → List ℕ → Type 0
-AnswersMessage t h old new message out grown = (new ≡ entered_by old message) × GrowsBy (IsAnswerTo t h old message) out grown
+abbrev pub AnswersMessage : Layout → Header → Books → Books → Option Contents → List ℕ → List ℕ
+    → Type 0
+AnswersMessage t h old new message out grown = (new ≡ entered_by old message)
+    × GrowsBy (IsAnswerTo t h old message) out grown
 
 -- the body was entered, and the bytes grew by the frame of its response
 abbrev pub Answers : Layout → Header → Books → Books → List ℕ → List ℕ → List ℕ → Type 0
@@ -57,4 +61,5 @@ Answers t h old new body out grown = AnswersMessage t h old new (message_in t bo
 
 -- the body was entered, and has an answer, which wasn't made
 abbrev pub EntersAlone : Layout → Header → Books → Books → List ℕ → Type 0
-EntersAlone t h old new body = (new ≡ books_after_body t old body) × ((bytes : List ℕ) × IsAnswer t h old body bytes)
+EntersAlone t h old new body = (new ≡ books_after_body t old body)
+    × ((bytes : List ℕ) × IsAnswer t h old body bytes)

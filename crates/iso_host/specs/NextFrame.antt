@@ -21,23 +21,35 @@ Fills window left (Ok x) = 0 < length window
 Fills window left (Err e) = (window ≡ []) × NoByte left e
 
 -- the frame doesn't come to its end, or its body isn't answered
-abbrev pub EndsBefore : Layout → Header → Option (List ℕ) → Option (List ℕ) → List ℕ → Option (List ℕ) → Books → Books → ServeFault → Type 0
-EndsBefore t h old new window left books after Read = EndsInside h old new window left Read × (after ≡ books)
-EndsBefore t h old new window left books after CutFrame = EndsInside h old new window left CutFrame × (after ≡ books)
-EndsBefore t h old new window left books after TooManyTurns = EndsInside h old new window left TooManyTurns × (after ≡ books)
-EndsBefore t h old new window left books after BadHeader = (part : List ℕ) × Consumes old new part × (is_bad_header h (part ++ window) ≡ true) × (after ≡ books)
-EndsBefore t h old new window left books after Memory = (part : List ℕ) × Consumes old new part × Refuses t h part books after window peer.Memory
+abbrev pub EndsBefore : Layout → Header → Option (List ℕ) → Option (List ℕ) → List ℕ
+    → Option (List ℕ) → Books → Books → ServeFault → Type 0
+EndsBefore t h old new window left books after Read = EndsInside h old new window left Read
+    × (after ≡ books)
+EndsBefore t h old new window left books after CutFrame = EndsInside h old new window left CutFrame
+    × (after ≡ books)
+EndsBefore t h old new window left books after TooManyTurns =
+    EndsInside h old new window left TooManyTurns × (after ≡ books)
+EndsBefore t h old new window left books after BadHeader = (part : List ℕ) × Consumes old new part
+    × (is_bad_header h (part ++ window) ≡ true) × (after ≡ books)
+EndsBefore t h old new window left books after Memory = (part : List ℕ) × Consumes old new part
+    × Refuses t h part books after window peer.Memory
 EndsBefore t h old new window left books after Write = ⊥
 
 -- a frame is taken and its body answered; or the input ends before it
-abbrev pub AnswersFrame : Layout → Header → Option (List ℕ) → Option (List ℕ) → List ℕ → Option (List ℕ) → Books → Books → List ℕ → List ℕ → Handled → Result Bool ServeFault → Type 0
+abbrev pub AnswersFrame : Layout → Header → Option (List ℕ) → Option (List ℕ) → List ℕ
+    → Option (List ℕ) → Books → Books → List ℕ → List ℕ → Handled → Result Bool ServeFault → Type 0
 AnswersFrame t h old new window left books after out grown told (Ok true) =
-    (body : List ℕ) × Consumes old new (frame_of h body) × (length body ≤ largest h) × Answers t h books after body out grown × IsHandled t books body told
-AnswersFrame t h old new window left books after out grown told (Ok false) = Keeps old new × (window ≡ []) × IsAtEnd left × (after ≡ books) × (grown ≡ out)
-AnswersFrame t h old new window left books after out grown told (Err e) = EndsBefore t h old new window left books after e
+    (body : List ℕ) × Consumes old new (frame_of h body) × (length body ≤ largest h)
+    × Answers t h books after body out grown × IsHandled t books body told
+AnswersFrame t h old new window left books after out grown told (Ok false) = Keeps old new
+    × (window ≡ []) × IsAtEnd left × (after ≡ books) × (grown ≡ out)
+AnswersFrame t h old new window left books after out grown told (Err e) =
+    EndsBefore t h old new window left books after e
 
 -- the turns that it takes
-abbrev pub SpendsOnNext : Counts → Counts → ℕ → ℕ → List ℕ → List ℕ → Result Bool ServeFault → Type 0
-SpendsOnNext old new before left window after (Ok true) = TakesReads old new before left window after 1
+abbrev pub SpendsOnNext : Counts → Counts → ℕ → ℕ → List ℕ → List ℕ → Result Bool ServeFault
+    → Type 0
+SpendsOnNext old new before left window after (Ok true) =
+    TakesReads old new before left window after 1
 SpendsOnNext old new before left window after (Ok false) = new.failures ≡ old.failures
 SpendsOnNext old new before left window after (Err e) = EndsReads old new before left e

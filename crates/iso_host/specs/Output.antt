@@ -44,7 +44,8 @@ response_to books (Some m) = response_with m (outcome_of books (verdict m))
 -- the frame of the response's plain spelling, or nothing
 abbrev pub IsFramed : Layout → Header → Option Contents → List ℕ → Type 0
 IsFramed t h None bytes = bytes ≡ []
-IsFramed t h (Some r) bytes = (plain : List ℕ) × PlainSpelling t r plain × (length plain ≤ largest h) × (bytes ≡ frame_of h plain)
+IsFramed t h (Some r) bytes = (plain : List ℕ) × PlainSpelling t r plain
+    × (length plain ≤ largest h) × (bytes ≡ frame_of h plain)
 
 -- what is written at these books for the message that a body is
 unfoldable pub IsAnswerTo : Layout → Header → Books → Option Contents → List ℕ → Type 0
@@ -60,7 +61,8 @@ IsAnswer t h books body bytes = IsAnswerTo t h books (message_in t body) bytes
 abbrev pub IsOutputFrom : Layout → Header → Books → List (List ℕ) → List (List ℕ) → List ℕ → Type 0
 IsOutputFrom t h books earlier [] bytes = bytes ≡ []
 IsOutputFrom t h books earlier (body ∷ bodies) bytes =
-    (first : List ℕ) × (others : List ℕ) × IsAnswer t h (books_after_bodies t books earlier) body first
+    (first : List ℕ) × (others : List ℕ)
+    × IsAnswer t h (books_after_bodies t books earlier) body first
     × IsOutputFrom t h books (earlier ++ body ∷ []) bodies others × (bytes ≡ first ++ others)
 
 -- what is written for these bodies
@@ -69,4 +71,5 @@ IsOutput t h books bodies bytes = IsOutputFrom t h books [] bodies bytes
 
 -- no bodies have two outputs
 abbrev pub OutputOnce : Type 0
-OutputOnce = (t : Layout) (h : Header) (books : Books) (bodies : List (List ℕ)) (a b : List ℕ) → IsOutput t h books bodies a → IsOutput t h books bodies b → a ≡ b
+OutputOnce = (t : Layout) (h : Header) (books : Books) (bodies : List (List ℕ)) (a b : List ℕ)
+    → IsOutput t h books bodies a → IsOutput t h books bodies b → a ≡ b

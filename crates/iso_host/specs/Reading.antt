@@ -26,10 +26,14 @@ Refills window left (Ok x) = 0 < length window
 Refills window left (Err e) = (window ≡ []) × NoByte left e
 
 -- what is taken where a frame doesn't come to its end
-abbrev pub EndsInside : Header → Option (List ℕ) → Option (List ℕ) → List ℕ → Option (List ℕ) → ServeFault → Type 0
-EndsInside h old new window left Read = (part : List ℕ) × Consumes old new part × (window ≡ []) × NeedsMore h part
-EndsInside h old new window left CutFrame = (part : List ℕ) × Consumes old new part × (window ≡ []) × NeedsMore h part × (part ≢ []) × IsAtEnd left
-EndsInside h old new window left BadHeader = (part : List ℕ) × Consumes old new part × (is_bad_header h part ≡ true)
+abbrev pub EndsInside : Header → Option (List ℕ) → Option (List ℕ) → List ℕ → Option (List ℕ)
+    → ServeFault → Type 0
+EndsInside h old new window left Read = (part : List ℕ) × Consumes old new part × (window ≡ [])
+    × NeedsMore h part
+EndsInside h old new window left CutFrame = (part : List ℕ) × Consumes old new part × (window ≡ [])
+    × NeedsMore h part × (part ≢ []) × IsAtEnd left
+EndsInside h old new window left BadHeader = (part : List ℕ) × Consumes old new part
+    × (is_bad_header h part ≡ true)
 EndsInside h old new window left TooManyTurns = (part : List ℕ) × Consumes old new part
 EndsInside h old new window left Memory = (part : List ℕ) × Consumes old new part
 EndsInside h old new window left Write = ⊥
@@ -37,7 +41,8 @@ EndsInside h old new window left Write = ⊥
 -- ---- the turns
 
 -- each read took a turn and gave at least one byte, at most 4,096, and so many bytes were taken
-pub record TakesReads (old new : Counts) (before left : ℕ) (window after : List ℕ) (taken : ℕ) : Type 0 where
+pub record TakesReads (old new : Counts) (before left : ℕ) (window after : List ℕ)
+    (taken : ℕ) : Type 0 where
   pub spends : Spends old new before left
   pub falls : 4097 * left + length after + taken ≤ 4097 * before + length window
 
@@ -51,6 +56,8 @@ EndsReads old new before left Memory = new.failures ≡ old.failures
 EndsReads old new before left Write = ⊥
 
 -- what reading spends, where it gave something and where it failed
-abbrev pub SpendsOnReads : {T : Type 0} → Counts → Counts → ℕ → ℕ → List ℕ → List ℕ → ℕ → Result T ServeFault → Type 0
-SpendsOnReads old new before left window after taken (Ok x) = TakesReads old new before left window after taken
+abbrev pub SpendsOnReads : {T : Type 0} → Counts → Counts → ℕ → ℕ → List ℕ → List ℕ → ℕ
+    → Result T ServeFault → Type 0
+SpendsOnReads old new before left window after taken (Ok x) =
+    TakesReads old new before left window after taken
 SpendsOnReads old new before left window after taken (Err e) = EndsReads old new before left e

@@ -18,7 +18,8 @@ use Rattle.iso_host.specs.declared.fault.ServeFault.TheVariants.{Read, Write, Ba
 -- ---- the bytes and the journal
 
 -- these bodies came in whole frames and then this rest; they were handled and answered, and no other
-pub record Served (t : Layout) (h : Header) (unread left held written : Option (List ℕ)) (old new : Books) (bodies : List (List ℕ)) (rest : List ℕ) : Type 0 where
+pub record Served (t : Layout) (h : Header) (unread left held written : Option (List ℕ))
+    (old new : Books) (bodies : List (List ℕ)) (rest : List ℕ) : Type 0 where
   pub read : Consumes unread left (frames_of h bodies ++ rest)
   pub fit : AllFit h bodies
   pub books : new ≡ books_after_bodies t old bodies
@@ -36,7 +37,8 @@ IsPrefix xs ys = (more : List ℕ) × (ys ≡ xs ++ more)
 
 -- these bodies came in whole frames; they were handled, and what was written lies between the output for all but the
 -- last and the output for all
-pub record Stopped (t : Layout) (h : Header) (unread left held written : Option (List ℕ)) (old new : Books) (bodies : List (List ℕ)) (rest bytes : List ℕ) : Type 0 where
+pub record Stopped (t : Layout) (h : Header) (unread left held written : Option (List ℕ))
+    (old new : Books) (bodies : List (List ℕ)) (rest bytes : List ℕ) : Type 0 where
   pub read : Consumes unread left (frames_of h bodies ++ rest)
   pub fit : AllFit h bodies
   pub books : new ≡ books_after_bodies t old bodies
@@ -59,21 +61,25 @@ pub record Reports (t : Layout) (report : Report) (bodies : List (List ℕ)) : T
 
 -- ---- each end
 
-module _ (t : Layout) (h : Header) (unread left held written : Option (List ℕ)) (old new : Books) where
+module _ (t : Layout) (h : Header) (unread left held written : Option (List ℕ))
+    (old new : Books) where
   -- all whole frames were handled and answered, and P holds of the bodies and the rest
   abbrev pub Whole : (List (List ℕ) → List ℕ → Type 0) → Type 0
-  Whole P = (bodies : List (List ℕ)) × (rest : List ℕ) × Served t h unread left held written old new bodies rest × NoFrame h rest × P bodies rest
+  Whole P = (bodies : List (List ℕ)) × (rest : List ℕ)
+      × Served t h unread left held written old new bodies rest × NoFrame h rest × P bodies rest
 
   -- some whole frames were handled, and the last answer may be missing or cut short
   abbrev pub Cut : Type 0
-  Cut = (bodies : List (List ℕ)) × (rest : List ℕ) × (bytes : List ℕ) × Stopped t h unread left held written old new bodies rest bytes
+  Cut = (bodies : List (List ℕ)) × (rest : List ℕ) × (bytes : List ℕ)
+      × Stopped t h unread left held written old new bodies rest bytes
 
   -- what is read, written and entered, by what `serve` answers
   abbrev pub Leaves : Result Report ServeFault → Type 0
   Leaves (Ok report) = Whole (λ bodies rest. (rest ≡ []) × IsAtEnd left × Reports t report bodies)
   Leaves (Err Read) = Whole (λ bodies rest. Unit {0})
   Leaves (Err BadHeader) = Whole (λ bodies rest. is_bad_header h rest ≡ true)
-  Leaves (Err CutFrame) = Whole (λ bodies rest. (rest ≢ []) × IsAtEnd left × (is_bad_header h rest ≡ false))
+  Leaves (Err CutFrame) =
+      Whole (λ bodies rest. (rest ≢ []) × IsAtEnd left × (is_bad_header h rest ≡ false))
   Leaves (Err Write) = Cut
   Leaves (Err Memory) = Cut
   Leaves (Err TooManyTurns) = Cut
@@ -87,14 +93,17 @@ IsFlushed old new = (new.unflushed ≡ 0) ⊎ (new ≡ old)
 -- of these bytes, those behind the first ones wait for a flush; where there are no first ones, so do earlier bytes
 abbrev pub WaitsBehind : Counts → Counts → List ℕ → List ℕ → Type 0
 WaitsBehind old new less bytes =
-    (length less + new.unflushed ≡ length bytes) ⊎ ((less ≡ []) × (new.unflushed ≡ old.unflushed + length bytes))
+    (length less + new.unflushed ≡ length bytes)
+    ⊎ ((less ≡ []) × (new.unflushed ≡ old.unflushed + length bytes))
 
-module _ (t : Layout) (h : Header) (unread left held written : Option (List ℕ)) (old new : Books) (sent_old sent_new : Counts) where
+module _ (t : Layout) (h : Header) (unread left held written : Option (List ℕ)) (old new : Books)
+    (sent_old sent_new : Counts) where
   -- all answers but the last were flushed, and what was written of the last one waits for a flush
   abbrev pub LastWaits : Type 0
   LastWaits =
       (bodies : List (List ℕ)) × (rest : List ℕ) × (bytes : List ℕ)
-      × (stopped : Stopped t h unread left held written old new bodies rest bytes) × WaitsBehind sent_old sent_new stopped.less bytes
+      × (stopped : Stopped t h unread left held written old new bodies rest bytes)
+      × WaitsBehind sent_old sent_new stopped.less bytes
 
   -- each answer was flushed before the next body was handled
   abbrev pub Flushes : Result Report ServeFault → Type 0
@@ -110,7 +119,8 @@ module _ (t : Layout) (h : Header) (unread left held written : Option (List ℕ)
 
 -- the reads and writes together are at most so many
 abbrev pub WithinTurns : Counts → Counts → Counts → Counts → ℕ → Type 0
-WithinTurns reader_old reader_new writer_old writer_new turns = reader_new.calls + writer_new.calls ≤ reader_old.calls + writer_old.calls + turns
+WithinTurns reader_old reader_new writer_old writer_new turns =
+    reader_new.calls + writer_new.calls ≤ reader_old.calls + writer_old.calls + turns
 
 -- ---- the cause of each end
 
@@ -120,16 +130,25 @@ pub record NoFailure (reader_old reader_new writer_old writer_new : Counts) : Ty
   pub writer : writer_new.failures ≡ writer_old.failures
 
 -- each turn was taken by a read or a write, and moved a byte
-pub record TookTurns (reader_old reader_new writer_old writer_new : Counts) (turns : ℕ) : Type 0 where
+pub record TookTurns (reader_old reader_new writer_old writer_new : Counts)
+    (turns : ℕ) : Type 0 where
   pub calls : reader_new.calls + writer_new.calls ≡ reader_old.calls + writer_old.calls + turns
   pub moved : turns + (reader_old.moved + writer_old.moved) ≤ reader_new.moved + writer_new.moved
 
 -- a failure is told only where the stream failed, and every other answer only where neither did
 abbrev pub Cause : Counts → Counts → Counts → Counts → ℕ → Result Report ServeFault → Type 0
-Cause reader_old reader_new writer_old writer_new turns (Ok report) = NoFailure reader_old reader_new writer_old writer_new
-Cause reader_old reader_new writer_old writer_new turns (Err Read) = reader_old.failures < reader_new.failures
-Cause reader_old reader_new writer_old writer_new turns (Err Write) = writer_old.failures < writer_new.failures
-Cause reader_old reader_new writer_old writer_new turns (Err BadHeader) = NoFailure reader_old reader_new writer_old writer_new
-Cause reader_old reader_new writer_old writer_new turns (Err CutFrame) = NoFailure reader_old reader_new writer_old writer_new
-Cause reader_old reader_new writer_old writer_new turns (Err Memory) = NoFailure reader_old reader_new writer_old writer_new
-Cause reader_old reader_new writer_old writer_new turns (Err TooManyTurns) = NoFailure reader_old reader_new writer_old writer_new × TookTurns reader_old reader_new writer_old writer_new turns
+Cause reader_old reader_new writer_old writer_new turns (Ok report) =
+    NoFailure reader_old reader_new writer_old writer_new
+Cause reader_old reader_new writer_old writer_new turns (Err Read) =
+    reader_old.failures < reader_new.failures
+Cause reader_old reader_new writer_old writer_new turns (Err Write) =
+    writer_old.failures < writer_new.failures
+Cause reader_old reader_new writer_old writer_new turns (Err BadHeader) =
+    NoFailure reader_old reader_new writer_old writer_new
+Cause reader_old reader_new writer_old writer_new turns (Err CutFrame) =
+    NoFailure reader_old reader_new writer_old writer_new
+Cause reader_old reader_new writer_old writer_new turns (Err Memory) =
+    NoFailure reader_old reader_new writer_old writer_new
+Cause reader_old reader_new writer_old writer_new turns (Err TooManyTurns) =
+    NoFailure reader_old reader_new writer_old writer_new
+    × TookTurns reader_old reader_new writer_old writer_new turns

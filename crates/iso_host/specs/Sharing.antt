@@ -30,13 +30,17 @@ pub record Peers : Type 0 where
   pub books : Books
 
 -- what `take` does to a peer of this link and to the books: without memory nothing is taken and nothing comes out
-abbrev pub Calls : Agreed → List ℕ → List ℕ → Books → Books → List ℕ → List ℕ → List ℕ → Result (Option Handled) (Unit {0}) → Type 0
-Calls l held kept old new bytes out grown (Ok handled) = TakesPiece l.table l.header held kept old new bytes out grown handled
-Calls l held kept old new bytes out grown (Err e) = (kept ≡ held) × (grown ≡ out) × Refuses l.table l.header held old new bytes Memory
+abbrev pub Calls : Agreed → List ℕ → List ℕ → Books → Books → List ℕ → List ℕ → List ℕ
+    → Result (Option Handled) (Unit {0}) → Type 0
+Calls l held kept old new bytes out grown (Ok handled) =
+    TakesPiece l.table l.header held kept old new bytes out grown handled
+Calls l held kept old new bytes out grown (Err e) = (kept ≡ held) × (grown ≡ out)
+    × Refuses l.table l.header held old new bytes Memory
 
 -- a call leaves the other peers
 pub record Goes (links : ℕ → Agreed) (call : Call) (old new : Peers) : Type 0 where
-  pub calls : Calls (links call.peer) (old.held call.peer) (new.held call.peer) old.books new.books call.bytes
+  pub calls : Calls (links call.peer) (old.held call.peer)
+      (new.held call.peer) old.books new.books call.bytes
       (old.out call.peer) (new.out call.peer) call.result
   pub others_held : (s : ℕ) → s ≢ call.peer → new.held s ≡ old.held s
   pub others_out : (s : ℕ) → s ≢ call.peer → new.out s ≡ old.out s
@@ -44,7 +48,8 @@ pub record Goes (links : ℕ → Agreed) (call : Call) (old new : Peers) : Type 
 -- call after call
 abbrev pub GoesOn : (ℕ → Agreed) → List Call → Peers → Peers → Type 0
 GoesOn links [] old new = new ≡ old
-GoesOn links (call ∷ calls) old new = (mid : Peers) × Goes links call old mid × GoesOn links calls mid new
+GoesOn links (call ∷ calls) old new = (mid : Peers) × Goes links call old mid
+    × GoesOn links calls mid new
 
 -- what a call took of its bytes: nothing where memory ran out
 abbrev pub taken_of : Result (Option Handled) (Unit {0}) → List ℕ → List ℕ
@@ -53,7 +58,8 @@ taken_of (Err e) bytes = []
 
 -- the bytes that a peer took
 abbrev pub bytes_of : ℕ → List Call → List ℕ
-bytes_of s calls = flat_map (λ call. taken_of call.result call.bytes) (filter (λ call. call.peer == s) calls)
+bytes_of s calls =
+    flat_map (λ call. taken_of call.result call.bytes) (filter (λ call. call.peer == s) calls)
 
 -- ---- the bodies that were entered
 
@@ -70,7 +76,8 @@ bodies_of s entries = map (λ e. e.body) (filter (λ e. (e.peer == s) && e.answe
 -- the orders that the bodies ask, each under the table of its peer
 abbrev pub orders_by : (ℕ → Agreed) → List Entry → List Instruction
 orders_by links [] = []
-orders_by links (e ∷ entries) = orders_in (asked_of (links e.peer).table e.body) ++ orders_by links entries
+orders_by links (e ∷ entries) =
+    orders_in (asked_of (links e.peer).table e.body) ++ orders_by links entries
 
 -- the books once these bodies were entered
 unfoldable pub books_after_entries : (ℕ → Agreed) → Books → List Entry → Books
@@ -78,13 +85,15 @@ books_after_entries links books entries = books_after books (orders_by links ent
 
 -- the whole frames of each peer's bytes are those of its bodies
 abbrev pub AreFrames : (ℕ → Agreed) → List Call → List Entry → Type 0
-AreFrames links calls entries = (s : ℕ) → (rest : List ℕ) × Splits (links s).header (bytes_of s calls) (bodies_of s entries) rest
+AreFrames links calls entries = (s : ℕ)
+    → (rest : List ℕ) × Splits (links s).header (bytes_of s calls) (bodies_of s entries) rest
 
 -- the bodies come in the order in which their frames ended: after any number of the calls, the first ones are those that
 -- came whole
 abbrev pub InOrder : (ℕ → Agreed) → List Call → List Entry → Type 0
 InOrder links calls entries =
-    (n : ℕ) → n ≤ length calls → (k : ℕ) × (k ≤ length entries) × AreFrames links (take n calls) (take k entries)
+    (n : ℕ) → n ≤ length calls
+    → (k : ℕ) × (k ≤ length entries) × AreFrames links (take n calls) (take k entries)
 
 -- ---- what comes out
 
@@ -99,17 +108,21 @@ abbrev pub IsShareFrom : (ℕ → Agreed) → Books → ℕ → List Entry → L
 IsShareFrom links books s earlier [] bytes = bytes ≡ []
 IsShareFrom links books s earlier (e ∷ entries) bytes =
     (first : List ℕ) × (others : List ℕ)
-    × IsAnswerIf ((e.peer == s) && e.answered) (links s) (books_after_entries links books earlier) e.body first
+    × IsAnswerIf ((e.peer == s) && e.answered) (links s)
+    (books_after_entries links books earlier) e.body first
     × IsShareFrom links books s (earlier ++ e ∷ []) entries others × (bytes ≡ first ++ others)
 
 -- ---- the law
 
 -- the bodies that were entered, in their order: the journal is theirs, and each peer has the answers to its own
-pub record Shares (links : ℕ → Agreed) (calls : List Call) (old new : Peers) (entries : List Entry) : Type 0 where
+pub record Shares (links : ℕ → Agreed) (calls : List Call) (old new : Peers)
+    (entries : List Entry) : Type 0 where
   pub order : InOrder links calls entries
-  pub frames : (s : ℕ) → Splits (links s).header (bytes_of s calls) (bodies_of s entries) (new.held s)
+  pub frames : (s : ℕ)
+      → Splits (links s).header (bytes_of s calls) (bodies_of s entries) (new.held s)
   pub books : new.books ≡ books_after_entries links old.books entries
-  pub out : (s : ℕ) → (bytes : List ℕ) × IsShareFrom links old.books s [] entries bytes × (new.out s ≡ old.out s ++ bytes)
+  pub out : (s : ℕ) → (bytes : List ℕ) × IsShareFrom links old.books s [] entries bytes
+      × (new.out s ≡ old.out s ++ bytes)
 
 -- however the bytes of the peers are cut and interleaved, and wherever memory runs out
 abbrev pub PeersShare : Books → Type 0
@@ -131,4 +144,5 @@ PeerAlone books =
     → (bodies : List (List ℕ)) × (bytes : List ℕ)
     × Splits (links s).header (bytes_of s calls) bodies (new.held s)
     × IsOutput (links s).table (links s).header old.books bodies bytes
-    × (new.out s ≡ old.out s ++ bytes) × (new.books ≡ books_after_bodies (links s).table old.books bodies)
+    × (new.out s ≡ old.out s ++ bytes)
+    × (new.books ≡ books_after_bodies (links s).table old.books bodies)

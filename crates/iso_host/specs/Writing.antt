@@ -9,7 +9,8 @@ abbrev pub WritesSome : Option (List ℕ) → Option (List ℕ) → List ℕ →
 WritesSome old new bytes = (n : ℕ) × (n ≤ length bytes) × Appends old new (take n bytes)
 
 -- at Ok the bytes were written, else some at their front
-abbrev pub WritesFront : {T E : Type 0} → Option (List ℕ) → Option (List ℕ) → List ℕ → Result T E → Type 0
+abbrev pub WritesFront : {T E : Type 0} → Option (List ℕ) → Option (List ℕ) → List ℕ → Result T E
+    → Type 0
 WritesFront old new bytes (Ok x) = Appends old new bytes
 WritesFront old new bytes (Err e) = WritesSome old new bytes
 

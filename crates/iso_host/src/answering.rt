@@ -57,7 +57,8 @@ pub fn no_rooms(alloc: Global) -> Rooms {
 fn close_behind(header: Header, bytes: &mut [u8], start: usize)
     requires room { start + header_size header ≤ length bytes.old }
     requires fits { length bytes.old ≤ start + header_size header + largest header }
-    ensures { bytes.new ≡ take start bytes.old ++ frame_of header (drop (header_size header) (drop start bytes.old)) }
+    ensures { bytes.new ≡ take start bytes.old
+        ++ frame_of header (drop (header_size header) (drop start bytes.old)) }
 {
     let (_, frame) = bytes.split_at_mut(start);
     match close_frame(header, frame) {
@@ -76,8 +77,10 @@ fn append_response(
     out: &mut Vec<u8>,
 ) -> Result<(), NoMemory>
     requires fits { message_refusal table.now response.now ≡ None }
-    requires short { (bytes : List ℕ) → PlainSpelling table.now response.now bytes → length bytes ≤ 9999 }
-    ensures framed { OnOk result (GrowsBy (IsFramed table.now header (Some response.now)) out.old.items out.new.items) }
+    requires short { (bytes : List ℕ) → PlainSpelling table.now response.now bytes
+        → length bytes ≤ 9999 }
+    ensures framed { OnOk result
+        (GrowsBy (IsFramed table.now header (Some response.now)) out.old.items out.new.items) }
     ensures unchanged { OnErr result (out.new.items ≡ out.old.items) }
 {
     let start = out.len();
@@ -100,7 +103,8 @@ fn has_frame(table: &Table, header: Header, message: &Message, answer: &Answer)
     requires read { (bytes : List ℕ) × Spelling table.now message.now bytes }
     requires asks { is_answered (function message.now) ≡ true }
     requires shown { is_showable message.now answer.now.shown ≡ true }
-    ensures { (bytes : List ℕ) × IsFramed table.now header (Some (response message.now answer.now)) bytes }
+    ensures { (bytes : List ℕ)
+        × IsFramed table.now header (Some (response message.now answer.now)) bytes }
 {
     // the laws that each response is well formed, fits the table and is short, and has one spelling, for the prover
     responses_fit();
@@ -126,7 +130,8 @@ fn append_answer(
     requires asks { is_answered (function rooms.old.request) ≡ true }
     requires shown { is_showable rooms.old.request answer.now.shown ≡ true }
     ensures framed { OnOk result
-        (GrowsBy (IsFramed table.now header (Some (response rooms.old.request answer.now))) out.old.items out.new.items) }
+        (GrowsBy (IsFramed table.now header (Some (response rooms.old.request answer.now)))
+        out.old.items out.new.items) }
     ensures unchanged { OnErr result (out.new.items ≡ out.old.items) }
 {
     // the laws that the table refuses no response, and that each header can count it, for the prover
@@ -170,9 +175,12 @@ fn answer_to(
     told: &mut Handled,
 ) -> Result<Option<Answer>, NoMemory>
     ensures answer { IfOk result (λ answer. answer ≡ outcome_of issuer.old (verdict message.now)) }
-    ensures asks { IfOk result (λ answer. IfSome answer (λ a. is_answered (function message.now) ≡ true)) }
-    ensures shown { IfOk result (λ answer. IfSome answer (λ a. is_showable message.now a.shown ≡ true)) }
-    ensures entered { OnOk result (issuer.new ≡ books_after issuer.old (orders_in (Some (verdict message.now)))) }
+    ensures asks { IfOk result
+        (λ answer. IfSome answer (λ a. is_answered (function message.now) ≡ true)) }
+    ensures shown { IfOk result
+        (λ answer. IfSome answer (λ a. is_showable message.now a.shown ≡ true)) }
+    ensures entered { OnOk result
+        (issuer.new ≡ books_after issuer.old (orders_in (Some (verdict message.now)))) }
     ensures handled { OnOk result (IsHandledBy issuer.old (verdict message.now) told.new) }
     ensures unchanged { OnErr result (issuer.new ≡ issuer.old) }
 {
@@ -219,12 +227,14 @@ pub fn answer_request(
     // Memory aside, the message's order enters the journal, up to its limit, and `out` grows by the
     // frame of the response, or by nothing where none is due.
     ensures answered { OnOk result
-        (AnswersMessage table.now header issuer.old issuer.new (Some rooms.old.request) out.old.items out.new.items) }
+        (AnswersMessage table.now header issuer.old issuer.new
+        (Some rooms.old.request) out.old.items out.new.items) }
     // Memory aside, what a log may tell is what came of the message.
     ensures handled { OnOk result (IsHandledBy issuer.old (verdict rooms.old.request) told.new) }
     // Without memory the issuer is as it was, or the order is entered, and
     // the message has an answer.
-    ensures memory { OnErr result (EntersOrKeeps table.now header issuer.old issuer.new (Some rooms.old.request)) }
+    ensures memory { OnErr result
+        (EntersOrKeeps table.now header issuer.old issuer.new (Some rooms.old.request)) }
     // Without memory `out` is as it was.
     ensures unchanged { OnErr result (out.new.items ≡ out.old.items) }
 {
@@ -284,11 +294,13 @@ pub fn answer_body(
     requires ready { IsHostReady table.now }
     // Memory aside, the order that the body asks enters the journal, up to its limit, and `out`
     // grows by the frame of the response, or by nothing where none is due.
-    ensures answered { OnOk result (Answers table.now header issuer.old issuer.new body.now out.old.items out.new.items) }
+    ensures answered { OnOk result
+        (Answers table.now header issuer.old issuer.new body.now out.old.items out.new.items) }
     // Memory aside, what a log may tell is what came of the body.
     ensures handled { OnOk result (IsHandled table.now issuer.old body.now told.new) }
     // Without memory the issuer is as it was, or the order is entered, and the body has an answer.
-    ensures memory { OnErr result (EntersOrKeeps table.now header issuer.old issuer.new (message_in table.now body.now)) }
+    ensures memory { OnErr result
+        (EntersOrKeeps table.now header issuer.old issuer.new (message_in table.now body.now)) }
     // Without memory `out` is as it was.
     ensures unchanged { OnErr result (out.new.items ≡ out.old.items) }
 {

@@ -87,7 +87,8 @@ fn read_last(
     requires few { length unpacker.old.taken ≤ 65535 }
     requires bytes { AreBytes unpacker.old.taken }
     requires good { AreGood unpacker.old.table.rows }
-    ensures read { IfOk result (ReadsBody unpacker.old.table (unpacker.old.taken ++ piece.now) request.new) }
+    ensures read { IfOk result
+        (ReadsBody unpacker.old.table (unpacker.old.taken ++ piece.now) request.new) }
     ensures kept { unpacker.new ≡ unpacker.old }
 {
     // the law that what is read is spelled, and that the piece is of bytes, for the prover
@@ -177,7 +178,8 @@ impl<'t> Gathering<'t> {
         requires few { length self.old.part ≤ 65535 }
         // Memory aside, the whole body is the message in the room, or it is no
         // message, and the fault says why.
-        ensures read { IfOk result (ReadsBody self.old.table (self.old.part ++ piece.now) request.new) }
+        ensures read { IfOk result
+            (ReadsBody self.old.table (self.old.part ++ piece.now) request.new) }
         // The bytes that came before are held still, under the same table.
         ensures kept { self.new ≡ self.old }
     {

@@ -65,11 +65,13 @@ impl Host {
     ) -> Result<Handled, NoMemory>
         // Memory aside, the order that the body asks enters the journal, up to its limit, and `out`
         // grows by the frame of the response, or by nothing where none is due.
-        ensures answered { OnOk result (Answers link.now.table link.now.header self.old self.new body.now out.old.items out.new.items) }
+        ensures answered { OnOk result (Answers link.now.table link.now.header self.old self.new
+            body.now out.old.items out.new.items) }
         // What a log may tell is what came of the body.
         ensures handled { IfOk result (IsHandled link.now.table self.old body.now) }
         // Without memory the issuer is as it was, or the order is entered, and has an answer.
-        ensures memory { OnErr result (EntersOrKeeps link.now.table link.now.header self.old self.new
+        ensures memory { OnErr result
+            (EntersOrKeeps link.now.table link.now.header self.old self.new
             (message_in link.now.table body.now)) }
         // Without memory `out` is as it was.
         ensures unchanged { OnErr result (out.new.items ≡ out.old.items) }

@@ -32,10 +32,12 @@ pub struct Line<'t> {
 /// Sees that the window has a byte, if there is one.
 #[inline(always)]
 fn fill<R: Inlet>(window: &mut Window, reader: &mut R, left: &mut u64) -> Result<(), ServeFault>
-    ensures kept { Keeps (prepend_known window.old (R.remaining reader.old)) (prepend_known window.new (R.remaining reader.new)) }
+    ensures kept { Keeps (prepend_known window.old (R.remaining reader.old))
+        (prepend_known window.new (R.remaining reader.new)) }
     ensures bytes { Fills window.new (R.remaining reader.new) result }
     ensures turns { TakesTurns (R.counts reader.old) (R.counts reader.new) left.old left.new }
-    ensures spent { SpendsOnReads (R.counts reader.old) (R.counts reader.new) left.old left.new window.old window.new 0 result }
+    ensures spent { SpendsOnReads (R.counts reader.old) (R.counts reader.new) left.old left.new
+        window.old window.new 0 result }
 {
     if window.bytes().is_empty() {
         window.refill(reader, left)
@@ -66,14 +68,16 @@ pub fn next_frame<R: Inlet>(
     requires none { held_of line.old.begun line.old.gathering.part ≡ [] }
     // One frame is taken and its body answered, or the input ends before it. At a fault some of it
     // may be taken, and only without memory may its order be entered.
-    ensures bytes { AnswersFrame table.now header (prepend_known window.old (R.remaining reader.old))
+    ensures bytes { AnswersFrame table.now header
+        (prepend_known window.old (R.remaining reader.old))
         (prepend_known window.new (R.remaining reader.new)) window.new (R.remaining reader.new)
         issuer.old issuer.new line.old.out.items line.new.out.items told.new result }
     // Each read takes one of the turns that are left.
     ensures turns { TakesTurns (R.counts reader.old) (R.counts reader.new) left.old left.new }
     // `Read` comes only where the reader failed, `TooManyTurns` only where no turn is left. Where a
     // frame is taken, no read failed, and each gave a byte at least.
-    ensures spent { SpendsOnNext (R.counts reader.old) (R.counts reader.new) left.old left.new window.old window.new result }
+    ensures spent { SpendsOnNext
+        (R.counts reader.old) (R.counts reader.new) left.old left.new window.old window.new result }
     // The line still reads its bodies under that table.
     ensures same { line.new.gathering.table ≡ table.now }
     // What the line holds then is the beginning of one frame.

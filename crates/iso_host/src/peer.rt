@@ -64,7 +64,11 @@ impl<'l> Model for Peer<'l> {
 
     ghost Value = { Unfinished };
 
-    ghost view = { λ p. record { table = p.table.now; header = p.header; held = held_of p.begun p.gathering.part } };
+    ghost view = { λ p. record {
+      table = p.table.now;
+      header = p.header;
+      held = held_of p.begun p.gathering.part;
+    } };
 
     ghost invariant = { λ p. IsHostReady p.table.now × (p.gathering.table ≡ p.table.now)
         × IsBegun p.header p.begun p.gathering.part };
@@ -104,10 +108,12 @@ impl<'l> Peer<'l> {
         out: &mut Vec<u8>,
     ) -> Result<Taken, PeerFault>
         // The bytes stay behind those that were held, or they end a frame, whose body is entered and answered.
-        ensures took { IfOk result (Takes self.old.table self.old.header self.old.held self.new.held host.old host.new
+        ensures took { IfOk result
+            (Takes self.old.table self.old.header self.old.held self.new.held host.old host.new
             bytes.now out.old.items out.new.items) }
         // Only a header that isn't of digits and want of memory are refused.
-        ensures refused { IfErr result (Refuses self.old.table self.old.header self.old.held host.old host.new bytes.now) }
+        ensures refused { IfErr result
+            (Refuses self.old.table self.old.header self.old.held host.old host.new bytes.now) }
         // The peer stays on its link.
         ensures table { self.new.table ≡ self.old.table }
         // The header of the peer's frames stays the same.

@@ -35,9 +35,11 @@ const NO_FRAMES: Report = Report {
 
 /// Writes the bytes whole, and flushes. Each write takes one of the turns that are left.
 fn write_whole<W: Outlet>(writer: &mut W, bytes: &[u8], left: &mut u64) -> Result<(), ServeFault>
-    ensures written { WritesBytes (W.contents writer.old) (W.contents writer.new) (W.counts writer.old) (W.counts writer.new) bytes.now result }
+    ensures written { WritesBytes (W.contents writer.old) (W.contents writer.new)
+        (W.counts writer.old) (W.counts writer.new) bytes.now result }
     ensures turns { TakesTurns (W.counts writer.old) (W.counts writer.new) left.old left.new }
-    ensures spent { SpendsOnWrite (W.counts writer.old) (W.counts writer.new) left.old left.new result }
+    ensures spent { SpendsOnWrite
+        (W.counts writer.old) (W.counts writer.new) left.old left.new result }
     ensures flushed { OnOk result ((W.counts writer.new).unflushed ≡ 0) }
 {
     let mut at = 0;
@@ -60,10 +62,13 @@ fn write_whole<W: Outlet>(writer: &mut W, bytes: &[u8], left: &mut u64) -> Resul
 /// Writes the answer to a body, and flushes; an empty one is none, and the writer isn't called.
 #[inline(always)]
 fn write_answer<W: Outlet>(writer: &mut W, answer: &[u8], left: &mut u64) -> Result<(), ServeFault>
-    ensures written { WritesBytes (W.contents writer.old) (W.contents writer.new) (W.counts writer.old) (W.counts writer.new) answer.now result }
+    ensures written { WritesBytes (W.contents writer.old) (W.contents writer.new)
+        (W.counts writer.old) (W.counts writer.new) answer.now result }
     ensures turns { TakesTurns (W.counts writer.old) (W.counts writer.new) left.old left.new }
-    ensures spent { SpendsOnWrite (W.counts writer.old) (W.counts writer.new) left.old left.new result }
-    ensures flushed { OnOk result (FlushesAll (W.counts writer.old) (W.counts writer.new) answer.now) }
+    ensures spent { SpendsOnWrite
+        (W.counts writer.old) (W.counts writer.new) left.old left.new result }
+    ensures flushed { OnOk result
+        (FlushesAll (W.counts writer.old) (W.counts writer.new) answer.now) }
 {
     if answer.is_empty() {
         return Ok(());
@@ -118,7 +123,8 @@ pub fn serve<R: Inlet, W: Outlet>(
         (W.contents writer.old) (W.contents writer.new) issuer.old issuer.new result }
     // Each answer is flushed: where it ends inside one, only what was written of that one waits for a flush.
     ensures flushed { Flushes table.now header (R.remaining reader.old) (R.remaining reader.new)
-        (W.contents writer.old) (W.contents writer.new) issuer.old issuer.new (W.counts writer.old) (W.counts writer.new) result }
+        (W.contents writer.old) (W.contents writer.new) issuer.old issuer.new
+        (W.counts writer.old) (W.counts writer.new) result }
     // However it ends, the reads and writes together are at most `turns`.
     ensures turns { WithinTurns (R.counts reader.old) (R.counts reader.new)
         (W.counts writer.old) (W.counts writer.new) turns }

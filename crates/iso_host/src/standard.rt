@@ -15,7 +15,8 @@ const MOST_TRIES: u32 = 1_000;
 /// One read, made again where the system interrupted it.
 fn read_uninterrupted<S: Read>(stream: &mut S, buffer: &mut [u8]) -> Result<usize, Failed>
     ensures bound { ReadsAtMost result buffer.new }
-    ensures bytes { ReadConsumes (S.remaining stream.old) (S.remaining stream.new) result buffer.new }
+    ensures bytes { ReadConsumes
+        (S.remaining stream.old) (S.remaining stream.new) result buffer.new }
 {
     for _ in 0..MOST_TRIES {
         match stream.read(buffer) {

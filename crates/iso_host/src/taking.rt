@@ -74,9 +74,11 @@ fn take_header_byte(
     requires ready { IsHostReady table.now }
     requires between { begun.old.left ≡ 0 }
     requires outside { IsInHeader header begun.old [] }
-    ensures took { IfOk result (λ step. Takes table.now header (head_of begun.old) (head_of begun.new) issuer.old issuer.new
+    ensures took { IfOk result (λ step.
+        Takes table.now header (head_of begun.old) (head_of begun.new) issuer.old issuer.new
         bytes.now out.old.items out.new.items (taken_as step told.new)) }
-    ensures refused { IfErr result (Refuses table.now header (head_of begun.old) issuer.old issuer.new bytes.now) }
+    ensures refused { IfErr result
+        (Refuses table.now header (head_of begun.old) issuer.old issuer.new bytes.now) }
     ensures begun { IsBegun header begun.new [] }
     ensures held { OnErr result (begun.new ≡ begun.old) }
     ensures unchanged { OnErr result (out.new.items ≡ out.old.items) }
@@ -156,9 +158,11 @@ fn take_first(
     requires ready { IsHostReady table.now }
     requires between { begun.old.left ≡ 0 }
     requires none { begun.old.count ≡ 0 }
-    ensures took { IfOk result (λ step. Takes table.now header (head_of begun.old) (head_of begun.new) issuer.old issuer.new
+    ensures took { IfOk result (λ step.
+        Takes table.now header (head_of begun.old) (head_of begun.new) issuer.old issuer.new
         bytes.now out.old.items out.new.items (taken_as step told.new)) }
-    ensures refused { IfErr result (Refuses table.now header (head_of begun.old) issuer.old issuer.new bytes.now) }
+    ensures refused { IfErr result
+        (Refuses table.now header (head_of begun.old) issuer.old issuer.new bytes.now) }
     ensures begun { IsBegun header begun.new [] }
     ensures held { OnErr result (begun.new ≡ begun.old) }
     ensures unchanged { OnErr result (out.new.items ≡ out.old.items) }
@@ -197,9 +201,11 @@ fn answer_last(
     requires same { gathering.old.table ≡ table.now }
     requires some { 0 < length piece.now }
     requires few { length gathering.old.part ≤ 65535 }
-    ensures answered { OnOk result (Answers table.now header issuer.old issuer.new (gathering.old.part ++ piece.now)
+    ensures answered { OnOk result
+        (Answers table.now header issuer.old issuer.new (gathering.old.part ++ piece.now)
         out.old.items out.new.items) }
-    ensures handled { OnOk result (IsHandled table.now issuer.old (gathering.old.part ++ piece.now) told.new) }
+    ensures handled { OnOk result
+        (IsHandled table.now issuer.old (gathering.old.part ++ piece.now) told.new) }
     ensures memory { OnErr result (EntersOrKeeps table.now header issuer.old issuer.new
         (message_in table.now (gathering.old.part ++ piece.now))) }
     ensures unchanged { OnErr result (out.new.items ≡ out.old.items) }
@@ -233,9 +239,11 @@ fn take_body(
     requires same { gathering.old.table ≡ table.now }
     requires more { 0 < begun.old.left }
     requires inside { IsInBody header begun.old gathering.old.part }
-    ensures took { IfOk result (λ step. Takes table.now header (held_of begun.old gathering.old.part) (held_of begun.new gathering.new.part)
+    ensures took { IfOk result (λ step. Takes table.now header
+        (held_of begun.old gathering.old.part) (held_of begun.new gathering.new.part)
         issuer.old issuer.new bytes.now out.old.items out.new.items (taken_as step told.new)) }
-    ensures refused { IfErr result (Refuses table.now header (held_of begun.old gathering.old.part) issuer.old issuer.new bytes.now) }
+    ensures refused { IfErr result (Refuses table.now header
+        (held_of begun.old gathering.old.part) issuer.old issuer.new bytes.now) }
     ensures begun { IsBegun header begun.new gathering.new.part }
     ensures held { OnErr result (begun.new ≡ begun.old) }
     ensures gathered { OnErr result (gathering.new.part ≡ gathering.old.part) }
@@ -301,11 +309,13 @@ pub fn take_bytes(
     requires begun { IsBegun header begun.old gathering.old.part }
     // At `Ok` the bytes stay behind those that were held, or they end a frame, whose
     // body is entered and answered.
-    ensures took { IfOk result (λ step. Takes table.now header (held_of begun.old gathering.old.part) (held_of begun.new gathering.new.part)
+    ensures took { IfOk result (λ step. Takes table.now header
+        (held_of begun.old gathering.old.part) (held_of begun.new gathering.new.part)
         issuer.old issuer.new bytes.now out.old.items out.new.items (taken_as step told.new)) }
     // A refusal is a header that isn't of digits, with the books as they were; or want of memory,
     // where the order of a frame's body may be entered.
-    ensures refused { IfErr result (Refuses table.now header (held_of begun.old gathering.old.part) issuer.old issuer.new bytes.now) }
+    ensures refused { IfErr result (Refuses table.now header
+        (held_of begun.old gathering.old.part) issuer.old issuer.new bytes.now) }
     // What is held then is the beginning of one frame.
     ensures begun { IsBegun header begun.new gathering.new.part }
     // A refusal leaves the header that has begun, and how much of the body is still to come.

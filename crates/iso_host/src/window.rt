@@ -64,7 +64,8 @@ impl Window {
         requires { self.old ≡ [] }
         // No byte is lost or added: those of the window, and then those that the reader still
         // gives, are the same as before, where they are known.
-        ensures kept { Keeps (prepend_known self.old (R.remaining reader.old)) (prepend_known self.new (R.remaining reader.new)) }
+        ensures kept { Keeps (prepend_known self.old (R.remaining reader.old))
+            (prepend_known self.new (R.remaining reader.new)) }
         // At `Ok` the window has a byte at least. Else it is empty, and `CutFrame` comes
         // only at the end of the input.
         ensures bytes { Refills self.new (R.remaining reader.new) result }
@@ -72,7 +73,8 @@ impl Window {
         ensures turns { TakesTurns (R.counts reader.old) (R.counts reader.new) left.old left.new }
         // `Read` comes only where the reader failed, `TooManyTurns` only where no turn is left. At
         // `Ok` the read didn't fail, and gave a byte at least.
-        ensures spent { SpendsOnReads (R.counts reader.old) (R.counts reader.new) left.old left.new self.old self.new 0 result }
+        ensures spent { SpendsOnReads (R.counts reader.old) (R.counts reader.new) left.old left.new
+            self.old self.new 0 result }
     {
         if *left == 0 {
             return Err(ServeFault::TooManyTurns);

@@ -20,7 +20,8 @@ total side pan journal = sum_by (λ e. share side pan (effect_of e.order) (weigh
 
 -- the opening amount, plus what is credited and less what is debited
 abbrev pub ledger : List Entry → Account → ℤ
-ledger journal a = a.opening +ℤ pos (total Credited a.pan journal) -ℤ pos (total Debited a.pan journal)
+ledger journal a =
+    a.opening +ℤ pos (total Credited a.pan journal) -ℤ pos (total Debited a.pan journal)
 
 -- the ledger, less what is held
 abbrev pub available : List Entry → Account → ℤ
@@ -28,4 +29,5 @@ available journal a = ledger journal a -ℤ pos (total Held a.pan journal)
 
 -- the account with both
 abbrev pub balance_on : List Entry → Account → Balance
-balance_on journal a = record { account = a; ledger = ledger journal a; available = available journal a }
+balance_on journal a =
+    record { account = a; ledger = ledger journal a; available = available journal a }

@@ -27,7 +27,11 @@ opening_balance a = record { account = a; ledger = a.opening; available = a.open
 
 -- a balance with the amounts of a change added
 abbrev pub balance_with : Change → Balance → Balance
-balance_with c b = record { account = b.account; ledger = b.ledger +ℤ c.ledger; available = b.available +ℤ c.available }
+balance_with c b = record {
+  account = b.account;
+  ledger = b.ledger +ℤ c.ledger;
+  available = b.available +ℤ c.available;
+}
 
 -- a balance after a change, which is of one account
 abbrev pub balance_after : Change → Balance → Balance

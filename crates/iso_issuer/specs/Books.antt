@@ -35,11 +35,13 @@ pub record IsRoomFor (b : Books) (key : TxKey) : Type 0 where
 
 -- the books with an order more, unless its key is there
 abbrev pub books_with : Books → Instruction → Books
-books_with b o = record { accounts = b.accounts; limit = b.limit; orders = firsts (b.orders ++ o ∷ []) }
+books_with b o =
+    record { accounts = b.accounts; limit = b.limit; orders = firsts (b.orders ++ o ∷ []) }
 
 -- what an order may be answered
 abbrev pub IsAnswerFor : Books → Instruction → Result Outcome Refused → Type 0
-IsAnswerFor b o (Ok answer) = (answer ≡ answer_for b.accounts (journal b) o) × (IsFullFor b o.key → ⊥)
+IsAnswerFor b o (Ok answer) = (answer ≡ answer_for b.accounts (journal b) o)
+    × (IsFullFor b o.key → ⊥)
 IsAnswerFor b o (Err Full) = IsFullFor b o.key
 IsAnswerFor b o (Err Memory) = IsRoomFor b o.key
 

@@ -25,7 +25,8 @@ is_wide z = nat_lt most_amount (unsigned_abs z)
 -- on its account: an inquiry has 96 where it can't be shown, a debit that is a request 51 where what is left of it is over the available amount
 abbrev pub amount_code : List Entry → TxKey → Option Effect → Account → ℕ
 amount_code before key None a = if is_wide (available before a) then 96 else 0
-amount_code before key (Some f) a = if is_drawn f.side && (function_digit key == 0) && int_lt (available before a) (pos (smaller_of f.amount (left_at before key))) then 51 else 0
+amount_code before key (Some f) a = if is_drawn f.side && (function_digit key == 0)
+    && int_lt (available before a) (pos (smaller_of f.amount (left_at before key))) then 51 else 0
 
 -- 14 without an account, 12 in another currency
 abbrev pub account_code : List Entry → Instruction → Money → Option Account → ℕ
@@ -72,7 +73,8 @@ new_entry accounts before o = record { order = o; answer = new_answer accounts b
 -- the entries after these orders, each decided on the entries before it
 abbrev pub entries_after : List Account → List Entry → List Instruction → List Entry
 entries_after accounts before [] = before
-entries_after accounts before (o ∷ os) = entries_after accounts (before ++ new_entry accounts before o ∷ []) os
+entries_after accounts before (o ∷ os) =
+    entries_after accounts (before ++ new_entry accounts before o ∷ []) os
 
 -- the entries of these orders, with none before them
 abbrev pub journal_of : List Account → List Instruction → List Entry

@@ -21,7 +21,8 @@ i64_at key d = option_and_then (λ m. option_and_then as_i64 (as_number m)) (get
 
 -- an account as it is listed, if none of the three is missing
 abbrev pub listed_of : Option AccountNumber → Option (List ℕ) → Option ℤ → Option Listed
-listed_of (Some pan) (Some currency) (Some opening) = Some (record { pan = pan; currency = currency; opening = opening })
+listed_of (Some pan) (Some currency) (Some opening) =
+    Some (record { pan = pan; currency = currency; opening = opening })
 listed_of (Some pan) (Some currency) None = None
 listed_of (Some pan) None opening = None
 listed_of None currency opening = None
@@ -30,17 +31,20 @@ listed_of None currency opening = None
 abbrev pub listed_in : Data → Option Listed
 listed_in d =
     if has_size 3 d then
-    listed_of (option_and_then pan_of (text_at (codes "pan") d)) (option_and_then currency_of (text_at (codes "currency") d)) (i64_at (codes "opening") d)
+    listed_of (option_and_then pan_of (text_at (codes "pan") d))
+    (option_and_then currency_of (text_at (codes "currency") d)) (i64_at (codes "opening") d)
     else None
 
 -- the accounts of an array, each of them one
 abbrev pub listed_rows : Items → Option (List Listed)
 listed_rows no_items = Some []
-listed_rows (item d ds) = option_and_then (λ row. option_map (λ rows. row ∷ rows) (listed_rows ds)) (listed_in d)
+listed_rows (item d ds) =
+    option_and_then (λ row. option_map (λ rows. row ∷ rows) (listed_rows ds)) (listed_in d)
 
 -- an object of an array `accounts`, and of no other member
 abbrev pub document_in : Data → Option (List Listed)
-document_in d = if has_size 1 d then option_and_then listed_rows (option_and_then as_array (get (codes "accounts") d)) else None
+document_in d = if has_size 1 d
+    then option_and_then listed_rows (option_and_then as_array (get (codes "accounts") d)) else None
 
 -- ---- the first fault
 
@@ -62,7 +66,8 @@ account_fault earlier row =
 -- the first fault of some accounts, behind those before them
 abbrev pub accounts_fault : List Listed → List Listed → Option AccountsFault
 accounts_fault earlier [] = None
-accounts_fault earlier (row ∷ rows) = option_or (account_fault earlier row) (accounts_fault (earlier ++ row ∷ []) rows)
+accounts_fault earlier (row ∷ rows) =
+    option_or (account_fault earlier row) (accounts_fault (earlier ++ row ∷ []) rows)
 
 -- ---- the document
 
@@ -86,7 +91,8 @@ as_listed a = record { pan = a.pan; currency = a.currency; opening = a.opening }
 
 -- the text is JSON of these accounts, in their order
 abbrev pub ListsAccounts : List ℕ → List Account → Type 0
-ListsAccounts text accounts = (d : Data) × StandsFor text d × (accounts_in d ≡ Ok (map as_listed accounts))
+ListsAccounts text accounts = (d : Data) × StandsFor text d
+    × (accounts_in d ≡ Ok (map as_listed accounts))
 
 -- the text is JSON, and this is the first thing wrong with it
 abbrev pub HasFault : List ℕ → AccountsFault → Type 0

@@ -16,11 +16,14 @@ side_of key = if class_digit key == 1 then Held else Debited
 
 -- what such an order under this key does to an account by itself
 abbrev pub effect_by : TxKey → Act → Option Effect
-effect_by key (Debit m) = Some (record { pan = m.pan; side = side_of key; amount = m.amount; ends = None })
-effect_by key (Credit m) = Some (record { pan = m.pan; side = Credited; amount = m.amount; ends = None })
+effect_by key (Debit m) =
+    Some (record { pan = m.pan; side = side_of key; amount = m.amount; ends = None })
+effect_by key (Credit m) =
+    Some (record { pan = m.pan; side = Credited; amount = m.amount; ends = None })
 effect_by key (Inquiry m) = None
 effect_by key (Undo original left) = None
-effect_by key (Complete m hold) = Some (record { pan = m.pan; side = Debited; amount = m.amount; ends = Some hold })
+effect_by key (Complete m hold) =
+    Some (record { pan = m.pan; side = Debited; amount = m.amount; ends = Some hold })
 
 -- the account, the way and the amount of a debit, a credit or a completion, which also ends a hold; no other order has an effect of its own
 abbrev pub effect_of : Instruction → Option Effect

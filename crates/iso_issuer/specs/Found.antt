@@ -41,7 +41,8 @@ reversed_by journal o = option_and_then (entry_at journal) (undone_key o.act)
 
 -- the key of the hold that an order ends, or that it gives back by reversing what ended it
 abbrev pub ended_key : List Entry → Instruction → Option TxKey
-ended_key journal o = option_or (ended_by (effect_of o)) (ended_by (effect_at (reversed_by journal o)))
+ended_key journal o =
+    option_or (ended_by (effect_of o)) (ended_by (effect_at (reversed_by journal o)))
 
 -- the hold itself, where it is there
 abbrev pub released_by : List Entry → Instruction → Option Entry
@@ -52,7 +53,8 @@ released_by journal o = option_and_then (entry_at journal) (ended_key journal o)
 -- an entry, what the first reversal of it leaves, and its weight
 abbrev pub touched_at : List Entry → Option Entry → Option Touched
 touched_at journal None = None
-touched_at journal (Some e) = Some (record { entry = e; left = left_at journal e.order.key; weight = weight journal e })
+touched_at journal (Some e) =
+    Some (record { entry = e; left = left_at journal e.order.key; weight = weight journal e })
 
 -- it may reverse an entry or end a hold
 abbrev pub is_of_earlier : Act → Bool
@@ -88,10 +90,15 @@ amount_left (Complete m hold) = None
 -- what was found, once the order is entered: of what it reverses it leaves so much, unless an earlier one did
 pub record WasFoundFor (journal : List Entry) (o : Instruction) (found : Found) : Type 0 where
   pub own : undone_key o.act ≡ None → found.left ≡ left_at journal o.key
-  pub reversed : (t : Touched) → found.reversed ≡ Some t → option_or t.left (amount_left o.act) ≡ left_at journal t.entry.order.key
-  pub released : (t : Touched) → found.released ≡ Some t → t.left ≡ left_at journal t.entry.order.key
+  pub reversed : (t : Touched) → found.reversed ≡ Some t
+      → option_or t.left (amount_left o.act) ≡ left_at journal t.entry.order.key
+  pub released : (t : Touched) → found.released ≡ Some t
+      → t.left ≡ left_at journal t.entry.order.key
 
 -- the balance of the account that an order is about, and its place
-pub record IsBalanceFor (balances : List Balance) (o : Instruction) (placed : Option PlacedBalance) : Type 0 where
-  pub place : (m : Money) → Some m ≡ money_of o.act → option_map (λ p. p.place) placed ≡ account_place (accounts_of balances) m.pan
-  pub balance : (m : Money) → Some m ≡ money_of o.act → option_map (λ p. p.balance) placed ≡ balance_at balances m.pan
+pub record IsBalanceFor (balances : List Balance) (o : Instruction)
+    (placed : Option PlacedBalance) : Type 0 where
+  pub place : (m : Money) → Some m ≡ money_of o.act
+      → option_map (λ p. p.place) placed ≡ account_place (accounts_of balances) m.pan
+  pub balance : (m : Money) → Some m ≡ money_of o.act
+      → option_map (λ p. p.balance) placed ≡ balance_at balances m.pan

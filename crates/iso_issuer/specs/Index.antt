@@ -28,7 +28,8 @@ use Rattle.iso_issuer.specs.Balances.{accounts_of, IsNear}
 
 -- the order of keys, field by field, the time first
 abbrev pub key_cmp : TxKey → TxKey → Ordering
-key_cmp a b = ordering_then (nat_cmp a.sent b.sent) (ordering_then (nat_cmp a.stan b.stan) (ordering_then (nat_cmp a.base b.base) (nat_cmp a.acquirer b.acquirer)))
+key_cmp a b = ordering_then (nat_cmp a.sent b.sent) (ordering_then (nat_cmp a.stan b.stan)
+    (ordering_then (nat_cmp a.base b.base) (nat_cmp a.acquirer b.acquirer)))
 
 -- the place of the entry of this key, where there is one
 abbrev pub place_of : List Entry → TxKey → Option ℕ
@@ -54,7 +55,8 @@ bit b = if b then 1 else 0
 
 -- how many entries that count complete the hold of this key on this account
 abbrev pub completions : List Entry → TxKey → AccountNumber → ℕ
-completions entries key pan = sum_by (λ c. bit (is_counted entries c && is_end_of key pan (effect_of c.order))) entries
+completions entries key pan =
+    sum_by (λ c. bit (is_counted entries c && is_end_of key pan (effect_of c.order))) entries
 
 -- how many completions the map has for the hold of this key on this account
 abbrev pub hold_count : BTreeMap Hold ℕ → TxKey → AccountNumber → ℕ
@@ -62,7 +64,8 @@ hold_count counts key pan = unwrap_or (tree.get hold_cmp counts (record { key = 
 
 -- the map has that number for each hold, or nothing for 0
 abbrev pub AreCounts : BTreeMap Hold ℕ → List Entry → Type 0
-AreCounts counts entries = (key : TxKey) → (pan : AccountNumber) → hold_count counts key pan ≡ completions entries key pan
+AreCounts counts entries = (key : TxKey) → (pan : AccountNumber)
+    → hold_count counts key pan ≡ completions entries key pan
 
 -- the hold that an effect ends, on its account
 abbrev pub hold_on : AccountNumber → Option TxKey → Option Hold
@@ -86,7 +89,8 @@ added_by entries e = if is_counted entries e then hold_by (effect_of e.order) el
 -- the hold that an entry no longer completes, after a reversal that leaves so much
 abbrev pub dropped_of : Option ℕ → ℕ → Entry → Option Hold
 dropped_of (Some n) left r = None
-dropped_of None left r = if is_counted_with None r && (left == 0) then hold_by (effect_of r.order) else None
+dropped_of None left r =
+    if is_counted_with None r && (left == 0) then hold_by (effect_of r.order) else None
 
 -- the same of the entry of this key, if there is one
 abbrev pub dropped_at : List Entry → TxKey → ℕ → Option Entry → Option Hold
@@ -95,7 +99,8 @@ dropped_at entries key left (Some r) = dropped_of (left_at entries key) left r
 
 -- the hold that is no longer completed once this is asked
 abbrev pub dropped_by : List Entry → Act → Option Hold
-dropped_by entries (Undo original left) = dropped_at entries original left (entry_at entries original)
+dropped_by entries (Undo original left) =
+    dropped_at entries original left (entry_at entries original)
 dropped_by entries (Debit m) = None
 dropped_by entries (Credit m) = None
 dropped_by entries (Inquiry m) = None
@@ -111,7 +116,8 @@ pub record IsIndexOf (index : Index) (entries : List Entry) : Type 0 where
 -- two indexes find the same
 pub record AnswersAlike (a b : Index) : Type 0 where
   pub lefts : (key : TxKey) → tree.get key_cmp a.lefts key ≡ tree.get key_cmp b.lefts key
-  pub counts : (key : TxKey) (pan : AccountNumber) → hold_count a.counts key pan ≡ hold_count b.counts key pan
+  pub counts : (key : TxKey) (pan : AccountNumber)
+      → hold_count a.counts key pan ≡ hold_count b.counts key pan
 
 -- ---- the entries as they are kept
 
@@ -120,10 +126,14 @@ abbrev pub entries_from : ℕ → List Instruction → List ℕ → BTreeMap ℕ
 entries_from place [] codes shown = []
 entries_from place (o ∷ os) [] shown = []
 entries_from place (o ∷ os) (c ∷ cs) shown =
-    record { order = o; answer = record { code = c; seq = place + 1; shown = tree.get nat_cmp shown place } } ∷ entries_from (place + 1) os cs shown
+    record {
+      order = o;
+      answer = record { code = c; seq = place + 1; shown = tree.get nat_cmp shown place };
+    } ∷ entries_from (place + 1) os cs shown
 
 -- a code of two digits for each order, few of them, no balance past them, and their index
-pub record AreStored (orders : List Instruction) (codes : List ℕ) (shown : BTreeMap ℕ ℤ) (index : Index) : Type 0 where
+pub record AreStored (orders : List Instruction) (codes : List ℕ) (shown : BTreeMap ℕ ℤ)
+    (index : Index) : Type 0 where
   pub coded : length codes ≡ length orders
   pub two_digits : All (λ c. c ≤ 99) codes
   pub few : length orders ≤ 999999
@@ -138,7 +148,8 @@ account_place accounts pan = position_from (λ a. same_pan a.pan pan) 0 accounts
 
 -- the map has the place of each account's number, and no other number
 abbrev pub AreAccountPlaces : BTreeMap AccountNumber ℕ → List Account → Type 0
-AreAccountPlaces places accounts = (pan : AccountNumber) → tree.get pan_cmp places pan ≡ account_place accounts pan
+AreAccountPlaces places accounts = (pan : AccountNumber)
+    → tree.get pan_cmp places pan ≡ account_place accounts pan
 
 -- ---- sums
 

@@ -74,7 +74,8 @@ smaller_of amount (Some left) = min amount left
 
 -- a debit, a credit or a completion that was granted, of which something is left
 abbrev pub is_counted_with : Option ℕ → Entry → Bool
-is_counted_with left e = is_some (effect_of e.order) && (e.answer.code == 0) && not (is_nothing left)
+is_counted_with left e =
+    is_some (effect_of e.order) && (e.answer.code == 0) && not (is_nothing left)
 
 -- one that was granted, and that isn't wholly reversed in the whole journal, earlier or later (our own rule)
 abbrev pub is_counted : List Entry → Entry → Bool
@@ -82,7 +83,8 @@ is_counted journal e = is_counted_with (left_at journal e.order.key) e
 
 -- some entry that counts completes the hold of this key on this account
 abbrev pub is_completed : List Entry → TxKey → AccountNumber → Bool
-is_completed journal key pan = list_any (λ c. is_counted journal c && is_end_of key pan (effect_of c.order)) journal
+is_completed journal key pan =
+    list_any (λ c. is_counted journal c && is_end_of key pan (effect_of c.order)) journal
 
 -- a hold that is completed, earlier or later
 abbrev pub is_ended : List Entry → TxKey → Option Effect → Bool
@@ -91,8 +93,10 @@ is_ended journal key (Some f) = same_side f.side Held && is_completed journal ke
 
 -- an entry that counts, and that isn't a hold that is ended (our own rule)
 abbrev pub is_standing : List Entry → Entry → Bool
-is_standing journal e = is_counted journal e && not (is_ended journal e.order.key (effect_of e.order))
+is_standing journal e =
+    is_counted journal e && not (is_ended journal e.order.key (effect_of e.order))
 
 -- what is left of the amount of an entry that stands, else 0
 abbrev pub weight : List Entry → Entry → ℕ
-weight journal e = if is_standing journal e then smaller_of (effect_amount (effect_of e.order)) (left_at journal e.order.key) else 0
+weight journal e = if is_standing journal e
+    then smaller_of (effect_amount (effect_of e.order)) (left_at journal e.order.key) else 0

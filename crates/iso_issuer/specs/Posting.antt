@@ -45,6 +45,8 @@ abbrev pub balance_by_weights : Option Effect → ℕ → ℕ → Balance → Ba
 balance_by_weights f before after b =
     record {
       account = b.account;
-      ledger = b.ledger +ℤ (ledger_share b.account.pan f after -ℤ ledger_share b.account.pan f before);
-      available = b.available +ℤ (available_share b.account.pan f after -ℤ available_share b.account.pan f before);
+      ledger = b.ledger +ℤ
+          (ledger_share b.account.pan f after -ℤ ledger_share b.account.pan f before);
+      available = b.available +ℤ
+          (available_share b.account.pan f after -ℤ available_share b.account.pan f before);
     }

@@ -38,7 +38,8 @@ const MOST: i64 = 9_000_000_000_000_000;
 
 /// The account that is listed, unless its opening amount is out of range.
 fn account_in_range(row: Listed) -> Option<Account>
-    ensures { option_map as_listed result ≡ (if is_out_of_range row.opening then None else Some row) }
+    ensures { option_map as_listed result
+        ≡ (if is_out_of_range row.opening then None else Some row) }
 {
     if row.opening < -MOST || MOST < row.opening {
         return None;
@@ -58,7 +59,8 @@ fn account_in_range(row: Listed) -> Option<Account>
 /// The listed accounts as they are at first, each of which is in range and has a number of its own.
 fn opening_balances(alloc: Global, listed: &[Listed]) -> Result<Balances, AccountsFault>
     ensures ok { IfOk result (λ balances. map as_listed (accounts_of balances) ≡ listed.now) }
-    ensures opened { IfOk result (λ balances. balances ≡ map opening_balance (accounts_of balances)) }
+    ensures opened { IfOk result
+        (λ balances. balances ≡ map opening_balance (accounts_of balances)) }
     ensures none { IfOk result (λ _. accounts_fault [] listed.now ≡ None) }
     ensures fault { IfErr result (λ e. e ≢ Memory → accounts_fault [] listed.now ≡ Some e) }
     ensures json { IsErrOf result AccountsFault.NotJson → ⊥ }

@@ -48,7 +48,8 @@ impl Model for Balances {
 
     ghost view = { λ b. b.rows.items };
 
-    ghost invariant = { λ b. AreAccountPlaces b.places (accounts_of b.rows.items) × HasDistinctNumbers (accounts_of b.rows.items) };
+    ghost invariant = { λ b. AreAccountPlaces b.places (accounts_of b.rows.items)
+        × HasDistinctNumbers (accounts_of b.rows.items) };
 }
 
 /// The balance of an account at first.
@@ -129,7 +130,8 @@ impl Balances {
     pub fn find(&self, pan: Pan) -> Option<PlacedBalance>
         // The place that is told is that of the number's account, from 0 on; none where
         // there is no such account.
-        ensures place { option_map (λ r. r.place) result ≡ account_place (accounts_of self.now) pan }
+        ensures place { option_map (λ r. r.place) result
+            ≡ account_place (accounts_of self.now) pan }
         // The balance that is told is that of the number's account; none where
         // there is no such account.
         ensures balance { option_map (λ r. r.balance) result ≡ balance_at self.now pan }

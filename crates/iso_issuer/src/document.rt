@@ -33,7 +33,8 @@ fn i64_at(value: &Value, key: &str) -> Option<i64>
 
 /// Two texts are one account number only where they are one text: `01` and `1` are two.
 pub fn texts_apart()
-    ensures { (a b : List ℕ) (pan : AccountNumber) → pan_of a ≡ Some pan → pan_of b ≡ Some pan → a ≡ b }
+    ensures { (a b : List ℕ) (pan : AccountNumber) → pan_of a ≡ Some pan → pan_of b ≡ Some pan
+        → a ≡ b }
 {}
 
 /// The account that a JSON value is.

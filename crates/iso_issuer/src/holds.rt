@@ -34,7 +34,8 @@ fn is_held_on(pan: Pan, effect: &Option<Effect>) -> bool
 
 /// The hold that an entry is, where it is one on this account, and open.
 fn open_hold(journal: &Journal, entry: Entry, pan: Pan) -> Option<OpenHold>
-    ensures { result ≡ (if is_open journal.now pan entry then Some (hold_now journal.now entry) else None) }
+    ensures { result
+        ≡ (if is_open journal.now pan entry then Some (hold_now journal.now entry) else None) }
 {
     let left = journal.left_at(entry.order.key());
     let effect = effect_of(&entry.order);

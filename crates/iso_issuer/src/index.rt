@@ -34,8 +34,10 @@ fn hold_count(counts: &BTreeMap<Hold, u64>, hold: &Hold) -> u64
 fn complete(counts: &mut BTreeMap<Hold, u64>, hold: Hold) -> Result<(), AllocError>
     requires { hold_count counts.old hold.key hold.pan < 1000000 }
     ensures ok { OnOk result ((key : TxKey) → (pan : AccountNumber) →
-        hold_count counts.new key pan ≡ hold_count counts.old key pan + mark_at (Some hold) key pan) }
-    ensures unchanged { OnErr result ((key : TxKey) → (pan : AccountNumber) → hold_count counts.new key pan ≡ hold_count counts.old key pan) }
+        hold_count counts.new key pan
+        ≡ hold_count counts.old key pan + mark_at (Some hold) key pan) }
+    ensures unchanged { OnErr result ((key : TxKey) → (pan : AccountNumber)
+        → hold_count counts.new key pan ≡ hold_count counts.old key pan) }
 {
     let count = hold_count(counts, &hold);
     counts.insert(hold, count + 1)?;
@@ -45,7 +47,8 @@ fn complete(counts: &mut BTreeMap<Hold, u64>, hold: Hold) -> Result<(), AllocErr
 /// One entry fewer completes the hold.
 fn release(counts: &mut BTreeMap<Hold, u64>, hold: Hold)
     requires { 1 ≤ hold_count counts.old hold.key hold.pan }
-    ensures { (key : TxKey) → (pan : AccountNumber) → hold_count counts.new key pan ≡ hold_count counts.old key pan - mark_at (Some hold) key pan }
+    ensures { (key : TxKey) → (pan : AccountNumber) → hold_count counts.new key pan
+        ≡ hold_count counts.old key pan - mark_at (Some hold) key pan }
 {
     if let Some(count) = counts.get_mut(&hold) {
         *count -= 1;
@@ -57,7 +60,8 @@ fn keep_left(lefts: &mut BTreeMap<TxKey, u64>, order: &Order) -> Result<(), Allo
     ensures ok { OnOk result ((key : TxKey) → tree.get key_cmp lefts.new key
         ≡ option_or (tree.get key_cmp lefts.old key)
         (if is_key (undone_key order.now.act) key then Some (left_by order.now.act) else None)) }
-    ensures unchanged { OnErr result ((key : TxKey) → tree.get key_cmp lefts.new key ≡ tree.get key_cmp lefts.old key) }
+    ensures unchanged { OnErr result
+        ((key : TxKey) → tree.get key_cmp lefts.new key ≡ tree.get key_cmp lefts.old key) }
 {
     match order.act() {
         Act::Undo { original, left } => {
@@ -85,10 +89,13 @@ fn keep(
     ensures lefts { OnOk result ((key : TxKey) → tree.get key_cmp lefts.new key
         ≡ option_or (tree.get key_cmp lefts.old key)
         (if is_key (undone_key order.now.act) key then Some (left_by order.now.act) else None)) }
-    ensures counts { OnOk result ((key : TxKey) → (pan : AccountNumber) → hold_count counts.new key pan
+    ensures counts { OnOk result
+        ((key : TxKey) → (pan : AccountNumber) → hold_count counts.new key pan
         ≡ hold_count counts.old key pan - mark_at dropped key pan + mark_at added key pan) }
-    ensures lefts_kept { OnErr result ((key : TxKey) → tree.get key_cmp lefts.new key ≡ tree.get key_cmp lefts.old key) }
-    ensures counts_kept { OnErr result ((key : TxKey) → (pan : AccountNumber) → hold_count counts.new key pan ≡ hold_count counts.old key pan) }
+    ensures lefts_kept { OnErr result
+        ((key : TxKey) → tree.get key_cmp lefts.new key ≡ tree.get key_cmp lefts.old key) }
+    ensures counts_kept { OnErr result ((key : TxKey) → (pan : AccountNumber)
+        → hold_count counts.new key pan ≡ hold_count counts.old key pan) }
 {
     if let Some(hold) = added {
         return complete(counts, hold);
@@ -143,15 +150,20 @@ impl Index {
         // other keys stay as they were.
         ensures lefts { OnOk result ((key : TxKey) → tree.get key_cmp self.new.lefts key
             ≡ option_or (tree.get key_cmp self.old.lefts key)
-            (if is_key (undone_key order.now.act) key then Some (left_by order.now.act) else None)) }
+            (if is_key (undone_key order.now.act) key then Some (left_by order.now.act)
+            else None)) }
         // Memory aside, a hold that is completed has one completion more, one whose completion is
         // taken back one fewer, and each other as many as before.
-        ensures counts { OnOk result ((key : TxKey) → (pan : AccountNumber) → hold_count self.new.counts key pan
-            ≡ hold_count self.old.counts key pan - mark_at dropped key pan + mark_at added key pan) }
+        ensures counts { OnOk result
+            ((key : TxKey) → (pan : AccountNumber) → hold_count self.new.counts key pan
+            ≡ hold_count self.old.counts key pan - mark_at dropped key pan
+            + mark_at added key pan) }
         // Without memory, what the first reversal of each key leaves stays as it was.
-        ensures lefts_kept { OnErr result ((key : TxKey) → tree.get key_cmp self.new.lefts key ≡ tree.get key_cmp self.old.lefts key) }
+        ensures lefts_kept { OnErr result ((key : TxKey)
+            → tree.get key_cmp self.new.lefts key ≡ tree.get key_cmp self.old.lefts key) }
         // Without memory each hold has as many completions as before.
-        ensures counts_kept { OnErr result ((key : TxKey) → (pan : AccountNumber) → hold_count self.new.counts key pan ≡ hold_count self.old.counts key pan) }
+        ensures counts_kept { OnErr result ((key : TxKey) → (pan : AccountNumber)
+            → hold_count self.new.counts key pan ≡ hold_count self.old.counts key pan) }
     {
         keep(&mut self.lefts, &mut self.counts, order, added, dropped)
     }

@@ -46,9 +46,14 @@ impl Model for Issuer {
 
     ghost Value = { Books };
 
-    ghost view = { λ i. record { accounts = accounts_of i.balances; limit = i.limit; orders = map (λ e. e.order) i.journal } };
+    ghost view = { λ i. record {
+      accounts = accounts_of i.balances;
+      limit = i.limit;
+      orders = map (λ e. e.order) i.journal;
+    } };
 
-    ghost invariant = { λ i. IsKept (accounts_of i.balances) i.limit i.journal × IsSummed i.journal i.balances };
+    ghost invariant = { λ i. IsKept (accounts_of i.balances) i.limit i.journal
+        × IsSummed i.journal i.balances };
 }
 
 impl Issuer {
@@ -110,17 +115,21 @@ impl Issuer {
 
         // The answer is that of the rules on the whole journal: a known key gets its first answer
         // again, or 94 for another order; a new key is decided on the entries before it.
-        ensures answer { IfOk result (λ answer. answer ≡ answer_for self.old.accounts (journal self.old) order) }
+        ensures answer { IfOk result
+            (λ answer. answer ≡ answer_for self.old.accounts (journal self.old) order) }
         // After an answer the journal is the first order of each key: a new key comes last, a
         // known key changes nothing.
-        ensures entered { OnOk result (self.new ≡ record self.old { orders = firsts (self.old.orders ++ order ∷ []) }) }
+        ensures entered { OnOk result
+            (self.new ≡ record self.old { orders = firsts (self.old.orders ++ order ∷ []) }) }
 
         // An inquiry alone shows a balance, of at most twelve digits.
         ensures shown { IfOk result (λ answer. is_shown_for order.act answer.shown ≡ true) }
 
         // Memory aside, the journal has the first order of each key, up to its limit.
         ensures kept { result ≢ Err Refused.Memory →
-            self.new ≡ record self.old { orders = take self.old.limit (firsts (self.old.orders ++ order ∷ [])) } }
+            self.new ≡ record self.old {
+              orders = take self.old.limit (firsts (self.old.orders ++ order ∷ []));
+            } }
 
         // `Full` comes exactly for a new key where the journal is at its limit.
         ensures full { (result ≡ Err Refused.Full) ↔ IsFullFor self.old order.key }
@@ -150,7 +159,8 @@ impl Issuer {
         ensures run { IfOk result (λ answers. IsRun self.old orders.now answers.items self.new) }
         // With room for the answers, the journal becomes the first order of each key, of those that
         // it had and of those that were answered.
-        ensures entered { IfOk result (λ answers. self.new.orders ≡ firsts (self.old.orders ++ answered_of orders.now answers.items)) }
+        ensures entered { IfOk result (λ answers. self.new.orders
+            ≡ firsts (self.old.orders ++ answered_of orders.now answers.items)) }
         // Without room for the answers nothing changes.
         ensures unchanged { OnErr result (self.new ≡ self.old) }
     {
@@ -169,7 +179,8 @@ impl Issuer {
     pub fn ledger(&self, pan: Pan) -> Option<i64>
         // It is the opening amount plus the credits and less the debits that stand, by what is left
         // of each, over the whole journal; `None` exactly where there is no such account.
-        ensures { result ≡ option_map (ledger (journal self.now)) (account_of self.now.accounts pan) }
+        ensures { result
+            ≡ option_map (ledger (journal self.now)) (account_of self.now.accounts pan) }
     {
         Some(self.balances.get(pan)?.ledger)
     }
@@ -179,7 +190,8 @@ impl Issuer {
     pub fn available(&self, pan: Pan) -> Option<i64>
         // It is the ledger less what is left of the holds that stand, summed over the whole
         // journal; `None` exactly where there is no such account.
-        ensures { result ≡ option_map (available (journal self.now)) (account_of self.now.accounts pan) }
+        ensures { result
+            ≡ option_map (available (journal self.now)) (account_of self.now.accounts pan) }
     {
         Some(self.balances.get(pan)?.available)
     }
@@ -188,7 +200,8 @@ impl Issuer {
     pub fn held(&self, pan: Pan) -> Option<u64>
         // It is what is left of the holds that stand, summed over the whole journal; `None` exactly
         // where there is no such account.
-        ensures { result ≡ option_map (λ a. total Held a.pan (journal self.now)) (account_of self.now.accounts pan) }
+        ensures { result ≡ option_map (λ a. total Held a.pan (journal self.now))
+            (account_of self.now.accounts pan) }
     {
         Some(self.balances.get(pan)?.held())
     }
@@ -209,7 +222,8 @@ impl Issuer {
         // entry, each with what is left of it.
         ensures holds { IfOk result (λ holds. holds.items ≡ open_holds (journal self.now) pan) }
         // Together they hold what is held on the account.
-        ensures held { IfOk result (λ holds. sum_by (λ h. h.amount) holds.items ≡ total Held pan (journal self.now)) }
+        ensures held { IfOk result
+            (λ holds. sum_by (λ h. h.amount) holds.items ≡ total Held pan (journal self.now)) }
     {
         open_holds(&self.journal, alloc, pan)
     }

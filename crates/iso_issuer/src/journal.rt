@@ -54,7 +54,8 @@ impl Model for Journal {
 
     ghost view = { λ j. entries_from 0 j.orders.items j.codes.items j.shown };
 
-    ghost invariant = { λ j. AreStored j.orders.items j.codes.items j.shown j.index × TellsPlaces j.places.slots.items j.places.others j.orders.items };
+    ghost invariant = { λ j. AreStored j.orders.items j.codes.items j.shown j.index
+        × TellsPlaces j.places.slots.items j.places.others j.orders.items };
 }
 
 /// The key that a reversal names.

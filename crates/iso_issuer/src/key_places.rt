@@ -180,9 +180,11 @@ impl KeyPlaces {
     /// the tree has its place.
     fn ready(&mut self, orders: &[Order], key: &TxKey) -> Result<Option<usize>, AllocError>
         requires few { length orders.now < 999999 }
-        ensures told { TellsPlaces self.old.slots.items self.old.others orders.now → key_place orders.now key.now ≡ None
+        ensures told { TellsPlaces self.old.slots.items self.old.others orders.now
+            → key_place orders.now key.now ≡ None
             → TellsPlaces self.new.slots.items self.new.others orders.now }
-        ensures ready { IfOk result (IsReadyFor self.new.slots.items self.new.others (length orders.now) key.now) }
+        ensures ready { IfOk result
+            (IsReadyFor self.new.slots.items self.new.others (length orders.now) key.now) }
     {
         if let Some(at) = free_for(&self.slots, key) {
             return Ok(Some(at));
@@ -198,8 +200,10 @@ impl KeyPlaces {
         // A slot that is told is one of the table.
         requires within { IfSome slot (λ at. at < length self.old.slots.items) }
         // The places are then those of the orders with the new one behind them.
-        ensures { (orders : List Instruction) → (order : Instruction) → TellsPlaces self.old.slots.items self.old.others orders
-            → HasDistinctKeys orders → order.key ≡ key.now → length orders ≡ place → key_place orders order.key ≡ None
+        ensures { (orders : List Instruction) → (order : Instruction)
+            → TellsPlaces self.old.slots.items self.old.others orders
+            → HasDistinctKeys orders → order.key ≡ key.now → length orders ≡ place
+            → key_place orders order.key ≡ None
             → IsReadyFor self.old.slots.items self.old.others place key.now slot
             → TellsPlaces self.new.slots.items self.new.others (orders ++ order ∷ []) }
     {
@@ -214,7 +218,9 @@ impl KeyPlaces {
     /// Takes back what was made ready for a key whose order doesn't come.
     pub fn withdraw(&mut self, key: &TxKey)
         // The places stay those of orders that don't have the key.
-        ensures { (orders : List Instruction) → TellsPlaces self.old.slots.items self.old.others orders → key_place orders key.now ≡ None
+        ensures { (orders : List Instruction)
+            → TellsPlaces self.old.slots.items self.old.others orders
+            → key_place orders key.now ≡ None
             → TellsPlaces self.new.slots.items self.new.others orders }
     {
         self.others.remove(key);
@@ -253,7 +259,8 @@ impl KeyPlaces {
         // The places stay those of these orders, however the call ends.
         ensures told { TellsPlaces self.new.slots.items self.new.others orders.now }
         // Memory aside, all is ready for the order.
-        ensures ready { IfOk result (IsReadyFor self.new.slots.items self.new.others (length orders.now) key.now) }
+        ensures ready { IfOk result
+            (IsReadyFor self.new.slots.items self.new.others (length orders.now) key.now) }
     {
         if orders.len() >= self.slots.len() / 4 * 3 {
             let count = self.slots.len().saturating_mul(2).max(FEWEST_SLOTS);

@@ -107,8 +107,10 @@ fn post_touched(
 )
     requires near { All (IsNear 2999999) balances.old }
     requires before { weight_in touched.now ≤ most_amount }
-    requires left { (t : Touched) → touched.now ≡ Some t → option_or t.left left_now ≡ left_at journal.now t.entry.order.key }
-    ensures moved { balances.new ≡ map (balance_by_weights (effect_at (entry_in touched.now)) (weight_in touched.now)
+    requires left { (t : Touched) → touched.now ≡ Some t
+        → option_or t.left left_now ≡ left_at journal.now t.entry.order.key }
+    ensures moved { balances.new
+        ≡ map (balance_by_weights (effect_at (entry_in touched.now)) (weight_in touched.now)
         (weight_at journal.now (entry_in touched.now))) balances.old }
     ensures near { (n : ℕ) → All (IsNear n) balances.old → All (IsNear (n + 1)) balances.new }
 {
@@ -162,11 +164,14 @@ pub fn post_all(
     // Each balance moves by how much more or less now counts on it of the entry, of the one that it
     // reverses, and of the hold that it ends or gives back.
     ensures moved { balances.new
-        ≡ map (balance_by_weights (effect_at (entry_in found.now.released)) (weight_in found.now.released)
+        ≡ map
+        (balance_by_weights (effect_at (entry_in found.now.released)) (weight_in found.now.released)
         (weight_at journal.now (entry_in found.now.released)))
-        (map (balance_by_weights (effect_at (entry_in found.now.reversed)) (weight_in found.now.reversed)
+        (map
+        (balance_by_weights (effect_at (entry_in found.now.reversed)) (weight_in found.now.reversed)
         (weight_at journal.now (entry_in found.now.reversed)))
-        (map (balance_by_weights (effect_of entry.now.order) 0 (weight journal.now entry.now)) balances.old)) }
+        (map (balance_by_weights (effect_of entry.now.order) 0 (weight journal.now entry.now))
+        balances.old)) }
     // Balances within 9,000,000,000,000,000 minor units and 10^12 for each of n changes come to
     // be within that for n + 3.
     ensures near { (n : ℕ) → All (IsNear n) balances.old → All (IsNear (n + 3)) balances.new }

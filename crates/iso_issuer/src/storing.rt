@@ -20,8 +20,10 @@ use std::collections::BTreeMap;
 /// Keeps the balance that the answer at a place shows, where it shows one.
 fn show(shown: &mut BTreeMap<u32, i64>, place: u32, balance: Option<i64>) -> Result<(), AllocError>
     requires { tree.get nat_cmp shown.old place ≡ None }
-    ensures ok { OnOk result ((at : ℕ) → tree.get nat_cmp shown.new at ≡ (if at == place then balance else tree.get nat_cmp shown.old at)) }
-    ensures unchanged { OnErr result ((at : ℕ) → tree.get nat_cmp shown.new at ≡ tree.get nat_cmp shown.old at) }
+    ensures ok { OnOk result ((at : ℕ) → tree.get nat_cmp shown.new at
+        ≡ (if at == place then balance else tree.get nat_cmp shown.old at)) }
+    ensures unchanged { OnErr result
+        ((at : ℕ) → tree.get nat_cmp shown.new at ≡ tree.get nat_cmp shown.old at) }
 {
     if let Some(balance) = balance {
         shown.insert(place, balance)?;
@@ -59,26 +61,32 @@ pub fn store(
     // Memory aside, the balance that its answer shows is kept for its place, if it shows one; those
     // of all other places stay.
     ensures shown { OnOk result ((at : ℕ) → tree.get nat_cmp shown.new at
-        ≡ (if at == length orders.old.items then entry.answer.shown else tree.get nat_cmp shown.old at)) }
+        ≡ (if at == length orders.old.items then entry.answer.shown
+        else tree.get nat_cmp shown.old at)) }
     // Memory aside, the key that a reversal names has what its first reversal leaves; all
     // other keys stay as they were.
     ensures lefts { OnOk result ((key : TxKey) → tree.get key_cmp index.new.lefts key
         ≡ option_or (tree.get key_cmp index.old.lefts key)
-        (if is_key (undone_key entry.order.act) key then Some (left_by entry.order.act) else None)) }
+        (if is_key (undone_key entry.order.act) key then Some (left_by entry.order.act)
+        else None)) }
     // Memory aside, a hold that is completed has one completion more, one whose completion is taken
     // back one fewer, and each other as many as before.
-    ensures counts { OnOk result ((key : TxKey) → (pan : AccountNumber) → hold_count index.new.counts key pan
+    ensures counts { OnOk result
+        ((key : TxKey) → (pan : AccountNumber) → hold_count index.new.counts key pan
         ≡ hold_count index.old.counts key pan - mark_at dropped key pan + mark_at added key pan) }
     // Without memory the stored orders stay as they were.
     ensures orders_kept { OnErr result (orders.new.items ≡ orders.old.items) }
     // Without memory the stored response codes stay as they were.
     ensures codes_kept { OnErr result (codes.new.items ≡ codes.old.items) }
     // Without memory the balances that answers show stay as they were.
-    ensures shown_kept { OnErr result ((at : ℕ) → tree.get nat_cmp shown.new at ≡ tree.get nat_cmp shown.old at) }
+    ensures shown_kept { OnErr result
+        ((at : ℕ) → tree.get nat_cmp shown.new at ≡ tree.get nat_cmp shown.old at) }
     // Without memory, what the first reversal of each key leaves stays as it was.
-    ensures lefts_kept { OnErr result ((key : TxKey) → tree.get key_cmp index.new.lefts key ≡ tree.get key_cmp index.old.lefts key) }
+    ensures lefts_kept { OnErr result ((key : TxKey)
+        → tree.get key_cmp index.new.lefts key ≡ tree.get key_cmp index.old.lefts key) }
     // Without memory each hold has as many completions as before.
-    ensures counts_kept { OnErr result ((key : TxKey) → (pan : AccountNumber) → hold_count index.new.counts key pan ≡ hold_count index.old.counts key pan) }
+    ensures counts_kept { OnErr result ((key : TxKey) → (pan : AccountNumber)
+        → hold_count index.new.counts key pan ≡ hold_count index.old.counts key pan) }
 {
     orders.reserve(1)?;
     codes.reserve(1)?;

@@ -23,19 +23,23 @@ pub record Takes (t : Layout) (form : Form) (text : List ℕ) (old new : Pages) 
   pub refused : new.has_refused ≡ (old.has_refused || not ok)
 
 -- what came of a text that says something; nothing is said where memory ran out
-abbrev pub MadeUnless : Layout → Form → Bool → List ℕ → List ℕ → List ℕ → Result (Unit {0}) MakeRefusal → Type 0
-MadeUnless t form refused text old new (Ok done) = (out : List ℕ) × Makes t form text out × (new ≡ old ++ unless refused out)
+abbrev pub MadeUnless : Layout → Form → Bool → List ℕ → List ℕ → List ℕ
+    → Result (Unit {0}) MakeRefusal → Type 0
+MadeUnless t form refused text old new (Ok done) = (out : List ℕ) × Makes t form text out
+    × (new ≡ old ++ unless refused out)
 MadeUnless t form refused text old new (Err refusals.Memory) = Unit {0}
 MadeUnless t form refused text old new (Err e) = Refuses t form text × (new ≡ old)
 
 -- a text was taken out of the input, and what is made of it added; or none is whole
 abbrev pub Cuts : Layout → Form → Ahead → Ahead → Pages → Pages → Bool → Type 0
 Cuts t form before after old new true =
-    (text : List ℕ) × IsText text × Consumes before.ahead after.ahead text × Takes t form text old new
+    (text : List ℕ) × IsText text × Consumes before.ahead after.ahead text
+    × Takes t form text old new
 Cuts t form before after old new false = Waits before after old new × IsText before.held
 
 -- what is made of the last text was added, and all of it written
-pub record Closes (t : Layout) (form : Form) (rest : List ℕ) (pages : Pages) (old new : Option (List ℕ)) (good : Bool) : Type 0 where
+pub record Closes (t : Layout) (form : Form) (rest : List ℕ) (pages : Pages)
+    (old new : Option (List ℕ)) (good : Bool) : Type 0 where
   pub last : Pages
   pub takes : Takes t form rest pages last
   pub written : Appends old new last.text.items

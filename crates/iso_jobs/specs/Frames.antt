@@ -12,7 +12,8 @@ use Rattle.iso_jobs.specs.declared.pages.Pages.{Pages}
 use Rattle.iso_jobs.specs.declared.work.Work.{Work}
 
 -- a body was taken out of the input, and what is told of it added
-pub record Took (w : Work) (form : Form) (h : Header) (ahead rest : Option (List ℕ)) (old new : Pages) : Type 0 where
+pub record Took (w : Work) (form : Form) (h : Header) (ahead rest : Option (List ℕ))
+    (old new : Pages) : Type 0 where
   pub body : List ℕ
   pub good : Bool
   pub text : List ℕ
@@ -31,11 +32,14 @@ pub record Waits (before after : Ahead) (old new : Pages) : Type 0 where
 -- a frame was taken; or none stands whole at the front; or none ever will
 abbrev pub Steps : Work → Form → Header → Ahead → Ahead → Pages → Pages → Front → Type 0
 Steps w form h before after old new fronts.Frame = Took w form h before.ahead after.ahead old new
-Steps w form h before after old new fronts.Part = Waits before after old new × NeedsMore h before.held
-Steps w form h before after old new fronts.Bad = Waits before after old new × IfSome before.ahead (NoFrame h)
+Steps w form h before after old new fronts.Part = Waits before after old new
+    × NeedsMore h before.held
+Steps w form h before after old new fronts.Bad = Waits before after old new
+    × IfSome before.ahead (NoFrame h)
 
 -- all that was told is written, and perhaps more if there is a rest
-pub record Ends (has_rest : Bool) (before after : Option (List ℕ)) (pages : Pages) (good : Bool) : Type 0 where
+pub record Ends (has_rest : Bool) (before after : Option (List ℕ)) (pages : Pages)
+    (good : Bool) : Type 0 where
   pub last : List ℕ
   pub written : Appends before after (pages.text.items ++ last)
   pub all_good : good ≡ true → (pages.has_refused ≡ false) × (has_rest ≡ false) × (last ≡ [])

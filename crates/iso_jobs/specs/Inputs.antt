@@ -46,8 +46,10 @@ Opens form all (opened.Refused trouble) = IsNotRead form all
 -- ---- what is done
 
 -- the output grows by what is told of the one message that bytes are, or of each body of their frames
-abbrev pub WorksOnBy : Option Header → Work → Form → List ℕ → Option (List ℕ) → Option (List ℕ) → Bool → Type 0
-WorksOnBy None w form bytes old new good = (text : List ℕ) × Tells w form bytes (good, text) × Appends old new text
+abbrev pub WorksOnBy : Option Header → Work → Form → List ℕ → Option (List ℕ) → Option (List ℕ)
+    → Bool → Type 0
+WorksOnBy None w form bytes old new good = (text : List ℕ) × Tells w form bytes (good, text)
+    × Appends old new text
 WorksOnBy (Some h) w form bytes old new good = WorksOn w form h bytes old new good
 
 -- the same by the header that the form has, or has not

@@ -96,7 +96,8 @@ MakesOne t form text (false, out) = ((form.header ≡ None) ⊎ Refuses t form t
 abbrev pub MakesEach : Layout → Form → List (List ℕ) → List (Bool × List ℕ) → Type 0
 MakesEach t form [] made = made ≡ []
 MakesEach t form (text ∷ texts) made =
-    (first : Bool × List ℕ) × (later : List (Bool × List ℕ)) × IsText text × MakesOne t form text first × MakesEach t form texts later
+    (first : Bool × List ℕ) × (later : List (Bool × List ℕ)) × IsText text
+    × MakesOne t form text first × MakesEach t form texts later
     × (made ≡ first ∷ later)
 
 -- the texts, one after another
@@ -110,7 +111,8 @@ output_of [] = []
 output_of (first ∷ later) = if first.0 then first.1 ++ output_of later else []
 
 -- the output grows by the messages that the texts of the input say, up to the first that is refused; all is well where none is
-pub record MakesAll (t : Layout) (form : Form) (all : List ℕ) (old new : Option (List ℕ)) (good : Bool) : Type 0 where
+pub record MakesAll (t : Layout) (form : Form) (all : List ℕ) (old new : Option (List ℕ))
+    (good : Bool) : Type 0 where
   pub texts : List (List ℕ)
   pub made : List (Bool × List ℕ)
   pub whole : all ≡ joined texts

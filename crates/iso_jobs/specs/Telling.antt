@@ -22,11 +22,13 @@ ending is_framed = if is_framed then 10 ∷ [] else []
 -- the lines of the message that the bytes are, with the names of its elements
 abbrev pub TellsLines : Layout → Laid → Bool → Bool → List ℕ → List ℕ → Type 0
 TellsLines t names is_clear is_framed b text =
-    (m : Contents) × (lines : List ℕ) × Spelling t m b × NamedDescription is_clear t names m lines × (text ≡ lines ++ ending is_framed)
+    (m : Contents) × (lines : List ℕ) × Spelling t m b × NamedDescription is_clear t names m lines
+    × (text ≡ lines ++ ending is_framed)
 
 -- the line of JSON of the message that the bytes are
 abbrev pub TellsJson : Layout → Bool → List ℕ → List ℕ → Type 0
-TellsJson t is_clear b text = (m : Contents) × Spelling t m b × (text ≡ json_of is_clear t m ++ 10 ∷ [])
+TellsJson t is_clear b text = (m : Contents) × Spelling t m b
+    × (text ≡ json_of is_clear t m ++ 10 ∷ [])
 
 -- what was skipped, and the plain spelling of the message under the second table
 abbrev pub Converted : Layout → Layout → List ℕ → List ℕ → List ℕ → Type 0
@@ -34,7 +36,8 @@ Converted f t front b body = (spelled : List ℕ) × Converts f t b spelled × (
 
 -- what was skipped and that spelling, as the output has them
 abbrev pub TellsConverted : Layout → Layout → Form → List ℕ → List ℕ → List ℕ → Type 0
-TellsConverted f t form front b text = (body : List ℕ) × Converted f t front b body × (text ≡ written form body)
+TellsConverted f t form front b text = (body : List ℕ) × Converted f t front b body
+    × (text ≡ written form body)
 
 -- the message has no bytes under the table
 abbrev pub HasNoSpelling : Layout → Contents → Type 0
@@ -47,7 +50,8 @@ HasNoConversion f t b = IsNoMessage f b ⊎ ((m : Contents) × Spelling f m b ×
 -- there is no such message, or its frame can't count it
 abbrev pub IsNotConverted : Layout → Layout → Form → List ℕ → List ℕ → Type 0
 IsNotConverted f t form front b =
-    HasNoConversion f t b ⊎ ((body : List ℕ) × Converted f t front b body × (exceeds form.header body ≡ true))
+    HasNoConversion f t b
+    ⊎ ((body : List ℕ) × Converted f t front b body × (exceeds form.header body ≡ true))
 
 -- want of memory, or what the second table says
 abbrev pub refusal_of_pack : PackFault → Refusal

@@ -19,7 +19,8 @@ use Rattle.iso_jobs.specs.declared.work.Work.TheVariants as works
 
 -- the bytes are a message, and this is told of it
 abbrev pub TellsGood : Work → Form → List ℕ → List ℕ → List ℕ → Type 0
-TellsGood (works.Lines t names c) form front b text = TellsLines t.now names.now c (is_some form.header) b text
+TellsGood (works.Lines t names c) form front b text =
+    TellsLines t.now names.now c (is_some form.header) b text
 TellsGood (works.Json t c) form front b text = TellsJson t.now c b text
 TellsGood (works.Explain t names style) form front b text = (m : Contents) × Spelling t.now m b
 TellsGood (works.ExplainJson t names c) form front b text = (m : Contents) × Spelling t.now m b
@@ -58,8 +59,10 @@ TellsBad (works.ExplainJson t names c) form text = Unit {0}
 TellsBad (works.Convert f t) form text = text ≡ []
 
 -- what was told of the bytes so far; nothing is said where memory ran out
-abbrev pub TellsBehind : Work → Form → List ℕ → List ℕ → List ℕ → List ℕ → Result (Unit {0}) Refusal → Type 0
-TellsBehind w form front b old new (Ok done) = (text : List ℕ) × TellsGood w form front b text × (new ≡ old ++ text)
+abbrev pub TellsBehind : Work → Form → List ℕ → List ℕ → List ℕ → List ℕ → Result (Unit {0}) Refusal
+    → Type 0
+TellsBehind w form front b old new (Ok done) = (text : List ℕ) × TellsGood w form front b text
+    × (new ≡ old ++ text)
 TellsBehind w form front b old new (Err (refusals.Refused trouble)) =
     (text : List ℕ) × IsBad w form front b × TellsFault w text × (new ≡ old ++ text)
 TellsBehind w form front b old new (Err refusals.Memory) = Unit {0}
@@ -68,16 +71,19 @@ TellsBehind w form front b old new (Err refusals.Memory) = Unit {0}
 
 -- the body is too short, or bad behind the bytes that are skipped
 abbrev pub IsRefused : Work → Form → List ℕ → Type 0
-IsRefused w form body = (length body < form.skip) ⊎ IsBad w form (take form.skip body) (drop form.skip body)
+IsRefused w form body = (length body < form.skip)
+    ⊎ IsBad w form (take form.skip body) (drop form.skip body)
 
 -- what is told of a body: whether it is good, and the text
 abbrev pub Tells : Work → Form → List ℕ → Bool × List ℕ → Type 0
-Tells w form body (true, text) = (form.skip ≤ length body) × TellsGood w form (take form.skip body) (drop form.skip body) text
+Tells w form body (true, text) = (form.skip ≤ length body)
+    × TellsGood w form (take form.skip body) (drop form.skip body) text
 Tells w form body (false, text) = IsRefused w form body × TellsBad w form text
 
 -- what was told of a body so far; nothing is said where memory ran out
 abbrev pub TellsBody : Work → Form → List ℕ → List ℕ → List ℕ → Result (Unit {0}) Refusal → Type 0
-TellsBody w form body old new (Ok done) = (text : List ℕ) × Tells w form body (true, text) × (new ≡ old ++ text)
+TellsBody w form body old new (Ok done) = (text : List ℕ) × Tells w form body (true, text)
+    × (new ≡ old ++ text)
 TellsBody w form body old new (Err (refusals.Refused trouble)) =
     (text : List ℕ) × IsRefused w form body × TellsFault w text × (new ≡ old ++ text)
 TellsBody w form body old new (Err refusals.Memory) = Unit {0}
@@ -88,7 +94,8 @@ TellsBody w form body old new (Err refusals.Memory) = Unit {0}
 abbrev pub TellsEach : Work → Form → List (List ℕ) → List (Bool × List ℕ) → Type 0
 TellsEach w form [] told = told ≡ []
 TellsEach w form (body ∷ bodies) told =
-    (first : Bool × List ℕ) × (later : List (Bool × List ℕ)) × Tells w form body first × TellsEach w form bodies later × (told ≡ first ∷ later)
+    (first : Bool × List ℕ) × (later : List (Bool × List ℕ)) × Tells w form body first
+    × TellsEach w form bodies later × (told ≡ first ∷ later)
 
 -- the texts, one after another
 abbrev pub text_of : List (Bool × List ℕ) → List ℕ
@@ -100,7 +107,8 @@ are_good told = list_all (λ x. x.0) told
 
 -- the output grows by what is told of each body of the stream, and perhaps of a rest that is no frame; all is well only where
 -- each body is good, and no rest is there
-pub record WorksOn (w : Work) (form : Form) (h : Header) (all : List ℕ) (old new : Option (List ℕ)) (good : Bool) : Type 0 where
+pub record WorksOn (w : Work) (form : Form) (h : Header) (all : List ℕ) (old new : Option (List ℕ))
+    (good : Bool) : Type 0 where
   pub bodies : List (List ℕ)
   pub rest : List ℕ
   pub told : List (Bool × List ℕ)

@@ -21,4 +21,5 @@ hex_line bytes = encode_upper bytes ++ 10 ∷ []
 
 -- the bytes in their frame, as they are or as hexadecimal digits
 abbrev pub written : Form → List ℕ → List ℕ
-written form body = if form.is_hex then hex_line (framed form.header body) else framed form.header body
+written form body =
+    if form.is_hex then hex_line (framed form.header body) else framed form.header body

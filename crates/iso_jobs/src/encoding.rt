@@ -112,7 +112,8 @@ fn make_unless(
     text: &[u8],
     out: &mut Vec<u8>,
 ) -> Result<(), MakeRefusal>
-    ensures { MadeUnless making.entry.table.now making.entry.form has_refused text.now out.old.items out.new.items result }
+    ensures { MadeUnless making.entry.table.now making.entry.form has_refused text.now
+        out.old.items out.new.items result }
 {
     let (alloc, table, form) = (making.alloc, making.table, making.form);
     if has_refused {
@@ -129,7 +130,8 @@ fn take_message(
     text: &[u8],
     pages: &mut Pages,
 ) -> Result<(), AllocError>
-    ensures { OnOk result (Takes making.entry.table.now making.entry.form text.now pages.old pages.new) }
+    ensures { OnOk result
+        (Takes making.entry.table.now making.entry.form text.now pages.old pages.new) }
 {
     if cursor.has_message && making.form.header.is_none() {
         complain_of_line(making, cursor.lines, Trouble::Second, pages)?;
@@ -150,7 +152,8 @@ fn take_text(
     text: &[u8],
     pages: &mut Pages,
 ) -> Result<(), AllocError>
-    ensures { OnOk result (Takes making.entry.table.now making.entry.form text.now pages.old pages.new) }
+    ensures { OnOk result
+        (Takes making.entry.table.now making.entry.form text.now pages.old pages.new) }
 {
     if !is_blank(text) {
         take_message(making, cursor, text, pages)?;
@@ -166,7 +169,8 @@ fn step<R: Read + Drop>(
     window: &mut Window<R>,
     pages: &mut Pages,
 ) -> Result<bool, Stop>
-    ensures { IfOk result (Cuts making.entry.table.now making.entry.form window.old window.new pages.old pages.new) }
+    ensures { IfOk result
+        (Cuts making.entry.table.now making.entry.form window.old window.new pages.old pages.new) }
 {
     let held = window.held();
     let Some(size) = first_text(held) else {
@@ -214,7 +218,8 @@ pub fn make_messages<R: Read + Drop, O: Write, F: Write>(
     faults: &mut F,
 ) -> Result<bool, Stop>
     // The output grows by the plain spelling of each message, in its frame, up to the first text that is refused.
-    ensures made { IfOk result (λ good. IfSome (R.remaining input) (λ all. MakesAll table.now form all
+    ensures made { IfOk result
+        (λ good. IfSome (R.remaining input) (λ all. MakesAll table.now form all
         (O.contents output.old) (O.contents output.new) good)) }
 {
     let making = Making {

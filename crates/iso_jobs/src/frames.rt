@@ -34,7 +34,8 @@ fn step<R: Read + Drop>(
     window: &mut Window<R>,
     pages: &mut Pages,
 ) -> Result<Front, Stop>
-    ensures { IfOk result (Steps job.entry.work job.entry.form header window.old window.new pages.old pages.new) }
+    ensures { IfOk result
+        (Steps job.entry.work job.entry.form header window.old window.new pages.old pages.new) }
 {
     splits_once();
     let used = match unframe(header, window.held()) {
@@ -53,7 +54,8 @@ fn step<R: Read + Drop>(
 pub(crate) fn read_more<R: Read + Drop>(window: &mut Window<R>) -> Result<bool, Stop>
     ensures grown { IfOk result (Grows window.old.held window.new.held) }
     ensures kept { Keeps window.old.ahead window.new.ahead }
-    ensures end { IfOk result (λ more. more ≡ false → IfSome window.new.ahead (λ all. all ≡ window.new.held)) }
+    ensures end { IfOk result
+        (λ more. more ≡ false → IfSome window.new.ahead (λ all. all ≡ window.new.held)) }
 {
     match window.read_more() {
         Ok(more) => Ok(more),
@@ -71,7 +73,8 @@ fn end<O: Write, F: Write>(
     output: &mut O,
     faults: &mut F,
 ) -> Result<bool, Stop>
-    ensures { IfOk result (Ends (is_some rest) (O.contents output.old) (O.contents output.new) pages.old) }
+    ensures { IfOk result
+        (Ends (is_some rest) (O.contents output.old) (O.contents output.new) pages.old) }
 {
     if let Some(trouble) = rest {
         tell_refused(job, number, trouble, &mut pages.text)?;
@@ -104,7 +107,8 @@ pub(crate) fn work_on_frames<R: Read + Drop, O: Write, F: Write>(
     faults: &mut F,
 ) -> Result<bool, Stop>
     ensures { IfOk result (λ good. IfSome (R.remaining input)
-        (λ all. WorksOn job.entry.work job.entry.form header all (O.contents output.old) (O.contents output.new) good)) }
+        (λ all. WorksOn job.entry.work job.entry.form header all
+        (O.contents output.old) (O.contents output.new) good)) }
 {
     let mut window = Window::new(job.alloc, input);
     let mut pages = Pages::new(job.alloc);

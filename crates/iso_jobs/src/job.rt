@@ -54,7 +54,8 @@ fn tell_behind(
     bytes: &[u8],
     out: &mut Vec<u8>,
 ) -> Result<(), Refusal>
-    ensures { TellsBehind job.entry.work job.entry.form front.now bytes.now out.old.items out.new.items result }
+    ensures { TellsBehind job.entry.work job.entry.form front.now bytes.now
+        out.old.items out.new.items result }
 {
     let (alloc, form) = (job.alloc, job.form);
     let is_framed = form.header.is_some();
@@ -97,7 +98,8 @@ pub(crate) fn tell_refused(
     trouble: Trouble,
     out: &mut Vec<u8>,
 ) -> Result<(), AllocError>
-    ensures { OnOk result ((text : List ℕ) × TellsNone job.entry.work job.entry.form text × (out.new.items ≡ out.old.items ++ text)) }
+    ensures { OnOk result ((text : List ℕ) × TellsNone job.entry.work job.entry.form text
+        × (out.new.items ≡ out.old.items ++ text)) }
 {
     match (job.work, job.form.header) {
         (Work::Json { .. }, Some(_)) => append_object(job.alloc, number, trouble, out),
@@ -112,7 +114,8 @@ pub(crate) fn tell(
     body: &[u8],
     out: &mut Vec<u8>,
 ) -> Result<Option<Trouble>, AllocError>
-    ensures { IfOk result (λ trouble. (text : List ℕ) × Tells job.entry.work job.entry.form body.now (is_none trouble, text)
+    ensures { IfOk result (λ trouble. (text : List ℕ)
+        × Tells job.entry.work job.entry.form body.now (is_none trouble, text)
         × (out.new.items ≡ out.old.items ++ text)) }
 {
     match tell_body(job, number, body, out) {

@@ -77,7 +77,8 @@ fn refused(refusal: iso_json::Refusal) -> MakeRefusal
 
 /// The plain spelling of the message that a line of JSON says.
 fn spelled_json(alloc: Global, table: &Table, line: &[u8]) -> Result<Vec<u8>, MakeRefusal>
-    ensures spelled { IfOk result (λ body. (m : Contents) × IsMessage table.now line.now m × PlainSpelling table.now m body.items) }
+    ensures spelled { IfOk result (λ body. (m : Contents) × IsMessage table.now line.now m
+        × PlainSpelling table.now m body.items) }
     ensures clear { (m : Contents) → IsClearJson table.now m line.now
         → MatchResult result (λ body. PlainSpelling table.now m body.items) (λ e. e ≡ Memory) }
 {
@@ -102,7 +103,8 @@ fn spelled_fields(alloc: Global, table: &Table, text: &[u8]) -> Result<Vec<u8>, 
 /// The plain spelling of the message that a text says.
 fn spelled(alloc: Global, table: &Table, text: &[u8]) -> Result<Vec<u8>, MakeRefusal>
     ensures spelled { IfOk result (λ body. Spells table.now text.now body.items) }
-    ensures clear { is_json text.now ≡ true → (m : Contents) → IsClearJson table.now m (line_of text.now)
+    ensures clear { is_json text.now ≡ true → (m : Contents)
+        → IsClearJson table.now m (line_of text.now)
         → MatchResult result (λ body. PlainSpelling table.now m body.items) (λ e. e ≡ Memory) }
 {
     if is_json(text) {

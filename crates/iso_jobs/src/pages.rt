@@ -69,7 +69,8 @@ impl Pages {
 
     /// Adds what is told of a body.
     pub(crate) fn take(&mut self, job: Job, number: u64, body: &[u8]) -> Result<(), AllocError>
-        ensures told { OnOk result ((good : Bool) × (text : List ℕ) × Tells job.entry.work job.entry.form body.now (good, text)
+        ensures told { OnOk result ((good : Bool) × (text : List ℕ)
+            × Tells job.entry.work job.entry.form body.now (good, text)
             × (self.new.text.items ≡ self.old.text.items ++ text)
             × (self.new.has_refused ≡ (self.old.has_refused || not good))) }
     {
@@ -86,7 +87,8 @@ impl Pages {
         output: &mut O,
         faults: &mut F,
     ) -> Result<(), Stop>
-        ensures written { OnOk result (Appends (O.contents output.old) (O.contents output.new) self.old.text.items) }
+        ensures written { OnOk result
+            (Appends (O.contents output.old) (O.contents output.new) self.old.text.items) }
         ensures empty { OnOk result (self.new.text.items ≡ []) }
         ensures same { self.new.has_refused ≡ self.old.has_refused }
     {

@@ -42,7 +42,8 @@ pub(crate) fn tell_lines(
     bytes: &[u8],
     out: &mut Vec<u8>,
 ) -> Result<(), Refusal>
-    ensures told { OnOk result ((text : List ℕ) × TellsLines table.now names.now is_clear is_framed bytes.now text
+    ensures told { OnOk result
+        ((text : List ℕ) × TellsLines table.now names.now is_clear is_framed bytes.now text
         × (out.new.items ≡ out.old.items ++ text)) }
     ensures refused { IfErr result (λ e. e ≢ Memory → IsNoMessage table.now bytes.now) }
     ensures unchanged { IfErr result (λ e. e ≢ Memory → out.new.items ≡ out.old.items) }
@@ -90,7 +91,8 @@ fn converted(
     front: &[u8],
     bytes: &[u8],
 ) -> Result<Vec<u8>, Refusal>
-    ensures converted { IfOk result (λ body. Converted from.now to.now front.now bytes.now body.items) }
+    ensures converted { IfOk result
+        (λ body. Converted from.now to.now front.now bytes.now body.items) }
     ensures refused { IfErr result (λ e. e ≢ Memory → HasNoConversion from.now to.now bytes.now) }
 {
     let message = match whole_message(alloc, from, bytes) {
@@ -115,9 +117,11 @@ pub(crate) fn convert(
     bytes: &[u8],
     out: &mut Vec<u8>,
 ) -> Result<(), Refusal>
-    ensures told { OnOk result ((text : List ℕ) × TellsConverted from.now to.now form front.now bytes.now text
+    ensures told { OnOk result
+        ((text : List ℕ) × TellsConverted from.now to.now form front.now bytes.now text
         × (out.new.items ≡ out.old.items ++ text)) }
-    ensures refused { IfErr result (λ e. e ≢ Memory → IsNotConverted from.now to.now form front.now bytes.now) }
+    ensures refused { IfErr result
+        (λ e. e ≢ Memory → IsNotConverted from.now to.now form front.now bytes.now) }
     ensures unchanged { IfErr result (λ e. e ≢ Memory → out.new.items ≡ out.old.items) }
 {
     let body = match converted(alloc, from, to, front, bytes) {

@@ -10,7 +10,8 @@ use std::alloc::{AllocError, Global};
 
 /// Appends a text and the end of its line.
 fn push_line(text: &str, out: &mut Vec<u8>) -> Result<(), AllocError>
-    ensures { OnOk result ((line : List ℕ) × IsLine line × (out.new.items ≡ out.old.items ++ line)) }
+    ensures { OnOk result
+        ((line : List ℕ) × IsLine line × (out.new.items ≡ out.old.items ++ line)) }
 {
     out.extend_from_slice(text.as_bytes())?;
     out.extend_from_slice(b"\n")
@@ -23,7 +24,8 @@ pub(crate) fn append_complaint(
     trouble: Trouble,
     out: &mut Vec<u8>,
 ) -> Result<(), AllocError>
-    ensures { OnOk result ((line : List ℕ) × IsLine line × (out.new.items ≡ out.old.items ++ line)) }
+    ensures { OnOk result
+        ((line : List ℕ) × IsLine line × (out.new.items ≡ out.old.items ++ line)) }
 {
     let line = format!(in alloc; "rumpadol: {place}: {trouble}")?;
     push_line(&line, out)
@@ -36,7 +38,8 @@ pub(crate) fn append_heading(
     length: usize,
     out: &mut Vec<u8>,
 ) -> Result<(), AllocError>
-    ensures { OnOk result ((line : List ℕ) × IsLine line × (out.new.items ≡ out.old.items ++ line)) }
+    ensures { OnOk result
+        ((line : List ℕ) × IsLine line × (out.new.items ≡ out.old.items ++ line)) }
 {
     let line = format!(in alloc; "frame {number}, a body of {length} bytes")?;
     push_line(&line, out)
@@ -77,7 +80,8 @@ pub(crate) fn append_object(
     trouble: Trouble,
     out: &mut Vec<u8>,
 ) -> Result<(), AllocError>
-    ensures { OnOk result ((line : List ℕ) × IsLine line × (out.new.items ≡ out.old.items ++ line)) }
+    ensures { OnOk result
+        ((line : List ℕ) × IsLine line × (out.new.items ≡ out.old.items ++ line)) }
 {
     let name = name_of(trouble);
     let members = place_members(alloc, trouble)?;

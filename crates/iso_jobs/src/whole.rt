@@ -37,7 +37,8 @@ pub(crate) fn whole_message(alloc: Global, table: &Table, bytes: &[u8]) -> Resul
 
 /// The bytes behind the first ones, so many of them.
 pub(crate) fn behind_skipped(skip: usize, bytes: &[u8]) -> Result<(&[u8], &[u8]), Refusal>
-    ensures split { IfOk result (λ parts. (parts.0.now ≡ take skip bytes.now) × (parts.1.now ≡ drop skip bytes.now)) }
+    ensures split { IfOk result
+        (λ parts. (parts.0.now ≡ take skip bytes.now) × (parts.1.now ≡ drop skip bytes.now)) }
     ensures whole { OnOk result (skip ≤ length bytes.now) }
     ensures short { OnErr result (length bytes.now < skip) }
     ensures memory { IfErr result (λ e. e ≢ Memory) }

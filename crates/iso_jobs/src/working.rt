@@ -23,7 +23,8 @@ fn work_on_one<O: Write, F: Write>(
     output: &mut O,
     faults: &mut F,
 ) -> Result<bool, Stop>
-    ensures { IfOk result (λ good. (text : List ℕ) × Tells job.entry.work job.entry.form bytes.now (good, text)
+    ensures { IfOk result
+        (λ good. (text : List ℕ) × Tells job.entry.work job.entry.form bytes.now (good, text)
         × Appends (O.contents output.old) (O.contents output.new) text) }
 {
     let mut pages = Pages::new(job.alloc);
@@ -55,7 +56,8 @@ fn refuse<O: Write, F: Write>(
     output: &mut O,
     faults: &mut F,
 ) -> Result<bool, Stop>
-    ensures { IfOk result (λ good. (good ≡ false) × Appends (O.contents output.old) (O.contents output.new) []) }
+    ensures { IfOk result
+        (λ good. (good ≡ false) × Appends (O.contents output.old) (O.contents output.new) []) }
 {
     let mut pages = Pages::new(job.alloc);
     pages.complain(job.alloc, job.whole(), trouble)?;
@@ -70,7 +72,8 @@ fn work_on_whole<R: Read + Drop, O: Write, F: Write>(
     output: &mut O,
     faults: &mut F,
 ) -> Result<bool, Stop>
-    ensures { IfOk result (λ good. IfSome (R.remaining input) (λ all. WorksOnInput job.entry.work job.entry.form all
+    ensures { IfOk result
+        (λ good. IfSome (R.remaining input) (λ all. WorksOnInput job.entry.work job.entry.form all
         (O.contents output.old) (O.contents output.new) good)) }
 {
     match open_whole(job.alloc, job.form, input)? {
@@ -95,7 +98,8 @@ pub fn work_on<R: Read + Drop, O: Write, F: Write>(
     faults: &mut F,
 ) -> Result<bool, Stop>
     // What the output grows by is told of each message of the input, in their order.
-    ensures told { IfOk result (λ good. IfSome (R.remaining input) (λ all. WorksOnInput work.entry form all
+    ensures told { IfOk result
+        (λ good. IfSome (R.remaining input) (λ all. WorksOnInput work.entry form all
         (O.contents output.old) (O.contents output.new) good)) }
 {
     let job = Job {

@@ -11,10 +11,12 @@ use Rattle.iso_journal.specs.Written.{IsReplayed}
 
 -- what a file tells otherwise than the heading that is wanted. One with no record tells no format
 abbrev pub other_heading : List ℕ → List ℕ → Option HeadingFault
-other_heading wanted file = if nat_lt (length file) 128 then Some Format else heading_fault (take 128 file) wanted
+other_heading wanted file =
+    if nat_lt (length file) 128 then Some Format else heading_fault (take 128 file) wanted
 
 -- a host writes the records in front of this one, and doesn't write it then
-pub record IsDamaged (accounts : List Account) (limit place : ℕ) (records : List (List ℕ)) : Type 0 where
+pub record IsDamaged (accounts : List Account) (limit place : ℕ)
+    (records : List (List ℕ)) : Type 0 where
   pub there : place < length records
   pub front : IsReplayed accounts limit (take place records)
   pub not : IsReplayed accounts limit (take (place + 1) records) → ⊥

@@ -32,14 +32,17 @@ pub fn open_after_a_crash<D: Disk + Drop, W: Watch>(
     // At `Ok`, with the accounts and limit of the host that crashed, on a disk that didn't lie and
     // shows what is on it: its synced orders, and of those behind them some from the front.
     ensures crashed { IfOk result (λ host. IsTrue (D.is_clean host.log.log.disk)
-        → IsConsistent (λ l. IsReady D.seen D.may_leave D.is_usable l.log) (λ l. synced_orders D.seen l.log)
+        → IsConsistent (λ l. IsReady D.seen D.may_leave D.is_usable l.log) (λ l.
+        synced_orders D.seen l.log)
         (λ l. pending_orders D.seen l.log) before.now
         → D.may_leave before.now.log.log.disk (D.seen disk)
         → Only (D.seen disk) (D.may_leave disk)
         → accounts ≡ before.now.issuer.accounts
         → limit ≡ before.now.issuer.limit
-        → (n : ℕ) × (state_of (λ l. synced_orders D.seen l.log) (λ l. pending_orders D.seen l.log) host
-        ≡ crashes n (state_of (λ l. synced_orders D.seen l.log) (λ l. pending_orders D.seen l.log) before.now))) }
+        → (n : ℕ)
+        × (state_of (λ l. synced_orders D.seen l.log) (λ l. pending_orders D.seen l.log) host
+        ≡ crashes n (state_of (λ l. synced_orders D.seen l.log)
+        (λ l. pending_orders D.seen l.log) before.now))) }
 {
     match open(disk, heading, accounts, limit, group, watch) {
         Ok(host) => Ok(host),

@@ -67,7 +67,8 @@ fn load<D: Disk, W: Watch>(
     requires most { limit ≤ 999999 }
     ensures ready { IfOk result (λ l. IsTrue (D.is_clean disk.new)
         → Only (D.seen disk.old) (D.may_leave disk.old)
-        → IsReady D.seen D.may_leave D.is_usable (record { disk = disk.new; slots = l.slots; count = l.count; synced = l.count })) }
+        → IsReady D.seen D.may_leave D.is_usable
+        (record { disk = disk.new; slots = l.slots; count = l.count; synced = l.count })) }
     ensures accounts { IfOk result (λ l. l.issuer.accounts ≡ accounts) }
     ensures limit { IfOk result (λ l. l.issuer.limit ≡ limit) }
     ensures held { IfOk result (λ l. IsTrue (D.is_clean disk.new)
@@ -124,7 +125,8 @@ pub fn open<D: Disk + Drop, W: Watch>(
     // has exactly its orders.
     ensures consistent { IfOk result (λ host. IsTrue (D.is_clean host.log.log.disk)
         → Only (D.seen disk) (D.may_leave disk)
-        → IsConsistent (λ l. IsReady D.seen D.may_leave D.is_usable l.log) (λ l. synced_orders D.seen l.log) (λ l. pending_orders D.seen l.log) host) }
+        → IsConsistent (λ l. IsReady D.seen D.may_leave D.is_usable l.log)
+        (λ l. synced_orders D.seen l.log) (λ l. pending_orders D.seen l.log) host) }
     // At `Ok` the issuer has the accounts that were given.
     ensures accounts { IfOk result (λ host. host.issuer.accounts ≡ accounts) }
     // At `Ok` the issuer has the limit that was given.

@@ -70,13 +70,17 @@ fn record_at(piece: &[u8], place: usize) -> [u8; RECORD]
 /// Enters the orders of a piece, up to the first record that no host writes then: how many there are before it, or all.
 fn replay_piece(issuer: &mut Issuer, piece: &[u8]) -> Result<usize, OpenError>
     ensures within { IfOk result (λ n. n ≤ length piece.now / 128) }
-    ensures written { IfOk result (λ n. AreWritten issuer.old.accounts issuer.old.limit issuer.old.orders (slots_from n 0 piece.now)) }
+    ensures written { IfOk result (λ n. AreWritten issuer.old.accounts issuer.old.limit
+        issuer.old.orders (slots_from n 0 piece.now)) }
     ensures not { IfOk result (λ n. n < length piece.now / 128
-        → IsWritten issuer.old.accounts issuer.old.limit (issuer.old.orders ++ orders_of (slots_from n 0 piece.now)) (slot piece.now n) → ⊥) }
+        → IsWritten issuer.old.accounts issuer.old.limit (issuer.old.orders
+        ++ orders_of (slots_from n 0 piece.now)) (slot piece.now n) → ⊥) }
     ensures entered { IfOk result (λ n. n ≡ length piece.now / 128
         → issuer.new.orders ≡ issuer.old.orders ++ orders_of (slots_from n 0 piece.now)) }
-    ensures accounts { IfOk result (λ n. n ≡ length piece.now / 128 → issuer.new.accounts ≡ issuer.old.accounts) }
-    ensures limit { IfOk result (λ n. n ≡ length piece.now / 128 → issuer.new.limit ≡ issuer.old.limit) }
+    ensures accounts { IfOk result
+        (λ n. n ≡ length piece.now / 128 → issuer.new.accounts ≡ issuer.old.accounts) }
+    ensures limit { IfOk result
+        (λ n. n ≡ length piece.now / 128 → issuer.new.limit ≡ issuer.old.limit) }
     ensures fault { IfErr result (λ e. IsPlain e) }
 {
     let count = piece.len() / RECORD;
@@ -102,12 +106,15 @@ fn replay_some<D: Disk>(
     requires small { 128 * (place + count) < 2 ^ 63 }
     ensures within { IfOk result (λ n. n ≤ count) }
     ensures written { IfOk result (λ n. IsTrue (D.is_clean disk.new)
-        → AreWritten issuer.old.accounts issuer.old.limit issuer.old.orders (slots_from n place (D.seen disk.old))) }
+        → AreWritten issuer.old.accounts issuer.old.limit issuer.old.orders
+        (slots_from n place (D.seen disk.old))) }
     ensures not { IfOk result (λ n. n < count → IsTrue (D.is_clean disk.new)
         → IsWritten issuer.old.accounts issuer.old.limit
-        (issuer.old.orders ++ orders_of (slots_from n place (D.seen disk.old))) (slot (D.seen disk.old) (place + n)) → ⊥) }
+        (issuer.old.orders ++ orders_of (slots_from n place (D.seen disk.old)))
+        (slot (D.seen disk.old) (place + n)) → ⊥) }
     ensures entered { IfOk result (λ n. n ≡ count → IsTrue (D.is_clean disk.new)
-        → issuer.new.orders ≡ issuer.old.orders ++ orders_of (slots_from n place (D.seen disk.old))) }
+        → issuer.new.orders
+        ≡ issuer.old.orders ++ orders_of (slots_from n place (D.seen disk.old))) }
     ensures accounts { IfOk result (λ n. n ≡ count → issuer.new.accounts ≡ issuer.old.accounts) }
     ensures limit { IfOk result (λ n. n ≡ count → issuer.new.limit ≡ issuer.old.limit) }
     ensures fault { IfErr result (λ e. IsPlain e) }

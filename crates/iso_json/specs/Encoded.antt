@@ -19,4 +19,5 @@ AppendsSaid t text old new = (m : Contents) × IsMessage t text m × AppendsPlai
 -- from the JSON in clear of a message its plain spelling is appended, unless memory ran out
 abbrev pub EncodesClear : Layout → List ℕ → List ℕ → List ℕ → Result (Unit {0}) Refusal → Type 0
 EncodesClear t text old new r =
-    (m : Contents) → IsClearJson t m text → MatchResult r (λ _. AppendsPlain t m old new) (λ e. e ≡ refusals.Memory)
+    (m : Contents) → IsClearJson t m text
+    → MatchResult r (λ _. AppendsPlain t m old new) (λ e. e ≡ refusals.Memory)

@@ -38,7 +38,8 @@ complained place (Some trouble) = complaint place trouble ∷ []
 -- the type of these digits, if it is of the version
 abbrev pub of_version : ℕ → ℕ × ℕ × ℕ × ℕ → Result ℕ Trouble
 of_version version d =
-    if d.0 == version then Ok (1000 * d.0 + 100 * d.1 + 10 * d.2 + d.3) else Err troubles.WrongVersion
+    if d.0 == version then Ok (1000 * d.0 + 100 * d.1 + 10 * d.2 + d.3)
+    else Err troubles.WrongVersion
 
 -- the same of the digits that were found, if any were
 abbrev pub type_of : ℕ → Option (ℕ × ℕ × ℕ × ℕ) → Result ℕ Trouble
@@ -96,12 +97,17 @@ entry_value rows seen n j = if seen n then Err troubles.Twice else text_value ro
 
 -- one value more is read as element n, or complained of
 abbrev pub with_value : Place → ℕ → Result (List ℕ) Trouble → Heard → Heard
-with_value place n (Ok v) heard = record { elements = put n v heard.elements; complaints = heard.complaints }
-with_value place n (Err t) heard = record { elements = heard.elements; complaints = heard.complaints ++ complaint_of place n t ∷ [] }
+with_value place n (Ok v) heard =
+    record { elements = put n v heard.elements; complaints = heard.complaints }
+with_value place n (Err t) heard = record {
+  elements = heard.elements;
+  complaints = heard.complaints ++ complaint_of place n t ∷ [];
+}
 
 -- one complaint more, of no element
 abbrev pub with_complaint : Complaint → Heard → Heard
-with_complaint c heard = record { elements = heard.elements; complaints = heard.complaints ++ c ∷ [] }
+with_complaint c heard =
+    record { elements = heard.elements; complaints = heard.complaints ++ c ∷ [] }
 
 -- the number is seen too
 abbrev pub also : ℕ → (ℕ → Bool) → ℕ → Bool
@@ -113,8 +119,10 @@ none_seen k = false
 
 -- the member behind so many others, where these elements were seen
 abbrev pub with_entry : List (Option FieldSpec) → (ℕ → Bool) → ℕ → Option ℕ → Json → Heard → Heard
-with_entry rows seen at None j heard = with_complaint (complaint (places.Entry (at + 1)) troubles.BadNumber) heard
-with_entry rows seen at (Some n) j heard = with_value (places.Entry (at + 1)) n (entry_value rows seen n j) heard
+with_entry rows seen at None j heard =
+    with_complaint (complaint (places.Entry (at + 1)) troubles.BadNumber) heard
+with_entry rows seen at (Some n) j heard =
+    with_value (places.Entry (at + 1)) n (entry_value rows seen n j) heard
 
 -- the number that a name stands for is seen too, if it stands for one
 abbrev pub seen_with : Option ℕ → (ℕ → Bool) → ℕ → Bool
@@ -125,15 +133,21 @@ seen_with (Some n) seen = also n seen
 abbrev pub with_entries : List (Option FieldSpec) → (ℕ → Bool) → ℕ → Members → Heard → Heard
 with_entries rows seen at no_members heard = heard
 with_entries rows seen at (member k j ms) heard =
-    with_entries rows (seen_with (number_of k) seen) (at + 1) ms (with_entry rows seen at (number_of k) j heard)
+    with_entries rows (seen_with (number_of k) seen) (at + 1) ms
+    (with_entry rows seen at (number_of k) j heard)
 
 -- the elements that a JSON value says
 abbrev pub with_elements_of : List (Option FieldSpec) → Json → Heard → Heard
-with_elements_of rows null heard = with_complaint (complaint places.Whole troubles.BadElements) heard
-with_elements_of rows (boolean b) heard = with_complaint (complaint places.Whole troubles.BadElements) heard
-with_elements_of rows (number s) heard = with_complaint (complaint places.Whole troubles.BadElements) heard
-with_elements_of rows (string s) heard = with_complaint (complaint places.Whole troubles.BadElements) heard
-with_elements_of rows (array js) heard = with_complaint (complaint places.Whole troubles.BadElements) heard
+with_elements_of rows null heard =
+    with_complaint (complaint places.Whole troubles.BadElements) heard
+with_elements_of rows (boolean b) heard =
+    with_complaint (complaint places.Whole troubles.BadElements) heard
+with_elements_of rows (number s) heard =
+    with_complaint (complaint places.Whole troubles.BadElements) heard
+with_elements_of rows (string s) heard =
+    with_complaint (complaint places.Whole troubles.BadElements) heard
+with_elements_of rows (array js) heard =
+    with_complaint (complaint places.Whole troubles.BadElements) heard
 with_elements_of rows (object ms) heard = with_entries rows none_seen 0 ms heard
 
 -- the elements that the member says, which may be missing
@@ -167,18 +181,26 @@ abbrev pub names_from : Bool → Bool → ℕ → Members → List Complaint
 names_from has_mti has_elements at no_members = []
 names_from has_mti has_elements at (member k j ms) =
     complained (places.Member (at + 1)) (name_trouble has_mti has_elements k)
-    ++ names_from (has_mti || bytes_eq k mti_key) (has_elements || bytes_eq k elements_key) (at + 1) ms
+    ++ names_from (has_mti || bytes_eq k mti_key) (has_elements || bytes_eq k elements_key)
+    (at + 1) ms
 
 -- what an object's members say, and all that is wrong: their names, then the type, then the elements
 abbrev pub heard_in : Layout → Members → Heard
 heard_in t ms =
     with_elements t.rows (get_member elements_key ms)
-    (record { elements = []; complaints = names_from false false 0 ms ++ complained places.Whole (trouble_in (type_at t.version (get_member mti_key ms))) })
+    (record {
+      elements = [];
+      complaints = names_from false false 0 ms
+          ++ complained places.Whole (trouble_in (type_at t.version (get_member mti_key ms)));
+    })
 
 -- the message that the members say
 abbrev pub contents_of : Layout → Members → Contents
 contents_of t ms =
-    record { mti = or_zero (type_at t.version (get_member mti_key ms)); elements = (heard_in t ms).elements }
+    record {
+      mti = or_zero (type_at t.version (get_member mti_key ms));
+      elements = (heard_in t ms).elements;
+    }
 
 -- what is wrong with a value that isn't an object
 abbrev pub not_object : List Complaint
@@ -195,7 +217,8 @@ complaints_in t (object ms) = (heard_in t ms).complaints
 
 -- the JSON value is an object with nothing wrong, and says the message
 abbrev pub Says : Layout → Json → Contents → Type 0
-Says t j m = (ms : Members) × (j ≡ object ms) × ((heard_in t ms).complaints ≡ []) × (m ≡ contents_of t ms)
+Says t j m = (ms : Members) × (j ≡ object ms) × ((heard_in t ms).complaints ≡ [])
+    × (m ≡ contents_of t ms)
 
 -- a function answers the message that the value says, or all that is wrong with it; nothing is said where memory ran out
 abbrev pub Reads : Layout → Json → Result Contents Refusal → Type 0
@@ -218,7 +241,8 @@ IsNotJson text = IsUtf8 text → document text ≡ None
 
 -- the only complaint, at a spot of the text
 abbrev pub IsSpotted : List Complaint → Type 0
-IsSpotted cs = (line : ℕ) × (column : ℕ) × (cs ≡ complaint (places.Spot line column) troubles.NotJson ∷ [])
+IsSpotted cs = (line : ℕ) × (column : ℕ)
+    × (cs ≡ complaint (places.Spot line column) troubles.NotJson ∷ [])
 
 -- a refusal of what is no JSON
 abbrev pub IsNotJsonAt : Refusal → Type 0
@@ -227,7 +251,8 @@ IsNotJsonAt refusals.Memory = Unit {0}
 
 -- all that is wrong with the text
 abbrev pub ArisesFrom : Layout → List ℕ → List Complaint → Type 0
-ArisesFrom t text cs = (IsNotJson text × IsSpotted cs) ⊎ ((j : Json) × IsUtf8 text × (document text ≡ Some j) × (cs ≡ complaints_in t j) × (cs ≢ []))
+ArisesFrom t text cs = (IsNotJson text × IsSpotted cs)
+    ⊎ ((j : Json) × IsUtf8 text × (document text ≡ Some j) × (cs ≡ complaints_in t j) × (cs ≢ []))
 
 -- the refusal is of all that is wrong with the text; nothing is said where memory ran out
 abbrev pub AreOf : Layout → List ℕ → Refusal → Type 0

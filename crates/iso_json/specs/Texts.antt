@@ -72,7 +72,8 @@ fitting s (Err t) = Err t
 -- the value that a text stands for as element n, or why it is refused: no row, a mask, no bytes, or what the row says
 abbrev pub value_of : Option FieldSpec → ℕ → List ℕ → Result (List ℕ) Trouble
 value_of None n text = Err troubles.NoRow
-value_of (Some s) n text = if is_masked n text then Err troubles.Masked else fitting s (bytes_of s.class text)
+value_of (Some s) n text =
+    if is_masked n text then Err troubles.Masked else fitting s (bytes_of s.class text)
 
 -- a function stopped with what was refused, or for want of memory
 abbrev pub IsStop : Stop → Result (List ℕ) Trouble → Type 0

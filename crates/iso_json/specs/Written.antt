@@ -24,7 +24,8 @@ escaped b =
 -- the member of an element: its number, and what the description shows of its value
 abbrev pub json_member : Bool → List (Option FieldSpec) → ℕ × List ℕ → List ℕ
 json_member is_clear rows e =
-    34 ∷ decimal e.0 ++ (codes "\":\"" ++ (flat_map escaped (shown_text is_clear (class_by (row_at rows e.0)) e.0 e.1) ++ 34 ∷ []))
+    34 ∷ decimal e.0 ++ (codes "\":\""
+    ++ (flat_map escaped (shown_text is_clear (class_by (row_at rows e.0)) e.0 e.1) ++ 34 ∷ []))
 
 -- a comma before each member
 abbrev pub further_members : Bool → List (Option FieldSpec) → List (ℕ × List ℕ) → List ℕ
@@ -33,9 +34,11 @@ further_members is_clear rows es = flat_map (λ e. 44 ∷ json_member is_clear r
 -- commas between the members
 abbrev pub json_members : Bool → List (Option FieldSpec) → List (ℕ × List ℕ) → List ℕ
 json_members is_clear rows [] = []
-json_members is_clear rows (e ∷ es) = json_member is_clear rows e ++ further_members is_clear rows es
+json_members is_clear rows (e ∷ es) =
+    json_member is_clear rows e ++ further_members is_clear rows es
 
 -- the line of a message
 abbrev pub json_of : Bool → Layout → Contents → List ℕ
 json_of is_clear t m =
-    codes "{\"mti\":\"" ++ (four_digits_of Ascii m.mti ++ (codes "\",\"elements\":{" ++ (json_members is_clear t.rows m.elements ++ codes "}}")))
+    codes "{\"mti\":\"" ++ (four_digits_of Ascii m.mti
+    ++ (codes "\",\"elements\":{" ++ (json_members is_clear t.rows m.elements ++ codes "}}")))

@@ -15,7 +15,8 @@ use std::alloc::Global;
 
 /// Appends the bytes of a message.
 fn append_bytes(table: &Table, message: &Message, out: &mut Vec<u8>) -> Result<(), Refusal>
-    ensures appended { OnOk result (AppendsPlain table.now message.now out.old.items out.new.items) }
+    ensures appended { OnOk result
+        (AppendsPlain table.now message.now out.old.items out.new.items) }
     ensures memory { IfErr result (λ e. e ≡ refusals.Memory) }
     ensures unchanged { OnErr result (out.new.items ≡ out.old.items) }
 {
@@ -57,7 +58,8 @@ pub fn encode_fields(
     out: &mut Vec<u8>,
 ) -> Result<(), Refusal>
     // What is appended is the plain spelling of a message.
-    ensures appended { OnOk result ((m : Contents) × AppendsPlain table.now m out.old.items out.new.items) }
+    ensures appended { OnOk result
+        ((m : Contents) × AppendsPlain table.now m out.old.items out.new.items) }
     // After any refusal, and without memory, the buffer is as it was.
     ensures unchanged { OnErr result (out.new.items ≡ out.old.items) }
 {

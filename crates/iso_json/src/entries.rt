@@ -25,8 +25,11 @@ fn entry_value(
     n: u8,
     value: &Value<'_>,
 ) -> Result<Vec<u8>, Stop>
-    ensures ok { IfOk result (λ v. entry_value table.now.rows (contains seen.now) n (value_view value.now) ≡ Ok v.items) }
-    ensures stop { IfErr result (λ e. IsStop e (entry_value table.now.rows (contains seen.now) n (value_view value.now))) }
+    ensures ok { IfOk result
+        (λ v. entry_value table.now.rows (contains seen.now) n (value_view value.now)
+        ≡ Ok v.items) }
+    ensures stop { IfErr result
+        (λ e. IsStop e (entry_value table.now.rows (contains seen.now) n (value_view value.now))) }
 {
     if seen.has(n) {
         return Err(Stop::Refused(Trouble::Twice));
@@ -45,7 +48,8 @@ pub fn complain_of(
     complaints: &mut Vec<Complaint>,
 ) -> Result<(), AllocError>
     // Memory aside, a complaint of this element, place and trouble comes behind the others.
-    ensures { OnOk result (complaints.new.items ≡ complaints.old.items ++ complaint_of place n trouble ∷ []) }
+    ensures { OnOk result
+        (complaints.new.items ≡ complaints.old.items ++ complaint_of place n trouble ∷ []) }
 {
     complaints.push(Complaint {
         place,
@@ -62,7 +66,8 @@ pub fn complain(
     complaints: &mut Vec<Complaint>,
 ) -> Result<(), AllocError>
     // Memory aside, a complaint of this place and trouble, of no element, comes behind the others.
-    ensures { OnOk result (complaints.new.items ≡ complaints.old.items ++ complaint place trouble ∷ []) }
+    ensures { OnOk result
+        (complaints.new.items ≡ complaints.old.items ++ complaint place trouble ∷ []) }
 {
     complaints.push(Complaint {
         place,
@@ -77,7 +82,8 @@ pub fn put_value(n: u8, value: &[u8], message: &mut Message) -> Result<(), Alloc
     // The number is one that an element may have: 2 to 128 but for 65.
     requires { is_element n ≡ true }
     // Memory aside, the message has this value as element `n`, and is else as it was.
-    ensures put { OnOk result (message.new ≡ record message.old { elements = put n value.now message.old.elements }) }
+    ensures put { OnOk result
+        (message.new ≡ record message.old { elements = put n value.now message.old.elements }) }
     // Without memory the message stays as it was.
     ensures unchanged { OnErr result (message.new ≡ message.old) }
 {
@@ -101,7 +107,9 @@ fn read_value(
     requires number { is_element n ≡ true }
     requires fits { at < 2 ^ 63 }
     ensures mti { message.new.mti ≡ message.old.mti }
-    ensures heard { OnOk result (heard message.new complaints.new ≡ with_value (Place.Entry (at + 1)) n (entry_value table.now.rows (contains seen.now) n (value_view value.now)) (heard message.old complaints.old)) }
+    ensures heard { OnOk result (heard message.new complaints.new
+        ≡ with_value (Place.Entry (at + 1)) n (entry_value table.now.rows (contains seen.now) n
+        (value_view value.now)) (heard message.old complaints.old)) }
 {
     match entry_value(alloc, table, seen, n, value) {
         Ok(value) => put_value(n, &value, message),
@@ -124,7 +132,9 @@ fn read_entry(
     requires { at < 2 ^ 63 }
     ensures mti { message.new.mti ≡ message.old.mti }
     ensures seen { contains seen.new ≡ seen_with (number_of key.now) (contains seen.old) }
-    ensures heard { OnOk result (heard message.new complaints.new ≡ with_entry table.now.rows (contains seen.old) at (number_of key.now) (value_view value.now) (heard message.old complaints.old)) }
+    ensures heard { OnOk result
+        (heard message.new complaints.new ≡ with_entry table.now.rows (contains seen.old) at
+        (number_of key.now) (value_view value.now) (heard message.old complaints.old)) }
 {
     let Some(n) = number_of(key.as_bytes()) else {
         return complain(Place::Entry(at + 1), Trouble::BadNumber, complaints);
@@ -146,7 +156,8 @@ pub fn read_entries(
     ensures mti { message.new.mti ≡ message.old.mti }
     // Memory aside, each member in its order puts its value into the message, or brings one
     // complaint behind the others: of its number, a second value, or what is refused.
-    ensures heard { OnOk result (heard message.new complaints.new ≡ with_entries table.now.rows none_seen 0 (members_view members.now) (heard message.old complaints.old)) }
+    ensures heard { OnOk result (heard message.new complaints.new ≡ with_entries table.now.rows
+        none_seen 0 (members_view members.now) (heard message.old complaints.old)) }
 {
     let mut seen = Bitmap::new();
     let mut at = 0;

@@ -37,7 +37,8 @@ pub fn append_fields(
     out: &mut Vec<u8>,
 ) -> Result<(), NoMemory>
     // Memory aside, it appends the lines of `describe`, or in clear those of `describe_clear`.
-    ensures appended { OnOk result (out.new.items ≡ out.old.items ++ description clear table.now message.now) }
+    ensures appended { OnOk result
+        (out.new.items ≡ out.old.items ++ description clear table.now message.now) }
     // Where memory runs out, the buffer holds the bytes that it held before.
     ensures unchanged { OnErr result (out.new.items ≡ out.old.items) }
 {

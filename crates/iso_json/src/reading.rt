@@ -86,7 +86,8 @@ fn complain_if(
     trouble: Option<Trouble>,
     complaints: &mut Vec<Complaint>,
 ) -> Result<(), AllocError>
-    ensures { OnOk result (complaints.new.items ≡ complaints.old.items ++ complained place trouble) }
+    ensures { OnOk result
+        (complaints.new.items ≡ complaints.old.items ++ complained place trouble) }
 {
     match trouble {
         Some(trouble) => complain(place, trouble, complaints),
@@ -99,7 +100,8 @@ fn check_names(
     members: &[(&str, Value<'_>)],
     complaints: &mut Vec<Complaint>,
 ) -> Result<(), AllocError>
-    ensures { OnOk result (complaints.new.items ≡ complaints.old.items ++ names_from false false 0 (members_view members.now)) }
+    ensures { OnOk result (complaints.new.items
+        ≡ complaints.old.items ++ names_from false false 0 (members_view members.now)) }
 {
     let mut has_mti = false;
     let mut has_elements = false;
@@ -136,7 +138,8 @@ pub fn type_in(table: &Table, text: &[u8]) -> Result<Mti, Trouble>
 
 /// The type that a message's object says.
 fn type_of(table: &Table, value: Option<&Value<'_>>) -> Result<Mti, Trouble>
-    ensures { type_number result ≡ type_at table.now.version (option_map (λ v. value_view v.now) value.entry) }
+    ensures { type_number result
+        ≡ type_at table.now.version (option_map (λ v. value_view v.now) value.entry) }
 {
     let Some(value) = value else {
         return Err(Trouble::NoMti);
@@ -182,7 +185,8 @@ fn read_elements(
     complaints: &mut Vec<Complaint>,
 ) -> Result<(), AllocError>
     ensures mti { message.new.mti ≡ message.old.mti }
-    ensures heard { OnOk result (heard message.new complaints.new ≡ with_elements table.now.rows (option_map (λ v. value_view v.now) value.entry) (heard message.old complaints.old)) }
+    ensures heard { OnOk result (heard message.new complaints.new ≡ with_elements table.now.rows
+        (option_map (λ v. value_view v.now) value.entry) (heard message.old complaints.old)) }
 {
     match value {
         Some(Value::Object(members)) => {
@@ -206,7 +210,8 @@ fn read_object(
     requires none { complaints.old.items ≡ [] }
     requires same { value_view value.now ≡ object (members_view members.now) }
     ensures message { IfOk result (λ m. m ≡ contents_of table.now (members_view members.now)) }
-    ensures complaints { OnOk result (complaints.new.items ≡ (heard_in table.now (members_view members.now)).complaints) }
+    ensures complaints { OnOk result
+        (complaints.new.items ≡ (heard_in table.now (members_view members.now)).complaints) }
 {
     check_names(members, complaints)?;
     let read = type_of(table, value.get("mti"));
@@ -227,7 +232,8 @@ pub fn unless_wrong(message: Message, complaints: Vec<Complaint>) -> Result<Mess
     // At `Ok` it is the very message, and there was no complaint.
     ensures ok { IfOk result (λ m. (m ≡ message) × (complaints.items ≡ [])) }
     // An `Err` has the very complaints, and there was at least one.
-    ensures refused { IfErr result (λ e. (e ≡ refusals.Complaints complaints) × (complaints.items ≢ [])) }
+    ensures refused { IfErr result
+        (λ e. (e ≡ refusals.Complaints complaints) × (complaints.items ≢ [])) }
 {
     if complaints.is_empty() {
         Ok(message)

@@ -118,7 +118,8 @@ fn fit(alloc: Global, row: &FieldSpec, value: &[u8]) -> Result<(), Stop>
 fn value_under(alloc: Global, row: &FieldSpec, text: &[u8]) -> Result<Vec<u8>, Stop>
     requires { IsGood row.now }
     ensures ok { IfOk result (λ v. fitting row.now (bytes_of row.now.class text.now) ≡ Ok v.items) }
-    ensures stop { IfErr result (λ e. IsStop e (fitting row.now (bytes_of row.now.class text.now))) }
+    ensures stop { IfErr result
+        (λ e. IsStop e (fitting row.now (bytes_of row.now.class text.now))) }
 {
     let value = match bytes_of(alloc, row.class, text) {
         Ok(value) => value,

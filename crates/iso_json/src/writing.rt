@@ -89,7 +89,8 @@ fn push_hex(bytes: &[u8], out: &mut Vec<u8>) -> Result<(), AllocError>
 
 /// Appends bytes as a row of the class shows them.
 fn push_text(class: CharClass, bytes: &[u8], out: &mut Vec<u8>) -> Result<(), AllocError>
-    ensures text { OnOk result (out.new.items ≡ out.old.items ++ flat_map escaped (clear_text class bytes.now)) }
+    ensures text { OnOk result
+        (out.new.items ≡ out.old.items ++ flat_map escaped (clear_text class bytes.now)) }
     ensures kept { OnErr result (Keeps out.old.items out.new.items) }
 {
     match class {
@@ -119,7 +120,8 @@ fn push_stars(count: usize, out: &mut Vec<u8>) -> Result<(), AllocError>
 
 /// Appends what a bystander may read of a value.
 fn push_masked(class: CharClass, n: u8, value: &[u8], out: &mut Vec<u8>) -> Result<(), AllocError>
-    ensures text { OnOk result (out.new.items ≡ out.old.items ++ flat_map escaped (value_text class n value.now)) }
+    ensures text { OnOk result
+        (out.new.items ≡ out.old.items ++ flat_map escaped (value_text class n value.now)) }
     ensures kept { OnErr result (Keeps out.old.items out.new.items) }
 {
     let shown = masked(n, value);
@@ -147,7 +149,8 @@ fn push_shown(
     value: &[u8],
     out: &mut Vec<u8>,
 ) -> Result<(), AllocError>
-    ensures text { OnOk result (out.new.items ≡ out.old.items ++ flat_map escaped (shown_text is_clear class n value.now)) }
+    ensures text { OnOk result (out.new.items
+        ≡ out.old.items ++ flat_map escaped (shown_text is_clear class n value.now)) }
     ensures kept { OnErr result (Keeps out.old.items out.new.items) }
 {
     if is_clear {
@@ -173,7 +176,8 @@ fn push_member(
     value: &[u8],
     out: &mut Vec<u8>,
 ) -> Result<(), AllocError>
-    ensures text { OnOk result (out.new.items ≡ out.old.items ++ json_member is_clear table.now.rows (n, value.now)) }
+    ensures text { OnOk result
+        (out.new.items ≡ out.old.items ++ json_member is_clear table.now.rows (n, value.now)) }
     ensures kept { OnErr result (Keeps out.old.items out.new.items) }
 {
     out.extend_from_slice(b"\"")?;
@@ -190,7 +194,8 @@ fn push_further(
     elements: Iter<'_>,
     out: &mut Vec<u8>,
 ) -> Result<(), AllocError>
-    ensures text { OnOk result (out.new.items ≡ out.old.items ++ further_members is_clear table.now.rows elements.entry) }
+    ensures text { OnOk result
+        (out.new.items ≡ out.old.items ++ further_members is_clear table.now.rows elements.entry) }
     ensures kept { OnErr result (Keeps out.old.items out.new.items) }
 {
     for (n, value) in elements {
@@ -207,7 +212,8 @@ fn push_members(
     message: &Message,
     out: &mut Vec<u8>,
 ) -> Result<(), AllocError>
-    ensures text { OnOk result (out.new.items ≡ out.old.items ++ json_members is_clear table.now.rows message.now.elements) }
+    ensures text { OnOk result (out.new.items
+        ≡ out.old.items ++ json_members is_clear table.now.rows message.now.elements) }
     ensures kept { OnErr result (Keeps out.old.items out.new.items) }
 {
     let mut elements = message.iter();
@@ -222,7 +228,8 @@ fn push_members(
 
 /// Appends the four digits of a message type.
 fn push_digits(mti: Mti, out: &mut Vec<u8>) -> Result<(), AllocError>
-    ensures text { OnOk result (out.new.items ≡ out.old.items ++ four_digits_of Ascii (mti_number mti)) }
+    ensures text { OnOk result
+        (out.new.items ≡ out.old.items ++ four_digits_of Ascii (mti_number mti)) }
     ensures kept { OnErr result (Keeps out.old.items out.new.items) }
 {
     let number = usize::from(mti.number());
@@ -236,7 +243,8 @@ fn push_message(
     message: &Message,
     out: &mut Vec<u8>,
 ) -> Result<(), AllocError>
-    ensures text { OnOk result (out.new.items ≡ out.old.items ++ json_of is_clear table.now message.now) }
+    ensures text { OnOk result
+        (out.new.items ≡ out.old.items ++ json_of is_clear table.now message.now) }
     ensures kept { OnErr result (Keeps out.old.items out.new.items) }
 {
     out.extend_from_slice(b"{\"mti\":\"")?;
@@ -260,7 +268,8 @@ pub fn append_json(
 ) -> Result<(), NoMemory>
     // Memory aside, it appends the line of the message, character for character: its type, and each
     // element with what a description shows of it, in clear or masked.
-    ensures appended { OnOk result (out.new.items ≡ out.old.items ++ json_of clear table.now message.now) }
+    ensures appended { OnOk result
+        (out.new.items ≡ out.old.items ++ json_of clear table.now message.now) }
     // Where memory runs out, the buffer holds the bytes that it held before.
     ensures unchanged { OnErr result (out.new.items ≡ out.old.items) }
 {

@@ -44,13 +44,15 @@ books_after_arrivals books (a ∷ later) = books_after_arrivals (books_after_arr
 -- the bodies of a peer's own frames, in their order
 abbrev pub bodies_of : ℕ → List Arrival → List (List ℕ)
 bodies_of key [] = []
-bodies_of key (a ∷ later) = if eqb a.key key then a.body ∷ bodies_of key later else bodies_of key later
+bodies_of key (a ∷ later) =
+    if eqb a.key key then a.body ∷ bodies_of key later else bodies_of key later
 
 -- the frames of these peers, one peer after the other
 abbrev pub InTurn : List ℕ → List Arrival → Type 0
 InTurn [] arrivals = arrivals ≡ []
 InTurn (key ∷ keys) arrivals =
-    (own : List Arrival) × (later : List Arrival) × AllByRecursion (λ a. a.key ≡ key) own × InTurn keys later × (arrivals ≡ own ++ later)
+    (own : List Arrival) × (later : List Arrival) × AllByRecursion (λ a. a.key ≡ key) own
+    × InTurn keys later × (arrivals ≡ own ++ later)
 
 -- ---- answers
 
@@ -76,7 +78,9 @@ AreAnswers key line books (a ∷ later) bytes =
 -- bytes came of a peer of this line, which held some: its frames are those at the front of all these bytes, and their
 -- answers wait behind the others. Unless it ended, no more is left than what it holds, and no whole frame begins there; once
 -- it has ended, none of its frames comes
-pub record IsHeard (key : ℕ) (line : Guard) (held kept out grown : List ℕ) (before after : Option Closing) (books : Books) (bytes : List ℕ) (arrivals : List Arrival) : Type 0 where
+pub record IsHeard (key : ℕ) (line : Guard) (held kept out grown : List ℕ)
+    (before after : Option Closing) (books : Books) (bytes : List ℕ)
+    (arrivals : List Arrival) : Type 0 where
   pub rest : List ℕ
   pub front : held ++ bytes ≡ frames_of line.header (bodies_of key arrivals) ++ rest
   pub fit : AllFit line.header (bodies_of key arrivals)
@@ -116,15 +120,19 @@ pub record Dealing : Type 0 where
 
 -- the same of its buffers, of which a guarded line has its own
 abbrev pub dealing_by : Bool → Line → Connected → Guarded → Option Closing → Dealing
-dealing_by true line direct guarded ended = record { line = line; held = guarded.held; waiting = guarded.waiting; ended = ended }
-dealing_by false line direct guarded ended = record { line = line; held = direct.peer.held; waiting = direct.waiting; ended = ended }
+dealing_by true line direct guarded ended =
+    record { line = line; held = guarded.held; waiting = guarded.waiting; ended = ended }
+dealing_by false line direct guarded ended =
+    record { line = line; held = direct.peer.held; waiting = direct.waiting; ended = ended }
 
 -- a peer is heard
 abbrev pub IsHeardAs : ℕ → Dealing → Dealing → Books → List ℕ → List Arrival → Type 0
-IsHeardAs key d e books bytes arrivals = IsHeard key (guard_at d.line) d.held e.held d.waiting e.waiting d.ended e.ended books bytes arrivals
+IsHeardAs key d e books bytes arrivals = IsHeard key
+    (guard_at d.line) d.held e.held d.waiting e.waiting d.ended e.ended books bytes arrivals
 
 -- a peer alone gave these bytes
-pub record HearsBytes (key : ℕ) (d e : Dealing) (before after : Books) (bytes : List ℕ) : Type 0 where
+pub record HearsBytes (key : ℕ) (d e : Dealing) (before after : Books)
+    (bytes : List ℕ) : Type 0 where
   pub arrivals : List Arrival
   pub own : AllByRecursion (λ a. a.key ≡ key) arrivals
   pub entered : after ≡ books_after_arrivals before arrivals
@@ -134,7 +142,8 @@ pub record HearsBytes (key : ℕ) (d e : Dealing) (before after : Books) (bytes 
 module _ {S : Type 0} where
   -- what a peer is heard by, of all that it has
   abbrev pub dealing_of : Peer S → Dealing
-  dealing_of p = dealing_by (is_guarded p.line.terms.now) p.line p.connection p.guarded p.standing.ended
+  dealing_of p =
+      dealing_by (is_guarded p.line.terms.now) p.line p.connection p.guarded p.standing.ended
 
   -- a peer's stream, line and bytes stay
   pub record KeepsBytes (old new : Peer S) : Type 0 where
@@ -151,7 +160,8 @@ module _ {S : Type 0} where
       pub hears : HearsBytes key (dealing_of p) (dealing_of q) before after bytes
 
     -- what a turn hears of one peer among all these frames: the bytes that its stream gave have its own
-    pub record HearsOwn (key : ℕ) (p q : Peer S) (before : Books) (arrivals : List Arrival) : Type 0 where
+    pub record HearsOwn (key : ℕ) (p q : Peer S) (before : Books)
+        (arrivals : List Arrival) : Type 0 where
       pub bytes : List ℕ
       pub given : Consumes (remaining p.stream) (remaining q.stream) bytes
       pub line : (dealing_of q).line ≡ (dealing_of p).line

@@ -31,7 +31,8 @@ module _ {S : Type 0} where
   IsLetIn stream None = ⊥
   IsLetIn stream (Some p) =
       (p.stream ≡ stream)
-      × (p.connection.peer.held ≡ []) × (p.connection.waiting ≡ []) × (p.guarded.held ≡ []) × (p.guarded.waiting ≡ [])
+      × (p.connection.peer.held ≡ []) × (p.connection.waiting ≡ []) × (p.guarded.held ≡ [])
+      × (p.guarded.waiting ≡ [])
 
   -- a peer is the same but for when it is looked at: its stream, its line, what it holds and what waits, and how it stands
   pub record IsSame (old new : Peer S) : Type 0 where

@@ -10,5 +10,6 @@ use Rattle.iso_lines.specs.declared.event.Refusal.TheVariants as refusal
 -- why a peer is not let in beside so many: its address is in none of the networks, or there are as many as may be
 abbrev pub refusal_of : List Network → Limits → ℕ → IpAddr → Option Refusal
 refusal_of networks limits peers address =
-    if lets_connect networks address then (if nat_lt peers limits.peers then None else Some refusal.Peers)
+    if lets_connect networks address
+    then (if nat_lt peers limits.peers then None else Some refusal.Peers)
     else Some refusal.Network

@@ -31,11 +31,13 @@ ending_of l s now None = if nat_le l.waiting s.waiting then None else late_of l 
 
 -- why a peer is to be closed, if it is
 abbrev pub closing_of : Limits → Standing → ℕ → Option Closing
-closing_of l s now = if lasts_too_long l.unread s.unread now then Some DoesNotRead else ending_of l s now s.ended
+closing_of l s now =
+    if lasts_too_long l.unread s.unread now then Some DoesNotRead else ending_of l s now s.ended
 
 -- what is done with a peer that stays: it is read from, up to the bytes that may wait for it
 abbrev pub staying_of : Limits → Standing → Doing
-staying_of l s = if is_some s.ended then Waits else if nat_lt s.waiting l.waiting then Reads else Waits
+staying_of l s =
+    if is_some s.ended then Waits else if nat_lt s.waiting l.waiting then Reads else Waits
 
 -- what is done with a peer
 abbrev pub doing_by : Limits → Standing → Option Closing → Doing
@@ -55,7 +57,8 @@ frame_since false false (Some since) now = Some since
 
 -- a peer whose bytes came
 abbrev pub hearing_of : Standing → ℕ → Bool → Bool → Standing
-hearing_of s now is_whole ends = record s { heard = now; frame = frame_since is_whole ends s.frame now }
+hearing_of s now is_whole ends =
+    record s { heard = now; frame = frame_since is_whole ends s.frame now }
 
 -- since when bytes wait: some were written now, or none
 abbrev pub unread_since : Bool → Option ℕ → ℕ → Option ℕ
@@ -70,8 +73,12 @@ begun_anew (Some since) now = Some now
 
 -- a peer, whose clocks stand still while the host reads nothing of it
 abbrev pub paused_of : Limits → Standing → ℕ → Standing
-paused_of l s now = if nat_le l.waiting s.waiting then record s { heard = now; frame = begun_anew s.frame now } else s
+paused_of l s now = if nat_le l.waiting s.waiting
+    then record s { heard = now; frame = begun_anew s.frame now } else s
 
 -- a peer for which so many bytes wait, once it was written to
 abbrev pub writing_of : Limits → Standing → ℕ → ℕ → Bool → Standing
-writing_of l s now waiting some = record (paused_of l s now) { waiting = waiting; unread = if waiting == 0 then None else unread_since some s.unread now }
+writing_of l s now waiting some = record (paused_of l s now) {
+  waiting = waiting;
+  unread = if waiting == 0 then None else unread_since some s.unread now;
+}

@@ -12,7 +12,8 @@ pub record Heard : Type 0 where
 -- the books once these bodies came, one after the other
 abbrev pub books_after_heard : Books → List Heard → Books
 books_after_heard books [] = books
-books_after_heard books (h ∷ hs) = books_after_heard (books_after_bodies h.table books (h.body ∷ [])) hs
+books_after_heard books (h ∷ hs) =
+    books_after_heard (books_after_bodies h.table books (h.body ∷ [])) hs
 
 -- the books grow by such bodies, and by nothing else
 pub record EntersHeard (old new : Books) : Type 0 where

@@ -53,8 +53,10 @@ impl<S: Read + Write + Drop> Peer<'_, S> {
     fn hear_direct<L: Log>(&mut self, host: &mut DurableHost<L>, bytes: &[u8], told: &mut Vec<Told>)
         ensures stream { self.new.stream ≡ self.old.stream }
         // Its frames are those at the front of the bytes, and their answers wait.
-        ensures came { host.old.has_failed ≡ false → is_guarded self.old.line.terms.now ≡ false → self.old.standing.ended ≡ None
-            → (key : ℕ) → HearsBytes key (dealing_of self.old) (dealing_of self.new) host.old.host host.new.host bytes.now }
+        ensures came { host.old.has_failed ≡ false → is_guarded self.old.line.terms.now ≡ false
+            → self.old.standing.ended ≡ None
+            → (key : ℕ) → HearsBytes key
+            (dealing_of self.old) (dealing_of self.new) host.old.host host.new.host bytes.now }
         ensures heard { EntersHeard host.old.host host.new.host }
         ensures log { host.new.log ≡ host.old.log }
         ensures step { IsInStep L.is_ready L.synced L.pending host.old
@@ -84,8 +86,10 @@ impl<S: Read + Write + Drop> Peer<'_, S> {
     )
         ensures stream { self.new.stream ≡ self.old.stream }
         // Its frames are those at the front of the bytes, and their answers wait.
-        ensures came { host.old.has_failed ≡ false → is_guarded self.old.line.terms.now ≡ true → self.old.standing.ended ≡ None
-            → (key : ℕ) → HearsBytes key (dealing_of self.old) (dealing_of self.new) host.old.host host.new.host bytes.now }
+        ensures came { host.old.has_failed ≡ false → is_guarded self.old.line.terms.now ≡ true
+            → self.old.standing.ended ≡ None
+            → (key : ℕ) → HearsBytes key
+            (dealing_of self.old) (dealing_of self.new) host.old.host host.new.host bytes.now }
         ensures heard { EntersHeard host.old.host host.new.host }
         ensures log { host.new.log ≡ host.old.log }
         ensures step { IsInStep L.is_ready L.synced L.pending host.old
@@ -131,7 +135,8 @@ impl<S: Read + Write + Drop> Peer<'_, S> {
         ensures stream { self.new.stream ≡ self.old.stream }
         // Its frames are those at the front of the bytes, and their answers wait.
         ensures came { self.old.standing.ended ≡ None
-            → (key : ℕ) → HearsBytes key (dealing_of self.old) (dealing_of self.new) host.old.host host.new.host bytes.now }
+            → (key : ℕ) → HearsBytes key
+            (dealing_of self.old) (dealing_of self.new) host.old.host host.new.host bytes.now }
         ensures heard { EntersHeard host.old.host host.new.host }
         ensures log { host.new.log ≡ host.old.log }
         ensures step { IsInStep L.is_ready L.synced L.pending host.old
@@ -161,7 +166,8 @@ impl<S: Read + Write + Drop> Peer<'_, S> {
         ensures stream { self.new.stream ≡ self.old.stream }
         // Its frames are those at the front of the bytes, and their answers wait.
         ensures came { self.old.standing.ended ≡ None
-            → (key : ℕ) → HearsBytes key (dealing_of self.old) (dealing_of self.new) host.old.host host.new.host bytes.now }
+            → (key : ℕ) → HearsBytes key
+            (dealing_of self.old) (dealing_of self.new) host.old.host host.new.host bytes.now }
         ensures heard { EntersHeard host.old.host host.new.host }
         ensures log { host.new.log ≡ host.old.log }
         ensures step { IsInStep L.is_ready L.synced L.pending host.old

@@ -84,7 +84,8 @@ impl<'l, S: Read + Write + Drop> Peer<'l, S> {
     /// How many bytes of answers wait to be written.
     pub fn waiting(&self) -> usize
         // It is 0 exactly where no byte of an answer waits.
-        ensures none { (result ≡ 0) ↔ ((self.now.connection.waiting ≡ []) × (self.now.guarded.waiting ≡ [])) }
+        ensures none { (result ≡ 0)
+            ↔ ((self.now.connection.waiting ≡ []) × (self.now.guarded.waiting ≡ [])) }
     {
         self.connection
             .waiting()
@@ -93,7 +94,8 @@ impl<'l, S: Read + Write + Drop> Peer<'l, S> {
 
     /// Whether no frame is unfinished.
     pub fn is_whole(&self) -> bool
-        ensures { (result ≡ true) ↔ ((self.now.connection.peer.held ≡ []) × (self.now.guarded.held ≡ [])) }
+        ensures { (result ≡ true)
+            ↔ ((self.now.connection.peer.held ≡ []) × (self.now.guarded.held ≡ [])) }
     {
         self.connection.may_end() && self.guarded.may_end()
     }

@@ -199,7 +199,8 @@ impl<'l, S: Read + Write + Drop> Peers<'l, S> {
     /// Reads and decides what came of one peer, up to its share.
     #[tactic(auto, using(crate::proofs::Heard::none_heard))]
     fn read_one<L: Log>(&mut self, host: &mut DurableHost<L>, key: usize, now: u64)
-        ensures came { ReadsAt S.remaining key (peer_at self.old key) (peer_at self.new key) host.old.host host.new.host }
+        ensures came { ReadsAt S.remaining key
+            (peer_at self.old key) (peer_at self.new key) host.old.host host.new.host }
         // The books grow by bodies, one after the other, and by nothing else.
         ensures heard { EntersHeard host.old.host host.new.host }
         // The log isn't called, and stays in step with the journal.
@@ -334,7 +335,8 @@ impl<'l, S: Read + Write + Drop> Peers<'l, S> {
     /// Closes a peer, if it is to be closed.
     #[tactic(auto, using(crate::proofs::Keys::stays))]
     fn close_one<N: Lines>(&mut self, key: usize, now: Moment, log: &mut N)
-        ensures settled { StaysOrGoes (millis_of now) (peer_at self.old key) (peer_at self.new key) }
+        ensures settled { StaysOrGoes (millis_of now)
+            (peer_at self.old key) (peer_at self.new key) }
         // Every other peer is as it was.
         ensures others { OthersStay key self.old self.new }
     {

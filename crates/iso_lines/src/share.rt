@@ -37,7 +37,8 @@ pub(crate) fn read_share<L: Log, S: Read + Write + Drop>(
     told: &mut Vec<Told>,
 )
     // Its frames are those at the front of the bytes that its stream gave, and their answers wait.
-    ensures came { (key : ℕ) → HearsAlone S.remaining key peer.old peer.new host.old.host host.new.host }
+    ensures came { (key : ℕ)
+        → HearsAlone S.remaining key peer.old peer.new host.old.host host.new.host }
     // The books grow by bodies, one after the other, and by nothing else.
     ensures heard { EntersHeard host.old.host host.new.host }
     // The log isn't called, and stays in step with the journal.

@@ -114,7 +114,8 @@ impl Standing {
     /// A peer that is let in now.
     pub fn new(now: u64) -> Standing
         // It was heard of now, no frame is unfinished, no byte waits for it, and it hasn't ended.
-        ensures { result ≡ record { heard = now; frame = None; unread = None; waiting = 0; ended = None } }
+        ensures { result
+            ≡ record { heard = now; frame = None; unread = None; waiting = 0; ended = None } }
     {
         Standing {
             heard: now,

@@ -21,7 +21,8 @@ pub(crate) fn take_noted<L: Log>(
     told: &mut Vec<Told>,
 ) -> Result<Turned, LogFailed>
     // The bodies of all whole frames are entered, one after the other, and their answers wait behind the others.
-    ensures took { IfOk result (TakesAll connection.old connection.new host.old.host host.new.host bytes.now) }
+    ensures took { IfOk result
+        (TakesAll connection.old connection.new host.old.host host.new.host bytes.now) }
     ensures refused { OnErr result (host.old.has_failed ≡ true) }
     ensures table { connection.new.peer.table ≡ connection.old.peer.table }
     ensures header { connection.new.peer.header ≡ connection.old.peer.header }

@@ -48,7 +48,8 @@ fn write_waiting<L: Log, S: Write>(
     stream: &mut S,
 ) -> Went
     // Only a front of what waits is written, and what is written waits no more.
-    ensures front { WritesFront (S.contents stream.old) (S.contents stream.new) connection.old.waiting result }
+    ensures front { WritesFront
+        (S.contents stream.old) (S.contents stream.new) connection.old.waiting result }
     ensures waits { connection.new.waiting ≡ drop (taken_by result) connection.old.waiting }
     ensures peer { connection.new.peer ≡ connection.old.peer }
     // Nothing is written unless every order is kept.
@@ -74,7 +75,8 @@ fn write_guarded<L: Log, S: Write>(
     stream: &mut S,
 ) -> Went
     // Only a front of what waits is written, and what is written waits no more.
-    ensures front { WritesFront (S.contents stream.old) (S.contents stream.new) peer.old.waiting result }
+    ensures front { WritesFront
+        (S.contents stream.old) (S.contents stream.new) peer.old.waiting result }
     ensures waits { peer.new.waiting ≡ drop (taken_by result) peer.old.waiting }
     ensures held { peer.new.held ≡ peer.old.held }
     ensures guard { peer.new.guard ≡ peer.old.guard }

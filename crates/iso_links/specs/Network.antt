@@ -26,7 +26,8 @@ is_first n number = nat_le n (width_of number) && (last_bits n number == 0)
 
 -- the network whose addresses begin with the first n bits of this one
 abbrev pub network_of : IpAddr → ℕ → Option Network
-network_of address n = if is_first n (number_of address) then Some (record { first = number_of address; size = n }) else None
+network_of address n = if is_first n (number_of address)
+    then Some (record { first = number_of address; size = n }) else None
 
 -- a digit from 1 to 9
 abbrev pub leads : ℕ → Bool
@@ -41,7 +42,8 @@ abbrev pub size_of : List ℕ → Option ℕ
 size_of [] = None
 size_of (a ∷ []) = only_if (is_digit a) (a - 48)
 size_of (a ∷ b ∷ []) = only_if (leads a && is_digit b) (10 * (a - 48) + (b - 48))
-size_of (a ∷ b ∷ c ∷ []) = only_if (a == 49 && is_digit b && is_digit c) (100 + 10 * (b - 48) + (c - 48))
+size_of (a ∷ b ∷ c ∷ []) =
+    only_if (a == 49 && is_digit b && is_digit c) (100 + 10 * (b - 48) + (c - 48))
 size_of (a ∷ b ∷ c ∷ d ∷ ds) = None
 
 -- the slash
@@ -50,14 +52,17 @@ is_slash b = b == 47
 
 -- two texts write an address and how many of its bits the network's addresses begin with
 abbrev pub WrittenByTwo : List ℕ → List ℕ → Network → Type 0
-WrittenByTwo front back n = (a : IpAddr) × (size : ℕ) × IsIpText front a × (size_of back ≡ Some size) × (network_of a size ≡ Some n)
+WrittenByTwo front back n = (a : IpAddr) × (size : ℕ) × IsIpText front a
+    × (size_of back ≡ Some size) × (network_of a size ≡ Some n)
 
 -- a text writes the one address of the network
 abbrev pub WrittenByOne : List ℕ → Network → Type 0
-WrittenByOne text n = (a : IpAddr) × IsIpText text a × (network_of a (width_of (number_of a)) ≡ Some n)
+WrittenByOne text n = (a : IpAddr) × IsIpText text a
+    × (network_of a (width_of (number_of a)) ≡ Some n)
 
 -- a text writes the network: as an address, a slash and a size, or as an address without a slash
 abbrev pub IsNetworkText : List ℕ → Network → Type 0
 IsNetworkText text n =
-    ((position_or_len is_slash text < length text) × WrittenByTwo (before_first is_slash text) (after_first is_slash text) n)
+    ((position_or_len is_slash text < length text)
+    × WrittenByTwo (before_first is_slash text) (after_first is_slash text) n)
     ⊎ ((position_or_len is_slash text ≡ length text) × WrittenByOne text n)

@@ -9,7 +9,8 @@ use Rattle.iso_links.specs.declared.number.Number.TheVariants.{Four, Six}
 -- the number of an address: ::ffff:a.b.c.d counts as a.b.c.d
 abbrev pub number_of : IpAddr → Number
 number_of (V4 a) = Four (ipv4_bits a)
-number_of (V6 a) = if ipv6_bits a / 2 ^ 32 == 65535 then Four (ipv6_bits a % 2 ^ 32) else Six (ipv6_bits a)
+number_of (V6 a) =
+    if ipv6_bits a / 2 ^ 32 == 65535 then Four (ipv6_bits a % 2 ^ 32) else Six (ipv6_bits a)
 
 -- how many bits it has
 abbrev pub width_of : Number → ℕ

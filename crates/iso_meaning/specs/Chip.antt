@@ -27,7 +27,8 @@ tag_of (a ∷ bs) = if is_long a then long_tag a bs else Some (a, 1)
 abbrev pub long_length : ℕ → List ℕ → Option (ℕ × ℕ)
 long_length a [] = None
 long_length a (b ∷ []) = if a == 129 then Some (b, 2) else None
-long_length a (b ∷ c ∷ bs) = if a == 129 then Some (b, 2) else if a == 130 then Some (256 * b + c, 3) else None
+long_length a (b ∷ c ∷ bs) =
+    if a == 129 then Some (b, 2) else if a == 130 then Some (256 * b + c, 3) else None
 
 -- the length at the front, and how many bytes tell it: itself below 128, or one or two bytes behind 81 or 82
 abbrev pub length_of : List ℕ → Option (ℕ × ℕ)
@@ -41,7 +42,8 @@ next p = if p.is_template then p.value else p.end
 -- the objects follow one another in these bytes from one place to another, each behind what comes before it
 abbrev pub Follow : ℕ → ℕ → ℕ → List Item → Type 0
 Follow size from to [] = from ≡ to
-Follow size from to (p ∷ ps) = (p.start ≡ from) × (from < p.value) × (p.value ≤ p.end) × (p.end ≤ size) × Follow size (next p) to ps
+Follow size from to (p ∷ ps) = (p.start ≡ from) × (from < p.value) × (p.value ≤ p.end)
+    × (p.end ≤ size) × Follow size (next p) to ps
 
 -- the objects of bytes, from the first byte to the last one
 abbrev pub AreItemsOf : List ℕ → List Item → Type 0
@@ -53,4 +55,5 @@ stars_for bytes = replicate (length bytes) 42 ++ replicate (length bytes) 42
 
 -- a value as hexadecimal digits: in clear, or with stars in their place where a bystander shouldn't read it
 abbrev pub chip_text : Bool → ℕ → List ℕ → List ℕ
-chip_text is_clear tag value = if is_clear || is_shown tag then encode_upper value else stars_for value
+chip_text is_clear tag value =
+    if is_clear || is_shown tag then encode_upper value else stars_for value

@@ -8,7 +8,8 @@ abbrev pub three_digits : List ℕ → Option ℕ
 three_digits [] = None
 three_digits (a ∷ []) = None
 three_digits (a ∷ b ∷ []) = None
-three_digits (a ∷ b ∷ c ∷ []) = if is_digit a && is_digit b && is_digit c then Some (100 * (a - 48) + 10 * (b - 48) + (c - 48)) else None
+three_digits (a ∷ b ∷ c ∷ []) = if is_digit a && is_digit b && is_digit c
+    then Some (100 * (a - 48) + 10 * (b - 48) + (c - 48)) else None
 three_digits (a ∷ b ∷ c ∷ d ∷ ds) = None
 
 -- three digits and nothing else

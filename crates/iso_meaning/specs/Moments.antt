@@ -26,7 +26,8 @@ is_day year month day = nat_le 1 day && nat_le day (month_days (leaps year) mont
 abbrev pub date_by : Option ℕ → Option ℕ → Option ℕ → Option Date
 date_by year None day = None
 date_by year (Some m) None = None
-date_by year (Some m) (Some d) = if is_day year m d then Some (record { year = year; month = m; day = d }) else None
+date_by year (Some m) (Some d) =
+    if is_day year m d then Some (record { year = year; month = m; day = d }) else None
 
 -- the date that four digits, month and day, tell behind a year
 abbrev pub date_of : Option ℕ → List ℕ → Option Date
@@ -37,11 +38,13 @@ abbrev pub time_by : Option ℕ → Option ℕ → Option ℕ → Option Time
 time_by None minute second = None
 time_by (Some h) None second = None
 time_by (Some h) (Some m) None = None
-time_by (Some h) (Some m) (Some s) = if nat_le h 23 && nat_le m 59 && nat_le s 59 then Some (record { hour = h; minute = m; second = s }) else None
+time_by (Some h) (Some m) (Some s) = if nat_le h 23 && nat_le m 59 && nat_le s 59
+    then Some (record { hour = h; minute = m; second = s }) else None
 
 -- the time that six digits, hour, minute and second, tell
 abbrev pub time_of : List ℕ → Option Time
-time_of text = time_by (two_digits (take 2 text)) (two_digits (take 2 (drop 2 text))) (two_digits (drop 4 text))
+time_of text = time_by (two_digits (take 2 text)) (two_digits (take 2 (drop 2 text)))
+    (two_digits (drop 4 text))
 
 -- a date and a time
 abbrev pub both : Option Date → Option Time → Option Moment

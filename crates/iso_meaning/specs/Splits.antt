@@ -24,4 +24,5 @@ are_amounts size = nat_le 20 size && nat_le size 120 && size % 20 == 0
 -- whether a value of this element and size is made of parts: processing code (3), additional amounts (54), original
 -- data elements (90), replacement amounts (95)
 abbrev pub has_parts : ℕ → ℕ → Bool
-has_parts n size = (n == 3 && size == 6) || (n == 54 && are_amounts size) || ((n == 90 || n == 95) && size == 42)
+has_parts n size =
+    (n == 3 && size == 6) || (n == 54 && are_amounts size) || ((n == 90 || n == 95) && size == 42)

@@ -4,15 +4,21 @@ use Rattle.iso_meaning.specs.Codes.{is_from}
 
 -- the tags of one byte that have a name
 abbrev pub is_short : ℕ → Bool
-is_short n = n == 66 || is_from 79 80 n || is_from 86 87 n || n == 90 || n == 97 || is_from 111 115 n || n == 119 || is_from 128 132 n || is_from 134 138 n || is_from 140 149 n || is_from 151 157 n || n == 165
+is_short n =
+    n == 66 || is_from 79 80 n || is_from 86 87 n || n == 90 || n == 97 || is_from 111 115 n || n
+    == 119 || is_from 128 132 n || is_from 134 138 n || is_from 140 149 n || is_from 151 157 n || n
+    == 165
 
 -- the second bytes of the tags that begin with 5F and have a name
 abbrev pub is_behind_5f : ℕ → Bool
-is_behind_5f n = n == 32 || is_from 36 37 n || n == 40 || n == 42 || n == 45 || n == 48 || n == 52 || n == 54 || n == 80 || is_from 83 86 n
+is_behind_5f n = n == 32 || is_from 36 37 n || n == 40 || n == 42 || n == 45 || n == 48 || n
+    == 52 || n == 54 || n == 80 || is_from 83 86 n
 
 -- the second bytes of the tags that begin with 9F and have a name
 abbrev pub is_behind_9f : ℕ → Bool
-is_behind_9f n = is_from 1 9 n || n == 11 || is_from 13 24 n || is_from 26 33 n || n == 35 || is_from 38 39 n || is_from 51 58 n || n == 60 || is_from 64 66 n || is_from 68 79 n || n == 107
+is_behind_9f n = is_from 1 9 n || n == 11 || is_from 13 24 n || is_from 26 33 n || n
+    == 35 || is_from 38 39 n || is_from 51 58 n || n
+    == 60 || is_from 64 66 n || is_from 68 79 n || n == 107
 
 -- whether a tag has a name: of one byte, of two that begin with 5F or 9F, or BF0C
 abbrev pub has_name : ℕ → Bool

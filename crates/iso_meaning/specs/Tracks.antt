@@ -21,7 +21,8 @@ separator_at (b ∷ bs) = if separates b then Some 0 else option_map (λ n. n + 
 abbrev pub masked_account : List ℕ → List ℕ
 masked_account account =
     take (shown_front 2 (length account)) account
-    ++ (replicate (length account - shown_front 2 (length account) - shown_end 2 (length account)) 42
+    ++ (replicate (length account - shown_front 2 (length account) - shown_end 2 (length account))
+    42
     ++ drop (length account - shown_end 2 (length account)) account)
 
 -- the separator, and all behind it in stars

@@ -91,7 +91,8 @@ pub fn push_moment(value: &[u8], out: &mut Vec<u8>) -> Result<bool, AllocError>
     // Memory aside, it answers true exactly where the value tells a moment.
     ensures known { IfOk result (λ known. known ≡ is_some (moment_of value.now)) }
     // Memory aside, it appends the text of the value's moment, and nothing where it tells none.
-    ensures text { OnOk result (out.new.items ≡ out.old.items ++ text_if moment_text (moment_of value.now)) }
+    ensures text { OnOk result
+        (out.new.items ≡ out.old.items ++ text_if moment_text (moment_of value.now)) }
     // Where memory runs out, the buffer holds the bytes that it held before.
     ensures unchanged { OnErr result (out.new.items ≡ out.old.items) }
 {

@@ -58,7 +58,8 @@ pub fn track2(value: &[u8]) -> Option<Track>
     // There are parts exactly where the value has a separator, `=` or `D`.
     ensures split { is_some result ≡ is_some (separator_at value.now) }
     // The separator is the first one that the value has.
-    ensures separator { IfSome result (λ track. Some track.separator.start ≡ separator_at value.now) }
+    ensures separator { IfSome result
+        (λ track. Some track.separator.start ≡ separator_at value.now) }
     // The parts lie side by side, from the first byte to the last one; some may be empty.
     ensures parts { IfSome result (λ track. AreOrdered 0 (length value.now) (track_parts track)) }
 {

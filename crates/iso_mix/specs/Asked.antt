@@ -100,8 +100,10 @@ with_code code a = record { order = a.order; code = Some code }
 
 -- the first order of a place got its answer, or its follower did
 abbrev pub answered : Bool → ℕ → Side → Side
-answered true code s = record { place = s.place; first = s.first; follower = option_map (with_code code) s.follower }
-answered false code s = record { place = s.place; first = with_code code s.first; follower = s.follower }
+answered true code s =
+    record { place = s.place; first = s.first; follower = option_map (with_code code) s.follower }
+answered false code s =
+    record { place = s.place; first = with_code code s.first; follower = s.follower }
 
 -- the order of that trace number got its first answer
 abbrev pub sides_answered : ℕ → ℕ → List Side → List Side

@@ -17,7 +17,8 @@ pub record Opens (kind : Kind) (d : Draft) (old new : List Side) (o : Instructio
   pub added : new ≡ old ++ opened d.place o ∷ []
 
 -- the order follows the hold at that place, which was granted and which nothing followed
-pub record Follows (kind : Kind) (d : Draft) (sides : List Side) (place : ℕ) (o : Instruction) : Type 0 where
+pub record Follows (kind : Kind) (d : Draft) (sides : List Side) (place : ℕ)
+    (o : Instruction) : Type 0 where
   pub hold : Side
   pub there : slice_get sides place ≡ Some hold
   pub free : is_free hold ≡ true

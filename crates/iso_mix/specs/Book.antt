@@ -13,7 +13,8 @@ use Rattle.iso_mix.specs.Asked.{asked_at, is_open_at, order_in, sides_answered}
 
 -- each order lies under its own trace number, and no other does
 abbrev pub HaveOwnNumbers : List Side → Type 0
-HaveOwnNumbers sides = (stan : ℕ) (a : Asked) → asked_at sides stan ≡ Some a → a.order.key.stan ≡ stan
+HaveOwnNumbers sides = (stan : ℕ) (a : Asked) → asked_at sides stan ≡ Some a
+    → a.order.key.stan ≡ stan
 
 -- each order without an answer waits once, and nothing else does
 abbrev pub AreAwaited : List Due → List Side → Type 0

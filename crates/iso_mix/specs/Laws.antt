@@ -21,7 +21,8 @@ pub record SharesAreKept : Type 0 where
   pub completions : (m : Mix) → is_fair m ≡ true → draws m is_completion_kind ≡ m.complete
   pub inquiries : (m : Mix) → is_fair m ≡ true → draws m is_inquiry_kind ≡ m.inquiry
   pub undone : (m : Mix) → is_fair m ≡ true → draws m is_undo_kind ≡ m.undo
-  pub purchases : (m : Mix) → is_fair m ≡ true → draws m is_purchase_kind + (m.hold + m.complete + m.inquiry + m.undo) ≡ 100
+  pub purchases : (m : Mix) → is_fair m ≡ true
+      → draws m is_purchase_kind + (m.hold + m.complete + m.inquiry + m.undo) ≡ 100
 
 -- a completion takes from 1 to the whole that is held, and a partial reversal leaves from 1 to less than that
 pub record PartsAreFair : Type 0 where

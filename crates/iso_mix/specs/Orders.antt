@@ -11,7 +11,8 @@ use Rattle.iso_mix.specs.declared.mix.Kind.TheVariants.{Purchase, Hold, Complete
 
 -- the order, where a message can carry it
 abbrev pub valid_order : TxKey → Act → Option Instruction
-valid_order key a = if is_valid (record { key = key; act = a }) then Some (record { key = key; act = a }) else None
+valid_order key a =
+    if is_valid (record { key = key; act = a }) then Some (record { key = key; act = a }) else None
 
 -- ---- a hold or an inquiry
 
@@ -59,7 +60,9 @@ left_of held share = share % (held - 1) + 1
 abbrev pub completion : Money → TxKey → ℕ → Option Act
 completion held hold share =
     if held.amount == 0 then None
-    else Some (act.Complete (record { pan = held.pan; amount = completed held.amount share; currency = held.currency }) hold)
+    else Some (act.Complete
+    (record { pan = held.pan; amount = completed held.amount share; currency = held.currency })
+    hold)
 
 -- a reversal that leaves a part of a hold, where it can be parted
 abbrev pub undoing : Money → TxKey → ℕ → Option Act
@@ -101,9 +104,11 @@ follower_stan place highest =
 
 -- the key of the order that follows the hold: that of an advice
 abbrev pub follower_key : Kind → Draft → ℕ → TxKey
-follower_key kind d stan = record { base = follower_base kind; stan = stan; sent = d.sent; acquirer = d.acquirer }
+follower_key kind d stan =
+    record { base = follower_base kind; stan = stan; sent = d.sent; acquirer = d.acquirer }
 
 -- the order follows that hold, under that trace number
-pub record IsFollower (kind : Kind) (d : Draft) (hold : Instruction) (stan : ℕ) (o : Instruction) : Type 0 where
+pub record IsFollower (kind : Kind) (d : Draft) (hold : Instruction) (stan : ℕ)
+    (o : Instruction) : Type 0 where
   pub key : o.key ≡ follower_key kind d stan
   pub asks : follower_act kind hold d.share ≡ Some o.act

@@ -267,7 +267,8 @@ impl Sides {
     /// From this one on upwards trace numbers are taken, or kept for what follows a hold. Takes no memory.
     pub fn lowest(&self) -> u32
         // No order has a lower trace number.
-        ensures { (stan : ℕ) (a : Asked) → asked_at (sides_in self.now) stan ≡ Some a → result ≤ stan }
+        ensures { (stan : ℕ) (a : Asked) → asked_at (sides_in self.now) stan ≡ Some a
+            → result ≤ stan }
     {
         ABOVE - self.made.len().saturating_mul(2).min(ABOVE as usize) as u32
     }

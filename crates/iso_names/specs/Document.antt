@@ -52,7 +52,8 @@ abbrev pub number_of : List ℕ → Option ℕ
 number_of [] = None
 number_of (a ∷ []) = only_if (leads a) (a - 48)
 number_of (a ∷ b ∷ []) = only_if (leads a && is_digit b) (10 * (a - 48) + (b - 48))
-number_of (a ∷ b ∷ c ∷ []) = only_if (a == 49 && is_digit b && is_digit c) (100 + 10 * (b - 48) + (c - 48))
+number_of (a ∷ b ∷ c ∷ []) =
+    only_if (a == 49 && is_digit b && is_digit c) (100 + 10 * (b - 48) + (c - 48))
 number_of (a ∷ b ∷ c ∷ d ∷ ds) = None
 
 -- the element that a key names: its number in decimal
@@ -66,7 +67,8 @@ has_control text = list_any is_control (chars text)
 -- the own name of an element that is a text, if it is one without control characters
 abbrev pub named_by : ℕ → Option (List ℕ) → Result Own Wrong
 named_by n None = Err (no_text n)
-named_by n (Some text) = if has_control text then Err (control_character n) else Ok (record { element = n; name = text })
+named_by n (Some text) =
+    if has_control text then Err (control_character n) else Ok (record { element = n; name = text })
 
 -- the own name of an element that a JSON value is
 abbrev pub named : ℕ → Data → Result Own Wrong
@@ -119,7 +121,8 @@ IsNotJson text = IsUtf8 text → read text ≡ None
 
 -- the names are those of the text, laid over the version's
 abbrev pub IsNamesOf : ℕ → List ℕ → Laid → Type 0
-IsNamesOf version text n = (d : Data) × StandsFor text d × (own_names d ≡ Ok n.own) × (n.version ≡ version)
+IsNamesOf version text n = (d : Data) × StandsFor text d × (own_names d ≡ Ok n.own)
+    × (n.version ≡ version)
 
 -- the text is JSON, and this is the first thing wrong with it
 abbrev pub IsWrong : List ℕ → Wrong → Type 0

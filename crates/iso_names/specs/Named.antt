@@ -4,7 +4,8 @@ use Rattle.iso_parts.specs.Numbers.{is_element}
 
 -- the elements whose layout in ISO 8583:2003 isn't known: 50, 51, 74 to 90 and 105 to 110
 abbrev pub is_unknown03 : ℕ → Bool
-is_unknown03 n = n == 50 || n == 51 || (nat_le 74 n && nat_le n 90) || (nat_le 105 n && nat_le n 110)
+is_unknown03 n =
+    n == 50 || n == 51 || (nat_le 74 n && nat_le n 90) || (nat_le 105 n && nat_le n 110)
 
 -- whether ISO 8583:2003 names the element here
 abbrev pub has_name03 : ℕ → Bool

@@ -69,7 +69,8 @@ impl Names {
         ensures own { (text : List ℕ) → own_name self.now.own element ≡ Some text
             → option_map (λ name. name.now) result ≡ Some text }
         // An element that the network doesn't name has a name exactly where the edition names it.
-        ensures edition { own_name self.now.own element ≡ None → is_some result ≡ has_name self.now.version element }
+        ensures edition { own_name self.now.own element ≡ None
+            → is_some result ≡ has_name self.now.version element }
     {
         match own_name(&self.own, element) {
             Some(own) => Some(own),

@@ -51,7 +51,8 @@ fn has_control(text: &str) -> bool
 /// The own name of an element that a JSON value is.
 fn named(alloc: Global, element: u8, value: &Value) -> Result<OwnName, NamesFault>
     ensures ok { IfOk result (λ own. named element (view value.now) ≡ Ok (own_view own)) }
-    ensures wrong { IfErr result (λ e. IfSome (wrong_of e) (λ wrong. named element (view value.now) ≡ Err wrong)) }
+    ensures wrong { IfErr result
+        (λ e. IfSome (wrong_of e) (λ wrong. named element (view value.now) ≡ Err wrong)) }
     ensures json { IfErr result (λ e. is_of_text e ≡ false) }
 {
     let Some(text) = value.as_str() else {
@@ -69,7 +70,8 @@ fn named(alloc: Global, element: u8, value: &Value) -> Result<OwnName, NamesFaul
 /// The own name that a member is.
 fn own_in(alloc: Global, key: &str, value: &Value) -> Result<OwnName, NamesFault>
     ensures ok { IfOk result (λ own. own_in key.now (view value.now) ≡ Ok (own_view own)) }
-    ensures wrong { IfErr result (λ e. IfSome (wrong_of e) (λ wrong. own_in key.now (view value.now) ≡ Err wrong)) }
+    ensures wrong { IfErr result
+        (λ e. IfSome (wrong_of e) (λ wrong. own_in key.now (view value.now) ≡ Err wrong)) }
     ensures json { IfErr result (λ e. is_of_text e ≡ false) }
 {
     match element_of(key.as_bytes()) {
@@ -80,8 +82,10 @@ fn own_in(alloc: Global, key: &str, value: &Value) -> Result<OwnName, NamesFault
 
 /// The own names that members are.
 fn owns_in(alloc: Global, members: &Map<String, Value>) -> Result<Vec<OwnName>, NamesFault>
-    ensures ok { IfOk result (λ own. owns_in (members_view members.now.entries) ≡ Ok (map own_view own.items)) }
-    ensures wrong { IfErr result (λ e. IfSome (wrong_of e) (λ wrong. owns_in (members_view members.now.entries) ≡ Err wrong)) }
+    ensures ok { IfOk result
+        (λ own. owns_in (members_view members.now.entries) ≡ Ok (map own_view own.items)) }
+    ensures wrong { IfErr result (λ e.
+        IfSome (wrong_of e) (λ wrong. owns_in (members_view members.now.entries) ≡ Err wrong)) }
     ensures json { IfErr result (λ e. is_of_text e ≡ false) }
 {
     let mut own = Vec::new(alloc);
@@ -96,7 +100,8 @@ pub fn own_names(alloc: Global, value: &Value) -> Result<Vec<OwnName>, NamesFaul
     // At `Ok` the names are those that the value says, each of an element by its number.
     ensures ok { IfOk result (λ own. own_names (view value.now) ≡ Ok (map own_view own.items)) }
     // Memory aside, a fault is the first thing that is wrong with the value.
-    ensures wrong { IfErr result (λ e. IfSome (wrong_of e) (λ wrong. own_names (view value.now) ≡ Err wrong)) }
+    ensures wrong { IfErr result
+        (λ e. IfSome (wrong_of e) (λ wrong. own_names (view value.now) ≡ Err wrong)) }
     // No fault says that a text is no JSON.
     ensures json { IfErr result (λ e. is_of_text e ≡ false) }
 {

@@ -45,11 +45,20 @@ has_key m = are_digits 10 10 (text m 7) && are_digits 6 6 (text m 11) && are_dig
 
 -- the key of its transaction
 abbrev pub key_of : Contents → TxKey
-key_of m = record { base = base_of m.mti; stan = number (text m 11); sent = number (text m 7); acquirer = number (text m 32) }
+key_of m = record {
+  base = base_of m.mti;
+  stan = number (text m 11);
+  sent = number (text m 7);
+  acquirer = number (text m 32);
+}
 
 -- the money that it speaks of, but for the amount (elements 2, 49)
 abbrev pub message_money : Contents → ℕ → Money
-message_money m amount = record { pan = record { digits = number (text m 2); len = length (text m 2) }; amount = amount; currency = text m 49 }
+message_money m amount = record {
+  pan = record { digits = number (text m 2); len = length (text m 2) };
+  amount = amount;
+  currency = text m 49;
+}
 
 -- ---- the transaction that a reversal names (element 90, original data elements)
 
@@ -71,7 +80,8 @@ original_acquirer m = number_from 20 11 (text m 90)
 
 -- a request or an advice of class 1 or 2, or a repeat of one
 abbrev pub is_original : ℕ → Bool
-is_original mti = mti / 1000 == 0 && (mti / 100 % 10 == 1 || mti / 100 % 10 == 2) && is_answered (mti / 10 % 10) && nat_le (mti % 10) 5
+is_original mti = mti / 1000 == 0 && (mti / 100 % 10 == 1 || mti / 100 % 10 == 2)
+    && is_answered (mti / 10 % 10) && nat_le (mti % 10) 5
 
 -- no acquirer, or the message's own
 abbrev pub is_own : Contents → Bool
@@ -79,7 +89,12 @@ is_own m = original_acquirer m == 0 || original_acquirer m == number (text m 32)
 
 -- its key, under the message's own acquirer
 abbrev pub original_of : Contents → TxKey
-original_of m = record { base = base_of (original_mti m); stan = original_stan m; sent = original_sent m; acquirer = number (text m 32) }
+original_of m = record {
+  base = base_of (original_mti m);
+  stan = original_stan m;
+  sent = original_sent m;
+  acquirer = number (text m 32);
+}
 
 -- ---- the hold that an advice of class 2 completes (element 90)
 
@@ -99,7 +114,8 @@ hold_of m = if is_completion m then Some (original_of m) else None
 
 -- nothing, or 42 bytes of which the first twelve are digits
 abbrev pub is_replacement : Contents → Bool
-is_replacement m = not (has m.elements 95) || (length (text m 95) == 42 && are_digits 12 12 (take 12 (text m 95)))
+is_replacement m =
+    not (has m.elements 95) || (length (text m 95) == 42 && are_digits 12 12 (take 12 (text m 95)))
 
 -- the number of those twelve digits, 0 without them
 abbrev pub left_of : Contents → ℕ

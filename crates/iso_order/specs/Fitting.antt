@@ -13,7 +13,8 @@ use Rattle.iso_order.specs.Response.{response, is_showable}
 
 -- a response to a request or an advice is well formed
 abbrev pub ResponsesAreWellFormed : Type 0
-ResponsesAreWellFormed = (m : Contents) (a : Outcome) → WellFormed m → is_answered (function m) ≡ true → WellFormed (response m a)
+ResponsesAreWellFormed = (m : Contents) (a : Outcome) → WellFormed m
+    → is_answered (function m) ≡ true → WellFormed (response m a)
 
 -- the message was read under a table that is ready for a host, and what is shown can be shown
 pub record IsAskedUnder (t : Layout) (m : Contents) (a : Outcome) : Type 0 where
@@ -24,8 +25,10 @@ pub record IsAskedUnder (t : Layout) (m : Contents) (a : Outcome) : Type 0 where
 
 -- the table refuses no response to a request or an advice
 abbrev pub ResponsesFit : Type 0
-ResponsesFit = (t : Layout) (m : Contents) (a : Outcome) → IsAskedUnder t m a → is_answered (function m) ≡ true → message_refusal t (response m a) ≡ None
+ResponsesFit = (t : Layout) (m : Contents) (a : Outcome) → IsAskedUnder t m a
+    → is_answered (function m) ≡ true → message_refusal t (response m a) ≡ None
 
 -- a response that is written has at most 9,999 bytes: four digits tell its length
 abbrev pub ResponsesAreShort : Type 0
-ResponsesAreShort = (t : Layout) (m : Contents) (a : Outcome) (out : List ℕ) → IsAskedUnder t m a → PlainSpelling t (response m a) out → length out ≤ 9999
+ResponsesAreShort = (t : Layout) (m : Contents) (a : Outcome) (out : List ℕ) → IsAskedUnder t m a
+    → PlainSpelling t (response m a) out → length out ≤ 9999

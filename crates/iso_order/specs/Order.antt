@@ -53,9 +53,11 @@ is_hold_for key hold = is_valid_key hold && class_digit hold == 1 && hold.acquir
 abbrev pub is_valid_act : TxKey → Act → Bool
 is_valid_act key (Debit m) = is_payment key && has_amount m
 is_valid_act key (Credit m) = class_digit key == 2 && has_amount m
-is_valid_act key (Inquiry m) = is_payment key && function_digit key == 0 && m.amount == 0 && is_account m
+is_valid_act key (Inquiry m) =
+    is_payment key && function_digit key == 0 && m.amount == 0 && is_account m
 is_valid_act key (Undo original left) =
-    class_digit key == 4 && is_valid_key original && is_payment original && original.acquirer == key.acquirer
+    class_digit key == 4 && is_valid_key original && is_payment original && original.acquirer
+    == key.acquirer
     && nat_le left most_amount
 is_valid_act key (Complete m hold) =
     class_digit key == 2 && function_digit key == 2 && has_amount m && is_hold_for key hold

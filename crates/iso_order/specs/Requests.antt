@@ -68,7 +68,8 @@ account_number m = decimal m.pan.len m.pan.digits
 
 -- type, trace number, time, acquirer, and no forwarding institution (element 90, original data elements)
 abbrev pub original_data : TxKey → List ℕ
-original_data k = decimal 4 k.base ++ decimal 6 k.stan ++ decimal 10 k.sent ++ decimal 11 k.acquirer ++ decimal 11 0
+original_data k = decimal 4 k.base ++ decimal 6 k.stan ++ decimal 10 k.sent ++ decimal 11 k.acquirer
+    ++ decimal 11 0
 
 -- no fee: a debit of eight zeros
 abbrev pub no_fee : List ℕ

@@ -22,7 +22,8 @@ response_mti mti = base_of mti + 10
 -- the elements that are given back
 abbrev pub is_echoed : ℕ → Bool
 is_echoed n =
-    n == 2 || n == 3 || n == 4 || n == 7 || n == 11 || n == 12 || n == 13 || n == 32 || n == 33 || n == 37
+    n == 2 || n == 3 || n == 4 || n == 7 || n == 11 || n == 12 || n == 13 || n == 32 || n == 33 || n
+    == 37
     || n == 41 || n == 42 || n == 49 || n == 70 || n == 90
 
 -- a payment is granted, and has a place in the journal

@@ -14,7 +14,8 @@ use Rattle.iso_order.specs.Verdict.{verdict}
 -- a response of version 0, class 1, 2 or 4 and origin 0 to 5 (ISO 8583:1987, message type identifier)
 abbrev pub is_answer : Contents → Bool
 is_answer m =
-    version m == 0 && (class m == 1 || class m == 2 || class m == 4) && (function m == 1 || function m == 3)
+    version m
+    == 0 && (class m == 1 || class m == 2 || class m == 4) && (function m == 1 || function m == 3)
     && nat_le (origin m) 5
 
 -- the type of the request or advice that it answers, without a repeat: the function before its own

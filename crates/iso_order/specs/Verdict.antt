@@ -99,7 +99,8 @@ credit_verdict m = order_verdict m (Credit (message_money m (number (text m 4)))
 -- the whole table
 unfoldable pub verdict : Contents → Verdict
 verdict m =
-    first_of (answered_lines m ++ network_lines m ++ key_lines m ++ reversal_lines m ++ completion_lines m ++ account_lines m ++ act_lines m ++ amount_lines m) (credit_verdict m)
+    first_of (answered_lines m ++ network_lines m ++ key_lines m ++ reversal_lines m
+    ++ completion_lines m ++ account_lines m ++ act_lines m ++ amount_lines m) (credit_verdict m)
 
 -- ---- what an order of a verdict keeps
 

@@ -77,7 +77,8 @@ pub(crate) fn base_of(mti: Mti) -> u16
 
 /// The key under that type of message, where the elements are there.
 pub(crate) fn key_under(message: &Message, base: u16) -> Option<TxKey>
-    ensures value { result ≡ (if has_key message.now then Some (record (key_of message.now) { base = base }) else None) }
+    ensures value { result ≡ (if has_key message.now
+        then Some (record (key_of message.now) { base = base }) else None) }
     ensures stan { IfSome result (λ k. k.stan ≤ 999999) }
     ensures sent { IfSome result (λ k. k.sent ≤ 9999999999) }
     ensures acquirer { IfSome result (λ k. k.acquirer ≤ 99999999999) }

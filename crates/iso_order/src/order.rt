@@ -44,7 +44,8 @@ impl Order {
 
     /// The order, which is valid.
     pub(crate) fn valid(key: TxKey, act: Act) -> Order
-        requires { let order : Instruction = record { key = key; act = act } in IsTrue (is_valid order) }
+        requires { let order : Instruction = record { key = key; act = act } in
+            IsTrue (is_valid order) }
         ensures { result ≡ record { key = key; act = act } }
     {
         Order { key, act }

@@ -106,7 +106,8 @@ fn add_some(n: u8, v: Option<u64>, digits: usize, request: &mut Message) -> Resu
 fn add_account(act: &Act, request: &mut Message) -> Result<(), AllocError>
     requires { IsBelow 2 request.old.elements }
     ensures { OnOk result (request.new ≡ record request.old {
-      elements = request.old.elements ++ element_where 2 (option_map account_number (money_of act.now));
+      elements = request.old.elements
+          ++ element_where 2 (option_map account_number (money_of act.now));
     }) }
 {
     match act.money() {
@@ -131,7 +132,8 @@ fn add_acquirer(key: &TxKey, request: &mut Message) -> Result<(), AllocError>
 fn add_currency(act: &Act, request: &mut Message) -> Result<(), AllocError>
     requires { IsBelow 49 request.old.elements }
     ensures { OnOk result (request.new ≡ record request.old {
-      elements = request.old.elements ++ element_where 49 (option_map (λ m. m.currency) (money_of act.now));
+      elements = request.old.elements
+          ++ element_where 49 (option_map (λ m. m.currency) (money_of act.now));
     }) }
 {
     match act.money() {
@@ -156,7 +158,8 @@ fn original_data(key: &TxKey) -> [u8; 42]
 fn add_original(act: &Act, request: &mut Message) -> Result<(), AllocError>
     requires { IsBelow 90 request.old.elements }
     ensures { OnOk result (request.new ≡ record request.old {
-      elements = request.old.elements ++ element_where 90 (option_map original_data (named_by act.now));
+      elements = request.old.elements
+          ++ element_where 90 (option_map original_data (named_by act.now));
     }) }
 {
     match named_by(act) {
@@ -178,7 +181,8 @@ fn replacement_amounts(left: u64) -> [u8; 42]
 fn add_replacement(act: &Act, request: &mut Message) -> Result<(), AllocError>
     requires { IsBelow 95 request.old.elements }
     ensures { OnOk result (request.new ≡ record request.old {
-      elements = request.old.elements ++ element_where 95 (option_map replacement_amounts (partial_left act.now));
+      elements = request.old.elements
+          ++ element_where 95 (option_map replacement_amounts (partial_left act.now));
     }) }
 {
     match partial_left(act) {

@@ -46,7 +46,8 @@ fn network_verdict(message: &Message) -> Verdict
 
 /// What a reversal leaves: nothing, or the first of the replacement amounts.
 fn left_of(message: &Message) -> Option<u64>
-    ensures value { result ≡ (if is_replacement message.now then Some (left_of message.now) else None) }
+    ensures value { result
+        ≡ (if is_replacement message.now then Some (left_of message.now) else None) }
     ensures small { IfSome result (λ left. left ≤ most_amount) }
 {
     if !has(message, 95) {
@@ -104,7 +105,8 @@ fn reversal_verdict(message: &Message, key: &TxKey) -> Verdict
 
 /// The first two digits of the processing code, where it has six.
 fn kind_of(code: &[u8]) -> Option<u64>
-    ensures value { result ≡ (if are_digits 6 6 code.now then Some (number_from 0 2 code.now) else None) }
+    ensures value { result
+        ≡ (if are_digits 6 6 code.now then Some (number_from 0 2 code.now) else None) }
 {
     if are_digits(code, 6, 6) {
         Some(number_from(code, 0, 2))
@@ -157,7 +159,8 @@ fn amount_verdict(
     requires money { money ≡ message_money message.now 0 }
     requires hold { hold ≡ hold_of message.now }
     requires own { IfSome hold (λ h. is_hold_for key.now h ≡ true) }
-    requires advice { is_some hold ≡ true → (class_digit key.now ≡ 2) × (function_digit key.now ≡ 2) }
+    requires advice { is_some hold ≡ true
+        → (class_digit key.now ≡ 2) × (function_digit key.now ≡ 2) }
     requires valid { is_valid_key key.now ≡ true }
     requires class { is_payment key.now ≡ true }
     requires credit { is_debit code ≡ false → class_digit key.now ≡ 2 }
@@ -196,14 +199,16 @@ fn act_verdict(
     requires money { money ≡ message_money message.now 0 }
     requires hold { hold ≡ hold_of message.now }
     requires own { IfSome hold (λ h. is_hold_for key.now h ≡ true) }
-    requires advice { is_some hold ≡ true → (class_digit key.now ≡ 2) × (function_digit key.now ≡ 2) }
+    requires advice { is_some hold ≡ true
+        → (class_digit key.now ≡ 2) × (function_digit key.now ≡ 2) }
     requires valid { is_valid_key key.now ≡ true }
     requires payment { is_payment key.now ≡ true }
     requires class { class_digit key.now ≡ class message.now }
     requires function { function_digit key.now ≡ function message.now }
     requires account { is_account money ≡ true }
     ensures verdict { result
-        ≡ first_of (act_lines message.now ++ amount_lines message.now) (credit_verdict message.now) }
+        ≡ first_of (act_lines message.now ++ amount_lines message.now)
+        (credit_verdict message.now) }
     ensures valid { IfOrder result (λ o. IsTrue (is_valid o)) }
     ensures key { IfOrder result (λ o. o.key ≡ key_of message.now) }
 {
@@ -290,7 +295,8 @@ fn key_verdict(message: &Message, digit: u8) -> Verdict
     requires class { digit ≡ class message.now }
     requires served { (digit ≡ 1) ⊎ (digit ≡ 2) ⊎ (digit ≡ 4) }
     ensures verdict { result ≡ first_of (key_lines message.now ++ reversal_lines message.now
-        ++ completion_lines message.now ++ account_lines message.now ++ act_lines message.now ++ amount_lines message.now) (credit_verdict message.now) }
+        ++ completion_lines message.now ++ account_lines message.now ++ act_lines message.now
+        ++ amount_lines message.now) (credit_verdict message.now) }
     ensures valid { IfOrder result (λ o. IsTrue (is_valid o)) }
     ensures key { IfOrder result (λ o. o.key ≡ key_of message.now) }
 {

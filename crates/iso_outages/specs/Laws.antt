@@ -91,7 +91,8 @@ together (place ∷ places) = Passes (Deliver place) ∷ together places
 -- these orders were sent at these places
 abbrev pub AreSentAt : List Instruction → List ℕ → List Instruction → Type 0
 AreSentAt sent [] [] = Unit {0}
-AreSentAt sent (place ∷ places) (o ∷ os) = (slice_get sent place ≡ Some o) × AreSentAt sent places os
+AreSentAt sent (place ∷ places) (o ∷ os) = (slice_get sent place ≡ Some o)
+    × AreSentAt sent places os
 AreSentAt sent [] (o ∷ os) = ⊥
 AreSentAt sent (place ∷ places) [] = ⊥
 

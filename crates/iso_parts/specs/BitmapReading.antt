@@ -40,7 +40,8 @@ pub data Maps : Type 0 where
 abbrev pub secondary_by : BitmapCoding → ℕ → Option ℕ → Maps
 secondary_by c primary None = fault (map_size c) BadHex
 secondary_by c primary (Some secondary) =
-    if nat_lt secondary top then got primary secondary (map_size c + map_size c) else fault (map_size c) ThirdBitmap
+    if nat_lt secondary top then got primary secondary (map_size c + map_size c)
+    else fault (map_size c) ThirdBitmap
 
 -- the primary bitmap, and the secondary one where its first bit says so
 abbrev pub primary_by : BitmapCoding → List ℕ → Option ℕ → Maps
@@ -52,7 +53,8 @@ primary_by c b (Some primary) =
 
 -- the bitmaps that the bytes begin with
 abbrev pub maps_at : BitmapCoding → List ℕ → Maps
-maps_at c b = if nat_lt (length b) (map_size c) then more else primary_by c b (word_in c (take (map_size c) b))
+maps_at c b = if nat_lt (length b) (map_size c) then more
+    else primary_by c b (word_in c (take (map_size c) b))
 
 -- ---- what functions answer
 
@@ -73,7 +75,8 @@ ReadsMaps (Err e) o = o ≡ fault e.at e.cause
 
 -- where a set was read, it is the one that the first bytes spell
 abbrev pub FoundMaps : BitmapCoding → List ℕ → Result BitmapStep BitmapFault → Type 0
-FoundMaps c b (Ok (steps.Got bits used)) = (used ≤ length b) × ((two : Bool) × Bitmaps c two (contains bits) (take used b))
+FoundMaps c b (Ok (steps.Got bits used)) = (used ≤ length b)
+    × ((two : Bool) × Bitmaps c two (contains bits) (take used b))
 FoundMaps c b (Ok steps.More) = Unit {0}
 FoundMaps c b (Err e) = Unit {0}
 
@@ -85,6 +88,7 @@ IfRead (Err e) P = Unit {0}
 
 -- the set was read from so many bytes
 abbrev pub IsSetRead : (ℕ → Bool) → ℕ → Result BitmapStep BitmapFault → Type 0
-IsSetRead set size (Ok (steps.Got bits used)) = (used ≡ size) × ((k : ℕ) → 2 ≤ k → k ≤ 128 → contains bits k ≡ set k)
+IsSetRead set size (Ok (steps.Got bits used)) = (used ≡ size)
+    × ((k : ℕ) → 2 ≤ k → k ≤ 128 → contains bits k ≡ set k)
 IsSetRead set size (Ok steps.More) = ⊥
 IsSetRead set size (Err e) = ⊥

@@ -6,7 +6,8 @@ use Rattle.iso_parts.specs.Class.{is_digit}
 
 -- a number below 10,000 in four digits: one ASCII digit a byte, or two BCD digits a byte
 abbrev pub four_digits_of : Digits → ℕ → List ℕ
-four_digits_of digits.Ascii n = (48 + n / 1000) ∷ (48 + n / 100 % 10) ∷ (48 + n / 10 % 10) ∷ (48 + n % 10) ∷ []
+four_digits_of digits.Ascii n =
+    (48 + n / 1000) ∷ (48 + n / 100 % 10) ∷ (48 + n / 10 % 10) ∷ (48 + n % 10) ∷ []
 four_digits_of digits.Bcd n = (16 * (n / 1000) + n / 100 % 10) ∷ (16 * (n / 10 % 10) + n % 10) ∷ []
 
 -- the number of four digits, given as characters
@@ -24,5 +25,6 @@ bcd_characters x y = (48 + x / 16) ∷ (48 + x % 16) ∷ (48 + y / 16) ∷ (48 +
 abbrev pub four_digits_in : Digits → List ℕ → Option ℕ
 four_digits_in digits.Ascii (a ∷ b ∷ c ∷ d ∷ []) = four_digits a b c d
 four_digits_in digits.Ascii other = None
-four_digits_in digits.Bcd (x ∷ y ∷ []) = four_digits (48 + x / 16) (48 + x % 16) (48 + y / 16) (48 + y % 16)
+four_digits_in digits.Bcd (x ∷ y ∷ []) =
+    four_digits (48 + x / 16) (48 + x % 16) (48 + y / 16) (48 + y % 16)
 four_digits_in digits.Bcd other = None

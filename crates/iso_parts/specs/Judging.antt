@@ -14,11 +14,13 @@ some_count (Err e) = Err e
 
 -- the count that the length at the front tells; nothing where bytes are missing
 abbrev pub count_at : FieldSpec → List ℕ → Result (Option ℕ) FieldFault
-count_at s b = if nat_lt (length b) (prefix_size s.length) then Ok None else some_count (prefix_of s (take (prefix_size s.length) b))
+count_at s b = if nat_lt (length b) (prefix_size s.length) then Ok None
+    else some_count (prefix_of s (take (prefix_size s.length) b))
 
 -- a length was judged as that count is: how many bytes it takes, which are there, and the count, at most the maximum
 abbrev pub IsFront : FieldSpec → List ℕ → Result (Option (ℕ × ℕ)) FieldFault → Type 0
-IsFront s b (Ok (Some x)) = (count_at s b ≡ Ok (Some x.1)) × (x.0 ≡ prefix_size s.length) × (x.0 ≤ length b) × (x.1 ≤ s.max)
+IsFront s b (Ok (Some x)) = (count_at s b ≡ Ok (Some x.1)) × (x.0 ≡ prefix_size s.length)
+    × (x.0 ≤ length b) × (x.1 ≤ s.max)
 IsFront s b (Ok None) = count_at s b ≡ Ok None
 IsFront s b (Err e) = (count_at s b ≡ Err e) × (e ≢ Memory)
 
@@ -35,7 +37,8 @@ size_at s n b =
 
 -- the answer is that of reading, with where the body begins in place of the value
 abbrev pub Judges : ℕ → Result Judged FieldFault → FieldReading → Type 0
-Judges front (Ok (judgements.Got body used)) o = (body ≡ front) × ((value : List ℕ) × (o ≡ got value used))
+Judges front (Ok (judgements.Got body used)) o = (body ≡ front)
+    × ((value : List ℕ) × (o ≡ got value used))
 Judges front (Ok judgements.More) o = o ≡ more
 Judges front (Err e) o = o ≡ fault e
 

@@ -21,12 +21,16 @@ pub record IsWordOf (c : BitmapCoding) (set : ℕ → Bool) (b : List ℕ) : Typ
 -- what holds of every bitmap
 pub record MapLaws : Type 0 where
   -- a bitmap of a set is read as a word with its bits
-  pub again : (c : BitmapCoding) (set : ℕ → Bool) (b : List ℕ) → IsBytes b → BitsIn c set b → IsWordOf c set b
+  pub again : (c : BitmapCoding) (set : ℕ → Bool) (b : List ℕ) → IsBytes b → BitsIn c set b
+      → IsWordOf c set b
   -- the bytes of a word that is read are a bitmap of its bits
-  pub taken : (c : BitmapCoding) (b : List ℕ) (word : ℕ) → IsBytes b → length b ≡ map_size c → word_in c b ≡ Some word → (word < 2 ^ 64) × BitsIn c (has_bit word) b
+  pub taken : (c : BitmapCoding) (b : List ℕ) (word : ℕ) → IsBytes b → length b ≡ map_size c
+      → word_in c b ≡ Some word → (word < 2 ^ 64) × BitsIn c (has_bit word) b
   -- each set has bitmaps as they are written,
   pub some : (c : BitmapCoding) (set : ℕ → Bool) → (b : List ℕ) × PlainBitmaps c set b
   -- and only one,
-  pub once : (c : BitmapCoding) (set : ℕ → Bool) (a b : List ℕ) → PlainBitmaps c set a → PlainBitmaps c set b → a ≡ b
+  pub once : (c : BitmapCoding) (set : ℕ → Bool) (a b : List ℕ) → PlainBitmaps c set a
+      → PlainBitmaps c set b → a ≡ b
   -- of at most 32 bytes
-  pub short : (c : BitmapCoding) (set : ℕ → Bool) (b : List ℕ) → PlainBitmaps c set b → length b ≤ 32
+  pub short : (c : BitmapCoding) (set : ℕ → Bool) (b : List ℕ) → PlainBitmaps c set b
+      → length b ≤ 32

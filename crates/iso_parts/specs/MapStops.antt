@@ -23,7 +23,8 @@ abbrev pub IsBadMap : BitmapCoding → MapPlace → List ℕ → BitmapCause →
 IsBadMap c primary p BadHex = (set : ℕ → Bool) → BitsIn c set p → ⊥
 IsBadMap c primary p ThirdBitmap = ⊥
 IsBadMap c secondary p BadHex = (set : ℕ → Bool) → BitsIn c set p → ⊥
-IsBadMap c secondary p ThirdBitmap = (set : ℕ → Bool) × BitsIn c (secondary_bits set) p × (set 65 ≡ true)
+IsBadMap c secondary p ThirdBitmap = (set : ℕ → Bool) × BitsIn c (secondary_bits set) p
+    × (set 65 ≡ true)
 
 -- the bytes end inside the bitmaps: they are good ones, and less than the whole next one
 pub record EndsInMaps (c : BitmapCoding) (b : List ℕ) : Type 0 where

@@ -27,7 +27,8 @@ type_digits n = if nat_le n 9999 then Some (n / 1000, n / 100 % 10, n / 10 % 10,
 -- the digits that a text of four ASCII digits writes
 abbrev pub digits_in : List ℕ → Option (ℕ × ℕ × ℕ × ℕ)
 digits_in (a ∷ b ∷ c ∷ d ∷ []) =
-    if is_digit a && is_digit b && is_digit c && is_digit d then Some (a - 48, b - 48, c - 48, d - 48) else None
+    if is_digit a && is_digit b && is_digit c && is_digit d
+    then Some (a - 48, b - 48, c - 48, d - 48) else None
 digits_in other = None
 
 -- what the class digit means
@@ -58,4 +59,5 @@ base_digits m = (m.version, m.class, m.function, first_origin m.origin)
 -- the digits of the response, where there is one
 abbrev pub response_digits : Mti → Option (ℕ × ℕ × ℕ × ℕ)
 response_digits m =
-    if is_answered m.function then Some (m.version, m.class, m.function + 1, first_origin m.origin) else None
+    if is_answered m.function then Some (m.version, m.class, m.function + 1, first_origin m.origin)
+    else None

@@ -10,7 +10,8 @@ is_element n = nat_le 2 n && nat_le n 128 && not (n == 65)
 -- of count numbers from n on, those in the set
 unfoldable pub numbers : (ℕ → Bool) → ℕ → ℕ → List ℕ
 numbers set zero n = []
-numbers set (suc count) n = if set n then n ∷ numbers set count (n + 1) else numbers set count (n + 1)
+numbers set (suc count) n =
+    if set n then n ∷ numbers set count (n + 1) else numbers set count (n + 1)
 
 -- the numbers of elements, 2 to 128, that a primary and a secondary bitmap's words tell
 abbrev pub numbers_in : ℕ → ℕ → List ℕ

@@ -39,5 +39,6 @@ IsBadCount s p other = ⊥
 abbrev pub IsBadBody : FieldSpec → ℕ → List ℕ → FieldFault → Type 0
 IsBadBody s c p BadFiller = (s.coding ≡ Bcd) × ((w : List ℕ) → IsText s c w p → ⊥)
 IsBadBody s c p BadHex = (s.coding ≡ HexText) × ((w : List ℕ) → IsText s c w p → ⊥)
-IsBadBody s c p NotInClass = (w : List ℕ) × (v : List ℕ) × IsText s c w p × IsBare s v w × (is_in_class s.class v ≡ false)
+IsBadBody s c p NotInClass = (w : List ℕ) × (v : List ℕ) × IsText s c w p × IsBare s v w
+    × (is_in_class s.class v ≡ false)
 IsBadBody s c p other = ⊥

@@ -20,7 +20,8 @@ use Rattle.iso_parts.specs.Part.{characters}
 
 infixl 10 ◌>>=◌
 -- a step, and the next one where the first gave something
-abbrev pub ◌>>=◌ : {A B : Type 0} → Result A FieldFault → (A → Result B FieldFault) → Result B FieldFault
+abbrev pub ◌>>=◌ : {A B : Type 0} → Result A FieldFault → (A → Result B FieldFault)
+    → Result B FieldFault
 (Ok x) >>= f = f x
 (Err e) >>= f = Err e
 
@@ -103,7 +104,8 @@ without_padding (pads.Right p) w = reverse (without_front p (reverse w))
 
 -- the value without its padding, if it is in the class
 abbrev pub value_of : FieldSpec → List ℕ → Result (List ℕ) FieldFault
-value_of s w = if is_in_class s.class (without_padding s.pad w) then Ok (without_padding s.pad w) else Err NotInClass
+value_of s w = if is_in_class s.class (without_padding s.pad w) then Ok (without_padding s.pad w)
+    else Err NotInClass
 
 -- the value that a whole body of n characters tells
 abbrev pub body_of : FieldSpec → ℕ → List ℕ → Result (List ℕ) FieldFault
@@ -141,7 +143,8 @@ part_at s b =
 
 -- a function appended the value of the part at the front, and says how many bytes it takes; or what else was read, and nothing was changed
 abbrev pub DecodesValue : List ℕ → List ℕ → Result (Option ℕ) FieldFault → FieldReading → Type 0
-DecodesValue old new (Ok (Some used)) o = (value : List ℕ) × (o ≡ got value used) × (new ≡ old ++ value)
+DecodesValue old new (Ok (Some used)) o = (value : List ℕ) × (o ≡ got value used)
+    × (new ≡ old ++ value)
 DecodesValue old new (Ok None) o = (o ≡ more) × (new ≡ old)
 DecodesValue old new (Err e) o = (e ≢ Memory → o ≡ fault e) × (new ≡ old)
 

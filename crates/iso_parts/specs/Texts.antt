@@ -29,6 +29,7 @@ abbrev pub IsTold : Result (List ℕ) FieldFault → Type 0
 IsTold read = (value : List ℕ) × (read ≡ Ok value)
 
 -- a function appended what reading gives; where memory ran out what was there still stands in front
-abbrev pub Builds : {E : Type 0} → List ℕ → List ℕ → Result Unit E → Result (List ℕ) FieldFault → Type 0
+abbrev pub Builds : {E : Type 0} → List ℕ → List ℕ → Result Unit E → Result (List ℕ) FieldFault
+    → Type 0
 Builds old new (Ok u) read = (text : List ℕ) × (read ≡ Ok text) × (new ≡ old ++ text)
 Builds old new (Err e) read = Keeps old new

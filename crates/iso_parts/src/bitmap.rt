@@ -139,7 +139,8 @@ impl Bitmap {
         ensures numbers { AreElements (contains result) }
         // Where the first bit of the primary word isn't set, the set has exactly the numbers whose
         // bits the two words have.
-        ensures set { primary < 2 ^ 63 → (n : ℕ) → contains result n ≡ in_words primary secondary n }
+        ensures set { primary < 2 ^ 63 → (n : ℕ)
+            → contains result n ≡ in_words primary secondary n }
     {
         if primary < FIRST_BIT {
             return Bitmap { primary, secondary };
@@ -167,7 +168,8 @@ impl Bitmap {
 
     /// Whether the set has each number of another.
     fn has_all(&self, other: &Bitmap) -> bool
-        ensures { IsTrue result ↔ ((n : ℕ) → contains other.now n ≡ true → contains self.now n ≡ true) }
+        ensures { IsTrue result
+            ↔ ((n : ℕ) → contains other.now n ≡ true → contains self.now n ≡ true) }
     {
         other.primary & self.primary == other.primary
             && other.secondary & self.secondary == other.secondary
@@ -294,7 +296,8 @@ impl Bitmap {
         // 8 bytes are written, or 16, and 16 only where the set has a number above 64.
         ensures used { (result ≡ 8) ⊎ ((result ≡ 16) × HasAbove (contains self.now)) }
         // What is written is the raw bitmaps of the set: the primary one, and in 16 bytes both.
-        ensures bytes { Bitmaps BitmapCoding.Raw (result == 16) (contains self.now) (take result out.new) }
+        ensures bytes { Bitmaps BitmapCoding.Raw (result == 16) (contains self.now)
+            (take result out.new) }
         // The bytes behind those that are written stay.
         ensures rest { drop result out.new ≡ drop result out.old }
     {
@@ -312,7 +315,8 @@ impl Bitmap {
     pub fn append(&self, coding: BitmapCoding, out: &mut Vec<u8>) -> Result<(), AllocError>
         // Memory aside, the bitmaps of the set are appended as they are written: a secondary one
         // only where the set has a number above 64.
-        ensures ok { OnOk result ((b : List ℕ) × PlainBitmaps coding (contains self.now) b × (out.new.items ≡ out.old.items ++ b)) }
+        ensures ok { OnOk result ((b : List ℕ) × PlainBitmaps coding (contains self.now) b
+            × (out.new.items ≡ out.old.items ++ b)) }
         // Without memory nothing is appended.
         ensures unchanged { OnErr result (out.new.items ≡ out.old.items) }
     {
@@ -329,7 +333,8 @@ impl Bitmap {
         ensures found { FoundMaps BitmapCoding.Raw bytes.now result }
         // Where the first bytes spell a set without 65, its numbers from 2 to 128 are got, and how
         // many bytes spell it.
-        ensures only { (two : Bool) (set : ℕ → Bool) (front rest : List ℕ) → set 65 ≡ false → Bitmaps BitmapCoding.Raw two set front
+        ensures only { (two : Bool) (set : ℕ → Bool) (front rest : List ℕ) → set 65 ≡ false
+            → Bitmaps BitmapCoding.Raw two set front
             → bytes.now ≡ front ++ rest → IsSetRead set (length front) result }
         // A set that is got has only numbers that elements may have: 2 to 64 and 66 to 128.
         ensures numbers { IfRead result AreElements }
@@ -353,7 +358,8 @@ impl Bitmap {
         ensures found { FoundMaps BitmapCoding.Hex bytes.now result }
         // Where the first bytes spell a set without 65, its numbers from 2 to 128 are got, and how
         // many bytes spell it.
-        ensures only { (two : Bool) (set : ℕ → Bool) (front rest : List ℕ) → set 65 ≡ false → Bitmaps BitmapCoding.Hex two set front
+        ensures only { (two : Bool) (set : ℕ → Bool) (front rest : List ℕ) → set 65 ≡ false
+            → Bitmaps BitmapCoding.Hex two set front
             → bytes.now ≡ front ++ rest → IsSetRead set (length front) result }
         // A set that is got has only numbers that elements may have: 2 to 64 and 66 to 128.
         ensures numbers { IfRead result AreElements }

@@ -38,7 +38,8 @@ fn pair(high: u8, low: u8) -> u8
 /// Appends a byte for two characters, four bytes at a time, and gives the characters that are left: fewer than eight.
 #[inline(always)]
 fn encode_eights<'a>(text: &'a [u8], out: &mut Vec<u8>) -> Result<&'a [u8], AllocError>
-    ensures ok { IfOk result (λ rest. out.new.items ++ pairs rest.now ≡ out.old.items ++ pairs text.now) }
+    ensures ok { IfOk result
+        (λ rest. out.new.items ++ pairs rest.now ≡ out.old.items ++ pairs text.now) }
     ensures kept { Keeps out.old.items out.new.items }
 {
     let mut rest = text;

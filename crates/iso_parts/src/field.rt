@@ -75,7 +75,8 @@ fn encode_padded_pairs(
     requires room { length value.now ≤ spec.now.max }
     requires exact { spec.now.pad ≡ Pad.None → length value.now ≡ spec.now.max }
     requires few { from ≤ 1 }
-    ensures ok { OnOk result (out.new.items ≡ out.old.items ++ pairs (drop from (with_padding spec.now value.now))) }
+    ensures ok { OnOk result
+        (out.new.items ≡ out.old.items ++ pairs (drop from (with_padding spec.now value.now))) }
     ensures err { OnErr result (Keeps out.old.items out.new.items) }
 {
     let count = spec.max as usize;
@@ -94,7 +95,8 @@ fn encode_padded_pairs(
 fn encode_padded_bcd(spec: &FieldSpec, value: &[u8], out: &mut Vec<u8>) -> Result<(), AllocError>
     requires room { length value.now ≤ spec.now.max }
     requires exact { spec.now.pad ≡ Pad.None → length value.now ≡ spec.now.max }
-    ensures ok { OnOk result (out.new.items ≡ out.old.items ++ plain Coding.Bcd (with_padding spec.now value.now)) }
+    ensures ok { OnOk result
+        (out.new.items ≡ out.old.items ++ plain Coding.Bcd (with_padding spec.now value.now)) }
     ensures err { OnErr result (Keeps out.old.items out.new.items) }
 {
     let count = spec.max as usize;
@@ -146,7 +148,8 @@ pub fn encode_length(spec: &FieldSpec, value: &[u8], out: &mut Vec<u8>) -> Resul
     // The value fits the row.
     requires fits { Fits spec.now value.now }
     // Memory aside, the digits of the length stand behind what was there.
-    ensures ok { OnOk result (out.new.items ≡ out.old.items ++ prefix spec.now.length (length value.now)) }
+    ensures ok { OnOk result
+        (out.new.items ≡ out.old.items ++ prefix spec.now.length (length value.now)) }
     // Without memory the vector holds what it held before.
     ensures unchanged { OnErr result (out.new.items ≡ out.old.items) }
 {
@@ -216,7 +219,8 @@ fn decode_text(spec: &FieldSpec, text: &[u8], out: &mut Vec<u8>) -> Result<(), F
 /// Takes the padding off the characters that stand behind the first `before` bytes, where they are in the class.
 fn decode_in_place(spec: &FieldSpec, before: usize, out: &mut Vec<u8>) -> Result<(), FieldFault>
     requires { before ≤ vec_len out.old }
-    ensures { Decodes (take before out.old.items) out.new.items result (value_of spec.now (drop before out.old.items)) }
+    ensures { Decodes (take before out.old.items) out.new.items result
+        (value_of spec.now (drop before out.old.items)) }
 {
     let (_, text) = out.as_slice().split_at(before);
     let value = spec.pad.without_padding(text);
@@ -310,9 +314,11 @@ pub fn decode_field(alloc: Global, spec: &FieldSpec, bytes: &[u8]) -> Result<Ste
     // The row is one that a table may have.
     requires { IsGood spec.now }
     // Where a value is got, the first bytes, as many as are told, are a part of it under the row.
-    ensures found { IfGot result (λ value used. (used ≤ length bytes.now) × Part spec.now value (take used bytes.now)) }
+    ensures found { IfGot result
+        (λ value used. (used ≤ length bytes.now) × Part spec.now value (take used bytes.now)) }
     // The value of a part at the front is got, unless memory runs out.
-    ensures only { (value part rest : List ℕ) → Part spec.now value part → bytes.now ≡ part ++ rest → Reads result (got value (length part)) }
+    ensures only { (value part rest : List ℕ) → Part spec.now value part → bytes.now ≡ part ++ rest
+        → Reads result (got value (length part)) }
     // Memory aside, the answer is what reading the part gives: its value and how many bytes it
     // takes, `More`, or its first fault.
     ensures exact { Reads result (part_at spec.now bytes.now) }
@@ -324,7 +330,8 @@ pub fn decode_field(alloc: Global, spec: &FieldSpec, bytes: &[u8]) -> Result<Ste
     // Where a whole piece is bad, its fault comes, unless memory runs out.
     ensures told { (e : FieldFault) → IsBadPart spec.now bytes.now e → Reads result (fault e) }
     // No part of the row begins with another one, and two values have no part in common.
-    ensures one_part { (v w a b x y : List ℕ) → Part spec.now v a → Part spec.now w b → a ++ x ≡ b ++ y → (v ≡ w) × (a ≡ b) }
+    ensures one_part { (v w a b x y : List ℕ) → Part spec.now v a → Part spec.now w b
+        → a ++ x ≡ b ++ y → (v ≡ w) × (a ≡ b) }
 {
     step_of(alloc, spec, bytes)
 }

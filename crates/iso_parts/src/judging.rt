@@ -155,7 +155,8 @@ fn judge_whole(spec: &FieldSpec, n: u16, body: &[u8]) -> Result<(), FieldFault>
 fn judge_prefix(spec: &FieldSpec, bytes: &[u8]) -> Result<Option<u16>, FieldFault>
     ensures exact { result ≡ count_at spec.now bytes.now }
     ensures few { IfOk result (λ got. IfSome got (λ n. n ≤ spec.now.max)) }
-    ensures room { IfOk result (λ got. IfSome got (λ n. prefix_size spec.now.length ≤ length bytes.now)) }
+    ensures room { IfOk result
+        (λ got. IfSome got (λ n. prefix_size spec.now.length ≤ length bytes.now)) }
     ensures memory { IfErr result (λ e. e ≢ Memory) }
 {
     let front = spec.length.prefix_size();
@@ -171,7 +172,8 @@ fn judge_prefix(spec: &FieldSpec, bytes: &[u8]) -> Result<Option<u16>, FieldFaul
 fn judge_prefix_apart(spec: &FieldSpec, bytes: &[u8]) -> Result<Option<u16>, FieldFault>
     ensures exact { result ≡ count_at spec.now bytes.now }
     ensures few { IfOk result (λ got. IfSome got (λ n. n ≤ spec.now.max)) }
-    ensures room { IfOk result (λ got. IfSome got (λ n. prefix_size spec.now.length ≤ length bytes.now)) }
+    ensures room { IfOk result
+        (λ got. IfSome got (λ n. prefix_size spec.now.length ≤ length bytes.now)) }
     ensures memory { IfErr result (λ e. e ≢ Memory) }
 {
     judge_prefix(spec, bytes)
@@ -187,7 +189,8 @@ pub fn judge_length(spec: &FieldSpec, bytes: &[u8]) -> Result<Option<u16>, Field
     // The count is at most the row's maximum.
     ensures few { IfOk result (λ got. IfSome got (λ n. n ≤ spec.now.max)) }
     // A count comes only where the bytes have the whole length.
-    ensures room { IfOk result (λ got. IfSome got (λ n. prefix_size spec.now.length ≤ length bytes.now)) }
+    ensures room { IfOk result
+        (λ got. IfSome got (λ n. prefix_size spec.now.length ≤ length bytes.now)) }
     // Want of memory is never the fault.
     ensures memory { IfErr result (λ e. e ≢ Memory) }
 {
@@ -322,7 +325,8 @@ pub fn judge_field(spec: &FieldSpec, bytes: &[u8]) -> Result<Judged, FieldFault>
     // The row is one that a table may have.
     requires { IsGood spec.now }
     // What is judged good lies within the bytes, and is a part of some value under the row.
-    ensures found { IfJudged result (λ body used. (used ≤ length bytes.now) × ((value : List ℕ) × Part spec.now value (take used bytes.now))) }
+    ensures found { IfJudged result (λ body used. (used ≤ length bytes.now)
+        × ((value : List ℕ) × Part spec.now value (take used bytes.now))) }
     // Of what is judged good, reading gives a value: it can be decoded without judging it again.
     ensures part { IfJudged result (λ body used. IsPart (part_at spec.now bytes.now)) }
     // The judgement is that of reading the value: good, with the offset of the body, or `More`, or

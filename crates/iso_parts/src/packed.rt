@@ -48,7 +48,8 @@ fn character_at(body: &[u8], at: usize) -> u8
 /// Where the value starts behind its pads.
 fn value_start(pad: u8, from: usize, body: &[u8]) -> usize
     requires { from ≤ 2 * length body.now }
-    ensures rest { drop result (characters body.now) ≡ without_front pad (drop from (characters body.now)) }
+    ensures rest { drop result (characters body.now)
+        ≡ without_front pad (drop from (characters body.now)) }
     ensures within { result ≤ 2 * length body.now }
 {
     let mut at = from;
@@ -64,7 +65,8 @@ fn value_start(pad: u8, from: usize, body: &[u8]) -> usize
 /// Where the value ends before its pads.
 fn value_end(pad: u8, from: usize, body: &[u8]) -> usize
     requires { from ≤ 2 * length body.now }
-    ensures front { take (result - from) (drop from (characters body.now)) ≡ reverse (without_front pad (reverse (drop from (characters body.now)))) }
+    ensures front { take (result - from) (drop from (characters body.now))
+        ≡ reverse (without_front pad (reverse (drop from (characters body.now)))) }
     ensures behind { from ≤ result }
     ensures within { result ≤ 2 * length body.now }
 {

@@ -45,7 +45,8 @@ fn without_end(pad: u8, text: &[u8]) -> &[u8]
 
 fn strip_front(pad: u8, before: usize, out: &mut Vec<u8>)
     requires { before ≤ vec_len out.old }
-    ensures { out.new.items ≡ take before out.old.items ++ without_front pad (drop before out.old.items) }
+    ensures { out.new.items
+        ≡ take before out.old.items ++ without_front pad (drop before out.old.items) }
 {
     let (_, text) = out.as_slice().split_at(before);
     let kept = without_front(pad, text).len();
@@ -98,7 +99,8 @@ impl Pad {
     /// Takes the padding off the characters that stand behind the first `before` bytes.
     pub(crate) fn strip(self, before: usize, out: &mut Vec<u8>)
         requires { before ≤ vec_len out.old }
-        ensures { out.new.items ≡ take before out.old.items ++ without_padding self (drop before out.old.items) }
+        ensures { out.new.items
+            ≡ take before out.old.items ++ without_padding self (drop before out.old.items) }
     {
         match self {
             Pad::None => {}

@@ -97,7 +97,8 @@ impl FieldSpec {
     #[inline(always)]
     pub fn is_plain(&self) -> bool
         // Where it is so, what is written for a value is the digits of its length and then the value.
-        ensures { IsTrue result → (v : List ℕ) → plain_part self.now v ≡ prefix self.now.length (length v) ++ v }
+        ensures { IsTrue result → (v : List ℕ)
+            → plain_part self.now v ≡ prefix self.now.length (length v) ++ v }
     {
         self.pad == Pad::None && self.coding.is_plain()
     }

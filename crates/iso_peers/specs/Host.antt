@@ -7,10 +7,16 @@ use Rattle.iso_peers.specs.declared.durable_host.DurableHost.{DurableHost}
 -- the host over a run: the accounts and the limit of its issuer, the orders that its log keeps, and those behind them,
 -- which wait for the next `keep`
 abbrev pub durable_of : {L : Type 0} → (L → List Instruction) → DurableHost L → Durable
-durable_of synced h = record { accounts = h.host.accounts; limit = h.host.limit; synced = synced h.log; pending = drop h.kept h.host.orders }
+durable_of synced h = record {
+  accounts = h.host.accounts;
+  limit = h.host.limit;
+  synced = synced h.log;
+  pending = drop h.kept h.host.orders;
+}
 
 -- the log is ready and keeps all its orders, and the journal begins with them
-pub record IsInStep {L : Type 0} (is_ready : L → Type 0) (synced pending : L → List Instruction) (h : DurableHost L) : Type 0 where
+pub record IsInStep {L : Type 0} (is_ready : L → Type 0) (synced pending : L → List Instruction)
+    (h : DurableHost L) : Type 0 where
   pub ready : is_ready h.log
   pub none : pending h.log ≡ []
   pub count : h.kept ≡ length (synced h.log)

@@ -40,8 +40,13 @@ comes_by d link body = come_all d (orders_in (asked_of link.table body))
 
 -- a step
 abbrev pub goes : Serving → Step → Serving
-goes s (Answers r) = record { host = comes_by s.host r.link r.body; waiting = s.waiting ++ r ∷ []; handed = s.handed }
-goes s (Enters link body) = record { host = comes_by s.host link body; waiting = s.waiting; handed = s.handed }
+goes s (Answers r) = record {
+  host = comes_by s.host r.link r.body;
+  waiting = s.waiting ++ r ∷ [];
+  handed = s.handed;
+}
+goes s (Enters link body) =
+    record { host = comes_by s.host link body; waiting = s.waiting; handed = s.handed }
 goes s Keeps = record { host = syncs s.host; waiting = []; handed = s.handed ++ s.waiting }
 goes s (Crashes n) = record { host = crashes n s.host; waiting = []; handed = s.handed }
 
@@ -64,7 +69,11 @@ AreMade (step ∷ steps) s = IsMade s.host step × AreMade steps (goes s step)
 
 -- a host that starts on these orders
 abbrev pub starts : List Account → ℕ → List Instruction → Serving
-starts accounts limit orders = record { host = record { accounts = accounts; limit = limit; synced = orders; pending = [] }; waiting = []; handed = [] }
+starts accounts limit orders = record {
+  host = record { accounts = accounts; limit = limit; synced = orders; pending = [] };
+  waiting = [];
+  handed = [];
+}
 
 -- the books of the orders on the disk
 abbrev pub disk_of : Durable → Books
@@ -77,11 +86,13 @@ response_as (Some m) outcome = response_with m (Some outcome)
 
 -- the answer of a full journal, which promises nothing
 abbrev pub IsOfFull : Reply → Type 0
-IsOfFull r = IsFramed r.link.table r.link.header (response_as (message_in r.link.table r.body) (code_alone 96)) r.bytes
+IsOfFull r = IsFramed r.link.table r.link.header
+    (response_as (message_in r.link.table r.body) (code_alone 96)) r.bytes
 
 -- the order that its body asks is entered, if it asks one, and its bytes are the answer that these books give to the body
 pub record IsStanding (books : Books) (r : Reply) : Type 0 where
-  pub entered : (o : Instruction) → asked_of r.link.table r.body ≡ Some (Order o) → is_entered books.orders o.key ≡ true
+  pub entered : (o : Instruction) → asked_of r.link.table r.body ≡ Some (Order o)
+      → is_entered books.orders o.key ≡ true
   pub same : IsAnswer r.link.table r.link.header books r.body r.bytes
 
 -- whatever comes, and whenever the host crashes: what was handed out is the answer that the orders on the disk give
@@ -89,5 +100,6 @@ abbrev pub HandedOutStands : Type 0
 HandedOutStands =
     (accounts : List Account) (limit : ℕ) (orders : List Instruction) (steps : List Step)
     → IsStart limit orders → AreMade steps (starts accounts limit orders)
-    → AllByRecursion (λ r. IsStanding (disk_of (goes_on steps (starts accounts limit orders)).host) r ⊎ IsOfFull r)
+    → AllByRecursion
+    (λ r. IsStanding (disk_of (goes_on steps (starts accounts limit orders)).host) r ⊎ IsOfFull r)
     (goes_on steps (starts accounts limit orders)).handed

@@ -25,7 +25,8 @@ impl<'l> Connection<'l> {
     /// A peer on that link, before its first byte. Takes no memory.
     pub fn new(alloc: Global, link: &'l Link) -> Connection<'l>
         // It is on that link, and holds no byte of a frame.
-        ensures link { result.peer ≡ record { table = link.now.table; header = link.now.header; held = [] } }
+        ensures link { result.peer
+            ≡ record { table = link.now.table; header = link.now.header; held = [] } }
         // No byte of an answer waits.
         ensures none { result.waiting ≡ [] }
     {

@@ -13,7 +13,8 @@ fn append_from<L: Log>(log: &mut L, issuer: &Issuer, kept: usize) -> Result<(), 
         → L.pending log.new ≡ L.pending log.old ++ drop kept issuer.now.orders) }
     // however it ends
     ensures crash { L.is_ready log.old
-        → LeavesFront (L.may_leave log.new) (L.synced log.old) (L.pending log.old ++ drop kept issuer.now.orders) }
+        → LeavesFront (L.may_leave log.new) (L.synced log.old)
+        (L.pending log.old ++ drop kept issuer.now.orders) }
 {
     let orders = issuer.orders();
     let mut place = kept;
@@ -35,7 +36,8 @@ pub(crate) fn keep_from<L: Log>(log: &mut L, issuer: &Issuer, kept: usize) -> Re
     ensures none { OnOk result (L.is_ready log.old → L.pending log.new ≡ []) }
     // however it ends
     ensures crash { L.is_ready log.old
-        → LeavesFront (L.may_leave log.new) (L.synced log.old) (L.pending log.old ++ drop kept issuer.now.orders) }
+        → LeavesFront (L.may_leave log.new) (L.synced log.old)
+        (L.pending log.old ++ drop kept issuer.now.orders) }
 {
     let more = issuer.orders().len().saturating_sub(kept);
     log.make_room(more)?;

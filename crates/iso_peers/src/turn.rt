@@ -32,7 +32,8 @@ impl<L: Log> DurableHost<L> {
     ) -> Result<Turned, LogFailed>
         // At `Ok` the bodies of all whole frames are entered, one after the other, and their
         // answers wait in this order, also where a later frame is refused.
-        ensures took { IfOk result (TakesAll connection.old connection.new self.old.host self.new.host bytes.now) }
+        ensures took { IfOk result
+            (TakesAll connection.old connection.new self.old.host self.new.host bytes.now) }
         // At `Ok` the log never failed, and every order of the journal is kept.
         ensures kept { OnOk result (IsKept self.new) }
         // The connection's table stays the same.
@@ -46,7 +47,8 @@ impl<L: Log> DurableHost<L> {
         // synced.
         ensures comes { OnOk result (IsInStep L.is_ready L.synced L.pending self.old
             → (orders : List Instruction) → self.new.host ≡ books_after self.old.host orders
-            → durable_of L.synced self.new ≡ syncs (come_all (durable_of L.synced self.old) orders)) }
+            → durable_of L.synced self.new
+            ≡ syncs (come_all (durable_of L.synced self.old) orders)) }
         // However it ends, a crash leaves what it may leave once the orders that entered the books have come.
         ensures crash { IsInStep L.is_ready L.synced L.pending self.old
             → (orders c : List Instruction) → self.new.host ≡ books_after self.old.host orders

@@ -83,7 +83,8 @@ abbrev pub comes_at : Faults → Lcg → Comes
 comes_at f g =
     if happens f.lose (word_of g) then Never
     else if happens f.repeat (word_of (after_words 1 g))
-    then Twice (delay_by f.delay (word_of (after_words 2 g))) (delay_by f.delay (word_of (after_words 3 g)))
+    then Twice (delay_by f.delay (word_of (after_words 2 g)))
+    (delay_by f.delay (word_of (after_words 3 g)))
     else Once (delay_by f.delay (word_of (after_words 2 g)))
 
 -- what fates are drawn from
@@ -94,7 +95,10 @@ pub record Drawing : Type 0 where
 -- at the beginning: PCG's generator of the seed, in the stream of that direction
 abbrev pub drawing_from : ℕ → ℕ → Faults → Drawing
 drawing_from seed direction faults =
-    record { generator = started 64 multiplier_64 seed (increment_of 64 direction); faults = faults }
+    record {
+      generator = started 64 multiplier_64 seed (increment_of 64 direction);
+      faults = faults;
+    }
 
 -- nothing is done to any frame
 abbrev pub is_none : Faults → Bool

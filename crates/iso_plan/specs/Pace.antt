@@ -28,7 +28,8 @@ allowed p elapsed = by_rate p.rate p.count (elapsed - p.opening)
 -- opening, and none once it closes
 abbrev pub due_purchases : Pace → ℕ → ℕ → ℕ → ℕ
 due_purchases p elapsed begun opened =
-    if nat_lt elapsed p.opening || nat_le p.closing elapsed then 0 else min (allowed p elapsed - begun) (p.most_open - opened)
+    if nat_lt elapsed p.opening || nat_le p.closing elapsed then 0
+    else min (allowed p elapsed - begun) (p.most_open - opened)
 
 -- so long after the opening the rate allows one more than so many, and no sooner
 abbrev pub IsNextAt : ℕ → ℕ → ℕ → Type 0

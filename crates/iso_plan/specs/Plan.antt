@@ -15,12 +15,14 @@ has_currency b = is_currency b.currency
 
 -- there is one at least, and for each there are two trace numbers (element 11), and each has a currency
 abbrev pub are_buyers : List Buyer → Bool
-are_buyers buyers = nat_lt 0 (length buyers) && nat_le (length buyers) 499999 && list_all has_currency buyers
+are_buyers buyers =
+    nat_lt 0 (length buyers) && nat_le (length buyers) 499999 && list_all has_currency buyers
 
 -- chances in millionths, and a range of delays
 abbrev pub are_faults : Faults → Bool
 are_faults f =
-    nat_le f.lose 1000000 && nat_le f.repeat 1000000 && nat_le f.cut 1000000 && nat_le f.delay.0 f.delay.1
+    nat_le f.lose 1000000 && nat_le f.repeat 1000000 && nat_le f.cut 1000000
+    && nat_le f.delay.0 f.delay.1
 
 -- some purchases begin in a second, or as many as may be open
 abbrev pub is_rate : Option ℕ → Bool

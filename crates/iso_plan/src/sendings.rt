@@ -66,7 +66,8 @@ impl Sendings {
         ensures earlier { IfOk result (λ s. s.earlier ≡ earlier) }
         // Memory aside, each order of an earlier run, by its trace number, counts as sent
         // once, and no other as sent.
-        ensures each { IfOk result (λ s. (n : ℕ) → sending_at s.by_trace n ≡ earlier_or_none earlier n) }
+        ensures each { IfOk result
+            (λ s. (n : ℕ) → sending_at s.by_trace n ≡ earlier_or_none earlier n) }
     {
         let mut by_trace = Vec::new(alloc);
         by_trace.resize(earlier.saturating_add(1), EARLIER)?;
@@ -86,15 +87,18 @@ impl Sendings {
     /// The order of a trace number is sent at a moment, in microseconds: whether for the first time.
     pub fn send(&mut self, stan: u32, now: u64) -> Result<bool, AllocError>
         // Memory aside, it is true exactly where the order wasn't sent before.
-        ensures first { IfOk result (λ first. first ≡ ((sending_at self.old.by_trace stan).times == 0)) }
+        ensures first { IfOk result
+            (λ first. first ≡ ((sending_at self.old.by_trace stan).times == 0)) }
         // Memory aside, the order counts as sent once more, and keeps the moment of its first
         // sending; what is known of other orders stays.
         ensures sent { OnOk result ((n : ℕ) → sending_at self.new.by_trace n
-            ≡ (if n == stan then sent_again now (sending_at self.old.by_trace n) else sending_at self.old.by_trace n)) }
+            ≡ (if n == stan then sent_again now (sending_at self.old.by_trace n)
+            else sending_at self.old.by_trace n)) }
         // The count of orders of earlier runs stays.
         ensures earlier { self.new.earlier ≡ self.old.earlier }
         // Without memory what is known of each order stays.
-        ensures unchanged { OnErr result ((n : ℕ) → sending_at self.new.by_trace n ≡ sending_at self.old.by_trace n) }
+        ensures unchanged { OnErr result
+            ((n : ℕ) → sending_at self.new.by_trace n ≡ sending_at self.old.by_trace n) }
     {
         make_room(&mut self.by_trace, stan)?;
         let before = self.get(stan);
@@ -125,7 +129,8 @@ impl Sendings {
         // The answer's digest is noted of the order of that trace number, if there is a place for
         // it; what is known of other orders stays.
         ensures closed { (n : ℕ) → sending_at self.new.by_trace n
-            ≡ (if n == stan then closed_by answer self.old.by_trace n else sending_at self.old.by_trace n) }
+            ≡ (if n == stan then closed_by answer self.old.by_trace n
+            else sending_at self.old.by_trace n) }
         // The count of orders of earlier runs stays.
         ensures earlier { self.new.earlier ≡ self.old.earlier }
     {

@@ -10,15 +10,18 @@ use Rattle.iso_play.specs.declared.delivering.Answered.{Answered}
 
 -- what came of a body at these books: its frame is the answer to it
 abbrev pub IsAnswered : Layout → Header → Books → List ℕ → Answered → Type 0
-IsAnswered t h books body a = IsAnswer t h books body a.frame.items × IsHandled t books body a.handled
+IsAnswered t h books body a = IsAnswer t h books body a.frame.items
+    × IsHandled t books body a.handled
 
 -- each of these bodies was answered at the books after all before it
-abbrev pub AreAnsweredFrom : Layout → Header → Books → List (List ℕ) → List (List ℕ) → List Answered → Type 0
+abbrev pub AreAnsweredFrom : Layout → Header → Books → List (List ℕ) → List (List ℕ) → List Answered
+    → Type 0
 AreAnsweredFrom t h books earlier [] [] = ⊤
 AreAnsweredFrom t h books earlier [] (a ∷ answers) = ⊥
 AreAnsweredFrom t h books earlier (body ∷ bodies) [] = ⊥
 AreAnsweredFrom t h books earlier (body ∷ bodies) (a ∷ answers) =
-    IsAnswered t h (books_after_bodies t books earlier) body a × AreAnsweredFrom t h books (earlier ++ body ∷ []) bodies answers
+    IsAnswered t h (books_after_bodies t books earlier) body a
+    × AreAnsweredFrom t h books (earlier ++ body ∷ []) bodies answers
 
 -- the bodies were answered so from these books on
 unfoldable pub AreAnswered : Layout → Header → Books → List (List ℕ) → List Answered → Type 0

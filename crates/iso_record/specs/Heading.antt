@@ -17,7 +17,8 @@ magic = codes "ISO 8583 ISSUER JOURNAL "
 -- the record of a heading
 unfoldable pub heading_bytes : Head → List ℕ
 heading_bytes h =
-    magic ++ (decimal 4 1 ++ (decimal 5 h.rules ++ (decimal 20 h.first ++ (decimal 20 h.second ++ (decimal 20 h.third ++ (decimal 20 h.fourth ++ (blanks 14 ++ 10 ∷ [])))))))
+    magic ++ (decimal 4 1 ++ (decimal 5 h.rules ++ (decimal 20 h.first ++ (decimal 20 h.second
+    ++ (decimal 20 h.third ++ (decimal 20 h.fourth ++ (blanks 14 ++ 10 ∷ [])))))))
 
 -- eight bytes of a digest as a number
 abbrev pub word : List ℕ → ℕ → ℕ
@@ -26,7 +27,13 @@ word digest k = from_be_bytes w64 (take 8 (drop (8 * k) digest))
 -- the heading of the accounts in a document, by their digest
 abbrev pub heading_for : ℕ → List ℕ → Head
 heading_for rules document =
-    record { rules = rules; first = word (sha256 document) 0; second = word (sha256 document) 1; third = word (sha256 document) 2; fourth = word (sha256 document) 3 }
+    record {
+      rules = rules;
+      first = word (sha256 document) 0;
+      second = word (sha256 document) 1;
+      third = word (sha256 document) 2;
+      fourth = word (sha256 document) 3;
+    }
 
 -- what a first record tells otherwise than the one that is wanted, looked at from the front
 abbrev pub heading_fault : List ℕ → List ℕ → Option HeadingFault
@@ -50,9 +57,12 @@ HeadingsAreWhole = (h : Head) → is_whole (heading_bytes h) ≡ true
 
 -- and those of two headings differ
 abbrev pub HeadingsDiffer : Type 0
-HeadingsDiffer = (a b : Head) → IsHeading a → IsHeading b → heading_bytes a ≡ heading_bytes b → a ≡ b
+HeadingsDiffer = (a b : Head) → IsHeading a → IsHeading b → heading_bytes a ≡ heading_bytes b
+    → a ≡ b
 
 -- what differs is told: the rules, or else the accounts
 abbrev pub HeadingsAreToldApart : Type 0
 HeadingsAreToldApart =
-    (a b : Head) → IsHeading a → IsHeading b → (a ≡ b → ⊥) → heading_fault (heading_bytes a) (heading_bytes b) ≡ (if a.rules == b.rules then Some Accounts else Some Rules)
+    (a b : Head) → IsHeading a → IsHeading b → (a ≡ b → ⊥)
+    → heading_fault (heading_bytes a) (heading_bytes b)
+    ≡ (if a.rules == b.rules then Some Accounts else Some Rules)

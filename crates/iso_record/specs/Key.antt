@@ -18,13 +18,16 @@ valid_key k = if is_valid_key k then Some k else None
 
 -- the key of four numbers
 abbrev pub key_by : Option ℕ → Option ℕ → Option ℕ → Option ℕ → Option TxKey
-key_by (Some base) (Some stan) (Some sent) (Some acquirer) = valid_key (record { base = base; stan = stan; sent = sent; acquirer = acquirer })
+key_by (Some base) (Some stan) (Some sent) (Some acquirer) =
+    valid_key (record { base = base; stan = stan; sent = sent; acquirer = acquirer })
 key_by _ _ _ _ = None
 
 -- the key that 31 digits are, whatever follows
 abbrev pub key_of : List ℕ → Option TxKey
-key_of text = key_by (number_at text 0 4) (number_at text 4 6) (number_at text 10 10) (number_at text 20 11)
+key_of text =
+    key_by (number_at text 0 4) (number_at text 4 6) (number_at text 10 10) (number_at text 20 11)
 
 -- each valid key comes back, whatever follows
 abbrev pub KeysComeBack : Type 0
-KeysComeBack = (k : TxKey) (rest : List ℕ) → is_valid_key k ≡ true → key_of (key_bytes k ++ rest) ≡ Some k
+KeysComeBack = (k : TxKey) (rest : List ℕ) → is_valid_key k ≡ true
+    → key_of (key_bytes k ++ rest) ≡ Some k

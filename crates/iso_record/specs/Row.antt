@@ -70,7 +70,8 @@ currency None = blanks 3
 -- an order, in 99 bytes
 unfoldable pub order_bytes : Instruction → List ℕ
 order_bytes o =
-    key_bytes o.key ++ (letter o.act ∷ [] ++ (other_key o.act ++ (pan_len (money_of o.act) ++ (pan (money_of o.act)
+    key_bytes o.key
+    ++ (letter o.act ∷ [] ++ (other_key o.act ++ (pan_len (money_of o.act) ++ (pan (money_of o.act)
     ++ (decimal 12 (amount_of o.act) ++ currency (money_of o.act))))))
 
 -- the sign of a balance
@@ -90,7 +91,8 @@ size z = digits_by (option_map unsigned_abs z)
 
 -- an answer, in the 29 bytes behind it
 unfoldable pub answer_bytes : Outcome → List ℕ
-answer_bytes a = decimal 2 a.code ++ (decimal 6 a.seq ++ (sign a.shown ∷ [] ++ (size a.shown ++ 10 ∷ [])))
+answer_bytes a =
+    decimal 2 a.code ++ (decimal 6 a.seq ++ (sign a.shown ∷ [] ++ (size a.shown ++ 10 ∷ [])))
 
 -- an order and its answer, in 128 bytes
 unfoldable pub row_bytes : Row → List ℕ
@@ -118,7 +120,8 @@ pan_by text None = None
 
 -- the money that is told
 abbrev pub money_in : List ℕ → Option Money
-money_in text = money_by (pan_by text (number_at text 63 2)) (number_at text 84 12) (currency_of (part text 96 3))
+money_in text = money_by (pan_by text (number_at text 63 2)) (number_at text 84 12)
+    (currency_of (part text 96 3))
 
 -- what is taken back, and what is left of it
 abbrev pub undo_by : Option TxKey → Option ℕ → Option Act

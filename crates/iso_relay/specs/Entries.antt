@@ -45,7 +45,8 @@ entry key heard = record { key = key; gathering = record { heard = heard } }
 -- its place
 abbrev pub place_of : TxKey → List Entry → Option ℕ
 place_of key [] = None
-place_of key (e ∷ es) = if same_key e.key key then Some 0 else option_map (λ n. suc n) (place_of key es)
+place_of key (e ∷ es) =
+    if same_key e.key key then Some 0 else option_map (λ n. suc n) (place_of key es)
 
 -- what was heard for it
 abbrev pub heard_under : TxKey → List Entry → Option (List Heard)

@@ -41,7 +41,8 @@ last_said n key (Says shard k code ∷ es) =
 
 -- Since shards were last asked under the key, each one that was asked said this code, and nothing
 -- else after it; the shard that says it now was asked
-pub record IsSaidByAll (count shard : ℕ) (key : TxKey) (code : ℕ) (events : List Event) : Type 0 where
+pub record IsSaidByAll (count shard : ℕ) (key : TxKey) (code : ℕ)
+    (events : List Event) : Type 0 where
   pub later : List Event
   pub route : Route
   pub earlier : List Event

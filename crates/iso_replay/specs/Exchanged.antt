@@ -18,8 +18,10 @@ pub record IsSent (before after : Option (List ℕ)) (frames : List ℕ) (unsent
 -- what holds where it ends so: all is sent and as many frames came as are wanted, or a header that came isn't of digits
 abbrev pub EndsBy : Plan → Exchanged → Ending → Type 0
 EndsBy plan done Whole =
-    (done.unsent ≡ 0) × ((bodies : List (List ℕ)) (rest : List ℕ) → Splits plan.header done.came.items bodies rest → plan.wanted ≤ length bodies)
-EndsBy plan done BadHeader = (bodies : List (List ℕ)) (rest : List ℕ) → Splits plan.header done.came.items bodies rest → is_bad_header plan.header rest ≡ true
+    (done.unsent ≡ 0) × ((bodies : List (List ℕ)) (rest : List ℕ)
+    → Splits plan.header done.came.items bodies rest → plan.wanted ≤ length bodies)
+EndsBy plan done BadHeader = (bodies : List (List ℕ)) (rest : List ℕ)
+    → Splits plan.header done.came.items bodies rest → is_bad_header plan.header rest ≡ true
 EndsBy plan done Closed = Unit {0}
 EndsBy plan done Silent = Unit {0}
 

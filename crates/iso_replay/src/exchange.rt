@@ -100,7 +100,8 @@ impl<'a> Exchange<'a> {
         // Memory aside, the piece stands behind the bytes that came before.
         ensures came { OnOk result (self.new.heard.bytes ≡ self.old.heard.bytes ++ piece.now) }
         // Memory aside, a byte moved last at this moment; of the rest only what came changes.
-        ensures others { OnOk result (self.new ≡ record self.old { heard = self.new.heard; moved = now }) }
+        ensures others { OnOk result
+            (self.new ≡ record self.old { heard = self.new.heard; moved = now }) }
         // The header of the frames that come stays the same.
         ensures header { self.new.heard.header ≡ self.old.heard.header }
         // Without memory the exchange is as it was.
@@ -123,7 +124,8 @@ impl<'a> Exchange<'a> {
     pub fn ending(&self, now: u64) -> Option<Ending>
         // `Whole`: all is sent and enough frames came; else `BadHeader`: a header isn't of digits;
         // else `Closed`: the host ended; else `Silent`: no byte moved for the patience; else none.
-        ensures { (bodies : List (List ℕ)) (rest : List ℕ) → Splits self.now.heard.header self.now.heard.bytes bodies rest
+        ensures { (bodies : List (List ℕ)) (rest : List ℕ)
+            → Splits self.now.heard.header self.now.heard.bytes bodies rest
             → result ≡ ending_of self.now bodies rest now }
     {
         if self.unsent.is_empty() && self.wanted <= self.heard.frames() {

@@ -76,7 +76,8 @@ impl Heard {
 
     /// How many whole frames came. Takes no memory.
     pub fn frames(&self) -> usize
-        ensures { (bodies : List (List ℕ)) (rest : List ℕ) → Splits self.now.header self.now.bytes bodies rest
+        ensures { (bodies : List (List ℕ)) (rest : List ℕ)
+            → Splits self.now.header self.now.bytes bodies rest
             → result ≡ length bodies }
     {
         splits_once();
@@ -85,7 +86,8 @@ impl Heard {
 
     /// Whether the bytes behind the whole frames begin with a header that isn't of digits. Takes no memory.
     pub fn is_bad(&self) -> bool
-        ensures { (bodies : List (List ℕ)) (rest : List ℕ) → Splits self.now.header self.now.bytes bodies rest
+        ensures { (bodies : List (List ℕ)) (rest : List ℕ)
+            → Splits self.now.header self.now.bytes bodies rest
             → result ≡ is_bad_header self.now.header rest }
     {
         splits_once();

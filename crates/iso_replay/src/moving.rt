@@ -33,7 +33,8 @@ pub(crate) fn hear<I: Read>(
     block: &mut [u8],
     now: u64,
 ) -> Result<bool, AllocError>
-    ensures { OnOk result (Hears (I.remaining input.old) (I.remaining input.new) exchange.old exchange.new) }
+    ensures { OnOk result
+        (Hears (I.remaining input.old) (I.remaining input.new) exchange.old exchange.new) }
 {
     match input.read(block) {
         Ok(0) => {

@@ -65,9 +65,11 @@ pub fn exchange_over<I: Read, O: Write, W: Waiting>(
     waiting: &mut W,
 ) -> Result<Exchanged, ReplayFault>
     // What came is what the input gave.
-    ensures came { IfOk result (λ done. Consumes (I.remaining input.old) (I.remaining input.new) done.came.items) }
+    ensures came { IfOk result
+        (λ done. Consumes (I.remaining input.old) (I.remaining input.new) done.came.items) }
     // A front of the frames was sent, and nothing else.
-    ensures sent { IfOk result (λ done. IsSent (O.contents output.old) (O.contents output.new) plan.entry.frames.now done.unsent) }
+    ensures sent { IfOk result (λ done.
+        IsSent (O.contents output.old) (O.contents output.new) plan.entry.frames.now done.unsent) }
     // At `Whole` all is sent, and as many frames came as are wanted; at `BadHeader` a header that
     // came isn't of digits; of other ends it says nothing.
     ensures ends { IfOk result (Ends plan.entry) }

@@ -101,7 +101,8 @@ impl<D: Dial + Drop> EtcdStore<D> {
     /// It has heard that this batch stands at the next place.
     fn hear(&mut self, place: u64, batch: &Vec<u8>)
         requires { place ≡ self.old.count + 1 }
-        ensures heard { heard self.new.heard.items ≡ heard self.old.heard.items ++ batch.now.items ∷ [] }
+        ensures heard { heard self.new.heard.items
+            ≡ heard self.old.heard.items ++ batch.now.items ∷ [] }
         ensures sent { self.new.sent ≡ self.old.sent }
     {
         self.heard = self.heard.and(batch, &());
@@ -136,7 +137,8 @@ impl<D: Dial + Drop> EtcdStore<D> {
     fn doubt(&mut self, batch: &Vec<u8>, doubt: Doubt) -> Asked
         ensures result { result ≡ Asked.Unknown }
         ensures heard { self.new.heard ≡ self.old.heard }
-        ensures sent { heard self.new.sent.items ≡ heard self.old.sent.items ++ batch.now.items ∷ [] }
+        ensures sent { heard self.new.sent.items
+            ≡ heard self.old.sent.items ++ batch.now.items ∷ [] }
     {
         self.sent = self.sent.and(batch, &());
         self.trouble = Some(Trouble::Doubt(doubt));

@@ -10,11 +10,13 @@ use Rattle.iso_restarts.specs.Diary.{Diary, in_memory, unsent}
 
 -- the number of the acquirer, and the notes of the log
 abbrev pub diary_of : {L : Type 0} → (L → List Note) → (L → List Note) → DurableAcquirer L → Diary
-diary_of synced pending d = record { id = d.acquirer.id; synced = synced d.log; pending = pending d.log }
+diary_of synced pending d =
+    record { id = d.acquirer.id; synced = synced d.log; pending = pending d.log }
 
 -- the log is ready; the acquirer and what it has to send are what its notes make them; and it knows whether any wait
 pub record IsConsistent
-    {L : Type 0} (is_ready : L → Type 0) (synced pending : L → List Note) (d : DurableAcquirer L) : Type 0 where
+    {L : Type 0} (is_ready : L → Type 0) (synced pending : L → List Note)
+    (d : DurableAcquirer L) : Type 0 where
   pub ready : is_ready d.log
   pub same : d.acquirer ≡ in_memory (diary_of synced pending d)
   pub unsent_is : d.unsent.items ≡ unsent (diary_of synced pending d)
@@ -23,15 +25,18 @@ pub record IsConsistent
 
 -- a log that was opened, and holds these notes
 pub record IsOpened
-    {L : Type 0} (is_ready : L → Type 0) (synced pending : L → List Note) (log : L) (notes : List Note) : Type 0 where
+    {L : Type 0} (is_ready : L → Type 0) (synced pending : L → List Note) (log : L)
+    (notes : List Note) : Type 0 where
   pub ready : is_ready log
   pub held : synced log ≡ notes
   pub none : pending log ≡ []
 
 -- it has the same notes as before
 pub record Stays
-    {L : Type 0} (is_ready : L → Type 0) (synced pending : L → List Note) (old new : DurableAcquirer L) : Type 0 where
-  pub consistent : IsConsistent is_ready synced pending old → IsConsistent is_ready synced pending new
+    {L : Type 0} (is_ready : L → Type 0) (synced pending : L → List Note)
+    (old new : DurableAcquirer L) : Type 0 where
+  pub consistent : IsConsistent is_ready synced pending old
+      → IsConsistent is_ready synced pending new
   pub same : diary_of synced pending new ≡ diary_of synced pending old
 
 -- a state that isn't told: notes wait for a sync, or the log failed

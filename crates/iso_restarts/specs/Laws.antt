@@ -32,7 +32,8 @@ CanHappen (Restarts kept) = Unit {0}
 abbrev pub AfterEachRun : (ℕ → List Account → ℕ → World → Type 0) → Type 0
 AfterEachRun Holds =
     (id : ℕ) (accounts : List Account) (limit : ℕ) (events : List Event) →
-    IsAcquirer id → AllByRecursion CanHappen events → Holds id accounts limit (run events (unused id accounts limit))
+    IsAcquirer id → AllByRecursion CanHappen events →
+    Holds id accounts limit (run events (unused id accounts limit))
 
 -- ---- each run with crashes of the acquirer is a run without
 
@@ -52,7 +53,8 @@ pub record IsRunWithout (old : Ends) (new : World) : Type 0 where
 
 -- each run with crashes of the acquirer is a run without; those of the host are in both
 abbrev pub CrashesOnlyLose : Type 0
-CrashesOnlyLose = AfterEachRun (λ id accounts limit w. IsRunWithout (unused_ends id accounts limit) w)
+CrashesOnlyLose =
+    AfterEachRun (λ id accounts limit w. IsRunWithout (unused_ends id accounts limit) w)
 
 -- Events without any crash, none of them refused, lead to the acquirer that is on its disk, and to a journal of the
 -- orders on the host's disk. Each order that was sent is sent there, and each answer that was given is given there, but
@@ -61,13 +63,15 @@ pub record IsRunWithoutAny (old : BothEnds) (new : World) : Type 0 where
   pub events : List Passing
   pub sent : List Instruction
   pub given : List Given
-  pub ran : IsRun old events 0 (ends_at (ends_with new (on_disk new.acquirer) sent) new.host.synced given)
+  pub ran : IsRun old events 0
+      (ends_at (ends_with new (on_disk new.acquirer) sent) new.host.synced given)
   pub sent_among : AllByRecursion (IsSentIn sent) new.sent
   pub given_among : AllByRecursion (IsAmong given) new.given
 
 -- each run with crashes of either end is a run without any
 abbrev pub CrashesOfBothOnlyLose : Type 0
-CrashesOfBothOnlyLose = AfterEachRun (λ id accounts limit w. IsRunWithoutAny (unused_both id accounts limit) w)
+CrashesOfBothOnlyLose =
+    AfterEachRun (λ id accounts limit w. IsRunWithoutAny (unused_both id accounts limit) w)
 
 -- ---- so both ends agree
 
@@ -129,7 +133,8 @@ pub record CallsAreEvents : Type 0 where
       (happens w (Goes (Passes (Begin pan amount currency sent)))).acquirer
       ≡ begins w.acquirer (debit_of (in_memory w.acquirer) pan amount currency sent)
   pub timed_out :
-      (w : World) (stan : ℕ) → (happens w (Goes (Passes (Timeout stan)))).acquirer ≡ times_out w.acquirer stan
+      (w : World) (stan : ℕ) →
+      (happens w (Goes (Passes (Timeout stan)))).acquirer ≡ times_out w.acquirer stan
   pub told :
       (w : World) (place : ℕ) (g : Given) → slice_get w.given place ≡ Some g →
       (happens w (Goes (Passes (Answer place)))).acquirer ≡ hears w.acquirer g.key g.answer.code
@@ -137,4 +142,5 @@ pub record CallsAreEvents : Type 0 where
   pub sent : (w : World) → (happens w Keeps).sent ≡ w.sent ++ unsent w.acquirer
   pub start :
       (w : World) (notes : List Note) → MayLeave w.acquirer notes →
-      (kept : ℕ) × ((happens w (Restarts kept)).acquirer ≡ record { id = w.acquirer.id; synced = notes; pending = [] })
+      (kept : ℕ) × ((happens w (Restarts kept)).acquirer
+      ≡ record { id = w.acquirer.id; synced = notes; pending = [] })

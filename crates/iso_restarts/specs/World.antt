@@ -28,13 +28,15 @@ pub data Event : Type 0 where
 
 -- both ends as they are where the acquirer never crashes: this acquirer, which sent these orders
 abbrev pub ends_with : World → Party → List Instruction → Ends
-ends_with w party sent = record { acquirer = party; sent = sent; host = w.host; waiting = w.waiting; given = w.given }
+ends_with w party sent =
+    record { acquirer = party; sent = sent; host = w.host; waiting = w.waiting; given = w.given }
 
 -- ---- the acquirer's end
 
 -- its notes are these, and nothing else changes
 abbrev pub with_notes : World → Diary → World
-with_notes w d = record { acquirer = d; sent = w.sent; host = w.host; waiting = w.waiting; given = w.given }
+with_notes w d =
+    record { acquirer = d; sent = w.sent; host = w.host; waiting = w.waiting; given = w.given }
 
 -- it is told a given answer
 abbrev pub is_told : World → Option Given → World
@@ -45,7 +47,13 @@ is_told w (Some g) = with_notes w (hears w.acquirer g.key g.answer.code)
 
 -- the host is as in these ends, and the acquirer stays
 abbrev pub with_host : World → Ends → World
-with_host w ends = record { acquirer = w.acquirer; sent = w.sent; host = ends.host; waiting = ends.waiting; given = ends.given }
+with_host w ends = record {
+  acquirer = w.acquirer;
+  sent = w.sent;
+  host = ends.host;
+  waiting = ends.waiting;
+  given = ends.given;
+}
 
 -- the ends that the host sees: the orders that were sent reach it
 abbrev pub for_host : World → Ends

@@ -87,7 +87,8 @@ impl<L: NoteLog> DurableAcquirer<L> {
         // Over a log that was opened with these notes, the acquirer has that number, these notes on
         // the disk, and none that waits for a sync.
         ensures diary { IfOk result (λ a. IsOpened L.is_ready L.synced L.pending log notes.now
-            → diary_of L.synced L.pending a ≡ record { id = id; synced = notes.now; pending = [] }) }
+            → diary_of L.synced L.pending a
+            ≡ record { id = id; synced = notes.now; pending = [] }) }
         // An acquirer that starts knows of no failure of its log.
         ensures ready { IfOk result (λ a. a.has_failed ≡ false) }
         // An `Err` hands back the very log that was given.

@@ -67,12 +67,19 @@ put_row r (q ∷ qs) = if q.number == r.number then r ∷ qs else q ∷ put_row 
 
 -- a draft with the row
 abbrev pub with_row : DraftContents → Row → DraftContents
-with_row d r = record { version = d.version; mti = d.mti; bitmap = d.bitmap; rows = put_row r d.rows }
+with_row d r =
+    record { version = d.version; mti = d.mti; bitmap = d.bitmap; rows = put_row r d.rows }
 
 -- a draft without the rows of the number
 abbrev pub without_row : DraftContents → ℕ → DraftContents
-without_row d n = record { version = d.version; mti = d.mti; bitmap = d.bitmap; rows = filter (λ r. not (r.number == n)) d.rows }
+without_row d n = record {
+  version = d.version;
+  mti = d.mti;
+  bitmap = d.bitmap;
+  rows = filter (λ r. not (r.number == n)) d.rows;
+}
 
 -- the draft with the row that the change makes, or why there is none
 abbrev pub applied : DraftContents → RowChange → Result DraftContents RowFault
-applied d c = changed c (row_of d.rows c.number) d.mti >>= (λ s. Ok (with_row d (record { number = c.number; spec = s })))
+applied d c = changed c (row_of d.rows c.number) d.mti
+    >>= (λ s. Ok (with_row d (record { number = c.number; spec = s })))

@@ -23,11 +23,13 @@ rows_of d = or_none (get (codes "rows") d >>= as_array)
 
 -- a complaint about the i-th row, counted from 1, is about one of these, and tells its number
 abbrev pub IsAmong : Items → Complaint → Type 0
-IsAmong rows c = (i : ℕ) → c.place.row ≡ Some i → (1 ≤ i) × ((d : Data) × (get_item (i - 1) rows ≡ Some d) × (c.place.element ≡ whole_at (codes "number") 65535 d))
+IsAmong rows c = (i : ℕ) → c.place.row ≡ Some i → (1 ≤ i) × ((d : Data)
+    × (get_item (i - 1) rows ≡ Some d) × (c.place.element ≡ whole_at (codes "number") 65535 d))
 
 -- a complaint about the i-th row is about one of the document, and tells its number
 abbrev pub IsPlaced : List ℕ → Complaint → Type 0
-IsPlaced text c = (i : ℕ) → c.place.row ≡ Some i → (d : Data) × StandsFor text d × IsAmong (rows_of d) c
+IsPlaced text c = (i : ℕ) → c.place.row ≡ Some i
+    → (d : Data) × StandsFor text d × IsAmong (rows_of d) c
 
 -- the document beside its rows
 abbrev pub nowhere : Place

@@ -222,7 +222,8 @@ pub fn apply(draft: &mut Draft, change: &RowChange) -> Result<(), RowFault>
     ensures ok { OnOk result (applied (contents draft.old) change.now ≡ Ok (contents draft.new)) }
     // Memory aside, the fault tells why the change makes no row: the first member that is missing,
     // or digits for a fixed length.
-    ensures fault { IfErr result (λ e. e ≢ Memory → applied (contents draft.old) change.now ≡ Err e) }
+    ensures fault { IfErr result
+        (λ e. e ≢ Memory → applied (contents draft.old) change.now ≡ Err e) }
     // After any fault the draft is as it was.
     ensures unchanged { OnErr result (contents draft.new ≡ contents draft.old) }
 {

@@ -107,7 +107,8 @@ fn push_rows(
     has_four_digits: bool,
     out: &mut Vec<Complaint>,
 ) -> Result<(), AllocError>
-    ensures { OnOk result (All (IsAmong (items_view rows.now)) out.old.items → All (IsAmong (items_view rows.now)) out.new.items) }
+    ensures { OnOk result (All (IsAmong (items_view rows.now)) out.old.items
+        → All (IsAmong (items_view rows.now)) out.new.items) }
 {
     let mut places = [None; PLACES];
     for (at, row) in rows.iter().enumerate() {

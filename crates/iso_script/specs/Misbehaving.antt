@@ -89,11 +89,14 @@ IsWritten (Ruled number deed) t h books message bytes = IsWrittenBy deed t h boo
 -- ---- both
 
 -- a message, or none, was treated so: the books and the bytes of the answers
-abbrev pub Treats : Behaviour → Layout → Header → Books → Books → Option Contents → List ℕ → List ℕ → Type 0
-Treats b t h old new message out grown = (new ≡ books_by b old message) × GrowsBy (IsWritten b t h old message) out grown
+abbrev pub Treats : Behaviour → Layout → Header → Books → Books → Option Contents → List ℕ → List ℕ
+    → Type 0
+Treats b t h old new message out grown = (new ≡ books_by b old message)
+    × GrowsBy (IsWritten b t h old message) out grown
 
 -- a body was treated as its rules say
-pub record Misbehaves (t : Layout) (h : Header) (old new : Acting) (body out grown : List ℕ) (b : Behaviour) : Type 0 where
+pub record Misbehaves (t : Layout) (h : Header) (old new : Acting) (body out grown : List ℕ)
+    (b : Behaviour) : Type 0 where
   pub behaves : IsBehaviourTo old.rules (message_in t body) b
   pub treats : Treats b t h old.books new.books (message_in t body) out grown
   pub counts : new.rules ≡ counted_by old.rules (message_in t body)

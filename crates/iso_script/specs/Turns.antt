@@ -38,4 +38,5 @@ fitting r ms = count_by (λ m. fits r.pattern m) ms
 abbrev pub TurnsByCount : Type 0
 TurnsByCount =
     (r : Rule) (ms : List Contents) (m : Contents) → 1 ≤ r.every
-    → (is_due m (counted_all (begun r) ms) ≡ true) ↔ ((fits r.pattern m ≡ true) × ((fitting r ms + 1) % r.every ≡ 0))
+    → (is_due m (counted_all (begun r) ms) ≡ true)
+    ↔ ((fits r.pattern m ≡ true) × ((fitting r ms + 1) % r.every ≡ 0))

@@ -70,7 +70,8 @@ fn answer_body(
     out: &mut Vec<u8>,
 ) -> Result<Behaviour, NoMemory>
     ensures misbehaves { IfOk result (Misbehaves link.now.table link.now.header
-        (record { books = host.old; rules = script.old }) (record { books = host.new; rules = script.new })
+        (record { books = host.old; rules = script.old })
+        (record { books = host.new; rules = script.new })
         body.now out.old.items out.new.items) }
     ensures memory { OnErr result (EntersOrKeeps link.now.table link.now.header host.old host.new
         (message_in link.now.table body.now)) }
@@ -138,10 +139,12 @@ impl Scripted {
     ) -> Result<Behaviour, NoMemory>
         // Memory aside, the first rule that decides at the message says what enters the books and
         // goes out, honestly without one; each rule counts the message.
-        ensures misbehaves { IfOk result (Misbehaves link.now.table link.now.header self.old self.new
+        ensures misbehaves { IfOk result
+            (Misbehaves link.now.table link.now.header self.old self.new
             body.now out.old.items out.new.items) }
         // Without memory the books are as they were, or the order is entered, and has an answer.
-        ensures memory { OnErr result (EntersOrKeeps link.now.table link.now.header self.old.books self.new.books
+        ensures memory { OnErr result
+            (EntersOrKeeps link.now.table link.now.header self.old.books self.new.books
             (message_in link.now.table body.now)) }
         // Without memory no rule counts the message.
         ensures rules { OnErr result (self.new.rules ≡ self.old.rules) }

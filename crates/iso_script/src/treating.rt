@@ -41,7 +41,8 @@ fn make_response(table: &Table, rooms: &mut Rooms, code: Code) -> Result<(), NoM
     requires read { (bytes : List ℕ) × Spelling table.now rooms.old.request bytes }
     requires asks { is_answered (function rooms.old.request) ≡ true }
     ensures made { OnOk result
-        (PlainSpelling table.now (response rooms.old.request (code_alone code)) rooms.new.bytes.items) }
+        (PlainSpelling table.now
+        (response rooms.old.request (code_alone code)) rooms.new.bytes.items) }
     ensures short { OnOk result (length rooms.new.bytes.items ≤ 9999) }
     ensures request { rooms.new.request ≡ rooms.old.request }
 {
@@ -101,8 +102,10 @@ fn answer_unsent(
     body: &[u8],
     out: &mut Vec<u8>,
 ) -> Result<(), NoMemory>
-    ensures enters { OnOk result (host.new ≡ entered_by host.old (message_in link.now.table body.now)) }
-    ensures written { OnOk result (GrowsBy (InPlace (λ _. []) link.now.table link.now.header host.old
+    ensures enters { OnOk result
+        (host.new ≡ entered_by host.old (message_in link.now.table body.now)) }
+    ensures written { OnOk result
+        (GrowsBy (InPlace (λ _. []) link.now.table link.now.header host.old
         (message_in link.now.table body.now)) out.old.items out.new.items) }
     ensures memory { OnErr result (EntersOrKeeps link.now.table link.now.header host.old host.new
         (message_in link.now.table body.now)) }
@@ -121,8 +124,10 @@ fn answer_garbage(
     body: &[u8],
     out: &mut Vec<u8>,
 ) -> Result<(), NoMemory>
-    ensures enters { OnOk result (host.new ≡ entered_by host.old (message_in link.now.table body.now)) }
-    ensures written { OnOk result (GrowsBy (InPlace (garbage_for link.now.header) link.now.table link.now.header host.old
+    ensures enters { OnOk result
+        (host.new ≡ entered_by host.old (message_in link.now.table body.now)) }
+    ensures written { OnOk result
+        (GrowsBy (InPlace (garbage_for link.now.header) link.now.table link.now.header host.old
         (message_in link.now.table body.now)) out.old.items out.new.items) }
     ensures memory { OnErr result (EntersOrKeeps link.now.table link.now.header host.old host.new
         (message_in link.now.table body.now)) }
@@ -147,7 +152,8 @@ pub(crate) fn answer_honestly(
     body: &[u8],
     out: &mut Vec<u8>,
 ) -> Result<(), NoMemory>
-    ensures answered { OnOk result (Answers link.now.table link.now.header host.old host.new body.now out.old.items out.new.items) }
+    ensures answered { OnOk result (Answers link.now.table link.now.header host.old host.new
+        body.now out.old.items out.new.items) }
     ensures memory { OnErr result (EntersOrKeeps link.now.table link.now.header host.old host.new
         (message_in link.now.table body.now)) }
     ensures unchanged { OnErr result (out.new.items ≡ out.old.items) }
@@ -169,8 +175,10 @@ fn do_deed(
 ) -> Result<(), NoMemory>
     requires read { message_in link.now.table body.now ≡ Some rooms.old.request }
     requires spelled { (bytes : List ℕ) × Spelling link.now.table rooms.old.request bytes }
-    ensures enters { OnOk result (host.new ≡ books_by_deed deed.now host.old (message_in link.now.table body.now)) }
-    ensures written { OnOk result (GrowsBy (IsWrittenBy deed.now link.now.table link.now.header host.old
+    ensures enters { OnOk result
+        (host.new ≡ books_by_deed deed.now host.old (message_in link.now.table body.now)) }
+    ensures written { OnOk result
+        (GrowsBy (IsWrittenBy deed.now link.now.table link.now.header host.old
         (message_in link.now.table body.now)) out.old.items out.new.items) }
     ensures memory { OnErr result (EntersOrKeeps link.now.table link.now.header host.old host.new
         (message_in link.now.table body.now)) }
@@ -197,7 +205,8 @@ pub(crate) fn treat(
 ) -> Result<(), NoMemory>
     requires read { message_in link.now.table body.now ≡ Some rooms.old.request }
     requires spelled { (bytes : List ℕ) × Spelling link.now.table rooms.old.request bytes }
-    ensures treats { OnOk result (Treats behaviour.now link.now.table link.now.header host.old host.new
+    ensures treats { OnOk result
+        (Treats behaviour.now link.now.table link.now.header host.old host.new
         (message_in link.now.table body.now) out.old.items out.new.items) }
     ensures memory { OnErr result (EntersOrKeeps link.now.table link.now.header host.old host.new
         (message_in link.now.table body.now)) }

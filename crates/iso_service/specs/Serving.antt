@@ -22,14 +22,16 @@ use Rattle.iso_service.specs.declared.fault.ServiceFault.TheVariants.{Read, Writ
 
 -- each crash leaves these orders, and behind them whatever else came
 abbrev pub StayBehind : (List Instruction → Type 0) → List Instruction → Type 0
-StayBehind may_leave orders = (c : List Instruction) → may_leave c → (more : List Instruction) × (c ≡ orders ++ more)
+StayBehind may_leave orders = (c : List Instruction) → may_leave c
+    → (more : List Instruction) × (c ≡ orders ++ more)
 
 -- each crash leaves the orders of these books
 abbrev pub Stay : (List Instruction → Type 0) → Books → Type 0
 Stay may_leave books = StayBehind may_leave books.orders
 
 -- what was written is the output for these bodies, or its front, and each crash leaves the orders that they asked
-pub record AreKept (t : Layout) (h : Header) (held written : Option (List ℕ)) (old : Books) (may_leave : List Instruction → Type 0) : Type 0 where
+pub record AreKept (t : Layout) (h : Header) (held written : Option (List ℕ)) (old : Books)
+    (may_leave : List Instruction → Type 0) : Type 0 where
   pub bodies : List (List ℕ)
   pub answers : List ℕ
   pub output : IsOutput t h old bodies answers
@@ -40,19 +42,24 @@ pub record AreKept (t : Layout) (h : Header) (held written : Option (List ℕ)) 
 
 -- ---- how it ends
 
-module _ (t : Layout) (h : Header) (unread left held written : Option (List ℕ)) (old new : Books) where
+module _ (t : Layout) (h : Header) (unread left held written : Option (List ℕ))
+    (old new : Books) where
   -- the whole frames before the bytes that were refused are entered and answered; of those without memory the order may be entered
   abbrev pub WithoutMemory : Type 0
   WithoutMemory =
-      (mid : Books) × (bodies : List (List ℕ)) × (rest : List ℕ) × Served t h unread left held written old mid bodies rest
+      (mid : Books) × (bodies : List (List ℕ)) × (rest : List ℕ)
+      × Served t h unread left held written old mid bodies rest
       × Refuses t h [] mid new rest peer.Memory
 
   -- what was read, entered and answered, by how it ends
   abbrev pub Leaves : Result Report ServiceFault → Type 0
-  Leaves (Ok report) = Whole t h unread left held written old new (λ bodies rest. (rest ≡ []) × IsAtEnd left)
+  Leaves (Ok report) =
+      Whole t h unread left held written old new (λ bodies rest. (rest ≡ []) × IsAtEnd left)
   Leaves (Err Read) = Whole t h unread left held written old new (λ bodies rest. Unit {0})
-  Leaves (Err BadHeader) = Whole t h unread left held written old new (λ bodies rest. is_bad_header h rest ≡ true)
-  Leaves (Err CutFrame) = Whole t h unread left held written old new (λ bodies rest. (rest ≢ []) × IsAtEnd left)
+  Leaves (Err BadHeader) =
+      Whole t h unread left held written old new (λ bodies rest. is_bad_header h rest ≡ true)
+  Leaves (Err CutFrame) =
+      Whole t h unread left held written old new (λ bodies rest. (rest ≢ []) × IsAtEnd left)
   Leaves (Err Memory) = WithoutMemory
   Leaves (Err Write) = Unit {0}
   Leaves (Err Log) = Unit {0}
@@ -60,7 +67,8 @@ module _ (t : Layout) (h : Header) (unread left held written : Option (List ℕ)
 -- ---- one answer
 
 -- what waits is written whole, or not at all, or its front
-abbrev pub Hands : Option (List ℕ) → Option (List ℕ) → List ℕ → Result (Unit {0}) ServiceFault → Type 0
+abbrev pub Hands : Option (List ℕ) → Option (List ℕ) → List ℕ → Result (Unit {0}) ServiceFault
+    → Type 0
 Hands held written waiting (Ok done) = Appends held written waiting
 Hands held written waiting (Err Log) = Keeps held written
 Hands held written waiting (Err Write) = WritesSome held written waiting

@@ -34,7 +34,8 @@ pub(crate) fn keep_and_answer<L: Log, W: Outlet>(
     connection: &mut Connection<'_>,
     writer: &mut W,
 ) -> Result<(), ServiceFault>
-    ensures written { Hands (W.contents writer.old) (W.contents writer.new) connection.old.waiting result }
+    ensures written { Hands
+        (W.contents writer.old) (W.contents writer.new) connection.old.waiting result }
     ensures waiting { OnOk result (connection.new.waiting ≡ []) }
     ensures peer { connection.new.peer ≡ connection.old.peer }
     ensures host { host.new.host ≡ host.old.host }

@@ -61,14 +61,17 @@ pub trait Journals {
 
     /// The first bytes of the file at a path, and no more than so many.
     fn front(&self, alloc: Global, path: &str, most: u64) -> Result<Vec<u8>, FileFault>
-        ensures bytes { IfOk result (λ bytes. IfSome (held_at self.now path.now) (λ held. bytes.items ≡ take most held)) };
+        ensures bytes { IfOk result
+            (λ bytes. IfSome (held_at self.now path.now) (λ held. bytes.items ≡ take most held)) };
 
     /// Opens the file at a path, which has to be there.
     fn open(&self, path: &str) -> Result<Self::Disk, FileFault>
         // A read shows the bytes of the file, where these are known.
-        ensures seen { IfOk result (λ disk. IfSome (held_at self.now path.now) (λ held. Self.Disk.seen disk ≡ held)) }
+        ensures seen { IfOk result
+            (λ disk. IfSome (held_at self.now path.now) (λ held. Self.Disk.seen disk ≡ held)) }
         // A start after a crash finds these bytes and no others.
-        ensures only { IfOk result (λ disk. IfSome (held_at self.now path.now) (λ held. Only held (Self.Disk.may_leave disk))) };
+        ensures only { IfOk result (λ disk.
+            IfSome (held_at self.now path.now) (λ held. Only held (Self.Disk.may_leave disk))) };
 
     /// Makes an empty file, which its owner alone may read, for the one that is to have this path. Until `finish` it has
     /// another name. Nothing may have this path yet.

@@ -43,8 +43,10 @@ fn stopped_by(fault: PeerFault) -> ServiceFault
 fn fill<R: Inlet>(reader: &mut R, block: &mut Vec<u8>) -> Result<usize, Failed>
     ensures bound { IfOk result (λ n. n ≤ length block.new.items) }
     ensures room { length block.new.items ≡ length block.old.items }
-    ensures read { IfOk result (λ n. Consumes (R.remaining reader.old) (R.remaining reader.new) (take n block.new.items)) }
-    ensures end { IfOk result (λ n. n ≡ 0 → 0 < length block.old.items → IsAtEnd (R.remaining reader.new)) }
+    ensures read { IfOk result
+        (λ n. Consumes (R.remaining reader.old) (R.remaining reader.new) (take n block.new.items)) }
+    ensures end { IfOk result
+        (λ n. n ≡ 0 → 0 < length block.old.items → IsAtEnd (R.remaining reader.new)) }
     ensures failed { OnErr result (Keeps (R.remaining reader.old) (R.remaining reader.new)) }
 {
     reader.read(block)
@@ -69,7 +71,8 @@ pub fn serve_kept<L: Log, R: Inlet, W: Outlet>(
         host.old.host (L.may_leave host.new.log) }
     // At `Ok`, `Read`, `BadHeader` and `CutFrame` all whole frames are entered and answered, at
     // `Memory` those in front; of `Write` and `Log` it says nothing.
-    ensures leaves { Leaves link.now.table link.now.header (R.remaining reader.old) (R.remaining reader.new)
+    ensures leaves { Leaves link.now.table link.now.header
+        (R.remaining reader.old) (R.remaining reader.new)
         (W.contents writer.old) (W.contents writer.new) host.old.host host.new.host result }
 {
     // the laws of a journal that goes on, and that bytes have one split into frames, for the prover

@@ -44,7 +44,8 @@ fn check_front<J: Journals>(
     path: &str,
     heading: &Heading,
 ) -> Result<(), StartFault>
-    ensures { IfErr result (λ e. IfSome (J.held_at journals.now path.now) (λ held. IsWhy (heading_bytes heading.now) held e)) }
+    ensures { IfErr result (λ e. IfSome (J.held_at journals.now path.now)
+        (λ held. IsWhy (heading_bytes heading.now) held e)) }
 {
     let front = match journals.front(alloc, path, 128) {
         Ok(front) => front,
@@ -72,9 +73,11 @@ pub fn start<J: Journals, W: Watch>(
     ensures limit { IfOk result (λ host. host.issuer.limit ≡ 999999) }
     // At `Ok`, on a disk that didn't lie and shows what is on it, the log is ready, and the host
     // has exactly the orders of its file, of which none waits.
-    ensures started { IfOk result (λ host. (disk : J.Disk) × IsStarted J.Disk.seen J.Disk.may_leave J.Disk.is_usable J.Disk.is_clean disk host) }
+    ensures started { IfOk result (λ host. (disk : J.Disk)
+        × IsStarted J.Disk.seen J.Disk.may_leave J.Disk.is_usable J.Disk.is_clean disk host) }
     // Where the file's bytes are known, a fault about its front is what its first 128 bytes tell.
-    ensures fault { IfErr result (λ e. IfSome (J.held_at journals.now path.now) (λ held. IsWhy (heading_bytes heading.now) held e)) }
+    ensures fault { IfErr result (λ e. IfSome (J.held_at journals.now path.now)
+        (λ held. IsWhy (heading_bytes heading.now) held e)) }
 {
     check_front(alloc, journals, path, heading)?;
     let disk = match journals.open(path) {

@@ -17,7 +17,8 @@ pub(crate) fn take_counted<L: Log>(
     bytes: &[u8],
     report: &mut Report,
 ) -> Result<Turned, LogFailed>
-    ensures took { IfOk result (TakesAll connection.old connection.new host.old.host host.new.host bytes.now) }
+    ensures took { IfOk result
+        (TakesAll connection.old connection.new host.old.host host.new.host bytes.now) }
     ensures table { connection.new.peer.table ≡ connection.old.peer.table }
     ensures header { connection.new.peer.header ≡ connection.old.peer.header }
     ensures log { host.new.log ≡ host.old.log }

@@ -37,7 +37,8 @@ number_of log = writer_number log.writer
 
 -- the host of this number has seen what the log knows, is in doubt of nothing, and has decided the orders of the batch
 -- that is being made, and their answers wait
-pub record IsHost {S P : Type 0} (kept : S → List (List ℕ)) (w : World) (n : ℕ) (log : SharedLog S P) : Type 0 where
+pub record IsHost {S P : Type 0} (kept : S → List (List ℕ)) (w : World) (n : ℕ)
+    (log : SharedLog S P) : Type 0 where
   pub knows : Knows w (kept log.store)
   pub ready : IsReady kept log
   pub number : number_of log ≡ n
@@ -91,7 +92,8 @@ told_by false rows = []
 
 -- an append is such a run: wherever the world keeps what the store is known to keep, before the host reads, the log is that
 -- of its host again, and the answers of the full batch were told
-abbrev pub AppendsAreEvents : {S P : Type 0} → (kept sent : S → List (List ℕ)) → SharedLog S P → SharedLog S P → Type 0
+abbrev pub AppendsAreEvents : {S P : Type 0} → (kept sent : S → List (List ℕ)) → SharedLog S P
+    → SharedLog S P → Type 0
 AppendsAreEvents kept sent old new =
     (w : World) (n : ℕ) (row : Row) (others : List Event) →
     IsHost kept w n old → Adds kept sent old new row → IsDecided w n row → AreOfOthers n others →
@@ -113,7 +115,8 @@ flushing n [] = []
 flushing n (r ∷ rs) = Reads n ∷ []
 
 -- a sync is such a run, and tells the answers that waited, and nothing else
-abbrev pub SyncsAreEvents : {S P : Type 0} → (kept sent : S → List (List ℕ)) → SharedLog S P → SharedLog S P → Type 0
+abbrev pub SyncsAreEvents : {S P : Type 0} → (kept sent : S → List (List ℕ)) → SharedLog S P
+    → SharedLog S P → Type 0
 SyncsAreEvents kept sent old new =
     (w : World) (n : ℕ) (others : List Event) →
     IsHost kept w n old → Flushes kept sent old new → AreOfOthers n others →
@@ -124,9 +127,11 @@ SyncsAreEvents kept sent old new =
 
 -- in a world that began with orders that one host could start on, each answer that a sync hands out is the one that the
 -- log then gives to its order
-abbrev pub SyncsTellTheLog : {S P : Type 0} → (kept sent : S → List (List ℕ)) → SharedLog S P → SharedLog S P → Type 0
+abbrev pub SyncsTellTheLog : {S P : Type 0} → (kept sent : S → List (List ℕ)) → SharedLog S P
+    → SharedLog S P → Type 0
 SyncsTellTheLog kept sent old new =
-    (accounts : List Account) (limit : ℕ) (begun : List Batch) (before others : List Event) (n : ℕ) →
+    (accounts : List Account) (limit : ℕ) (begun : List Batch) (before others : List Event) (n : ℕ)
+    →
     IsStart limit (orders_in begun) →
     let w = after_events before (log_begins accounts limit begun) in
     IsHost kept w n old → Flushes kept sent old new → AreOfOthers n others →
@@ -138,7 +143,8 @@ SyncsTellTheLog kept sent old new =
 -- ---- a start, and reading on
 
 -- the host of this number has seen what was read, and decided nothing
-pub record IsReader {S : Type 0} (kept : S → List (List ℕ)) (w : World) (n : ℕ) (standby : Standby S) : Type 0 where
+pub record IsReader {S : Type 0} (kept : S → List (List ℕ)) (w : World) (n : ℕ)
+    (standby : Standby S) : Type 0 where
   pub knows : Knows w (kept standby.store)
   pub known : standby.seen ≤ length (kept standby.store)
   pub host : w.hosts n ≡ fresh standby.seen
@@ -158,7 +164,8 @@ ReadingIsAnEvent kept old new =
     × ((after_event w (Reads n)).told ≡ w.told)
 
 -- the log of a host that starts on what was read is that of its host
-abbrev pub ReadersBecomeHosts : {S P : Type 0} → (S → List (List ℕ)) → Standby S → SharedLog S P → Type 0
+abbrev pub ReadersBecomeHosts : {S P : Type 0} → (S → List (List ℕ)) → Standby S → SharedLog S P
+    → Type 0
 ReadersBecomeHosts kept standby log =
     (w : World) (n : ℕ) → IsReader kept w n standby → number_of log ≡ n →
     log.store ≡ standby.store → log.seen ≡ standby.seen → log.synced ≡ standby.seen →

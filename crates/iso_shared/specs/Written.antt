@@ -9,7 +9,8 @@ use Rattle.iso_record.specs.declared.row.Row.{Row}
 use Rattle.iso_shared.specs.Batch.{Filed, batch_in}
 
 -- a host with these orders writes this row: its key is new, there is room, and the answer is the one that they give
-pub record IsWritten (accounts : List Account) (limit : ℕ) (before : List Instruction) (row : Row) : Type 0 where
+pub record IsWritten (accounts : List Account) (limit : ℕ) (before : List Instruction)
+    (row : Row) : Type 0 where
   pub answer_is : row.answer ≡ answer_for accounts (journal_of accounts before) row.order
   pub new :
       is_taken (record { accounts = accounts; limit = limit; orders = before }) row.order ≡ true

@@ -35,10 +35,12 @@ pub fn write_batch(out: &mut Vec<u8>, heading: &Heading, rows: &[Row]) -> Result
         ≡ batch_bytes (record { heading = heading.now; rows = rows.now })) }
     // Where it succeeds, the batch is one that can be written: at most 8,191 orders, and a place of
     // at most ten digits.
-    ensures filed { OnOk result (is_filed (record { heading = heading.now; rows = rows.now }) ≡ true) }
+    ensures filed { OnOk result
+        (is_filed (record { heading = heading.now; rows = rows.now }) ≡ true) }
     // It fails only where the batch has too many orders or names a place behind the last one, or
     // for want of memory.
-    ensures fault { IfErr result (λ why. IsUnwritten (record { heading = heading.now; rows = rows.now }) why) }
+    ensures fault { IfErr result
+        (λ why. IsUnwritten (record { heading = heading.now; rows = rows.now }) why) }
 {
     if heading.place > MOST_PLACES || rows.len() > MOST_ROWS {
         return Err(Why::TooLarge);

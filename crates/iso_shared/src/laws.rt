@@ -69,7 +69,8 @@ pub fn calls_are_events<S: Store + Drop, P: Patience + Drop>()
     // Reading on is the event that a host reads the next batch, and no answer is told by it.
     ensures reads { (old new : Standby S) → ReadingIsAnEvent S.kept old new }
     // The log of a host that starts on what a standby has read is that of its host in that world.
-    ensures becomes { (standby : Standby S) (log : SharedLog S P) → ReadersBecomeHosts S.kept standby log }
+    ensures becomes { (standby : Standby S) (log : SharedLog S P)
+        → ReadersBecomeHosts S.kept standby log }
 {
     no_host_is_wrong();
     batches_come_back();

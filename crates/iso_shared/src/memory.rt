@@ -135,7 +135,8 @@ impl MemoryStore {
 
     /// Notes that a batch was sent, and gives a copy of it. Where it isn't sent, nothing is noted.
     fn note(&mut self, bytes: &[u8]) -> Option<Vec<u8>>
-        ensures sent { IfSome result (λ copy. texts self.new.sent.items ≡ texts self.old.sent.items ++ bytes.now ∷ []) }
+        ensures sent { IfSome result
+            (λ copy. texts self.new.sent.items ≡ texts self.old.sent.items ++ bytes.now ∷ []) }
         ensures none { IsNone result → texts self.new.sent.items ≡ texts self.old.sent.items }
         ensures kept { self.new.batches ≡ self.old.batches }
     {
@@ -160,7 +161,8 @@ impl MemoryStore {
     /// Sends a batch whose answer doesn't come.
     fn ask_unheard(&mut self, place: u64, bytes: &[u8], is_put: bool) -> Asked
         ensures grows { Grows (texts self.old.batches.items) (texts self.new.batches.items) }
-        ensures sent { IsSent (texts self.old.sent.items) (texts self.new.sent.items) bytes.now result }
+        ensures sent { IsSent
+            (texts self.old.sent.items) (texts self.new.sent.items) bytes.now result }
         ensures asked { IsAsked (texts self.new.batches.items) place bytes.now result }
     {
         let Some(copy) = self.note(bytes) else {
@@ -173,7 +175,8 @@ impl MemoryStore {
     /// Sends a batch whose answer comes.
     fn ask_heard(&mut self, place: u64, bytes: &[u8]) -> Asked
         ensures grows { Grows (texts self.old.batches.items) (texts self.new.batches.items) }
-        ensures sent { IsSent (texts self.old.sent.items) (texts self.new.sent.items) bytes.now result }
+        ensures sent { IsSent
+            (texts self.old.sent.items) (texts self.new.sent.items) bytes.now result }
         ensures asked { IsAsked (texts self.new.batches.items) place bytes.now result }
     {
         let Some(copy) = self.note(bytes) else {

@@ -166,7 +166,8 @@ impl<S: Store + Drop> Standby<S> {
         ensures reads { IfOk result (λ b. ReadsOn S.kept self.old self.new b) }
         // Where it succeeds, a standby that followed its store still does: its journal has the
         // orders of the batches that it has read, each key once, and within the limit.
-        ensures following { OnOk result (IsFollowing S.kept self.old → IsFollowing S.kept self.new) }
+        ensures following { OnOk result
+            (IsFollowing S.kept self.old → IsFollowing S.kept self.new) }
         // Where it succeeds, the accounts are as they were.
         ensures accounts { OnOk result (self.new.issuer.accounts ≡ self.old.issuer.accounts) }
         // Where it succeeds, the limit is as it was.
@@ -199,7 +200,8 @@ impl<S: Store + Drop> Standby<S> {
 
     /// Reads on once, and tells whether to go on: while the store gives no answer, as long as `patience` lasts.
     fn follow<P: Patience>(&mut self, alloc: Global, patience: &mut P) -> Result<bool, OpenError>
-        ensures following { OnOk result (IsFollowing S.kept self.old → IsFollowing S.kept self.new) }
+        ensures following { OnOk result
+            (IsFollowing S.kept self.old → IsFollowing S.kept self.new) }
         ensures accounts { OnOk result (self.new.issuer.accounts ≡ self.old.issuer.accounts) }
         ensures limit { OnOk result (self.new.issuer.limit ≡ self.old.issuer.limit) }
         ensures grows { Grows (S.kept self.old.store) (S.kept self.new.store) }
@@ -226,7 +228,8 @@ impl<S: Store + Drop> Standby<S> {
     ) -> Result<(), OpenError>
         // Where it succeeds, a standby that followed its store still does: its journal has the
         // orders of the batches that it has read, each key once, and within the limit.
-        ensures following { OnOk result (IsFollowing S.kept self.old → IsFollowing S.kept self.new) }
+        ensures following { OnOk result
+            (IsFollowing S.kept self.old → IsFollowing S.kept self.new) }
         // Where it succeeds, the accounts are as they were.
         ensures accounts { OnOk result (self.new.issuer.accounts ≡ self.old.issuer.accounts) }
         // Where it succeeds, the limit is as it was.

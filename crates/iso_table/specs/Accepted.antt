@@ -85,7 +85,8 @@ row_fault is_used r =
 -- the first thing that is wrong with rows that stand behind earlier ones
 abbrev pub rows_fault : List Row → List Row → Option TableFault
 rows_fault earlier [] = None
-rows_fault earlier (r ∷ rs) = option_or (row_fault (is_some (row_of earlier r.number)) r) (rows_fault (earlier ++ r ∷ []) rs)
+rows_fault earlier (r ∷ rs) =
+    option_or (row_fault (is_some (row_of earlier r.number)) r) (rows_fault (earlier ++ r ∷ []) rs)
 
 -- the first thing that is wrong: the version, and then row by row
 abbrev pub draft_fault : DraftContents → Option TableFault

@@ -54,7 +54,8 @@ coding_name codings.HexText = codes "hex"
 
 -- the coding that is written so
 abbrev pub coding_named : List ℕ → Option Coding
-coding_named t = find (λ c. bytes_eq t (coding_name c)) (codings.Ascii ∷ codings.Bcd ∷ codings.Raw ∷ codings.HexText ∷ [])
+coding_named t = find (λ c. bytes_eq t (coding_name c))
+    (codings.Ascii ∷ codings.Bcd ∷ codings.Raw ∷ codings.HexText ∷ [])
 
 -- the text that a kind of digits is written as
 abbrev pub digits_name : Digits → List ℕ
@@ -113,7 +114,8 @@ has_four_digits Two = true
 
 -- what stands behind a beginning
 abbrev pub behind : List ℕ → List ℕ → Option (List ℕ)
-behind front t = if bytes_eq (take (length front) t) front then Some (drop (length front) t) else None
+behind front t =
+    if bytes_eq (take (length front) t) front then Some (drop (length front) t) else None
 
 -- the padding whose byte stands behind `left:` or `right:`
 abbrev pub pad_behind : Option (List ℕ) → Option (List ℕ) → Option Pad
@@ -123,7 +125,8 @@ pad_behind None None = None
 
 -- the padding that is written so, its byte in digits of either case
 abbrev pub pad_named : List ℕ → Option Pad
-pad_named t = if bytes_eq t (codes "none") then Some pads.None else pad_behind (behind (codes "left:") t) (behind (codes "right:") t)
+pad_named t = if bytes_eq t (codes "none") then Some pads.None
+    else pad_behind (behind (codes "left:") t) (behind (codes "right:") t)
 
 -- ---- members
 
@@ -162,7 +165,8 @@ length_by p d t =
     if bytes_eq t (codes "fixed") then (if has_size 6 d then Some lengths.Fixed else None)
     else if bytes_eq t (codes "LL") then option_map lengths.LL (prefix_in d)
     else if bytes_eq t (codes "LLL") then option_map lengths.LLL (prefix_in d)
-    else if bytes_eq t (codes "LLLL") then (if has_four_digits p then option_map lengths.LLLL (prefix_in d) else None)
+    else if bytes_eq t (codes "LLLL")
+    then (if has_four_digits p then option_map lengths.LLLL (prefix_in d) else None)
     else None
 
 -- the length of a row
@@ -213,7 +217,8 @@ list_in p d = get (codes "rows") d >>= as_array >>= rows_in p
 
 -- a draft of these parts, if the rows are some
 abbrev pub with_rows : ℕ → Digits → BitmapCoding → Option (List Row) → Option DraftContents
-with_rows version mti bitmap rows = option_map (λ rows. record { version = version; mti = mti; bitmap = bitmap; rows = rows }) rows
+with_rows version mti bitmap rows =
+    option_map (λ rows. record { version = version; mti = mti; bitmap = bitmap; rows = rows }) rows
 
 -- the draft that the members say
 abbrev pub members_in : Profile → Data → Option DraftContents
@@ -270,7 +275,8 @@ IsNotJson text = IsUtf8 text → read text ≡ None
 
 -- the text stands for the table
 abbrev pub IsTableOf : List ℕ → Layout → Type 0
-IsTableOf text t = (d : Data) × (c : DraftContents) × StandsFor text d × (table_in d ≡ Ok c) × Holds t c
+IsTableOf text t = (d : Data) × (c : DraftContents) × StandsFor text d × (table_in d ≡ Ok c)
+    × Holds t c
 
 -- the text is JSON, and this is the first thing wrong with it
 abbrev pub IsDocumentFault : List ℕ → TableFault → Type 0

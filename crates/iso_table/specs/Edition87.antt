@@ -20,7 +20,8 @@ use Rattle.iso_table.specs.Layout.{Layout, row_at}
 
 -- one line of the table below
 abbrev pub line : ℕ → ℕ → CharClass → LengthKind → ℕ → Pad → EditionLine
-line first last class kind max pad = record { first = first; last = last; class = class; kind = kind; max = max; pad = pad }
+line first last class kind max pad =
+    record { first = first; last = last; class = class; kind = kind; max = max; pad = pad }
 
 -- no padding
 abbrev pub none : Pad
@@ -109,7 +110,13 @@ coding_of digits.Ascii n c = codings.Ascii
 
 -- the row of element n by its line
 abbrev pub spec_of : Digits → ℕ → EditionLine → FieldSpec
-spec_of d n l = record { class = l.class; coding = coding_of d n l.class; length = length_of l.kind d; max = l.max; pad = l.pad }
+spec_of d n l = record {
+  class = l.class;
+  coding = coding_of d n l.class;
+  length = length_of l.kind d;
+  max = l.max;
+  pad = l.pad;
+}
 
 -- the row of element n
 abbrev pub row87 : Digits → ℕ → Option FieldSpec

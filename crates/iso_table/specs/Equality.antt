@@ -32,10 +32,13 @@ same_rows = pointwise (option_eq same_spec)
 
 -- two tables say the same
 abbrev pub same_layout : Layout → Layout → Bool
-same_layout t u = (nat_eq t.version u.version && same_digits t.mti u.mti) && (same_coding t.bitmap u.bitmap && same_rows t.rows u.rows)
+same_layout t u = (nat_eq t.version u.version && same_digits t.mti u.mti)
+    && (same_coding t.bitmap u.bitmap && same_rows t.rows u.rows)
 
 -- each table says the same as itself, and so on
 pub same_layout_equiv : IsEquivalence same_layout
 same_layout_equiv = and_equiv
-    (and_equiv (on_equiv (λ (t : Layout). t.version) nat_eq_equiv) (on_equiv (λ (t : Layout). t.mti) digits_laws.laws-law))
-    (and_equiv (on_equiv (λ (t : Layout). t.bitmap) coding_laws.laws-law) (on_equiv (λ (t : Layout). t.rows) (lists_equiv (options_equiv spec_laws.laws-law))))
+    (and_equiv (on_equiv (λ (t : Layout). t.version) nat_eq_equiv)
+    (on_equiv (λ (t : Layout). t.mti) digits_laws.laws-law))
+    (and_equiv (on_equiv (λ (t : Layout). t.bitmap) coding_laws.laws-law)
+    (on_equiv (λ (t : Layout). t.rows) (lists_equiv (options_equiv spec_laws.laws-law))))

@@ -53,7 +53,8 @@ is_unpadded p = false
 -- whether the row has the shape
 abbrev pub is_shape : Shape → FieldSpec → Bool
 is_shape (Digits n) s = is_n s.class && is_fixed s.length && (s.max == n) && is_unpadded s.pad
-is_shape (DigitsUpTo n) s = is_n s.class && is_ll_or_lll s.length && nat_le s.max n && is_unpadded s.pad
+is_shape (DigitsUpTo n) s =
+    is_n s.class && is_ll_or_lll s.length && nat_le s.max n && is_unpadded s.pad
 is_shape (Text n) s = is_n_or_an s.class && is_fixed s.length && (s.max == n) && is_unpadded s.pad
 is_shape Amounts s = is_an s.class && is_ll_or_lll s.length && nat_le 20 s.max && is_unpadded s.pad
 is_shape (AnyUpTo n) s = nat_le s.max n
@@ -95,7 +96,8 @@ host_row_fault h (Some s) = if is_shape h.shape s then None else Some (RowShape 
 -- the first thing that is wrong among the elements, in ascending number
 abbrev pub host_rows_fault : List HostRow → List (Option FieldSpec) → Option HostTableFault
 host_rows_fault [] rows = None
-host_rows_fault (h ∷ hs) rows = option_or (host_row_fault h (row_at rows h.number)) (host_rows_fault hs rows)
+host_rows_fault (h ∷ hs) rows =
+    option_or (host_row_fault h (row_at rows h.number)) (host_rows_fault hs rows)
 
 -- the first thing that is wrong: the version, then the rows
 abbrev pub host_fault : Layout → Option HostTableFault

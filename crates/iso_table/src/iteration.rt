@@ -44,7 +44,8 @@ fn first_row(
 ) -> Option<(u8, &FieldSpec, &[Option<FieldSpec>])>
     requires { number + length places.now ≤ 255 }
     ensures { MatchOption result (rows_from number places.now ≡ [])
-        (λ found. (rows_from number places.now ≡ record { number = found.0; spec = found.1.now } ∷ rows_from (found.0 + 1) found.2.now)
+        (λ found. (rows_from number places.now
+        ≡ record { number = found.0; spec = found.1.now } ∷ rows_from (found.0 + 1) found.2.now)
         × (found.0 + 1 + length found.2.now ≤ 255)) }
 {
     while let Some((place, later)) = places.split_first() {

@@ -47,9 +47,12 @@ pub fn row_at(places: &[Option<FieldSpec>], number: usize) -> Option<&FieldSpec>
 /// Puts a row at its number.
 fn place(places: &mut [Option<FieldSpec>], row: &Row) -> Result<(), TableFault>
     requires { length places.old ≡ 129 }
-    ensures ok { OnOk result (places.new ≡ slice_set places.old row.now.number (Some row.now.spec)) }
-    ensures good { OnOk result (row_fault (is_some (row_at places.old row.now.number)) row.now ≡ None) }
-    ensures fault { IfErr result (λ e. row_fault (is_some (row_at places.old row.now.number)) row.now ≡ Some e) }
+    ensures ok { OnOk result
+        (places.new ≡ slice_set places.old row.now.number (Some row.now.spec)) }
+    ensures good { OnOk result
+        (row_fault (is_some (row_at places.old row.now.number)) row.now ≡ None) }
+    ensures fault { IfErr result
+        (λ e. row_fault (is_some (row_at places.old row.now.number)) row.now ≡ Some e) }
 {
     let is_used = row_at(places, usize::from(row.number)).is_some();
     if let Some(fault) = fault_of(row, is_used) {

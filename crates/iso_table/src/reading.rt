@@ -227,7 +227,8 @@ fn document_row(profile: Profile, value: &Value) -> Option<Row>
 fn rows_in(alloc: Global, profile: Profile, values: &[Value]) -> Result<Vec<Row>, TableFault>
     ensures ok { IfOk result (λ rows. rows_in profile (items_view values.now) ≡ Some rows.items) }
     ensures fault { IfErr result (λ e. e ≢ Memory → e ≡ Shape) }
-    ensures shape { IfErr result (λ e. e ≢ Memory → rows_in profile (items_view values.now) ≡ None) }
+    ensures shape { IfErr result
+        (λ e. e ≢ Memory → rows_in profile (items_view values.now) ≡ None) }
 {
     let mut rows = Vec::new(alloc);
     for value in values {
@@ -255,7 +256,8 @@ fn bitmap_in(value: &Value) -> Option<BitmapCoding>
 
 /// What an object of all members says beside its rows.
 fn head_in(profile: Profile, value: &Value) -> Option<Head>
-    ensures some { IfSome result (λ h. members_in profile (view value.now) ≡ with_rows h.version h.mti h.bitmap (list_in profile (view value.now))) }
+    ensures some { IfSome result (λ h. members_in profile (view value.now)
+        ≡ with_rows h.version h.mti h.bitmap (list_in profile (view value.now))) }
     ensures none { IsNone result → members_in profile (view value.now) ≡ None }
 {
     Some(Head {

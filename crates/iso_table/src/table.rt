@@ -44,9 +44,11 @@ pub struct Table {
 impl Model for Table {
     ghost Value = { Layout };
 
-    ghost view = { λ t. record { version = t.version; mti = t.mti; bitmap = t.bitmap; rows = t.rows.items } };
+    ghost view = { λ t.
+        record { version = t.version; mti = t.mti; bitmap = t.bitmap; rows = t.rows.items } };
 
-    ghost invariant = { λ t. IsAccepted (record { version = t.version; mti = t.mti; bitmap = t.bitmap; rows = t.rows.items }) };
+    ghost invariant = { λ t. IsAccepted
+        (record { version = t.version; mti = t.mti; bitmap = t.bitmap; rows = t.rows.items }) };
 }
 
 /// An equal table, in memory of its own. Where memory ran out, nothing is left behind.
@@ -261,9 +263,11 @@ impl Table {
         // Memory aside, the draft has the table's version, codings and rows, in ascending order.
         ensures contents { IfOk result (λ draft. contents draft ≡ draft_of self.now) }
         // Memory aside, the draft is an accepted one, and says what the table says.
-        ensures accepted { IfOk result (λ draft. Accepted (contents draft) × Holds self.now (contents draft)) }
+        ensures accepted { IfOk result
+            (λ draft. Accepted (contents draft) × Holds self.now (contents draft)) }
         // Memory aside, each accepted table that says what the draft says is this very table.
-        ensures again { IfOk result (λ draft. (t : Layout) → IsAccepted t → Holds t (contents draft) → t ≡ self.now) }
+        ensures again { IfOk result
+            (λ draft. (t : Layout) → IsAccepted t → Holds t (contents draft) → t ≡ self.now) }
     {
         Ok(Draft {
             version: self.version,

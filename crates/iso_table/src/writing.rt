@@ -163,7 +163,8 @@ pub fn document(
     places: &[Option<FieldSpec>],
 ) -> Result<Value, AllocError>
     // Memory aside, it is the object of profile 2, its members by name and its rows by number.
-    ensures { IfOk result (λ value. view value ≡ document (record { version = version; mti = mti; bitmap = bitmap; rows = places.now })) }
+    ensures { IfOk result (λ value. view value
+        ≡ document (record { version = version; mti = mti; bitmap = bitmap; rows = places.now })) }
 {
     let rows = Value::Array(row_values(alloc, places)?);
     json!(in alloc; {

@@ -9,13 +9,15 @@ is_in start (Some bound) value = nat_le start value && nat_lt value bound
 
 -- a bucket with the count of all values that are in it
 abbrev pub bucket_of : List ℕ → ℕ → Option ℕ → Bucket
-bucket_of values start bound = record { from = start; below = bound; count = count_by (is_in start bound) values }
+bucket_of values start bound =
+    record { from = start; below = bound; count = count_by (is_in start bound) values }
 
 -- the buckets between these bounds: the first begins with a number, each next one where the one before it ends, and the
 -- last has no bound
 abbrev pub buckets_from : ℕ → List ℕ → List ℕ → List Bucket
 buckets_from start [] values = bucket_of values start None ∷ []
-buckets_from start (bound ∷ bounds) values = bucket_of values start (Some bound) ∷ buckets_from bound bounds values
+buckets_from start (bound ∷ bounds) values =
+    bucket_of values start (Some bound) ∷ buckets_from bound bounds values
 
 -- each of these bounds is at least the one before it, the first at least that number
 abbrev pub is_ascending : ℕ → List ℕ → Bool

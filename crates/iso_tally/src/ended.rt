@@ -26,7 +26,8 @@ pub struct Ended {
 impl Ended {
     /// How many purchases were declined, up to the greatest `usize`.
     pub fn all_declined(&self) -> usize
-        ensures { result ≡ min (sum_by (λ d. d.count) self.now.declined.items) 18446744073709551615 }
+        ensures { result
+            ≡ min (sum_by (λ d. d.count) self.now.declined.items) 18446744073709551615 }
     {
         let mut count = 0usize;
         for of in &self.declined {

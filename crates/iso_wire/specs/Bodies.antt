@@ -47,7 +47,14 @@ starts_in bodies ns = map (start_of bodies) ns
 abbrev pub viewed_of : Outline → Bor (List ℕ) → Bodies → Viewed
 viewed_of outline b bodies =
     let ns = members outline.numbers in
-    record { mti = mti_number outline.mti; used = outline.used; wires = wires_in b.now bodies ns; starts = starts_in bodies ns; bytes = b.now; address = b.ref_ptr }
+    record {
+      mti = mti_number outline.mti;
+      used = outline.used;
+      wires = wires_in b.now bodies ns;
+      starts = starts_in bodies ns;
+      bytes = b.now;
+      address = b.ref_ptr;
+    }
 
 -- the body with a number lies within so many bytes
 abbrev pub IsBodyWithin : ℕ → Bodies → ℕ → Type 0
@@ -69,7 +76,8 @@ abbrev pub wire_at : Option FieldSpec → List ℕ → ℕ → List ℕ
 wire_at row b used = take (used - front_of row) (drop (front_of row) b)
 
 -- the bodies of the elements with the numbers, and the offset behind them
-abbrev pub wires_at : List (Option FieldSpec) → List ℕ → ℕ → List ℕ → Result (List (ℕ × List ℕ) × ℕ) UnpackFault
+abbrev pub wires_at : List (Option FieldSpec) → List ℕ → ℕ → List ℕ
+    → Result (List (ℕ × List ℕ) × ℕ) UnpackFault
 wires_at rows [] at b = Ok ([], at)
 wires_at rows (n ∷ ns) at b = do
   first ← value_at rows n at b
@@ -81,15 +89,24 @@ abbrev pub view_at : Layout → Bor (List ℕ) → Result Viewed UnpackFault
 view_at t b = do
   begun ← beginning_at t b.now
   read ← wires_at t.rows begun.1 begun.2 (drop begun.2 b.now)
-  Ok (record { mti = begun.0; used = read.1; wires = read.0; starts = starts_of t.rows begun.2 read.0; bytes = b.now; address = b.ref_ptr })
+  Ok (record {
+    mti = begun.0;
+    used = read.1;
+    wires = read.0;
+    starts = starts_of t.rows begun.2 read.0;
+    bytes = b.now;
+    address = b.ref_ptr;
+  })
 
 -- a part was judged as reading does, without its value: where its body begins, and how many bytes it takes
-abbrev pub JudgesWire : Option FieldSpec → Result (ℕ × ℕ) UnpackFault → Result (List ℕ × ℕ) UnpackFault → Type 0
+abbrev pub JudgesWire : Option FieldSpec → Result (ℕ × ℕ) UnpackFault
+    → Result (List ℕ × ℕ) UnpackFault → Type 0
 JudgesWire row (Ok x) read = (x.0 ≡ front_of row) × ((value : List ℕ) × (read ≡ Ok (value, x.1)))
 JudgesWire row (Err e) read = read ≡ Err e
 
 -- the bodies are found that reading gives
-abbrev pub FindsBodies : List ℕ → Bodies → List ℕ → Result ℕ UnpackFault → Result (List (ℕ × List ℕ) × ℕ) UnpackFault → Type 0
+abbrev pub FindsBodies : List ℕ → Bodies → List ℕ → Result ℕ UnpackFault
+    → Result (List (ℕ × List ℕ) × ℕ) UnpackFault → Type 0
 FindsBodies b bodies ns (Ok end) read = read ≡ Ok (wires_in b bodies ns, end)
 FindsBodies b bodies ns (Err e) read = read ≡ Err e
 
@@ -98,6 +115,7 @@ abbrev pub BeginsThere : List (Option FieldSpec) → ℕ → List ℕ → Bodies
 BeginsThere rows at b bodies ns = starts_in bodies ns ≡ starts_of rows at (wires_in b bodies ns)
 
 -- an outline is of the message that reading gives, and its bodies lie there
-abbrev pub Outlines : Bor (List ℕ) → Bodies → Result Outline UnpackFault → Result Viewed UnpackFault → Type 0
+abbrev pub Outlines : Bor (List ℕ) → Bodies → Result Outline UnpackFault → Result Viewed UnpackFault
+    → Type 0
 Outlines b bodies (Ok outline) read = read ≡ Ok (viewed_of outline b bodies)
 Outlines b bodies (Err e) read = read ≡ Err e

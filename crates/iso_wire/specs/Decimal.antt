@@ -11,7 +11,8 @@ decimal (suc digits) v = decimal digits (v / 10) ++ (48 + v % 10) ∷ []
 
 -- from `least` to `most` digits, and nothing else
 abbrev pub are_digits : ℕ → ℕ → List ℕ → Bool
-are_digits least most text = nat_le least (length text) && nat_le (length text) most && list_all is_digit text
+are_digits least most text =
+    nat_le least (length text) && nat_le (length text) most && list_all is_digit text
 
 -- the number that digits write behind those of `before`
 abbrev pub number_after : ℕ → List ℕ → ℕ

@@ -62,7 +62,9 @@ origin_word d =
 -- the four digits, and the word of each
 abbrev pub type_line : ℕ → List ℕ
 type_line n =
-    codes "MTI=" ++ four_digits_of Ascii n ++ 32 ∷ version_word (n / 1000) ++ 32 ∷ class_word (n / 100 % 10) ++ 32 ∷ function_word (n / 10 % 10) ++ 32 ∷ origin_word (n % 10) ++ 10 ∷ []
+    codes "MTI=" ++ four_digits_of Ascii n ++ 32 ∷ version_word (n / 1000) ++ 32
+    ∷ class_word (n / 100 % 10) ++ 32 ∷ function_word (n / 10 % 10) ++ 32 ∷ origin_word (n % 10)
+    ++ 10 ∷ []
 
 -- ---- an element
 
@@ -81,7 +83,8 @@ abbrev pub value_text : CharClass → ℕ → List ℕ → List ℕ
 value_text class n v =
     let front : ℕ = shown_front n (length v) in
     let end : ℕ = shown_end n (length v) in
-    clear_text class (take front v) ++ (replicate (length v - front - end) 42 ++ clear_text class (drop (length v - end) v))
+    clear_text class (take front v)
+    ++ (replicate (length v - front - end) 42 ++ clear_text class (drop (length v - end) v))
 
 -- the whole value, or what a bystander may read of it
 abbrev pub shown_text : Bool → CharClass → ℕ → List ℕ → List ℕ
@@ -89,12 +92,14 @@ shown_text is_clear class n v = if is_clear then clear_text class v else value_t
 
 -- the line of an element: its number, and what is shown of its value
 abbrev pub element_line : Bool → List (Option FieldSpec) → ℕ → List ℕ → List ℕ
-element_line is_clear rows n v = codes "DE" ++ (decimal 3 n ++ (61 ∷ shown_text is_clear (class_by (row_at rows n)) n v ++ 10 ∷ []))
+element_line is_clear rows n v = codes "DE"
+    ++ (decimal 3 n ++ (61 ∷ shown_text is_clear (class_by (row_at rows n)) n v ++ 10 ∷ []))
 
 -- the lines of elements, in their order
 abbrev pub element_lines : Bool → List (Option FieldSpec) → List (ℕ × List ℕ) → List ℕ
 element_lines is_clear rows [] = []
-element_lines is_clear rows (e ∷ es) = element_line is_clear rows e.0 e.1 ++ element_lines is_clear rows es
+element_lines is_clear rows (e ∷ es) =
+    element_line is_clear rows e.0 e.1 ++ element_lines is_clear rows es
 
 -- ---- the lines
 
@@ -106,13 +111,16 @@ description is_clear t m = type_line m.mti ++ element_lines is_clear t.rows m.el
 
 -- the text is the number in decimal, with no zero before it
 abbrev pub IsDecimal : ℕ → List ℕ → Type 0
-IsDecimal v text = (d : ℕ) × (text ≡ decimal d v) × (1 ≤ d) × (v < 10 ^ d) × ((d ≡ 1) ⊎ (10 ^ (d - 1) ≤ v))
+IsDecimal v text = (d : ℕ) × (text ≡ decimal d v) × (1 ≤ d) × (v < 10 ^ d)
+    × ((d ≡ 1) ⊎ (10 ^ (d - 1) ≤ v))
 
 -- how many bytes a message took, and of how many
 abbrev pub IsUsedLine : ℕ → ℕ → List ℕ → Type 0
 IsUsedLine used total line =
-    (first : List ℕ) × (second : List ℕ) × IsDecimal used first × IsDecimal total second × (line ≡ codes "USED=" ++ (first ++ (47 ∷ second ++ 10 ∷ [])))
+    (first : List ℕ) × (second : List ℕ) × IsDecimal used first × IsDecimal total second
+    × (line ≡ codes "USED=" ++ (first ++ (47 ∷ second ++ 10 ∷ [])))
 
 -- the description, and then that line
 abbrev pub AreLinesOf : Bool → Layout → Contents → ℕ → ℕ → List ℕ → Type 0
-AreLinesOf is_clear t m used total lines = (last : List ℕ) × IsUsedLine used total last × (lines ≡ description is_clear t m ++ last)
+AreLinesOf is_clear t m used total lines = (last : List ℕ) × IsUsedLine used total last
+    × (lines ≡ description is_clear t m ++ last)

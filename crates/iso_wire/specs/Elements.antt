@@ -23,7 +23,8 @@ IsBelow n (e ∷ es) = (e.0 < n) × IsBelow n es
 -- the value at its number, in place of the one that was there
 abbrev pub put : ℕ → List ℕ → List (ℕ × List ℕ) → List (ℕ × List ℕ)
 put n v [] = (n, v) ∷ []
-put n v (e ∷ es) = if nat_lt e.0 n then e ∷ put n v es else if e.0 == n then (n, v) ∷ es else (n, v) ∷ e ∷ es
+put n v (e ∷ es) =
+    if nat_lt e.0 n then e ∷ put n v es else if e.0 == n then (n, v) ∷ es else (n, v) ∷ e ∷ es
 
 -- the other elements
 abbrev pub without : ℕ → List (ℕ × List ℕ) → List (ℕ × List ℕ)

@@ -17,18 +17,25 @@ same_contents m n = nat_eq m.mti n.mti && pointwise same_element m.elements n.el
 -- equal elements are the same ones, and no others
 same_element_decides : (d e : ℕ × List ℕ) → Decides (same_element d e) (d ≡ e)
 same_element_decides d e = (
-  (λ h i. ((unsigned_Decides d.0 e.0).0 (first_so (nat_eq d.0 e.0) (pointwise nat_eq d.1 e.1) h) i, (bytes_decides d.1 e.1).0 (second_so (nat_eq d.0 e.0) (pointwise nat_eq d.1 e.1) h) i)),
-  λ h i. (unsigned_Decides d.0 e.0).1 (ap (λ (x : ℕ × List ℕ). x.0) h) i && (bytes_decides d.1 e.1).1 (ap (λ (x : ℕ × List ℕ). x.1) h) i,
+  (λ h i. (
+    (unsigned_Decides d.0 e.0).0 (first_so (nat_eq d.0 e.0) (pointwise nat_eq d.1 e.1) h) i,
+    (bytes_decides d.1 e.1).0 (second_so (nat_eq d.0 e.0) (pointwise nat_eq d.1 e.1) h) i,
+  )),
+  λ h i. (unsigned_Decides d.0 e.0).1 (ap (λ (x : ℕ × List ℕ). x.0) h) i
+      && (bytes_decides d.1 e.1).1 (ap (λ (x : ℕ × List ℕ). x.1) h) i,
 )
 
 -- equal messages are the same ones, and no others
 pub same_contents_decides : (m n : Contents) → Decides (same_contents m n) (m ≡ n)
 same_contents_decides m n = (
   (λ h i. record {
-    mti = (unsigned_Decides m.mti n.mti).0 (first_so (nat_eq m.mti n.mti) (pointwise same_element m.elements n.elements) h) i;
-    elements = (pointwise_decides same_element_decides m.elements n.elements).0 (second_so (nat_eq m.mti n.mti) (pointwise same_element m.elements n.elements) h) i;
+    mti = (unsigned_Decides m.mti n.mti).0
+        (first_so (nat_eq m.mti n.mti) (pointwise same_element m.elements n.elements) h) i;
+    elements = (pointwise_decides same_element_decides m.elements n.elements).0
+        (second_so (nat_eq m.mti n.mti) (pointwise same_element m.elements n.elements) h) i;
   }),
-  λ h i. (unsigned_Decides m.mti n.mti).1 (ap (λ (x : Contents). x.mti) h) i && (pointwise_decides same_element_decides m.elements n.elements).1 (ap (λ (x : Contents). x.elements) h) i,
+  λ h i. (unsigned_Decides m.mti n.mti).1 (ap (λ (x : Contents). x.mti) h) i && (pointwise_decides
+      same_element_decides m.elements n.elements).1 (ap (λ (x : Contents). x.elements) h) i,
 )
 
 -- equality of messages is an equivalence

@@ -46,7 +46,8 @@ is_padded (pads.Right pad) = true
 
 -- the byte at place i of a body is of the class, or fills the value up; behind what fills it up a value may begin
 abbrev pub is_of_class : FieldSpec → ℕ → ℕ → Bool
-is_of_class s i b = (if i == 0 then is_first s.class b else is_member s.class b) || (is_padded s.pad && is_first s.class b) || fills s.pad b
+is_of_class s i b = (if i == 0 then is_first s.class b else is_member s.class b)
+    || (is_padded s.pad && is_first s.class b) || fills s.pad b
 
 -- the half of a byte is a digit, or fills the value up
 abbrev pub is_half : FieldSpec → ℕ → Bool
@@ -78,7 +79,8 @@ is_allowed t row kind cause i b = true
 -- them
 pub record IsFirstNot (test : ℕ → ℕ → Bool) (b : List ℕ) (k : ℕ) : Type 0 where
   pub before : (i : ℕ) → i < k → test i (slice_index b i) ≡ true
-  pub there : ((k < length b) × (test k (slice_index b k) ≡ false)) ⊎ ((k ≡ 0) × ((i : ℕ) → i < length b → test i (slice_index b i) ≡ true))
+  pub there : ((k < length b) × (test k (slice_index b k) ≡ false))
+      ⊎ ((k ≡ 0) × ((i : ℕ) → i < length b → test i (slice_index b i) ≡ true))
 
 -- the offset is that of the first byte of the piece that may not stand there, or where the piece begins; where the bytes
 -- end inside the piece, it is their end
@@ -86,4 +88,5 @@ abbrev pub IsFirstBad : Layout → told.Piece → List ℕ → Option UnpackCaus
 IsFirstBad t p b None at = at ≡ p.start
 IsFirstBad t p b (Some Short) at = at ≡ p.end
 IsFirstBad t p b (Some cause) at =
-    (k : ℕ) × (at ≡ p.start + k) × IsFirstNot (is_allowed t (row_at t.rows p.element) p.kind cause) (take (p.end - p.start) (drop p.start b)) k
+    (k : ℕ) × (at ≡ p.start + k) × IsFirstNot (is_allowed t (row_at t.rows p.element) p.kind cause)
+    (take (p.end - p.start) (drop p.start b)) k

@@ -61,13 +61,15 @@ pub record Begins (h : Header) (bytes body : List ℕ) (used : ℕ) : Type 0 whe
 
 -- no whole frame begins the bytes
 abbrev pub NoFrame : Header → List ℕ → Type 0
-NoFrame h bytes = (body more : List ℕ) → length body ≤ largest h → bytes ≡ frame_of h body ++ more → ⊥
+NoFrame h bytes = (body more : List ℕ) → length body ≤ largest h → bytes ≡ frame_of h body ++ more
+    → ⊥
 
 -- whether a whole header that isn't of digits begins the bytes
 abbrev pub is_bad_header : Header → List ℕ → Bool
 is_bad_header Binary2 bytes = false
 is_bad_header Ascii4 bytes = nat_le 4 (length bytes) && not (list_all is_digit (take 4 bytes))
-is_bad_header Bcd2 bytes = nat_le 2 (length bytes) && not (list_all is_digit (characters (take 2 bytes)))
+is_bad_header Bcd2 bytes =
+    nat_le 2 (length bytes) && not (list_all is_digit (characters (take 2 bytes)))
 
 -- neither a whole frame nor a whole header that isn't of digits begins the bytes
 pub record NeedsMore (h : Header) (bytes : List ℕ) : Type 0 where
@@ -75,7 +77,8 @@ pub record NeedsMore (h : Header) (bytes : List ℕ) : Type 0 where
   pub no_fault : is_bad_header h bytes ≡ false
 
 -- the bytes are the frames of these bodies, and then a rest that begins with no whole frame
-pub record Splits (h : Header) (bytes : List ℕ) (bodies : List (List ℕ)) (rest : List ℕ) : Type 0 where
+pub record Splits (h : Header) (bytes : List ℕ) (bodies : List (List ℕ))
+    (rest : List ℕ) : Type 0 where
   pub joined : bytes ≡ frames_of h bodies ++ rest
   pub fit : AllFit h bodies
   pub partial : NoFrame h rest
@@ -84,24 +87,28 @@ pub record Splits (h : Header) (bytes : List ℕ) (bodies : List (List ℕ)) (re
 
 -- each stream of bytes is split in some way
 abbrev pub SplitsSomehow : Type 0
-SplitsSomehow = (h : Header) (bytes : List ℕ) → (bodies : List (List ℕ)) × (rest : List ℕ) × Splits h bytes bodies rest
+SplitsSomehow = (h : Header) (bytes : List ℕ)
+    → (bodies : List (List ℕ)) × (rest : List ℕ) × Splits h bytes bodies rest
 
 -- and in one way
 abbrev pub SplitsOnce : Type 0
 SplitsOnce =
-    (h : Header) (bytes : List ℕ) (bodies others : List (List ℕ)) (rest left : List ℕ) → Splits h bytes bodies rest → Splits h bytes others left
+    (h : Header) (bytes : List ℕ) (bodies others : List (List ℕ)) (rest left : List ℕ)
+    → Splits h bytes bodies rest → Splits h bytes others left
     → (others ≡ bodies) × (left ≡ rest)
 
 -- frames that begin a stream are the first ones of its split
 abbrev pub FirstOfSplit : Type 0
 FirstOfSplit =
-    (h : Header) (bytes : List ℕ) (done bodies : List (List ℕ)) (more rest : List ℕ) → AllFit h done → bytes ≡ frames_of h done ++ more → Splits h bytes bodies rest
+    (h : Header) (bytes : List ℕ) (done bodies : List (List ℕ)) (more rest : List ℕ) → AllFit h done
+    → bytes ≡ frames_of h done ++ more → Splits h bytes bodies rest
     → take (length done) bodies ≡ done
 
 -- frames in front of a stream come first in its split
 abbrev pub SplitsBehind : Type 0
 SplitsBehind =
-    (h : Header) (done bodies : List (List ℕ)) (more rest : List ℕ) → AllFit h done → Splits h more bodies rest
+    (h : Header) (done bodies : List (List ℕ)) (more rest : List ℕ) → AllFit h done
+    → Splits h more bodies rest
     → Splits h (frames_of h done ++ more) (done ++ bodies) rest
 
 -- where a header isn't of digits, no frame begins
@@ -110,11 +117,13 @@ BadIsNoFrame = (h : Header) (bytes : List ℕ) → is_bad_header h bytes ≡ tru
 
 -- and it isn't whatever follows
 abbrev pub BadStays : Type 0
-BadStays = (h : Header) (bytes more : List ℕ) → is_bad_header h bytes ≡ true → is_bad_header h (bytes ++ more) ≡ true
+BadStays = (h : Header) (bytes more : List ℕ) → is_bad_header h bytes ≡ true
+    → is_bad_header h (bytes ++ more) ≡ true
 
 -- a header and fewer bytes than it counts need more
 abbrev pub CutNeedsMore : Type 0
-CutNeedsMore = (h : Header) (n : ℕ) (part : List ℕ) → n ≤ largest h → length part < n → NeedsMore h (header_of h n ++ part)
+CutNeedsMore = (h : Header) (n : ℕ) (part : List ℕ) → n ≤ largest h → length part < n
+    → NeedsMore h (header_of h n ++ part)
 
 -- ---- reading a frame from the front of bytes: the header, and then the body, each when it is whole
 

@@ -42,7 +42,8 @@ body_end_under None n count at b = halt n at (UnknownElement n)
 body_end_under (Some s) n count at b = body_end s n count at b
 
 -- the end of the elements behind the body of element n, of so many characters, and of the body itself
-abbrev pub end_of_rest : List (Option FieldSpec) → ℕ → ℕ → List ℕ → ℕ → List ℕ → Result ℕ UnpackFault
+abbrev pub end_of_rest : List (Option FieldSpec) → ℕ → ℕ → List ℕ → ℕ → List ℕ
+    → Result ℕ UnpackFault
 end_of_rest rows n count ns at b = do
   end ← body_end_under (row_at rows n) n count at b
   end_of_elements rows ns end b
@@ -54,13 +55,15 @@ behind_maps t b w = end_of_elements t.rows (numbers_in w.0 w.1) (mti_size t.mti 
 -- the words, where the primary one was read
 abbrev pub secondary_words : Layout → ℕ → List ℕ → Result (ℕ × ℕ × ℕ) UnpackFault
 secondary_words t primary b = do
-  secondary ← secondary_at t (mti_size t.mti + map_size t.bitmap) (drop (map_size t.bitmap) (drop (mti_size t.mti) b))
+  secondary ← secondary_at t (mti_size t.mti + map_size t.bitmap)
+      (drop (map_size t.bitmap) (drop (mti_size t.mti) b))
   Ok (primary, secondary, map_size t.bitmap + map_size t.bitmap)
 
 -- where the message ends that the bytes begin with, read on from a point
 abbrev pub ends_from : Layout → ResumePoint → List ℕ → Result ℕ UnpackFault
 ends_from t points.Type b = end_of (message_at t b)
-ends_from t points.Primary b = words_at t (mti_size t.mti) (drop (mti_size t.mti) b) >>= behind_maps t b
+ends_from t points.Primary b =
+    words_at t (mti_size t.mti) (drop (mti_size t.mti) b) >>= behind_maps t b
 ends_from t (points.Secondary primary) b = secondary_words t primary b >>= behind_maps t b
 ends_from t (points.Elements rest at) b = end_of_elements t.rows (members rest) at b
 ends_from t (points.Body n count rest at) b = end_of_rest t.rows n count (members rest) at b
@@ -71,14 +74,16 @@ IsPointWithin t points.Type b = Unit {0}
 IsPointWithin t points.Primary b = mti_size t.mti ≤ length b
 IsPointWithin t (points.Secondary primary) b = mti_size t.mti + map_size t.bitmap ≤ length b
 IsPointWithin t (points.Elements rest at) b = at ≤ length b
-IsPointWithin t (points.Body n count rest at) b = (at ≤ length b) × ((s : FieldSpec) → row_at t.rows n ≡ Some s → count ≤ s.max)
+IsPointWithin t (points.Body n count rest at) b = (at ≤ length b)
+    × ((s : FieldSpec) → row_at t.rows n ≡ Some s → count ≤ s.max)
 
 -- whatever follows the bytes, reading goes on alike from both points
 abbrev pub GoesOn : Layout → ResumePoint → ResumePoint → List ℕ → Type 0
 GoesOn t from to b = (x : List ℕ) → ends_from t from (b ++ x) ≡ ends_from t to (b ++ x)
 
 -- judging came from one point to another one, and there the bytes end, the message ends, or a piece is bad
-pub record Resumes (t : Layout) (from : ResumePoint) (b : List ℕ) (to : ResumePoint) (answer : Result ℕ UnpackFault) : Type 0 where
+pub record Resumes (t : Layout) (from : ResumePoint) (b : List ℕ) (to : ResumePoint)
+    (answer : Result ℕ UnpackFault) : Type 0 where
   pub read : ends_from t to b ≡ answer
   pub goes_on : GoesOn t from to b
   pub within : IsPointWithin t to b

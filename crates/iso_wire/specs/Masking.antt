@@ -30,8 +30,10 @@ pub record Masks (n : ℕ) (value : List ℕ) (m : Shown) : Type 0 where
 
 -- a byte that is a printable character as that character, and any other as two hexadecimal digits behind \x
 abbrev pub readable_byte : ℕ → List ℕ
-readable_byte b = if nat_le 32 b && nat_le b 126 then b ∷ [] else codes "\\x" ++ encode_upper (b ∷ [])
+readable_byte b =
+    if nat_le 32 b && nat_le b 126 then b ∷ [] else codes "\\x" ++ encode_upper (b ∷ [])
 
 -- what is shown at the front, a star for each byte that is hidden, and what is shown at the end
 abbrev pub masked_text : Shown → List ℕ
-masked_text shown = flat_map readable_byte shown.front.now ++ (replicate shown.hidden 42 ++ flat_map readable_byte shown.end.now)
+masked_text shown = flat_map readable_byte shown.front.now
+    ++ (replicate shown.hidden 42 ++ flat_map readable_byte shown.end.now)

@@ -19,8 +19,10 @@ pub record WellFormed (m : Contents) : Type 0 where
 
 -- each message that the table doesn't refuse has a plain spelling
 abbrev pub HasPlain : Type 0
-HasPlain = (t : Layout) (m : Contents) → AreGood t.rows → WellFormed m → message_refusal t m ≡ None → (b : List ℕ) × PlainSpelling t m b
+HasPlain = (t : Layout) (m : Contents) → AreGood t.rows → WellFormed m → message_refusal t m ≡ None
+    → (b : List ℕ) × PlainSpelling t m b
 
 -- and no message has two
 abbrev pub PlainOnce : Type 0
-PlainOnce = (t : Layout) (m : Contents) (a b : List ℕ) → PlainSpelling t m a → PlainSpelling t m b → a ≡ b
+PlainOnce = (t : Layout) (m : Contents) (a b : List ℕ) → PlainSpelling t m a → PlainSpelling t m b
+    → a ≡ b

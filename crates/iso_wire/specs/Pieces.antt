@@ -59,10 +59,13 @@ pub record Tells (w : Walk) (piece : Piece) (p : told.Piece) : Type 0 where
 
 -- a good piece is whole, and the walk goes on behind it; a bad one stops the bytes for this cause, and the walk
 abbrev pub Goes : Walk → Piece → Option UnpackCause → Walk → Type 0
-Goes old piece None new = (new ≡ record old { at = old.at + size_of old.table piece; ahead = new.ahead }) × Stands new
+Goes old piece None new =
+    (new ≡ record old { at = old.at + size_of old.table piece; ahead = new.ahead }) × Stands new
 Goes old piece (Some cause) new =
-    Halts old.table piece (drop old.at old.bytes) cause × Stops old.table old.bytes old.at (owner piece) cause
-    × (new ≡ record old { ahead = stopped (record { at = old.at; element = owner piece; cause = cause }) })
+    Halts old.table piece (drop old.at old.bytes) cause
+    × Stops old.table old.bytes old.at (owner piece) cause
+    × (new
+    ≡ record old { ahead = stopped (record { at = old.at; element = owner piece; cause = cause }) })
 
 -- the piece that comes next is told, and the good pieces before it call for it
 pub record Steps (old : Walk) (p : told.Piece) (new : Walk) : Type 0 where

@@ -23,7 +23,8 @@ use Rattle.iso_wire.specs.Numbers.{unknown}
 
 infixl 10 ◌>>=◌
 -- a step, and the next one where the first gave something
-abbrev pub ◌>>=◌ : {A B : Type 0} → Result A UnpackFault → (A → Result B UnpackFault) → Result B UnpackFault
+abbrev pub ◌>>=◌ : {A B : Type 0} → Result A UnpackFault → (A → Result B UnpackFault)
+    → Result B UnpackFault
 (Ok x) >>= f = f x
 (Err e) >>= f = Err e
 
@@ -70,7 +71,8 @@ primary_at t at b = do
 
 -- the word, if it tells of no third bitmap and the table has a row for each of its elements
 abbrev pub secondary_known : Layout → ℕ → ℕ → Result ℕ UnpackFault
-secondary_known t at w = if nat_lt w top then known_by 1 at w (unknown t.rows (numbers_in 0 w)) else halt 1 at ThirdBitmap
+secondary_known t at w = if nat_lt w top then known_by 1 at w (unknown t.rows (numbers_in 0 w))
+    else halt 1 at ThirdBitmap
 
 -- such a word of the secondary bitmap
 abbrev pub secondary_at : Layout → ℕ → List ℕ → Result ℕ UnpackFault
@@ -118,7 +120,8 @@ abbrev pub value_at : List (Option FieldSpec) → ℕ → ℕ → List ℕ → R
 value_at rows n at b = value_by (row_at rows n) n at b
 
 -- the elements with the numbers, and the offset behind them
-abbrev pub elements_at : List (Option FieldSpec) → List ℕ → ℕ → List ℕ → Result (List (ℕ × List ℕ) × ℕ) UnpackFault
+abbrev pub elements_at : List (Option FieldSpec) → List ℕ → ℕ → List ℕ
+    → Result (List (ℕ × List ℕ) × ℕ) UnpackFault
 elements_at rows [] at b = Ok ([], at)
 elements_at rows (n ∷ ns) at b = do
   first ← value_at rows n at b
@@ -132,7 +135,8 @@ unfoldable pub message_at : Layout → List ℕ → Result (Contents × ℕ) Unp
 message_at t b = do
   mti ← type_at t b
   words ← words_at t (mti_size t.mti) (drop (mti_size t.mti) b)
-  read ← elements_at t.rows (numbers_in words.0 words.1) (mti_size t.mti + words.2) (drop (mti_size t.mti + words.2) b)
+  read ← elements_at t.rows (numbers_in words.0 words.1) (mti_size t.mti + words.2)
+      (drop (mti_size t.mti + words.2) b)
   Ok (record { mti = mti; elements = read.0 }, read.1)
 
 -- ---- what functions answer

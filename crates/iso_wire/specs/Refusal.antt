@@ -30,8 +30,10 @@ refused_by (Some s) n v = refused_field n (refusal s v)
 -- the first refusal among the elements
 abbrev pub first_refusal : List (Option FieldSpec) → List (ℕ × List ℕ) → Option PackFault
 first_refusal rows [] = None
-first_refusal rows (e ∷ es) = option_or (refused_by (row_at rows e.0) e.0 e.1) (first_refusal rows es)
+first_refusal rows (e ∷ es) =
+    option_or (refused_by (row_at rows e.0) e.0 e.1) (first_refusal rows es)
 
 -- why a message is refused: the version first, then its elements in ascending order
 abbrev pub message_refusal : Layout → Contents → Option PackFault
-message_refusal t m = if m.mti / 1000 == t.version then first_refusal t.rows m.elements else Some WrongVersion
+message_refusal t m =
+    if m.mti / 1000 == t.version then first_refusal t.rows m.elements else Some WrongVersion

@@ -37,6 +37,8 @@ pub record Pushes (old new : Elements) (run after v : List ℕ) : Type 0 where
   pub values : new.values.items ++ after ≡ (old.values.items ++ run) ++ v
 
 -- a function added the value that reading gives behind a run, and says where the run begins and ends then
-abbrev pub AppendsRun : List ℕ → Elements → Elements → ℕ → ℕ → Result (ℕ × ℕ) UnpackFault → Result (List ℕ × ℕ) UnpackFault → Type 0
-AppendsRun b old new from at (Ok x) read = (first : List ℕ × ℕ) × (read ≡ Ok first) × (x.1 ≡ at + first.1) × Pushes old new (run_in b from at) (run_in b x.0 x.1) first.0
+abbrev pub AppendsRun : List ℕ → Elements → Elements → ℕ → ℕ → Result (ℕ × ℕ) UnpackFault
+    → Result (List ℕ × ℕ) UnpackFault → Type 0
+AppendsRun b old new from at (Ok x) read = (first : List ℕ × ℕ) × (read ≡ Ok first)
+    × (x.1 ≡ at + first.1) × Pushes old new (run_in b from at) (run_in b x.0 x.1) first.0
 AppendsRun b old new from at (Err e) read = IsFaultOf e read

@@ -17,7 +17,8 @@ PartAs rows n v b = (s : FieldSpec) × (row_at rows n ≡ Some s) × Part s v b
 -- the bytes are the parts of the elements, one after another
 abbrev pub Parts : List (Option FieldSpec) → List (ℕ × List ℕ) → List ℕ → Type 0
 Parts rows [] b = b ≡ []
-Parts rows (e ∷ es) b = (part : List ℕ) × (rest : List ℕ) × PartAs rows e.0 e.1 part × Parts rows es rest × (b ≡ part ++ rest)
+Parts rows (e ∷ es) b = (part : List ℕ) × (rest : List ℕ) × PartAs rows e.0 e.1 part
+    × Parts rows es rest × (b ≡ part ++ rest)
 
 -- the bytes spell the message: its type, its bitmaps, and the parts of its elements
 pub record Spelling (t : Layout) (m : Contents) (b : List ℕ) : Type 0 where
@@ -43,12 +44,14 @@ BeginsWith t m size b = (size ≤ length b) × Spelling t m (take size b)
 
 -- the bytes begin with no spelling
 abbrev pub BeginsWithNone : Layout → List ℕ → Type 0
-BeginsWithNone t b = (m : Contents) (front rest : List ℕ) → b ≡ front ++ rest → Spelling t m front → ⊥
+BeginsWithNone t b = (m : Contents) (front rest : List ℕ) → b ≡ front ++ rest → Spelling t m front
+    → ⊥
 
 -- no spelling begins with another, and no bytes spell two messages
 abbrev pub IsUnambiguous : Layout → Type 0
 IsUnambiguous t =
-    (m other : Contents) (a b x y : List ℕ) → AreBytes (a ++ x) → Spelling t m a → Spelling t other b → a ++ x ≡ b ++ y → (m ≡ other) × (a ≡ b)
+    (m other : Contents) (a b x y : List ℕ) → AreBytes (a ++ x) → Spelling t m a
+    → Spelling t other b → a ++ x ≡ b ++ y → (m ≡ other) × (a ≡ b)
 
 -- ---- the spelling that is written
 

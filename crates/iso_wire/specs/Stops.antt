@@ -58,11 +58,13 @@ IsOwnType t p = (n : ℕ) × IsType t n p × (n / 1000 ≡ t.version)
 
 -- each number of the set, from low on and before end, has a row
 abbrev pub HaveRows : Layout → (ℕ → Bool) → ℕ → ℕ → Type 0
-HaveRows t set low end = (k : ℕ) → low ≤ k → k < end → set k ≡ true → is_some (row_at t.rows k) ≡ true
+HaveRows t set low end = (k : ℕ) → low ≤ k → k < end → set k ≡ true
+    → is_some (row_at t.rows k) ≡ true
 
 -- the bytes are a good primary bitmap that says that a secondary one follows (ISO 8583:1987, bitmaps: bit 1)
 abbrev pub IsPrimaryOfTwo : Layout → List ℕ → Type 0
-IsPrimaryOfTwo t p = (set : ℕ → Bool) × BitsIn t.bitmap (primary_bits true set) p × HaveRows t set 2 65
+IsPrimaryOfTwo t p = (set : ℕ → Bool) × BitsIn t.bitmap (primary_bits true set) p
+    × HaveRows t set 2 65
 
 -- the bytes are the good bitmaps of the set, two of them or one (ISO 8583:1987, primary and secondary bitmap)
 pub record AreGoodMaps (t : Layout) (set : ℕ → Bool) (p : List ℕ) : Type 0 where
@@ -98,9 +100,11 @@ pub record IsBefore (t : Layout) (n : ℕ) (s : FieldSpec) (b : List ℕ) : Type
 abbrev pub CallFor : Layout → List ℕ → Piece → Type 0
 CallFor t b type = b ≡ []
 CallFor t b primary = IsOwnType t b
-CallFor t b secondary = (mti : List ℕ) × (primary : List ℕ) × IsOwnType t mti × IsPrimaryOfTwo t primary × (b ≡ mti ++ primary)
+CallFor t b secondary = (mti : List ℕ) × (primary : List ℕ) × IsOwnType t mti
+    × IsPrimaryOfTwo t primary × (b ≡ mti ++ primary)
 CallFor t b (count n s) = IsBefore t n s b
-CallFor t b (body n s c) = (before : List ℕ) × (p : List ℕ) × IsBefore t n s before × IsCount s c p × (c ≤ s.max) × (b ≡ before ++ p)
+CallFor t b (body n s c) = (before : List ℕ) × (p : List ℕ) × IsBefore t n s before × IsCount s c p
+    × (c ≤ s.max) × (b ≡ before ++ p)
 
 -- ---- the first thing that is wrong with a whole piece
 
@@ -121,14 +125,17 @@ IsBadType t p other = ⊥
 -- a primary bitmap isn't of hexadecimal digits, or tells of an element without a row
 abbrev pub IsBadPrimary : Layout → List ℕ → UnpackCause → Type 0
 IsBadPrimary t p BadHex = (set : ℕ → Bool) → BitsIn t.bitmap set p → ⊥
-IsBadPrimary t p (UnknownElement n) = (set : ℕ → Bool) × BitsIn t.bitmap set p × IsUnknown t set 2 65 n
+IsBadPrimary t p (UnknownElement n) = (set : ℕ → Bool) × BitsIn t.bitmap set p
+    × IsUnknown t set 2 65 n
 IsBadPrimary t p other = ⊥
 
 -- a secondary bitmap isn't of hexadecimal digits, tells of a third bitmap, or of an element without a row
 abbrev pub IsBadSecondary : Layout → List ℕ → UnpackCause → Type 0
 IsBadSecondary t p BadHex = (set : ℕ → Bool) → BitsIn t.bitmap (secondary_bits set) p → ⊥
-IsBadSecondary t p ThirdBitmap = (set : ℕ → Bool) × BitsIn t.bitmap (secondary_bits set) p × (set 65 ≡ true)
-IsBadSecondary t p (UnknownElement n) = (set : ℕ → Bool) × BitsIn t.bitmap (secondary_bits set) p × (set 65 ≡ false) × IsUnknown t set 66 129 n
+IsBadSecondary t p ThirdBitmap = (set : ℕ → Bool) × BitsIn t.bitmap (secondary_bits set) p
+    × (set 65 ≡ true)
+IsBadSecondary t p (UnknownElement n) = (set : ℕ → Bool) × BitsIn t.bitmap (secondary_bits set) p
+    × (set 65 ≡ false) × IsUnknown t set 66 129 n
 IsBadSecondary t p other = ⊥
 
 -- the cause is the first that holds of the whole piece
@@ -145,7 +152,8 @@ IsBad t piece p other = ⊥
 -- the rest has less than the whole piece, or has it, and then the cause is the first that holds of it
 abbrev pub Halts : Layout → Piece → List ℕ → UnpackCause → Type 0
 Halts t piece rest Short = length rest < size_of t piece
-Halts t piece rest cause = (size_of t piece ≤ length rest) × IsBad t piece (take (size_of t piece) rest) cause
+Halts t piece rest cause = (size_of t piece ≤ length rest)
+    × IsBad t piece (take (size_of t piece) rest) cause
 
 -- the bytes are good pieces and a rest; the piece that comes next, at this offset and of this element, stops them for
 -- this cause

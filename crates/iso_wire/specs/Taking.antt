@@ -21,7 +21,8 @@ IsReady t taken None = IsShort (message_at t taken)
 -- and the bytes taken are ready for a further piece
 abbrev pub IsReadyAfter : Layout → List ℕ → Result Fed UnpackFault → Type 0
 IsReadyAfter t new (Ok fed) = IsShort (message_at t new)
-IsReadyAfter t new (Err e) = (e.cause ≡ Memory → IsShort (message_at t new)) × (e.cause ≢ Memory → (new ≡ []) × (e.cause ≢ Short))
+IsReadyAfter t new (Err e) = (e.cause ≡ Memory → IsShort (message_at t new))
+    × (e.cause ≢ Memory → (new ≡ []) × (e.cause ≢ Short))
 
 -- the bytes that are taken afterwards
 abbrev pub KeepsTaken : List ℕ → List ℕ → List ℕ → Result Fed UnpackFault → Type 0
@@ -35,7 +36,8 @@ IsRead (Ok x) = Unit {0}
 IsRead (Err e) = ⊥
 
 -- a message that was built is the one that reading gives, its end seen from behind the bytes taken before it; or memory ran out
-abbrev pub IsBuilt : ℕ → Result (Contents × ℕ) UnpackFault → Result (Contents × ℕ) UnpackFault → Type 0
+abbrev pub IsBuilt : ℕ → Result (Contents × ℕ) UnpackFault → Result (Contents × ℕ) UnpackFault
+    → Type 0
 IsBuilt before (Ok x) read = read ≡ whole x.0 (before + x.1)
 IsBuilt before (Err e) read = e ≡ out_of_memory
 
@@ -45,4 +47,5 @@ IsFront n piece front = (front ≡ piece) ⊎ (front ≡ take n piece)
 
 -- bytes whose first ones are judged up to this point
 abbrev pub ResumesIn : Layout → ResumePoint → List ℕ → Type 0
-ResumesIn t point bytes = (old : List ℕ) × (piece : List ℕ) × (bytes ≡ old ++ piece) × IsResumed t point old
+ResumesIn t point bytes = (old : List ℕ) × (piece : List ℕ) × (bytes ≡ old ++ piece)
+    × IsResumed t point old

@@ -29,11 +29,13 @@ Feeds before (Err e) read = IsFaultOf e read × (e.cause ≢ Short)
 abbrev pub IsAfterFeed : Feeding → Feeding → List ℕ → Result Fed UnpackFault → Type 0
 IsAfterFeed old new piece (Ok (fed.Done message used)) = new ≡ record old { taken = [] }
 IsAfterFeed old new piece (Ok fed.More) = new ≡ record old { taken = old.taken ++ piece }
-IsAfterFeed old new piece (Err e) = (e.cause ≡ Memory → new ≡ old) × (e.cause ≢ Memory → new ≡ record old { taken = []; stopped = Some e })
+IsAfterFeed old new piece (Err e) = (e.cause ≡ Memory → new ≡ old)
+    × (e.cause ≢ Memory → new ≡ record old { taken = []; stopped = Some e })
 
 -- while it is stopped the fault is answered again, and nothing changes
 abbrev pub StaysStopped : Feeding → Feeding → Result Fed UnpackFault → Type 0
-StaysStopped old new result = (e : UnpackFault) → old.stopped ≡ Some e → (result ≡ Err e) × (new ≡ old)
+StaysStopped old new result = (e : UnpackFault) → old.stopped ≡ Some e
+    → (result ≡ Err e) × (new ≡ old)
 
 -- ---- what it means for spellings
 
@@ -41,7 +43,8 @@ StaysStopped old new result = (e : UnpackFault) → old.stopped ≡ Some e → (
 abbrev pub FoundFed : Layout → ℕ → List ℕ → Result Fed UnpackFault → Type 0
 FoundFed t before b (Ok (fed.Done message used)) = BeginsWith t message (before + used) b
 FoundFed t before b (Ok fed.More) = BeginsWithNone t b
-FoundFed t before b (Err e) = e.cause ≢ Memory → (more : List ℕ) → AreBytes more → BeginsWithNone t (b ++ more)
+FoundFed t before b (Err e) = e.cause ≢ Memory → (more : List ℕ) → AreBytes more
+    → BeginsWithNone t (b ++ more)
 
 -- a fault tells where all the bytes stop, and why; more is wanted where they end inside a piece
 abbrev pub StopsFed : Layout → List ℕ → Result Fed UnpackFault → Type 0

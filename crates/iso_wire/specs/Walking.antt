@@ -53,7 +53,8 @@ ahead_of t (points.Body n c rest at) = body_under n c (row_at t.rows n)
 
 -- the walk of a point, or of the fault that stopped it
 abbrev pub walk_of : Layout → List ℕ → Result ResumePoint UnpackFault → Walk
-walk_of t b (Ok point) = record { table = t; bytes = b; at = place_of t point; ahead = ahead_of t point }
+walk_of t b (Ok point) =
+    record { table = t; bytes = b; at = place_of t point; ahead = ahead_of t point }
 walk_of t b (Err e) = record { table = t; bytes = b; at = e.at; ahead = stopped e }
 
 -- the type and the bitmaps were read, and the parts of the elements before those with the numbers
@@ -84,7 +85,8 @@ abbrev pub IsReached : Layout → List ℕ → ResumePoint → Type 0
 IsReached t b points.Type = Unit {0}
 IsReached t b points.Primary = (mti : ℕ) × (type_at t b ≡ Ok mti)
 IsReached t b (points.Secondary first) =
-    (mti : ℕ) × (type_at t b ≡ Ok mti) × (primary_at t (mti_size t.mti) (drop (mti_size t.mti) b) ≡ Ok first) × (top ≤ first)
+    (mti : ℕ) × (type_at t b ≡ Ok mti)
+    × (primary_at t (mti_size t.mti) (drop (mti_size t.mti) b) ≡ Ok first) × (top ≤ first)
 IsReached t b (points.Elements rest at) = IsFront t (members rest) at b
 IsReached t b (points.Body n c rest at) = IsCounted t n c (members rest) at b
 
@@ -103,7 +105,8 @@ pub record Spans (t : Layout) (piece : Piece) (at : ℕ) (span : Span) : Type 0 
 -- the secondary bitmap comes, or the elements do
 abbrev pub IsBehindPrimary : Layout → ℕ → ℕ → ResumePoint → Type 0
 IsBehindPrimary t first start (points.Secondary w) = (w ≡ first) × (top ≤ first)
-IsBehindPrimary t first start (points.Elements rest at) = (first < top) × (members rest ≡ numbers_in first 0) × (at ≡ start + map_size t.bitmap)
+IsBehindPrimary t first start (points.Elements rest at) = (first < top)
+    × (members rest ≡ numbers_in first 0) × (at ≡ start + map_size t.bitmap)
 IsBehindPrimary t first start other = ⊥
 
 -- where a piece comes, its span is told
@@ -113,8 +116,10 @@ SpansAhead t ahead at (Some span) = (piece : Piece) × (ahead ≡ next piece) ×
 
 -- a piece was passed, or it stops the bytes
 abbrev pub Passes : Layout → List ℕ → Piece → ℕ → Result ResumePoint UnpackFault → Type 0
-Passes t b piece at (Ok after) = IsReached t b after × (place_of t after ≡ at + size_of t piece) × (left_of (ahead_of t after) < 600 - rank piece)
-Passes t b piece at (Err e) = (e.at ≡ at) × (e.element ≡ owner piece) × Halts t piece (drop at b) e.cause
+Passes t b piece at (Ok after) = IsReached t b after × (place_of t after ≡ at + size_of t piece)
+    × (left_of (ahead_of t after) < 600 - rank piece)
+Passes t b piece at (Err e) = (e.at ≡ at) × (e.element ≡ owner piece)
+    × Halts t piece (drop at b) e.cause
 
 -- where a piece comes next
 abbrev pub PassesAhead : Layout → List ℕ → Ahead → ℕ → Result ResumePoint UnpackFault → Type 0
@@ -128,7 +133,10 @@ cause_after (Ok after) = None
 cause_after (Err e) = Some e.cause
 
 -- the piece of a point is told, and the walk goes on; or no piece comes there
-abbrev pub StepsFrom : Layout → List ℕ → ResumePoint → Option (told.Piece × Result ResumePoint UnpackFault) → Type 0
-StepsFrom t b point None = IsOver (ahead_of t point) × (place_of t point ≤ length b) × StandsBefore t b (place_of t point) (ahead_of t point)
+abbrev pub StepsFrom : Layout → List ℕ → ResumePoint
+    → Option (told.Piece × Result ResumePoint UnpackFault) → Type 0
+StepsFrom t b point None = IsOver (ahead_of t point) × (place_of t point ≤ length b)
+    × StandsBefore t b (place_of t point) (ahead_of t point)
 StepsFrom t b point (Some x) =
-    Steps (walk_of t b (Ok point)) x.0 (walk_of t b x.1) × IsWalking t b x.1 × (left_of (walk_of t b x.1).ahead < left_of (ahead_of t point))
+    Steps (walk_of t b (Ok point)) x.0 (walk_of t b x.1) × IsWalking t b x.1
+    × (left_of (walk_of t b x.1).ahead < left_of (ahead_of t point))

@@ -72,7 +72,8 @@ pub(crate) fn judge_row(
     requires early { at < 2 ^ 63 }
     ensures exact { JudgesWire (Some row.now) result (value_by (Some row.now) n at rest.now) }
     ensures room { IfOk result (λ x. (x.0 ≤ x.1) × (x.1 ≤ length rest.now)) }
-    ensures part { IfOk result (λ x. (value : List ℕ) × (part_at row.now rest.now ≡ got value x.1)) }
+    ensures part { IfOk result
+        (λ x. (value : List ℕ) × (part_at row.now rest.now ≡ got value x.1)) }
     ensures no_memory { IfErr result (λ e. e.cause ≢ Memory) }
 {
     match judge_field(row, rest) {
@@ -93,7 +94,8 @@ pub(crate) fn judge_row(
 /// it, and how many bytes it takes.
 fn judge_wire(table: &Table, n: u8, at: usize, rest: &[u8]) -> Result<(usize, usize), UnpackFault>
     requires { at ≤ 36 + longest_part * 127 }
-    ensures exact { JudgesWire (row_at table.now.rows n) result (value_at table.now.rows n at rest.now) }
+    ensures exact { JudgesWire (row_at table.now.rows n) result
+        (value_at table.now.rows n at rest.now) }
     ensures room { IfOk result (λ x. (x.0 ≤ x.1) × (x.1 ≤ length rest.now)) }
     ensures few { IfOk result (λ x. x.1 ≤ longest_part) }
 {
@@ -114,9 +116,12 @@ fn find_bodies(
 ) -> Result<usize, UnpackFault>
     requires early { start ≤ 36 }
     requires within { start ≤ length bytes.now }
-    ensures exact { FindsBodies bytes.now bodies.new (members numbers) result (wires_at table.now.rows (members numbers) start (drop start bytes.now)) }
-    ensures within { IfOk result (λ end. (end ≤ length bytes.now) × AreWithin end bodies.new (members numbers)) }
-    ensures begin { OnOk result (BeginsThere table.now.rows start bytes.now bodies.new (members numbers)) }
+    ensures exact { FindsBodies bytes.now bodies.new (members numbers) result
+        (wires_at table.now.rows (members numbers) start (drop start bytes.now)) }
+    ensures within { IfOk result
+        (λ end. (end ≤ length bytes.now) × AreWithin end bodies.new (members numbers)) }
+    ensures begin { OnOk result
+        (BeginsThere table.now.rows start bytes.now bodies.new (members numbers)) }
 {
     let mut rest = numbers;
     let mut at = start;
@@ -141,7 +146,8 @@ pub(crate) fn outline_of(
     bodies: &mut Bodies,
 ) -> Result<Outline, UnpackFault>
     ensures exact { Outlines bytes.entry bodies.new result (view_at table.now bytes.entry) }
-    ensures within { IfOk result (λ o. (o.used ≤ length bytes.now) × AreWithin o.used bodies.new (members o.numbers)) }
+    ensures within { IfOk result
+        (λ o. (o.used ≤ length bytes.now) × AreWithin o.used bodies.new (members o.numbers)) }
     ensures good { AreGood table.now.rows }
 {
     let begun = beginning_of(table, bytes)?;
@@ -156,7 +162,8 @@ pub(crate) fn outline_of(
 /// Where the body of an element lies, if its number is there.
 fn place_of(outline: &Outline, bodies: &Bodies, n: u8) -> Option<Range<usize>>
     requires within { AreWithin outline.now.used bodies.now (members outline.now.numbers) }
-    ensures { MatchOption result ((b : Bor (List ℕ)) → value_in (viewed_of outline.now b bodies.now).wires n ≡ None)
+    ensures { MatchOption result
+        ((b : Bor (List ℕ)) → value_in (viewed_of outline.now b bodies.now).wires n ≡ None)
         (λ r. (b : Bor (List ℕ)) → LiesAt (viewed_of outline.now b bodies.now) n r.start r.end) }
 {
     if outline.numbers.has(n) {
@@ -197,7 +204,8 @@ impl<'a> Model for View<'a> {
 
     ghost view = { λ v. viewed_of v.outline v.bytes v.bodies };
 
-    ghost invariant = { λ v. (v.outline.used ≤ length v.bytes.now) × AreWithin v.outline.used v.bodies (members v.outline.numbers) };
+    ghost invariant = { λ v. (v.outline.used ≤ length v.bytes.now)
+        × AreWithin v.outline.used v.bodies (members v.outline.numbers) };
 }
 
 /// Shows the type and how many bytes the message takes, and none of them.
@@ -232,7 +240,8 @@ impl<'a> View<'a> {
     pub fn place(&self, n: u8) -> Option<Range<usize>>
         // The range lies within the message and is the body's own, though equal bytes may stand
         // elsewhere. `None` comes exactly where the message hasn't the element.
-        ensures { MatchOption result (value_in self.now.wires n ≡ None) (λ r. LiesAt self.now n r.start r.end) }
+        ensures { MatchOption result (value_in self.now.wires n ≡ None)
+            (λ r. LiesAt self.now n r.start r.end) }
     {
         place_of(&self.outline, &self.bodies, n)
     }
@@ -263,10 +272,13 @@ impl<'a> View<'a> {
     pub fn value(&self, alloc: Global, table: &Table, n: u8) -> Result<Option<Vec<u8>>, UnpackFault>
         // Under the table of the view, it is the element's value in the message that the bytes
         // begin with, and `None` where that has none.
-        ensures value { (m : Contents) (size : ℕ) → IsViewed table.now self.now self.now.bytes → BeginsWith table.now m size self.now.bytes
-            → IfOk result (λ got. MatchOption got (value_in m.elements n ≡ None) (λ v. value_in m.elements n ≡ Some v.items)) }
+        ensures value { (m : Contents) (size : ℕ) → IsViewed table.now self.now self.now.bytes
+            → BeginsWith table.now m size self.now.bytes
+            → IfOk result (λ got. MatchOption got (value_in m.elements n ≡ None)
+            (λ v. value_in m.elements n ≡ Some v.items)) }
         // Under the table of the view, want of memory is the only fault.
-        ensures memory { IsViewed table.now self.now self.now.bytes → IfErr result (λ e. e ≡ out_of_memory) }
+        ensures memory { IsViewed table.now self.now self.now.bytes
+            → IfErr result (λ e. e ≡ out_of_memory) }
     {
         reads_spellings();
         iso_parts::laws::parts();

@@ -30,9 +30,11 @@ fn append_element(
     requires within { at ≤ length bytes.now }
     requires awaits { (later : List ℕ) × Awaits elements.old (n ∷ later) }
     requires read { IsRead (value_at table.now.rows n at (drop at bytes.now)) }
-    ensures exact { AppendsElement (views elements.old) (views elements.new) n result (value_at table.now.rows n at (drop at bytes.now)) }
+    ensures exact { AppendsElement (views elements.old) (views elements.new) n result
+        (value_at table.now.rows n at (drop at bytes.now)) }
     ensures room { IfOk result (λ used. at + used ≤ length bytes.now) }
-    ensures awaits { OnOk result ((later : List ℕ) → Awaits elements.old (n ∷ later) → Awaits elements.new later) }
+    ensures awaits { OnOk result
+        ((later : List ℕ) → Awaits elements.old (n ∷ later) → Awaits elements.new later) }
     ensures kept { OnOk result (elements.new.numbers ≡ elements.old.numbers) }
 {
     let Some(row) = table.row(n) else {
@@ -55,8 +57,10 @@ fn build_elements(
 ) -> Result<usize, UnpackFault>
     requires within { start ≤ length bytes.now }
     requires elements { AreElements (contains numbers) }
-    requires read { IsRead (elements_at table.now.rows (members numbers) start (drop start bytes.now)) }
-    ensures exact { Gives (λ end. (views elements.new, end)) result (elements_at table.now.rows (members numbers) start (drop start bytes.now)) }
+    requires read { IsRead
+        (elements_at table.now.rows (members numbers) start (drop start bytes.now)) }
+    ensures exact { Gives (λ end. (views elements.new, end)) result
+        (elements_at table.now.rows (members numbers) start (drop start bytes.now)) }
     ensures whole { OnOk result (IsWhole elements.new) }
     ensures numbered { OnOk result (IsNumbered elements.new) }
 {

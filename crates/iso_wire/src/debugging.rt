@@ -15,7 +15,8 @@ use std::fmt;
 
 /// Writes a message type in four digits.
 pub(crate) fn write_type<W: fmt::Write>(mti: Mti, f: &mut fmt::Formatter<W>) -> fmt::Result
-    ensures { WritesOnOk W.write_str_gives f.old result (four_digits_of digits.Ascii (mti_number mti)) f.new }
+    ensures { WritesOnOk W.write_str_gives f.old result
+        (four_digits_of digits.Ascii (mti_number mti)) f.new }
 {
     write_text(&four_ascii_digits(mti.number() as usize), f)
 }
@@ -33,7 +34,8 @@ pub(crate) fn write_elements<W: fmt::Write>(
     elements: Iter<'_>,
     f: &mut fmt::Formatter<W>,
 ) -> fmt::Result
-    ensures { WritesOnOk W.write_str_gives f.old result (flat_map debug_element elements.entry) f.new }
+    ensures { WritesOnOk W.write_str_gives f.old result
+        (flat_map debug_element elements.entry) f.new }
 {
     for (n, value) in elements {
         write_element(n, value, f)?;

@@ -32,7 +32,8 @@ fn write_pair(out: &mut [u8], at: usize, pair: u32)
     requires pair { pair < 100 }
     requires within { at + 2 ≤ length out.old }
     ensures before { take at out.new ≡ take at out.old }
-    ensures written { drop at out.new ≡ (48 + pair / 10) ∷ (48 + pair % 10) ∷ drop (at + 2) out.old }
+    ensures written { drop at out.new
+        ≡ (48 + pair / 10) ∷ (48 + pair % 10) ∷ drop (at + 2) out.old }
 {
     let place = pair as usize * 2;
     out[at] = PAIRS[place];

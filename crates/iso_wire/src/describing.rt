@@ -98,7 +98,8 @@ fn push_element(
     value: &[u8],
     out: &mut Vec<u8>,
 ) -> Result<(), AllocError>
-    ensures { OnOk result (out.new.items ≡ out.old.items ++ element_line is_clear table.now.rows n value.now) }
+    ensures { OnOk result
+        (out.new.items ≡ out.old.items ++ element_line is_clear table.now.rows n value.now) }
 {
     let mut number = [0; 3];
     write_decimal(&mut number, u64::from(n));
@@ -116,7 +117,8 @@ fn push_elements(
     message: &Message,
     out: &mut Vec<u8>,
 ) -> Result<(), AllocError>
-    ensures { OnOk result (out.new.items ≡ out.old.items ++ element_lines is_clear table.now.rows message.now.elements) }
+    ensures { OnOk result (out.new.items
+        ≡ out.old.items ++ element_lines is_clear table.now.rows message.now.elements) }
 {
     for (n, value) in message.iter() {
         push_element(table, is_clear, n, value, out)?;
@@ -163,7 +165,8 @@ pub fn describe_clear(
 
 /// Appends a number in decimal.
 fn push_number(v: usize, out: &mut Vec<u8>) -> Result<(), AllocError>
-    ensures ok { OnOk result ((text : List ℕ) × IsDecimal v text × (out.new.items ≡ out.old.items ++ text)) }
+    ensures ok { OnOk result
+        ((text : List ℕ) × IsDecimal v text × (out.new.items ≡ out.old.items ++ text)) }
     ensures unchanged { OnErr result (out.new.items ≡ out.old.items) }
 {
     let mut room = [0; 20];
@@ -174,7 +177,8 @@ fn push_number(v: usize, out: &mut Vec<u8>) -> Result<(), AllocError>
 
 /// Appends the line that tells how many bytes a message took, and of how many.
 fn push_used(used: usize, total: usize, out: &mut Vec<u8>) -> Result<(), AllocError>
-    ensures ok { OnOk result ((line : List ℕ) × IsUsedLine used total line × (out.new.items ≡ out.old.items ++ line)) }
+    ensures ok { OnOk result
+        ((line : List ℕ) × IsUsedLine used total line × (out.new.items ≡ out.old.items ++ line)) }
     ensures kept { OnErr result (Keeps out.old.items out.new.items) }
 {
     out.extend_from_slice(b"USED=")?;
@@ -190,7 +194,8 @@ fn push_used(used: usize, total: usize, out: &mut Vec<u8>) -> Result<(), AllocEr
 pub fn append_used(used: usize, total: usize, out: &mut Vec<u8>) -> Result<(), AllocError>
     // Memory aside, what is appended is one line: `USED=` and both counts, in decimal without
     // leading zeros.
-    ensures ok { OnOk result ((line : List ℕ) × IsUsedLine used total line × (out.new.items ≡ out.old.items ++ line)) }
+    ensures ok { OnOk result
+        ((line : List ℕ) × IsUsedLine used total line × (out.new.items ≡ out.old.items ++ line)) }
     // Without memory the buffer holds what it held before.
     ensures unchanged { OnErr result (out.new.items ≡ out.old.items) }
 {

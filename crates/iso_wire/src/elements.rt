@@ -57,7 +57,8 @@ fn rotate_tail(bytes: &mut [u8], start: usize, count: usize)
 /// Takes bytes out of the buffer.
 fn cut(values: &mut Vec<u8>, start: usize, count: usize)
     requires { start + count ≤ length values.old.items }
-    ensures items { values.new.items ≡ take start values.old.items ++ drop (start + count) values.old.items }
+    ensures items { values.new.items
+        ≡ take start values.old.items ++ drop (start + count) values.old.items }
     ensures capacity { vec_capacity values.new ≡ vec_capacity values.old }
 {
     rotate_tail(values, start, count);
@@ -68,7 +69,8 @@ fn cut(values: &mut Vec<u8>, start: usize, count: usize)
 fn paste(values: &mut Vec<u8>, start: usize, value: &[u8])
     requires within { start ≤ length values.old.items }
     requires room { vec_len values.old + length value.now ≤ vec_capacity values.old }
-    ensures { values.new.items ≡ take start values.old.items ++ (value.now ++ drop start values.old.items) }
+    ensures { values.new.items
+        ≡ take start values.old.items ++ (value.now ++ drop start values.old.items) }
 {
     let count = values.len() - start;
     values.extend_from_slice(value).unwrap();
@@ -182,7 +184,8 @@ impl Elements {
         // The bytes of all values can be counted.
         requires { length self.old.values.items + waiting < 2 ^ 64 }
         // Memory aside, one value more ends behind those bytes; other ends and the bytes stay.
-        ensures ok { OnOk result (IsMadeOf self.new (self.old.ends.items ++ (length self.old.values.items + waiting) ∷ []) self.old.values.items) }
+        ensures ok { OnOk result (IsMadeOf self.new (self.old.ends.items
+            ++ (length self.old.values.items + waiting) ∷ []) self.old.values.items) }
         // Without memory the numbers, the ends and the bytes are as before.
         ensures err { OnErr result (IsSame self.old self.new) }
         // The set of numbers stays as it was, with and without memory.
@@ -197,7 +200,8 @@ impl Elements {
     /// the set of their numbers, and puts it there first.
     pub fn close(&mut self) -> Result<(), AllocError>
         // Memory aside, one value more ends where the bytes end; other ends and the bytes stay.
-        ensures ok { OnOk result (IsMadeOf self.new (self.old.ends.items ++ length self.old.values.items ∷ []) self.old.values.items) }
+        ensures ok { OnOk result (IsMadeOf self.new
+            (self.old.ends.items ++ length self.old.values.items ∷ []) self.old.values.items) }
         // Without memory the numbers, the ends and the bytes are as before.
         ensures err { OnErr result (IsSame self.old self.new) }
         // The set of numbers stays as it was, with and without memory.
@@ -214,7 +218,8 @@ impl Elements {
         requires ends { Ascend start (drop at self.old.ends.items) (length self.old.values.items) }
         requires number { is_element n ≡ true }
         ensures ok { OnOk result (IsMadeOf self.new
-            (take at self.old.ends.items ++ map (shifted_end 0 (length value.now)) (start ∷ drop at self.old.ends.items))
+            (take at self.old.ends.items
+            ++ map (shifted_end 0 (length value.now)) (start ∷ drop at self.old.ends.items))
             (take start self.old.values.items ++ (value.now ++ drop start self.old.values.items))) }
         ensures err { OnErr result (IsSame self.old self.new) }
         ensures numbers { OnOk result (Adds self.old.numbers self.new.numbers n) }
@@ -238,10 +243,13 @@ impl Elements {
     ) -> Result<(), AllocError>
         requires place { at ≤ length self.old.ends.items }
         requires within { start + len ≤ length self.old.values.items }
-        requires ends { Ascend (start + len) (drop at self.old.ends.items) (length self.old.values.items) }
+        requires ends { Ascend (start + len) (drop at self.old.ends.items)
+            (length self.old.values.items) }
         ensures ok { OnOk result (IsMadeOf self.new
-            (take at self.old.ends.items ++ map (shifted_end len (length value.now)) (drop at self.old.ends.items))
-            (take start self.old.values.items ++ (value.now ++ drop (start + len) self.old.values.items))) }
+            (take at self.old.ends.items
+            ++ map (shifted_end len (length value.now)) (drop at self.old.ends.items))
+            (take start self.old.values.items
+            ++ (value.now ++ drop (start + len) self.old.values.items))) }
         ensures err { OnErr result (IsSame self.old self.new) }
         ensures kept { self.new.numbers ≡ self.old.numbers }
     {

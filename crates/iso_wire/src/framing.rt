@@ -144,7 +144,8 @@ pub fn close_frame(header: Header, frame: &mut [u8]) -> Result<(), FrameFault>
     // After a fault every byte is as before.
     ensures err { OnErr result (frame.new ≡ frame.old) }
     // `TooLong` comes exactly where what lies behind the room is longer than the header can count.
-    ensures too_long { IsErrOf result faults.TooLong ↔ (header_size header + largest header < length frame.old) }
+    ensures too_long { IsErrOf result faults.TooLong
+        ↔ (header_size header + largest header < length frame.old) }
     // No other fault than `TooLong` comes, so none for want of memory.
     ensures memory { IsOkUnless result faults.TooLong }
 {
@@ -184,7 +185,8 @@ pub fn unframe<'a>(header: Header, input: &'a [u8]) -> Result<Framed<'a>, FrameF
     // A frame that is got begins the input; more is wanted where neither a frame nor a bad header does.
     ensures front { AnswersFront header input.now result }
     // Each whole frame that begins the input is got.
-    ensures got { (body more : List ℕ) → length body ≤ largest header → input.now ≡ frame_of header body ++ more
+    ensures got { (body more : List ℕ) → length body ≤ largest header
+        → input.now ≡ frame_of header body ++ more
         → IsGot result body (header_size header + length body) }
     // `BadDigits` comes exactly where a whole header that isn't of digits begins the input.
     ensures bad { IsErrOf result faults.BadDigits ↔ (is_bad_header header input.now ≡ true) }

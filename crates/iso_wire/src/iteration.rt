@@ -27,7 +27,8 @@ impl<'a> Model for Iter<'a> {
 
     ghost view = { λ it. elements_of (members it.numbers) it.start it.ends.now it.values.now };
 
-    ghost invariant = { λ it. Ascend it.start it.ends.now (length it.values.now) × (length it.ends.now ≡ length (members it.numbers)) };
+    ghost invariant = { λ it. Ascend it.start it.ends.now (length it.values.now)
+        × (length it.ends.now ≡ length (members it.numbers)) };
 }
 
 impl<'a> Iter<'a> {

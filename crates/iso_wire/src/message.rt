@@ -51,7 +51,8 @@ impl Model for Message {
 
     ghost view = { λ m. record { mti = mti_number m.mti; elements = views m.elements } };
 
-    ghost invariant = { λ m. IsWhole m.elements × IsAscending 2 (views m.elements) × IsNumbered m.elements };
+    ghost invariant = { λ m. IsWhole m.elements × IsAscending 2 (views m.elements)
+        × IsNumbered m.elements };
 }
 
 impl fmt::Debug for Message {
@@ -235,7 +236,8 @@ impl Message {
     /// Puts a value at its number, in place of the one that was there.
     pub fn set(&mut self, n: u8, value: &[u8]) -> Result<(), SetFault>
         // At `Ok` the element has that value, and the type and every other element stay.
-        ensures ok { OnOk result (self.new ≡ record self.old { elements = put n value.now self.old.elements }) }
+        ensures ok { OnOk result
+            (self.new ≡ record self.old { elements = put n value.now self.old.elements }) }
         // `get` gives that value then, and of every other element what it gave before.
         ensures alone { OnOk result
             (ChangesAlone n (Some value.now) self.old.elements self.new.elements) }
@@ -263,7 +265,8 @@ impl Message {
         requires fits { v < 10 ^ digits }
         // At `Ok` the element's value is the number in so many digits, with zeros in front; the
         // type and every other element stay.
-        ensures ok { OnOk result (self.new ≡ record self.old { elements = put n (decimal digits v) self.old.elements }) }
+        ensures ok { OnOk result
+            (self.new ≡ record self.old { elements = put n (decimal digits v) self.old.elements }) }
         // `BadNumber` comes, with the number, where no element may have it: 0, 1, 65 and above 128.
         ensures bad_number { is_element n ≡ false → result ≡ Err (SetFault.BadNumber n) }
         // At a number that an element may have, no fault comes but for want of memory.
@@ -284,7 +287,8 @@ impl Message {
         // Each element of the message has a lower number.
         requires behind { IsBelow n self.old.elements }
         // Memory aside, the element stands behind the others; these and the type stay.
-        ensures ok { OnOk result (self.new ≡ record self.old { elements = self.old.elements ++ (n, value.now) ∷ [] }) }
+        ensures ok { OnOk result
+            (self.new ≡ record self.old { elements = self.old.elements ++ (n, value.now) ∷ [] }) }
         // Without memory the message is as it was.
         ensures unchanged { OnErr result (self.new ≡ self.old) }
     {

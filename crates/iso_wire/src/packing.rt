@@ -193,11 +193,14 @@ fn append_fronts(
         (elements_of (members numbers) 0 ends.now values.now))) }
     ensures spelled { OnOk result (Parts table.now.rows
         (elements_of (members numbers) 0 ends.now values.now)
-        (flat_map (plain_of table.now.rows) (elements_of (members numbers) 0 ends.now values.now))) }
+        (flat_map (plain_of table.now.rows)
+        (elements_of (members numbers) 0 ends.now values.now))) }
     ensures fits { OnOk result
-        (first_refusal table.now.rows (elements_of (members numbers) 0 ends.now values.now) ≡ None) }
+        (first_refusal table.now.rows (elements_of (members numbers) 0 ends.now values.now)
+        ≡ None) }
     ensures fault { IfErr result (λ e. e ≢ pack.Memory
-        → first_refusal table.now.rows (elements_of (members numbers) 0 ends.now values.now) ≡ Some e) }
+        → first_refusal table.now.rows (elements_of (members numbers) 0 ends.now values.now)
+        ≡ Some e) }
     ensures kept { Keeps out.old.items out.new.items }
 {
     let mut left = numbers;
@@ -221,10 +224,13 @@ fn append_fronts(
 /// Appends the plain parts of the elements.
 fn append_parts(table: &Table, elements: &Elements, out: &mut Vec<u8>) -> Result<(), PackFault>
     requires { IsWhole elements.now }
-    ensures written { OnOk result (out.new.items ≡ out.old.items ++ flat_map (plain_of table.now.rows) (views elements.now)) }
-    ensures spelled { OnOk result (Parts table.now.rows (views elements.now) (flat_map (plain_of table.now.rows) (views elements.now))) }
+    ensures written { OnOk result
+        (out.new.items ≡ out.old.items ++ flat_map (plain_of table.now.rows) (views elements.now)) }
+    ensures spelled { OnOk result (Parts table.now.rows (views elements.now)
+        (flat_map (plain_of table.now.rows) (views elements.now))) }
     ensures fits { OnOk result (first_refusal table.now.rows (views elements.now) ≡ None) }
-    ensures fault { IfErr result (λ e. e ≢ pack.Memory → first_refusal table.now.rows (views elements.now) ≡ Some e) }
+    ensures fault { IfErr result
+        (λ e. e ≢ pack.Memory → first_refusal table.now.rows (views elements.now) ≡ Some e) }
     ensures kept { OnErr result (Keeps out.old.items out.new.items) }
     // Each item is a byte.
     ensures bytes { AreBytes out.new.items }
@@ -241,7 +247,8 @@ fn append_parts(table: &Table, elements: &Elements, out: &mut Vec<u8>) -> Result
 
 /// Appends the four digits of a message type.
 fn append_mti(digits: Digits, mti: Mti, out: &mut Vec<u8>) -> Result<(), AllocError>
-    ensures ok { OnOk result (out.new.items ≡ out.old.items ++ four_digits_of digits (mti_number mti)) }
+    ensures ok { OnOk result
+        (out.new.items ≡ out.old.items ++ four_digits_of digits (mti_number mti)) }
     ensures unchanged { OnErr result (out.new.items ≡ out.old.items) }
 {
     match digits {
@@ -269,9 +276,11 @@ fn make_room(elements: &Elements, out: &mut Vec<u8>) -> Result<(), AllocError>
 
 /// Appends the plain spelling of a message. After a fault a part of it may be there.
 fn append_spelling(table: &Table, message: &Message, out: &mut Vec<u8>) -> Result<(), PackFault>
-    ensures packed { OnOk result ((b : List ℕ) × PlainSpelling table.now message.now b × (out.new.items ≡ out.old.items ++ b)) }
+    ensures packed { OnOk result ((b : List ℕ) × PlainSpelling table.now message.now b
+        × (out.new.items ≡ out.old.items ++ b)) }
     ensures accepted { OnOk result (message_refusal table.now message.now ≡ None) }
-    ensures fault { IfErr result (λ e. e ≢ pack.Memory → message_refusal table.now message.now ≡ Some e) }
+    ensures fault { IfErr result
+        (λ e. e ≢ pack.Memory → message_refusal table.now message.now ≡ Some e) }
     ensures kept { OnErr result (Keeps out.old.items out.new.items) }
     // Each item is a byte.
     ensures bytes { OnOk result (AreBytes out.new.items) }
@@ -294,18 +303,22 @@ fn append_spelling(table: &Table, message: &Message, out: &mut Vec<u8>) -> Resul
 /// values; padding alone may want more. After a fault the buffer holds the bytes that it held before.
 pub fn append_message(table: &Table, message: &Message, out: &mut Vec<u8>) -> Result<(), PackFault>
     // What is appended is the plain spelling of the message.
-    ensures packed { OnOk result ((b : List ℕ) × PlainSpelling table.now message.now b × (out.new.items ≡ out.old.items ++ b)) }
+    ensures packed { OnOk result ((b : List ℕ) × PlainSpelling table.now message.now b
+        × (out.new.items ≡ out.old.items ++ b)) }
     // What is appended has the table's version, and each of its values fits its element's row.
     ensures accepted { OnOk result (message_refusal table.now message.now ≡ None) }
     // A message that has a spelling is appended, unless memory runs out.
-    ensures only { (b : List ℕ) → Spelling table.now message.now b → IfErr result (λ e. e ≡ pack.Memory) }
+    ensures only { (b : List ℕ) → Spelling table.now message.now b
+        → IfErr result (λ e. e ≡ pack.Memory) }
     // Memory aside, the fault is the first reason to refuse the message: its version, or an
     // element, by ascending number.
-    ensures fault { IfErr result (λ e. e ≢ pack.Memory → message_refusal table.now message.now ≡ Some e) }
+    ensures fault { IfErr result
+        (λ e. e ≢ pack.Memory → message_refusal table.now message.now ≡ Some e) }
     // After a fault nothing is appended.
     ensures unchanged { OnErr result (out.new.items ≡ out.old.items) }
     // Whatever bytes follow it, what is appended reads as the message, and no byte more.
-    ensures again { OnOk result ((b rest : List ℕ) → out.new.items ≡ out.old.items ++ b → AreBytes rest
+    ensures again { OnOk result
+        ((b rest : List ℕ) → out.new.items ≡ out.old.items ++ b → AreBytes rest
         → message_at table.now (b ++ rest) ≡ whole message.now (length b)) }
 {
     reads_spellings();
@@ -329,10 +342,12 @@ pub fn pack(alloc: Global, table: &Table, message: &Message) -> Result<Vec<u8>, 
     // What is written has the table's version, and each of its values fits its element's row.
     ensures accepted { OnOk result (message_refusal table.now message.now ≡ None) }
     // A message that has a spelling is written, unless memory runs out.
-    ensures only { (b : List ℕ) → Spelling table.now message.now b → IfErr result (λ e. e ≡ pack.Memory) }
+    ensures only { (b : List ℕ) → Spelling table.now message.now b
+        → IfErr result (λ e. e ≡ pack.Memory) }
     // Memory aside, the fault is the first reason to refuse the message: its version, or an
     // element, by ascending number.
-    ensures fault { IfErr result (λ e. e ≢ pack.Memory → message_refusal table.now message.now ≡ Some e) }
+    ensures fault { IfErr result
+        (λ e. e ≢ pack.Memory → message_refusal table.now message.now ≡ Some e) }
     // Whatever bytes follow it, what is written reads as the message, and no byte more.
     ensures again { IfOk result (λ out. (rest : List ℕ) → AreBytes rest →
         message_at table.now (out.items ++ rest) ≡ whole message.now (length out.items)) }

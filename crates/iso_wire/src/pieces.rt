@@ -102,7 +102,8 @@ fn pass_primary(table: &Table, bytes: &[u8]) -> Result<ResumePoint, UnpackFault>
 fn pass_secondary(table: &Table, first: u64, bytes: &[u8]) -> Result<ResumePoint, UnpackFault>
     requires reached { IsReached table.now bytes.now (ResumePoint.Secondary first) }
     requires within { place_of table.now (ResumePoint.Secondary first) ≤ length bytes.now }
-    ensures { Passes table.now bytes.now secondary (place_of table.now (ResumePoint.Secondary first)) result }
+    ensures { Passes table.now bytes.now secondary
+        (place_of table.now (ResumePoint.Secondary first)) result }
 {
     are_bytes(bytes);
     iso_parts::laws::bitmaps();
@@ -161,7 +162,8 @@ fn pass_body(
 ) -> Result<ResumePoint, UnpackFault>
     requires reached { IsReached table.now bytes.now (ResumePoint.Body n count rest at) }
     requires within { at ≤ length bytes.now }
-    ensures { PassesAhead table.now bytes.now (body_under n count (row_at table.now.rows n)) at result }
+    ensures { PassesAhead table.now bytes.now
+        (body_under n count (row_at table.now.rows n)) at result }
 {
     are_bytes(bytes);
     iso_parts::laws::parts();
@@ -184,7 +186,8 @@ fn pass_elements(
 ) -> Result<ResumePoint, UnpackFault>
     requires reached { IsReached table.now bytes.now (ResumePoint.Elements rest at) }
     requires within { at ≤ length bytes.now }
-    ensures { PassesAhead table.now bytes.now (length_ahead table.now.rows (members rest)) at result }
+    ensures { PassesAhead table.now bytes.now
+        (length_ahead table.now.rows (members rest)) at result }
 {
     let mut others = rest;
     match others.take_first() {
@@ -197,7 +200,8 @@ fn pass_elements(
 fn pass(table: &Table, point: ResumePoint, bytes: &[u8]) -> Result<ResumePoint, UnpackFault>
     requires reached { IsReached table.now bytes.now point }
     requires within { place_of table.now point ≤ length bytes.now }
-    ensures { PassesAhead table.now bytes.now (ahead_of table.now point) (place_of table.now point) result }
+    ensures { PassesAhead table.now bytes.now (ahead_of table.now point)
+        (place_of table.now point) result }
 {
     match point {
         ResumePoint::Type => pass_type(table, bytes),
@@ -238,7 +242,8 @@ fn body_span(table: &Table, n: u8, count: u16, at: usize) -> Option<Span>
 
 /// A bitmap of a message, which begins at `start`.
 fn map_span(table: &Table, kind: PieceKind, element: u8, start: usize) -> Span
-    ensures { result ≡ record { kind = kind; element = element; start = start; size = map_size table.now.bitmap } }
+    ensures { result ≡
+        record { kind = kind; element = element; start = start; size = map_size table.now.bitmap } }
 {
     let size = table.bitmap().size();
     Span {

@@ -32,7 +32,8 @@ pub(crate) fn copy_run(
 ) -> Result<(), AllocError>
     requires order { from ≤ to }
     requires within { to ≤ length bytes.now }
-    ensures ok { OnOk result (IsMadeOf elements.new elements.old.ends.items (elements.old.values.items ++ run_in bytes.now from to)) }
+    ensures ok { OnOk result (IsMadeOf elements.new elements.old.ends.items
+        (elements.old.values.items ++ run_in bytes.now from to)) }
     ensures kept { OnOk result (elements.new.numbers ≡ elements.old.numbers) }
 {
     elements.values.extend_from_slice(&bytes[from..to])?;
@@ -55,7 +56,8 @@ fn start_run(
     ensures ends { OnOk result (elements.new.ends.items ≡ elements.old.ends.items) }
     ensures from { IfOk result (λ r. r ≤ at + body) }
     ensures run { IfOk result (λ r. (to : ℕ) → at + body ≤ to
-        → elements.new.values.items ++ run_in bytes.now r to ≡ (elements.old.values.items ++ run_in bytes.now from at) ++ run_in bytes.now (at + body) to) }
+        → elements.new.values.items ++ run_in bytes.now r to ≡ (elements.old.values.items
+        ++ run_in bytes.now from at) ++ run_in bytes.now (at + body) to) }
 {
     if body == 0 {
         return Ok(from);
@@ -79,7 +81,8 @@ fn append_bare(
     requires bare { IsBare row.now }
     requires order { from ≤ at }
     requires within { at ≤ length bytes.now }
-    ensures exact { AppendsRun bytes.now elements.old elements.new from at result (value_by (Some row.now) n at (drop at bytes.now)) }
+    ensures exact { AppendsRun bytes.now elements.old elements.new from at result
+        (value_by (Some row.now) n at (drop at bytes.now)) }
     ensures room { IfOk result (λ x. (x.0 ≤ x.1) × (x.1 ≤ length bytes.now)) }
 {
     let (_, part) = bytes.split_at(at);
@@ -103,7 +106,8 @@ fn append_spelled(
     requires good { IsGood row.now }
     requires order { from ≤ at }
     requires within { at ≤ length bytes.now }
-    ensures exact { AppendsRun bytes.now elements.old elements.new from at result (value_by (Some row.now) n at (drop at bytes.now)) }
+    ensures exact { AppendsRun bytes.now elements.old elements.new from at result
+        (value_by (Some row.now) n at (drop at bytes.now)) }
     ensures room { IfOk result (λ x. (x.0 ≤ x.1) × (x.1 ≤ length bytes.now)) }
 {
     if from < at {
@@ -127,7 +131,8 @@ pub(crate) fn append_element(
 ) -> Result<(usize, usize), UnpackFault>
     requires order { from ≤ at }
     requires within { at ≤ length bytes.now }
-    ensures exact { AppendsRun bytes.now elements.old elements.new from at result (value_at table.now.rows n at (drop at bytes.now)) }
+    ensures exact { AppendsRun bytes.now elements.old elements.new from at result
+        (value_at table.now.rows n at (drop at bytes.now)) }
     ensures room { IfOk result (λ x. (x.0 ≤ x.1) × (x.1 ≤ length bytes.now)) }
 {
     let Some(row) = table.row(n) else {

@@ -54,7 +54,8 @@ fn take_first(
 ) -> Result<Fed, UnpackFault>
     requires empty { taken.old.items ≡ [] }
     requires resumed { IsResumed table.now point.old taken.old.items }
-    ensures exact { Feeds (length taken.old.items) result (message_at table.now (taken.old.items ++ piece.now)) }
+    ensures exact { Feeds (length taken.old.items) result
+        (message_at table.now (taken.old.items ++ piece.now)) }
     ensures kept { KeepsTaken taken.old.items taken.new.items piece.now result }
     ensures resumed { IsResumed table.now point.new taken.new.items }
     ensures good { AreGood table.now.rows }
@@ -89,7 +90,8 @@ fn take_next(
 ) -> Result<Fed, UnpackFault>
     requires short { IsShort (message_at table.now taken.old.items) }
     requires resumed { IsResumed table.now point.old taken.old.items }
-    ensures exact { Feeds (length taken.old.items) result (message_at table.now (taken.old.items ++ piece.now)) }
+    ensures exact { Feeds (length taken.old.items) result
+        (message_at table.now (taken.old.items ++ piece.now)) }
     ensures kept { KeepsTaken taken.old.items taken.new.items piece.now result }
     ensures resumed { IsResumed table.now point.new taken.new.items }
     ensures good { AreGood table.now.rows }
@@ -135,7 +137,8 @@ fn take_parts(
 ) -> Result<Fed, UnpackFault>
     requires short { IsShort (message_at table.now taken.old.items) }
     requires resumed { IsResumed table.now point.old taken.old.items }
-    ensures exact { Feeds (length taken.old.items) result (message_at table.now (taken.old.items ++ piece.now)) }
+    ensures exact { Feeds (length taken.old.items) result
+        (message_at table.now (taken.old.items ++ piece.now)) }
     ensures kept { KeepsTaken taken.old.items taken.new.items piece.now result }
     ensures resumed { IsResumed table.now point.new taken.new.items }
     ensures good { AreGood table.now.rows }
@@ -179,7 +182,8 @@ fn take_further(
 ) -> Result<Fed, UnpackFault>
     requires short { IsShort (message_at table.now taken.old.items) }
     requires resumed { IsResumed table.now point.old taken.old.items }
-    ensures exact { Feeds (length taken.old.items) result (message_at table.now (taken.old.items ++ piece.now)) }
+    ensures exact { Feeds (length taken.old.items) result
+        (message_at table.now (taken.old.items ++ piece.now)) }
     ensures kept { KeepsTaken taken.old.items taken.new.items piece.now result }
     ensures resumed { IsResumed table.now point.new taken.new.items }
     ensures good { AreGood table.now.rows }
@@ -201,7 +205,8 @@ fn take_piece(
 ) -> Result<Fed, UnpackFault>
     requires short { IsShort (message_at table.now taken.old.items) }
     requires resumed { IsResumed table.now point.old taken.old.items }
-    ensures exact { Feeds (length taken.old.items) result (message_at table.now (taken.old.items ++ piece.now)) }
+    ensures exact { Feeds (length taken.old.items) result
+        (message_at table.now (taken.old.items ++ piece.now)) }
     ensures kept { KeepsTaken taken.old.items taken.new.items piece.now result }
     ensures resumed { IsResumed table.now point.new taken.new.items }
     ensures good { AreGood table.now.rows }
@@ -223,13 +228,16 @@ pub(crate) fn take(
 ) -> Result<Fed, UnpackFault>
     requires short { IsShort (message_at table.now taken.old.items) }
     requires resumed { IsResumed table.now point.old taken.old.items }
-    ensures exact { Feeds (length taken.old.items) result (message_at table.now (taken.old.items ++ piece.now)) }
+    ensures exact { Feeds (length taken.old.items) result
+        (message_at table.now (taken.old.items ++ piece.now)) }
     ensures kept { KeepsTaken taken.old.items taken.new.items piece.now result }
     ensures resumed { IsResumed table.now point.new taken.new.items }
     ensures ready { IsReadyAfter table.now taken.new.items result }
-    ensures found { FoundFed table.now (length taken.old.items) (taken.old.items ++ piece.now) result }
+    ensures found { FoundFed table.now (length taken.old.items)
+        (taken.old.items ++ piece.now) result }
     ensures stops { StopsFed table.now (taken.old.items ++ piece.now) result }
-    ensures told { (at element : ℕ) (cause : UnpackCause) → Stops table.now (taken.old.items ++ piece.now) at element cause
+    ensures told { (at element : ℕ) (cause : UnpackCause)
+        → Stops table.now (taken.old.items ++ piece.now) at element cause
         → Feeds (length taken.old.items) result (halt element at cause) }
 {
     reads_spellings();
@@ -304,7 +312,8 @@ pub(crate) fn read_through(
 ) -> Result<usize, UnpackFault>
     requires resumed { IsResumed table.now point taken.old.items }
     requires small { length taken.old.items ≤ max_bytes table.now }
-    ensures exact { Unpacks (read_into into.new result) (message_at table.now (taken.old.items ++ piece.now)) }
+    ensures exact { Unpacks (read_into into.new result)
+        (message_at table.now (taken.old.items ++ piece.now)) }
     ensures kept { taken.new.items ≡ taken.old.items }
 {
     // the laws of parts and of what is read, for the prover

@@ -52,7 +52,8 @@ impl<'t> Model for Unpacker<'t> {
 
     ghost Value = { Feeding };
 
-    ghost view = { λ u. record { table = u.table.now; taken = u.taken.items; stopped = u.stopped } };
+    ghost view = { λ u.
+        record { table = u.table.now; taken = u.taken.items; stopped = u.stopped } };
 
     ghost invariant = { λ u. IsReady u.table.now u.taken.items u.stopped
         × IsResumed u.table.now u.point u.taken.items };
@@ -125,13 +126,15 @@ impl<'t> Unpacker<'t> {
         ensures stopped { StaysStopped self.old self.new result }
         // Unless a fault is kept, and memory aside, the answer is what `unpack` reads of the bytes
         // taken and then the piece.
-        ensures exact { self.old.stopped ≡ None → Feeds (length self.old.taken) result (message_at self.old.table (self.old.taken ++ piece.now)) }
+        ensures exact { self.old.stopped ≡ None → Feeds (length self.old.taken) result
+            (message_at self.old.table (self.old.taken ++ piece.now)) }
         // Unless a fault is kept: a message leaves no bytes taken, `More` those and the piece; a
         // fault leaves none and is kept; without memory nothing changes.
         ensures state { self.old.stopped ≡ None → IsAfterFeed self.old self.new piece.now result }
         // Unless a fault is kept, and memory aside, a fault tells where the bytes taken and then
         // the piece stop, and why; `More` says that they are too short.
-        ensures stops { self.old.stopped ≡ None → StopsFed self.old.table (self.old.taken ++ piece.now) result }
+        ensures stops { self.old.stopped ≡ None
+            → StopsFed self.old.table (self.old.taken ++ piece.now) result }
         // Unless a fault is kept, and memory aside, where the bytes taken and then the piece stop
         // is answered: `More` where they are too short, else that fault.
         ensures told { self.old.stopped ≡ None → (at element : ℕ) (cause : UnpackCause)
@@ -139,7 +142,8 @@ impl<'t> Unpacker<'t> {
             → Feeds (length self.old.taken) result (halt element at cause) }
         // Unless a fault is kept: `Done` is spelled by the first bytes; `More` comes only where
         // these begin with no spelling; a fault, memory aside, only where no continuation does.
-        ensures found { self.old.stopped ≡ None → FoundFed self.old.table (length self.old.taken) (self.old.taken ++ piece.now) result }
+        ensures found { self.old.stopped ≡ None
+            → FoundFed self.old.table (length self.old.taken) (self.old.taken ++ piece.now) result }
     {
         if let Some(fault) = self.stopped {
             return Err(fault);
@@ -179,7 +183,8 @@ impl<'t> Unpacker<'t> {
     /// what was taken before stays, after a fault too: so a caller that can't use the message yet can come again.
     pub fn read_through(&mut self, piece: &[u8], into: &mut Message) -> Result<usize, UnpackFault>
         // What `into` is then is what `unpack` reads of the bytes taken and then the piece, unless memory runs out.
-        ensures exact { Unpacks (read_into into.new result) (message_at self.old.table (self.old.taken ++ piece.now)) }
+        ensures exact { Unpacks (read_into into.new result)
+            (message_at self.old.table (self.old.taken ++ piece.now)) }
         // What `feed` has taken stays, and so does its fault.
         ensures kept { self.new ≡ self.old }
     {
@@ -204,12 +209,14 @@ impl<'t> Unpacker<'t> {
     /// [`Unpacker::reset`]. Takes no memory.
     pub fn missing(&self) -> UnpackFault
         // Unless a fault is kept, it is the fault that `unpack` gives of the bytes taken.
-        ensures exact { self.now.stopped ≡ None → message_at self.now.table self.now.taken ≡ Err result }
+        ensures exact { self.now.stopped ≡ None
+            → message_at self.now.table self.now.taken ≡ Err result }
         // Unless a fault is kept, it says that the bytes taken are too short.
         ensures short { self.now.stopped ≡ None → result.cause ≡ Short }
         // Unless a fault is kept, it tells the offset and the element at which the bytes taken are
         // too short.
-        ensures stops { self.now.stopped ≡ None → Stops self.now.table self.now.taken result.at result.element Short }
+        ensures stops { self.now.stopped ≡ None
+            → Stops self.now.table self.now.taken result.at result.element Short }
         // A fault that is kept is told again.
         ensures stopped { (fault : UnpackFault) → self.now.stopped ≡ Some fault → result ≡ fault }
     {

@@ -41,7 +41,8 @@ pub(crate) fn read_row(
 ) -> Result<usize, UnpackFault>
     requires good { IsGood row.now }
     requires within { at ≤ length bytes.now }
-    ensures exact { AppendsPart values.old.items values.new.items result (value_by (Some row.now) n at (drop at bytes.now)) }
+    ensures exact { AppendsPart values.old.items values.new.items result
+        (value_by (Some row.now) n at (drop at bytes.now)) }
     ensures room { IfOk result (λ used. at + used ≤ length bytes.now) }
 {
     let front = row.length.prefix_size();
@@ -69,7 +70,8 @@ pub(crate) fn read_value(
     values: &mut Vec<u8>,
 ) -> Result<usize, UnpackFault>
     requires { at ≤ length bytes.now }
-    ensures exact { AppendsPart values.old.items values.new.items result (value_at table.now.rows n at (drop at bytes.now)) }
+    ensures exact { AppendsPart values.old.items values.new.items result
+        (value_at table.now.rows n at (drop at bytes.now)) }
     ensures room { IfOk result (λ used. at + used ≤ length bytes.now) }
 {
     let Some(row) = table.row(n) else {
@@ -98,7 +100,8 @@ fn read_elements(
 ) -> Result<usize, UnpackFault>
     requires within { start ≤ length bytes.now }
     requires elements { AreElements (contains numbers) }
-    ensures exact { Gives (λ end. (views elements.new, end)) result (elements_at table.now.rows (members numbers) start (drop start bytes.now)) }
+    ensures exact { Gives (λ end. (views elements.new, end)) result
+        (elements_at table.now.rows (members numbers) start (drop start bytes.now)) }
     ensures whole { OnOk result (IsWhole elements.new) }
     ensures numbered { OnOk result (IsNumbered elements.new) }
 {

@@ -52,15 +52,18 @@ pub fn view<'a>(table: &Table, bytes: &'a [u8]) -> Result<View<'a>, UnpackFault>
     // A fault tells where the bytes stop, by their whole pieces, and why.
     ensures stops { IfErr result (λ e. Stops table.now bytes.now e.at e.element e.cause) }
     // Where the bytes stop, that very fault is told.
-    ensures told { (at element : ℕ) (cause : UnpackCause) → Stops table.now bytes.now at element cause
+    ensures told { (at element : ℕ) (cause : UnpackCause)
+        → Stops table.now bytes.now at element cause
         → Views table.now bytes.now result (halt element at cause) }
     // A fault comes only where the bytes begin with no spelling.
     ensures refused { IfErr result (λ e. BeginsWithNone table.now bytes.now) }
     // Where the fault is another than missing bytes, no continuation of the bytes begins with a
     // spelling.
-    ensures settled { IfErr result (λ e. e.cause ≢ Short → (x : List ℕ) → AreBytes x → BeginsWithNone table.now (bytes.now ++ x)) }
+    ensures settled { IfErr result (λ e. e.cause ≢ Short → (x : List ℕ) → AreBytes x
+        → BeginsWithNone table.now (bytes.now ++ x)) }
     // Bodies with their lengths before them are the parts of the elements.
-    ensures parts { (es ws : List (ℕ × List ℕ)) (b : List ℕ) → Wired table.now.rows es ws b → Parts table.now.rows es b }
+    ensures parts { (es ws : List (ℕ × List ℕ)) (b : List ℕ) → Wired table.now.rows es ws b
+        → Parts table.now.rows es b }
 {
     reads_spellings();
     stops();

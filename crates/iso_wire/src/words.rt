@@ -87,7 +87,8 @@ fn push_word(digit: u8, word: &[u8], out: &mut Vec<u8>) -> Result<(), AllocError
 
 /// Appends the digits of a message type.
 fn push_digits(mti: Mti, out: &mut Vec<u8>) -> Result<(), AllocError>
-    ensures { OnOk result (out.new.items ≡ out.old.items ++ (codes "MTI=" ++ four_digits_of Ascii (mti_number mti))) }
+    ensures { OnOk result
+        (out.new.items ≡ out.old.items ++ (codes "MTI=" ++ four_digits_of Ascii (mti_number mti))) }
 {
     out.extend_from_slice(b"MTI=")?;
     out.extend_from_slice(&four_ascii_digits(usize::from(mti.number())))

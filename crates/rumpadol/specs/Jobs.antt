@@ -6,7 +6,8 @@ use Rattle.rumpadol_jobs.specs.declared.job.Job.TheVariants as all
 
 -- what the output gains and with which status, of a job about tables; of one about messages, a run or a journal nothing is said here, and of a
 -- host or a front that it served to its end
-abbrev pub Performs : Job → (List ℕ → Option (List ℕ)) → Option (List ℕ) → Option (List ℕ) → Option (List ℕ) → ℕ → Type 0
+abbrev pub Performs : Job → (List ℕ → Option (List ℕ)) → Option (List ℕ) → Option (List ℕ)
+    → Option (List ℕ) → ℕ → Type 0
 Performs (all.Tables job) file input old new status = Does job file input old new status
 Performs (all.Messages job) file input old new status = ⊤
 Performs (all.Host words) file input old new status = status ≡ 0

@@ -39,7 +39,8 @@ pub fn batch_at(
     // Memory aside, the batch is the heading of its place and writer, and then its records: the
     // next 1,024 of the journal, or as many as are left.
     ensures { OnOk result (batch.new.items
-        ≡ heading_bytes (record { place = before + 1; writer = writer }) ++ part_at records.now before) }
+        ≡ heading_bytes (record { place = before + 1; writer = writer })
+        ++ part_at records.now before) }
 {
     let heading = Heading {
         place: before as u64 + 1,

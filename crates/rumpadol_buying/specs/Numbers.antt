@@ -20,7 +20,8 @@ part_of digits = option_map (λ n. n * 10 ^ (6 - length digits)) (number_in 1 6 
 
 -- so many ones and so many millionths, where they are at most one
 abbrev pub joined : Option ℕ → Option ℕ → Option ℕ
-joined whole part = option_and_then (λ w. option_and_then (λ p. at_most 1000000 (w * 1000000 + p)) part) whole
+joined whole part =
+    option_and_then (λ w. option_and_then (λ p. at_most 1000000 (w * 1000000 + p)) part) whole
 
 -- a fraction with its point there
 abbrev pub fraction_at : List ℕ → Option ℕ → Option ℕ
@@ -34,13 +35,15 @@ millionths_of text = fraction_at text (point_in text)
 -- two numbers of 1 to 19 digits, where the first is the least
 abbrev pub range_between : List ℕ → List ℕ → Option (ℕ × ℕ)
 range_between least most =
-    option_and_then (λ l. option_and_then (λ m. ascending l m) (number_in 1 19 most)) (number_in 1 19 least)
+    option_and_then (λ l. option_and_then (λ m. ascending l m) (number_in 1 19 most))
+    (number_in 1 19 least)
 
 -- what stands behind the first number of a range: two points and the other number
 abbrev pub range_behind : List ℕ → List ℕ → Option (ℕ × ℕ)
 range_behind least [] = None
 range_behind least (a ∷ []) = None
-range_behind least (a ∷ b ∷ most) = if a == 46 then (if b == 46 then range_between least most else None) else None
+range_behind least (a ∷ b ∷ most) =
+    if a == 46 then (if b == 46 then range_between least most else None) else None
 
 -- a range with its first point there
 abbrev pub range_at : List ℕ → Option ℕ → Option (ℕ × ℕ)

@@ -30,7 +30,8 @@ fn link_of<S: Source, I: Read>(
     source: &S,
     input: &mut I,
 ) -> Result<Link, Stop>
-    ensures table { IfOk result (λ link. IsNamed (S.file source.now) (I.remaining input.old) word.now link.table) }
+    ensures table { IfOk result
+        (λ link. IsNamed (S.file source.now) (I.remaining input.old) word.now link.table) }
     ensures header { IfOk result (λ link. link.header ≡ header) }
 {
     if word == STANDARD_INPUT {

@@ -18,20 +18,26 @@ use Rattle.rumpadol_tables.specs.Named.{IsNamed}
 -- a version, how many rows there are, and how many bytes a message may take
 abbrev pub sizes_text : ℕ → ℕ → ℕ → List ℕ
 sizes_text version rows longest =
-    codes "version " ++ (decimal version ++ (codes ", " ++ (decimal rows ++ (codes " rows, at most " ++ (decimal longest ++ codes " bytes")))))
+    codes "version " ++ (decimal version ++ (codes ", "
+    ++ (decimal rows ++ (codes " rows, at most " ++ (decimal longest ++ codes " bytes")))))
 
 -- the line of a good table
 abbrev pub good_line : List ℕ → Layout → List ℕ
-good_line name t = name ++ (codes ": good, " ++ (sizes_text t.version (count_by is_some t.rows) (max_bytes t) ++ codes "\n"))
+good_line name t = name ++ (codes ": good, "
+    ++ (sizes_text t.version (count_by is_some t.rows) (max_bytes t) ++ codes "\n"))
 
 -- what was appended is that line of the table that is named
-abbrev pub ChecksOver : (List ℕ → Option (List ℕ)) → Option (List ℕ) → List ℕ → Option (List ℕ) → Option (List ℕ) → Type 0
-ChecksOver file input word old new = (t : Layout) × IsNamed file input word t × Appends old new (good_line word t)
+abbrev pub ChecksOver : (List ℕ → Option (List ℕ)) → Option (List ℕ) → List ℕ → Option (List ℕ)
+    → Option (List ℕ) → Type 0
+ChecksOver file input word old new = (t : Layout) × IsNamed file input word t
+    × Appends old new (good_line word t)
 
 -- the line of a built-in table: its name, its version, its codings, and how many rows it has
 abbrev pub list_line : List ℕ → Layout → List ℕ
 list_line name t =
-    name ++ (codes "  version " ++ (decimal t.version ++ (codes ", type in " ++ (digits_name t.mti ++ (codes ", bitmaps in " ++ (bitmap_name t.bitmap ++ (codes ", " ++ (decimal (count_by is_some t.rows) ++ codes " rows\n"))))))))
+    name ++ (codes "  version " ++ (decimal t.version
+    ++ (codes ", type in " ++ (digits_name t.mti ++ (codes ", bitmaps in " ++ (bitmap_name t.bitmap
+    ++ (codes ", " ++ (decimal (count_by is_some t.rows) ++ codes " rows\n"))))))))
 
 -- what was appended are the lines of the built-in tables
 abbrev pub ListsOver : Option (List ℕ) → Option (List ℕ) → Type 0
@@ -56,17 +62,20 @@ with_texts d (text ∷ texts) = with_text d text >>= (λ e. with_texts e texts)
 -- the table is the other one without the rows of these elements, and then with the rows that these texts write
 abbrev pub IsChanged : Layout → List ℕ → List (List ℕ) → Layout → Type 0
 IsChanged from drops texts t =
-    (d : DraftContents) × (with_texts (without_rows (draft_of from) drops) texts ≡ Ok d) × Accepted d × Holds t d
+    (d : DraftContents) × (with_texts (without_rows (draft_of from) drops) texts ≡ Ok d)
+    × Accepted d × Holds t d
 
 -- what was appended is the document of such a table, and a newline
-abbrev pub MakesOver : (List ℕ → Option (List ℕ)) → Option (List ℕ) → List ℕ → List ℕ → List (List ℕ) → Option (List ℕ) → Option (List ℕ) → Type 0
+abbrev pub MakesOver : (List ℕ → Option (List ℕ)) → Option (List ℕ) → List ℕ → List ℕ
+    → List (List ℕ) → Option (List ℕ) → Option (List ℕ) → Type 0
 MakesOver file input word drops texts old new =
     (from : Layout) × (t : Layout) × IsNamed file input word from × IsChanged from drops texts t
     × Appends old new (compact_text (document t) ++ codes "\n")
 
 -- the tables differ or are equal, and where they are equal nothing was appended; of a second one on the input nothing is said,
 -- since the first one may have read it
-abbrev pub Compares : (List ℕ → Option (List ℕ)) → Option (List ℕ) → List ℕ → List ℕ → Option (List ℕ) → Option (List ℕ) → Bool → Type 0
+abbrev pub Compares : (List ℕ → Option (List ℕ)) → Option (List ℕ) → List ℕ → List ℕ
+    → Option (List ℕ) → Option (List ℕ) → Bool → Type 0
 Compares file input first second old new differ =
     (a : Layout) × (b : Layout) × IsNamed file input first a × IsNamed file None second b
     × ((differ ≡ false) ↔ (a ≡ b)) × (differ ≡ false → Appends old new [])

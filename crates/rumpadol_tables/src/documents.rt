@@ -43,7 +43,8 @@ pub fn document_at<S: Source>(
     wanted: &str,
 ) -> Result<Vec<u8>, Stop>
     // At `Ok` the text is what the file holds, where that is known.
-    ensures text { IfOk result (λ text. IfSome (S.file source.now path.now) (λ held. held ≡ text.items)) }
+    ensures text { IfOk result
+        (λ text. IfSome (S.file source.now path.now) (λ held. held ≡ text.items)) }
     // The status is 1 only where the file is longer than 1,048,576 bytes, as far as that is known.
     ensures stop { IfErr result (λ stop. status_of stop ≡ 1
         → IfSome (S.file source.now path.now) (λ held. 1048576 < length held)) }
@@ -56,7 +57,8 @@ pub fn document_at<S: Source>(
 
 /// The bytes of the document on the input.
 fn document_on<I: Read>(alloc: Global, input: &mut I, wanted: &str) -> Result<Vec<u8>, Stop>
-    ensures text { IfOk result (λ text. IfSome (I.remaining input.old) (λ held. held ≡ text.items)) }
+    ensures text { IfOk result
+        (λ text. IfSome (I.remaining input.old) (λ held. held ≡ text.items)) }
     ensures stop { IfErr result (λ stop. status_of stop ≡ 1
         → IfSome (I.remaining input.old) (λ held. 1048576 < length held)) }
 {
@@ -75,11 +77,13 @@ pub fn document_named<S: Source, I: Read>(
     wanted: &str,
 ) -> Result<Vec<u8>, Stop>
     // At `Ok` the text is what the file holds, or the input for the word `-`, where that is known.
-    ensures text { IfOk result (λ text. Held (S.file source.now) (I.remaining input.old) word.now (λ held. held ≡ text.items)) }
+    ensures text { IfOk result (λ text.
+        Held (S.file source.now) (I.remaining input.old) word.now (λ held. held ≡ text.items)) }
     // The status is 1 only where the document is longer than 1,048,576
     // bytes, as far as that is known.
     ensures stop { IfErr result (λ stop. status_of stop ≡ 1
-        → Held (S.file source.now) (I.remaining input.old) word.now (λ held. 1048576 < length held)) }
+        → Held (S.file source.now) (I.remaining input.old) word.now (λ held. 1048576
+        < length held)) }
 {
     if word == "-" {
         return document_on(alloc, input, wanted);

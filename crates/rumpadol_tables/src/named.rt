@@ -56,7 +56,8 @@ fn table_at<S: Source, I: Read>(
     input: &mut I,
     word: &str,
 ) -> Result<Table, Stop>
-    ensures ok { IfOk result (λ table. Held (S.file source.now) (I.remaining input.old) word.now (λ text. IsTableOf text table)) }
+    ensures ok { IfOk result (λ table.
+        Held (S.file source.now) (I.remaining input.old) word.now (λ text. IsTableOf text table)) }
     ensures stop { IfErr result (λ stop. status_of stop ≡ 1
         → Held (S.file source.now) (I.remaining input.old) word.now IsRefused) }
 {
@@ -106,7 +107,8 @@ pub fn names_named<S: Source>(
 ) -> Result<Names, Stop>
     // At `Ok` these are the names of the version, with those of the document at the path, if one
     // is given, laid over them.
-    ensures { IfOk result (AreNames (S.file source.now) (option_map (λ path. path.now) path.entry) version) }
+    ensures { IfOk result
+        (AreNames (S.file source.now) (option_map (λ path. path.now) path.entry) version) }
 {
     let Some(path) = path else {
         return Ok(Names::new(alloc, version));

@@ -35,13 +35,15 @@ pub trait Source {
 
     /// The file's bytes. Of one with more than `MOST_BYTES` only that many and one more, so that it can be told.
     fn read(&self, alloc: Global, path: &str) -> Result<Vec<u8>, SourceFault>
-        ensures bytes { IfOk result (λ bytes. IfSome (file self.now path.now) (λ held. bytes.items ≡ read_of held)) };
+        ensures bytes { IfOk result
+            (λ bytes. IfSome (file self.now path.now) (λ held. bytes.items ≡ read_of held)) };
 }
 
 /// The bytes of a reader, or its first ones where there are more than `MOST_BYTES`.
 pub fn read_front<R: Read + Drop>(alloc: Global, reader: R) -> Result<Vec<u8>, SourceFault>
     // At `Ok` these are the reader's bytes, where they are known, up to one more than `MOST_BYTES`.
-    ensures { IfOk result (λ bytes. IfSome (R.remaining reader) (λ held. bytes.items ≡ read_of held)) }
+    ensures { IfOk result
+        (λ bytes. IfSome (R.remaining reader) (λ held. bytes.items ≡ read_of held)) }
 {
     let mut bytes = Vec::new(alloc);
     match reader.take(MOST_BYTES + 1).read_to_end(&mut bytes) {

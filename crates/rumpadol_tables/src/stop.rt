@@ -137,7 +137,8 @@ pub fn tell<F: Write>(faults: &mut F, stop: &Stop) -> u8
 /// Writes to the output whole, and flushes it.
 pub fn write_output<O: Write>(output: &mut O, bytes: &[u8]) -> Result<(), Stop>
     // At `Ok` the output grew by all the bytes, and by nothing else.
-    ensures written { OnOk result (Appends (O.contents output.old) (O.contents output.new) bytes.now) }
+    ensures written { OnOk result
+        (Appends (O.contents output.old) (O.contents output.new) bytes.now) }
     // A failure has status 3.
     ensures status { IfErr result (λ stop. status_of stop ≡ 3) }
 {

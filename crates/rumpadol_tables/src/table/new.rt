@@ -47,7 +47,8 @@ fn set_row(alloc: Global, draft: &mut Draft, text: &str) -> Result<(), RowFault>
 
 /// Sets the rows that texts write, one after the other.
 fn set_rows(alloc: Global, draft: &mut Draft, texts: &[&str]) -> Result<(), Stop>
-    ensures { OnOk result (with_texts (contents draft.old) (map (λ text. text.now) texts.now) ≡ Ok (contents draft.new)) }
+    ensures { OnOk result (with_texts (contents draft.old) (map (λ text. text.now) texts.now)
+        ≡ Ok (contents draft.new)) }
 {
     for text in texts {
         if let Err(fault) = set_row(alloc, draft, *text) {

@@ -20,7 +20,8 @@ pub fn show<S: Source, I: Read, O: Write>(
     output: &mut O,
 ) -> Result<(), Stop>
     // At `Ok` some bytes were appended to the output. It doesn't say which.
-    ensures { OnOk result ((lines : List ℕ) × Appends (O.contents output.old) (O.contents output.new) lines) }
+    ensures { OnOk result
+        ((lines : List ℕ) × Appends (O.contents output.old) (O.contents output.new) lines) }
 {
     let table = table_named(alloc, source, input, word)?;
     let names = names_named(alloc, source, names, table.version())?;
