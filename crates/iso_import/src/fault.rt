@@ -3,7 +3,7 @@
 ghost use Rattle.std.specs.Prelude.{◌≡◌};
 ghost use Rattle.iso_import.specs.declared.fault.ImportFault.TheVariants.{Memory};
 
-use std::alloc::{AllocError, AllocFailed};
+use std::alloc::AllocError;
 use thiserror::Error;
 
 /// Why a text is no table of another program.
@@ -41,14 +41,6 @@ impl From<AllocError> for ImportFault {
     ghost from_gives = { λ _ fault. fault ≡ Memory };
 
     fn from(_fault: AllocError) -> ImportFault {
-        ImportFault::Memory
-    }
-}
-
-impl<T: Drop> From<AllocFailed<T>> for ImportFault {
-    ghost from_gives = { λ _ fault. fault ≡ Memory };
-
-    fn from(_fault: AllocFailed<T>) -> ImportFault {
         ImportFault::Memory
     }
 }

@@ -7,7 +7,8 @@ use Rattle.serde_json.specs.Data.{Data, Items}
 use Rattle.serde_json.specs.Find.{get_item}
 use Rattle.serde_json.specs.View.{view, items_view}
 use Rattle.serde_json.specs.declared.value.Value.{Value}
-use Rattle.iso_table.specs.Document.{StandsFor, whole_at}
+use Rattle.iso_table.specs.Document.{StandsFor}
+use Rattle.iso_table.specs.Members.{whole_at}
 use Rattle.iso_review.specs.declared.complaint.Place.{Place}
 use Rattle.iso_review.specs.declared.complaint.Finding.{Finding}
 use Rattle.iso_review.specs.declared.complaint.Complaint.{Complaint}

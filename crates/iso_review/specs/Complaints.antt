@@ -3,7 +3,8 @@ use Rattle.std.specs.Prelude.{◌≡◌, ℕ, ◌-◌, ◌≤◌, List, Option, 
 use Rattle.serde_json.specs.Data.{Data, Items, no_items}
 use Rattle.serde_json.specs.Find.{get, get_item, as_array}
 use Rattle.iso_table.specs.Layout.{Layout}
-use Rattle.iso_table.specs.Document.{IsTableOf, StandsFor, ◌>>=◌, whole_at}
+use Rattle.iso_table.specs.Document.{IsTableOf, StandsFor}
+use Rattle.iso_table.specs.Members.{◌>>=◌, whole_at}
 use Rattle.iso_review.specs.declared.complaint.Place.{Place}
 use Rattle.iso_review.specs.declared.complaint.Finding.{Finding}
 use Rattle.iso_review.specs.declared.complaint.Complaint.{Complaint}

@@ -3,7 +3,8 @@ use Rattle.std.specs.List.{slice_split, before_first, after_first, list_any}
 use Rattle.std.specs.Prelude.{ℕ, ◌+◌, ◌-◌, ◌*◌, ◌==◌, Bool, if◌then◌else◌, List, [], ◌∷◌, Option, None, Some, option_and_then, Result, Ok, Err, codes, find}
 use Rattle.std.specs.Str.{bytes_eq}
 use Rattle.iso_parts.specs.Class.{is_digit}
-use Rattle.iso_table.specs.Document.{up_to, class_named, coding_named, digits_named, pad_named}
+use Rattle.iso_table.specs.Members.{up_to}
+use Rattle.iso_table.specs.Names.{class_named, coding_named, digits_named, pad_named}
 use Rattle.iso_review.specs.declared.change.RowChange.{RowChange}
 use Rattle.iso_review.specs.declared.change.RowFault.{RowFault}
 use Rattle.iso_review.specs.declared.change.RowFault.TheVariants.{NoNumber, NoMember, Twice, BadValue}

@@ -7,10 +7,10 @@ ghost use Rattle.iso_table.specs.Document.{prefix_named};
 ghost use Rattle.iso_review.specs.declared.change.RowFault.TheVariants.{Memory};
 ghost use Rattle.iso_review.specs.Changes.{or_missing, length_by, changed, put_row, applied, without_row, old_digits};
 
-use crate::kinds::{LengthKind, digits_of};
+use crate::kinds::{LengthKind, length_digits};
 use iso_parts::{CharClass, Coding, Digits, FieldSpec, Length, Pad};
 use iso_table::{Draft, Row};
-use std::alloc::{AllocError, AllocFailed};
+use std::alloc::AllocError;
 use std::fmt;
 use thiserror::Error;
 
@@ -88,17 +88,6 @@ impl From<AllocError> for RowFault {
     }
 }
 
-impl<T: Drop> From<AllocFailed<T>> for RowFault {
-    ghost use Rattle.std.specs.Prelude.{◌≡◌};
-    ghost use Rattle.iso_review.specs.declared.change.RowFault.TheVariants.{Memory};
-
-    ghost from_gives = { λ _ e. e ≡ Memory };
-
-    fn from(_refused: AllocFailed<T>) -> RowFault {
-        RowFault::Memory
-    }
-}
-
 impl fmt::Display for Member {
     fn fmt<W: fmt::Write>(&self, f: &mut fmt::Formatter<W>) -> fmt::Result {
         f.write_str(match self {
@@ -148,7 +137,7 @@ fn old_digits(old: Option<FieldSpec>) -> Option<Digits>
     ensures { result ≡ old_digits old }
 {
     match old {
-        Some(spec) => digits_of(spec.length),
+        Some(spec) => length_digits(spec.length),
         None => None,
     }
 }

@@ -3,10 +3,11 @@
 ghost use Rattle.std.specs.Prelude.{◌≡◌, ◌↔◌, IfOk, OnErr, false};
 ghost use Rattle.iso_parts.specs.Buffers.{Keeps};
 
-use crate::kinds::{LengthKind, digits_of};
+use crate::kinds::{LengthKind, length_digits};
 use crate::words::{bitmap_name, class_name, coding_name, digits_name, kind_name};
 use iso_names::Names;
-use iso_parts::{FieldSpec, Length, PLACES, Pad};
+use iso_parts::raw::PLACES;
+use iso_parts::{FieldSpec, Length, Pad};
 use iso_table::{NoMemory, Table};
 use std::alloc::AllocError;
 use std::fmt;
@@ -28,7 +29,7 @@ impl fmt::Display for PadText {
 
 /// How the digits of a length are written, in a document's word.
 fn prefix_name(length: Length) -> &'static str {
-    match digits_of(length) {
+    match length_digits(length) {
         Some(digits) => digits_name(digits),
         None => "none",
     }
@@ -110,8 +111,8 @@ fn push_words<D: Display + Copy + Drop>(
     push_change(member, old, new, name, lines)
 }
 
-/// Appends the members of a row that differ.
-fn push_members(
+/// Appends how the characters of a value differ, and how they are written.
+fn push_characters(
     number: u8,
     old: &FieldSpec,
     new: &FieldSpec,
@@ -137,7 +138,17 @@ fn push_members(
         is,
         name,
         lines,
-    )?;
+    )
+}
+
+/// Appends how the length before a value differs, its digits, and the most characters.
+fn push_length(
+    number: u8,
+    old: &FieldSpec,
+    new: &FieldSpec,
+    name: &str,
+    lines: &mut String,
+) -> Result<(), AllocError> {
     let (kind, other) = (LengthKind::of(old.length), LengthKind::of(new.length));
     push_words(
         number,
@@ -148,7 +159,7 @@ fn push_members(
         name,
         lines,
     )?;
-    let (digits, others) = (digits_of(old.length), digits_of(new.length));
+    let (digits, others) = (length_digits(old.length), length_digits(new.length));
     let (was, is) = (prefix_name(old.length), prefix_name(new.length));
     push_words(number, "prefix", digits != others, was, is, name, lines)?;
     push_words(
@@ -159,7 +170,19 @@ fn push_members(
         new.max,
         name,
         lines,
-    )?;
+    )
+}
+
+/// Appends the members of a row that differ.
+fn push_members(
+    number: u8,
+    old: &FieldSpec,
+    new: &FieldSpec,
+    name: &str,
+    lines: &mut String,
+) -> Result<(), AllocError> {
+    push_characters(number, old, new, name, lines)?;
+    push_length(number, old, new, name, lines)?;
     let (was, is) = (PadText(old.pad), PadText(new.pad));
     push_words(number, "pad", old.pad != new.pad, was, is, name, lines)
 }

@@ -9,7 +9,7 @@ use crate::complaint::{Cause, Complaint, Finding, Place};
 use crate::excerpt::Excerpt;
 use crate::judging::{finding, push_unknown, push_unread, row_findings, u16_at};
 use crate::words::{bitmap_named, digits_named};
-use iso_parts::PLACES;
+use iso_parts::raw::PLACES;
 use iso_table::members::text_at;
 use iso_table::{NoMemory, Table, TableFault};
 use serde_json::{Category, Error, Value};

@@ -2,7 +2,7 @@
 
 ghost use Rattle.std.specs.Prelude.{◌≡◌};
 ghost use Rattle.serde_json.specs.View.{view};
-ghost use Rattle.iso_table.specs.Document.{whole_at};
+ghost use Rattle.iso_table.specs.Members.{whole_at};
 
 use crate::complaint::{Cause, Finding};
 use crate::excerpt::Excerpt;

@@ -60,7 +60,7 @@ impl LengthKind {
 }
 
 /// How the digits of a length are written, where it has some.
-pub(crate) fn digits_of(length: Length) -> Option<Digits>
+pub(crate) fn length_digits(length: Length) -> Option<Digits>
     ensures { result ≡ prefix_named length }
 {
     match length {

@@ -4,10 +4,11 @@ ghost use Rattle.std.specs.Prelude.{◌≡◌, OnErr};
 ghost use Rattle.iso_parts.specs.Buffers.{Keeps};
 
 use crate::differences::PadText;
-use crate::kinds::{LengthKind, digits_of};
+use crate::kinds::{LengthKind, length_digits};
 use crate::words::{bitmap_name, class_name, coding_name, digits_name, kind_name};
 use iso_names::Names;
-use iso_parts::{FieldSpec, PLACES};
+use iso_parts::FieldSpec;
+use iso_parts::raw::PLACES;
 use iso_table::{NoMemory, Table};
 use std::alloc::AllocError;
 use std::fmt::Write;
@@ -68,7 +69,7 @@ fn push_row(
 ) -> Result<(), AllocError> {
     let (class, coding) = (class_name(spec.class), coding_name(spec.coding));
     let kind = kind_name(LengthKind::of(spec.length));
-    let prefix = match digits_of(spec.length) {
+    let prefix = match length_digits(spec.length) {
         Some(digits) => digits_name(digits),
         None => "",
     };

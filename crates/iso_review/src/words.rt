@@ -1,8 +1,8 @@
 //! The words of a document, and what they stand for.
 
 ghost use Rattle.std.specs.Prelude.{◌≡◌};
-ghost use Rattle.iso_table.specs.Document.{class_name, class_named, coding_name, coding_named};
-ghost use Rattle.iso_table.specs.Document.{digits_name, digits_named, bitmap_name, bitmap_named, byte_of, pad_named};
+ghost use Rattle.iso_table.specs.Names.{class_name, class_named, coding_name, coding_named, digits_name, digits_named, bitmap_name};
+ghost use Rattle.iso_table.specs.Names.{bitmap_named, byte_of, pad_named};
 ghost use Rattle.iso_review.specs.RowText.{kind_name, kind_named};
 
 use crate::kinds::LengthKind;

@@ -15,8 +15,9 @@ use Rattle.iso_table.specs.declared.reading.Profile.{Profile}
 use Rattle.iso_table.specs.declared.fault.TableFault.{TableFault}
 use Rattle.iso_table.specs.declared.fault.TableFault.TheVariants.{NotJson, BadVersion, BadNumber, Twice}
 use Rattle.iso_table.specs.Layout.{is_version}
-use Rattle.iso_table.specs.Accepted.{DraftContents, Accepted, at_row, row_fault, row_of, rows_fault, draft_fault}
-use Rattle.iso_table.specs.Document.{◌>>=◌, document_row, rows_in, draft_in, table_in}
+use Rattle.iso_table.specs.Accepted.{DraftContents, IsAcceptable, at_row, row_fault, row_of, rows_fault, draft_fault}
+use Rattle.iso_table.specs.Document.{document_row, rows_in, draft_in, table_in}
+use Rattle.iso_table.specs.Members.{◌>>=◌}
 use Rattle.iso_table.proofs.RowLemmas.{none_from_accepted, new_first}
 
 -- ---- rows
@@ -35,14 +36,14 @@ rows_more p values i v row so_far total lt is judged =
 
 -- ---- a table or a fault
 
-pub fault_none : (c : DraftContents) → Accepted c → draft_fault c ≡ None
+pub fault_none : (c : DraftContents) → IsAcceptable c → draft_fault c ≡ None
 fault_none c a = by (is_version c.version) a.version (none_from_accepted [] c.rows a.rows a.once (new_first c.rows))
   where
     by : (b : Bool) → IsTrue b → rows_fault [] c.rows ≡ None → cond (not b) (Some BadVersion) (rows_fault [] c.rows) ≡ None
     by true h k = k
     by false h k = absurd (cc)
 
-pub table_found : (d : Data) (c : DraftContents) → draft_in d ≡ Ok c → Accepted c → table_in d ≡ Ok c
+pub table_found : (d : Data) (c : DraftContents) → draft_in d ≡ Ok c → IsAcceptable c → table_in d ≡ Ok c
 table_found d c h a = rw (h, fault_none c a) refl
 
 pub table_refused : (d : Data) (c : DraftContents) (e : TableFault) → draft_in d ≡ Ok c → draft_fault c ≡ Some e → table_in d ≡ Err e

@@ -5,7 +5,7 @@ use Rattle.iso_parts.specs.declared.spec.FieldSpec.{FieldSpec}
 use Rattle.iso_parts.specs.Spec.{IsGood}
 use Rattle.iso_table.specs.declared.draft.Row.{Row}
 use Rattle.iso_table.specs.Layout.{Layout, IsAccepted, row_at}
-use Rattle.iso_table.specs.Accepted.{Accepted, Holds, AreRows, OtherNumbers, HasEachOnce, row_of}
+use Rattle.iso_table.specs.Accepted.{IsAcceptable, Holds, AreRows, OtherNumbers, HasEachOnce, row_of}
 use Rattle.iso_table.specs.Rows.{rows_from, draft_of}
 use Rattle.iso_table.proofs.RowLemmas.{row_of_here, row_of_after}
 use Rattle.iso_table.proofs.SameTable.{same_table}
@@ -46,7 +46,7 @@ holds_at n (Some s ∷ rs) (suc k) = holds_at (n + 1) rs k ∙ ap (row_of (rows_
 zero_on : (k : ℕ) → 0 + k ≡ k
 zero_on k = omega arith
 
-pub draft_accepted : (t : Layout) → IsAccepted t → Accepted (draft_of t)
+pub draft_accepted : (t : Layout) → IsAccepted t → IsAcceptable (draft_of t)
 draft_accepted t a = record {
   version = a.version;
   rows = are_rows 0 t.rows (λ k s e. subst (λ (m : ℕ). IsTrue (is_element m) × IsGood s) (sym (zero_on k)) (a.numbers k s e, a.good k s e));

@@ -17,7 +17,7 @@ some_of : (t : Bool) (e : HostTableFault) → cond t None (Some e) ≡ None → 
 some_of true e h = refl
 some_of false e h = absurd cc
 
-row_good : (h : HostRow) (r : Option FieldSpec) → host_row_fault h r ≡ None → IsHostRow h r
+pub row_good : (h : HostRow) (r : Option FieldSpec) → host_row_fault h r ≡ None → IsHostRow h r
 row_good h None e = none_of h.needed (NoRow h.number) e
 row_good h (Some s) e = some_of (is_shape h.shape s) (RowShape h.number) e
 

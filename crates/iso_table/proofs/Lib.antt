@@ -8,3 +8,4 @@ mod Equality
 mod RoundTrip
 mod SameTable
 mod HostLemmas
+mod FirstFaults

@@ -26,7 +26,9 @@ use Rattle.iso_table.specs.declared.reading.Profile.TheVariants.{Two}
 use Rattle.iso_table.specs.Layout.{Layout, IsAccepted, row_at, is_version}
 use Rattle.iso_table.specs.Accepted.{DraftContents, Holds}
 use Rattle.iso_table.specs.Rows.{rows_from, draft_of}
-use Rattle.iso_table.specs.Document.{◌>>=◌, class_name, class_named, coding_name, coding_named, digits_name, digits_named, bitmap_name, bitmap_named, length_name, pad_name, pad_named, byte_by, byte_of, up_to, whole_at, digits_at, class_in, coding_in, length_in, pad_in, spec_in, document_row, rows_in, bitmap_in, list_in, with_rows, members_in, or_shape, draft_in, table_in, prefix_named, prefix_members, row_object, row_data, rows_data, document}
+use Rattle.iso_table.specs.Document.{digits_at, class_in, coding_in, length_in, pad_in, spec_in, document_row, rows_in, bitmap_in, list_in, with_rows, members_in, or_shape, draft_in, table_in, prefix_named, prefix_members, row_object, row_data, rows_data, document}
+use Rattle.iso_table.specs.Members.{◌>>=◌, up_to, whole_at}
+use Rattle.iso_table.specs.Names.{class_name, class_named, coding_name, coding_named, digits_name, digits_named, bitmap_name, bitmap_named, length_name, pad_name, pad_named, byte_by, byte_of}
 use Rattle.iso_table.proofs.DraftLemmas.{draft_accepted, draft_held}
 use Rattle.iso_table.proofs.DocumentLemmas.{table_found}
 

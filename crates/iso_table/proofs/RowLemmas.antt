@@ -15,7 +15,7 @@ use Rattle.iso_table.specs.declared.draft.Row.{Row}
 use Rattle.iso_table.specs.declared.fault.TableFault.{TableFault}
 use Rattle.iso_table.specs.declared.fault.TableFault.TheVariants.{BadNumber, Twice}
 use Rattle.iso_table.specs.Layout.{Layout, IsAccepted, row_at, is_version}
-use Rattle.iso_table.specs.Accepted.{DraftContents, Accepted, AreRows, OtherNumbers, HasEachOnce, row_of, at_row, row_fault, rows_fault}
+use Rattle.iso_table.specs.Accepted.{DraftContents, IsAcceptable, AreRows, OtherNumbers, HasEachOnce, row_of, at_row, row_fault, rows_fault}
 
 -- ---- places
 
@@ -221,10 +221,10 @@ table_made t rows version size said fine =
       good = λ n s e. (row_of-good rows good n s (sym (said n) ∙ e)).1;
     }
 
-pub accepted : (d : DraftContents) → IsTrue (is_version d.version) → rows_fault [] d.rows ≡ None → Accepted d
+pub accepted : (d : DraftContents) → IsTrue (is_version d.version) → rows_fault [] d.rows ≡ None → IsAcceptable d
 accepted d version fine =
     let is = accepted_from_none [] d.rows fine in
     record { version = version; rows = is.0; once = is.1 }
 
-pub refused : (d : DraftContents) (e : TableFault) → rows_fault [] d.rows ≡ Some e → ¬ Accepted d
+pub refused : (d : DraftContents) (e : TableFault) → rows_fault [] d.rows ≡ Some e → ¬ IsAcceptable d
 refused d e h = λ a. let none = none_from_accepted [] d.rows a.rows a.once (new_first d.rows) in cc

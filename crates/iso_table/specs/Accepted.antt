@@ -43,7 +43,7 @@ HasEachOnce [] = Unit {0}
 HasEachOnce (r ∷ rs) = OtherNumbers r rs × HasEachOnce rs
 
 -- a table may be made of it
-pub record Accepted (d : DraftContents) : Type 0 where
+pub record IsAcceptable (d : DraftContents) : Type 0 where
   pub version : IsTrue (is_version d.version)
   pub rows : AreRows d.rows
   pub once : HasEachOnce d.rows
@@ -91,3 +91,13 @@ rows_fault earlier (r ∷ rs) =
 -- the first thing that is wrong: the version, and then row by row
 abbrev pub draft_fault : DraftContents → Option TableFault
 draft_fault d = if not (is_version d.version) then Some BadVersion else rows_fault [] d.rows
+
+-- one row has this fault, and the rows before it are good and have other numbers each
+pub record IsFirstFault (rows : List Row) (e : TableFault) : Type 0 where
+  pub before : List Row
+  pub bad : Row
+  pub behind : List Row
+  pub split : rows ≡ before ++ bad ∷ behind
+  pub good : AreRows before
+  pub once : HasEachOnce before
+  pub fault : row_fault (is_some (row_of before bad.number)) bad ≡ Some e

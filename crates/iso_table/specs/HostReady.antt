@@ -1,6 +1,6 @@
 -- The rows that an issuer host needs of a table: under them every response can be written.
 use Rattle.std.specs.Option.{option_or}
-use Rattle.std.specs.Prelude.{◌≡◌, ℕ, Bool, true, false, ◌==◌, ◌&&◌, nat_le, IsTrue, if◌then◌else◌, List, [], ◌∷◌, Option, Some, None}
+use Rattle.std.specs.Prelude.{◌≡◌, ℕ, Bool, true, false, ◌==◌, ◌&&◌, nat_le, IsTrue, if◌then◌else◌, List, [], ◌∷◌, ◌++◌, Option, Some, None}
 use Rattle.iso_parts.specs.declared.class.CharClass.{CharClass}
 use Rattle.iso_parts.specs.declared.class.CharClass.TheVariants as classes
 use Rattle.iso_parts.specs.declared.prefix.Length.{Length}
@@ -119,3 +119,12 @@ AreHostRows (h ∷ hs) rows = IsHostRow h (row_at rows h.number) × AreHostRows 
 pub record IsHostReady (t : Layout) : Type 0 where
   pub version : t.version ≡ 0
   pub rows : AreHostRows host_rows t.rows
+
+-- one of the rows that a host needs has this fault, and those before it are as they have to be
+pub record IsFirstHostFault (rows : List (Option FieldSpec)) (e : HostTableFault) : Type 0 where
+  pub before : List HostRow
+  pub bad : HostRow
+  pub behind : List HostRow
+  pub split : host_rows ≡ before ++ bad ∷ behind
+  pub good : AreHostRows before rows
+  pub fault : host_row_fault bad (row_at rows bad.number) ≡ Some e

@@ -5,6 +5,7 @@ pub mod Equality
 pub mod Sizes
 pub mod Edition87
 pub mod Members
+pub mod Names
 pub mod Document
 pub mod HostReady
 pub mod FaultNames

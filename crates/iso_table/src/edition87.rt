@@ -8,7 +8,8 @@ ghost use Rattle.iso_table.specs.Edition87.{has_number, lines, length_of, coding
 use self::LengthKind::{Fixed, LL, LLL};
 use iso_parts::CharClass::{AN, ANS, B, N, XN, ZD};
 use iso_parts::Pad::{None as Unpadded, Right};
-use iso_parts::{BitmapCoding, CharClass, Coding, Digits, FieldSpec, Length, PLACES, Pad};
+use iso_parts::raw::PLACES;
+use iso_parts::{BitmapCoding, CharClass, Coding, Digits, FieldSpec, Length, Pad};
 
 /// Which length stands before a value, however its digits are written.
 #[derive(Clone, Copy)]

@@ -11,7 +11,8 @@ ghost use Rattle.iso_table.specs.Accepted.{row_fault, rows_fault, row_of};
 
 use crate::draft::Row;
 use crate::fault::TableFault;
-use iso_parts::{Bitmap, FieldSpec, PLACES, is_element};
+use iso_parts::raw::PLACES;
+use iso_parts::{Bitmap, FieldSpec, is_element};
 
 /// Whether there are tables of the version.
 pub fn is_version(version: u8) -> bool
@@ -45,7 +46,7 @@ pub fn row_at(places: &[Option<FieldSpec>], number: usize) -> Option<&FieldSpec>
 }
 
 /// Puts a row at its number.
-fn place(places: &mut [Option<FieldSpec>], row: &Row) -> Result<(), TableFault>
+fn put_at_number(places: &mut [Option<FieldSpec>], row: &Row) -> Result<(), TableFault>
     requires { length places.old ≡ 129 }
     ensures ok { OnOk result
         (places.new ≡ slice_set places.old row.now.number (Some row.now.spec)) }
@@ -76,7 +77,7 @@ pub fn places_of(rows: &[Row]) -> Result<[Option<FieldSpec>; PLACES], TableFault
 {
     let mut places = [None; PLACES];
     for row in rows {
-        place(&mut places, row)?;
+        put_at_number(&mut places, row)?;
     }
     Ok(places)
 }

@@ -5,11 +5,11 @@ ghost use Rattle.serde_json.specs.Errors.{IsMemory};
 ghost use Rattle.serde_json.specs.View.{view, items_view};
 ghost use Rattle.iso_table.specs.declared.fault.TableFault.TheVariants.{NotJson, Shape, Memory};
 ghost use Rattle.iso_table.specs.Accepted.{contents};
-ghost use Rattle.iso_table.specs.Members.{has_size, text_at};
-ghost use Rattle.iso_table.specs.Document.{u64_at, digits_at, class_in, coding_in, pad_in, class_named, coding_named, digits_named};
-ghost use Rattle.iso_table.specs.Document.{bitmap_named, pad_named, byte_of, behind, whole_at, prefix_in, length_by};
-ghost use Rattle.iso_table.specs.Document.{length_in, spec_in, document_row, rows_in, bitmap_in, list_in, members_in, with_rows, contents_in};
-ghost use Rattle.iso_table.specs.Document.{profile_numbered, has_four_digits, draft_in, StandsFor, IsNotJson};
+ghost use Rattle.iso_table.specs.Members.{has_size, text_at, u64_at, whole_at};
+ghost use Rattle.iso_table.specs.Document.{digits_at, class_in, coding_in, pad_in, prefix_in, length_by, length_in, spec_in, document_row};
+ghost use Rattle.iso_table.specs.Document.{rows_in, bitmap_in, list_in, members_in, with_rows, contents_in, profile_numbered};
+ghost use Rattle.iso_table.specs.Document.{has_four_digits, draft_in, StandsFor, IsNotJson};
+ghost use Rattle.iso_table.specs.Names.{class_named, coding_named, digits_named, bitmap_named, pad_named, byte_of, behind};
 
 use crate::draft::{Draft, Row};
 use crate::fault::TableFault;

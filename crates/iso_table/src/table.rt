@@ -5,12 +5,12 @@ ghost use Rattle.std.specs.Prelude.{ℕ, length, is_some, count_by, sum_by, IfOk
 ghost use Rattle.std.specs.Option.{option_copied};
 ghost use Rattle.iso_table.specs.declared.fault.TableFault.TheVariants.{NotJson, Memory};
 ghost use Rattle.iso_parts.specs.Bitmap.{contains};
-ghost use Rattle.iso_table.specs.Layout.{Layout, IsAccepted, AreGood, Knows, row_at};
-ghost use Rattle.iso_table.specs.Accepted.{Accepted, Holds, contents, draft_fault};
+ghost use Rattle.iso_table.specs.Layout.{Layout, IsAccepted, AreGood, Knows, row_at, is_version};
+ghost use Rattle.iso_table.specs.Accepted.{IsAcceptable, Holds, IsFirstFault, contents, draft_fault};
 ghost use Rattle.iso_table.specs.Document.{IsTableOf, IsDocumentFault, IsNotJson, document};
 ghost use Rattle.serde_json.specs.Written.{compact_text};
 ghost use Rattle.iso_table.specs.Edition87.{IsEdition87};
-ghost use Rattle.iso_table.specs.HostReady.{IsHostReady, host_fault};
+ghost use Rattle.iso_table.specs.HostReady.{IsFirstHostFault, IsHostReady, host_fault};
 ghost use Rattle.iso_table.specs.Sizes.{max_bytes};
 ghost use Rattle.iso_table.specs.Rows.{rows_of, draft_of};
 ghost use Rattle.iso_table.specs.Equality.{same_layout, same_layout_equiv};
@@ -94,14 +94,18 @@ impl Table {
     /// that is refused is dropped.
     pub fn check(alloc: Global, draft: Draft) -> Result<Table, TableFault>
         // At `Ok` the draft is an accepted one, and the table has its version, codings and rows.
-        ensures ok { IfOk result (λ t. Accepted (contents draft) × Holds t (contents draft)) }
+        ensures ok { IfOk result (λ t. IsAcceptable (contents draft) × Holds t (contents draft)) }
         // At `Ok` the table is an accepted one: a version that tables may have, and good rows, each
         // at the number of an element.
         ensures accepted { IfOk result IsAccepted }
         // Memory aside, only a draft that isn't an accepted one is refused.
-        ensures refused { IfErr result (λ e. e ≢ Memory → ¬ Accepted (contents draft)) }
+        ensures refused { IfErr result (λ e. e ≢ Memory → ¬ IsAcceptable (contents draft)) }
         // Memory aside, the fault tells the first thing wrong: the version, and then row by row.
         ensures fault { IfErr result (λ e. e ≢ Memory → draft_fault (contents draft) ≡ Some e) }
+        // Where the version is one that tables may have, and memory aside, the fault is that of one
+        // row, and the rows before it are good and have other numbers each.
+        ensures first { IfErr result (λ e. e ≢ Memory → IsTrue (is_version draft.version)
+            → IsFirstFault (contents draft).rows e) }
     {
         if !is_version(draft.version) {
             return Err(TableFault::BadVersion);
@@ -264,7 +268,7 @@ impl Table {
         ensures contents { IfOk result (λ draft. contents draft ≡ draft_of self.now) }
         // Memory aside, the draft is an accepted one, and says what the table says.
         ensures accepted { IfOk result
-            (λ draft. Accepted (contents draft) × Holds self.now (contents draft)) }
+            (λ draft. IsAcceptable (contents draft) × Holds self.now (contents draft)) }
         // Memory aside, each accepted table that says what the draft says is this very table.
         ensures again { IfOk result
             (λ draft. (t : Layout) → IsAccepted t → Holds t (contents draft) → t ≡ self.now) }
@@ -296,6 +300,10 @@ impl Table {
         // A fault tells the first thing that is wrong: the version, then by ascending element a row
         // that is missing or of another shape.
         ensures fault { IfErr result (λ e. host_fault self.now ≡ Some e) }
+        // Where the version is 0, the fault is that of one row that a host needs, and those before
+        // it, by ascending element, are as they have to be.
+        ensures first { IfErr result
+            (λ e. self.now.version ≡ 0 → IsFirstHostFault self.now.rows e) }
     {
         if self.version != 0 {
             return Err(HostTableFault::NotVersion0);

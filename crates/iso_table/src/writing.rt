@@ -1,13 +1,14 @@
 //! A table as JSON, of profile 2.
 
-ghost use Rattle.std.specs.Prelude.{◌≡◌, ◌++◌, ◌∷◌, [], None, Some, IfOk, option_map, string_bytes};
+ghost use Rattle.std.specs.Prelude.{◌≡◌, ◌++◌, ◌∷◌, [], None, Some, IfOk, OnOk, option_map, string_bytes};
 ghost use Rattle.hex.specs.Hex.{encode_upper};
-ghost use Rattle.serde_json.specs.View.{view, items_view};
-ghost use Rattle.iso_table.specs.Document.{class_name, coding_name, digits_name, bitmap_name, length_name, pad_name, prefix_named};
-ghost use Rattle.iso_table.specs.Document.{row_object, row_data, rows_data, document};
+ghost use Rattle.serde_json.specs.Data.{object, string, number, unsigned, no_members, put as with_member};
+ghost use Rattle.serde_json.specs.View.{view, items_view, members_view};
+ghost use Rattle.iso_table.specs.Document.{prefix_named, row_object, row_data, rows_data, document};
+ghost use Rattle.iso_table.specs.Names.{class_name, coding_name, digits_name, bitmap_name, length_name, pad_name};
 
 use iso_parts::{BitmapCoding, CharClass, Coding, Digits, FieldSpec, Length, Pad};
-use serde_json::{Value, json};
+use serde_json::{Map, Value, put};
 use std::alloc::{AllocError, Global};
 
 fn class_name(class: CharClass) -> &'static str
@@ -95,39 +96,50 @@ fn prefix_of(kind: Length) -> Option<Digits>
     }
 }
 
-/// The JSON value of a row with no length before the value.
-fn fixed_row(alloc: Global, number: usize, spec: &FieldSpec, pad: &str) -> Result<Value, AllocError>
-    ensures { IfOk result (λ value. view value ≡ row_object number spec.now pad.now None) }
+/// Adds a text to the members of an object.
+fn put_text(
+    members: &mut Map<String, Value>,
+    alloc: Global,
+    name: &str,
+    text: &str,
+) -> Result<(), AllocError>
+    ensures { OnOk result (members_view members.new.entries
+        ≡ with_member name.now (string text.now) (members_view members.old.entries)) }
 {
-    json!(in alloc; {
-        "class": class_name(spec.class),
-        "coding": coding_name(spec.coding),
-        "length": length_name(spec.length),
-        "max": spec.max,
-        "number": number,
-        "pad": pad,
-    })
+    put(members, alloc, name, Value::try_from_str(alloc, text)?)
 }
 
-/// The JSON value of a row with a length in these digits before the value.
-fn prefixed_row(
+/// Adds a number to the members of an object.
+fn put_number(
+    members: &mut Map<String, Value>,
+    alloc: Global,
+    name: &str,
+    value: u64,
+) -> Result<(), AllocError>
+    ensures { OnOk result (members_view members.new.entries
+        ≡ with_member name.now (number (unsigned value)) (members_view members.old.entries)) }
+{
+    put(members, alloc, name, Value::from(value))
+}
+
+/// Adds the members that each row has.
+fn put_row(
+    members: &mut Map<String, Value>,
     alloc: Global,
     number: usize,
     spec: &FieldSpec,
     pad: &str,
-    digits: Digits,
-) -> Result<Value, AllocError>
-    ensures { IfOk result (λ value. view value ≡ row_object number spec.now pad.now (Some digits)) }
+) -> Result<(), AllocError>
+    requires { members_view members.old.entries ≡ no_members }
+    ensures { OnOk result
+        (object (members_view members.new.entries) ≡ row_object number spec.now pad.now None) }
 {
-    json!(in alloc; {
-        "class": class_name(spec.class),
-        "coding": coding_name(spec.coding),
-        "length": length_name(spec.length),
-        "max": spec.max,
-        "number": number,
-        "pad": pad,
-        "prefix": digits_name(digits),
-    })
+    put_text(members, alloc, "class", class_name(spec.class))?;
+    put_text(members, alloc, "coding", coding_name(spec.coding))?;
+    put_text(members, alloc, "length", length_name(spec.length))?;
+    put_number(members, alloc, "max", u64::from(spec.max))?;
+    put_number(members, alloc, "number", number as u64)?;
+    put_text(members, alloc, "pad", pad)
 }
 
 /// The JSON value of a row.
@@ -135,10 +147,12 @@ fn row_value(alloc: Global, number: usize, spec: &FieldSpec) -> Result<Value, Al
     ensures { IfOk result (λ value. view value ≡ row_data number spec.now) }
 {
     let pad = pad_name(alloc, spec.pad)?;
-    match prefix_of(spec.length) {
-        None => fixed_row(alloc, number, spec, pad.as_str()),
-        Some(digits) => prefixed_row(alloc, number, spec, pad.as_str(), digits),
+    let mut members = Map::new(alloc);
+    put_row(&mut members, alloc, number, spec, pad.as_str())?;
+    if let Some(digits) = prefix_of(spec.length) {
+        put_text(&mut members, alloc, "prefix", digits_name(digits))?;
     }
+    Ok(Value::Object(members))
 }
 
 /// The JSON values of the rows at the places.
@@ -166,12 +180,12 @@ pub fn document(
     ensures { IfOk result (λ value. view value
         ≡ document (record { version = version; mti = mti; bitmap = bitmap; rows = places.now })) }
 {
+    let mut members = Map::new(alloc);
+    put_text(&mut members, alloc, "bitmap", bitmap_name(bitmap))?;
+    put_text(&mut members, alloc, "mti", digits_name(mti))?;
+    put_number(&mut members, alloc, "profile", 2)?;
     let rows = Value::Array(row_values(alloc, places)?);
-    json!(in alloc; {
-        "bitmap": bitmap_name(bitmap),
-        "mti": digits_name(mti),
-        "profile": 2u64,
-        "rows": rows,
-        "version": version,
-    })
+    put(&mut members, alloc, "rows", rows)?;
+    put_number(&mut members, alloc, "version", u64::from(version))?;
+    Ok(Value::Object(members))
 }

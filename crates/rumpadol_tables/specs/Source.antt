@@ -6,6 +6,7 @@ abbrev pub read_of : List ℕ → List ℕ
 read_of held = take 1048577 held
 
 -- where the bytes of what a word names are known, this holds of them: `-` names the input, every other word a file
-abbrev pub Held : (List ℕ → Option (List ℕ)) → Option (List ℕ) → List ℕ → (List ℕ → Type 0) → Type 0
-Held file input word Holds =
+abbrev pub IfHeld : (List ℕ → Option (List ℕ)) → Option (List ℕ) → List ℕ → (List ℕ → Type 0)
+    → Type 0
+IfHeld file input word Holds =
     MatchBool (bytes_eq word (codes "-")) (IfSome input Holds) (IfSome (file word) Holds)

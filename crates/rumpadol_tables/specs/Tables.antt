@@ -7,13 +7,15 @@ use Rattle.iso_parts.specs.declared.digits.Digits.TheVariants.{Ascii, Bcd}
 use Rattle.iso_table.specs.Layout.{Layout}
 use Rattle.iso_table.specs.Sizes.{max_bytes}
 use Rattle.iso_table.specs.Rows.{draft_of}
-use Rattle.iso_table.specs.Accepted.{DraftContents, Accepted, Holds}
+use Rattle.iso_table.specs.Accepted.{DraftContents, IsAcceptable, Holds}
 use Rattle.iso_table.specs.Edition87.{IsEdition87}
-use Rattle.iso_table.specs.Document.{digits_name, bitmap_name, document}
+use Rattle.iso_table.specs.Document.{document}
+use Rattle.iso_table.specs.Names.{digits_name, bitmap_name}
 use Rattle.iso_review.specs.Changes.{◌>>=◌, applied, without_row}
 use Rattle.iso_review.specs.RowText.{row_change}
 use Rattle.iso_review.specs.declared.change.RowFault.{RowFault}
 use Rattle.rumpadol_tables.specs.Named.{IsNamed}
+use Rattle.rumpadol_tables.specs.Streams.{Output, Sources}
 
 -- a version, how many rows there are, and how many bytes a message may take
 abbrev pub sizes_text : ℕ → ℕ → ℕ → List ℕ
@@ -27,10 +29,9 @@ good_line name t = name ++ (codes ": good, "
     ++ (sizes_text t.version (count_by is_some t.rows) (max_bytes t) ++ codes "\n"))
 
 -- what was appended is that line of the table that is named
-abbrev pub ChecksOver : (List ℕ → Option (List ℕ)) → Option (List ℕ) → List ℕ → Option (List ℕ)
-    → Option (List ℕ) → Type 0
-ChecksOver file input word old new = (t : Layout) × IsNamed file input word t
-    × Appends old new (good_line word t)
+abbrev pub ChecksOver : Sources → List ℕ → Output → Type 0
+ChecksOver sources word output = (t : Layout) × IsNamed sources.file sources.input word t
+    × Appends output.old output.new (good_line word t)
 
 -- the line of a built-in table: its name, its version, its codings, and how many rows it has
 abbrev pub list_line : List ℕ → Layout → List ℕ
@@ -40,10 +41,10 @@ list_line name t =
     ++ (codes ", " ++ (decimal (count_by is_some t.rows) ++ codes " rows\n"))))))))
 
 -- what was appended are the lines of the built-in tables
-abbrev pub ListsOver : Option (List ℕ) → Option (List ℕ) → Type 0
-ListsOver old new =
+abbrev pub ListsOver : Output → Type 0
+ListsOver output =
     (a : Layout) × (b : Layout) × IsEdition87 Ascii a × IsEdition87 Bcd b
-    × Appends old new (list_line (codes "ascii87") a ++ list_line (codes "bcd87") b)
+    × Appends output.old output.new (list_line (codes "ascii87") a ++ list_line (codes "bcd87") b)
 
 -- a draft without the rows of these elements
 abbrev pub without_rows : DraftContents → List ℕ → DraftContents
@@ -63,19 +64,19 @@ with_texts d (text ∷ texts) = with_text d text >>= (λ e. with_texts e texts)
 abbrev pub IsChanged : Layout → List ℕ → List (List ℕ) → Layout → Type 0
 IsChanged from drops texts t =
     (d : DraftContents) × (with_texts (without_rows (draft_of from) drops) texts ≡ Ok d)
-    × Accepted d × Holds t d
+    × IsAcceptable d × Holds t d
 
 -- what was appended is the document of such a table, and a newline
-abbrev pub MakesOver : (List ℕ → Option (List ℕ)) → Option (List ℕ) → List ℕ → List ℕ
-    → List (List ℕ) → Option (List ℕ) → Option (List ℕ) → Type 0
-MakesOver file input word drops texts old new =
-    (from : Layout) × (t : Layout) × IsNamed file input word from × IsChanged from drops texts t
-    × Appends old new (compact_text (document t) ++ codes "\n")
+abbrev pub MakesOver : Sources → List ℕ → List ℕ → List (List ℕ) → Output → Type 0
+MakesOver sources word drops texts output =
+    (from : Layout) × (t : Layout) × IsNamed sources.file sources.input word from
+    × IsChanged from drops texts t
+    × Appends output.old output.new (compact_text (document t) ++ codes "\n")
 
 -- the tables differ or are equal, and where they are equal nothing was appended; of a second one on the input nothing is said,
 -- since the first one may have read it
-abbrev pub Compares : (List ℕ → Option (List ℕ)) → Option (List ℕ) → List ℕ → List ℕ
-    → Option (List ℕ) → Option (List ℕ) → Bool → Type 0
-Compares file input first second old new differ =
-    (a : Layout) × (b : Layout) × IsNamed file input first a × IsNamed file None second b
-    × ((differ ≡ false) ↔ (a ≡ b)) × (differ ≡ false → Appends old new [])
+abbrev pub Compares : Sources → List ℕ → List ℕ → Output → Bool → Type 0
+Compares sources first second output differ =
+    (a : Layout) × (b : Layout) × IsNamed sources.file sources.input first a
+    × IsNamed sources.file None second b × ((differ ≡ false) ↔ (a ≡ b))
+    × (differ ≡ false → Appends output.old output.new [])

@@ -1,7 +1,7 @@
 //! The documents that the command line names.
 
 ghost use Rattle.std.specs.Prelude.{◌≡◌, ◌<◌, ◌≤◌, IfErr, IfOk, IfSome, length};
-ghost use Rattle.rumpadol_tables.specs.Source.{Held};
+ghost use Rattle.rumpadol_tables.specs.Source.{IfHeld};
 ghost use Rattle.rumpadol_tables.specs.Stop.{status_of};
 
 use crate::source::{MOST_BYTES, Source, SourceFault, read_front};
@@ -78,11 +78,11 @@ pub fn document_named<S: Source, I: Read>(
 ) -> Result<Vec<u8>, Stop>
     // At `Ok` the text is what the file holds, or the input for the word `-`, where that is known.
     ensures text { IfOk result (λ text.
-        Held (S.file source.now) (I.remaining input.old) word.now (λ held. held ≡ text.items)) }
+        IfHeld (S.file source.now) (I.remaining input.old) word.now (λ held. held ≡ text.items)) }
     // The status is 1 only where the document is longer than 1,048,576
     // bytes, as far as that is known.
     ensures stop { IfErr result (λ stop. status_of stop ≡ 1
-        → Held (S.file source.now) (I.remaining input.old) word.now (λ held. 1048576
+        → IfHeld (S.file source.now) (I.remaining input.old) word.now (λ held. 1048576
         < length held)) }
 {
     if word == "-" {

@@ -4,7 +4,7 @@ ghost use Rattle.std.specs.Prelude.{◌≡◌, ◌≢◌, IfErr, IfOk, option_ma
 ghost use Rattle.iso_table.specs.Document.{IsTableOf};
 ghost use Rattle.iso_review.specs.Complaints.{IsTable};
 ghost use Rattle.rumpadol_tables.specs.Named.{AreNames, IsNamed, IsRefused, NamesNone};
-ghost use Rattle.rumpadol_tables.specs.Source.{Held};
+ghost use Rattle.rumpadol_tables.specs.Source.{IfHeld};
 ghost use Rattle.rumpadol_tables.specs.Stop.{status_of};
 
 use crate::documents::{document_at, document_named};
@@ -57,9 +57,10 @@ fn table_at<S: Source, I: Read>(
     word: &str,
 ) -> Result<Table, Stop>
     ensures ok { IfOk result (λ table.
-        Held (S.file source.now) (I.remaining input.old) word.now (λ text. IsTableOf text table)) }
+        IfHeld (S.file source.now) (I.remaining input.old) word.now
+        (λ text. IsTableOf text table)) }
     ensures stop { IfErr result (λ stop. status_of stop ≡ 1
-        → Held (S.file source.now) (I.remaining input.old) word.now IsRefused) }
+        → IfHeld (S.file source.now) (I.remaining input.old) word.now IsRefused) }
 {
     let text = document_named(alloc, source, input, word, NO_TABLE)?;
     table_in(alloc, word, &text)

@@ -37,8 +37,9 @@ pub fn perform_table<S: Source, I: Read, O: Write>(
 ) -> Result<u8, Stop>
     // Where it ends with a status, the output grew by what the job says; the status is 0, or 1 of a
     // `diff` of tables that differ.
-    ensures done { IfOk result (Does job.now (S.file source.now) (I.remaining input.old)
-        (O.contents output.old) (O.contents output.new)) }
+    ensures done { IfOk result (Does job.now
+        (record { file = S.file source.now; input = I.remaining input.old })
+        (record { old = O.contents output.old; new = O.contents output.new })) }
     // Where it ends with a status, it is 0 or 1.
     ensures range { IfOk result (λ status. status ≤ 1) }
 {

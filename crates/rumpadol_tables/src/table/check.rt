@@ -38,8 +38,9 @@ pub fn check<S: Source, I: Read, O: Write>(
 ) -> Result<(), Stop>
     // At `Ok` the output grew by the line of the named table: its version, its count of rows, and
     // how many bytes a message may take.
-    ensures good { OnOk result (ChecksOver (S.file source.now) (I.remaining input.old) word.now
-        (O.contents output.old) (O.contents output.new)) }
+    ensures good { OnOk result (ChecksOver
+        (record { file = S.file source.now; input = I.remaining input.old }) word.now
+        (record { old = O.contents output.old; new = O.contents output.new })) }
     // The status is 1 only where the word names a document that is too long, or that is no table.
     ensures bad { IfErr result (λ stop. status_of stop ≡ 1
         → NamesNone (S.file source.now) (I.remaining input.old) word.now) }

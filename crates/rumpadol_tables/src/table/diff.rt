@@ -24,8 +24,9 @@ pub fn diff<S: Source, I: Read, O: Write>(
 ) -> Result<bool, Stop>
     // At `Ok` it is true exactly where the named tables differ, and where they are equal nothing
     // was written. Of a second one on the input nothing is said.
-    ensures { IfOk result (Compares (S.file source.now) (I.remaining input.old) first.now second.now
-        (O.contents output.old) (O.contents output.new)) }
+    ensures { IfOk result (Compares
+        (record { file = S.file source.now; input = I.remaining input.old }) first.now second.now
+        (record { old = O.contents output.old; new = O.contents output.new })) }
 {
     let a = table_named(alloc, source, input, first)?;
     let b = table_named(alloc, source, input, second)?;

@@ -1,7 +1,7 @@
 //! `table list`: the built-in tables.
 
 ghost use Rattle.std.specs.Prelude.{◌≡◌, ◌++◌, IfOk, OnOk, string_bytes};
-ghost use Rattle.iso_table.specs.Document.{bitmap_name, digits_name};
+ghost use Rattle.iso_table.specs.Names.{bitmap_name, digits_name};
 ghost use Rattle.rumpadol_tables.specs.Tables.{ListsOver, list_line};
 
 use crate::stop::{Stop, write_output};
@@ -42,7 +42,8 @@ fn line_of(alloc: Global, name: &str, table: &Table) -> Result<String, AllocErro
 /// Lists the built-in tables, a line each.
 pub fn list<O: Write>(alloc: Global, output: &mut O) -> Result<(), Stop>
     // At `Ok` the output grew by the lines of `ascii87` and `bcd87`, and by nothing else.
-    ensures { OnOk result (ListsOver (O.contents output.old) (O.contents output.new)) }
+    ensures { OnOk result (ListsOver
+        (record { old = O.contents output.old; new = O.contents output.new })) }
 {
     let ascii = Table::ascii87(alloc)?;
     let bcd = Table::bcd87(alloc)?;

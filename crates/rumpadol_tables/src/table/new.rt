@@ -112,9 +112,10 @@ pub fn make<S: Source, I: Read, O: Write>(
 ) -> Result<(), Stop>
     // At `Ok` the output grew by the document of an accepted table, and a newline: the named table
     // without the dropped rows, and then with each row that is set.
-    ensures { OnOk result (MakesOver (S.file source.now) (I.remaining input.old)
+    ensures { OnOk result (MakesOver
+        (record { file = S.file source.now; input = I.remaining input.old })
         words.now.from.now words.now.drops.items (map (λ text. text.now) words.now.rows.items)
-        (O.contents output.old) (O.contents output.new)) }
+        (record { old = O.contents output.old; new = O.contents output.new })) }
 {
     let from = table_named(alloc, source, input, words.from)?;
     let table = changed_table(alloc, &from, &words.drops, &words.rows)?;

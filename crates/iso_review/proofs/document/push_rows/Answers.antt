@@ -3,7 +3,7 @@ use Rattle.std.specs.Prelude.{codes}
 use Rattle.std.proofs.lemmas.List.Elements.{All-same}
 use Rattle.serde_json.specs.View.{view, items_view}
 use Rattle.serde_json.specs.declared.value.Value.{Value}
-use Rattle.iso_table.specs.Document.{whole_at}
+use Rattle.iso_table.specs.Members.{whole_at}
 use Rattle.iso_review.specs.Complaints.{IsAmong}
 use Rattle.iso_review.proofs.Places.{more_among, among_row}
 use Rattle.iso_review.proofs.document.push_rows.Goals as goal

@@ -1,8 +1,10 @@
-use Rattle.std.proofs.Common.{rules, ◌≡◌, [], true, refl, sym, ap, ◌∙◌, List, arith}
+use Rattle.std.proofs.Common.{rules, ◌≡◌, [], true, refl, sym, ap, subst, ◌∙◌, List, arith}
 use Rattle.std.proofs.lemmas.Result.{err_from_is_err_and}
 use Rattle.iso_table.specs.declared.draft.Row.{Row}
 use Rattle.iso_table.specs.Layout.{is_version}
-use Rattle.iso_table.specs.Accepted.{contents, row_of, rows_fault}
+use Rattle.iso_table.specs.declared.fault.TableFault.{TableFault}
+use Rattle.iso_table.specs.Accepted.{IsFirstFault, contents, row_of, rows_fault}
+use Rattle.iso_table.proofs.FirstFaults.{first_fault}
 use Rattle.iso_table.proofs.RowLemmas.{at_elements, table_made, accepted, refused}
 use Rattle.iso_table.proofs.table.Table.check.Goals as goal
 
@@ -47,3 +49,13 @@ returns-then-not-is_version-clause-refused c = let other = c.if-not-is_version.t
 
 pub returns-then-not-is_version-clause-fault : goal.returns-then-not-is_version-clause-fault
 returns-then-not-is_version-clause-fault c = let other = c.if-not-is_version.true in search rules
+
+pub returns-in_err-places-clause-first : goal.returns-in_err-places-clause-first
+returns-in_err-places-clause-first c =
+    let p = err_from_is_err_and c.from_residual.result c.from_residual.ensures.1 in
+    let same : c.as_slice.result.now ≡ c.args.draft.rows.items = c.as_slice.ensures.value in
+    let first = first_fault (contents c.args.draft).rows c.in_err-places.field-0.0 (ap (rows_fault []) (sym same) ∙ c.in_err-places.ensures.fault) in
+    rw p.1 (λ _ _. subst (λ (e : TableFault). IsFirstFault (contents c.args.draft).rows e) (sym p.2) first)
+
+pub returns-then-not-is_version-clause-first : goal.returns-then-not-is_version-clause-first
+returns-then-not-is_version-clause-first c = λ _ version. absurd (let other = c.if-not-is_version.true in search rules)

@@ -1,5 +1,6 @@
 use Rattle.std.proofs.Common.{rules, ◌≡◌, None, Some, sym, ap, refl, ◌∙◌}
 use Rattle.iso_table.specs.HostReady.{host_fault, host_rows, host_rows_fault}
+use Rattle.iso_table.proofs.FirstFaults.{first_host_fault}
 use Rattle.iso_table.proofs.HostLemmas.{host_good, host_none}
 use Rattle.iso_table.proofs.table.Table.host_ready.Goals as goal
 
@@ -10,3 +11,6 @@ pub returns-in-None-clause-ready : goal.returns-in-None-clause-ready
 returns-in-None-clause-ready c =
     let good : host_rows_fault host_rows c.self.inside.rows.items ≡ None = sym (c.host_rows_fault.ensures ∙ ap (host_rows_fault host_rows) c.deref.ensures.value) ∙ c.in-None.is in
     (λ _. rw (← c.self.view_is) (host_good _ c.if-self-ne0.false good), λ _. refl)
+
+pub returns-in-Some-clause-first : goal.returns-in-Some-clause-first
+returns-in-Some-clause-first c = λ _. first_host_fault c.args.self.now.rows c.in-Some.fault (search rules)

@@ -5,7 +5,7 @@ use Rattle.serde_json.specs.View.{view}
 use Rattle.iso_table.specs.declared.fault.TableFault.{TableFault}
 use Rattle.iso_table.specs.declared.fault.TableFault.TheVariants.{NotJson, Memory}
 use Rattle.iso_table.specs.Layout.{Layout}
-use Rattle.iso_table.specs.Accepted.{Accepted, Holds, contents, draft_fault}
+use Rattle.iso_table.specs.Accepted.{IsAcceptable, Holds, contents, draft_fault}
 use Rattle.iso_table.specs.Document.{IsTableOf, IsDocumentFault}
 use Rattle.iso_table.proofs.DocumentLemmas.{table_found, table_refused, draft_refused, fault_is_json}
 use Rattle.iso_table.proofs.table.Table.read.Goals as goal
@@ -14,7 +14,7 @@ pub returns-clause-ok : goal.returns-clause-ok
 returns-clause-ok c =
     let d = view c.in_ok-value.value in
     let draft = contents c.in_ok-draft.draft in
-    IfOk-weaker c.check.result (λ (t : Layout). Accepted draft × Holds t draft) (IsTableOf c.args.text.now)
+    IfOk-weaker c.check.result (λ (t : Layout). IsAcceptable draft × Holds t draft) (IsTableOf c.args.text.now)
     (λ t h. (d, draft, c.in_ok-value.ensures.ok, table_found d draft c.in_ok-draft.ensures.ok h.0, h.1)) c.check.ensures.ok
 
 pub returns-clause-not_json : goal.returns-clause-not_json

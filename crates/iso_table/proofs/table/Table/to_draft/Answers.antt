@@ -1,6 +1,6 @@
 use Rattle.std.proofs.Common.{rules, sym, subst}
 use Rattle.iso_table.specs.Layout.{IsAccepted}
-use Rattle.iso_table.specs.Accepted.{DraftContents, Accepted, Holds}
+use Rattle.iso_table.specs.Accepted.{DraftContents, IsAcceptable, Holds}
 use Rattle.iso_table.proofs.DraftLemmas.{draft_accepted, draft_held, held_alone}
 use Rattle.iso_table.proofs.table.Table.to_draft.Goals as goal
 
@@ -11,7 +11,7 @@ pub returns-clause-accepted : goal.returns-clause-accepted
 returns-clause-accepted c =
     let t = c.args.self.now in
     let is : IsAccepted t = subst IsAccepted c.self.view_is c.self.invariant in
-    subst (λ (d : DraftContents). Accepted d × Holds t d) (sym (returns-clause-contents c)) (draft_accepted t is, draft_held t)
+    subst (λ (d : DraftContents). IsAcceptable d × Holds t d) (sym (returns-clause-contents c)) (draft_accepted t is, draft_held t)
 
 pub returns-clause-again : goal.returns-clause-again
 returns-clause-again c =
